@@ -20,6 +20,7 @@ use Rattle.cdb_arguments.specs.declared.request.AskFault.{AskFault}
 use Rattle.cdb_arguments.specs.declared.request.AskFault.TheVariants.{NoMemory}
 use Rattle.cdb_arguments.specs.declared.request.Asked.{Asked}
 use Rattle.cdb_arguments.specs.declared.request.Asked.TheVariants.{Script, Play, Race, Explain, Draw, Debug}
+use Rattle.cdb_base.specs.Memory.{no_memory}
 use Rattle.cdb_arguments.proofs.StepLines.{OptionWritesNumber, StepLine, explain_line, draw_line}
 use Rattle.cdb_arguments.proofs.SeatLines.{SeatLine, debug_line}
 use Rattle.cdb_arguments.proofs.Lines.{nothing_asked, nothing_taken, play_asked, play_taken, PlayRows, race_asked, race_taken, RaceRows, AcceptsTurns}
@@ -134,7 +135,7 @@ debug_is setup seats words (Debug a b) line asks =
 -- ---- the answers
 
 pub script_asked_for : (words : List Text) (result : Result Asked AskFault) → IfOk result (NamesAsked (subcommand_of program words))
-    → (takes program words ≡ true → IfErr result (λ fault. fault ≡ NoMemory)) → IsNameAlone words → IsRequest result (λ asked. asked ≡ Script)
+    → (takes program words ≡ true → IfErr result (λ fault. fault ≡ NoMemory no_memory)) → IsNameAlone words → IsRequest result (λ asked. asked ≡ Script)
 script_asked_for words result ok taken alone =
     let (name, is) = alone in (
       IfOk-weaker result _ _ (λ asked asks. script_is _ asked (ap (subcommand_of program) is ∙ nothing_asked name) asks) ok,
@@ -142,7 +143,7 @@ script_asked_for words result ok taken alone =
     )
 
 pub play_asked_for : (words : List Text) (result : Result Asked AskFault) → IfOk result (NamesAsked (subcommand_of program words))
-    → (takes program words ≡ true → IfErr result (λ fault. fault ≡ NoMemory)) → (setup script : Text) → IsPlayLine words setup script
+    → (takes program words ≡ true → IfErr result (λ fault. fault ≡ NoMemory no_memory)) → (setup script : Text) → IsPlayLine words setup script
     → IsRequest result (IsPlayOf setup script)
 play_asked_for words result ok taken setup script line =
     let its = play_asked line.0.0 setup script line.1.0 line.1.1.0 in (
@@ -161,7 +162,7 @@ accepts_turns : (text : Text) (turns : ℕ) → IsPlain text → IsNumberOfTurns
 accepts_turns text turns plain number = Accepts-accepts false (vp.Signed (pos 0) (pos 99999)) text (is_signed text turns plain number)
 
 pub race_asked_for : (words : List Text) (result : Result Asked AskFault) → IfOk result (NamesAsked (subcommand_of program words))
-    → (takes program words ≡ true → IfErr result (λ fault. fault ≡ NoMemory)) → (setup : Text) (turns : ℕ) (script : Text) (more : List Text)
+    → (takes program words ≡ true → IfErr result (λ fault. fault ≡ NoMemory no_memory)) → (setup : Text) (turns : ℕ) (script : Text) (more : List Text)
     → IsRaceLine words setup turns script more → IsRequest result (IsRaceOf setup turns (script ∷ more))
 race_asked_for words result ok taken setup turns script more line =
     let name = line.0.0 in
@@ -175,7 +176,7 @@ race_asked_for words result ok taken setup turns script more line =
     )
 
 pub explain_asked_for : (words : List Text) (result : Result Asked AskFault) → IfOk result (NamesAsked (subcommand_of program words))
-    → (takes program words ≡ true → IfErr result (λ fault. fault ≡ NoMemory)) → (setup script : Text) (p : ℕ) (k : Option ℕ) → IsExplainLine words setup script p k
+    → (takes program words ≡ true → IfErr result (λ fault. fault ≡ NoMemory no_memory)) → (setup script : Text) (p : ℕ) (k : Option ℕ) → IsExplainLine words setup script p k
     → IsRequest result (IsExplainOf setup script p k)
 explain_asked_for words result ok taken setup script p k line =
     let its = explain_line line.2.0.0 setup script line.0 p k line.1 line.2.1 in
@@ -185,7 +186,7 @@ explain_asked_for words result ok taken setup script p k line =
     )
 
 pub draw_asked_for : (words : List Text) (result : Result Asked AskFault) → IfOk result (NamesAsked (subcommand_of program words))
-    → (takes program words ≡ true → IfErr result (λ fault. fault ≡ NoMemory)) → (setup script : Text) (p k : Option ℕ) → IsDrawLine words setup script p k
+    → (takes program words ≡ true → IfErr result (λ fault. fault ≡ NoMemory no_memory)) → (setup script : Text) (p k : Option ℕ) → IsDrawLine words setup script p k
     → IsRequest result (IsDrawOf setup script p k)
 draw_asked_for words result ok taken setup script p k line =
     let its = draw_line line.2.0.0 setup script line.0 p k line.1 line.2.1 in
@@ -195,7 +196,7 @@ draw_asked_for words result ok taken setup script p k line =
     )
 
 pub debug_asked_for : (words : List Text) (result : Result Asked AskFault) → IfOk result (NamesAsked (subcommand_of program words))
-    → (takes program words ≡ true → IfErr result (λ fault. fault ≡ NoMemory)) → (setup : Text) (seats : List Text) → IsDebugLine words setup seats
+    → (takes program words ≡ true → IfErr result (λ fault. fault ≡ NoMemory no_memory)) → (setup : Text) (seats : List Text) → IsDebugLine words setup seats
     → IsRequest result (IsDebugOf setup seats)
 debug_asked_for words result ok taken setup seats line =
     let its = debug_line line.0.0.0 setup seats line.0.1 line.1 in

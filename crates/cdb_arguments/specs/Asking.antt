@@ -7,6 +7,7 @@ use Rattle.clap.specs.declared.error.kind.ErrorKind.{ErrorKind}
 use Rattle.clap.specs.declared.error.kind.ErrorKind.TheVariants.{DisplayHelp, DisplayVersion}
 use Rattle.cdb_arguments.specs.declared.limits.TheConstants.{MAX_NUMBER, MAX_TURNS}
 use Rattle.cdb_arguments.specs.declared.request.AskFault.{AskFault}
+use Rattle.cdb_base.specs.Memory.{no_memory}
 use Rattle.cdb_arguments.specs.declared.request.AskFault.TheVariants.{Words, NoMemory}
 use Rattle.cdb_arguments.specs.declared.request.Asked.{Asked}
 use Rattle.cdb_arguments.specs.declared.request.Asked.TheVariants.{Script, Play, Race, Explain, Draw, Debug}
@@ -95,7 +96,7 @@ IsDebugOf setup seats asked = ⊥
 
 -- what was asked for, or no memory to say it
 abbrev pub IsRequest : Result Asked AskFault → (Asked → Type 0) → Type 0
-IsRequest result IsIt = IfOk result IsIt × IfErr result (λ fault. fault ≡ NoMemory)
+IsRequest result IsIt = IfOk result IsIt × IfErr result (λ fault. fault ≡ NoMemory no_memory)
 
 -- a line of one of these forms asks for what its words say
 abbrev pub AsksForPlay : Result Asked AskFault → List Text → Type 0
@@ -123,7 +124,7 @@ AsksForDebug result words =
 -- out of memory, or an error of one of the kinds
 abbrev pub IsOfKinds : Kinds → AskFault → Type 0
 IsOfKinds kinds (Words error) = IsAmong (kind_of error) kinds
-IsOfKinds kinds NoMemory = Unit {0}
+IsOfKinds kinds (NoMemory refused) = Unit {0}
 
 -- help and the version are no mistakes; other arguments are
 abbrev pub words_status : ErrorKind → ℕ
@@ -133,9 +134,9 @@ words_status kind = 2
 
 abbrev pub ask_status_of : AskFault → ℕ
 ask_status_of (Words error) = words_status (kind_of error)
-ask_status_of NoMemory = 6
+ask_status_of (NoMemory refused) = 6
 
 -- the text of a fault; of what `clap` writes nothing is known
 abbrev pub ask_fault_text : AskFault → Option (List ℕ)
 ask_fault_text (Words error) = None
-ask_fault_text NoMemory = Some (codes "no memory")
+ask_fault_text (NoMemory refused) = Some (codes "no memory")

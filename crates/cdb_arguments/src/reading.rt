@@ -2,13 +2,15 @@
 
 ghost use Rattle.std.specs.Prelude.{◌≡◌, OnOk, IfOk, IfErr, Some, [], true, map, codes};
 ghost use Rattle.clap.specs.Words.{Kinds, Text, HasKind, fault_of, found_of, kind_of, rows_of, subcommand_of, subcommand_rows_of, takes};
+ghost use Rattle.cdb_base.specs.Memory.{no_memory};
 ghost use Rattle.cdb_arguments.specs.CommandLine.{program};
 ghost use Rattle.cdb_arguments.specs.Asking.{NamesOne, IsTurns, IsNumber, IsNumberAt, text_at, texts, texts_at, NamesAsked, IsOfKinds, IsRequest, AsksForPlay, AsksForRace, AsksForExplain, AsksForDraw, AsksForDebug, ask_status_of, words_status};
 ghost use Rattle.cdb_arguments.specs.Plain.{IsNameAlone};
 
 use crate::command_line::program;
 use crate::limits::{MAX_NUMBER, MAX_TURNS};
-use crate::request::{AskFault, Asked};
+use crate::request::{AskFault, Asked, WordsError};
+use cdb_base::NoMemory;
 use clap::error::ErrorKind;
 use clap::{ArgMatches, Error};
 use std::alloc::{AllocError, Global};
@@ -18,30 +20,25 @@ fn matches_of<'a>(alloc: Global, words: &'a [&'a str]) -> Result<ArgMatches<'a>,
     ensures ok { IfOk result
         (λ m. subcommand_rows_of m ≡ subcommand_of program (texts words.entry.now)) }
     ensures taken { takes program (texts words.entry.now) ≡ true →
-        IfErr result (λ fault. fault ≡ AskFault.NoMemory) }
+        IfErr result (λ fault. fault ≡ AskFault.NoMemory no_memory) }
     ensures right { OnOk result (fault_of program (texts words.entry.now) ≡ []) }
     ensures refused { IfErr result
         (λ fault. IsOfKinds (fault_of program (texts words.entry.now)) fault) }
 {
-    let program = match program(alloc) {
-        Ok(program) => program,
-        Err(_) => return Err(AskFault::NoMemory),
-    };
-    match program.try_get_matches_from(words) {
+    match program(alloc)?.try_get_matches_from(words) {
         Ok(matches) => Ok(matches),
-        Err(error) => Err(ask_fault(error)),
+        Err(error) => Err(ask_fault(WordsError(error))),
     }
 }
 
 /// What an error of `clap` is here: out of memory apart from the other errors.
-fn ask_fault(error: Error) -> AskFault
-    ensures memory { kind_of error ≡ ErrorKind.OutOfMemory → result ≡ AskFault.NoMemory }
-    ensures words { (kinds : Kinds) → HasKind kinds error → IsOfKinds kinds result }
+fn ask_fault(error: WordsError) -> AskFault
+    ensures memory { kind_of error.0 ≡ ErrorKind.OutOfMemory → result ≡ AskFault.NoMemory no_memory }
+    ensures words { (kinds : Kinds) → HasKind kinds error.0 → IsOfKinds kinds result }
 {
-    if error.kind() == ErrorKind::OutOfMemory {
-        AskFault::NoMemory
-    } else {
-        AskFault::Words(error)
+    match NoMemory::of(&error) {
+        Some(refused) => AskFault::NoMemory(refused),
+        None => AskFault::Words(error.0),
     }
 }
 
@@ -191,7 +188,7 @@ pub fn ask_status(fault: &AskFault) -> u8
 {
     match fault {
         AskFault::Words(error) => status_of_words(error),
-        AskFault::NoMemory => 6,
+        AskFault::NoMemory(_) => 6,
     }
 }
 
@@ -210,13 +207,13 @@ fn read<'a>(alloc: Global, words: &'a [&'a str]) -> Result<Asked<'a>, AskFault>
     ensures ok { IfOk result
         (λ asked. NamesAsked (subcommand_of program (texts words.entry.now)) asked) }
     ensures taken { takes program (texts words.entry.now) ≡ true →
-        IfErr result (λ fault. fault ≡ AskFault.NoMemory) }
+        IfErr result (λ fault. fault ≡ AskFault.NoMemory no_memory) }
     ensures right { OnOk result (fault_of program (texts words.entry.now) ≡ []) }
     ensures refused { IfErr result
         (λ fault. IsOfKinds (fault_of program (texts words.entry.now)) fault) }
 {
     let matches = matches_of(alloc, words)?;
-    asked_by(alloc, &matches).map_err(|_| AskFault::NoMemory)
+    Ok(asked_by(alloc, &matches)?)
 }
 
 /// What the arguments of the command line ask for; the first is the program's name. The name alone asks for the
@@ -231,7 +228,7 @@ pub fn asked<'a>(alloc: Global, words: &'a [&'a str]) -> Result<Asked<'a>, AskFa
     ensures ok { IfOk result
         (λ asked. NamesAsked (subcommand_of program (texts words.entry.now)) asked) }
     ensures taken { takes program (texts words.entry.now) ≡ true →
-        IfErr result (λ fault. fault ≡ AskFault.NoMemory) }
+        IfErr result (λ fault. fault ≡ AskFault.NoMemory no_memory) }
     ensures right { OnOk result (fault_of program (texts words.entry.now) ≡ []) }
     ensures refused { IfErr result
         (λ fault. IsOfKinds (fault_of program (texts words.entry.now)) fault) }

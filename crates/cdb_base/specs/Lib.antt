@@ -6,3 +6,4 @@ pub mod Processes
 pub mod Refusal
 pub mod Registers
 pub mod Results
+pub mod Memory

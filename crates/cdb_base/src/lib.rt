@@ -21,7 +21,7 @@ pub mod value;
 pub use act::Act;
 pub use event::{Event, Kind};
 pub use name::{CopyName, MsgName, Proc, StepId, StepName};
-pub use no_memory::NoMemory;
+pub use no_memory::{LibraryError, NoMemory};
 pub use payload::Payload;
 pub use proc_view::ProcView;
 pub use refusal::Refusal;

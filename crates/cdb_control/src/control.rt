@@ -31,7 +31,7 @@ pub struct Entry {
 pub enum CallFault {
     /// The journal has as many entries as it may have.
     JournalFull,
-    NoMemory,
+    NoMemory(NoMemory),
 }
 
 impl fmt::Display for CallFault {
@@ -43,7 +43,7 @@ impl fmt::Display for CallFault {
     fn fmt<W: fmt::Write>(&self, f: &mut fmt::Formatter<W>) -> fmt::Result {
         f.write_str(match self {
             CallFault::JournalFull => "journal full",
-            CallFault::NoMemory => "no memory",
+            CallFault::NoMemory(_) => "no memory",
         })
     }
 }
@@ -55,7 +55,7 @@ impl Error for CallFault {}
 pub enum OpenFault {
     /// The number of seats is not one of 1 to 64.
     Seats,
-    NoMemory,
+    NoMemory(NoMemory),
 }
 
 impl fmt::Display for OpenFault {
@@ -67,7 +67,7 @@ impl fmt::Display for OpenFault {
     fn fmt<W: fmt::Write>(&self, f: &mut fmt::Formatter<W>) -> fmt::Result {
         f.write_str(match self {
             OpenFault::Seats => "not 1 to 64 seats",
-            OpenFault::NoMemory => "no memory",
+            OpenFault::NoMemory(_) => "no memory",
         })
     }
 }
@@ -119,11 +119,13 @@ impl<R: Runs> Control<R> {
         }
         // Its clause says that the parts of the setup are in range.
         let _processes = setup.n();
-        let Ok(state) = ControlState::open(alloc, setup, seats) else {
-            return Err(OpenFault::NoMemory);
+        let state = match ControlState::open(alloc, setup, seats) {
+            Ok(state) => state,
+            Err(refused) => return Err(OpenFault::NoMemory(refused)),
         };
-        let Ok(room_ends) = no_room_ends(alloc, seats) else {
-            return Err(OpenFault::NoMemory);
+        let room_ends = match no_room_ends(alloc, seats) {
+            Ok(room_ends) => room_ends,
+            Err(refused) => return Err(OpenFault::NoMemory(refused)),
         };
         Ok(Control {
             seats,
@@ -150,7 +152,7 @@ impl<R: Runs> Control<R> {
         ensures headline { Headline R.rules R.same_state
             self.new.setup self.new.seats self.new.journal }
         ensures spared { NeedsNoMemory R.rules self.old seat command →
-            result ≢ Err CallFault.NoMemory }
+            (refused : NoMemory) → result ≢ Err (CallFault.NoMemory refused) }
     {
         if command.is_of_one_event() {
             let reply = self.execute_event(alloc, seat, command)?;
@@ -180,13 +182,14 @@ impl<R: Runs> Control<R> {
         ensures headline { Headline R.rules R.same_state
             self.new.setup self.new.seats self.new.journal }
         ensures spared { NeedsNoMemory R.rules self.old seat command →
-            result ≢ Err CallFault.NoMemory }
+            (refused : NoMemory) → result ≢ Err (CallFault.NoMemory refused) }
     {
         let journal = &mut self.journal;
         make_room(journal)?;
         let again = command;
-        let Ok(reply) = self.state.perform_event(alloc, seat, again) else {
-            return Err(CallFault::NoMemory);
+        let reply = match self.state.perform_event(alloc, seat, again) {
+            Ok(reply) => reply,
+            Err(refused) => return Err(CallFault::NoMemory(refused)),
         };
         push_entry(&mut self.journal, seat, command);
         Ok(reply)
@@ -213,12 +216,13 @@ impl<R: Runs> Control<R> {
         ensures headline { Headline R.rules R.same_state
             self.new.setup self.new.seats self.new.journal }
         ensures spared { NeedsNoMemory R.rules self.old seat command →
-            result ≢ Err CallFault.NoMemory }
+            (refused : NoMemory) → result ≢ Err (CallFault.NoMemory refused) }
     {
         make_room(&mut self.journal)?;
         let again = command;
-        let Ok(reply) = self.state.perform_other(alloc, seat, again) else {
-            return Err(CallFault::NoMemory);
+        let reply = match self.state.perform_other(alloc, seat, again) {
+            Ok(reply) => reply,
+            Err(refused) => return Err(CallFault::NoMemory(refused)),
         };
         lower(&mut self.room_ends, seat, &reply);
         push_entry(&mut self.journal, seat, command);
@@ -339,14 +343,15 @@ fn make_room(journal: &mut Vec<Entry>) -> Result<(), CallFault>
     ensures ok { OnOk result (vec_len journal.new < vec_capacity journal.new) }
     ensures few { OnOk result (vec_len journal.old < MAX_ENTRIES) }
     ensures full { (result ≡ Err CallFault.JournalFull) ↔ (MAX_ENTRIES ≤ vec_len journal.old) }
-    ensures spared { vec_len journal.old < vec_capacity journal.old → result ≢ Err CallFault.NoMemory }
+    ensures spared { vec_len journal.old < vec_capacity journal.old →
+        (refused : NoMemory) → result ≢ Err (CallFault.NoMemory refused) }
 {
     if journal.len() >= MAX_ENTRIES as usize {
         return Err(CallFault::JournalFull);
     }
     match journal.reserve(1) {
         Ok(()) => Ok(()),
-        Err(_) => Err(CallFault::NoMemory),
+        Err(error) => Err(CallFault::NoMemory(NoMemory::from(error))),
     }
 }
 

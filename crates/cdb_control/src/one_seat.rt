@@ -5,7 +5,7 @@ ghost use Rattle.cdb_base.specs.declared.limits.TheConstants.{MAX_ENTRIES};
 ghost use Rattle.cdb_control.specs.OneSeat.{HasCarriedOut};
 ghost use Rattle.cdb_control.specs.Room.{room_of};
 
-use crate::control::Control;
+use crate::control::{Control, OpenFault};
 use cdb_base::NoMemory;
 use cdb_rules::Runs;
 use cdb_setup::Setup;
@@ -18,8 +18,10 @@ pub fn open_for<T: Runs>(alloc: Global, setup: Setup, count: u32) -> Result<Cont
     ensures new { IfOk result (HasCarriedOut setup []) }
     ensures room { IfOk result (λ control. room_of control.rooms 1 ≡ count) }
 {
-    let Ok(mut control) = Control::<T>::open(alloc, setup, 1) else {
-        return Err(NoMemory);
+    let mut control = match Control::<T>::open(alloc, setup, 1) {
+        Ok(control) => control,
+        Err(OpenFault::NoMemory(refused)) => return Err(refused),
+        Err(OpenFault::Seats) => unreachable!(),
     };
     match control.reserve(alloc, 1, count) {
         Ok(()) => Ok(control),

@@ -94,10 +94,10 @@ impl RedoList {
     {
         let _kind: Option<Kind> = None;
         let _register: Option<Reg> = None;
-        if self.events.reserve(1).is_err() {
+        if let Err(error) = self.events.reserve(1) {
             // A refusal needs no room in the list.
             let Some(refusal) = run.refuses_undo(event) else {
-                return Err(NoMemory);
+                return Err(NoMemory::from(error));
             };
             return Ok(Err(refusal));
         }

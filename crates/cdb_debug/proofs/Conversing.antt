@@ -1,4 +1,5 @@
 -- A session from its first line to its last.
+use Rattle.cdb_base.specs.Memory.{no_memory}
 use Rattle.std.proofs.Common.{◌≡◌, inl, inr, ℕ, ◌+◌, ◌<◌, ◌≤◌, Bool, true, false, List, [], ◌∷◌, ◌++◌, length, refl, sym, ap, subst, ◌∙◌, append-nil, arith, length-append}
 use Rattle.std.specs.Prelude.{Result, Ok, Err}
 use Rattle.cdb_streams.specs.declared.buffer.OutputFault.{OutputFault}
@@ -42,10 +43,10 @@ module _ (prompt : List ℕ) (before behind : Known) (session : Session) (unfini
 
     pub last_fails : (why : OutputFault) → RespondsToLine (Err why) before behind prompt session new unfinished kept → RespondsToLast (ended_by why) before behind prompt session unfinished
     last_fails output.Write a start moves at over = (a.0, a.1, last_broken prompt start moves session unfinished at over some a.0 a.2)
-    last_fails output.NoMemory a start moves at over = (
+    last_fails (output.NoMemory refused) a start moves at over = (
       a.0,
       a.1,
-      subst (λ made. IsSession prompt start (ended_by output.NoMemory) made) (sym (ap (λ more. moves ++ more) a.2 ∙ append-nil moves)) (out_of_memory prompt start moves session unfinished [] at),
+      subst (λ made. IsSession prompt start (ended_by (output.NoMemory no_memory)) made) (sym (ap (λ more. moves ++ more) a.2 ∙ append-nil moves)) (out_of_memory prompt start moves session unfinished [] at),
     )
 
 -- ---- the first
@@ -127,7 +128,7 @@ setup_failed rules prompt json (setup.BadInput position) is = (is (λ e. cc), re
 setup_failed rules prompt json (setup.BadOracle process position) is = (is (λ e. cc), refl)
 setup_failed rules prompt json setup.TooLong is = (is (λ e. cc), refl)
 setup_failed rules prompt json setup.BadVersion is = (is (λ e. cc), refl)
-setup_failed rules prompt json setup.NoMemory is = inl refl
+setup_failed rules prompt json (setup.NoMemory refused) is = inl refl
 
 pub on_setup : (rules : Parts → Rules) (prompt json : List ℕ) (given : Parts) → Encodes json given → (returned : Result (Unit {0}) PlayFault) (moves : List Move) → IsSession prompt (begun rules given) returned moves → HasDebugged rules prompt json returned moves
 on_setup rules prompt json given stands (Ok done) moves s = (given, stands, s)
@@ -136,4 +137,4 @@ on_setup rules prompt json given stands (Err (fault.Line script line why)) moves
 on_setup rules prompt json given stands (Err (fault.ScriptTooLong script)) moves s = (given, stands, s)
 on_setup rules prompt json given stands (Err fault.Read) moves s = (given, stands, s)
 on_setup rules prompt json given stands (Err fault.Write) moves s = (given, stands, s)
-on_setup rules prompt json given stands (Err fault.NoMemory) moves s = inr (given, stands, s)
+on_setup rules prompt json given stands (Err (fault.NoMemory refused)) moves s = inr (given, stands, s)

@@ -1,4 +1,5 @@
 -- A session looks at the bytes that it was given.
+use Rattle.cdb_base.specs.Memory.{no_memory as refused}
 use Rattle.std.proofs.Common.{◌≡◌, ℕ, ◌+◌, Bool, true, false, List, [], ◌∷◌, ◌++◌, take, sym, ap, subst, ◌∙◌, append_assoc, append-nil}
 use Rattle.std.specs.Prelude.{Ok, Err}
 use Rattle.cdb_streams.specs.declared.buffer.OutputFault.{OutputFault}
@@ -24,7 +25,7 @@ starts prompt before old unfinished bytes start moves at = ([], Makes-nothing be
 
 module _ (prompt : List ℕ) (before : Known) (old : Session) (unfinished bytes : List ℕ) (now : Known) (session : Session) (kept left : List ℕ) (so : Goes prompt before old unfinished bytes now session kept left) where
   -- memory is out
-  pub no_memory : (new : Session) (all : List ℕ) → HearsBytes (Err output.NoMemory) before now prompt old new unfinished all bytes
+  pub no_memory : (new : Session) (all : List ℕ) → HearsBytes (Err (output.NoMemory refused)) before now prompt old new unfinished all bytes
   no_memory new all start moves at =
       let s = so start moves at in
       (s.0, s.1, s.2, out_of_memory prompt start (moves ++ s.0) session kept left s.3)
@@ -63,11 +64,11 @@ module _ (prompt : List ℕ) (before : Known) (old : Session) (unfinished bytes 
         AreWrites-append s.0 a.0 s.2 a.2.writes,
         subst (λ made. IsSession prompt start (ended_by output.Write) made) (append_assoc moves s.0 a.0) (line_broken prompt start (moves ++ s.0) session kept left s.3 a.0 a.2),
       )
-  fails output.NoMemory a start moves at =
+  fails (output.NoMemory refused) a start moves at =
       let s = so start moves at in
       let made : s.0 ++ a.0 ≡ s.0 = ap (λ more. s.0 ++ more) a.2 ∙ append-nil s.0 in (
         s.0 ++ a.0,
         Makes-more before now behind s.0 a.0 s.1 a.1,
         subst AreWrites (sym made) s.2,
-        subst (λ more. IsSession prompt start (ended_by output.NoMemory) (moves ++ more)) (sym made) (out_of_memory prompt start (moves ++ s.0) session kept (10 ∷ left) s.3),
+        subst (λ more. IsSession prompt start (ended_by (output.NoMemory refused)) (moves ++ more)) (sym made) (out_of_memory prompt start (moves ++ s.0) session kept (10 ∷ left) s.3),
       )

@@ -1,4 +1,5 @@
 -- A session goes from one of its states to the next.
+use Rattle.cdb_base.specs.Memory.{no_memory}
 use Rattle.std.proofs.Common.{◌≡◌, ◌≢◌, rules, inl, inr, ℕ, ◌+◌, ◌<◌, ◌≤◌, Bool, true, false, List, [], ◌∷◌, ◌++◌, length, take, nat_eq, refl, sym, ap, subst, ◌∙◌, append_assoc, append-nil, arith, length-append}
 use Rattle.std.specs.Prelude.{Result, Err, IsTrue}
 use Rattle.std.specs.List.{AllZip, AllByRecursion}
@@ -91,7 +92,7 @@ module _ (prompt : List ℕ) (start : Session) where
     lines_begin = ap lines_of at.read ∙ lines_of_joined at.lines (at.line ++ left) at.ended
 
     -- memory is out
-    pub out_of_memory : IsSession prompt start (ended_by output.NoMemory) moves
+    pub out_of_memory : IsSession prompt start (ended_by (output.NoMemory no_memory)) moves
     out_of_memory =
         record {
           in_time = at.in_time;

@@ -60,7 +60,7 @@ module _ (prompt : List ℕ) (start : Session) where
   EndsAs (Ok done) moves = IsWhole moves
   EndsAs (Err fault.Read) moves = HasResponded moves × EndsWith (λ last. last ≡ ReadFailed) moves
   EndsAs (Err fault.Write) moves = IsBroken moves × EndsWith FailsToWrite moves
-  EndsAs (Err fault.NoMemory) moves = IsCutShort moves
+  EndsAs (Err (fault.NoMemory refused)) moves = IsCutShort moves
   EndsAs (Err (fault.Setup why)) moves = ⊥
   EndsAs (Err (fault.Line script line why)) moves = ⊥
   EndsAs (Err (fault.ScriptTooLong script)) moves = ⊥
@@ -80,7 +80,7 @@ module _ (rules : Parts → Rules) (prompt json : List ℕ) where
   -- there is a session.
   abbrev pub HasDebugged : {A : Type 0} → Result A PlayFault → List Move → Type 0
   HasDebugged (Err (fault.Setup why)) moves = IsFirstFault why json × (moves ≡ [])
-  HasDebugged {A} (Err fault.NoMemory) moves = (moves ≡ []) ⊎ IsSessionOn {A = A} (Err fault.NoMemory) moves
+  HasDebugged {A} (Err (fault.NoMemory refused)) moves = (moves ≡ []) ⊎ IsSessionOn {A = A} (Err (fault.NoMemory refused)) moves
   HasDebugged returned moves = IsSessionOn returned moves
 
   -- the moves that the call has made, where those before were known, are such

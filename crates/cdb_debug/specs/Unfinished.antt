@@ -62,7 +62,7 @@ pub record IsLineBroken (prompt : List ℕ) (old : Session) (unfinished : List �
 abbrev pub RespondsAs : Result Bool OutputFault → List ℕ → Session → Session → List ℕ → List ℕ → List Move → Type 0
 RespondsAs (Ok was_quit) prompt old new unfinished left made = IsLineDone prompt old new unfinished left was_quit made
 RespondsAs (Err output.Write) prompt old new unfinished left made = IsLineBroken prompt old unfinished made
-RespondsAs (Err output.NoMemory) prompt old new unfinished left made = made ≡ []
+RespondsAs (Err (output.NoMemory refused)) prompt old new unfinished left made = made ≡ []
 
 -- a line that had ended was responded to
 abbrev pub RespondsToLine : Result Bool OutputFault → Known → Known → List ℕ → Session → Session → List ℕ → List ℕ → Type 0

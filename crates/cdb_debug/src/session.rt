@@ -10,7 +10,7 @@ use crate::help::HELP;
 use crate::request::Request;
 use crate::response::{push_fault, push_seat, push_too_long};
 use cdb_base::NoMemory;
-use cdb_control::{CallFault, Command, Control, Reply};
+use cdb_control::{CallFault, Command, Control, OpenFault, Reply};
 use cdb_rules::Runs;
 use cdb_setup::Setup;
 use cdb_text::reply_text;
@@ -51,7 +51,8 @@ impl<R: Runs> Session<R> {
                 seat: 1,
                 lines: 0,
             }),
-            Err(_) => Err(NoMemory),
+            Err(OpenFault::NoMemory(refused)) => Err(refused),
+            Err(OpenFault::Seats) => unreachable!(),
         }
     }
 
@@ -67,7 +68,7 @@ impl<R: Runs> Session<R> {
         let text = match self.control.execute(alloc, self.seat, command) {
             Ok(reply) => text_of(alloc, reply)?,
             Err(CallFault::JournalFull) => b"journal full\n".to_vec(alloc)?,
-            Err(CallFault::NoMemory) => return Err(NoMemory),
+            Err(CallFault::NoMemory(refused)) => return Err(refused),
         };
         self.lines += 1;
         Ok(text)

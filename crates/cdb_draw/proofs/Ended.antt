@@ -20,7 +20,7 @@ use Rattle.cdb_draw.specs.declared.script.StepAsked.{StepAsked}
 -- a picture is written in pieces
 pub draw_ends : (A : Type 0) (why : OutputFault) → draw_ending {A = A} (Err (Play (of_output why))) ≡ pieces_ending {A = A} (Err why)
 draw_ends A output.Write = refl
-draw_ends A output.NoMemory = refl
+draw_ends A (output.NoMemory refused) = refl
 
 -- ---- the run that a script left
 

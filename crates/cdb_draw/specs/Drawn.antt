@@ -46,5 +46,5 @@ IsFaultOfDraw rules json step old new (Play fault) = IsFaultOfPlay json old new 
 abbrev pub draw_ending : {A : Type 0} → Result A ExplainFault → Ending
 draw_ending (Ok done) = Complete
 draw_ending (Err (Play play.Write)) = WriterFailed
-draw_ending (Err (Play play.NoMemory)) = CutShort
+draw_ending (Err (Play (play.NoMemory refused))) = CutShort
 draw_ending (Err fault) = NotBegun

@@ -25,7 +25,7 @@ use Rattle.cdb_setup.specs.Parts.{Parts}
 
 pub output_fault : (why : OutputFault) (json : List ℕ) (old new : Stream) → IsSetup json → IsFaultOfPlay json old new (of_output why)
 output_fault output.Write json old new setup = setup
-output_fault output.NoMemory json old new setup = setup.1.0
+output_fault (output.NoMemory refused) json old new setup = setup.1.0
 
 pub fault_left : (rules : Parts → Rules) (json : List ℕ) (p : ℕ) (k : Option ℕ) (old new : Stream) (run : RunView) → Leaves rules json old new run
     → (result : Result (Unit {0}) ExplainFault) → IfErr result (IsFaultOfStep (StandsNoStep run.history p k)) → IfErr result (IsFaultOfExplain rules json p k old new)
@@ -40,13 +40,13 @@ module _ (Missing : Type 0) where
   is_no_setup (Ok done) fault is same = cc
   is_no_setup (Err NoStep) fault is same = cc
   is_no_setup (Err (Play made)) fault (output.Write, is) same = cc
-  is_no_setup (Err (Play made)) fault (output.NoMemory, is) same = cc
+  is_no_setup (Err (Play made)) fault (output.NoMemory refused, is) same = cc
 
   pub reads_none : (result : Result (Unit {0}) ExplainFault) → IfErr result (IsFaultOfStep Missing) → result ≡ Err (Play play.Read) → ⊥
   reads_none (Ok done) is same = cc
   reads_none (Err NoStep) is same = cc
   reads_none (Err (Play made)) (output.Write, is) same = cc
-  reads_none (Err (Play made)) (output.NoMemory, is) same = cc
+  reads_none (Err (Play made)) (output.NoMemory refused, is) same = cc
 
 pub no_err : {A E : Type 0} (value : A) (error : E) → (let result : Result A E = Ok value in result) ≡ Err error → ⊥
 no_err value error same = cc

@@ -50,10 +50,10 @@ impl From<NoMemory> for ExplainFault {
     ghost use Rattle.cdb_explain.specs.declared.fault.ExplainFault.TheVariants.{Play as play};
     ghost use Rattle.cdb_streams.specs.declared.fault.PlayFault.TheVariants.{NoMemory as no_memory};
 
-    ghost from_gives = { λ _ made. made ≡ play no_memory };
+    ghost from_gives = { λ refused made. made ≡ play (no_memory refused) };
 
-    fn from(_error: NoMemory) -> Self {
-        ExplainFault::Play(PlayFault::NoMemory)
+    fn from(refused: NoMemory) -> Self {
+        ExplainFault::Play(PlayFault::NoMemory(refused))
     }
 }
 

@@ -35,7 +35,7 @@ fn carry_out<T: Runs>(
             Ok(())
         }
         Err(CallFault::JournalFull) => unreachable!(),
-        Err(CallFault::NoMemory) => Err(NoMemory),
+        Err(CallFault::NoMemory(refused)) => Err(refused),
     }
 }
 

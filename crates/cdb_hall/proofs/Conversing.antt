@@ -1,4 +1,5 @@
 -- A seat's session from its first line to its last.
+use Rattle.cdb_base.specs.Memory.{no_memory}
 use Rattle.std.proofs.Common.{◌≡◌, inl, inr, ℕ, ◌+◌, ◌<◌, ◌≤◌, Bool, true, false, List, [], ◌∷◌, ◌++◌, length, refl, sym, ap, subst, ◌∙◌, append-nil, arith, length-append}
 use Rattle.std.specs.Prelude.{Result, Ok, Err}
 use Rattle.cdb_control.specs.Journal.{own, replies_of}
@@ -40,10 +41,10 @@ module _ (rules : Parts → Rules) where
 
       pub last_fails : (why : OutputFault) → SeatRespondsToLine rules (Err why) before behind prompt session new unfinished kept → SeatRespondsToLast rules (ended_by why) before behind prompt session new unfinished
       last_fails output.Write a moves at over = (a.0, a.1, last_breaks rules prompt moves session unfinished at over some new a.0 a.2)
-      last_fails output.NoMemory a moves at over = (
+      last_fails (output.NoMemory refused) a moves at over = (
         a.0,
         a.1,
-        subst (λ made. HasEndedAs rules (ended_by output.NoMemory) prompt made new) (sym (ap (λ more. moves ++ more) a.2.none ∙ append-nil moves)) (last_loses rules prompt moves session unfinished at over some new a.0 a.2),
+        subst (λ made. HasEndedAs rules (ended_by (output.NoMemory no_memory)) prompt made new) (sym (ap (λ more. moves ++ more) a.2.none ∙ append-nil moves)) (last_loses rules prompt moves session unfinished at over some new a.0 a.2),
       )
 
   -- ---- the first

@@ -45,7 +45,7 @@ module _ (rules : Parts → Rules) (prompt : List ℕ) (c : Journaled) (seat : S
     record { lines = e.0.lines; others = e.0.others; text = e.0.text; missing = e.0.missing; begins = e.0.begins; served = served_known e.0.lines e.0.text e.0.served; written = e.0.written },
     e.1,
   )
-  ends_known (Err fault.NoMemory) moves e = record {
+  ends_known (Err (fault.NoMemory refused)) moves e = record {
     lines = e.lines;
     next = e.next;
     others = e.others;

@@ -1,4 +1,5 @@
 -- A seat's session looks at the bytes that it was given, whatever replies will follow.
+use Rattle.cdb_base.specs.Memory.{no_memory as refused}
 use Rattle.std.proofs.Common.{◌≡◌, ◌≢◌, rules, ℕ, ◌+◌, ◌<◌, Bool, true, false, List, [], ◌∷◌, ◌++◌, length, take, refl, sym, ap, subst, ◌∙◌, append_assoc, append-nil}
 use Rattle.std.specs.Prelude.{Result, Ok, Err, IsTrue}
 use Rattle.cdb_commands.specs.ToldReply.{ToldReply}
@@ -43,7 +44,7 @@ module _ (rules : Parts → Rules) where
     as_seen = subst (λ (r : List ToldReply). IsSeatAt rules prompt r moves old.seat (at_line old []) unfinished left) (append-nil (replies_to rules old.seat)) (at [] (no_more old.seat))
 
     -- memory is out before a line is looked at
-    pub out_of_memory : HasEndedAs rules (ended_by output.NoMemory) prompt moves old
+    pub out_of_memory : HasEndedAs rules (ended_by (output.NoMemory refused)) prompt moves old
     out_of_memory = lost_before rules prompt (replies_to rules old.seat) moves old.seat (at_line old []) unfinished left as_seen old.seat as_seen.commands
 
     -- the replies that a line gets come first
@@ -78,10 +79,10 @@ module _ (rules : Parts → Rules) where
         (line_broken rules prompt (replies_to rules new.seat ++ []) moves old.seat (at_line old (d.got ++ [])) unfinished left now d.request d.asks new.seat (commands_done rules old.seat d.request d.got new.seat d.done now.requests now.commands) made d.writes
         d.missing (sym same.0 ∙ d.said) d.fails)
 
-    line_loses : (made : List Move) → IsLineLost rules old new unfinished made → HasEndedAs rules (ended_by output.NoMemory) prompt moves new
+    line_loses : (made : List Move) → IsLineLost rules old new unfinished made → HasEndedAs rules (ended_by (output.NoMemory refused)) prompt moves new
     line_loses made d =
         let now = before_line prompt moves old unfinished (10 ∷ left) at new.seat d.request d.got d.done.later d.done.calls [] (no_more new.seat) in
-        finish prompt (ended_by output.NoMemory) moves new
+        finish prompt (ended_by (output.NoMemory refused)) moves new
         (line_lost rules prompt (replies_to rules new.seat ++ []) moves old.seat (at_line old (d.got ++ [])) unfinished left now d.request d.asks new.seat (commands_lost rules old.seat d.request d.got new.seat d.done now.requests now.commands))
 
   module _ (prompt : List ℕ) (moves : List Move) (old : SeatSession) (unfinished : List ℕ) (at : StaysAt rules prompt moves old unfinished []) (over : IsOver moves) where
@@ -105,10 +106,10 @@ module _ (rules : Parts → Rules) where
           (last_broken rules prompt (replies_to rules new.seat ++ []) moves old.seat (at_line old (d.got ++ [])) unfinished now over some d.request d.asks new.seat (commands_done rules old.seat d.request d.got new.seat d.done now.requests now.commands) made d.writes
           d.missing (sym same.0 ∙ d.said) d.fails)
 
-      pub last_loses : (made : List Move) → IsLineLost rules old new unfinished made → HasEndedAs rules (ended_by output.NoMemory) prompt moves new
+      pub last_loses : (made : List Move) → IsLineLost rules old new unfinished made → HasEndedAs rules (ended_by (output.NoMemory refused)) prompt moves new
       last_loses made d =
           let now = before_line prompt moves old unfinished [] at new.seat d.request d.got d.done.later d.done.calls [] (no_more new.seat) in
-          finish prompt (ended_by output.NoMemory) moves new
+          finish prompt (ended_by (output.NoMemory refused)) moves new
           (last_lost rules prompt (replies_to rules new.seat ++ []) moves old.seat (at_line old (d.got ++ [])) unfinished now over some d.request d.asks new.seat (commands_lost rules old.seat d.request d.got new.seat d.done now.requests now.commands))
 
   -- from the first of the bytes on, up to those that are left
@@ -122,7 +123,7 @@ module _ (rules : Parts → Rules) where
 
   module _ (prompt : List ℕ) (before : Known) (old : SeatSession) (unfinished bytes : List ℕ) (now : Known) (session : SeatSession) (kept left : List ℕ) (so : Goes prompt before old unfinished bytes now session kept left) where
     -- memory is out
-    pub no_memory : (all : List ℕ) → SeatHears rules (Err output.NoMemory) before now prompt old session unfinished all bytes
+    pub no_memory : (all : List ℕ) → SeatHears rules (Err (output.NoMemory refused)) before now prompt old session unfinished all bytes
     no_memory all moves at =
         let s = so moves at in
         (s.0, s.1, s.2, out_of_memory prompt (moves ++ s.0) session kept left s.3)
@@ -161,11 +162,11 @@ module _ (rules : Parts → Rules) where
           AreWrites-append s.0 a.0 s.2 a.2.writes,
           subst (λ made. HasEndedAs rules (ended_by output.Write) prompt made new) (append_assoc moves s.0 a.0) (line_breaks prompt (moves ++ s.0) session kept left s.3 new a.0 a.2),
         )
-    fails output.NoMemory a moves at =
+    fails (output.NoMemory refused) a moves at =
         let s = so moves at in
         let made : s.0 ++ a.0 ≡ s.0 = ap (λ more. s.0 ++ more) a.2.none ∙ append-nil s.0 in (
           s.0 ++ a.0,
           Makes-more before now behind s.0 a.0 s.1 a.1,
           subst AreWrites (sym made) s.2,
-          subst (λ more. HasEndedAs rules (ended_by output.NoMemory) prompt (moves ++ more) new) (sym made) (line_loses prompt (moves ++ s.0) session kept left s.3 new a.0 a.2),
+          subst (λ more. HasEndedAs rules (ended_by (output.NoMemory refused)) prompt (moves ++ more) new) (sym made) (line_loses prompt (moves ++ s.0) session kept left s.3 new a.0 a.2),
         )

@@ -1,4 +1,5 @@
 -- Sessions that did not begin.
+use Rattle.cdb_base.specs.Memory.{no_memory}
 use Rattle.std.proofs.Common.{◌≢◌, List, ℕ}
 use Rattle.cdb_streams.specs.RaceFaults.{race_fault_of_setup}
 use Rattle.cdb_setup.specs.Order.{IsFirstFault}
@@ -9,7 +10,7 @@ use Rattle.cdb_hall.specs.Holding.{IsFaultOfHall}
 use Rattle.cdb_hall.specs.declared.threads.HallFault.{HallFault}
 use Rattle.cdb_hall.specs.declared.threads.HallFault.TheVariants as hall
 
-pub setup_failed : (json : List ℕ) (why : SetupFault) → (why ≢ setup.NoMemory → IsFirstFault why json) → IsFaultOfHall json (race_fault_of_setup why)
+pub setup_failed : (json : List ℕ) (why : SetupFault) → (why ≢ setup.NoMemory no_memory → IsFirstFault why json) → IsFaultOfHall json (race_fault_of_setup why)
 setup_failed json setup.NotJson is = is (λ e. cc)
 setup_failed json setup.NotObject is = is (λ e. cc)
 setup_failed json setup.UnknownKey is = is (λ e. cc)
@@ -21,8 +22,8 @@ setup_failed json (setup.BadInput station) is = is (λ e. cc)
 setup_failed json (setup.BadOracle process station) is = is (λ e. cc)
 setup_failed json setup.TooLong is = is (λ e. cc)
 setup_failed json setup.BadVersion is = is (λ e. cc)
-setup_failed json setup.NoMemory is = tt
+setup_failed json (setup.NoMemory refused) is = tt
 
 pub threads_failed : (json : List ℕ) (why : HallFault) → IsFaultOfHall json (of_hall why)
-threads_failed json hall.NoMemory = tt
+threads_failed json (hall.NoMemory refused) = tt
 threads_failed json (hall.Spawn refused) = tt

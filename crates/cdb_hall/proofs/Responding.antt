@@ -1,4 +1,5 @@
 -- What a seat's session answers to one line.
+use Rattle.cdb_base.specs.Memory.{no_memory}
 use Rattle.std.proofs.Common.{◌≡◌, ◌≢◌, ◌≤◌, ◌+◌, ℕ, true, List, [], ◌∷◌, ◌++◌, length, refl, sym, ap, subst, ◌∙◌, arith, Vec, Global}
 use Rattle.std.specs.Prelude.{Result, Ok, Err, IfOk, IsTrue, ◌↔◌, Bool}
 use Rattle.cdb_base.specs.declared.limits.TheConstants.{MAX_ENTRIES}
@@ -59,7 +60,7 @@ module _ (rules : Parts → Rules) where
   -- ---- a held line
 
   module _ (before behind : Known) (prompt : List ℕ) (old new : SeatSession) (unfinished kept : List ℕ) (request : Request) (asks : Asks request unfinished) where
-    pub line_is_lost : (E : Type 0) (e : E) → before ≡ behind → (let r : Result (Vec ℕ Global) E = Err e in Shows rules prompt r old request new) → SeatRespondsToLine rules (Err output.NoMemory) before behind prompt old new unfinished kept
+    pub line_is_lost : (E : Type 0) (e : E) → before ≡ behind → (let r : Result (Vec ℕ Global) E = Err e in Shows rules prompt r old request new) → SeatRespondsToLine rules (Err (output.NoMemory no_memory)) before behind prompt old new unfinished kept
     line_is_lost E e same s = ([], subst (λ now. Makes before now []) same (Makes-nothing before), record { request = request; asks = asks; got = s.0; done = s.1; none = refl })
 
     pub line_is_broken : (E : Type 0) (text : Vec ℕ Global) (A F : Type 0) (f : F) → Shows rules {E = E} prompt (Ok text) old request new → Says {A = A} {E = F} (Err f) before behind text.items → SeatRespondsToLine rules (Err output.Write) before behind prompt old new unfinished kept

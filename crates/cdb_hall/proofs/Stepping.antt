@@ -1,4 +1,5 @@
 -- A seat's session goes from one of its states to the next, with replies that are given.
+use Rattle.cdb_base.specs.Memory.{no_memory}
 use Rattle.std.proofs.Common.{◌≡◌, ◌≢◌, ◌⊎◌, inl, inr, ℕ, ◌+◌, ◌<◌, ◌≤◌, false, List, [], ◌∷◌, ◌++◌, length, take, nat_eq, refl, sym, ap, subst, ◌∙◌, append_assoc, append-nil, arith, length-append}
 use Rattle.std.specs.Prelude.{Result, Err}
 use Rattle.std.specs.List.{AllZip, AllByRecursion}
@@ -118,7 +119,7 @@ module _ (rules : Parts → Rules) (prompt : List ℕ) (replies : List ToldReply
     lines_begin = ap lines_of at.read ∙ lines_of_joined at.lines (at.line ++ left) at.ended
 
     -- memory is out, and the journal has nothing of the next line, or its command too
-    pub lost_before : (new : SeatView) → HasCommands (part_seen rules new) at.requests → IsSeatSession prompt (part_with replies new) (ended_by output.NoMemory) moves
+    pub lost_before : (new : SeatView) → HasCommands (part_seen rules new) at.requests → IsSeatSession prompt (part_with replies new) (ended_by (output.NoMemory no_memory)) moves
     lost_before new has =
         record {
           in_time = at.in_time;
@@ -134,7 +135,7 @@ module _ (rules : Parts → Rules) (prompt : List ℕ) (replies : List ToldReply
         }
 
     lost_behind : (new : SeatView) (request : Request) → Asks request at.line → (others : List (List ℕ)) → lines_of (read_in moves) ≡ (at.lines ++ at.line ∷ []) ++ others → HasCommands (part_seen rules new) (at.requests ++ request ∷ [])
-        → IsSeatSession prompt (part_with replies new) (ended_by output.NoMemory) moves
+        → IsSeatSession prompt (part_with replies new) (ended_by (output.NoMemory no_memory)) moves
     lost_behind new request asks others begins has =
         record {
           in_time = at.in_time;
@@ -244,7 +245,7 @@ module _ (rules : Parts → Rules) (prompt : List ℕ) (replies : List ToldReply
     now_lines = ap lines_of now_read ∙ lines_of_joined (at.lines ++ at.line ∷ []) left now_ended
 
     -- memory is out
-    pub line_lost : HasCommands (part_seen rules new) at.requests ⊎ HasCommands (part_seen rules new) (at.requests ++ request ∷ []) → IsSeatSession prompt (part_with replies new) (ended_by output.NoMemory) moves
+    pub line_lost : HasCommands (part_seen rules new) at.requests ⊎ HasCommands (part_seen rules new) (at.requests ++ request ∷ []) → IsSeatSession prompt (part_with replies new) (ended_by (output.NoMemory no_memory)) moves
     line_lost (inl has) = lost_before moves seat along unfinished (10 ∷ left) at new has
     line_lost (inr has) = lost_behind moves seat along unfinished (10 ∷ left) at new request (whole_line moves seat along unfinished (10 ∷ left) at request asks [] tt) (lines_of left) now_lines has
 
@@ -304,7 +305,7 @@ module _ (rules : Parts → Rules) (prompt : List ℕ) (replies : List ToldReply
 
     -- a last line without its end
     module _ (some : 0 < length unfinished) (request : Request) (asks : Asks request unfinished) (new : SeatView) where
-      pub last_lost : HasCommands (part_seen rules new) at.requests ⊎ HasCommands (part_seen rules new) (at.requests ++ request ∷ []) → IsSeatSession prompt (part_with replies new) (ended_by output.NoMemory) moves
+      pub last_lost : HasCommands (part_seen rules new) at.requests ⊎ HasCommands (part_seen rules new) (at.requests ++ request ∷ []) → IsSeatSession prompt (part_with replies new) (ended_by (output.NoMemory no_memory)) moves
       last_lost (inl has) = lost_before moves seat along unfinished [] at new has
       last_lost (inr has) = lost_behind moves seat along unfinished [] at new request (whole_line moves seat along unfinished [] at request asks [] tt) [] (last_lines some ∙ sym (append-nil (at.lines ++ at.line ∷ []))) has
 

@@ -8,7 +8,7 @@ use Rattle.cdb_hall.specs.declared.threads.HallFault.TheVariants as hall
 
 -- the fault that the program reports
 abbrev pub of_hall : HallFault → RaceFault
-of_hall hall.NoMemory = race.NoMemory
+of_hall (hall.NoMemory refused) = race.NoMemory refused
 of_hall (hall.Spawn refused) = race.Spawn refused
 
 -- and its text

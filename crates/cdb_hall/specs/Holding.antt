@@ -33,7 +33,7 @@ pub record HoldsSessions {T O E : Type 0} (rules : Parts → Rules) (known : T �
 
 -- the faults of memory and threads
 abbrev pub IsRaceFaultOfThreads : RaceFault → Type 0
-IsRaceFaultOfThreads fault.NoMemory = Unit {0}
+IsRaceFaultOfThreads (fault.NoMemory refused) = Unit {0}
 IsRaceFaultOfThreads (fault.Spawn refused) = Unit {0}
 IsRaceFaultOfThreads other = ⊥
 

@@ -65,7 +65,7 @@ module _ (prompt : List ℕ) where
     SeatEndsAs (Ok done) moves = IsSeatWhole moves
     SeatEndsAs (Err fault.Read) moves = IsSeatUnread moves × EndsWith (λ last. last ≡ ReadFailed) moves
     SeatEndsAs (Err fault.Write) moves = IsSeatBroken moves × EndsWith FailsToWrite moves
-    SeatEndsAs (Err fault.NoMemory) moves = IsSeatCutShort moves
+    SeatEndsAs (Err (fault.NoMemory refused)) moves = IsSeatCutShort moves
     SeatEndsAs (Err (fault.Setup why)) moves = ⊥
     SeatEndsAs (Err (fault.Line script line why)) moves = ⊥
     SeatEndsAs (Err (fault.ScriptTooLong script)) moves = ⊥

@@ -82,7 +82,7 @@ module _ (rules : Parts → Rules) where
   abbrev pub SeatRespondsAs : Result Bool OutputFault → List ℕ → SeatSession → SeatSession → List ℕ → List ℕ → List Move → Type 0
   SeatRespondsAs (Ok was_quit) prompt old new unfinished left made = IsSeatLineDone prompt old new unfinished left was_quit made
   SeatRespondsAs (Err output.Write) prompt old new unfinished left made = IsSeatLineBroken prompt old new unfinished made
-  SeatRespondsAs (Err output.NoMemory) prompt old new unfinished left made = IsLineLost old new unfinished made
+  SeatRespondsAs (Err (output.NoMemory refused)) prompt old new unfinished left made = IsLineLost old new unfinished made
 
   -- a line that had ended was responded to
   abbrev pub SeatRespondsToLine : Result Bool OutputFault → Known → Known → List ℕ → SeatSession → SeatSession → List ℕ → List ℕ → Type 0

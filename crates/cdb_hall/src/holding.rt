@@ -21,7 +21,7 @@ fn of_hall(fault: HallFault) -> RaceFault
     ensures { result ≡ of_hall fault }
 {
     match fault {
-        HallFault::NoMemory => RaceFault::NoMemory,
+        HallFault::NoMemory(refused) => RaceFault::NoMemory(refused),
         HallFault::Spawn(refused) => RaceFault::Spawn(refused),
     }
 }

@@ -41,7 +41,7 @@ pub fn write_journal<W: Sink>(
 {
     match journal_text(alloc, journal) {
         Ok(text) => put(text.as_slice(), out),
-        Err(_) => Err(OutputFault::NoMemory),
+        Err(refused) => Err(OutputFault::NoMemory(refused)),
     }
 }
 
@@ -112,7 +112,7 @@ pub fn write_failures<T, W: Sink>(
 {
     match failures(alloc, attended, written) {
         Ok(text) => put(text.as_slice(), out),
-        Err(_) => Err(OutputFault::NoMemory),
+        Err(refused) => Err(OutputFault::NoMemory(refused)),
     }
 }
 

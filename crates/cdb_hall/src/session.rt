@@ -51,7 +51,7 @@ impl<R: Runs> Session<R> {
         match shared.call(rt, alloc, &mut self.seat, command) {
             Ok(reply) => text_of(alloc, reply),
             Err(CallFault::JournalFull) => text_of_full(alloc),
-            Err(CallFault::NoMemory) => Err(NoMemory),
+            Err(CallFault::NoMemory(refused)) => Err(refused),
         }
     }
 

@@ -8,8 +8,9 @@ ghost use Rattle.cdb_shared.specs.Seats.{fresh_seats, HasHeadline};
 
 use crate::station::{Attended, Station};
 use crate::worker::{Left, SeatPromise, attend};
+use cdb_base::NoMemory;
 use cdb_base::limits::MAX_SEATS;
-use cdb_control::Control;
+use cdb_control::{Control, OpenFault};
 use cdb_debug::Talk;
 use cdb_rules::Runs;
 use cdb_setup::Setup;
@@ -25,7 +26,7 @@ use std::{fmt, thread};
 /// Why there were no sessions, or why their journal was lost.
 #[derive(Debug, Clone, Copy, PartialEq)]
 pub enum HallFault {
-    NoMemory,
+    NoMemory(NoMemory),
     /// The start of a thread was refused.
     Spawn(RefusedStart),
 }
@@ -39,7 +40,7 @@ impl fmt::Display for HallFault {
 
     fn fmt<W: fmt::Write>(&self, f: &mut fmt::Formatter<W>) -> fmt::Result {
         f.write_str(match self {
-            HallFault::NoMemory => "no memory",
+            HallFault::NoMemory(_) => "no memory",
             HallFault::Spawn(_) => "no thread",
         })
     }
@@ -88,8 +89,9 @@ fn start_all<'s, E, R: Runs + Send + 's, T: Talk + Drop + Send + 's, Rt: Threads
     ensures count { IfOk result (λ handles. vec_len handles ≡ vec_len seats) }
     ensures each { IfOk result (λ handles. AreStationPromises seats stations handles) }
 {
-    let Ok(mut handles) = Vec::with_capacity(alloc, seats.len()) else {
-        return Err(HallFault::NoMemory);
+    let mut handles = match Vec::with_capacity(alloc, seats.len()) {
+        Ok(handles) => handles,
+        Err(error) => return Err(HallFault::NoMemory(NoMemory::from(error))),
     };
     while let Some(seat) = seats.pop() {
         let Some(station) = stations.pop() else {
@@ -117,8 +119,9 @@ fn join_all<'s, E, R: Runs + Send + 's, T: Talk + Drop + Send + 's, Rt: Threads 
         (λ lefts. AllAttended R.rules T.known seats.items stations.items lefts.items) }
 {
     let handles = start_all(scope, rt, alloc, shared, seats, stations)?;
-    let Ok(lefts) = thread::join_promised(rt, handles) else {
-        return Err(HallFault::NoMemory);
+    let lefts = match thread::join_promised(rt, handles) {
+        Ok(lefts) => lefts,
+        Err(error) => return Err(HallFault::NoMemory(NoMemory::from(error))),
     };
     Ok(lefts)
 }
@@ -156,11 +159,13 @@ fn collect<R: Runs, T: Talk + Drop>(
         (λ r. (vec_len r.0 ≡ vec_len lefts) × (vec_len r.1 ≡ vec_len lefts)) }
     ensures each { IfOk result (λ r. AreOfLefts r.0.items r.1.items lefts.items) }
 {
-    let Ok(mut seats) = Vec::with_capacity(alloc, lefts.len()) else {
-        return Err(HallFault::NoMemory);
+    let mut seats = match Vec::with_capacity(alloc, lefts.len()) {
+        Ok(seats) => seats,
+        Err(error) => return Err(HallFault::NoMemory(NoMemory::from(error))),
     };
-    let Ok(mut all) = Vec::with_capacity(alloc, lefts.len()) else {
-        return Err(HallFault::NoMemory);
+    let mut all = match Vec::with_capacity(alloc, lefts.len()) {
+        Ok(all) => all,
+        Err(error) => return Err(HallFault::NoMemory(NoMemory::from(error))),
     };
     while let Some(left) = lefts.pop() {
         let Left { seat, attended } = left;
@@ -177,17 +182,21 @@ fn open_shared<R: Runs, Rt: Wait>(
     setup: Setup,
     count: u8,
 ) -> Result<(Shared<R>, Vec<Seat<R>>), HallFault>
+    requires some { 1 ≤ count }
+    requires fits { count ≤ MAX_SEATS }
     ensures { IfOk result
         (λ r. r.1.items ≡ fresh_seats r.0 (opened setup count) 1 count) }
 {
-    let Ok(control) = Control::open(alloc, setup, count) else {
-        return Err(HallFault::NoMemory);
+    let control = match Control::open(alloc, setup, count) {
+        Ok(control) => control,
+        Err(OpenFault::NoMemory(refused)) => return Err(HallFault::NoMemory(refused)),
+        Err(OpenFault::Seats) => unreachable!(),
     };
     match Shared::open(rt, alloc, control) {
         Ok(opened) => Ok(opened),
-        Err((control, _)) => {
+        Err((control, refused)) => {
             control.close();
-            Err(HallFault::NoMemory)
+            Err(HallFault::NoMemory(refused))
         }
     }
 }

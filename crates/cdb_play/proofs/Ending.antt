@@ -21,21 +21,21 @@ use Rattle.cdb_race.specs.declared.threads.RaceFault.TheVariants as threads
 
 pub play_ends : (A : Type 0) (why : OutputFault) → play_ending {A = A} (Err (of_output why)) ≡ pieces_ending {A = A} (Err why)
 play_ends A output.Write = refl
-play_ends A output.NoMemory = refl
+play_ends A (output.NoMemory refused) = refl
 
 pub race_ends : (A : Type 0) (why : OutputFault) → race_ending {A = A} (Err (race_fault_of_output why)) ≡ pieces_ending {A = A} (Err why)
 race_ends A output.Write = refl
-race_ends A output.NoMemory = refl
+race_ends A (output.NoMemory refused) = refl
 
 module _ {W : Type 0} (stream : W → Stream) (A : Type 0) (IsText : List ℕ → Type 0) where
   -- ---- a fault that comes before the text is known leaves the writer as it was
 
   pub race_unwritten_setup : (out : W) (fault : SetupFault) → IsWritten stream (race_ending {A = A} (Err (race_fault_of_setup fault))) out out IsText
-  race_unwritten_setup out setup.NoMemory = inl refl
+  race_unwritten_setup out (setup.NoMemory refused) = inl refl
   race_unwritten_setup out fault = refl
 
   pub race_unwritten_threads : (out : W) (fault : ThreadFault) → IsWritten stream (race_ending {A = A} (Err (race_fault_of_threads fault))) out out IsText
-  race_unwritten_threads out threads.NoMemory = inl refl
+  race_unwritten_threads out (threads.NoMemory refused) = inl refl
   race_unwritten_threads out threads.JournalFull = refl
   race_unwritten_threads out (threads.Spawn refused) = refl
   race_unwritten_threads out (threads.Stopped seat) = refl
@@ -43,7 +43,7 @@ module _ {W : Type 0} (stream : W → Stream) (A : Type 0) (IsText : List ℕ �
   pub race_unwritten_scripts : (out : W) (fault : RaceFault) (scripts : List (List ℕ)) → IsFaultOfScripts fault scripts → IsWritten stream (race_ending {A = A} (Err fault)) out out IsText
   race_unwritten_scripts out (Line position line fault) scripts is = refl
   race_unwritten_scripts out (ScriptTooLong position) scripts is = refl
-  race_unwritten_scripts out NoMemory scripts is = inl refl
+  race_unwritten_scripts out (NoMemory refused) scripts is = inl refl
   race_unwritten_scripts out fault scripts is = absurd is
 
   -- ---- such a text was written in pieces, and that ended so

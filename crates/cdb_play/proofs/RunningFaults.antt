@@ -1,4 +1,5 @@
 -- The faults of a race, of those of its parts.
+use Rattle.cdb_base.specs.Memory.{no_memory}
 use Rattle.std.proofs.Common.{◌≡◌, ◌≢◌, inl, inr, ℕ, suc, ◌+◌, ◌<◌, ◌≤◌, Bool, List, [], ◌∷◌, length, Option, Result, Ok, Err, refl, ap, arith}
 use Rattle.std.specs.Prelude.{IfErr}
 use Rattle.cdb_commands.specs.declared.command.Command.{Command}
@@ -31,7 +32,7 @@ both (Err e) P Q R f p q = f e p q
 pub of_threads : {G : Type 0} (T : Type 0) (rules : Parts → Rules) (heard : G → Option (List Heard)) (passes : G → Bool) (gates : List G) (setup : Parts) (turns : ℕ) (commands : List (List Command)) (fault : ThreadFault)
     → IsAmongSeats (setup.processes + length commands) fault → (fault ≡ threads.JournalFull → MayFill setup turns commands) → IsTold T rules heard passes gates setup turns commands fault
     → IsFaultOfCommands (IsFaultBehind T rules heard passes gates) setup turns commands (race_fault_of_threads fault)
-of_threads T rules heard passes gates setup turns commands threads.NoMemory within most told = tt
+of_threads T rules heard passes gates setup turns commands (threads.NoMemory refused) within most told = tt
 of_threads T rules heard passes gates setup turns commands (threads.Spawn refused) within most told = tt
 of_threads T rules heard passes gates setup turns commands threads.JournalFull within most (inl none) = absurd none
 of_threads T rules heard passes gates setup turns commands threads.JournalFull within most (inr its) = (most refl, its)
@@ -57,14 +58,14 @@ at_most : (count most : ℕ) → (most < count → ⊥) → count ≤ most
 at_most count most not_more = omega arith
 
 -- a text for which memory ran out is not too long
-pub no_memory_fits : (json : List ℕ) → (longest < length json → setup.NoMemory ≡ setup.TooLong) → length json ≤ longest
+pub no_memory_fits : (json : List ℕ) → (longest < length json → (setup.NoMemory no_memory) ≡ setup.TooLong) → length json ≤ longest
 no_memory_fits json said = at_most (length json) longest (λ long. cc (said long))
 
 module _ (IsFaultOfSessions : Parts → ℕ → List (List Command) → ThreadFault → Type 0) (turns : ℕ) where
   -- so is one of the output
   pub of_writing : (setup : Parts) (commands : List (List Command)) (fault : OutputFault) → IsFaultOfCommands IsFaultOfSessions setup turns commands (race_fault_of_output fault)
   of_writing setup commands output.Write = tt
-  of_writing setup commands output.NoMemory = tt
+  of_writing setup commands (output.NoMemory refused) = tt
 
   -- what they say of the scripts
   pub on_setup : (setup : Parts) (commands : List (List Command)) (scripts : List (List ℕ)) → AreScripts commands scripts → (fault : RaceFault) → IsFaultOfCommands IsFaultOfSessions setup turns commands fault → IsFaultOnSetup IsFaultOfSessions setup turns scripts fault
@@ -72,7 +73,7 @@ module _ (IsFaultOfSessions : Parts → ℕ → List (List Command) → ThreadFa
   on_setup setup commands scripts read (Line position line fault) is = absurd is
   on_setup setup commands scripts read (ScriptTooLong position) is = absurd is
   on_setup setup commands scripts read Write is = (commands, read)
-  on_setup setup commands scripts read NoMemory is = first_fits commands scripts read
+  on_setup setup commands scripts read (NoMemory refused) is = first_fits commands scripts read
   on_setup setup commands scripts read JournalFull is = (commands, read, is.0, is.1)
   on_setup setup commands scripts read (Spawn refused) is = (commands, read)
   on_setup setup commands scripts read (Stopped seat) is = let many = so_many commands scripts read in (commands, read, (is.0.0, omega (arith, is.0.1, many)), is.1)
@@ -81,13 +82,13 @@ module _ (IsFaultOfSessions : Parts → ℕ → List (List Command) → ThreadFa
   pub of_reading : (setup : Parts) (scripts : List (List ℕ)) (fault : RaceFault) → IsFaultOfScripts fault scripts → IsFaultOnSetup IsFaultOfSessions setup turns scripts fault
   of_reading setup scripts (Line position line fault) is = is
   of_reading setup scripts (ScriptTooLong position) is = is
-  of_reading setup scripts NoMemory is = is
+  of_reading setup scripts (NoMemory refused) is = is
   of_reading setup scripts fault is = absurd is
 
   -- and on the setup that a text encodes
   pub of_race : (json : List ℕ) (setup : Parts) (scripts : List (List ℕ)) → Encodes json setup → (fault : RaceFault) → IsFaultOnSetup IsFaultOfSessions setup turns scripts fault → IsFaultOfRace IsFaultOfSessions json turns scripts fault
   of_race json setup scripts stands (Setup fault) is = absurd is
-  of_race json setup scripts stands NoMemory is = stands.0
+  of_race json setup scripts stands (NoMemory refused) is = stands.0
   of_race json setup scripts stands (Line position line fault) is = (setup, stands, is)
   of_race json setup scripts stands (ScriptTooLong position) is = (setup, stands, is)
   of_race json setup scripts stands Write is = (setup, stands, is)
@@ -96,8 +97,8 @@ module _ (IsFaultOfSessions : Parts → ℕ → List (List Command) → ThreadFa
   of_race json setup scripts stands (Stopped seat) is = (setup, stands, is)
 
   -- a fault of the setup is its first one, or an allocation failed
-  pub of_setup_read : (json : List ℕ) (scripts : List (List ℕ)) (fault : SetupFault) → (fault ≢ setup.NoMemory → IsFirstFault fault json) → (longest < length json → fault ≡ setup.TooLong) → IsFaultOfRace IsFaultOfSessions json turns scripts (race_fault_of_setup fault)
-  of_setup_read json scripts setup.NoMemory said long = no_memory_fits json long
+  pub of_setup_read : (json : List ℕ) (scripts : List (List ℕ)) (fault : SetupFault) → (fault ≢ setup.NoMemory no_memory → IsFirstFault fault json) → (longest < length json → fault ≡ setup.TooLong) → IsFaultOfRace IsFaultOfSessions json turns scripts (race_fault_of_setup fault)
+  of_setup_read json scripts (setup.NoMemory refused) said long = no_memory_fits json long
   of_setup_read json scripts fault said long = said (λ same. absurd cc)
 
   -- a fault by which no gate stopped a session is one of gates that always pass
@@ -108,27 +109,27 @@ module _ (IsFaultOfSessions : Parts → ℕ → List (List Command) → ThreadFa
   ungated setup commands scripts read (Line position line fault) is none = absurd is
   ungated setup commands scripts read (ScriptTooLong position) is none = absurd is
   ungated setup commands scripts read Write is none = (commands, read)
-  ungated setup commands scripts read NoMemory is none = first_fits commands scripts read
+  ungated setup commands scripts read (NoMemory refused) is none = first_fits commands scripts read
   ungated setup commands scripts read (Spawn refused) is none = (commands, read)
 
 -- ---- a gate stopped no session
 
 pub not_of_threads : (fault : ThreadFault) → of_race_threads.IsNotStopped fault → StopsNoSeat (race_fault_of_threads fault)
-not_of_threads threads.NoMemory is = tt
+not_of_threads (threads.NoMemory refused) is = tt
 not_of_threads threads.JournalFull is = tt
 not_of_threads (threads.Spawn refused) is = tt
 not_of_threads (threads.Stopped seat) is = is
 
 pub not_of_writing : (fault : OutputFault) → StopsNoSeat (race_fault_of_output fault)
 not_of_writing output.Write = tt
-not_of_writing output.NoMemory = tt
+not_of_writing (output.NoMemory refused) = tt
 
 pub not_of_reading : (scripts : List (List ℕ)) (fault : RaceFault) → IsFaultOfScripts fault scripts → StopsNoSeat fault
 not_of_reading scripts (Line position line fault) is = tt
 not_of_reading scripts (ScriptTooLong position) is = tt
-not_of_reading scripts NoMemory is = tt
+not_of_reading scripts (NoMemory refused) is = tt
 not_of_reading scripts fault is = absurd is
 
 pub not_of_setup : (fault : SetupFault) → StopsNoSeat (race_fault_of_setup fault)
-not_of_setup setup.NoMemory = tt
+not_of_setup (setup.NoMemory refused) = tt
 not_of_setup fault = tt

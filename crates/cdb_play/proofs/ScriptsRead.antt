@@ -30,7 +30,7 @@ pub bad_script : (read : List (List Command)) (good : List (List ℕ)) (bad : Li
     → (fault : ScriptFault) → IsFaultOfScript fault bad → IsFaultOfScripts (race_fault_of_script position fault) scripts
 bad_script read good bad rest scripts position whole is_position are (Line line why) said = (read, good, bad, rest, whole, is_position, are, said)
 bad_script read good bad rest scripts position whole is_position are TooLong said = (read, good, bad, rest, whole, is_position, are, said)
-bad_script read good bad rest scripts position whole is_position are NoMemory said = subst IsFirstNotTooLong (sym whole) (first_so_far read good bad rest are said)
+bad_script read good bad rest scripts position whole is_position are (NoMemory refused) said = subst IsFirstNotTooLong (sym whole) (first_so_far read good bad rest are said)
 
 module _ (scripts : List (Vec ℕ Global)) (i : ℕ) (script : Vec ℕ Global) (is : script ≡ get_or scripts i script) (below : i < length scripts) where
   -- a script stands behind those before it

@@ -22,7 +22,7 @@ module _ (IsFaultOfSessions : Parts → ℕ → List (List Command) → ThreadFa
       IsWithin 1 (setup.processes + length commands) seat × IsFaultOfSessions setup turns commands (threads.Stopped seat)
   IsFaultOfCommands setup turns commands (Spawn refused) = Unit {0}
   IsFaultOfCommands setup turns commands Write = Unit {0}
-  IsFaultOfCommands setup turns commands NoMemory = Unit {0}
+  IsFaultOfCommands setup turns commands (NoMemory refused) = Unit {0}
   IsFaultOfCommands setup turns commands other = ⊥
 
 -- the text is that of a race of these commands
@@ -35,5 +35,5 @@ IsTextOfCommands rules setup turns commands text =
 abbrev pub IsFaultOfScripts : RaceFault → List (List ℕ) → Type 0
 IsFaultOfScripts (Line position line fault) scripts = IsFirstBad position (script.Line line fault) scripts
 IsFaultOfScripts (ScriptTooLong position) scripts = IsFirstBad position script.TooLong scripts
-IsFaultOfScripts NoMemory scripts = IsFirstNotTooLong scripts
+IsFaultOfScripts (NoMemory refused) scripts = IsFirstNotTooLong scripts
 IsFaultOfScripts fault scripts = ⊥

@@ -135,10 +135,10 @@ IsTextOfRace rules json turns scripts text = (setup : Parts) × Encodes json set
 abbrev pub race_fault_of_script : ℕ → ScriptFault → RaceFault
 race_fault_of_script position (script.Line line fault) = Line position line fault
 race_fault_of_script position script.TooLong = ScriptTooLong position
-race_fault_of_script position script.NoMemory = NoMemory
+race_fault_of_script position (script.NoMemory refused) = NoMemory refused
 
 abbrev pub race_fault_of_threads : ThreadFault → RaceFault
-race_fault_of_threads threads.NoMemory = NoMemory
+race_fault_of_threads (threads.NoMemory refused) = NoMemory refused
 race_fault_of_threads threads.JournalFull = JournalFull
 race_fault_of_threads (threads.Spawn refused) = Spawn refused
 race_fault_of_threads (threads.Stopped seat) = Stopped seat
@@ -171,11 +171,11 @@ module _ (IsFaultOfSessions : Parts → ℕ → List (List Command) → ThreadFa
       × IsFaultOfSessions setup turns commands (threads.Stopped seat)
   IsFaultOnSetup setup turns scripts (Spawn refused) = AreAllRead scripts
   IsFaultOnSetup setup turns scripts Write = AreAllRead scripts
-  IsFaultOnSetup setup turns scripts NoMemory = IsFirstNotTooLong scripts
+  IsFaultOnSetup setup turns scripts (NoMemory refused) = IsFirstNotTooLong scripts
 
   -- the same of a race on the setup that a text of JSON encodes: a fault of the setup comes before all others, and out of
   -- memory only where the text is not too long
   abbrev pub IsFaultOfRace : List ℕ → ℕ → List (List ℕ) → RaceFault → Type 0
   IsFaultOfRace json turns scripts (Setup fault) = IsFirstFault fault json
-  IsFaultOfRace json turns scripts NoMemory = length json ≤ longest
+  IsFaultOfRace json turns scripts (NoMemory refused) = length json ≤ longest
   IsFaultOfRace json turns scripts fault = (setup : Parts) × Encodes json setup × IsFaultOnSetup setup turns scripts fault

@@ -39,7 +39,7 @@ fn perform_event<T: Runs, W: Sink>(
     let reply = match control.execute_event(alloc, 1, command) {
         Ok(reply) => reply,
         Err(CallFault::JournalFull) => unreachable!(),
-        Err(CallFault::NoMemory) => return Err(OutputFault::NoMemory),
+        Err(CallFault::NoMemory(refused)) => return Err(OutputFault::NoMemory(refused)),
     };
     put_event_reply(&reply, text, buffer, out)
 }
@@ -63,7 +63,7 @@ fn perform_any<T: Runs, W: Sink>(
     let reply = match control.execute(alloc, 1, command) {
         Ok(reply) => reply,
         Err(CallFault::JournalFull) => unreachable!(),
-        Err(CallFault::NoMemory) => return Err(OutputFault::NoMemory),
+        Err(CallFault::NoMemory(refused)) => return Err(OutputFault::NoMemory(refused)),
     };
     put_reply(&reply, text, buffer, out)
 }

@@ -14,6 +14,7 @@ ghost use Rattle.cdb_streams.specs.Written.{IsWritten};
 
 mod text;
 
+use cdb_base::NoMemory;
 use cdb_control::Runs;
 use cdb_race::{RaceFault as ThreadFault, Script};
 use cdb_setup::Setup;
@@ -29,7 +30,7 @@ fn of_threads(fault: ThreadFault) -> RaceFault
     ensures { result ≡ race_fault_of_threads fault }
 {
     match fault {
-        ThreadFault::NoMemory => RaceFault::NoMemory,
+        ThreadFault::NoMemory(refused) => RaceFault::NoMemory(refused),
         ThreadFault::JournalFull => RaceFault::JournalFull,
         ThreadFault::Spawn(refused) => RaceFault::Spawn(refused),
         ThreadFault::Stopped(seat) => RaceFault::Stopped(seat),
@@ -66,7 +67,7 @@ fn fault_of_script(position: usize, fault: ScriptFault) -> RaceFault
     match fault {
         ScriptFault::Line(line, fault) => RaceFault::Line(position, line, fault),
         ScriptFault::TooLong => RaceFault::ScriptTooLong(position),
-        ScriptFault::NoMemory => RaceFault::NoMemory,
+        ScriptFault::NoMemory(refused) => RaceFault::NoMemory(refused),
     }
 }
 
@@ -80,8 +81,8 @@ fn scripts_of(alloc: Global, scripts: &[Vec<u8>]) -> Result<Vec<Script>, RaceFau
     for script in scripts {
         match commands_of(alloc, script.as_slice()) {
             Ok(commands) => {
-                if read.push(Script::new(commands)).is_err() {
-                    return Err(RaceFault::NoMemory);
+                if let Err(error) = read.push(Script::new(commands)) {
+                    return Err(RaceFault::NoMemory(NoMemory::from(error)));
                 }
             }
             Err(fault) => return Err(fault_of_script(read.len() + 1, fault)),

@@ -48,7 +48,7 @@ read_none files = (sym (opened_none files), tt)
 -- it can't be read
 pub fails_one : (old new : FilesSeen) (name : Bor (List ℕ)) (fault : ReadFault) → ReadsFile old new name.now most_read (Err fault) → FailsToRead old new (name.now ∷ []) (Play (of_reading fault) name)
 fails_one old new name reading.Failed read = ([], [], refl, read)
-fails_one old new name reading.NoMemory read = ([], name.now ∷ [], refl, read ∙ sym (opened_none old))
+fails_one old new name (reading.NoMemory refused) read = ([], name.now ∷ [], refl, read ∙ sym (opened_none old))
 
 -- ---- files after others
 
@@ -71,7 +71,7 @@ fails_then old mid new first second a (Play play.Read name) before (good, rest, 
   ap (λ (l : List (List ℕ)). first ++ l) whole ∙ sym (append_assoc first good (name.now ∷ rest)),
   failed_then old mid new first (good ++ name.now ∷ []) before.0 failed ∙ ap (λ (l : List (List ℕ)). after_failing old l) (sym (append_assoc first good (name.now ∷ []))),
 )
-fails_then old mid new first second a (Play play.NoMemory name) before (good, rest, whole, opened) = (
+fails_then old mid new first second a (Play (play.NoMemory refused) name) before (good, rest, whole, opened) = (
   first ++ good,
   rest,
   ap (λ (l : List (List ℕ)). first ++ l) whole ∙ sym (append_assoc first good rest),
@@ -89,7 +89,7 @@ fails_then old mid new first second a (Refused reason) before fails = absurd fai
 -- and others were to be read after it
 pub fails_before : (old new : FilesSeen) (names after : List (List ℕ)) (fault : Fault) → FailsToRead old new names fault → FailsToRead old new (names ++ after) fault
 fails_before old new names after (Play play.Read name) (good, rest, whole, failed) = (good, rest ++ after, ap (λ (l : List (List ℕ)). l ++ after) whole ∙ append_assoc good (name.now ∷ rest) after, failed)
-fails_before old new names after (Play play.NoMemory name) (good, rest, whole, opened) = (good, rest ++ after, ap (λ (l : List (List ℕ)). l ++ after) whole ∙ append_assoc good rest after, opened)
+fails_before old new names after (Play (play.NoMemory refused) name) (good, rest, whole, opened) = (good, rest ++ after, ap (λ (l : List (List ℕ)). l ++ after) whole ∙ append_assoc good rest after, opened)
 fails_before old new names after (Play (play.Setup fault) name) fails = absurd fails
 fails_before old new names after (Play (play.Line script line fault) name) fails = absurd fails
 fails_before old new names after (Play (play.ScriptTooLong script) name) fails = absurd fails

@@ -1,4 +1,5 @@
 -- What a race on a setup says of the text that was read as this setup.
+use Rattle.cdb_base.specs.Memory.{no_memory}
 use Rattle.std.proofs.Common.{◌≡◌, ◌≢◌, ◌⊎◌, inl, inr, ℕ, ◌+◌, ◌<◌, ◌≤◌, List, length, Result, Ok, Err, sym, ap, subst}
 use Rattle.std.specs.Prelude.{IfErr}
 use Rattle.std.proofs.lemmas.Result.{IfErr-weaker}
@@ -36,7 +37,7 @@ race_seen stream json turns parts scripts raced old new stands only few wrote ag
 }
 
 -- the text was not read as a setup
-pub race_unread : (json : List ℕ) (turns : ℕ) (scripts : List (List ℕ)) (fault : SetupFault) (out : Stream) → (fault ≢ setup.NoMemory → IsFirstFault fault json) → (longest < length json → fault ≡ setup.TooLong) → ((other : Parts) → Encodes json other → fault ≡ setup.NoMemory)
+pub race_unread : (json : List ℕ) (turns : ℕ) (scripts : List (List ℕ)) (fault : SetupFault) (out : Stream) → (fault ≢ setup.NoMemory no_memory → IsFirstFault fault json) → (longest < length json → fault ≡ setup.TooLong) → ((other : Parts) → Encodes json other → fault ≡ (setup.NoMemory no_memory))
     → IsRace json turns scripts (Err (race_fault_of_setup fault)) out out
 race_unread json turns scripts fault out said long only = record {
   fits = λ ended other its. absurd (ended (ap (λ (f : SetupFault). Err (race_fault_of_setup f)) (only other its)));
@@ -46,6 +47,6 @@ race_unread json turns scripts fault out said long only = record {
 }
 
 -- what was read is the only setup that the text encodes
-pub memory_alone : (read : Result Parts SetupFault) (fault : SetupFault) (parts : Parts) → read ≡ Err fault → (read ≡ Ok parts) ⊎ (read ≡ Err setup.NoMemory) → fault ≡ setup.NoMemory
+pub memory_alone : (read : Result Parts SetupFault) (fault : SetupFault) (parts : Parts) → read ≡ Err fault → (read ≡ Ok parts) ⊎ (read ≡ Err (setup.NoMemory no_memory)) → fault ≡ (setup.NoMemory no_memory)
 memory_alone read fault parts is (inl e) = absurd cc
 memory_alone read fault parts is (inr e) = cc

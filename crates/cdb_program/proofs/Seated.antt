@@ -31,7 +31,7 @@ use Rattle.cdb_program.proofs.Opening.{read_none, opened_then, failed_then, fail
 -- it can't be opened
 pub one_fails : (T : Type 0) (known : T → Known) (old new : FilesSeen) (name : Bor (List ℕ)) (fault : ReadFault) → (let opened : Result (Station T) ReadFault = Err fault in OpensSeat known old new name.now opened) → FailsToRead old new (name.now ∷ []) (Play (of_reading fault) name)
 one_fails T known old new name reading.Failed is = ([], [], refl, is)
-one_fails T known old new name reading.NoMemory is = ([], name.now ∷ [], refl, is ∙ (read_none old).0)
+one_fails T known old new name (reading.NoMemory refused) is = ([], name.now ∷ [], refl, is ∙ (read_none old).0)
 
 -- what can't be read or opened is why there are no sessions
 pub as_fault : (setup : List ℕ) (seats : List (List ℕ)) (old new : FilesSeen) (fault : Fault) → FailsToRead old new (setup ∷ seats) fault → IsFaultOfSeats setup seats old new fault
@@ -49,7 +49,7 @@ fails_later old mid new first second (Play play.Read name) before (good, rest, w
   ap (λ (l : List (List ℕ)). first ++ l) whole ∙ sym (append_assoc first good (name.now ∷ rest)),
   failed_then old mid new first (good ++ name.now ∷ []) before failed ∙ ap (λ (l : List (List ℕ)). after_failing old l) (sym (append_assoc first good (name.now ∷ []))),
 )
-fails_later old mid new first second (Play play.NoMemory name) before (good, rest, whole, opened) = (
+fails_later old mid new first second (Play (play.NoMemory refused) name) before (good, rest, whole, opened) = (
   first ++ good,
   rest,
   ap (λ (l : List (List ℕ)). first ++ l) whole ∙ sym (append_assoc first good rest),

@@ -1,4 +1,5 @@
 -- What races do.
+use Rattle.cdb_base.specs.Memory.{no_memory}
 use Rattle.std.specs.Prelude.{◌≡◌, ◌≢◌, ◌⊎◌, ℕ, ◌+◌, ◌<◌, ◌≤◌, List, [], ◌∷◌, length, Result, Err, IfErr}
 use Rattle.cdb_base.specs.declared.limits.TheConstants.{MAX_SEATS}
 use Rattle.cdb_streams.specs.Endings.{race_ending}
@@ -21,7 +22,7 @@ NeedsTooManySeats json scripts = (setup : Parts) × Encodes json setup × (MAX_S
 
 -- A race of scripts on the setup of this text ended so. The output is seen before and after.
 pub record IsRace (json : List ℕ) (turns : ℕ) (scripts : List (List ℕ)) (raced : Result (Unit {0}) RaceFault) (old new : Stream) : Type 0 where
-  pub fits : raced ≢ Err NoMemory → (setup : Parts) → Encodes json setup → setup.processes + length scripts ≤ MAX_SEATS
+  pub fits : raced ≢ Err (NoMemory no_memory) → (setup : Parts) → Encodes json setup → setup.processes + length scripts ≤ MAX_SEATS
   pub wrote : IsWritten itself (race_ending raced) old new (IsTextOfRace rules json turns scripts)
   pub agree : IsSetupWithMajority json → AgreesAtEnd itself raced old new
   pub fault : IfErr raced (IsFaultOfRace IsFaultUngated json turns scripts)

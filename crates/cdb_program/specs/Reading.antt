@@ -29,7 +29,7 @@ AreFirstBytes files most name bytes =
 abbrev pub ReadsFile : FilesSeen → FilesSeen → List ℕ → ℕ → Result (Vec ℕ Global) ReadFault → Type 0
 ReadsFile old new name most (Ok bytes) = (new ≡ after_opening old (name ∷ [])) × AreFirstBytes old most name bytes.items
 ReadsFile old new name most (Err reading.Failed) = new ≡ after_failing old (name ∷ [])
-ReadsFile old new name most (Err reading.NoMemory) = new ≡ old
+ReadsFile old new name most (Err (reading.NoMemory refused)) = new ≡ old
 
 -- these files were read, one after the other and no others, and gave these bytes
 abbrev pub HasRead : FilesSeen → FilesSeen → List (List ℕ) → List (List ℕ) → Type 0
@@ -40,7 +40,7 @@ HasRead old new names contents = (new ≡ after_opening old names) × AllZip (Ar
 abbrev pub FailsToRead : FilesSeen → FilesSeen → List (List ℕ) → Fault → Type 0
 FailsToRead old new names (Play Read name) =
     (good rest : List (List ℕ)) × (names ≡ good ++ name.now ∷ rest) × (new ≡ after_failing old (good ++ name.now ∷ []))
-FailsToRead old new names (Play NoMemory name) =
+FailsToRead old new names (Play (NoMemory refused) name) =
     (good rest : List (List ℕ)) × (names ≡ good ++ rest) × (new ≡ after_opening old good)
 FailsToRead old new names other = ⊥
 

@@ -27,7 +27,7 @@ AreStationsOf known files names stations = AllZip (IsStationOf known files) name
 abbrev pub OpensSeat : {T : Type 0} → (T → Known) → FilesSeen → FilesSeen → List ℕ → Result (Station T) ReadFault → Type 0
 OpensSeat known old new name (Ok station) = (new ≡ after_opening old (name ∷ [])) × IsStationOf known old name station
 OpensSeat known old new name (Err reading.Failed) = new ≡ after_failing old (name ∷ [])
-OpensSeat known old new name (Err reading.NoMemory) = new ≡ old
+OpensSeat known old new name (Err (reading.NoMemory refused)) = new ≡ old
 
 -- the file of the setup was read, and gave these bytes, and then these seats were opened, in order
 abbrev pub HasSeated : FilesSeen → FilesSeen → List ℕ → List (List ℕ) → List ℕ → Type 0

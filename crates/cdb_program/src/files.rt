@@ -6,6 +6,7 @@ ghost use Rattle.cdb_program.specs.Reading.{both, many, single, file_names, Read
 ghost use Rattle.cdb_program.specs.Seating.{OpensSeat};
 
 use crate::fault::Fault;
+use cdb_base::NoMemory;
 use cdb_base::limits::MAX_BYTES;
 use cdb_debug::Talk;
 use cdb_hall::Station;
@@ -91,8 +92,9 @@ pub fn read_each<'a, F: Files>(
     let mut contents = Vec::new(alloc);
     for name in names {
         let bytes = read_file(alloc, files, name)?;
-        if contents.push(bytes).is_err() {
-            return Err(Fault::Play(PlayFault::NoMemory, name));
+        if let Err(error) = contents.push(bytes) {
+            let refused = NoMemory::from(error);
+            return Err(Fault::Play(PlayFault::NoMemory(refused), name));
         }
     }
     Ok(contents)

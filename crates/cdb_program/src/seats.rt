@@ -10,6 +10,7 @@ use crate::files::{Files, read_file};
 use crate::outside::Outside;
 use crate::reports::report;
 use cdb_any_run::RunOfSetup;
+use cdb_base::NoMemory;
 use cdb_base::limits::MAX_SEATS;
 use cdb_hall::{Station, hold};
 use cdb_streams::{PlayFault, Sink, Source};
@@ -60,8 +61,9 @@ fn open_each<'a, F: Files>(
     let mut stations = Vec::new(alloc);
     for name in names {
         let station = open_one(alloc, files, name)?;
-        if stations.push(station).is_err() {
-            return Err(Fault::Play(PlayFault::NoMemory, name));
+        if let Err(error) = stations.push(station) {
+            let refused = NoMemory::from(error);
+            return Err(Fault::Play(PlayFault::NoMemory(refused), name));
         }
     }
     Ok(stations)

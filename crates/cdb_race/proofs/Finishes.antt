@@ -27,7 +27,7 @@ pub ends_well : (seat : ℕ) (end : End) → fault_at seat end ≡ None → Ends
 ends_well seat All none = inl refl
 ends_well seat Done none = inr refl
 ends_well seat Stopped none = absurd (cc)
-ends_well seat NoMemory none = absurd (cc)
+ends_well seat (NoMemory refused) none = absurd (cc)
 ends_well seat JournalFull none = absurd (cc)
 
 -- a session that ended well

@@ -27,7 +27,7 @@ of_end : (n seat : ℕ) (end : End) (why : RaceFault) → fault_at seat end ≡ 
 of_end n seat All why has within = absurd cc
 of_end n seat Done why has within = absurd cc
 of_end n seat Stopped why has within = let same : fault.Stopped seat ≡ why = cc in subst (IsAmongSeats n) same within
-of_end n seat NoMemory why has within = let same : fault.NoMemory ≡ why = cc in subst (IsAmongSeats n) same tt
+of_end n seat (NoMemory refused) why has within = let same : fault.NoMemory refused ≡ why = cc in subst (IsAmongSeats n) same tt
 of_end n seat JournalFull why has within = let same : fault.JournalFull ≡ why = cc in subst (IsAmongSeats n) same tt
 
 -- what each outcome says of its seat: the last seat's comes first
@@ -70,7 +70,7 @@ stopped : (seat n : ℕ) (end : End) → fault_at seat end ≡ Some (fault.Stopp
 stopped seat n All has = absurd cc
 stopped seat n Done has = absurd cc
 stopped seat n Stopped has = refl
-stopped seat n NoMemory has = absurd cc
+stopped seat n (NoMemory refused) has = absurd cc
 stopped seat n JournalFull has = absurd cc
 
 some_gate : {G : Type 0} (gates : List G) → 0 < length gates → G
@@ -92,13 +92,13 @@ never_stopped T rules heard passes gates setup turns scripts why many it all sea
 -- so it is told of none
 not_stopped : (why : RaceFault) → ((seat : ℕ) → why ≡ fault.Stopped seat → ⊥) → IsNotStopped why
 not_stopped (fault.Stopped seat) never = never seat refl
-not_stopped fault.NoMemory never = tt
+not_stopped (fault.NoMemory refused) never = tt
 not_stopped fault.JournalFull never = tt
 not_stopped (fault.Spawn refused) never = tt
 
 not_of_threads : (why : RaceFault) → IsFaultOfThreads why → IsNotStopped why
 not_of_threads (fault.Stopped seat) it = it
-not_of_threads fault.NoMemory it = tt
+not_of_threads (fault.NoMemory refused) it = tt
 not_of_threads fault.JournalFull it = tt
 not_of_threads (fault.Spawn refused) it = tt
 

@@ -29,7 +29,7 @@ pub met_full : (seat : ℕ) (end : End) → fault_at seat end ≡ Some fault.Jou
 met_full seat AllDone has = absurd cc
 met_full seat Done has = absurd cc
 met_full seat Stopped has = absurd cc
-met_full seat NoMemory has = absurd cc
+met_full seat (NoMemory refused) has = absurd cc
 met_full seat JournalFull has = cc
 
 module _ {T : Type 0} (rules : Parts → Rules) (shared : TableId) (plan : Plan) (setup : Parts) (c : Journaled) (before : List SeatView) (rans : List (Ran T)) (nobody : Ran T)

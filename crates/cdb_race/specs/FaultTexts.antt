@@ -5,7 +5,7 @@ use Rattle.cdb_race.specs.declared.threads.RaceFault.{RaceFault}
 use Rattle.cdb_race.specs.declared.threads.RaceFault.TheVariants as fault
 
 abbrev pub thread_fault_text : RaceFault → List ℕ
-thread_fault_text fault.NoMemory = codes "no memory"
+thread_fault_text (fault.NoMemory refused) = codes "no memory"
 thread_fault_text fault.JournalFull = codes "journal full"
 thread_fault_text (fault.Spawn refused) = refused_start_text
 thread_fault_text (fault.Stopped seat) = codes "no thread"

@@ -22,7 +22,7 @@ abbrev pub fault_at : ℕ → End → Option RaceFault
 fault_at seat AllDone = None
 fault_at seat Done = None
 fault_at seat Stopped = Some (fault.Stopped seat)
-fault_at seat NoMemory = Some fault.NoMemory
+fault_at seat (NoMemory refused) = Some (fault.NoMemory refused)
 fault_at seat JournalFull = Some fault.JournalFull
 
 -- that of what a thread hands back
@@ -58,7 +58,7 @@ IsNotStopped other = Unit {0}
 
 -- the faults of starting the threads and of joining them
 abbrev pub IsFaultOfThreads : RaceFault → Type 0
-IsFaultOfThreads fault.NoMemory = Unit {0}
+IsFaultOfThreads (fault.NoMemory refused) = Unit {0}
 IsFaultOfThreads (fault.Spawn refused) = Unit {0}
 IsFaultOfThreads other = ⊥
 

@@ -1,5 +1,6 @@
 //! Starting and joining the threads of a race.
 ghost use Rattle.std.specs.Prelude.{◌≡◌, ◌+◌, ◌<◌, ◌≤◌, length, vec_len, All, IfOk, IfErr, MatchOption, Err};
+ghost use Rattle.cdb_base.specs.Memory.{no_memory};
 ghost use Rattle.cdb_base.specs.declared.limits.TheConstants.{MAX_SEATS};
 ghost use Rattle.cdb_race.specs.Faults.{fault_in, AreWell, HaveFinished, IsAmongSeats, IsFaultOfThreads, IsNotStopped, IsTold};
 ghost use Rattle.cdb_race.specs.LastFault.{IsLastFault};
@@ -10,7 +11,8 @@ ghost use Rattle.cdb_shared.specs.Seats.{fresh_seats, HasHeadline};
 
 use crate::plan::{Plan, Script};
 use crate::worker::{Ran, SeatPromise, run};
-use cdb_control::{Control, Reply};
+use cdb_base::NoMemory;
+use cdb_control::{Control, OpenFault, Reply};
 use cdb_rules::Runs;
 use cdb_setup::Setup;
 use cdb_shared::{End, Gate, Seat, Shared};
@@ -25,7 +27,7 @@ use std::{fmt, thread};
 /// Why a race came to nothing.
 #[derive(Debug, Clone, Copy, PartialEq)]
 pub enum RaceFault {
-    NoMemory,
+    NoMemory(NoMemory),
     JournalFull,
     /// The start of a thread was refused.
     Spawn(RefusedStart),
@@ -41,7 +43,7 @@ impl fmt::Display for RaceFault {
 
     fn fmt<W: fmt::Write>(&self, f: &mut fmt::Formatter<W>) -> fmt::Result {
         f.write_str(match self {
-            RaceFault::NoMemory => "no memory",
+            RaceFault::NoMemory(_) => "no memory",
             RaceFault::JournalFull => "journal full",
             RaceFault::Spawn(_) | RaceFault::Stopped(_) => "no thread",
         })
@@ -97,8 +99,9 @@ fn start_all<'s, E, T: Runs + Send + 's, G: Gate + Drop + Send + 's, R: Threads 
     ensures each { IfOk result (λ handles. ArePromises plan.entry seats gates handles) }
     ensures fault { IfErr result IsFaultOfThreads }
 {
-    let Ok(mut handles) = Vec::with_capacity(alloc, seats.len()) else {
-        return Err(RaceFault::NoMemory);
+    let mut handles = match Vec::with_capacity(alloc, seats.len()) {
+        Ok(handles) => handles,
+        Err(error) => return Err(RaceFault::NoMemory(NoMemory::from(error))),
     };
     while let Some(seat) = seats.pop() {
         let Some(gate) = gates.pop() else {
@@ -140,8 +143,9 @@ fn run_all<T: Runs + Send, G: Gate + Drop + Send, R: Threads + Wait + Sync>(
             ensures fault { IfErr result IsFaultOfThreads }
         {
             let handles = start_all(scope, rt, alloc, shared, plan, seats, gates)?;
-            let Ok(rans) = thread::join_promised(rt, handles) else {
-                return Err(RaceFault::NoMemory);
+            let rans = match thread::join_promised(rt, handles) {
+                Ok(rans) => rans,
+                Err(error) => return Err(RaceFault::NoMemory(NoMemory::from(error))),
             };
             Ok(rans)
         },
@@ -155,7 +159,7 @@ fn fault_of<T: Runs>(ran: &Ran<T>) -> Option<RaceFault>
     match ran.end {
         End::All | End::Done => None,
         End::Stopped => Some(RaceFault::Stopped(ran.seat.number())),
-        End::NoMemory => Some(RaceFault::NoMemory),
+        End::NoMemory(refused) => Some(RaceFault::NoMemory(refused)),
         End::JournalFull => Some(RaceFault::JournalFull),
     }
 }
@@ -177,17 +181,19 @@ fn collect<T: Runs>(
     alloc: Global,
     mut rans: Vec<Ran<T>>,
 ) -> Result<(Vec<Seat<T>>, Vec<Vec<Reply>>), RaceFault>
-    ensures fault { IfErr result (λ fault. fault ≡ RaceFault.NoMemory) }
+    ensures fault { IfErr result (λ fault. fault ≡ RaceFault.NoMemory no_memory) }
     ensures count { IfOk result
         (λ r. (vec_len r.0 ≡ vec_len rans) × (vec_len r.1 ≡ vec_len rans)) }
     ensures seats { IfOk result (λ r. AreSeatsOf r.0.items rans.items) }
     ensures each { IfOk result (λ r. HaveFinished T.rules rans r.0 r.1) }
 {
-    let Ok(mut seats) = Vec::with_capacity(alloc, rans.len()) else {
-        return Err(RaceFault::NoMemory);
+    let mut seats = match Vec::with_capacity(alloc, rans.len()) {
+        Ok(seats) => seats,
+        Err(error) => return Err(RaceFault::NoMemory(NoMemory::from(error))),
     };
-    let Ok(mut replied) = Vec::with_capacity(alloc, rans.len()) else {
-        return Err(RaceFault::NoMemory);
+    let mut replied = match Vec::with_capacity(alloc, rans.len()) {
+        Ok(replied) => replied,
+        Err(error) => return Err(RaceFault::NoMemory(NoMemory::from(error))),
     };
     while let Some(ran) = rans.pop() {
         let Ran {
@@ -221,18 +227,22 @@ fn open_shared<T: Runs, R: Wait>(
     setup: Setup,
     count: u8,
 ) -> Result<(Shared<T>, Vec<Seat<T>>), RaceFault>
+    requires some { 1 ≤ count }
+    requires fits { count ≤ MAX_SEATS }
     ensures seats { IfOk result
         (λ r. r.1.items ≡ fresh_seats r.0 (opened setup count) 1 count) }
-    ensures fault { IfErr result (λ fault. fault ≡ RaceFault.NoMemory) }
+    ensures fault { IfErr result (λ fault. fault ≡ RaceFault.NoMemory no_memory) }
 {
-    let Ok(control) = Control::open(alloc, setup, count) else {
-        return Err(RaceFault::NoMemory);
+    let control = match Control::open(alloc, setup, count) {
+        Ok(control) => control,
+        Err(OpenFault::NoMemory(refused)) => return Err(RaceFault::NoMemory(refused)),
+        Err(OpenFault::Seats) => unreachable!(),
     };
     match Shared::open(rt, alloc, control) {
         Ok(opened) => Ok(opened),
-        Err((control, _)) => {
+        Err((control, refused)) => {
             control.close();
-            Err(RaceFault::NoMemory)
+            Err(RaceFault::NoMemory(refused))
         }
     }
 }

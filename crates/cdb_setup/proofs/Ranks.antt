@@ -7,6 +7,7 @@ use Rattle.serde_json.specs.Data.{Data}
 use Rattle.cdb_base.specs.declared.limits.TheConstants.{MAX_VALUE}
 use Rattle.cdb_setup.specs.declared.key.Key.{Key}
 use Rattle.cdb_setup.specs.declared.key.Key.TheVariants as key
+use Rattle.cdb_base.specs.Memory.{no_memory}
 use Rattle.cdb_setup.specs.declared.fault.SetupFault.{SetupFault}
 use Rattle.cdb_setup.specs.declared.fault.SetupFault.TheVariants.{BadInput, BadOracle, NoMemory}
 use Rattle.cdb_setup.specs.Format.{whole, array_of}
@@ -46,8 +47,8 @@ input_first values i json each stop = rw add-one (record {
 })
 
 pub inputs_first_fault : {A : Type 0} (values : List Data) (json : Data) (result : Result A SetupFault) → HasOneEach key.Inputs values json
-    → IfErr result (λ fault. fault ≢ NoMemory → (i : ℕ) × (fault ≡ BadInput (i + 1)) × IsFirstNot (IsWholeWithin 0 MAX_VALUE) values i)
-    → IfErr result (λ fault. fault ≢ NoMemory → IsFirstOfRank 8 fault json)
+    → IfErr result (λ fault. fault ≢ NoMemory no_memory → (i : ℕ) × (fault ≡ BadInput (i + 1)) × IsFirstNot (IsWholeWithin 0 MAX_VALUE) values i)
+    → IfErr result (λ fault. fault ≢ NoMemory no_memory → IsFirstOfRank 8 fault json)
 inputs_first_fault values json (Ok inputs) each stops = tt
 inputs_first_fault values json (Err fault) each stops = λ differs.
     let stop = stops differs in
@@ -158,7 +159,7 @@ lists_first lists json fault each stop =
     ]
 
 pub lists_first_fault : {A : Type 0} (lists : List Data) (n : ℕ) (json : Data) (result : Result A SetupFault) → length lists ≡ n → HasOneEach key.Oracle lists json
-    → IfErr result (λ fault. fault ≢ NoMemory → IsFirstOfLists n lists fault) → IfErr result (λ fault. fault ≢ NoMemory → IsFirstOfRank 9 fault json)
+    → IfErr result (λ fault. fault ≢ NoMemory no_memory → IsFirstOfLists n lists fault) → IfErr result (λ fault. fault ≢ NoMemory no_memory → IsFirstOfRank 9 fault json)
 lists_first_fault lists n json (Ok found) len each stops = tt
 lists_first_fault lists n json (Err fault) len each stops = λ differs.
     lists_first lists json fault each (subst (λ (m : ℕ). IsFirstOfLists m lists fault) (sym len) (stops differs))

@@ -100,7 +100,7 @@ only_version : (json : Data) → IsClearBelow 10 json → (other : SetupFault) �
 only_version json clear TooLong before holds = holds
 only_version json clear NotJson before holds = holds
 only_version json clear BadVersion before holds = absurd (omega arith)
-only_version json clear NoMemory before holds = holds
+only_version json clear (NoMemory refused) before holds = holds
 only_version json clear other before holds = clear other (omega arith) holds
 
 pub version_last : (json : Data) → IsClearBelow 10 json → Holds BadVersion json → IsFirstOf BadVersion json

@@ -7,6 +7,7 @@ use Rattle.serde_json.specs.Read as reading
 use Rattle.cdb_setup.specs.declared.setup.Algorithm.{Algorithm}
 use Rattle.cdb_setup.specs.declared.setup.Algorithm.TheVariants.{Leader, Alpha}
 use Rattle.cdb_setup.specs.declared.key.Key.TheVariants as key
+use Rattle.cdb_base.specs.Memory.{no_memory}
 use Rattle.cdb_setup.specs.declared.fault.SetupFault.{SetupFault}
 use Rattle.cdb_setup.specs.declared.fault.SetupFault.TheVariants.{NotJson, NotObject, UnknownKey, Missing, BadAlgorithm, BadCount, BadQuorum, BadInput, BadOracle, TooLong, BadVersion, NoMemory}
 use Rattle.cdb_setup.specs.Parts.{Parts}
@@ -40,7 +41,7 @@ lifted fault bytes json short is found = record {
 }
 
 pub all_lifted : {A : Type 0} (result : Result A SetupFault) (bytes : List ℕ) (json : Data) → length bytes ≤ longest → IsJsonOf bytes json
-    → IfErr result (λ fault. fault ≢ NoMemory → IsFirstOf fault json) → IfErr result (λ fault. fault ≢ NoMemory → IsFirstFault fault bytes)
+    → IfErr result (λ fault. fault ≢ NoMemory no_memory → IsFirstOf fault json) → IfErr result (λ fault. fault ≢ NoMemory no_memory → IsFirstFault fault bytes)
 all_lifted (Ok setup) bytes json short is faults = tt
 all_lifted (Err fault) bytes json short is faults = λ differs. lifted fault bytes json short is (faults differs)
 
@@ -94,7 +95,7 @@ no_setup (BadOracle process position) json parts is holds =
 no_setup BadVersion json parts is holds = no_bad_version parts.version json is.version is.ranges.version holds
 no_setup NotJson json parts is holds = holds
 no_setup TooLong json parts is holds = holds
-no_setup NoMemory json parts is holds = holds
+no_setup (NoMemory refused) json parts is holds = holds
 
 no_setup_of_bytes : (fault : SetupFault) (bytes : List ℕ) (parts : Parts) → Encodes bytes parts → ¬ HoldsOf fault bytes
 no_setup_of_bytes fault bytes parts stands holds = no_setup fault stands.1 parts stands.3 (from_bytes fault bytes stands.1 stands.0 stands.2 holds)
@@ -137,8 +138,8 @@ pub one_setup : (bytes : List ℕ) (s t : Parts) → Encodes bytes s → Encodes
 one_setup bytes s t a b = same_parts a.1 s t a.3 (subst (λ (d : Data). IsSetupOf d t) (one_value bytes b.1 a.1 b.2 a.2) b.3)
 
 -- what encodes a setup is answered, unless memory runs out
-pub only : (result : Result Parts SetupFault) (bytes : List ℕ) → IfOk result (λ setup. Encodes bytes setup) → IfErr result (λ fault. fault ≢ NoMemory → IsFirstFault fault bytes)
-    → (setup : Parts) → Encodes bytes setup → (result ≡ Ok setup) ⊎ (result ≡ Err NoMemory)
+pub only : (result : Result Parts SetupFault) (bytes : List ℕ) → IfOk result (λ setup. Encodes bytes setup) → IfErr result (λ fault. fault ≢ NoMemory no_memory → IsFirstFault fault bytes)
+    → (setup : Parts) → Encodes bytes setup → (result ≡ Ok setup) ⊎ (result ≡ Err (NoMemory no_memory))
 only (Ok found) bytes stands faults setup other = inl (ap Ok (one_setup bytes found setup stands other))
-only (Err NoMemory) bytes stands faults setup other = inr refl
+only (Err (NoMemory refused)) bytes stands faults setup other = inr refl
 only (Err fault) bytes stands faults setup other = absurd (no_setup_of_bytes fault bytes setup other (faults (λ e. cc)).holds)

@@ -2,6 +2,7 @@
 use Rattle.std.specs.Prelude.{◌≡◌, ◌≢◌, ℕ, zero, suc, ◌<◌, List, length, slice_get, Some, Result, IfErr}
 use Rattle.serde_json.specs.Data.{Data, object, Members}
 use Rattle.serde_json.specs.Find.{get}
+use Rattle.cdb_base.specs.Memory.{no_memory}
 use Rattle.cdb_base.specs.declared.limits.TheConstants.{MAX_PROCESSES, MAX_VALUE}
 use Rattle.cdb_setup.specs.declared.setup.Algorithm.{Algorithm}
 use Rattle.cdb_setup.specs.declared.key.Key.{Key}
@@ -62,7 +63,7 @@ Holds BadVersion json =
     (value : Data) × HasAt key.Version value json × ¬ IsWholeWithin 1 2 value
 Holds NotJson json = ⊥
 Holds TooLong json = ⊥
-Holds NoMemory json = ⊥
+Holds (NoMemory refused) json = ⊥
 
 -- what a fault says of the bytes
 abbrev pub HoldsOf : SetupFault → List ℕ → Type 0
@@ -72,4 +73,4 @@ HoldsOf fault bytes = (json : Data) × IsJsonOf bytes json × Holds fault json
 
 -- a fault that is returned is so, save where memory ran out
 abbrev pub IfFault : {A : Type 0} → Result A SetupFault → (SetupFault → Type 0) → Type 0
-IfFault result IsSo = IfErr result (λ fault. fault ≢ NoMemory → IsSo fault)
+IfFault result IsSo = IfErr result (λ fault. fault ≢ NoMemory no_memory → IsSo fault)

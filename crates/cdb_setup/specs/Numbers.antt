@@ -20,7 +20,7 @@ fault_number (BadInput number) = Some 8
 fault_number (BadOracle process number) = Some 9
 fault_number TooLong = Some 10
 fault_number BadVersion = Some 11
-fault_number NoMemory = None
+fault_number (NoMemory refused) = None
 
 abbrev pub fault_name : SetupFault → List ℕ
 fault_name NotJson = codes "NotJson"
@@ -34,7 +34,7 @@ fault_name (BadInput number) = codes "BadInput"
 fault_name (BadOracle process number) = codes "BadOracle"
 fault_name TooLong = codes "TooLong"
 fault_name BadVersion = codes "BadVersion"
-fault_name NoMemory = codes "NoMemory"
+fault_name (NoMemory refused) = codes "NoMemory"
 
 -- after a space the key, the position, or the process and the position
 abbrev pub setup_detail : SetupFault → List ℕ

@@ -22,7 +22,7 @@ rank BadQuorum = 7
 rank (BadInput number) = 8
 rank (BadOracle process number) = 9
 rank BadVersion = 11
-rank NoMemory = 12
+rank (NoMemory refused) = 12
 
 -- the order of the keys
 abbrev pub key_number : Key → ℕ

@@ -1,10 +1,12 @@
 //! Why bytes are the text of no setup.
 
 ghost use Rattle.std.specs.Prelude.{◌≡◌, Some};
+ghost use Rattle.cdb_base.specs.Memory.{no_memory};
 ghost use Rattle.cdb_setup.specs.declared.fault.SetupFault.TheVariants.{NoMemory};
 ghost use Rattle.cdb_setup.specs.Numbers.{fault_number, fault_name, setup_detail, setup_fault_text};
 
 use crate::key::Key;
+use cdb_base::NoMemory;
 use std::alloc::{AllocError, AllocFailed};
 use std::error::Error;
 use std::fmt;
@@ -38,7 +40,7 @@ pub enum SetupFault {
     /// The version is neither 1 nor 2.
     BadVersion,
     /// An allocation failed. The bytes may be the text of a setup.
-    NoMemory,
+    NoMemory(NoMemory),
 }
 
 impl SetupFault {
@@ -58,7 +60,7 @@ impl SetupFault {
             SetupFault::BadOracle(_, _) => 9,
             SetupFault::TooLong => 10,
             SetupFault::BadVersion => 11,
-            SetupFault::NoMemory => return None,
+            SetupFault::NoMemory(_) => return None,
         };
         Some(number)
     }
@@ -79,7 +81,7 @@ impl SetupFault {
             SetupFault::BadOracle(_, _) => "BadOracle",
             SetupFault::TooLong => "TooLong",
             SetupFault::BadVersion => "BadVersion",
-            SetupFault::NoMemory => "NoMemory",
+            SetupFault::NoMemory(_) => "NoMemory",
         }
     }
 }
@@ -124,17 +126,17 @@ impl fmt::Display for Detail {
 impl Error for SetupFault {}
 
 impl From<AllocError> for SetupFault {
-    ghost from_gives = { λ _ fault. fault ≡ NoMemory };
+    ghost from_gives = { λ _ fault. fault ≡ NoMemory no_memory };
 
-    fn from(_error: AllocError) -> SetupFault {
-        SetupFault::NoMemory
+    fn from(error: AllocError) -> SetupFault {
+        SetupFault::NoMemory(NoMemory::from(error))
     }
 }
 
 impl<T: Drop> From<AllocFailed<T>> for SetupFault {
-    ghost from_gives = { λ _ fault. fault ≡ NoMemory };
+    ghost from_gives = { λ _ fault. fault ≡ NoMemory no_memory };
 
-    fn from(_error: AllocFailed<T>) -> SetupFault {
-        SetupFault::NoMemory
+    fn from(error: AllocFailed<T>) -> SetupFault {
+        SetupFault::NoMemory(NoMemory::from(error))
     }
 }

@@ -1,6 +1,8 @@
 //! Reading a setup from the bytes of a JSON text.
 
-ghost use Rattle.std.specs.Prelude.{◌≡◌, ◌<◌, length, Err, IfOk};
+ghost use Rattle.std.specs.Prelude.{◌≡◌, ◌<◌, ◌⊎◌, length, Err, IfOk};
+ghost use Rattle.serde_json.specs.Errors.{IsMemory};
+ghost use Rattle.cdb_base.specs.Memory.{no_memory};
 ghost use Rattle.serde_json.specs.View.{view};
 ghost use Rattle.cdb_setup.specs.Faults.{IfFault};
 ghost use Rattle.cdb_setup.specs.Format.{IsSetupOf, Encodes, longest};
@@ -12,8 +14,9 @@ use crate::fault::SetupFault;
 use crate::keys::check_keys;
 use crate::parts::{algorithm_of, count_of, inputs_of, quorum_of, version_of};
 use crate::setup::Setup;
+use cdb_base::{LibraryError, NoMemory};
 use cdb_base::limits::MAX_BYTES;
-use serde_json::Value;
+use serde_json::{Error, Value};
 use std::alloc::Global;
 
 /// The setup of which this is the JSON value.
@@ -46,6 +49,30 @@ fn setup_of(alloc: Global, value: &Value) -> Result<Setup, SetupFault>
     })
 }
 
+/// An error of reading JSON.
+#[derive(Drop)]
+struct JsonError(Error);
+
+impl LibraryError for JsonError {
+    ghost use Rattle.serde_json.specs.Errors.{IsMemory};
+
+    ghost says_no_memory = { λ error. IsMemory error.0 };
+
+    fn is_no_memory(&self) -> bool {
+        self.0.is_memory()
+    }
+}
+
+/// Why there is no JSON value: out of memory, or the bytes are the text of none.
+fn fault_of(error: &JsonError) -> SetupFault
+    ensures { (IsMemory error.now.0 × result ≡ SetupFault.NoMemory no_memory) ⊎ (¬ IsMemory error.now.0 × result ≡ SetupFault.NotJson) }
+{
+    match NoMemory::of(error) {
+        Some(refused) => SetupFault::NoMemory(refused),
+        None => SetupFault::NotJson,
+    }
+}
+
 /// The setup of which the bytes are the text, or their first fault.
 pub(crate) fn read(alloc: Global, bytes: &[u8]) -> Result<Setup, SetupFault>
     ensures found { IfOk result (λ setup. Encodes bytes.now setup) }
@@ -57,7 +84,6 @@ pub(crate) fn read(alloc: Global, bytes: &[u8]) -> Result<Setup, SetupFault>
     }
     match Value::from_slice(alloc, bytes) {
         Ok(value) => setup_of(alloc, &value),
-        Err(error) if error.is_memory() => Err(SetupFault::NoMemory),
-        Err(_) => Err(SetupFault::NotJson),
+        Err(error) => Err(fault_of(&JsonError(error))),
     }
 }

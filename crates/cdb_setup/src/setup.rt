@@ -52,6 +52,7 @@ impl Setup {
     ghost use Rattle.cdb_setup.specs.Parts.{AreListsOfProcesses, lists_of, setup_with, answer_of};
     ghost use Rattle.cdb_setup.specs.Faults.{IfFault};
     ghost use Rattle.cdb_setup.specs.Format.{Encodes, longest};
+    ghost use Rattle.cdb_base.specs.Memory.{no_memory};
     ghost use Rattle.cdb_setup.specs.Order.{IsFirstFault};
 
     /// The setup of which the bytes are the text.
@@ -64,7 +65,7 @@ impl Setup {
         ensures found { IfOk result (λ setup. Encodes bytes.now setup) }
         // That setup is returned, unless memory runs out.
         ensures only { (setup : Parts) → Encodes bytes.now setup
-            → (result ≡ Ok setup) ⊎ (result ≡ Err SetupFault.NoMemory) }
+            → (result ≡ Ok setup) ⊎ (result ≡ Err (SetupFault.NoMemory no_memory)) }
         // Any other fault is the first of the bytes.
         ensures fault { IfFault result (λ fault. IsFirstFault fault bytes.now) }
         // A text that is too long is refused as such, and never as out of memory.

@@ -75,4 +75,4 @@ hears_fault old new before after replied fault end is calls heard =
   where
     last : (f : CallFault) → heard_last (end_at f) (length replied + 1) (calls_of before ++ replied) ≡ Asked (length replied + 1) (calls_of before ++ replied) true ∷ []
     last JournalFull = refl
-    last NoMemory = refl
+    last (NoMemory refused) = refl

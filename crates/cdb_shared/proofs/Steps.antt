@@ -64,14 +64,14 @@ NoneDone-push (x ∷ rs) r none apart = (none.0, NoneDone-push rs r none.1 apart
 -- a driven seat whose call met a fault
 pub ends_at_fault : (fault : CallFault) (end : End) → end ≡ end_at fault → (end ≢ All) × (end ≢ Done) × (end ≢ Stopped)
 ends_at_fault JournalFull end is = ((λ all. cc), (λ done. cc), (λ stopped. cc))
-ends_at_fault NoMemory end is = ((λ all. cc), (λ done. cc), (λ stopped. cc))
+ends_at_fault (NoMemory refused) end is = ((λ all. cc), (λ done. cc), (λ stopped. cc))
 
 pub driven_fault : (fault : CallFault) (end : End) (count turns : ℕ) (replies : List ToldReply) → end ≡ end_at fault → count < turns → NoneDone replies → IsDriven end count turns replies
 driven_fault fault end count turns replies is low none = subst (λ (e : End). IsDriven e count turns replies) (sym is) (by_fault fault)
   where
     by_fault : (f : CallFault) → IsDriven (end_at f) count turns replies
     by_fault JournalFull = (low, none)
-    by_fault NoMemory = (low, none)
+    by_fault (NoMemory refused) = (low, none)
 
 -- one element more on both sides
 pub append_one : {A : Type 0} (before after start rest more : List A) (x : A) → before ≡ start ++ rest → after ≡ before ++ x ∷ [] → more ≡ rest ++ x ∷ [] → after ≡ start ++ more

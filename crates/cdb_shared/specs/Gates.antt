@@ -40,7 +40,7 @@ abbrev pub heard_last : End → ℕ → List Command → List Heard
 heard_last All number made = []
 heard_last Done number made = []
 heard_last Stopped number made = Asked number made false ∷ []
-heard_last NoMemory number made = Asked number made true ∷ []
+heard_last (NoMemory refused) number made = Asked number made true ∷ []
 heard_last JournalFull number made = Asked number made true ∷ []
 
 -- of a session whose calls with replies are these, numbered from 1

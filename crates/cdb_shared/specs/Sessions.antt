@@ -24,7 +24,7 @@ replies_to rules seat = replies_of (rules seat.setup) seat.setup seat.seats seat
 -- how a session ends at a fault
 abbrev pub end_at : CallFault → End
 end_at JournalFull = Full
-end_at NoMemory = Short
+end_at (NoMemory refused) = Short refused
 
 -- none of these is the refusal of a process that is done
 abbrev pub NoneDone : List ToldReply → Type 0
@@ -36,7 +36,7 @@ IsDriven Done count turns replies =
     (front : List ToldReply) × (replies ≡ front ++ Refused refusal.Done ∷ []) × NoneDone front
 IsDriven All count turns replies = (count ≡ turns) × NoneDone replies
 IsDriven Stopped count turns replies = (count < turns) × NoneDone replies
-IsDriven Short count turns replies = (count < turns) × NoneDone replies
+IsDriven (Short refused) count turns replies = (count < turns) × NoneDone replies
 IsDriven Full count turns replies = (count < turns) × NoneDone replies
 
 -- the replies that led one seat to the other are those of a driven seat

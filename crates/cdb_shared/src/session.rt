@@ -1,5 +1,6 @@
 //! Sessions: a seat's calls in order, each after its gate was asked.
 ghost use Rattle.std.specs.Prelude.{◌≡◌, ◌≢◌, ◌++◌, ◌≤◌, ◌↔◌, length, map, take, replicate, vec_len, List, Bool, true, false, Option, None, IsTrue};
+ghost use Rattle.cdb_base.specs.Memory.{no_memory};
 ghost use Rattle.cdb_commands.specs.ToldReply.{Refused, told};
 ghost use Rattle.cdb_shared.specs.Gates.{Heard, HearsAsked, HearsTold, Hears};
 ghost use Rattle.cdb_shared.specs.Seats.{RestsAt, IsLater, SeesFull, SeesRoom};
@@ -7,7 +8,7 @@ ghost use Rattle.cdb_shared.specs.Sessions.{calls_of, replies_to, end_at, IsDriv
 
 use crate::seat::Seat;
 use crate::shared::Shared;
-use cdb_base::Refusal;
+use cdb_base::{NoMemory, Refusal};
 use cdb_control::{CallFault, Command, Reply};
 use cdb_rules::Runs;
 use std::alloc::Global;
@@ -44,7 +45,7 @@ pub enum End {
     Done,
     /// The gate did not let a call pass.
     Stopped,
-    NoMemory,
+    NoMemory(NoMemory),
     JournalFull,
 }
 
@@ -54,7 +55,7 @@ fn ended_by(fault: CallFault) -> End
 {
     match fault {
         CallFault::JournalFull => End::JournalFull,
-        CallFault::NoMemory => End::NoMemory,
+        CallFault::NoMemory(refused) => End::NoMemory(refused),
     }
 }
 
@@ -85,7 +86,7 @@ pub fn serve<T: Runs, G: Gate + Drop, R: Wait>(
     ensures all { (result.2 ≡ End.All) ↔ (vec_len result.1 ≡ length commands.now) }
     ensures done { result.2 ≢ End.Done }
     ensures full { result.2 ≡ End.JournalFull → SeesFull result.0 }
-    ensures short { result.2 ≡ End.NoMemory → SeesRoom result.0 }
+    ensures short { result.2 ≡ End.NoMemory no_memory → SeesRoom result.0 }
     ensures gate { (last : G) × Hears (G.heard gate) (G.heard last) seat result.0 result.2 }
     ensures passes { G.passes gate ≡ true → result.2 ≢ End.Stopped }
 {
@@ -96,8 +97,8 @@ pub fn serve<T: Runs, G: Gate + Drop, R: Wait>(
         if !gate.before(number, &seat) {
             return (seat, replies, End::Stopped);
         }
-        if replies.reserve(commands.len() - replies.len()).is_err() {
-            let fault = shared.no_room(rt, &mut seat);
+        if let Err(error) = replies.reserve(commands.len() - replies.len()) {
+            let fault = shared.no_room(rt, &mut seat, NoMemory::from(error));
             return (seat, replies, ended_by(fault));
         }
         match shared.call(rt, alloc, &mut seat, *command) {
@@ -128,7 +129,7 @@ pub fn drive<T: Runs, G: Gate + Drop, R: Wait>(
     ensures turns { result.1 ≤ turns }
     ensures replies { IsDrivenFrom T.rules seat result.0 result.2 result.1 turns }
     ensures full { result.2 ≡ End.JournalFull → SeesFull result.0 }
-    ensures short { result.2 ≡ End.NoMemory → SeesRoom result.0 }
+    ensures short { result.2 ≡ End.NoMemory no_memory → SeesRoom result.0 }
     ensures gate { (last : G) × Hears (G.heard gate) (G.heard last) seat result.0 result.2 }
     ensures passes { G.passes gate ≡ true → result.2 ≢ End.Stopped }
 {

@@ -66,7 +66,12 @@ impl<T: Runs> Shared<T> {
 
     /// The fault of a call for whose reply there is no memory. It may wait for the turn, and lets the seat see
     /// whether the journal is full.
-    pub(crate) fn no_room<R: Wait>(&self, rt: &R, seat: &mut Seat<T>) -> CallFault
+    pub(crate) fn no_room<R: Wait>(
+        &self,
+        rt: &R,
+        seat: &mut Seat<T>,
+        refused: NoMemory,
+    ) -> CallFault
         requires { RestsAt self.now seat.old }
         ensures seat { IsLater seat.old seat.new × SameCalls seat.old seat.new.seen }
         ensures full { (result ≡ CallFault.JournalFull) ↔ SeesFull seat.new }
@@ -78,7 +83,7 @@ impl<T: Runs> Shared<T> {
         if entries == MAX_ENTRIES as usize {
             CallFault::JournalFull
         } else {
-            CallFault::NoMemory
+            CallFault::NoMemory(refused)
         }
     }
 
@@ -94,11 +99,13 @@ impl<T: Runs> Shared<T> {
         ensures refused { IfErr result (λ r. r.0 ≡ control) }
     {
         let count = control.seats();
-        let Ok(seats) = Vec::with_capacity(alloc, usize::from(count)) else {
-            return Err((control, NoMemory));
+        let seats = match Vec::with_capacity(alloc, usize::from(count)) {
+            Ok(seats) => seats,
+            Err(error) => return Err((control, NoMemory::from(error))),
         };
-        let Ok((turn, mut pass)) = Turn::<T>::ruled(alloc, 1) else {
-            return Err((control, NoMemory));
+        let (turn, mut pass) = match Turn::<T>::ruled(alloc, 1) {
+            Ok((turn, pass)) => (turn, pass),
+            Err(error) => return Err((control, NoMemory::from(error))),
         };
         give(rt, &turn, &mut pass, control);
         let seats = deal(&turn, pass, count, seats);

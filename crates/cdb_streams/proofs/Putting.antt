@@ -60,7 +60,7 @@ module _ {W : Type 0} (stream : W → Stream) where
       → Puts stream {A = A} (Err why) now middle new left text → Puts stream {A = A} (Err why) old held new left all
   cut_short A Write old now new held middle left before text after all a whole fails =
       fails_after old now new held middle before (middle ++ text) (text ++ after) after all a (sym (append_assoc middle text after)) whole fails
-  cut_short A NoMemory old now new held middle left before text after all a whole part =
+  cut_short A (NoMemory refused) old now new held middle left before text after all a whole part =
       record {
         before = before ++ part.before;
         rest = part.rest ++ after;
@@ -85,7 +85,7 @@ module _ {W : Type 0} (stream : W → Stream) where
   -- what a fault leaves written
   pub left_written : (A : Type 0) (why : OutputFault) (old new : W) (left text : List ℕ) → Puts stream {A = A} (Err why) old [] new left text → IsWritten stream (pieces_ending {A = A} (Err why)) old new (Only text)
   left_written A Write old new left text fails = (text, refl, fails)
-  left_written A NoMemory old new left text part =
+  left_written A (NoMemory refused) old new left text part =
       inr (text, refl, (part.put.sent, left ++ part.rest, part.whole ∙ ap (λ (t : List ℕ). t ++ part.rest) part.put.is ∙ append_assoc part.put.sent left part.rest, part.put.pieces, part.put.taken))
 
   -- nothing was put

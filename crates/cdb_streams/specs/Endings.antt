@@ -21,24 +21,24 @@ pub data Ending : Type 0 where
 abbrev pub pieces_ending : {A : Type 0} → Result A OutputFault → Ending
 pieces_ending (Ok done) = Complete
 pieces_ending (Err output.Write) = WriterFailed
-pieces_ending (Err output.NoMemory) = CutShort
+pieces_ending (Err (output.NoMemory refused)) = CutShort
 
 -- of a text that is whole before any of it is written
 abbrev pub whole_ending : {A : Type 0} → Result A OutputFault → Ending
 whole_ending (Ok done) = Complete
 whole_ending (Err output.Write) = WriterFailed
-whole_ending (Err output.NoMemory) = NotBegun
+whole_ending (Err (output.NoMemory refused)) = NotBegun
 
 -- of the transcript of a play, and of the text of a race, which are written in pieces
 
 abbrev pub play_ending : {A : Type 0} → Result A PlayFault → Ending
 play_ending (Ok done) = Complete
 play_ending (Err play.Write) = WriterFailed
-play_ending (Err play.NoMemory) = CutShort
+play_ending (Err (play.NoMemory refused)) = CutShort
 play_ending (Err fault) = NotBegun
 
 abbrev pub race_ending : {A : Type 0} → Result A RaceFault → Ending
 race_ending (Ok done) = Complete
 race_ending (Err race.Write) = WriterFailed
-race_ending (Err race.NoMemory) = CutShort
+race_ending (Err (race.NoMemory refused)) = CutShort
 race_ending (Err fault) = NotBegun

@@ -24,14 +24,14 @@ play_fault_text (play.Line script line fault) name = script_line_text script lin
 play_fault_text (play.ScriptTooLong script) name = long_script_text script
 play_fault_text play.Read name = codes "cannot read " ++ name
 play_fault_text play.Write name = codes "output failed"
-play_fault_text play.NoMemory name = codes "no memory"
+play_fault_text (play.NoMemory refused) name = codes "no memory"
 
 abbrev pub race_fault_text : RaceFault → List ℕ
 race_fault_text (race.Setup fault) = setup_fault_text fault
 race_fault_text (race.Line script line fault) = script_line_text script line fault
 race_fault_text (race.ScriptTooLong script) = long_script_text script
 race_fault_text race.Write = codes "output failed"
-race_fault_text race.NoMemory = codes "no memory"
+race_fault_text (race.NoMemory refused) = codes "no memory"
 race_fault_text race.JournalFull = codes "journal full"
 race_fault_text (race.Spawn refused) = refused_start_text
 race_fault_text (race.Stopped seat) = codes "no thread"

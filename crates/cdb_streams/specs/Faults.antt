@@ -20,22 +20,22 @@ use Rattle.cdb_streams.specs.declared.source.ReadFault.TheVariants as reading
 -- ---- which fault of a play each fault of its parts is; out of memory is one fault
 
 abbrev pub of_setup : SetupFault → PlayFault
-of_setup setup.NoMemory = NoMemory
+of_setup (setup.NoMemory refused) = NoMemory refused
 of_setup fault = Setup fault
 
 -- a play has one script, of number 1
 abbrev pub of_script : ScriptFault → PlayFault
 of_script (script.Line line fault) = Line 1 line fault
 of_script script.TooLong = ScriptTooLong 1
-of_script script.NoMemory = NoMemory
+of_script (script.NoMemory refused) = NoMemory refused
 
 abbrev pub of_reading : ReadFault → PlayFault
 of_reading reading.Failed = Read
-of_reading reading.NoMemory = NoMemory
+of_reading (reading.NoMemory refused) = NoMemory refused
 
 abbrev pub of_output : OutputFault → PlayFault
 of_output output.Write = Write
-of_output output.NoMemory = NoMemory
+of_output (output.NoMemory refused) = NoMemory refused
 
 -- ---- what they say
 
@@ -52,7 +52,7 @@ IsFaultOfReading old new (ScriptTooLong number) =
     (number ≡ 1) × ((bytes : List ℕ) × Consumes old.bytes new.bytes bytes × IsFaultOfScript script.TooLong bytes)
 IsFaultOfReading old new Read = Unit {0}
 IsFaultOfReading old new Write = ⊥
-IsFaultOfReading old new NoMemory = Unit {0}
+IsFaultOfReading old new (NoMemory refused) = Unit {0}
 
 -- What a fault of a play says of the setup's text and of the script, where the reader had the first bytes left before
 -- and the second after. A fault of the setup comes before those of the script, and those before the writer's. Out of memory
@@ -63,4 +63,4 @@ IsFaultOfPlay json old new (Line number line fault) = IsSetup json × IsFaultOfR
 IsFaultOfPlay json old new (ScriptTooLong number) = IsSetup json × IsFaultOfReading old new (ScriptTooLong number)
 IsFaultOfPlay json old new Read = IsSetup json
 IsFaultOfPlay json old new Write = IsSetup json
-IsFaultOfPlay json old new NoMemory = length json ≤ longest
+IsFaultOfPlay json old new (NoMemory refused) = length json ≤ longest

@@ -16,5 +16,5 @@ module _ {W : Type 0} (stream : W → Stream) where
   -- The text was put, by how that ended: part of it may be held still, and is not written then
   abbrev pub Puts : {A : Type 0} → Result A OutputFault → W → List ℕ → W → List ℕ → List ℕ → Type 0
   Puts (Ok done) old held new left text = IsPut stream old held new left text
-  Puts (Err NoMemory) old held new left text = PutsBeginning old held new left text
+  Puts (Err (NoMemory refused)) old held new left text = PutsBeginning old held new left text
   Puts (Err Write) old held new left text = Fails stream old new (held ++ text)

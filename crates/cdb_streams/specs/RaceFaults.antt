@@ -7,9 +7,9 @@ use Rattle.cdb_streams.specs.declared.fault.RaceFault.{RaceFault}
 use Rattle.cdb_streams.specs.declared.fault.RaceFault.TheVariants.{Setup, Write, NoMemory}
 
 abbrev pub race_fault_of_setup : SetupFault → RaceFault
-race_fault_of_setup setup.NoMemory = NoMemory
+race_fault_of_setup (setup.NoMemory refused) = NoMemory refused
 race_fault_of_setup fault = Setup fault
 
 abbrev pub race_fault_of_output : OutputFault → RaceFault
 race_fault_of_output output.Write = Write
-race_fault_of_output output.NoMemory = NoMemory
+race_fault_of_output (output.NoMemory refused) = NoMemory refused

@@ -33,4 +33,4 @@ GivesCommands old new commands = (script : List ℕ) × IsReadToEnd old script n
 abbrev pub IsFaultOfScript : ScriptFault → List ℕ → Type 0
 IsFaultOfScript (Line line fault) script = (length script ≤ longest) × IsFirstBadLine line fault (lines_of script)
 IsFaultOfScript TooLong script = longest < length script
-IsFaultOfScript NoMemory script = length script ≤ longest
+IsFaultOfScript (NoMemory refused) script = length script ≤ longest

@@ -10,14 +10,14 @@ play_status play.Read = 3
 play_status (play.Setup fault) = 4
 play_status (play.Line script line fault) = 5
 play_status (play.ScriptTooLong script) = 5
-play_status play.NoMemory = 6
+play_status (play.NoMemory refused) = 6
 play_status play.Write = 7
 
 abbrev pub race_status : RaceFault → ℕ
 race_status (race.Setup fault) = 4
 race_status (race.Line script line fault) = 5
 race_status (race.ScriptTooLong script) = 5
-race_status race.NoMemory = 6
+race_status (race.NoMemory refused) = 6
 race_status race.Write = 7
 race_status race.JournalFull = 8
 race_status (race.Spawn refused) = 9

@@ -29,7 +29,7 @@ const PIECE: usize = 65_536;
 pub enum OutputFault {
     /// The writer failed in this call.
     Write,
-    NoMemory,
+    NoMemory(NoMemory),
 }
 
 /// The text of the fault of a play.
@@ -61,23 +61,24 @@ impl From<Failed> for OutputFault {
 
 impl From<NoMemory> for OutputFault {
     ghost use Rattle.std.specs.Prelude.{◌≡◌};
-    ghost use Rattle.cdb_streams.specs.declared.buffer.OutputFault.TheVariants.{NoMemory as no_memory};
+    ghost use Rattle.cdb_streams.specs.declared.buffer.OutputFault.TheVariants.{NoMemory as out_of_memory};
 
-    ghost from_gives = { λ _ made. made ≡ no_memory };
+    ghost from_gives = { λ refused made. made ≡ out_of_memory refused };
 
-    fn from(_error: NoMemory) -> Self {
-        OutputFault::NoMemory
+    fn from(refused: NoMemory) -> Self {
+        OutputFault::NoMemory(refused)
     }
 }
 
 impl From<AllocError> for OutputFault {
     ghost use Rattle.std.specs.Prelude.{◌≡◌};
-    ghost use Rattle.cdb_streams.specs.declared.buffer.OutputFault.TheVariants.{NoMemory as no_memory};
+    ghost use Rattle.cdb_base.specs.Memory.{no_memory};
+    ghost use Rattle.cdb_streams.specs.declared.buffer.OutputFault.TheVariants.{NoMemory as out_of_memory};
 
-    ghost from_gives = { λ _ made. made ≡ no_memory };
+    ghost from_gives = { λ _ made. made ≡ out_of_memory no_memory };
 
-    fn from(_error: AllocError) -> Self {
-        OutputFault::NoMemory
+    fn from(error: AllocError) -> Self {
+        OutputFault::NoMemory(NoMemory::from(error))
     }
 }
 

@@ -27,7 +27,7 @@ pub enum PlayFault {
     Read,
     /// The writer failed in this call.
     Write,
-    NoMemory,
+    NoMemory(NoMemory),
 }
 
 /// Why a race ended early. Scripts, lines and seats count from 1.
@@ -41,7 +41,7 @@ pub enum RaceFault {
     ScriptTooLong(usize),
     /// The writer failed in this call.
     Write,
-    NoMemory,
+    NoMemory(NoMemory),
     /// The journal took no further entry.
     JournalFull,
     /// The start of a thread was refused.
@@ -94,7 +94,7 @@ impl fmt::Display for PlayFault {
             PlayFault::ScriptTooLong(script) => fmt::Display::fmt(&LongScript(*script), f),
             PlayFault::Read => f.write_str("cannot read the input"),
             PlayFault::Write => f.write_str("output failed"),
-            PlayFault::NoMemory => f.write_str("no memory"),
+            PlayFault::NoMemory(_) => f.write_str("no memory"),
         }
     }
 }
@@ -113,7 +113,7 @@ impl fmt::Display for RaceFault {
             }
             RaceFault::ScriptTooLong(script) => fmt::Display::fmt(&LongScript(*script), f),
             RaceFault::Write => f.write_str("output failed"),
-            RaceFault::NoMemory => f.write_str("no memory"),
+            RaceFault::NoMemory(_) => f.write_str("no memory"),
             RaceFault::JournalFull => f.write_str("journal full"),
             RaceFault::Spawn(_) | RaceFault::Stopped(_) => f.write_str("no thread"),
         }
@@ -130,7 +130,7 @@ impl From<SetupFault> for PlayFault {
 
     fn from(fault: SetupFault) -> Self {
         match fault {
-            SetupFault::NoMemory => PlayFault::NoMemory,
+            SetupFault::NoMemory(refused) => PlayFault::NoMemory(refused),
             fault => PlayFault::Setup(fault),
         }
     }
@@ -147,7 +147,7 @@ impl From<ScriptFault> for PlayFault {
         match fault {
             ScriptFault::Line(line, fault) => PlayFault::Line(1, line, fault),
             ScriptFault::TooLong => PlayFault::ScriptTooLong(1),
-            ScriptFault::NoMemory => PlayFault::NoMemory,
+            ScriptFault::NoMemory(refused) => PlayFault::NoMemory(refused),
         }
     }
 }
@@ -161,19 +161,19 @@ impl From<ReadFault> for PlayFault {
     fn from(fault: ReadFault) -> Self {
         match fault {
             ReadFault::Failed => PlayFault::Read,
-            ReadFault::NoMemory => PlayFault::NoMemory,
+            ReadFault::NoMemory(refused) => PlayFault::NoMemory(refused),
         }
     }
 }
 
 impl From<NoMemory> for PlayFault {
     ghost use Rattle.std.specs.Prelude.{◌≡◌};
-    ghost use Rattle.cdb_streams.specs.declared.fault.PlayFault.TheVariants.{NoMemory as no_memory};
+    ghost use Rattle.cdb_streams.specs.declared.fault.PlayFault.TheVariants.{NoMemory as out_of_memory};
 
-    ghost from_gives = { λ _ made. made ≡ no_memory };
+    ghost from_gives = { λ refused made. made ≡ out_of_memory refused };
 
-    fn from(_error: NoMemory) -> Self {
-        PlayFault::NoMemory
+    fn from(refused: NoMemory) -> Self {
+        PlayFault::NoMemory(refused)
     }
 }
 
@@ -186,7 +186,7 @@ impl From<OutputFault> for PlayFault {
     fn from(fault: OutputFault) -> Self {
         match fault {
             OutputFault::Write => PlayFault::Write,
-            OutputFault::NoMemory => PlayFault::NoMemory,
+            OutputFault::NoMemory(refused) => PlayFault::NoMemory(refused),
         }
     }
 }
@@ -199,7 +199,7 @@ impl From<SetupFault> for RaceFault {
 
     fn from(fault: SetupFault) -> Self {
         match fault {
-            SetupFault::NoMemory => RaceFault::NoMemory,
+            SetupFault::NoMemory(refused) => RaceFault::NoMemory(refused),
             fault => RaceFault::Setup(fault),
         }
     }
@@ -214,18 +214,19 @@ impl From<OutputFault> for RaceFault {
     fn from(fault: OutputFault) -> Self {
         match fault {
             OutputFault::Write => RaceFault::Write,
-            OutputFault::NoMemory => RaceFault::NoMemory,
+            OutputFault::NoMemory(refused) => RaceFault::NoMemory(refused),
         }
     }
 }
 
 impl From<AllocError> for RaceFault {
     ghost use Rattle.std.specs.Prelude.{◌≡◌};
-    ghost use Rattle.cdb_streams.specs.declared.fault.RaceFault.TheVariants.{NoMemory as no_memory};
+    ghost use Rattle.cdb_base.specs.Memory.{no_memory};
+    ghost use Rattle.cdb_streams.specs.declared.fault.RaceFault.TheVariants.{NoMemory as out_of_memory};
 
-    ghost from_gives = { λ _ made. made ≡ no_memory };
+    ghost from_gives = { λ _ made. made ≡ out_of_memory no_memory };
 
-    fn from(_error: AllocError) -> Self {
-        RaceFault::NoMemory
+    fn from(error: AllocError) -> Self {
+        RaceFault::NoMemory(NoMemory::from(error))
     }
 }

@@ -129,7 +129,7 @@ pub fn write_fault<W: Sink>(fault: &PlayFault, name: &str, err: &mut W) -> Resul
         PlayFault::ScriptTooLong(script) => write_too_long(*script, err),
         PlayFault::Read => write_each(err, &[Text("cannot read "), Text(name), END]),
         PlayFault::Write => write_words(OUTPUT_FAILED, err),
-        PlayFault::NoMemory => write_words(NO_MEMORY, err),
+        PlayFault::NoMemory(_) => write_words(NO_MEMORY, err),
     }
 }
 
@@ -142,7 +142,7 @@ pub fn write_race_fault<W: Sink>(fault: &RaceFault, err: &mut W) -> Result<(), F
         RaceFault::Line(script, line, fault) => write_line_fault(*script, *line, *fault, err),
         RaceFault::ScriptTooLong(script) => write_too_long(*script, err),
         RaceFault::Write => write_words(OUTPUT_FAILED, err),
-        RaceFault::NoMemory => write_words(NO_MEMORY, err),
+        RaceFault::NoMemory(_) => write_words(NO_MEMORY, err),
         RaceFault::JournalFull => write_words("journal full", err),
         RaceFault::Spawn(_) | RaceFault::Stopped(_) => write_words("no thread", err),
     }

@@ -12,7 +12,7 @@ use crate::fault::PlayFault;
 use crate::lines::first_line;
 use crate::source::{Source, read_up_to};
 use cdb_base::limits::MAX_BYTES;
-use cdb_base::{Act, Reg};
+use cdb_base::{Act, NoMemory, Reg};
 use cdb_commands::{Command, Stop, View};
 use cdb_text::{LineFault, parse_line};
 use std::alloc::{AllocError, Global};
@@ -29,7 +29,7 @@ pub enum ScriptFault {
     Line(usize, LineFault),
     /// The script has more than 1,048,576 bytes.
     TooLong,
-    NoMemory,
+    NoMemory(NoMemory),
 }
 
 /// The text of the fault of a play.
@@ -50,12 +50,13 @@ impl Error for ScriptFault {}
 
 impl From<AllocError> for ScriptFault {
     ghost use Rattle.std.specs.Prelude.{◌≡◌};
-    ghost use Rattle.cdb_streams.specs.declared.script.ScriptFault.TheVariants.{NoMemory as no_memory};
+    ghost use Rattle.cdb_base.specs.Memory.{no_memory};
+    ghost use Rattle.cdb_streams.specs.declared.script.ScriptFault.TheVariants.{NoMemory as out_of_memory};
 
-    ghost from_gives = { λ _ made. made ≡ no_memory };
+    ghost from_gives = { λ _ made. made ≡ out_of_memory no_memory };
 
-    fn from(_error: AllocError) -> Self {
-        ScriptFault::NoMemory
+    fn from(error: AllocError) -> Self {
+        ScriptFault::NoMemory(NoMemory::from(error))
     }
 }
 
@@ -67,7 +68,7 @@ fn push_command(commands: &mut Vec<Command>, command: Command) -> Result<(), All
     let _parts: (Option<Stop>, Option<Act>, Option<View>, Option<Reg>) = (None, None, None, None);
     match commands.push(command) {
         Ok(()) => Ok(()),
-        Err(_) => Err(AllocError),
+        Err(error) => Err(AllocError::from(error)),
     }
 }
 

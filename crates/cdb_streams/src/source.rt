@@ -7,6 +7,7 @@ ghost use Rattle.cdb_streams.specs.Streams.{Stream, counted, FailsWhere};
 
 use crate::fault::PlayFault;
 use crate::sink::Failed;
+use cdb_base::NoMemory;
 use std::alloc::{AllocError, Global};
 use std::error::Error;
 use std::fmt;
@@ -45,7 +46,7 @@ pub trait Source {
 pub enum ReadFault {
     /// The reader failed in this call.
     Failed,
-    NoMemory,
+    NoMemory(NoMemory),
 }
 
 /// The text of the fault of a play.
@@ -77,12 +78,13 @@ impl From<Failed> for ReadFault {
 
 impl From<AllocError> for ReadFault {
     ghost use Rattle.std.specs.Prelude.{◌≡◌};
-    ghost use Rattle.cdb_streams.specs.declared.source.ReadFault.TheVariants.{NoMemory as no_memory};
+    ghost use Rattle.cdb_base.specs.Memory.{no_memory};
+    ghost use Rattle.cdb_streams.specs.declared.source.ReadFault.TheVariants.{NoMemory as out_of_memory};
 
-    ghost from_gives = { λ _ made. made ≡ no_memory };
+    ghost from_gives = { λ _ made. made ≡ out_of_memory no_memory };
 
-    fn from(_error: AllocError) -> Self {
-        ReadFault::NoMemory
+    fn from(error: AllocError) -> Self {
+        ReadFault::NoMemory(NoMemory::from(error))
     }
 }
 

@@ -15,7 +15,7 @@ pub fn status_of(fault: &PlayFault) -> u8
         PlayFault::Read => 3,
         PlayFault::Setup(_) => 4,
         PlayFault::Line(..) | PlayFault::ScriptTooLong(_) => 5,
-        PlayFault::NoMemory => 6,
+        PlayFault::NoMemory(_) => 6,
         PlayFault::Write => 7,
     }
 }
@@ -27,7 +27,7 @@ pub fn race_status_of(fault: &RaceFault) -> u8
     match fault {
         RaceFault::Setup(_) => 4,
         RaceFault::Line(..) | RaceFault::ScriptTooLong(_) => 5,
-        RaceFault::NoMemory => 6,
+        RaceFault::NoMemory(_) => 6,
         RaceFault::Write => 7,
         RaceFault::JournalFull => 8,
         RaceFault::Spawn(_) | RaceFault::Stopped(_) => 9,

@@ -1,7 +1,8 @@
 -- Which request is made.
 use Rattle.std.proofs.Common.{◌≡◌, ◌∷◌, inl, inr, ℕ, List, [], Option, Result, Ok, Err, IfOk, IfErr, subst, sym}
-use Rattle.std.specs.declared.io.ErrorKind.{ErrorKind as IoKind}
-use Rattle.std.specs.declared.io.ErrorKind.TheVariants as io_kind
+use Rattle.cdb_base.specs.Memory.{no_memory}
+use Rattle.revdbg.specs.declared.requested.Unread.{Unread}
+use Rattle.revdbg.specs.declared.requested.Unread.TheVariants as unread
 use Rattle.clap.specs.Words.{Text}
 use Rattle.cdb_arguments.specs.Asking.{IsDebugOf, IsDrawOf, IsExplainOf, IsOfKinds, IsPlayOf, IsRaceOf}
 use Rattle.cdb_arguments.specs.declared.request.AskFault.{AskFault}
@@ -35,7 +36,7 @@ pub only_memory : (request : Request) → OrOutOfMemory (IsRefusal []) request �
 only_memory request (inl refusal) = absurd (no_refusal request refusal)
 only_memory request (inr memory) = memory
 
-pub memory_has_no_kinds : (fault : AskFault) → fault ≡ fault_of_asking.NoMemory → IsOfKinds [] fault
+pub memory_has_no_kinds : (fault : AskFault) → fault ≡ fault_of_asking.NoMemory no_memory → IsOfKinds [] fault
 memory_has_no_kinds fault is = subst (IsOfKinds []) (sym is) tt
 
 -- ---- the request for what was asked for
@@ -109,15 +110,15 @@ err_then P Q (Ok value) then is = tt
 err_then P Q (Err error) then is = then error is
 
 -- where the arguments were read, but not their texts, an allocation failed
-pub asked_of_words : {W E S : Type 0} (words_of : W → List Text) (texts_of : S → List Text) (prompt : Text) (old new : Seen) (status : ℕ) (words : Result W E) (found : Result S IoKind)
+pub asked_of_words : {W E S : Type 0} (words_of : W → List Text) (texts_of : S → List Text) (prompt : Text) (old new : Seen) (status : ℕ) (words : Result W E) (found : Result S Unread)
     → IfOk found (λ found. IfOk words (λ words. texts_of found ≡ words_of words))
-    → IfErr found (λ kind. IfOk words (λ words. kind ≡ io_kind.OutOfMemory))
+    → IfErr found (λ reason. IfOk words (λ words. reason ≡ unread.NoMemory no_memory))
     → IfOk found (λ found. PerformsOne (IsAskedBy prompt (texts_of found)) old new status)
-    → IfErr found (λ kind. PerformsOne (IsUnread kind) old new status)
+    → IfErr found (λ reason. PerformsOne (IsUnread reason) old new status)
     → IfOk words (λ words. PerformsOne (IsAskedBy prompt (words_of words)) old new status)
 asked_of_words words_of texts_of prompt old new status (Ok words) (Ok found) same memory asked unread =
     subst (λ (words : List Text). PerformsOne (IsAskedBy prompt words) old new status) same asked
-asked_of_words words_of texts_of prompt old new status (Ok words) (Err kind) same memory asked unread =
-    let done = subst (λ (kind : IoKind). PerformsOne (IsUnread kind) old new status) memory unread in
+asked_of_words words_of texts_of prompt old new status (Ok words) (Err reason) same memory asked unread =
+    let done = subst (λ (reason : Unread). PerformsOne (IsUnread reason) old new status) memory unread in
     (done.0, memory_is_asked prompt (words_of words) done.0 done.1, done.2)
 asked_of_words words_of texts_of prompt old new status (Err error) found same memory asked unread = tt

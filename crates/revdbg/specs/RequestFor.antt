@@ -11,7 +11,7 @@ use Rattle.revdbg.specs.declared.requested.Unasked.TheVariants.{Unread, Refused}
 -- a request for what the arguments ask for, or for why they ask for nothing
 abbrev pub IsRequestFor : Text → Result Asked Unasked → Request → Type 0
 IsRequestFor prompt (Ok asked) request = IsRequestOf prompt asked request
-IsRequestFor prompt (Err (Unread kind)) request = IsUnread kind request
+IsRequestFor prompt (Err (Unread reason)) request = IsUnread reason request
 IsRequestFor prompt (Err (Refused fault text)) request = (kinds : Kinds) → IsOfKinds kinds fault → OrOutOfMemory (IsRefusal kinds) request
 
 -- each request for what was found is one of this kind

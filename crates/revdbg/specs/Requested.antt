@@ -4,6 +4,7 @@ use Rattle.std.specs.declared.io.ErrorKind.{ErrorKind as IoKind}
 use Rattle.std.specs.declared.io.ErrorKind.TheVariants as io_kind
 use Rattle.clap.specs.Words.{Kinds, IsAmong, Row, Text, fault_of, subcommand_of}
 use Rattle.clap.specs.declared.error.kind.ErrorKind.{ErrorKind}
+use Rattle.cdb_base.specs.Memory.{no_memory}
 use Rattle.cdb_arguments.specs.Asking.{NamesAsked, texts, words_status}
 use Rattle.cdb_arguments.specs.CommandLine.{program}
 use Rattle.cdb_arguments.specs.Plain.{IsNameAlone, IsPlayLine, IsRaceLine, IsExplainLine, IsDrawLine, IsDebugLine}
@@ -11,6 +12,8 @@ use Rattle.cdb_arguments.specs.declared.request.Asked.{Asked}
 use Rattle.cdb_arguments.specs.declared.request.Asked.TheVariants as asked
 use Rattle.cdb_draw.specs.declared.script.StepAsked.{StepAsked}
 use Rattle.cdb_streams.specs.declared.fault.PlayFault.TheVariants.{NoMemory}
+use Rattle.revdbg.specs.declared.requested.Unread.{Unread}
+use Rattle.revdbg.specs.declared.requested.Unread.TheVariants as unread
 use Rattle.cdb_program.specs.Known.{Seen}
 use Rattle.cdb_program.specs.Requests.{Performs}
 use Rattle.cdb_program.specs.declared.fault.Fault.TheVariants as fault
@@ -71,7 +74,7 @@ IsRefusal kinds request = ⊥
 
 -- the report that an allocation failed
 abbrev pub IsOutOfMemory : Request → Type 0
-IsOutOfMemory (Refuse (fault.Play NoMemory name)) = Unit {0}
+IsOutOfMemory (Refuse (fault.Play (NoMemory refused) name)) = Unit {0}
 IsOutOfMemory request = ⊥
 
 -- a request of this kind, or the report that an allocation failed
@@ -94,11 +97,16 @@ pub record IsAskedBy (prompt : Text) (words : List Text) (request : Request) : T
   pub taken : fault_of program words ≡ [] → OrOutOfMemory (IsRequested prompt (subcommand_of program words)) request
   pub refused : fault_of program words ≢ [] → OrOutOfMemory (IsRefusal (fault_of program words)) request
 
--- the request where the arguments could not be read: an allocation failed, or one is no text
-abbrev pub IsUnread : IoKind → Request → Type 0
-IsUnread io_kind.OutOfMemory request = IsOutOfMemory request
-IsUnread kind (Refuse (fault.Refused text)) = text.now ≡ codes "an argument is not valid UTF-8\n"
-IsUnread kind request = ⊥
+-- why the arguments could not be read, where the system had an error of this kind: an allocation failed, or one is no text
+abbrev pub unread_of : IoKind → Unread
+unread_of io_kind.OutOfMemory = unread.NoMemory no_memory
+unread_of kind = unread.NotUtf8
+
+-- the request where the arguments could not be read
+abbrev pub IsUnread : Unread → Request → Type 0
+IsUnread (unread.NoMemory refused) request = IsOutOfMemory request
+IsUnread unread.NotUtf8 (Refuse (fault.Refused text)) = text.now ≡ codes "an argument is not valid UTF-8\n"
+IsUnread unread.NotUtf8 request = ⊥
 
 -- a request of this kind was performed
 abbrev pub PerformsOne : (Request → Type 0) → Seen → Seen → ℕ → Type 0

@@ -5,35 +5,54 @@ ghost use Rattle.std.specs.IoError.{error_kind};
 ghost use Rattle.clap.specs.Words.{Kinds, Row, Text};
 ghost use Rattle.cdb_arguments.specs.Asking.{IsOfKinds, NamesAsked, texts};
 ghost use Rattle.cdb_program.specs.Requests.{HasTurns};
+ghost use Rattle.cdb_base.specs.Memory.{no_memory};
 ghost use Rattle.revdbg.specs.RequestFor.{IsRequestFor, Makes};
-ghost use Rattle.revdbg.specs.Requested.{IsAskedBy, IsOutOfMemory, IsRefusal, IsRequestOf, IsUnread, OrOutOfMemory};
+ghost use Rattle.revdbg.specs.Requested.{IsAskedBy, IsOutOfMemory, IsRefusal, IsRequestOf, IsUnread, OrOutOfMemory, unread_of};
 
+use cdb_base::NoMemory;
 use cdb_arguments::{AskFault, Asked, ask_status, asked};
 use cdb_draw::StepAsked;
 use cdb_program::{Fault, Request};
 use cdb_streams::PlayFault;
 use std::alloc::{AllocError, Global};
 use std::io;
-use std::io::ErrorKind;
 
 /// What is reported where an argument is no text.
 const NOT_UTF8: &str = "an argument is not valid UTF-8\n";
+
+/// Why the arguments could not be read.
+#[derive(Clone, Copy)]
+pub enum Unread {
+    NoMemory(NoMemory),
+    /// One is no text.
+    NotUtf8,
+}
+
+impl From<AllocError> for Unread {
+    ghost use Rattle.revdbg.specs.declared.requested.Unread.TheVariants as unread;
+
+    ghost from_gives = { λ _ made. made ≡ unread.NoMemory no_memory };
+
+    fn from(error: AllocError) -> Self {
+        Unread::NoMemory(NoMemory::from(error))
+    }
+}
 
 /// Why the arguments ask for nothing that could be performed.
 #[derive(Drop)]
 pub enum Unasked {
     /// They could not be read, for this reason; out of memory also where an allocation fails later.
-    Unread(ErrorKind),
+    Unread(Unread),
     /// They are wrong, or ask for help or the version, as this text says.
     Refused(AskFault, String),
 }
 
 /// The request to report that an allocation failed.
-fn no_memory() -> Request<'static>
+fn out_of_memory(refused: NoMemory) -> Request<'static>
     ensures memory { IsOutOfMemory result }
     ensures turns { HasTurns result }
 {
-    Request::Refuse(Fault::Play(PlayFault::NoMemory, ""))
+    Request::Refuse(Fault::Play(PlayFault::NoMemory(refused), ""))
 }
 
 /// The request for what was asked for, where sessions have this prompt.
@@ -83,14 +102,6 @@ fn request_of<'a>(asked: &'a Asked<'a>, prompt: &'a str) -> Request<'a>
     }
 }
 
-/// The text that says what is wrong with the arguments, or help or the version.
-fn text_of(alloc: Global, fault: &AskFault) -> Result<String, AllocError> {
-    match fault {
-        AskFault::Words(error) => format!(in alloc; "{error}"),
-        AskFault::NoMemory => Err(AllocError),
-    }
-}
-
 /// The request to print help or the version, or to report what is wrong with the arguments, where this is the text.
 fn refusal_of<'a>(fault: &AskFault, text: &'a str) -> Request<'a>
     ensures refusal { (kinds : Kinds) → IsOfKinds kinds fault.now →
@@ -98,20 +109,20 @@ fn refusal_of<'a>(fault: &AskFault, text: &'a str) -> Request<'a>
     ensures turns { HasTurns result }
 {
     match fault {
-        AskFault::NoMemory => no_memory(),
+        AskFault::NoMemory(refused) => out_of_memory(*refused),
         AskFault::Words(_) if ask_status(fault) == 0 => Request::Print(text),
         AskFault::Words(_) => Request::Refuse(Fault::Refused(text)),
     }
 }
 
 /// The request where the arguments could not be read, for this reason.
-fn unread(kind: ErrorKind) -> Request<'static>
-    ensures unread { IsUnread kind result }
+fn unread(reason: Unread) -> Request<'static>
+    ensures unread { IsUnread reason result }
     ensures turns { HasTurns result }
 {
-    match kind {
-        ErrorKind::OutOfMemory => no_memory(),
-        _ => Request::Refuse(Fault::Refused(NOT_UTF8)),
+    match reason {
+        Unread::NoMemory(refused) => out_of_memory(refused),
+        Unread::NotUtf8 => Request::Refuse(Fault::Refused(NOT_UTF8)),
     }
 }
 
@@ -124,7 +135,7 @@ pub fn request_for<'a>(asked: &'a Result<Asked<'a>, Unasked>, prompt: &'a str) -
 {
     match asked {
         Ok(asked) => request_of(asked, prompt),
-        Err(Unasked::Unread(kind)) => unread(*kind),
+        Err(Unasked::Unread(reason)) => unread(*reason),
         Err(Unasked::Refused(fault, text)) => refusal_of(fault, text.as_str()),
     }
 }
@@ -140,25 +151,35 @@ fn texts_of_each<'a>(alloc: Global, words: &'a [String]) -> Result<Vec<&'a str>,
     Ok(texts)
 }
 
+/// Why the arguments could not be read, where this is the system's error.
+fn why_unread(error: &io::Error) -> Unread
+    ensures { result ≡ unread_of (error_kind error.now) }
+{
+    match NoMemory::of(error) {
+        Some(refused) => Unread::NoMemory(refused),
+        None => Unread::NotUtf8,
+    }
+}
+
 /// The texts of the arguments, as they were read from the system.
 ///
 /// # Errors
-/// The kind of the error where they could not be read, and `OutOfMemory` where an allocation fails.
+/// Why they could not be read, and `NoMemory` where an allocation fails.
 pub fn texts_of<'a>(
     alloc: Global,
     words: &'a io::Result<Vec<String>>,
-) -> Result<Vec<&'a str>, ErrorKind>
+) -> Result<Vec<&'a str>, Unread>
     ensures texts { IfOk result (λ found. IfOk words.now
         (λ words. texts found.items ≡ map string_bytes words.items)) }
     ensures read { OnOk result (IsOk words.now) }
-    ensures memory { IfErr result (λ kind. IfOk words.now
-        (λ words. kind ≡ ErrorKind.OutOfMemory)) }
-    ensures fault { IfErr result (λ kind. IfErr words.now
-        (λ error. kind ≡ error_kind error)) }
+    ensures memory { IfErr result (λ reason. IfOk words.now
+        (λ words. reason ≡ Unread.NoMemory no_memory)) }
+    ensures fault { IfErr result (λ reason. IfErr words.now
+        (λ error. reason ≡ unread_of (error_kind error))) }
 {
     match words {
-        Ok(words) => texts_of_each(alloc, words.as_slice()).map_err(|_| ErrorKind::OutOfMemory),
-        Err(error) => Err(error.kind()),
+        Ok(words) => Ok(texts_of_each(alloc, words.as_slice())?),
+        Err(error) => Err(why_unread(error)),
     }
 }
 
@@ -167,9 +188,9 @@ fn refused(alloc: Global, fault: AskFault) -> Unasked
     ensures { (kinds : Kinds) → IsOfKinds kinds fault →
         Makes (Err result) (λ _. OrOutOfMemory (IsRefusal kinds)) }
 {
-    match text_of(alloc, &fault) {
+    match format!(in alloc; "{fault}") {
         Ok(text) => Unasked::Refused(fault, text),
-        Err(_) => Unasked::Unread(ErrorKind::OutOfMemory),
+        Err(error) => Unasked::Unread(Unread::from(error)),
     }
 }
 
@@ -180,19 +201,19 @@ fn refused(alloc: Global, fault: AskFault) -> Unasked
 /// and where they ask for help or the version.
 pub fn asked_in<'a>(
     alloc: Global,
-    read: &'a Result<Vec<&'a str>, ErrorKind>,
+    read: &'a Result<Vec<&'a str>, Unread>,
 ) -> Result<Asked<'a>, Unasked>
     ensures asked { IfOk read.entry.now (λ found. Makes result
         (λ prompt. IsAskedBy prompt (texts found.items))) }
     ensures named { IfOk result
         (λ asked. (found : Option (Text × List Row)) × NamesAsked found asked) }
-    ensures unread { IfErr read.entry.now (λ kind. result ≡ Err (Unasked.Unread kind)) }
+    ensures unread { IfErr read.entry.now (λ reason. result ≡ Err (Unasked.Unread reason)) }
 {
     match read {
         Ok(texts) => match asked(alloc, texts.as_slice()) {
             Ok(asked) => Ok(asked),
             Err(fault) => Err(refused(alloc, fault)),
         },
-        Err(kind) => Err(Unasked::Unread(*kind)),
+        Err(reason) => Err(Unasked::Unread(*reason)),
     }
 }

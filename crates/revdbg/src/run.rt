@@ -3,14 +3,13 @@
 ghost use Rattle.std.specs.Prelude.{IfErr, IfOk, map, string_bytes};
 ghost use Rattle.std.specs.IoError.{error_kind};
 ghost use Rattle.cdb_arguments.specs.Asking.{texts};
-ghost use Rattle.revdbg.specs.Requested.{IsAskedBy, IsUnread, PerformsOne};
+ghost use Rattle.revdbg.specs.Requested.{IsAskedBy, IsUnread, PerformsOne, unread_of};
 
-use crate::requested::{asked_in, request_for, texts_of};
+use crate::requested::{Unread, asked_in, request_for, texts_of};
 use cdb_program::{Files, Outside, perform};
 use cdb_streams::{Sink, Source};
 use std::alloc::Global;
 use std::io;
-use std::io::ErrorKind;
 use std::sync::Wait;
 use std::thread::Threads;
 
@@ -19,13 +18,13 @@ fn run<R: Threads + Wait + Sync, F: Files + Drop, I: Source + Drop, O: Sink + Dr
     threads: &R,
     alloc: Global,
     prompt: &str,
-    read: &Result<Vec<&str>, ErrorKind>,
+    read: &Result<Vec<&str>, Unread>,
     outside: &mut Outside<F, I, O, E>,
 ) -> u8
     ensures asked { IfOk read.now (λ found. PerformsOne
         (IsAskedBy prompt.now (texts found.items)) outside.old outside.new result) }
-    ensures unread { IfErr read.now (λ kind. PerformsOne
-        (IsUnread kind) outside.old outside.new result) }
+    ensures unread { IfErr read.now (λ reason. PerformsOne
+        (IsUnread reason) outside.old outside.new result) }
 {
     let asked = asked_in(alloc, read);
     perform(threads, alloc, request_for(&asked, prompt), outside)
@@ -49,7 +48,7 @@ pub fn begin<
     ensures asked { IfOk words (λ words. PerformsOne
         (IsAskedBy prompt.now (map string_bytes words.items)) outside.old outside.new result) }
     ensures unread { IfErr words (λ error. PerformsOne
-        (IsUnread (error_kind error)) outside.old outside.new result) }
+        (IsUnread (unread_of (error_kind error))) outside.old outside.new result) }
 {
     let read = texts_of(alloc, &words);
     run(threads, alloc, prompt, &read, outside)

@@ -1,5 +1,6 @@
 //! The files of the system.
 
+use cdb_base::NoMemory;
 use cdb_debug::Streams;
 use cdb_hall::Station;
 use cdb_program::Files;
@@ -52,9 +53,9 @@ fn seat_of(rt: &HostRuntime, name: &str) -> io::Result<Station<Talk>> {
 
 /// What could not be read or opened.
 fn fault_of(error: &io::Error) -> ReadFault {
-    match error.kind() {
-        ErrorKind::OutOfMemory => ReadFault::NoMemory,
-        _ => ReadFault::Failed,
+    match NoMemory::of(error) {
+        Some(refused) => ReadFault::NoMemory(refused),
+        None => ReadFault::Failed,
     }
 }
 

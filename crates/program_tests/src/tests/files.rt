@@ -4,7 +4,7 @@ use super::streams::Visitor;
 use cdb_hall::Station;
 use cdb_program::Files;
 use cdb_streams::ReadFault;
-use std::alloc::Global;
+use std::alloc::{AllocError, Global};
 
 /// A name and the bytes of the file of this name.
 type Named = (&'static str, &'static [u8]);
@@ -77,9 +77,7 @@ impl Files for Folder {
         let content = if self.good_reads == 0 { None } else { content };
         let all = content.unwrap_or(&[]);
         let bytes = Vec::from_slice(alloc, &all[..most.min(all.len())])?;
-        if self.opened.push(copy).is_err() {
-            return Err(ReadFault::NoMemory);
-        }
+        self.opened.push(copy).map_err(AllocError::from)?;
         self.good_reads = self.good_reads.saturating_sub(1);
         if content.is_none() {
             self.failures = self.failures.wrapping_add(1);
@@ -93,9 +91,7 @@ impl Files for Folder {
         let copy = Vec::from_slice(alloc, name.as_bytes())?;
         let content = content_of(name);
         let lines = Vec::from_slice(alloc, content.unwrap_or(b""))?;
-        if self.opened.push(copy).is_err() {
-            return Err(ReadFault::NoMemory);
-        }
+        self.opened.push(copy).map_err(AllocError::from)?;
         if content.is_none() {
             self.failures = self.failures.wrapping_add(1);
             return Err(ReadFault::Failed);

@@ -4,23 +4,23 @@ use Rattle.cdb_arguments.specs.CommandLine.{program}
 use Rattle.cdb_arguments.proofs.CommandLine.{program_is_simple, program_is_free}
 use Rattle.cdb_arguments.proofs.reading.matches_of.Goals as goal
 
-pub returns-in-Err-try_get_matches_from-clause-taken : goal.returns-in-Err-try_get_matches_from-clause-taken
-returns-in-Err-try_get_matches_from-clause-taken c = λ taken.
+pub returns-in-Err-clause-taken : goal.returns-in-Err-clause-taken
+returns-in-Err-clause-taken c = λ taken.
     let words : List (List ℕ) = map (λ word. word.now) c.args.words.now in
-    c.ask_fault.ensures.memory (c.in-Err-try_get_matches_from.ensures.passes (ap (λ (a : App). takes a words) c.in-Ok.ensures ∙ taken))
+    c.ask_fault.ensures.memory (c.in-Err.ensures.passes (ap (λ (a : App). takes a words) c.in_ok-program.ensures ∙ taken))
 
-pub returns-in-Ok-try_get_matches_from-clause-ok : goal.returns-in-Ok-try_get_matches_from-clause-ok
-returns-in-Ok-try_get_matches_from-clause-ok c =
+pub returns-in-Ok-clause-ok : goal.returns-in-Ok-clause-ok
+returns-in-Ok-clause-ok c =
     let words : List (List ℕ) = map (λ word. word.now) c.args.words.now in
-    (c.in-Ok-try_get_matches_from.ensures.matches (ap is_simple c.in-Ok.ensures ∙ program_is_simple)).1 ∙ ap (λ (a : App). subcommand_of a words) c.in-Ok.ensures
+    (c.in-Ok.ensures.matches (ap is_simple c.in_ok-program.ensures ∙ program_is_simple)).1 ∙ ap (λ (a : App). subcommand_of a words) c.in_ok-program.ensures
 
-pub returns-in-Ok-try_get_matches_from-clause-right : goal.returns-in-Ok-try_get_matches_from-clause-right
-returns-in-Ok-try_get_matches_from-clause-right c =
+pub returns-in-Ok-clause-right : goal.returns-in-Ok-clause-right
+returns-in-Ok-clause-right c =
     let words : List (List ℕ) = map (λ word. word.now) c.args.words.now in
-    sym (ap (λ (a : App). fault_of a words) c.in-Ok.ensures) ∙ c.in-Ok-try_get_matches_from.ensures.kinds (ap is_simple_and_free c.in-Ok.ensures ∙ program_is_free)
+    sym (ap (λ (a : App). fault_of a words) c.in_ok-program.ensures) ∙ c.in-Ok.ensures.kinds (ap is_simple_and_free c.in_ok-program.ensures ∙ program_is_free)
 
-pub returns-in-Err-try_get_matches_from-clause-refused : goal.returns-in-Err-try_get_matches_from-clause-refused
-returns-in-Err-try_get_matches_from-clause-refused c =
+pub returns-in-Err-clause-refused : goal.returns-in-Err-clause-refused
+returns-in-Err-clause-refused c =
     let words : List (List ℕ) = map (λ word. word.now) c.args.words.now in
-    c.ask_fault.ensures.words (fault_of program words) (subst (λ (kinds : Kinds). HasKind kinds c.in-Err-try_get_matches_from.error) (ap (λ (a : App). fault_of a words) c.in-Ok.ensures)
-    (c.in-Err-try_get_matches_from.ensures.kinds (ap is_simple_and_free c.in-Ok.ensures ∙ program_is_free)))
+    c.ask_fault.ensures.words (fault_of program words) (subst (λ (kinds : Kinds). HasKind kinds c.in-Err.error) (ap (λ (a : App). fault_of a words) c.in_ok-program.ensures)
+    (c.in-Err.ensures.kinds (ap is_simple_and_free c.in_ok-program.ensures ∙ program_is_free)))

@@ -1,3 +1,4 @@
+use Rattle.cdb_base.specs.Memory.{no_memory}
 use Rattle.std.proofs.Common.{rules, ◌<◌, ◌≡◌, length, ap, arith}
 use Rattle.std.proofs.lemmas.Result.{err_from_is_err_and}
 use Rattle.cdb_draw.specs.EventMarks.{mark_at}
@@ -36,7 +37,7 @@ pub returns-in_err-take_next : goal.returns-in_err-take_next
 returns-in_err-take_next g c =
     let p = err_from_is_err_and c.from_residual-in_err-take_next.result c.from_residual-in_err-take_next.ensures.1 in
     let below : c.loop-i.i < length c.args.run.now.history = omega (arith, ap length c.history-history.ensures) in
-    rw (p.1, p.2) (cut_one g.W.Sink.stream (Unit {0}) NoMemory (mark_at g.T.Runs.rules c.args.run.now c.args.flags.now) _ _ _ _ below c.loop-i.invariant.put (puts_nothing g.W.Sink.stream _ _ _))
+    rw (p.1, p.2) (cut_one g.W.Sink.stream (Unit {0}) (NoMemory no_memory) (mark_at g.T.Runs.rules c.args.run.now c.args.flags.now) _ _ _ _ below c.loop-i.invariant.put (puts_nothing g.W.Sink.stream _ _ _))
 
 pub returns-in_err-put_mark : goal.returns-in_err-put_mark
 returns-in_err-put_mark g c =

@@ -46,7 +46,7 @@ loop-left-preserved g c =
 pub returns-clause-each : goal.returns-clause-each
 returns-clause-each g c = λ k seat its left low.
     let was = c.loop-left.invariant in
-    let none = c.in_default-pop.ensures.cases.0 in (
+    let none = c.in_default.ensures.cases.0 in (
       was.seats k seat left (omega (arith, none, was.count, c.args.lefts.ok.0, c.loop-left.seats.ok.0)),
       was.attended k its left (omega (arith, none, was.count, was.talks, c.args.lefts.ok.0, c.loop-left.all.ok.0)),
     )

@@ -56,10 +56,10 @@ loop-seat-preserved g c =
     }
 
 pub returns-clause-each : goal.returns-clause-each
-returns-clause-each g c = λ k before station handle low. c.loop-seat.invariant.each k before station handle (omega (arith, c.in_default-pop.ensures.cases.0, c.loop-seat.invariant.count))
+returns-clause-each g c = λ k before station handle low. c.loop-seat.invariant.each k before station handle (omega (arith, c.in_default.ensures.cases.0, c.loop-seat.invariant.count))
 
 pub returns-clause-count : goal.returns-clause-count
-returns-clause-count g c = omega (arith, c.in_default-pop.ensures.cases.0, c.loop-seat.invariant.count)
+returns-clause-count g c = omega (arith, c.in_default.ensures.cases.0, c.loop-seat.invariant.count)
 
 pub loop-seat-smaller : goal.loop-seat-smaller
 loop-seat-smaller g c = omega (arith, c.in-Some.ensures.cases)

@@ -33,8 +33,8 @@ loop-script-preserved c =
       count = let more = c.push.ensures.len in grind (arith, more, so.count);
     }
 
-pub returns-then-is_err-clause-fault : goal.returns-then-is_err-clause-fault
-returns-then-is_err-clause-fault c =
+pub returns-in-Err-push-clause-fault : goal.returns-in-Err-push-clause-fault
+returns-in-Err-push-clause-fault c =
     let scripts = c.args.scripts.now in
     let i = c.loop-script.script-index in
     let script = c.script-item.result in

@@ -13,8 +13,8 @@ returns-in_err-bytes g c =
     let p = err_from_is_err_and c.from_residual.result c.from_residual.ensures.1 in
     rw (p.1, p.2) (fails_at _ _ _ c.args.names.now c.loop-name.name-index _ _ c.in_err-bytes.field-0.0 c.loop-name-test.true c.loop-name.invariant c.in_err-bytes.ensures)
 
-pub returns-then-is_err : goal.returns-then-is_err
-returns-then-is_err g c =
+pub returns-in-Err : goal.returns-in-Err
+returns-in-Err g c =
     let names = c.args.names.now in
     let i = c.loop-name.name-index in
     let read = read_then _ _ _ _ _ _ (c.in_ok-bytes.bytes.items ∷ []) c.loop-name.invariant c.in_ok-bytes.ensures in

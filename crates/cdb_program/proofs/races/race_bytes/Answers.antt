@@ -1,3 +1,4 @@
+use Rattle.cdb_base.specs.Memory.{no_memory}
 use Rattle.cdb_setup.specs.Format.{Encodes}
 use Rattle.cdb_setup.specs.Parts.{Parts}
 use Rattle.cdb_setup.specs.declared.fault.SetupFault.TheVariants.{NoMemory}
@@ -11,7 +12,7 @@ use Rattle.cdb_program.proofs.races.race_bytes.Goals as goal
 pub returns-in-Err : goal.returns-in-Err
 returns-in-Err g c =
     let fault = c.in-Err.fault in
-    let only : (other : Parts) → Encodes c.args.setup.now other → fault ≡ NoMemory = λ other its. memory_alone c.read.result fault other c.in-Err.is (c.read.ensures.only other its) in
+    let only : (other : Parts) → Encodes c.args.setup.now other → fault ≡ (NoMemory no_memory) = λ other its. memory_alone c.read.result fault other c.in-Err.is (c.read.ensures.only other its) in
     inl (Err c.from.result, c.of_race.ensures, rw c.from.ensures (race_unread c.args.setup.now c.args.turns (bytes_of c.args.scripts.now) fault _ c.in-Err.ensures.fault (λ long. cc (c.in-Err.ensures.too_long long)) only))
 
 pub returns : goal.returns

@@ -16,8 +16,8 @@ returns-in_err-station-clause-fault g c =
     let p = err_from_is_err_and c.from_residual.result c.from_residual.ensures.1 in
     rw (p.1, p.2) (seat_fails _ _ _ c.args.names.now c.loop-name.name-index _ c.in_err-station.field-0.0 c.loop-name-test.true c.loop-name.invariant.opened c.in_err-station.ensures.fault)
 
-pub returns-then-is_err-clause-fault : goal.returns-then-is_err-clause-fault
-returns-then-is_err-clause-fault g c =
+pub returns-in-Err-clause-fault : goal.returns-in-Err-clause-fault
+returns-in-Err-clause-fault g c =
     let names = c.args.names.now in
     let i = c.loop-name.name-index in
     (file_names (take (i + 1) names), file_names (drop (i + 1) names), taken_and_left names (i + 1), seat_opened _ _ _ names i _ c.loop-name-test.true c.loop-name.invariant.opened c.in_ok-station.ensures.opened)

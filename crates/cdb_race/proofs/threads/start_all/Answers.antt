@@ -41,7 +41,7 @@ loop-seat-preserved g c =
     }
 
 pub returns-clause-each : goal.returns-clause-each
-returns-clause-each g c = λ k before gate handle low. c.loop-seat.invariant.each k before gate handle (omega (arith, c.in_default-pop.ensures.cases.0, c.loop-seat.invariant.count))
+returns-clause-each g c = λ k before gate handle low. c.loop-seat.invariant.each k before gate handle (omega (arith, c.in_default.ensures.cases.0, c.loop-seat.invariant.count))
 
 pub loop-seat-smaller : goal.loop-seat-smaller
 loop-seat-smaller g c =

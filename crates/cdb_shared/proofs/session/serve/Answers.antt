@@ -19,8 +19,8 @@ returns-then-not-before-clause-gate g c =
     (c.before-in-loop-command.ensures.heard ∙ ap (λ b. heard_more (g.G.Gate.heard c.loop-command.gate) (Asked (c.loop-command.number + 1) (calls_of c.loop-command.seat) b ∷ [])) refused) in
     (c.before-in-loop-command.new.self, hears_asked _ _ c.args.seat c.loop-command.seat replied _ false was.calls refl asked)
 
-pub returns-then-is_err-clause-gate : goal.returns-then-is_err-clause-gate
-returns-then-is_err-clause-gate g c =
+pub returns-in-Err-clause-gate : goal.returns-in-Err-clause-gate
+returns-in-Err-clause-gate g c =
     let was = c.loop-command.invariant in
     let index = c.loop-command.command-index in
     let replied = take index c.args.commands.now in
@@ -31,13 +31,13 @@ returns-then-is_err-clause-gate g c =
     let calls = calls_of-fault c.loop-command.seat c.no_room-fault.new.seat c.no_room-fault.ensures.seat.0 c.no_room-fault.ensures.seat.1 ∙ was.calls in
     (c.before-in-loop-command.new.self, hears_fault _ _ c.args.seat c.no_room-fault.new.seat replied c.no_room-fault.result _ c.ended_by.ensures calls asked)
 
-pub returns-then-is_err-clause-replies : goal.returns-then-is_err-clause-replies
-returns-then-is_err-clause-replies g c =
+pub returns-in-Err-clause-replies : goal.returns-in-Err-clause-replies
+returns-in-Err-clause-replies g c =
     replies_to-fault g.T.Runs.rules c.loop-command.seat c.no_room-fault.new.seat c.no_room-fault.ensures.seat.0 c.no_room-fault.ensures.seat.1 ∙ c.loop-command.invariant.replies
     ∙ ap (λ (l : List Reply). replies_to g.T.Runs.rules c.args.seat ++ map told l) (sym c.reserve.ensures.items)
 
-pub returns-in-Err-clause-gate : goal.returns-in-Err-clause-gate
-returns-in-Err-clause-gate g c =
+pub returns-in-Err-call-clause-gate : goal.returns-in-Err-call-clause-gate
+returns-in-Err-call-clause-gate g c =
     let was = c.loop-command.invariant in
     let index = c.loop-command.command-index in
     let replied = take index c.args.commands.now in
@@ -45,12 +45,12 @@ returns-in-Err-clause-gate g c =
     let count : c.loop-command.number + 1 ≡ length replied + 1 = omega (arith, length-take index c.args.commands.now, was.number) in
     let asked = heard_asked (g.G.Gate.heard c.args.gate) (g.G.Gate.heard c.loop-command.gate) (g.G.Gate.heard c.before-in-loop-command.new.self) (calls_of c.args.seat) replied (calls_of c.loop-command.seat) (c.loop-command.number + 1) true was.heard was.calls count
     (c.before-in-loop-command.ensures.heard ∙ ap (λ b. heard_more (g.G.Gate.heard c.loop-command.gate) (Asked (c.loop-command.number + 1) (calls_of c.loop-command.seat) b ∷ [])) passed) in
-    let calls = calls_of-fault c.loop-command.seat c.call.new.seat c.call.ensures.seat c.in-Err.ensures.fault ∙ was.calls in
-    (c.before-in-loop-command.new.self, hears_fault _ _ c.args.seat c.call.new.seat replied c.in-Err.fault _ c.ended_by-in-Err.ensures calls asked)
+    let calls = calls_of-fault c.loop-command.seat c.call.new.seat c.call.ensures.seat c.in-Err-call.ensures.fault ∙ was.calls in
+    (c.before-in-loop-command.new.self, hears_fault _ _ c.args.seat c.call.new.seat replied c.in-Err-call.fault _ c.ended_by-in-Err-call.ensures calls asked)
 
-pub returns-in-Err-clause-replies : goal.returns-in-Err-clause-replies
-returns-in-Err-clause-replies g c =
-    replies_to-fault g.T.Runs.rules c.loop-command.seat c.call.new.seat c.call.ensures.seat c.in-Err.ensures.fault ∙ c.loop-command.invariant.replies
+pub returns-in-Err-call-clause-replies : goal.returns-in-Err-call-clause-replies
+returns-in-Err-call-clause-replies g c =
+    replies_to-fault g.T.Runs.rules c.loop-command.seat c.call.new.seat c.call.ensures.seat c.in-Err-call.ensures.fault ∙ c.loop-command.invariant.replies
     ∙ ap (λ (l : List Reply). replies_to g.T.Runs.rules c.args.seat ++ map told l) (sym c.reserve.ensures.items)
 
 pub loop-command-preserved : goal.loop-command-preserved
@@ -110,23 +110,23 @@ returns-then-not-before-clause-passes g c = λ always.
     let refused : c.before-in-loop-command.result ≡ false = search rules in
     λ same. true≢false (sym (c.before-in-loop-command.ensures.passes (c.loop-command.invariant.passes always)).0 ∙ refused)
 
-pub returns-then-is_err-clause-seat : goal.returns-then-is_err-clause-seat
-returns-then-is_err-clause-seat g c = IsLater-trans c.args.seat c.loop-command.seat c.no_room-fault.new.seat c.loop-command.invariant.seat c.no_room-fault.ensures.seat.0
-
-pub returns-then-is_err-clause-done : goal.returns-then-is_err-clause-done
-returns-then-is_err-clause-done g c = (ends_at_fault _ _ c.ended_by.ensures).1
-
-pub returns-then-is_err-clause-passes : goal.returns-then-is_err-clause-passes
-returns-then-is_err-clause-passes g c = λ always. (ends_at_fault _ _ c.ended_by.ensures).2
-
 pub returns-in-Err-clause-seat : goal.returns-in-Err-clause-seat
-returns-in-Err-clause-seat g c = IsLater-trans c.args.seat c.loop-command.seat c.call.new.seat c.loop-command.invariant.seat c.call.ensures.seat
+returns-in-Err-clause-seat g c = IsLater-trans c.args.seat c.loop-command.seat c.no_room-fault.new.seat c.loop-command.invariant.seat c.no_room-fault.ensures.seat.0
 
 pub returns-in-Err-clause-done : goal.returns-in-Err-clause-done
-returns-in-Err-clause-done g c = (ends_at_fault _ _ c.ended_by-in-Err.ensures).1
+returns-in-Err-clause-done g c = (ends_at_fault _ _ c.ended_by.ensures).1
 
 pub returns-in-Err-clause-passes : goal.returns-in-Err-clause-passes
-returns-in-Err-clause-passes g c = λ always. (ends_at_fault _ _ c.ended_by-in-Err.ensures).2
+returns-in-Err-clause-passes g c = λ always. (ends_at_fault _ _ c.ended_by.ensures).2
+
+pub returns-in-Err-call-clause-seat : goal.returns-in-Err-call-clause-seat
+returns-in-Err-call-clause-seat g c = IsLater-trans c.args.seat c.loop-command.seat c.call.new.seat c.loop-command.invariant.seat c.call.ensures.seat
+
+pub returns-in-Err-call-clause-done : goal.returns-in-Err-call-clause-done
+returns-in-Err-call-clause-done g c = (ends_at_fault _ _ c.ended_by-in-Err-call.ensures).1
+
+pub returns-in-Err-call-clause-passes : goal.returns-in-Err-call-clause-passes
+returns-in-Err-call-clause-passes g c = λ always. (ends_at_fault _ _ c.ended_by-in-Err-call.ensures).2
 
 pub returns-clause-seat : goal.returns-clause-seat
 returns-clause-seat g c = c.loop-command.invariant.seat

@@ -74,7 +74,7 @@ fn play_at_last<R: Abort + AllocGlobal>(rt: &R, out: &mut Memory) -> Result<(), 
     let Err(fault) = play_once(rt.alloc(), out) else {
         return Ok(());
     };
-    assert_eq!(rt; fault, PlayFault::NoMemory);
+    assert!(rt; matches!(fault, PlayFault::NoMemory(_)));
     assert_eq!(rt; out.held.len(), 0);
     play_once(rt.alloc(), out)
 }
@@ -133,7 +133,7 @@ fn race_at_last<R: Abort + Threads + Wait + Sync + AllocGlobal>(
     let Err(fault) = race_once(rt, ONE_PROCESS.as_bytes(), scripts, out) else {
         return Ok(());
     };
-    assert!(rt; matches!(fault, RaceFault::NoMemory | RaceFault::Spawn(_)));
+    assert!(rt; matches!(fault, RaceFault::NoMemory(_) | RaceFault::Spawn(_)));
     assert_eq!(rt; out.held.len(), 0);
     race_once(rt, ONE_PROCESS.as_bytes(), scripts, out)
 }
@@ -149,7 +149,7 @@ fn a_race_without_memory(rt: HostRuntime) {
 /// Drives the process for eight turns, and for what is left of them if an allocation failed.
 fn drive_at_last<R: Wait + AllocGlobal>(rt: &R, pair: Pair) -> (Pair, u32, End) {
     let (pair, count, end) = pair.drive(rt, OPEN, 8);
-    if end != End::NoMemory {
+    if !matches!(end, End::NoMemory(_)) {
         return (pair, count, end);
     }
     let (pair, more, end) = pair.drive(rt, OPEN, 8u32.saturating_sub(count));
@@ -168,7 +168,7 @@ fn serve_at_last<R: Wait + Abort + AllocGlobal>(
     commands: &[Command],
 ) -> (Pair, Vec<Reply>, End) {
     let (pair, replies, end) = pair.serve(rt, OPEN, commands);
-    if end != End::NoMemory {
+    if !matches!(end, End::NoMemory(_)) {
         return (pair, replies, end);
     }
     let (pair, more, end) = pair.serve(rt, OPEN, left(commands, replies.len()));

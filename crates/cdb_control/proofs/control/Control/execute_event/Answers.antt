@@ -81,17 +81,17 @@ returns-clause-journal g c =
     ∙ ap (λ (v : Journaled). extended g.R.Runs.rules v seat c.args.command) c.self.view_is
 
 pub returns-clause-spared : goal.returns-clause-spared
-returns-clause-spared g c = λ needs same. cc
+returns-clause-spared g c = λ needs refused same. cc
 
-pub invariant_of-self-in_default : goal.invariant_of-self-in_default
-invariant_of-self-in_default g c =
+pub invariant_of-self-in-Err : goal.invariant_of-self-in-Err
+invariant_of-self-in-Err g c =
     let rules = g.R.Runs.rules in
     let i = c.self.inside in
     let was = c.self.invariant in
     let next = c.perform_event.new.self in
     let room_ends = i.room_ends.items in
     let n = vec_len i.journal in
-    let same = c.in_default.ensures.err in
+    let same = c.in-Err.ensures.err in
     let room = HoldsRooms-kept n (vec_capacity i.journal) (vec_capacity c.make_room.new.journal) (rooms_at n room_ends) i.state next was.1 c.make_room.ensures.capacity same c.perform_event.ensures.capacities in (
       subst (λ (t : State). IsReplayed (rules t.setup) t.setup i.seats c.make_room.new.journal.items t) (sym same)
           (subst (λ (l : List Entry). IsReplayed (rules i.state.state.setup) i.state.state.setup i.seats l i.state.state) (sym c.make_room.ensures.items) was.0),
@@ -106,12 +106,12 @@ returns-in_err-make_room-clause-headline g c =
     subst (λ (l : List Entry). Headline run.rules run.same_state i.state.state.setup i.seats l) (sym c.make_room.ensures.items)
     (replayed-headline run.rules run.same_state laws.lawful laws.histories i.state.state.setup i.seats i.journal.items i.state.state c.self.invariant.0)
 
-pub returns-in_default-clause-headline : goal.returns-in_default-clause-headline
-returns-in_default-clause-headline g c =
+pub returns-in-Err-clause-headline : goal.returns-in-Err-clause-headline
+returns-in-Err-clause-headline g c =
     let run = g.R.Runs in
     let laws = g.met.R.Runs in
     let next = c.perform_event.new.self.state in
-    replayed-headline run.rules run.same_state laws.lawful laws.histories next.setup c.self.inside.seats c.make_room.new.journal.items next (invariant_of-self-in_default g c).0
+    replayed-headline run.rules run.same_state laws.lawful laws.histories next.setup c.self.inside.seats c.make_room.new.journal.items next (invariant_of-self-in-Err g c).0
 
 pub returns-clause-headline : goal.returns-clause-headline
 returns-clause-headline g c =
@@ -120,8 +120,8 @@ returns-clause-headline g c =
     let next = c.perform_event.new.self.state in
     replayed-headline run.rules run.same_state laws.lawful laws.histories next.setup c.self.inside.seats c.push_entry.new.journal.items next (invariant_of-self-2 g c).0
 
-pub returns-in_default-clause-spared : goal.returns-in_default-clause-spared
-returns-in_default-clause-spared g c = λ needs same.
+pub returns-in-Err-clause-spared : goal.returns-in-Err-clause-spared
+returns-in-Err-clause-spared g c = λ needs refused same.
     let i = c.self.inside in
     let rules = g.R.Runs.rules in
     let seat = c.args.seat in
@@ -132,6 +132,6 @@ returns-in_default-clause-spared g c = λ needs same.
     ap (λ (t : State). is_refused (reply_of (rules i.state.state.setup) t seat command)) (sym c.self.invariant.0.replayed)
     ∙ ap (λ (v : Journaled). is_refused (reply_in rules v seat command)) c.self.view_is in
     elim needs.1 [
-      | inl spared ↦ absurd (let impossible = c.in_default.ensures.spared spared (omega (arith, some, events_kept)) in cc)
-      | inr refused ↦ absurd (true≢false (sym refused ∙ sym as_shown ∙ c.in_default.ensures.memory))
+      | inl spared ↦ absurd (let impossible = c.in-Err.ensures.spared spared (omega (arith, some, events_kept)) in cc)
+      | inr refused ↦ absurd (true≢false (sym refused ∙ sym as_shown ∙ c.in-Err.ensures.memory))
     ]
