@@ -1,0 +1,174 @@
+//! The standing events.
+
+ghost use Rattle.std.specs.Prelude.{◌≡◌, ℕ, ◌+◌, ◌<◌, ◌≤◌, [], ◌∷◌, ◌++◌, Ok, IfOk, IfErr, OnOk, OnErr, MatchOption, length};
+ghost use Rattle.std.specs.Fn.{FnOnceReturnsAtMut, FnOnceTakesAtMut};
+ghost use Rattle.cdb_base.specs.declared.event.Event.TheVariants.{Step, Lost};
+ghost use Rattle.cdb_causal.specs.Changing.{HasFailed};
+ghost use Rattle.cdb_base.specs.declared.name.StepId.TheVariants as named;
+ghost use Rattle.cdb_causal.specs.Names.{IsNamedAt, IsNewName, IsFirstDependentOrFree};
+ghost use Rattle.cdb_standing.specs.Cuts.{AreConsequencesCut};
+ghost use Rattle.cdb_standing.specs.Moves.{IsNextStep, MayDo, IsPending, IsStandingName, IsFreeAlone, IsNamed, IsTakenOut};
+
+use crate::add::{add_loss, add_step, reserve_mark, reserve_step};
+use crate::copies::{has_copies, has_copy};
+use crate::cuts::cuts_at;
+use crate::dependents::first_of_step;
+use crate::find::find_in;
+use crate::table::empty_rows;
+use crate::tables::Tables;
+use crate::take::{take_loss, take_step};
+use cdb_base::{CopyName, Event, Kind, NoMemory, Proc, StepId};
+use std::alloc::Global;
+use std::marker::Model;
+
+/// The standing events, each under a name of its own. A contract sees their list.
+#[derive(Drop)]
+pub struct Standing {
+    tables: Tables,
+    /// How many events stand.
+    count: usize,
+}
+
+impl Model for Standing {
+    ghost use Rattle.std.specs.Prelude.{List};
+    ghost use Rattle.cdb_base.specs.declared.event.Event.{Event};
+    ghost use Rattle.cdb_standing.specs.Kept.{history_in, AreCounted};
+
+    ghost Value = { List Event };
+
+    ghost view = { λ s. history_in s.tables };
+
+    ghost invariant = { λ s. AreCounted s.tables s.count };
+}
+
+impl Standing {
+    /// Of a run in which nothing has happened.
+    pub fn new(alloc: Global) -> Result<Self, NoMemory>
+        ensures { IfOk result (λ standing. standing ≡ []) }
+    {
+        let steps = empty_rows(alloc, 9)?;
+        let sent = empty_rows(alloc, 9)?;
+        let accesses = empty_rows(alloc, 99)?;
+        let writes = empty_rows(alloc, 99)?;
+        Ok(Standing {
+            tables: Tables {
+                next: 0,
+                steps,
+                sent,
+                accesses,
+                writes,
+            },
+            count: 0,
+        })
+    }
+
+    /// How many events stand.
+    pub fn len(&self) -> usize
+        ensures { result ≡ length self.now }
+    {
+        self.count
+    }
+
+    /// Adds a step at the end: the next of its process. Without memory nothing is added.
+    pub fn push_step(&mut self, p: Proc, k: u16, kind: Kind) -> Result<(), NoMemory>
+        requires next { IsNextStep self.old p k }
+        requires may { MayDo self.old p kind }
+        ensures ok { OnOk result (self.new ≡ self.old ++ Step p k kind ∷ []) }
+        ensures err { OnErr result (self.new ≡ self.old) }
+    {
+        reserve_step(&mut self.tables, p, &kind)?;
+        has_copies(&self.tables.sent, p, &kind);
+        add_step(&mut self.tables, p, k, &kind);
+        self.count += 1;
+        Ok(())
+    }
+
+    /// Changes a state as a step does, and adds the step at the end: makes room for it, then calls `change`, then adds
+    /// it, which takes no memory. Where there is no room, or `change` fails, nothing is added.
+    pub fn push_step_with<S, R, F: FnOnce(&mut S) -> Result<R, NoMemory>>(
+        &mut self,
+        p: Proc,
+        k: u16,
+        kind: Kind,
+        state: &mut S,
+        change: F,
+    ) -> Result<R, NoMemory>
+        requires next { IsNextStep self.old p k }
+        requires may { MayDo self.old p kind }
+        requires callable { FnOnceTakesAtMut F.FnOnce change state.old }
+        ensures changed { IfOk result
+            (λ left. FnOnceReturnsAtMut F.FnOnce change state.old (Ok left) state.new) }
+        ensures added { OnOk result (self.new ≡ self.old ++ Step p k kind ∷ []) }
+        ensures failed { IfErr result (λ e. HasFailed F.FnOnce change state.old e state.new) }
+        ensures err { OnErr result (self.new ≡ self.old) }
+    {
+        reserve_step(&mut self.tables, p, &kind)?;
+        has_copies(&self.tables.sent, p, &kind);
+        let left = change(state)?;
+        add_step(&mut self.tables, p, k, &kind);
+        self.count += 1;
+        Ok(left)
+    }
+
+    /// The name of the first event that depends on the one of that name, which stands. None says that
+    /// none does.
+    pub fn first_dependent(&self, name: StepId) -> Option<StepId>
+        requires { IsStandingName self.now name }
+        ensures { (at : ℕ) → IsNamedAt self.now at name → IsFirstDependentOrFree self.now at result }
+    {
+        match name {
+            StepId::Step(step) => first_of_step(&self.tables, step.p, step.k),
+            StepId::Lost(_) => None,
+        }
+    }
+
+    /// Adds the loss of a copy at the end: of a message that was sent, to a process that has neither received nor
+    /// lost it. Without memory nothing is added.
+    pub fn push_loss(&mut self, copy: CopyName) -> Result<(), NoMemory>
+        requires { IsPending self.old copy.to copy.msg.s copy.msg.m }
+        ensures ok { OnOk result (self.new ≡ self.old ++ Lost copy ∷ []) }
+        ensures err { OnErr result (self.new ≡ self.old) }
+    {
+        reserve_mark(&self.tables)?;
+        has_copy(&self.tables.sent, &copy);
+        add_loss(&mut self.tables, &copy);
+        self.count += 1;
+        Ok(())
+    }
+
+    /// The event of that name, if it stands.
+    pub fn find(&self, name: StepId) -> Option<Event>
+        ensures { MatchOption result (IsNewName self.now name) (IsNamed self.now name) }
+    {
+        find_in(&self.tables, &name)
+    }
+
+    /// Takes out the last step of a process, on which nothing depends. It takes no memory.
+    pub fn take_step(&mut self, p: Proc, k: u16) -> Event
+        requires { IsFreeAlone self.old (named.Step (record { p = p; k = k })) }
+        ensures { IsTakenOut self.old (named.Step (record { p = p; k = k })) result self.new }
+    {
+        let entry = take_step(&mut self.tables, p);
+        self.count -= 1;
+        let kind = entry.kind;
+        Event::Step { p, k, kind }
+    }
+
+    /// Takes out the loss of a copy. It takes no memory.
+    pub fn take_loss(&mut self, copy: CopyName)
+        requires { IsStandingName self.old (named.Lost copy) }
+        ensures { IsTakenOut self.old (named.Lost copy) (Lost copy) self.new }
+    {
+        take_loss(&mut self.tables, &copy);
+        self.count -= 1;
+    }
+
+    /// Of each process the number from which on its steps are a step that stands or consequences of it. The losses of
+    /// what these sent are the others.
+    pub fn cuts(&self, p: Proc, k: u16) -> [usize; 9]
+        requires { IsStandingName self.now (named.Step (record { p = p; k = k })) }
+        ensures { AreConsequencesCut self.now (named.Step (record { p = p; k = k })) result }
+    {
+        cuts_at(&self.tables, p, k)
+    }
+}
