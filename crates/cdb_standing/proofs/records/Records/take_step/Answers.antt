@@ -1,4 +1,3 @@
-use Rattle.std.proofs.Common.{◌≡◌, ◌+◌}
 use Rattle.cdb_standing.specs.Tables.{rows_in}
 use Rattle.cdb_standing.proofs.Beside.{history_seen, some_left, beside_taken, step_taken}
 use Rattle.cdb_standing.proofs.records.Records.take_step.Goals as goal
