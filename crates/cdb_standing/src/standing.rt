@@ -5,11 +5,13 @@ ghost use Rattle.std.specs.Fn.{FnOnceReturnsAtMut, FnOnceTakesAtMut};
 ghost use Rattle.cdb_base.specs.declared.event.Event.TheVariants.{Step, Lost};
 ghost use Rattle.cdb_causal.specs.Changing.{HasFailed};
 ghost use Rattle.cdb_base.specs.declared.name.StepId.TheVariants as named;
+ghost use Rattle.cdb_causal.specs.DirectCauses.{AreDirectCauses};
 ghost use Rattle.cdb_causal.specs.Names.{IsNamedAt, IsNewName, IsFirstDependentOrFree};
 ghost use Rattle.cdb_standing.specs.Cuts.{AreConsequencesCut};
 ghost use Rattle.cdb_standing.specs.Moves.{IsNextStep, MayDo, IsPending, IsStandingName, IsFreeAlone, IsNamed, IsTakenOut};
 
 use crate::add::{add_loss, add_step, reserve_mark, reserve_step};
+use crate::causes::causes_in;
 use crate::copies::{has_copies, has_copy};
 use crate::cuts::cuts_at;
 use crate::dependents::first_of_step;
@@ -18,6 +20,7 @@ use crate::table::empty_rows;
 use crate::tables::Tables;
 use crate::take::{take_loss, take_step};
 use cdb_base::{CopyName, Event, Kind, NoMemory, Proc, StepId};
+use smallvec::SmallVec;
 use std::alloc::Global;
 use std::marker::Model;
 
@@ -120,6 +123,16 @@ impl Standing {
             StepId::Step(step) => first_of_step(&self.tables, step.p, step.k),
             StepId::Lost(_) => None,
         }
+    }
+
+    /// The names of the direct causes of the event of that name, which stands: of the earlier events on which it depends,
+    /// those with no event between that depends on such an event and has it depend on itself. They are steps, by
+    /// process, at most one of each, so nine cells suffice, and no memory is taken.
+    pub fn direct_causes(&self, alloc: Global, name: StepId) -> SmallVec<StepId, 9>
+        requires { IsStandingName self.now name }
+        ensures { (at : ℕ) → IsNamedAt self.now at name → AreDirectCauses self.now at result.items }
+    {
+        causes_in(alloc, &self.tables, &name)
     }
 
     /// Adds the loss of a copy at the end: of a message that was sent, to a process that has neither received nor
