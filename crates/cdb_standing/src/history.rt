@@ -1,6 +1,6 @@
 //! The standing events.
 
-ghost use Rattle.std.specs.Prelude.{◌≡◌, ℕ, ◌+◌, ◌<◌, ◌≤◌, [], ◌∷◌, ◌++◌, Ok, IfOk, IfErr, OnOk, OnErr, MatchOption, length};
+ghost use Rattle.std.specs.Prelude.{◌≡◌, ℕ, ◌+◌, ◌-◌, ◌<◌, ◌≤◌, [], ◌∷◌, ◌++◌, Ok, IfOk, IfErr, OnOk, OnErr, MatchOption, length};
 ghost use Rattle.std.specs.Fn.{FnOnceReturnsAtMut, FnOnceTakesAtMut};
 ghost use Rattle.cdb_base.specs.declared.event.Event.TheVariants.{Step, Lost};
 ghost use Rattle.cdb_causal.specs.Changing.{HasFailed};
@@ -8,7 +8,7 @@ ghost use Rattle.cdb_base.specs.declared.name.StepId.TheVariants as named;
 ghost use Rattle.cdb_causal.specs.DirectCauses.{AreDirectCauses};
 ghost use Rattle.cdb_causal.specs.Names.{IsNamedAt, IsNewName, IsFirstDependentOrFree};
 ghost use Rattle.cdb_standing.specs.Cuts.{AreConsequencesCut};
-ghost use Rattle.cdb_standing.specs.Moves.{IsNextStep, MayDo, IsPending, IsStandingName, IsFreeAlone, IsNamed, IsTakenOut};
+ghost use Rattle.cdb_standing.specs.Moves.{IsNextStep, MayDo, IsPending, MayCome, IsEndOf, IsStandingName, IsFreeAlone, IsNamed, IsTakenOut};
 
 use crate::add::{add_loss, add_step, reserve_mark, reserve_step};
 use crate::causes::causes_in;
@@ -26,13 +26,13 @@ use std::marker::Model;
 
 /// The standing events, each under a name of its own. A contract sees their list.
 #[derive(Drop)]
-pub struct Standing {
+pub struct History {
     tables: Tables,
     /// How many events stand.
     count: usize,
 }
 
-impl Model for Standing {
+impl Model for History {
     ghost use Rattle.std.specs.Prelude.{List};
     ghost use Rattle.cdb_base.specs.declared.event.Event.{Event};
     ghost use Rattle.cdb_standing.specs.Kept.{history_in, AreCounted};
@@ -44,7 +44,7 @@ impl Model for Standing {
     ghost invariant = { λ s. AreCounted s.tables s.count };
 }
 
-impl Standing {
+impl History {
     /// Of a run in which nothing has happened.
     pub fn new(alloc: Global) -> Result<Self, NoMemory>
         ensures { IfOk result (λ standing. standing ≡ []) }
@@ -53,7 +53,7 @@ impl Standing {
         let sent = empty_rows(alloc, 9)?;
         let accesses = empty_rows(alloc, 99)?;
         let writes = empty_rows(alloc, 99)?;
-        Ok(Standing {
+        Ok(History {
             tables: Tables {
                 next: 0,
                 steps,
@@ -70,20 +70,6 @@ impl Standing {
         ensures { result ≡ length self.now }
     {
         self.count
-    }
-
-    /// Adds a step at the end: the next of its process. Without memory nothing is added.
-    pub fn push_step(&mut self, p: Proc, k: u16, kind: Kind) -> Result<(), NoMemory>
-        requires next { IsNextStep self.old p k }
-        requires may { MayDo self.old p kind }
-        ensures ok { OnOk result (self.new ≡ self.old ++ Step p k kind ∷ []) }
-        ensures err { OnErr result (self.new ≡ self.old) }
-    {
-        reserve_step(&mut self.tables, p, &kind)?;
-        has_copies(&self.tables.sent, p, &kind);
-        add_step(&mut self.tables, p, k, &kind);
-        self.count += 1;
-        Ok(())
     }
 
     /// Changes a state as a step does, and adds the step at the end: makes room for it, then calls `change`, then adds
@@ -135,18 +121,42 @@ impl Standing {
         causes_in(alloc, &self.tables, &name)
     }
 
-    /// Adds the loss of a copy at the end: of a message that was sent, to a process that has neither received nor
-    /// lost it. Without memory nothing is added.
-    pub fn push_loss(&mut self, copy: CopyName) -> Result<(), NoMemory>
-        requires { IsPending self.old copy.to copy.msg.s copy.msg.m }
-        ensures ok { OnOk result (self.new ≡ self.old ++ Lost copy ∷ []) }
+    /// Changes a state as the loss of a copy does, and adds the loss at the end: of a message that was sent, to a process
+    /// that has neither received nor lost it. `change` is called before it is added. Where `change` fails, or no mark is
+    /// left, nothing is added.
+    pub fn push_loss_with<S, R, F: FnOnce(&mut S) -> Result<R, NoMemory>>(
+        &mut self,
+        copy: CopyName,
+        state: &mut S,
+        change: F,
+    ) -> Result<R, NoMemory>
+        requires pending { IsPending self.old copy.to copy.msg.s copy.msg.m }
+        requires callable { FnOnceTakesAtMut F.FnOnce change state.old }
+        ensures changed { IfOk result
+            (λ left. FnOnceReturnsAtMut F.FnOnce change state.old (Ok left) state.new) }
+        ensures added { OnOk result (self.new ≡ self.old ++ Lost copy ∷ []) }
+        ensures failed { IfErr result (λ e. HasFailed F.FnOnce change state.old e state.new) }
         ensures err { OnErr result (self.new ≡ self.old) }
     {
         reserve_mark(&self.tables)?;
         has_copy(&self.tables.sent, &copy);
+        let left = change(state)?;
         add_loss(&mut self.tables, &copy);
         self.count += 1;
-        Ok(())
+        Ok(left)
+    }
+
+    /// Adds an event at the end: the next step of its process, or the loss of a copy that was neither received nor lost.
+    /// Without memory nothing is added.
+    pub fn push(&mut self, event: Event) -> Result<(), NoMemory>
+        requires { MayCome self.old event }
+        ensures ok { OnOk result (self.new ≡ self.old ++ event ∷ []) }
+        ensures err { OnErr result (self.new ≡ self.old) }
+    {
+        match event {
+            Event::Step { p, k, kind } => self.push_step_with(p, k, kind, &mut (), |_| Ok(())),
+            Event::Lost(copy) => self.push_loss_with(copy, &mut (), |_| Ok(())),
+        }
     }
 
     /// The event of that name, if it stands.
@@ -156,15 +166,17 @@ impl Standing {
         find_in(&self.tables, &name)
     }
 
-    /// Takes out the last step of a process, on which nothing depends. It takes no memory.
-    pub fn take_step(&mut self, p: Proc, k: u16) -> Event
+    /// Takes out the last step of a process, on which nothing depends, and returns what it did. It takes no memory.
+    pub fn take_step(&mut self, p: Proc, k: u16) -> Kind
         requires { IsFreeAlone self.old (named.Step (record { p = p; k = k })) }
-        ensures { IsTakenOut self.old (named.Step (record { p = p; k = k })) result self.new }
+        ensures taken { IsTakenOut self.old (named.Step (record { p = p; k = k })) (Step p k result)
+            self.new }
+        ensures was_last { IsEndOf self.old p k }
+        ensures last { IsEndOf self.new p (k - 1) }
     {
         let entry = take_step(&mut self.tables, p);
         self.count -= 1;
-        let kind = entry.kind;
-        Event::Step { p, k, kind }
+        entry.kind
     }
 
     /// Takes out the loss of a copy. It takes no memory.
