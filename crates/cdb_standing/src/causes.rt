@@ -2,17 +2,16 @@
 
 ghost use Rattle.std.specs.Prelude.{◌≡◌, ◌↔◌, ℕ, ◌<◌, IsTrue, IfSome, length};
 ghost use Rattle.cdb_base.specs.declared.event.Event.TheVariants.{Step};
-ghost use Rattle.cdb_base.specs.declared.name.StepId.TheVariants as named;
 ghost use Rattle.cdb_standing.specs.Accesses.{cell, IsRisingBy};
 ghost use Rattle.cdb_standing.specs.Causes.{sent_by, writes as writes_of, register_of_both, between_in, HasAccessBetween, IsLastByList, IsLastCause, IsLastCauseOrNone, TellsBetween, IsDirectOf, AreDirect, AreDirectByName};
 ghost use Rattle.cdb_standing.specs.Kept.{AreKept};
 ghost use Rattle.cdb_standing.specs.Tables.{rows_in, row_of, IsEntry, Stands};
 
 use crate::accesses::{accessed, last_of, number_of};
-use crate::copies::lost_at;
+use crate::find::find_marked;
 use crate::table::item;
 use crate::tables::{Access, Entry, Sent, Tables};
-use cdb_base::{CopyName, Event, Kind, Proc, StepId, StepName};
+use cdb_base::{Event, Kind, Proc, StepId, StepName};
 use smallvec::SmallVec;
 use std::alloc::Global;
 
@@ -66,7 +65,7 @@ fn last_cause_of_step(
 }
 
 /// The number of the last step of process `q` on which an event depends.
-fn last_cause(tables: &Tables, effect: &Event, ahead: u64, q: Proc) -> Option<u16>
+pub(crate) fn last_cause(tables: &Tables, effect: &Event, ahead: u64, q: Proc) -> Option<u16>
     requires kept { AreKept tables.now }
     requires stands { Stands (rows_in tables.now.steps.items) (rows_in tables.now.sent.items)
         ahead effect.now }
@@ -219,38 +218,13 @@ fn direct_in(alloc: Global, tables: &Tables, effect: &Event, ahead: u64) -> Smal
     causes
 }
 
-/// The same of the `k`-th step of process `p`, which stands.
-fn of_step(alloc: Global, tables: &Tables, p: Proc, k: u16) -> SmallVec<StepId, 9>
-    requires { AreKept tables.now }
-    ensures { AreDirectByName tables.now (named.Step (record { p = p; k = k })) result.items }
-{
-    match item(&tables.steps, p.index(), k) {
-        Some(entry) => {
-            let kind = entry.kind;
-            direct_in(alloc, tables, &Event::Step { p, k, kind }, entry.mark)
-        }
-        None => SmallVec::new(alloc),
-    }
-}
-
-/// The same of the loss of a copy, which stands.
-fn of_loss(alloc: Global, tables: &Tables, copy: &CopyName) -> SmallVec<StepId, 9>
-    requires { AreKept tables.now }
-    ensures { AreDirectByName tables.now (named.Lost copy.now) result.items }
-{
-    match lost_at(&tables.sent, copy) {
-        Some(mark) => direct_in(alloc, tables, &Event::Lost(*copy), mark),
-        None => SmallVec::new(alloc),
-    }
-}
-
 /// The names of the direct causes of the event of that name, which stands.
 pub(crate) fn causes_in(alloc: Global, tables: &Tables, name: &StepId) -> SmallVec<StepId, 9>
     requires { AreKept tables.now }
     ensures { AreDirectByName tables.now name.now result.items }
 {
-    match name {
-        StepId::Step(step) => of_step(alloc, tables, step.p, step.k),
-        StepId::Lost(copy) => of_loss(alloc, tables, copy),
+    match find_marked(tables, name) {
+        Some(it) => direct_in(alloc, tables, &it.event, it.mark),
+        None => SmallVec::new(alloc),
     }
 }
