@@ -125,7 +125,7 @@ module _ (next : ℕ) (steps : List (List Entry)) (sent : List (List Sent)) (sou
     abbrev History : List Event
     History = history_of steps sent
 
-    cause_at : (i mark : ℕ) (it : Event) → IsPlace next steps sent sound i mark it → IsLink depends History i at → IsCause steps sent effect ahead mark it
+    pub cause_at : (i mark : ℕ) (it : Event) → IsPlace next steps sent sound i mark it → IsLink depends History i at → IsCause steps sent effect ahead mark it
     cause_at i mark it here link =
         let down = link_down next steps sent sound i at mark it here link in
         let same = same_at (standing steps sent) at (marked down.0 down.1) (marked ahead effect) down.2 place in

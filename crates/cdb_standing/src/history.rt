@@ -8,6 +8,7 @@ ghost use Rattle.cdb_base.specs.declared.name.StepId.TheVariants as named;
 ghost use Rattle.cdb_causal.specs.DirectCauses.{AreDirectCauses};
 ghost use Rattle.cdb_causal.specs.Names.{IsNamedAt, IsNewName, IsFirstDependentOrFree};
 ghost use Rattle.cdb_standing.specs.Cuts.{AreConsequencesCut};
+ghost use Rattle.cdb_standing.specs.Pasts.{IsPastOfName};
 ghost use Rattle.cdb_standing.specs.Moves.{IsNextStep, MayDo, IsPending, MayCome, IsEndOf, IsStandingName, IsFreeAlone, IsNamed, IsTakenOut};
 
 use crate::add::{add_loss, add_step, reserve_mark, reserve_step};
@@ -16,6 +17,7 @@ use crate::copies::{has_copies, has_copy};
 use crate::cuts::cuts_at;
 use crate::dependents::first_of_step;
 use crate::find::find_in;
+use crate::past::past_in;
 use crate::table::empty_rows;
 use crate::tables::Tables;
 use crate::take::{take_loss, take_step};
@@ -109,6 +111,15 @@ impl History {
             StepId::Step(step) => first_of_step(&self.tables, step.p, step.k),
             StepId::Lost(_) => None,
         }
+    }
+
+    /// Of each process the number up to which its steps led to the event of that name, which stands: the event itself,
+    /// and each from which a chain of dependences leads to it.
+    pub fn past(&self, name: StepId) -> [usize; 9]
+        requires { IsStandingName self.now name }
+        ensures { IsPastOfName self.now name result }
+    {
+        past_in(&self.tables, &name)
     }
 
     /// The names of the direct causes of the event of that name, which stands: of the earlier events on which it depends,
