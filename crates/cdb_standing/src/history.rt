@@ -5,21 +5,26 @@ ghost use Rattle.std.specs.Fn.{FnOnceReturnsAtMut, FnOnceTakesAtMut};
 ghost use Rattle.cdb_base.specs.declared.event.Event.TheVariants.{Step, Lost};
 ghost use Rattle.cdb_causal.specs.Changing.{HasFailed};
 ghost use Rattle.cdb_base.specs.declared.name.StepId.TheVariants as named;
+ghost use Rattle.cdb_causal.specs.DirectCauses.{AreDirectCauses};
 ghost use Rattle.cdb_causal.specs.Names.{IsNamedAt, IsNewName, IsFirstDependentOrFree};
 ghost use Rattle.cdb_causal.specs.Dependence.{depends as depends_of};
 ghost use Rattle.cdb_causal.specs.Rollback.{rolled_back};
+ghost use Rattle.cdb_standing.specs.Pasts.{IsPastOfName};
 ghost use Rattle.cdb_standing.specs.Moves.{IsNextStep, MayDo, IsPending, MayCome, IsEndOf, IsStandingName, IsFreeAlone, IsNamed, IsTakenOut};
 
 use crate::add::{add_loss, add_step, reserve_mark, reserve_step};
+use crate::causes::causes_in;
 use crate::copies::{has_copies, has_copy};
 use crate::cuts::cuts_at;
 use crate::dependents::first_of_step;
 use crate::find::find_in;
 use crate::order::{in_order, one_event};
+use crate::past::past_in;
 use crate::table::empty_rows;
 use crate::tables::Tables;
 use crate::take::{take_loss, take_step};
 use cdb_base::{CopyName, Event, Kind, NoMemory, Proc, StepId};
+use smallvec::SmallVec;
 use std::alloc::Global;
 use std::marker::Model;
 
@@ -108,6 +113,25 @@ impl History {
             StepId::Step(step) => first_of_step(&self.tables, step.p, step.k),
             StepId::Lost(_) => None,
         }
+    }
+
+    /// Of each process the number up to which its steps led to the event of that name, which stands: the event itself,
+    /// and each from which a chain of dependences leads to it.
+    pub fn past(&self, name: StepId) -> [usize; 9]
+        requires { IsStandingName self.now name }
+        ensures { IsPastOfName self.now name result }
+    {
+        past_in(&self.tables, &name)
+    }
+
+    /// The names of the direct causes of the event of that name, which stands: of the earlier events on which it depends,
+    /// those with no event between that depends on such an event and has it depend on itself. They are steps, by
+    /// process, at most one of each, so nine cells suffice, and no memory is taken.
+    pub fn direct_causes(&self, alloc: Global, name: StepId) -> SmallVec<StepId, 9>
+        requires { IsStandingName self.now name }
+        ensures { (at : ℕ) → IsNamedAt self.now at name → AreDirectCauses self.now at result.items }
+    {
+        causes_in(alloc, &self.tables, &name)
     }
 
     /// Changes a state as the loss of a copy does, and adds the loss at the end: of a message that was sent, to a process

@@ -8,16 +8,9 @@ ghost use Rattle.cdb_standing.specs.Kept.{AreKept};
 ghost use Rattle.cdb_standing.specs.Tables.{rows_in, row_of, loss_at, IsEntry};
 
 use crate::table::item;
-use crate::tables::{Copied, Entry, Sent, Tables};
+use crate::tables::{Copied, Entry, Marked, Sent, Tables};
 use cdb_base::{CopyName, Event, Kind, MsgName, NoMemory, Proc, Reg};
 use std::alloc::Global;
-
-/// An event with its mark.
-#[derive(Clone, Copy)]
-pub(crate) struct Marked {
-    pub(crate) mark: u64,
-    pub(crate) event: Event,
-}
 
 /// Adds the loss of a copy, where it is lost.
 fn push_loss(copy: CopyName, copied: Copied, found: &mut Vec<Marked>) -> Result<(), NoMemory>

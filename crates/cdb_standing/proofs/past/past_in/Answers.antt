@@ -1,0 +1,16 @@
+use Rattle.cdb_standing.specs.Tables.{rows_in}
+use Rattle.cdb_standing.proofs.Led.{exactly_led}
+use Rattle.cdb_standing.proofs.Undoing.{the_place}
+use Rattle.cdb_standing.proofs.past.past_in.Goals as goal
+
+pub returns-in-Some : goal.returns-in-Some
+returns-in-Some c = λ at h other it there.
+    let t = c.args.tables.now in
+    let one = c.in-Some.it in
+    let is = c.in-Some.ensures in
+    rw (← is.named)
+    (exactly_led t.next (rows_in t.steps.items) (rows_in t.sent.items) c.requires.sound one.event one.mark is.stands at
+    (the_place t.next (rows_in t.steps.items) (rows_in t.sent.items) c.requires.sound one.mark one.event is.stands at (rw (← is.named) at h)) c.past_of.result c.past_of.ensures other it there)
+
+pub returns-in-None : goal.returns-in-None
+returns-in-None c = λ at h other it there. absurd (c.in-None.ensures at h)

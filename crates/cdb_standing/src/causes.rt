@@ -1,0 +1,230 @@
+//! The direct causes of an event: of each process the last step on which it depends, where nothing lies between.
+
+ghost use Rattle.std.specs.Prelude.{◌≡◌, ◌↔◌, ℕ, ◌<◌, IsTrue, IfSome, length};
+ghost use Rattle.cdb_base.specs.declared.event.Event.TheVariants.{Step};
+ghost use Rattle.cdb_standing.specs.Accesses.{cell, IsRisingBy};
+ghost use Rattle.cdb_standing.specs.Causes.{sent_by, writes as writes_of, register_of_both, between_in, HasAccessBetween, IsLastByList, IsLastCause, IsLastCauseOrNone, TellsBetween, IsDirectOf, AreDirect, AreDirectByName};
+ghost use Rattle.cdb_standing.specs.Kept.{AreKept};
+ghost use Rattle.cdb_standing.specs.Tables.{rows_in, row_of, IsEntry, Stands};
+
+use crate::accesses::{accessed, last_of, number_of};
+use crate::find::find_marked;
+use crate::table::item;
+use crate::tables::{Access, Entry, Sent, Tables};
+use cdb_base::{Event, Kind, Proc, StepId, StepName};
+use smallvec::SmallVec;
+use std::alloc::Global;
+
+/// The number of the step of process `q` that sends the `m`-th message of process `s`, if one does.
+fn by_message(sent: &Vec<Vec<Sent>>, s: Proc, m: u16, q: Proc) -> Option<u16>
+    requires { length sent.now.items ≡ 9 }
+    ensures { result ≡ sent_by (rows_in sent.now.items) s m q }
+{
+    if s == q {
+        Some(item(sent, s.index(), m)?.k)
+    } else {
+        None
+    }
+}
+
+/// The number of the last step before a mark that a process has on a list.
+fn by_list(table: &Vec<Vec<Access>>, q: Proc, n: usize, ahead: u64) -> Option<u16>
+    requires few { n < 11 }
+    requires count { length table.now.items ≡ 99 }
+    requires rising { IsRisingBy (row_of (rows_in table.now.items) (cell q n)) }
+    ensures { IsLastByList (row_of (rows_in table.now.items) (cell q n)) ahead result }
+{
+    Some(last_of(table, q, n, ahead)?.k)
+}
+
+/// The number of the last step of process `q` on which the `k`-th step of process `p` depends: its own last step before
+/// it, or else the send of what it receives, or the last access of its register with which it is in conflict.
+fn last_cause_of_step(
+    tables: &Tables,
+    p: Proc,
+    k: u16,
+    kind: &Kind,
+    ahead: u64,
+    q: Proc,
+) -> Option<u16>
+    requires kept { AreKept tables.now }
+    requires at { IsEntry (rows_in tables.now.steps.items) p k ahead kind.now }
+    ensures { IsLastCauseOrNone (rows_in tables.now.steps.items) (rows_in tables.now.sent.items)
+        (Step p k kind.now) ahead q result }
+{
+    let _number = q.number();
+    if p == q {
+        return if k > 1 { Some(k - 1) } else { None };
+    }
+    match kind {
+        Kind::Recv(s, m) => by_message(&tables.sent, *s, *m, q),
+        Kind::Read(register) => by_list(&tables.writes, q, number_of(register), ahead),
+        Kind::Write(register) => by_list(&tables.accesses, q, number_of(register), ahead),
+        _ => None,
+    }
+}
+
+/// The number of the last step of process `q` on which an event depends.
+pub(crate) fn last_cause(tables: &Tables, effect: &Event, ahead: u64, q: Proc) -> Option<u16>
+    requires kept { AreKept tables.now }
+    requires stands { Stands (rows_in tables.now.steps.items) (rows_in tables.now.sent.items)
+        ahead effect.now }
+    ensures { IsLastCauseOrNone (rows_in tables.now.steps.items) (rows_in tables.now.sent.items)
+        effect.now ahead q result }
+{
+    match effect {
+        Event::Step { p, k, kind } => last_cause_of_step(tables, *p, *k, kind, ahead, q),
+        Event::Lost(copy) => by_message(&tables.sent, copy.msg.s, copy.msg.m, q),
+    }
+}
+
+/// Whether a step of that kind writes a register.
+fn writes(kind: &Kind) -> bool
+    ensures { result ≡ writes_of kind.now }
+{
+    match kind {
+        Kind::Write(_) => true,
+        _ => false,
+    }
+}
+
+/// The number of the register that steps of both kinds access, if they access one.
+fn common_register(kind: &Kind, other: &Kind) -> Option<usize>
+    ensures value { result ≡ register_of_both kind.now other.now }
+    ensures few { IfSome result (λ n. n < 11) }
+{
+    let n = accessed(kind)?;
+    if accessed(other)? == n { Some(n) } else { None }
+}
+
+/// Whether a process has an access on a list between two marks.
+fn has_between(table: &Vec<Vec<Access>>, s: Proc, n: usize, behind: u64, ahead: u64) -> bool
+    requires few { n < 11 }
+    requires count { length table.now.items ≡ 99 }
+    requires rising { IsRisingBy (row_of (rows_in table.now.items) (cell s n)) }
+    ensures { IsTrue result ↔ HasAccessBetween (rows_in table.now.items) s n behind ahead }
+{
+    match last_of(table, s, n, ahead) {
+        Some(access) => behind < access.mark,
+        None => false,
+    }
+}
+
+/// Whether process `s` has an access of a register between two steps of those kinds, the later one of process `p`, that
+/// depends on the earlier one and on which the later one depends.
+fn is_between(
+    tables: &Tables,
+    cause: &Kind,
+    behind: u64,
+    p: Proc,
+    kind: &Kind,
+    ahead: u64,
+    s: Proc,
+    n: usize,
+) -> bool
+    requires kept { AreKept tables.now }
+    requires few { n < 11 }
+    ensures { IsTrue result
+        ↔ HasAccessBetween (between_in (rows_in tables.now.accesses.items) (rows_in tables.now.writes.items)
+        cause.now p kind.now s) s n behind ahead }
+{
+    let _number = s.number();
+    if writes(cause) && (s == p || writes(kind)) {
+        has_between(&tables.accesses, s, n, behind, ahead)
+    } else {
+        has_between(&tables.writes, s, n, behind, ahead)
+    }
+}
+
+/// Whether between a step of process `p` and the last of another one's steps on which it depends there is an event that
+/// depends on the cause, and on which the step depends: an access of a register that both access.
+fn is_hidden_from_step(
+    tables: &Tables,
+    cause: &Entry,
+    p: Proc,
+    k: u16,
+    kind: &Kind,
+    ahead: u64,
+) -> bool
+    requires kept { AreKept tables.now }
+    requires at { IsEntry (rows_in tables.now.steps.items) p k ahead kind.now }
+    ensures { (q l : ℕ) →
+        IsLastCause (rows_in tables.now.steps.items) (rows_in tables.now.sent.items)
+        (Step p k kind.now) ahead q l cause.now.mark cause.now.kind →
+        TellsBetween (rows_in tables.now.steps.items) (rows_in tables.now.sent.items)
+        (Step q l cause.now.kind) cause.now.mark (Step p k kind.now) ahead result }
+{
+    let Some(n) = common_register(&cause.kind, kind) else {
+        return false;
+    };
+    for i in 0..9u8 {
+        let s = Proc::new(i + 1);
+        if is_between(tables, &cause.kind, cause.mark, p, kind, ahead, s, n) {
+            return true;
+        }
+    }
+    false
+}
+
+/// Whether between an event and the last step of a process on which it depends there is an event that depends on that
+/// step, and on which the event depends.
+fn is_hidden(tables: &Tables, cause: &Entry, effect: &Event, ahead: u64) -> bool
+    requires kept { AreKept tables.now }
+    requires stands { Stands (rows_in tables.now.steps.items) (rows_in tables.now.sent.items)
+        ahead effect.now }
+    ensures { (q l : ℕ) →
+        IsLastCause (rows_in tables.now.steps.items) (rows_in tables.now.sent.items)
+        effect.now ahead q l cause.now.mark cause.now.kind →
+        TellsBetween (rows_in tables.now.steps.items) (rows_in tables.now.sent.items)
+        (Step q l cause.now.kind) cause.now.mark effect.now ahead result }
+{
+    match effect {
+        Event::Step { p, k, kind } => is_hidden_from_step(tables, cause, *p, *k, kind, ahead),
+        Event::Lost(_) => false,
+    }
+}
+
+/// The name of the direct cause of an event that is a step of process `q`, if one is.
+fn direct_of(tables: &Tables, effect: &Event, ahead: u64, q: Proc) -> Option<StepId>
+    requires kept { AreKept tables.now }
+    requires stands { Stands (rows_in tables.now.steps.items) (rows_in tables.now.sent.items)
+        ahead effect.now }
+    ensures { IsDirectOf (rows_in tables.now.steps.items) (rows_in tables.now.sent.items)
+        effect.now ahead q result }
+{
+    let k = last_cause(tables, effect, ahead, q)?;
+    let cause = item(&tables.steps, q.index(), k)?;
+    if is_hidden(tables, cause, effect, ahead) {
+        None
+    } else {
+        Some(StepId::Step(StepName { p: q, k }))
+    }
+}
+
+/// The names of the direct causes of an event, by process.
+fn direct_in(alloc: Global, tables: &Tables, effect: &Event, ahead: u64) -> SmallVec<StepId, 9>
+    requires kept { AreKept tables.now }
+    requires stands { Stands (rows_in tables.now.steps.items) (rows_in tables.now.sent.items)
+        ahead effect.now }
+    ensures { AreDirect (rows_in tables.now.steps.items) (rows_in tables.now.sent.items)
+        effect.now ahead 9 result.items }
+{
+    let mut causes = SmallVec::new(alloc);
+    for i in 0..9u8 {
+        if let Some(name) = direct_of(tables, effect, ahead, Proc::new(i + 1)) {
+            causes.push_reserved(name);
+        }
+    }
+    causes
+}
+
+/// The names of the direct causes of the event of that name, which stands.
+pub(crate) fn causes_in(alloc: Global, tables: &Tables, name: &StepId) -> SmallVec<StepId, 9>
+    requires { AreKept tables.now }
+    ensures { AreDirectByName tables.now name.now result.items }
+{
+    match find_marked(tables, name) {
+        Some(it) => direct_in(alloc, tables, &it.event, it.mark),
+        None => SmallVec::new(alloc),
+    }
+}
