@@ -5,7 +5,7 @@ use Rattle.cdb_base.specs.declared.name.StepId.{StepId}
 use Rattle.cdb_causal.specs.Names.{IsNewName}
 use Rattle.cdb_standing.specs.Kept.{history_in}
 use Rattle.cdb_standing.specs.Tables.{rows_in, Stands}
-use Rattle.cdb_standing.specs.declared.find.Marked.{Marked}
+use Rattle.cdb_standing.specs.declared.tables.Marked.{Marked}
 use Rattle.cdb_standing.specs.declared.tables.Tables.{Tables}
 
 -- the event stands under its mark, and has the name

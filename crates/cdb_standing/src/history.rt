@@ -7,7 +7,8 @@ ghost use Rattle.cdb_causal.specs.Changing.{HasFailed};
 ghost use Rattle.cdb_base.specs.declared.name.StepId.TheVariants as named;
 ghost use Rattle.cdb_causal.specs.DirectCauses.{AreDirectCauses};
 ghost use Rattle.cdb_causal.specs.Names.{IsNamedAt, IsNewName, IsFirstDependentOrFree};
-ghost use Rattle.cdb_standing.specs.Cuts.{AreConsequencesCut};
+ghost use Rattle.cdb_causal.specs.Dependence.{depends as depends_of};
+ghost use Rattle.cdb_causal.specs.Rollback.{rolled_back};
 ghost use Rattle.cdb_standing.specs.Pasts.{IsPastOfName};
 ghost use Rattle.cdb_standing.specs.Moves.{IsNextStep, MayDo, IsPending, MayCome, IsEndOf, IsStandingName, IsFreeAlone, IsNamed, IsTakenOut};
 
@@ -17,6 +18,7 @@ use crate::copies::{has_copies, has_copy};
 use crate::cuts::cuts_at;
 use crate::dependents::first_of_step;
 use crate::find::find_in;
+use crate::order::{in_order, one_event};
 use crate::past::past_in;
 use crate::table::empty_rows;
 use crate::tables::Tables;
@@ -199,12 +201,24 @@ impl History {
         self.count -= 1;
     }
 
-    /// Of each process the number from which on its steps are a step that stands or consequences of it. The losses of
-    /// what these sent are the others.
-    pub fn cuts(&self, p: Proc, k: u16) -> [usize; 9]
-        requires { IsStandingName self.now (named.Step (record { p = p; k = k })) }
-        ensures { AreConsequencesCut self.now (named.Step (record { p = p; k = k })) result }
+    /// A copy of the standing events, in order.
+    pub fn to_vec(&self, alloc: Global) -> Result<Vec<Event>, NoMemory>
+        ensures { IfOk result (λ events. events.items ≡ self.now) }
     {
-        cuts_at(&self.tables, p, k)
+        in_order(alloc, &self.tables, &[0; 9])
+    }
+
+    /// The event of that name, which stands, with its consequences, in order.
+    pub fn rolled_back(&self, alloc: Global, name: StepId) -> Result<Vec<Event>, NoMemory>
+        requires { IsStandingName self.now name }
+        ensures { IfOk result (λ events. (at : ℕ) → IsNamedAt self.now at name →
+            events.items ≡ rolled_back depends_of self.now at) }
+    {
+        match name {
+            StepId::Step(step) => {
+                in_order(alloc, &self.tables, &cuts_at(&self.tables, step.p, step.k))
+            }
+            StepId::Lost(copy) => one_event(alloc, Event::Lost(copy)),
+        }
     }
 }

@@ -1,0 +1,188 @@
+-- The whole history, and a step with its consequences, in order.
+use Rattle.std.proofs.Common.{◌≡◌, ℕ, zero, suc, ◌+◌, ◌≤◌, List, [], ◌∷◌, slice_get, replicate, Some, inl, inr, refl, sym, ap, ◌∙◌, subst, arith}
+use Rattle.std.proofs.lemmas.Option.{none-some, same_Some}
+use Rattle.cdb_base.specs.Event.{event_name}
+use Rattle.cdb_base.specs.Positions.{nth}
+use Rattle.cdb_base.specs.declared.event.Event.{Event}
+use Rattle.cdb_base.specs.declared.event.Event.TheVariants as event
+use Rattle.cdb_base.specs.declared.event.Kind.TheVariants.{Send}
+use Rattle.cdb_base.specs.declared.name.CopyName.{CopyName}
+use Rattle.cdb_base.specs.declared.name.StepId.{StepId}
+use Rattle.cdb_base.specs.declared.name.StepId.TheVariants as named
+use Rattle.cdb_causal.specs.Causality.{IsFree, IsConsequence, direct, onward}
+use Rattle.cdb_causal.specs.Dependence.{depends}
+use Rattle.cdb_causal.specs.Names.{IsNamedAt}
+use Rattle.cdb_causal.specs.Rollback.{IsParted, done, kept, gone, IsRolledBack, rolled_back}
+use Rattle.cdb_causal.proofs.LawsFromOne.{parted, rolled_back_split, consequences_parted}
+use Rattle.cdb_standing.specs.Cuts.{cut_of, IsCut, AreConsequencesCut}
+use Rattle.cdb_standing.specs.Gathered.{AreInOrder}
+use Rattle.cdb_standing.specs.InOrder.{Marked, Has, IsRising, events_of}
+use Rattle.cdb_standing.specs.Kept.{history_in, AreKept}
+use Rattle.cdb_standing.specs.Moves.{IsStandingName}
+use Rattle.cdb_standing.specs.Tables.{rows_in, row_of, history_of, standing, entry_of, Stands, IsSound}
+use Rattle.cdb_standing.specs.declared.tables.Entry.{Entry}
+use Rattle.cdb_standing.specs.declared.tables.Sent.{Sent}
+use Rattle.cdb_standing.specs.declared.tables.Tables.{Tables}
+use Rattle.cdb_standing.proofs.Firsts.{first_of_loss}
+use Rattle.cdb_standing.proofs.Listed.{standing_rising, standing_only, standing_has}
+use Rattle.cdb_standing.proofs.Merging.{IsOf, step, loss, of_stands, all_only, all_has}
+use Rattle.cdb_standing.proofs.Ordered.{has_at, at_has, same_list, event_at}
+use Rattle.cdb_standing.proofs.Places.{stands_in, in_stands}
+use Rattle.cdb_standing.proofs.Rows.{same_at}
+
+-- ---- the marks of what is removed
+
+-- those of the list whose positions, from the given one on, are removed
+record IsPart (IsRemoved : ℕ → Type 0) (n : ℕ) (xs : List Marked) (removed : List Event) : Type 0 where
+  part : List Marked
+  rising : IsRising part
+  are : events_of part ≡ removed
+  only : (x : Marked) → Has part x → (i : ℕ) × (slice_get xs i ≡ Some x) × IsRemoved (n + i)
+  all : (i : ℕ) (x : Marked) → slice_get xs i ≡ Some x → IsRemoved (n + i) → Has part x
+
+module _ (IsRemoved : ℕ → Type 0) where
+  part_of : (n : ℕ) (xs : List Marked) {left removed : List Event} → IsRising xs → IsParted IsRemoved n (events_of xs) left removed → IsPart IsRemoved n xs removed
+  part_of n [] rising done = record { part = []; rising = tt; are = refl; only = λ x h. absurd h; all = λ i x at removed. absurd (none-some x at) }
+  part_of n (y ∷ ys) rising (kept stays rest) =
+      let more = part_of (suc n) ys rising.1 rest in
+      record {
+        part = more.part;
+        rising = more.rising;
+        are = more.are;
+        only = λ x h. let found = more.only x h in (suc found.0, found.1, subst IsRemoved (next n found.0) found.2);
+        all = all more;
+      }
+    where
+      next : (n i : ℕ) → suc n + i ≡ n + suc i
+      next n i = omega arith
+
+      all : {removed : List Event} (more : IsPart IsRemoved (suc n) ys removed) (i : ℕ) (x : Marked) → slice_get (y ∷ ys) i ≡ Some x → IsRemoved (n + i) → Has more.part x
+      all more zero x at gone' = let e : n + 0 ≡ n = omega arith in absurd (stays (subst IsRemoved e gone'))
+      all more (suc i) x at gone' = more.all i x at (subst IsRemoved (sym (next n i)) gone')
+  part_of n (y ∷ ys) rising (gone here rest) =
+      let more = part_of (suc n) ys rising.1 rest in
+      record {
+        part = y ∷ more.part;
+        rising = ((λ x h. let found = more.only x h in rising.0 x (at_has ys found.0 x found.1)), more.rising);
+        are = ap (λ l. y.event ∷ l) more.are;
+        only = only more;
+        all = all more;
+      }
+    where
+      next : (n i : ℕ) → suc n + i ≡ n + suc i
+      next n i = omega arith
+
+      first : n ≡ n + 0
+      first = omega arith
+
+      only : {removed : List Event} (more : IsPart IsRemoved (suc n) ys removed) (x : Marked) → Has (y ∷ more.part) x → (i : ℕ) × (slice_get (y ∷ ys) i ≡ Some x) × IsRemoved (n + i)
+      only more x (inl e) = (0, ap Some e, subst IsRemoved first here)
+      only more x (inr h) = let found = more.only x h in (suc found.0, found.1, subst IsRemoved (next n found.0) found.2)
+
+      all : {removed : List Event} (more : IsPart IsRemoved (suc n) ys removed) (i : ℕ) (x : Marked) → slice_get (y ∷ ys) i ≡ Some x → IsRemoved (n + i) → Has (y ∷ more.part) x
+      all more zero x at gone' = inl (same_Some y x at)
+      all more (suc i) x at gone' = inr (more.all i x at (subst IsRemoved (sym (next n i)) gone'))
+
+no_removed : {IsRemoved : ℕ → Type 0} → ((i : ℕ) → IsRemoved i → ⊥) → {n : ℕ} {xs left removed : List Event} → IsParted IsRemoved n xs left removed → removed ≡ []
+no_removed none done = refl
+no_removed none (kept stays rest) = no_removed none rest
+no_removed none (gone here rest) = absurd (none _ here)
+
+-- a free event has no consequences
+pub free_alone : (history : List Event) (at : ℕ) (it : Event) → 1 ≤ at → nth history at ≡ Some it → IsFree depends history at → rolled_back depends history at ≡ it ∷ []
+free_alone history at it one there free =
+    rolled_back_split depends history at it there ∙ ap (λ l. it ∷ l) (no_removed none (consequences_parted depends history at one).1)
+  where
+    none : (i : ℕ) → IsConsequence depends history at i → ⊥
+    none i (direct link) = free i link
+    none i (onward first link) = none _ first
+
+pub zeros : (n q : ℕ) → cut_of (replicate n 0) q ≡ 0
+zeros n zero = refl
+zeros zero (suc q) = refl
+zeros (suc n) (suc zero) = refl
+zeros (suc n) (suc (suc q)) = zeros n (suc q)
+
+module _ (next : ℕ) (steps : List (List Entry)) (sent : List (List Sent)) (sound : IsSound next steps sent) (cuts : List ℕ) (events : List Event) (ordered : AreInOrder cuts steps sent events) where
+  -- each event is of a step
+  abbrev HasOrigin : ℕ → Event → Type 0
+  HasOrigin mark it = (p : ℕ) × (k : ℕ) × (entry : Entry) × (nth (row_of steps p) k ≡ Some entry) × IsOf next steps sent sound p k mark it
+
+  origin : (mark : ℕ) (it : Event) → Stands steps sent mark it → HasOrigin mark it
+  origin mark (event.Step p k kind) at = (p, k, entry_of mark kind, at, step at)
+  origin mark (event.Lost copy) at =
+      let send = sound.sent_is (copy.msg).s (copy.msg).m (at.it).k (record { it = at.it; was_sent = at.was_sent; by = refl }) in
+      ((copy.msg).s, (at.it).k, entry_of send.0 (Send (copy.msg).m), send.1, loss send.1 at)
+
+  in_all : (x : Marked) (origin : HasOrigin x.mark x.event) → cut_of cuts origin.0 ≤ origin.1 → Has ordered.marked x
+  in_all x (p, k, entry, at, of) cut = (ordered.same x).1 (all_has next steps sent sound cuts p k x.mark x.event entry at cut of)
+
+  of_all : (x : Marked) → Has ordered.marked x → (p : ℕ) × (k : ℕ) × (cut_of cuts p ≤ k) × IsOf next steps sent sound p k x.mark x.event
+  of_all x h = all_only next steps sent sound cuts x ((ordered.same x).0 h)
+
+  -- where nothing is below the numbers, that is the whole history
+  pub all_in_order : ((q : ℕ) → cut_of cuts q ≡ 0) → events ≡ history_of steps sent
+  all_in_order none =
+      ordered.are
+      ∙ ap events_of
+      (same_list ordered.marked (standing steps sent) ordered.rising (standing_rising steps sent)
+      (λ x h. standing_has steps sent sound.single x.mark x.event (of_stands next steps sent sound (of_all x h).3))
+      (λ x h. let of = origin x.mark x.event (standing_only steps sent x h) in let zero_is = none of.0 in in_all x of (omega arith)))
+
+  -- ---- a step with its consequences
+
+  cut_in : {p k mark : ℕ} {it : Event} → IsOf next steps sent sound p k mark it → cut_of cuts p ≤ k → IsCut (history_of steps sent) cuts it
+  cut_in (step at) cut = cut
+  cut_in {p} {k} (loss {a = a} {m = m} at copy) cut = (k, stands_in next steps sent sound a (event.Step p k (Send m)) at, cut)
+
+  in_cut : {p k mark : ℕ} {it : Event} → IsOf next steps sent sound p k mark it → IsCut (history_of steps sent) cuts it → cut_of cuts p ≤ k
+  in_cut (step at) cut = cut
+  in_cut {p} {k} (loss {a = a} {m = m} at copy) (l, there, cut) =
+      let other = in_stands next steps sent sound (event.Step p l (Send m)) there in
+      let one = sound.is_sent p m k a at in
+      let two = sound.is_sent p m l other.0 other.1 in
+      let same : k ≡ l = sym one.by ∙ ap (λ (x : Sent). x.k) (same_at (row_of sent p) m one.it two.it one.was_sent two.was_sent) ∙ two.by in
+      omega arith
+
+  pub cut_in_order : (name : StepId) → AreConsequencesCut (history_of steps sent) name cuts → (at : ℕ) → IsNamedAt (history_of steps sent) at name → 1 ≤ at → events ≡ rolled_back depends (history_of steps sent) at
+  cut_in_order name are at named one =
+      let part = part_of (IsRolledBack depends (history_of steps sent) at) 1 (standing steps sent) (standing_rising steps sent) (parted depends (history_of steps sent) at one) in
+      ordered.are
+      ∙ ap events_of
+      (same_list ordered.marked part.part ordered.rising part.rising
+      (λ x h.
+      let of = of_all x h in
+      let found = has_at (standing steps sent) x (standing_has steps sent sound.single x.mark x.event (of_stands next steps sent sound of.3)) in
+      let number : suc found.0 ≡ 1 + found.0 = omega arith in
+      part.all found.0 x found.1
+      (subst (IsRolledBack depends (history_of steps sent) at) number ((are at named (suc found.0) x.event (event_at (standing steps sent) found.0 x found.1)).0 (cut_in of.3 of.2))))
+      (λ x h.
+      let found = part.only x h in
+      let number : 1 + found.0 ≡ suc found.0 = omega arith in
+      let of = origin x.mark x.event (standing_only steps sent x (at_has (standing steps sent) found.0 x found.1)) in
+      let cut = (are at named (suc found.0) x.event (event_at (standing steps sent) found.0 x found.1)).1 (subst (IsRolledBack depends (history_of steps sent) at) number found.2) in
+      in_all x of (in_cut of.4 cut)))
+      ∙ part.are
+
+-- ---- by name
+
+from_one : (history : List Event) (at : ℕ) (name : StepId) → IsNamedAt history at name → 1 ≤ at
+from_one history zero name (it, there, is) = absurd (none-some it there)
+from_one history (suc i) name h = omega arith
+
+module _ (t : Tables) (kept : AreKept t) where
+  abbrev IsRolledBackFrom : StepId → List Event → Type 0
+  IsRolledBackFrom name events = (at : ℕ) → IsNamedAt (history_in t) at name → events ≡ rolled_back depends (history_in t) at
+
+  pub step_rolled : (name : StepId) (cuts : List ℕ) (events : List Event) → (IsStandingName (history_in t) name → AreConsequencesCut (history_in t) name cuts)
+      → AreInOrder cuts (rows_in t.steps.items) (rows_in t.sent.items) events → IsRolledBackFrom name events
+  step_rolled name cuts events are ordered at h =
+      cut_in_order t.next (rows_in t.steps.items) (rows_in t.sent.items) kept.sound cuts events ordered name (are (at, h)) at h (from_one (history_in t) at name h)
+
+  pub loss_rolled : (copy : CopyName) (events : List Event) → events ≡ event.Lost copy ∷ [] → IsRolledBackFrom (named.Lost copy) events
+  loss_rolled copy events are at h =
+      are ∙ sym (free_alone (history_in t) at (event.Lost copy) (from_one (history_in t) at (named.Lost copy) h) (by h.0 h.1 h.2) (first_of_loss t.next (rows_in t.steps.items) (rows_in t.sent.items) kept.sound copy at h))
+    where
+      by : (it : Event) → nth (history_in t) at ≡ Some it → event_name it ≡ named.Lost copy → nth (history_in t) at ≡ Some (event.Lost copy)
+      by (event.Step p k kind) there is = absurd (cc)
+      by (event.Lost other) there is = let same : other ≡ copy = cc in there ∙ ap (λ c. Some (event.Lost c)) same
