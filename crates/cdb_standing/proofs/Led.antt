@@ -12,7 +12,8 @@ use Rattle.cdb_causal.specs.Dependence.{depends}
 use Rattle.cdb_causal.specs.Past.{IsInPast, one_link, link_before, HasLedTo}
 use Rattle.cdb_standing.specs.Causes.{IsCause, IsLastCauseOrNone}
 use Rattle.cdb_standing.specs.Cuts.{cut_of as end_of, IsLower}
-use Rattle.cdb_standing.specs.Pasts.{IsUpTo, IsLedFrom, itself, back, IsSoundPast, HasCausesWithin, IsLookedBehind, IsClosedBehind, AreFew, raised, AreRaised, IsItselfWithin, IsPastBegun, IsPast, room}
+use Rattle.cdb_standing.specs.LedTo.{IsUpTo}
+use Rattle.cdb_standing.specs.Pasts.{IsLedFrom, itself, back, IsSoundPast, HasCausesWithin, IsLookedBehind, IsClosedBehind, AreFew, raised, AreRaised, IsItselfWithin, IsPastBegun, IsPast, room}
 use Rattle.cdb_standing.specs.InOrder.{Marked}
 use Rattle.cdb_standing.specs.Tables.{row_of, history_of, standing, entry_of, IsEntry, Stands, IsSound}
 use Rattle.cdb_standing.specs.declared.tables.Entry.{Entry}

@@ -1,4 +1,3 @@
-use Rattle.cdb_standing.specs.Tables.{rows_in}
 use Rattle.cdb_standing.proofs.DirectCauses.{at_entry, hidden, shown, no_cause}
 use Rattle.cdb_standing.proofs.causes.direct_of.Goals as goal
 

@@ -1,4 +1,3 @@
-use Rattle.cdb_standing.specs.Tables.{rows_in}
 use Rattle.cdb_standing.proofs.Between.{none_before_loss}
 use Rattle.cdb_standing.proofs.causes.is_hidden.Goals as goal
 

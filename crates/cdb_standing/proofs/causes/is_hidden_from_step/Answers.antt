@@ -1,5 +1,4 @@
 use Rattle.std.proofs.Common.{ℕ, true≢false, inl, inr, sym, ◌∙◌, arith}
-use Rattle.cdb_standing.specs.Tables.{rows_in}
 use Rattle.cdb_standing.proofs.Between.{none_without, from_list, none_on_lists}
 use Rattle.cdb_standing.proofs.Mailing.{same_or_other}
 use Rattle.cdb_standing.proofs.causes.is_hidden_from_step.Goals as goal
