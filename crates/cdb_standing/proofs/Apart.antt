@@ -27,8 +27,8 @@ pub record AreInConflict (kind other : Kind) : Type 0 where
   pub two : accessed other ≡ Some n
   pub written : (writes kind ≡ true) ⊎ (writes other ≡ true)
 
-turned : (kind other : Kind) → AreInConflict kind other → AreInConflict other kind
-turned kind other c = record { n = c.n; one = c.two; two = c.one; written = ⊎_elim (λ e. inr e) (λ e. inl e) c.written }
+turned : {kind other : Kind} → AreInConflict kind other → AreInConflict other kind
+turned c = record { n = c.n; one = c.two; two = c.one; written = ⊎_elim (λ e. inr e) (λ e. inl e) c.written }
 
 why : (p : ℕ) (kind other : Kind) → Affects p kind other → IsMail p kind other ⊎ AreInConflict kind other
 why p (Send m) other is = inl (record { m = m; sends = refl; receives = is })
@@ -39,7 +39,7 @@ pub writes_is : (kind : Kind) (n : ℕ) → writes kind ≡ true → accessed ki
 writes_is (Write register) n w one other two p = is_accessed register other (two ∙ sym one)
 writes_is _ n w one other two p = absurd (true≢false (sym w))
 
-module _ (next : ℕ) (steps : List (List Entry)) (sent : List (List Sent)) (sound : IsSound next steps sent) where
+module _ {next : ℕ} {steps : List (List Entry)} {sent : List (List Sent)} (sound : IsSound next steps sent) where
   pub links_apart : (p k a : ℕ) (kind : Kind) (q l b : ℕ) (other : Kind) → IsEntry steps p k a kind → IsEntry steps q l b other → a < b → p ≢ q
       → depends (event.Step p k kind) (event.Step q l other) ≡ true → IsMail p kind other ⊎ AreInConflict kind other
   links_apart p k a kind q l b other at there later apart linked =
@@ -51,13 +51,13 @@ module _ (next : ℕ) (steps : List (List Entry)) (sent : List (List Sent)) (sou
       (λ (mail : IsMail q other kind). let sends = rw mail.sends at there in
       let receives = rw mail.receives at at in
       let first = sound.sent_first q mail.m l b p k a sends receives in absurd (omega arith))
-      (λ c. inr (turned other kind c))
+      (λ c. inr (turned c))
       (why q other kind (affects_is q other kind e)))
       (either (kind_affects p kind other) (kind_affects q other kind) others))
       (either (nat_eq p q) (kind_affects p kind other || kind_affects q other kind) (sym (by_effect (event.Step p k kind) (event.Step q l other)) ∙ linked))
 
-  pub conflict_links : (p k q l : ℕ) (kind other : Kind) → AreInConflict kind other → depends (event.Step p k kind) (event.Step q l other) ≡ true
-  conflict_links p k q l kind other c =
+  pub conflict_links : (p k q l : ℕ) {kind other : Kind} → AreInConflict kind other → depends (event.Step p k kind) (event.Step q l other) ≡ true
+  conflict_links p k q l {kind} {other} c =
       ⊎_elim
       (λ w. affecting next steps sent sound (event.Step p k kind) (event.Step q l other) (writes_is kind c.n w c.one other c.two p))
       (λ w. affected next steps sent sound (event.Step p k kind) (event.Step q l other) (writes_is other c.n w c.two kind c.one q))

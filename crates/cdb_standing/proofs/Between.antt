@@ -33,8 +33,8 @@ pub record LiesBetween (cause : Kind) (p : ℕ) (kind : Kind) (s : ℕ) (other :
   pub with_cause : (writes cause ≡ true) ⊎ (writes other ≡ true)
   pub with_step : (s ≡ p) ⊎ ((writes kind ≡ true) ⊎ (writes other ≡ true))
 
-pub same_register : (cause : Kind) (p : ℕ) (kind : Kind) (s : ℕ) (other : Kind) → (lies : LiesBetween cause p kind s other) → register_of_both cause kind ≡ Some lies.n
-same_register cause p kind s other lies = rw (lies.of_cause, lies.of_step) (rw (eq-eqb lies.n lies.n refl) refl)
+pub same_register : {cause : Kind} {p : ℕ} {kind : Kind} {s : ℕ} {other : Kind} (lies : LiesBetween cause p kind s other) → register_of_both cause kind ≡ Some lies.n
+same_register lies = rw (lies.of_cause, lies.of_step) (rw (eq-eqb lies.n lies.n refl) refl)
 
 of_options : (o u : Option ℕ) (n : ℕ) → option_and_then (λ m. cond (is_that u m) (Some m) None) o ≡ Some n → (o ≡ Some n) × (u ≡ Some n)
 of_options None u n e = absurd (none-some n e)
@@ -53,13 +53,13 @@ and_or a b c e (inl f) = rw (e, f) refl
 and_or a true c e (inr f) = rw e refl
 and_or a false c e (inr f) = rw (e, f) refl
 
-module _ (next : ℕ) (steps : List (List Entry)) (sent : List (List Sent)) (sound : IsSound next steps sent) where
+module _ {next : ℕ} {steps : List (List Entry)} {sent : List (List Sent)} (sound : IsSound next steps sent) where
   -- nothing depends on a loss
-  pub no_loss : (effect : Event) (a x : ℕ) (copy : CopyName) → Stands steps sent a effect → IsCause steps sent effect a x (event.Lost copy) → ⊥
-  no_loss effect a x copy stands c =
+  pub no_loss : {effect : Event} {a x : ℕ} {copy : CopyName} → Stands steps sent a effect → IsCause steps sent effect a x (event.Lost copy) → ⊥
+  no_loss {effect} {a} {x} {copy} stands c =
       let none = (loss_found next steps sent sound copy x c.stands).each a effect (record { stands = stands; later = c.earlier; linked = c.linked }) in none-some none.0 none.1
 
-  module _ (p k a : ℕ) (kind : Kind) (at : IsEntry steps p k a kind) (q l c : ℕ) (cause : Kind) (is : IsLastCause steps sent (event.Step p k kind) a q l c cause) where
+  module _ {p k a : ℕ} {kind : Kind} (at : IsEntry steps p k a kind) {q l c : ℕ} {cause : Kind} (is : IsLastCause steps sent (event.Step p k kind) a q l c cause) where
     abbrev pub IsBetweenHere : ℕ → Event → Type 0
     IsBetweenHere = IsBetween steps sent (event.Step q l cause) c (event.Step p k kind) a
 
@@ -70,14 +70,14 @@ module _ (next : ℕ) (steps : List (List Entry)) (sent : List (List Sent)) (sou
     lies_between s j x other b =
         elim (same_or_other q s) [
           | inl e ↦ (let past = is.last j x other (rw (← e) at b.to_effect) in let later = b.of_cause.later in absurd (omega arith))
-          | inr apart ↦ of_other apart (links_apart next steps sent sound q l c cause s j x other is.is.stands b.of_cause.stands b.of_cause.later apart b.of_cause.linked) (same_or_other s p)
+          | inr apart ↦ of_other apart (links_apart sound q l c cause s j x other is.is.stands b.of_cause.stands b.of_cause.later apart b.of_cause.linked) (same_or_other s p)
         ]
       where
         from_it : (s ≡ p → ⊥) → Linked s other p kind
-        from_it apart = links_apart next steps sent sound s j x other p k a kind b.of_cause.stands at b.to_effect.earlier apart b.to_effect.linked
+        from_it apart = links_apart sound s j x other p k a kind b.of_cause.stands at b.to_effect.earlier apart b.to_effect.linked
 
         from_cause : (q ≡ p → ⊥) → Linked q cause p kind
-        from_cause apart = links_apart next steps sent sound q l c cause p k a kind is.is.stands at is.is.earlier apart is.is.linked
+        from_cause apart = links_apart sound q l c cause p k a kind is.is.stands at is.is.earlier apart is.is.linked
 
         -- the receive of what the cause sends is not another step of the receiver
         one_receive : (m : ℕ) → s ≡ p → other ≡ Recv q m → kind ≡ Recv q m → ⊥
@@ -127,7 +127,7 @@ module _ (next : ℕ) (steps : List (List Entry)) (sent : List (List Sent)) (sou
           of_cause = record {
             stands = here;
             later = later;
-            linked = conflict_links next steps sent sound q l s j cause other (record { n = lies.n; one = lies.of_cause; two = lies.of_it; written = lies.with_cause });
+            linked = conflict_links sound q l s j (record { n = lies.n; one = lies.of_cause; two = lies.of_it; written = lies.with_cause });
           };
           to_effect = record {
             stands = here;
@@ -135,14 +135,14 @@ module _ (next : ℕ) (steps : List (List Entry)) (sent : List (List Sent)) (sou
             linked =
                 ⊎_elim
                 (λ e. subst (λ r. depends (event.Step r j other) (event.Step p k kind) ≡ true) (sym e) (own_links p j k other kind))
-                (λ w. conflict_links next steps sent sound s j p k other kind (record { n = lies.n; one = lies.of_it; two = lies.of_step; written = ⊎_elim (λ v. inr v) (λ v. inl v) w }))
+                (λ w. conflict_links sound s j p k (record { n = lies.n; one = lies.of_it; two = lies.of_step; written = ⊎_elim (λ v. inr v) (λ v. inl v) w }))
                 lies.with_step;
           };
         }
 
     -- ---- on the lists
 
-    module _ (accesses writing : List (List Access)) (all : AreListed accessed accesses steps) (some : AreListed written writing steps) (n : ℕ) (few : n < 11) (both_are : register_of_both cause kind ≡ Some n) where
+    module _ {accesses writing : List (List Access)} (all : AreListed accessed accesses steps) (some : AreListed written writing steps) (n : ℕ) (few : n < 11) (both_are : register_of_both cause kind ≡ Some n) where
       abbrev On : ℕ → Type 0
       On s = HasAccessBetween (between_in accesses writing cause p kind s) s n c a
 
@@ -181,7 +181,7 @@ module _ (next : ℕ) (steps : List (List Entry)) (sent : List (List Sent)) (sou
       to_list s j x other b one nine lies = by (writes cause && (nat_eq s p || writes kind)) refl
         where
           of_it : accessed other ≡ Some n
-          of_it = lies.of_it ∙ sym (same_register cause p kind s other lies) ∙ both_are
+          of_it = lies.of_it ∙ sym (same_register lies) ∙ both_are
 
           it_writes : (writes cause && (nat_eq s p || writes kind)) ≡ false → writes other ≡ true
           it_writes fails = by lies.with_cause lies.with_step
@@ -201,22 +201,22 @@ module _ (next : ℕ) (steps : List (List Entry)) (sent : List (List Sent)) (sou
               (access_of x j, is_listed written writing steps some s n one nine few j x other b.of_cause.stands (is_written_too other n (it_writes fails) of_it), b.of_cause.later, b.to_effect.earlier)
 
       pub none_on_lists : ((s : ℕ) → 1 ≤ s → s ≤ 9 → On s → ⊥) → HasNone steps sent (event.Step q l cause) c (event.Step p k kind) a
-      none_on_lists none x (event.Lost copy) b = no_loss (event.Step p k kind) a x copy at b.to_effect
+      none_on_lists none x (event.Lost copy) b = no_loss at b.to_effect
       none_on_lists none x (event.Step s j other) b =
           let within = process_within next steps sent sound s j x other b.of_cause.stands in
           none s within.0 within.1 (to_list s j x other b within.0 within.1 (lies_between s j x other b))
 
     -- steps that access no common register have nothing between them
     pub none_without : register_of_both cause kind ≡ None → HasNone steps sent (event.Step q l cause) c (event.Step p k kind) a
-    none_without none x (event.Lost copy) b = no_loss (event.Step p k kind) a x copy at b.to_effect
-    none_without none x (event.Step s j other) b = let lies = lies_between s j x other b in none-some lies.n (sym none ∙ same_register cause p kind s other lies)
+    none_without none x (event.Lost copy) b = no_loss at b.to_effect
+    none_without none x (event.Step s j other) b = let lies = lies_between s j x other b in none-some lies.n (sym none ∙ same_register lies)
 
   -- nothing lies between a send and the loss of a copy
-  pub none_before_loss : (copy : CopyName) (a q l c : ℕ) (cause : Kind) → Stands steps sent a (event.Lost copy) → IsLastCause steps sent (event.Lost copy) a q l c cause
+  pub none_before_loss : {copy : CopyName} {a q l c : ℕ} {cause : Kind} → Stands steps sent a (event.Lost copy) → IsLastCause steps sent (event.Lost copy) a q l c cause
       → HasNone steps sent (event.Step q l cause) c (event.Lost copy) a
-  none_before_loss copy a q l c cause at is x (event.Lost other) b = no_loss (event.Lost copy) a x other at b.to_effect
-  none_before_loss copy a q l c cause at is x (event.Step s j other) b =
-      let one = loss_needs next steps sent sound copy a q l c cause at is.is.stands is.is.linked in
-      let two = loss_needs next steps sent sound copy a s j x other at b.of_cause.stands b.to_effect.linked in
+  none_before_loss at is x (event.Lost other) b = no_loss at b.to_effect
+  none_before_loss {copy} {a} {q} {l} {c} {cause} at is x (event.Step s j other) b =
+      let one = loss_needs sound copy a q l c cause at is.is.stands is.is.linked in
+      let two = loss_needs sound copy a s j x other at b.of_cause.stands b.to_effect.linked in
       let e : s ≡ q = two.0 ∙ sym one.0 in
       let past = is.last j x other (rw e at b.to_effect) in let later = b.of_cause.later in omega arith

@@ -25,7 +25,7 @@ use Rattle.cdb_standing.proofs.Mailing.{same_or_other}
 use Rattle.cdb_standing.proofs.Places.{IsPlace, place_of, stands_at, event_in, link_up, link_down, named_place}
 use Rattle.cdb_standing.proofs.Rows.{same_at}
 
-module _ (next : ℕ) (steps : List (List Entry)) (sent : List (List Sent)) (sound : IsSound next steps sent) (effect : Event) (ahead : ℕ) where
+module _ {next : ℕ} {steps : List (List Entry)} {sent : List (List Sent)} (sound : IsSound next steps sent) {effect : Event} {ahead : ℕ} where
   -- ---- of one process
 
   pub at_entry : (q l : ℕ) (entry : Entry) → Some entry ≡ nth (row_of steps q) l → (mark : ℕ) × (kind : Kind) × IsLastCause steps sent effect ahead q l mark kind → IsLastCause steps sent effect ahead q l entry.mark entry.kind
@@ -34,7 +34,7 @@ module _ (next : ℕ) (steps : List (List Entry)) (sent : List (List Sent)) (sou
       subst (λ (e : Entry). IsLastCause steps sent effect ahead q l e.mark e.kind) same is.2
 
   -- only its last step on which the event depends can be a direct cause
-  module _ (q l mark : ℕ) (kind : Kind) (is : IsLastCause steps sent effect ahead q l mark kind) where
+  module _ {q l mark : ℕ} {kind : Kind} (is : IsLastCause steps sent effect ahead q l mark kind) where
     direct_is : (j : ℕ) (d : IsDirect steps sent effect ahead q j) → (d.mark ≡ mark) × (event.Step q j d.kind ≡ event.Step q l kind)
     direct_is j d =
         elim (same_or_other d.mark mark) [
@@ -43,8 +43,8 @@ module _ (next : ℕ) (steps : List (List Entry)) (sent : List (List Sent)) (sou
               (record { of_cause = record { stands = is.is.stands; later = omega arith; linked = own_links q j l d.kind kind }; to_effect = is.is }))
         ]
 
-    pub hidden : (x : ℕ) (it : Event) → IsBetween steps sent (event.Step q l kind) mark effect ahead x it → IsDirectOf steps sent effect ahead q None
-    hidden x it b =
+    pub hidden : {x : ℕ} {it : Event} → IsBetween steps sent (event.Step q l kind) mark effect ahead x it → IsDirectOf steps sent effect ahead q None
+    hidden {x} {it} b =
         record {
           only = λ name e. absurd (none-some name e);
           each = λ j d.
@@ -73,7 +73,7 @@ module _ (next : ℕ) (steps : List (List Entry)) (sent : List (List Sent)) (sou
         few = omega arith;
       }
 
-  module _ (top : ℕ) (names : List StepId) (are : AreDirect steps sent effect ahead top names) where
+  module _ {top : ℕ} {names : List StepId} (are : AreDirect steps sent effect ahead top names) where
     pub none_more : IsDirectOf steps sent effect ahead (top + 1) None → AreDirect steps sent effect ahead (top + 1) names
     none_more none =
         record {
@@ -161,7 +161,7 @@ module _ (next : ℕ) (steps : List (List Entry)) (sent : List (List Sent)) (sou
 
         by : (mark : ℕ) (it : Event) → IsPlace next steps sent sound n.0 mark it → event_name it ≡ name → (q : ℕ) × (l : ℕ) × IsDirect steps sent effect ahead q l × (name ≡ step_named q l)
         by mark (event.Lost copy) here e =
-            absurd (no_loss next steps sent sound effect ahead mark copy (stands_at next steps sent sound at ahead effect place) (cause_at n.0 mark (event.Lost copy) here n.1.link))
+            absurd (no_loss sound (stands_at next steps sent sound at ahead effect place) (cause_at n.0 mark (event.Lost copy) here n.1.link))
         by mark (event.Step q l kind) here e = (
           q,
           l,

@@ -1,7 +1,6 @@
 -- The last step of a process on which an event depends.
 use Rattle.std.proofs.Common.{◌≡◌, ◌≢◌, ℕ, ◌+◌, ◌<◌, ◌≤◌, true, true≢false, nat_eq, eqb-true, ◌&&◌, List, Option, Some, None, ◌⊎◌, inl, inr, ⊎_elim, refl, sym, ap, ◌∙◌, subst, eq-eqb, arith}
 use Rattle.std.proofs.lemmas.Bool.{cases_lt, ne_eqb}
-use Rattle.std.specs.Prelude.{⊤}
 use Rattle.std.proofs.lemmas.Option.{none-some}
 use Rattle.std.specs.Option.{option_map}
 use Rattle.cdb_base.specs.Positions.{nth}
@@ -36,7 +35,7 @@ pub is_written_too : (kind : Kind) (n : ℕ) → writes kind ≡ true → access
 is_written_too (Write register) n w e = e
 is_written_too _ n w e = absurd (true≢false (sym w))
 
-module _ (next : ℕ) (steps : List (List Entry)) (sent : List (List Sent)) (sound : IsSound next steps sent) where
+module _ {next : ℕ} {steps : List (List Entry)} {sent : List (List Sent)} (sound : IsSound next steps sent) where
   -- ---- the marks of one process
 
   pub mark_le : (p k l a b : ℕ) (kind other : Kind) → IsEntry steps p k a kind → IsEntry steps p l b other → k ≤ l → a ≤ b
@@ -108,16 +107,11 @@ module _ (next : ℕ) (steps : List (List Entry)) (sent : List (List Sent)) (sou
           },
         )
 
-    pub own_none : k ≤ 1 → IsLastCauseOrNone steps sent This a p None
-    own_none first j b other c =
-        let below = number_below p j k b a other kind c.stands at c.earlier in
-        let low = (nth_within (row_of steps p) j (entry_of b other) c.stands).0 in absurd (omega arith)
-
     -- ---- of another process
 
     module _ (q : ℕ) (apart : p ≢ q) where
       linked_by : (j b : ℕ) (other : Kind) → IsCause steps sent This a b (event.Step q j other) → IsMail q other kind ⊎ AreInConflict other kind
-      linked_by j b other c = links_apart next steps sent sound q j b other p k a kind c.stands at c.earlier (λ e. apart (sym e)) c.linked
+      linked_by j b other c = links_apart sound q j b other p k a kind c.stands at c.earlier (λ e. apart (sym e)) c.linked
 
       -- the last on a list
       module _ (of : Kind → Option ℕ) (table : List (List Access)) (lists : AreListed of table steps) (n : ℕ) (one : 1 ≤ q) (nine : q ≤ 9) (few : n < 11)
@@ -134,7 +128,7 @@ module _ (next : ℕ) (steps : List (List Entry)) (sent : List (List Sent)) (sou
                   access.mark,
                   it.0,
                   record {
-                    is = record { stands = it.1; earlier = is.1; linked = conflict_links next steps sent sound q access.k p k it.0 kind (conflicts it.0 it.2) };
+                    is = record { stands = it.1; earlier = is.1; linked = conflict_links sound q access.k p k (conflicts it.0 it.2) };
                     last = λ j b other c. is.2 _ (is_listed of table steps lists q n one nine few j b other c.stands (only other (linked_by j b other c))) c.earlier;
                   },
                 )
@@ -174,23 +168,6 @@ module _ (next : ℕ) (steps : List (List Entry)) (sent : List (List Sent)) (sou
         only : (other : Kind) → IsMail q other (Write x) ⊎ AreInConflict other (Write x) → accessed other ≡ Some (number_of x)
         only other (inl mail) = absurd (let e = mail.receives in (cc))
         only other (inr c) = c.one ∙ sym c.two
-
-    -- a kind of step that depends on no other process
-    abbrev pub IsAlone : Kind → Type 0
-    IsAlone (Recv s m) = ⊥
-    IsAlone (Read register) = ⊥
-    IsAlone (Write register) = ⊥
-    IsAlone _ = ⊤
-
-    pub alone_last : (kind : Kind) → IsAlone kind → IsEntry steps p k a kind → IsLastCauseOrNone steps sent (event.Step p k kind) a q None
-    alone_last kind alone at j b other c = by kind alone (linked_by p k a kind at q apart j b other c)
-      where
-        by : (kind : Kind) → IsAlone kind → IsMail q other kind ⊎ AreInConflict other kind → ⊥
-        by (Recv s m) alone h = alone
-        by (Read register) alone h = alone
-        by (Write register) alone h = alone
-        by _ alone (inl mail) = let e = mail.receives in absurd (cc)
-        by _ alone (inr c) = none-some c.n c.two
 
   -- ---- of a loss
 

@@ -12,7 +12,8 @@ use Rattle.cdb_causal.specs.Dependence.{depends}
 use Rattle.cdb_causal.specs.Past.{IsInPast, one_link, link_before, HasLedTo}
 use Rattle.cdb_standing.specs.Causes.{IsCause, IsLastCauseOrNone}
 use Rattle.cdb_standing.specs.Cuts.{cut_of as end_of, IsLower}
-use Rattle.cdb_standing.specs.Pasts.{IsUpTo, IsLedFrom, itself, back, IsSoundPast, HasCausesWithin, IsLookedBehind, IsClosedBehind, AreFew, raised, AreRaised, IsItselfWithin, IsPastBegun, IsPast, room}
+use Rattle.cdb_standing.specs.LedTo.{IsUpTo}
+use Rattle.cdb_standing.specs.Pasts.{IsLedFrom, itself, back, IsSoundPast, HasCausesWithin, IsLookedBehind, IsClosedBehind, AreFew, raised, AreRaised, IsItselfWithin, IsPastBegun, IsPast, room}
 use Rattle.cdb_standing.specs.InOrder.{Marked}
 use Rattle.cdb_standing.specs.Tables.{row_of, history_of, standing, entry_of, IsEntry, Stands, IsSound}
 use Rattle.cdb_standing.specs.declared.tables.Entry.{Entry}
@@ -72,7 +73,7 @@ zero_ends zero (suc q) = refl
 zero_ends (suc n) (suc zero) = refl
 zero_ends (suc n) (suc (suc q)) = zero_ends n (suc q)
 
-module _ (next : ℕ) (steps : List (List Entry)) (sent : List (List Sent)) (sound : IsSound next steps sent) where
+module _ {next : ℕ} {steps : List (List Entry)} {sent : List (List Sent)} (sound : IsSound next steps sent) where
   number_from_one : (q l a : ℕ) (kind : Kind) → IsEntry steps q l a kind → 1 ≤ l
   number_from_one q l a kind at = (nth_within (row_of steps q) l (entry_of a kind) at).0
 
@@ -172,7 +173,7 @@ module _ (next : ℕ) (steps : List (List Entry)) (sent : List (List Sent)) (sou
   itself_more (event.Step p k kind) old new higher h = let more = higher p in omega arith
   itself_more (event.Lost copy) old new higher h = tt
 
-  module _ (one : Event) (end : ℕ) (looked ends new : List ℕ) (i : ℕ) (nine : i < 9) (less : end_of looked (i + 1) < end_of ends (i + 1)) (was : IsRaising steps sent one end looked ends) (higher : IsLower new ends) where
+  module _ {one : Event} {end : ℕ} {looked ends : List ℕ} (i : ℕ) (nine : i < 9) (less : end_of looked (i + 1) < end_of ends (i + 1)) (was : IsRaising steps sent one end looked ends) where
     abbrev next_one : ℕ
     next_one = slice_index looked i + 1
 
@@ -185,30 +186,6 @@ module _ (next : ℕ) (steps : List (List Entry)) (sent : List (List Sent)) (sou
     here_before : (q : ℕ) → q ≡ suc i → end_of looked q ≡ slice_index looked i
     here_before q e = rw e (cut_at looked i)
 
-    before : (q l : ℕ) → l ≤ end_of looked q → IsLookedBehind steps sent q l new
-    before q l le a kind at = within_more (event.Step q l kind) a 9 ends new higher (was.closed q l le a kind at)
-
-    pub goes_on : IsSoundPast steps sent one end new → IsLookedBehind steps sent (i + 1) next_one new → AreFew new → IsRaising steps sent one end longer new
-    goes_on sound_now looked_at few =
-        record {
-          so_far = record { sound = sound_now; itself = itself_more one ends new higher was.so_far.itself; causes = within_more one end 9 ends new higher was.so_far.causes; few = few };
-          closed = λ q l le.
-              elim (same_or_other q (suc i)) [
-                | inl e ↦ (let now = here_now q e in let then = here_before q e in
-                    elim (same_or_other l next_one) [
-                      | inl f ↦ (let q_is : i + 1 ≡ q = omega arith in subst (λ x. IsLookedBehind steps sent x l new) q_is (subst (λ x. IsLookedBehind steps sent (i + 1) x new) (sym f) looked_at))
-                      | inr other ↦ before q l (omega arith)
-                    ])
-                | inr other ↦ before q l (rw (cut_set_other looked i next_one q other) at le)
-              ];
-          above = λ q.
-              elim (same_or_other q (suc i)) [
-                | inl e ↦ (let now = here_now q e in let then = here_before q e in let q_is : q ≡ i + 1 = omega arith in let first = rw (← q_is) at less in let more = higher q in omega arith)
-                | inr other ↦ (let same = cut_set_other looked i next_one q other in let old = was.above q in let more = higher q in omega arith)
-              ];
-          long = length-set looked i next_one ∙ was.long;
-        }
-
     pub smaller : room longer < room looked
     smaller =
         let few = was.so_far.few (suc i) in
@@ -218,13 +195,38 @@ module _ (next : ℕ) (steps : List (List Entry)) (sent : List (List Sent)) (sou
         let long = was.long in
         more_room looked i (omega arith) (omega arith)
 
-  pub none_above : (one : Event) (end : ℕ) (looked ends : List ℕ) → IsRaising steps sent one end looked ends → ((q : ℕ) → end_of ends q ≤ end_of looked q) → IsPast steps sent one end ends
-  none_above one end looked ends was none_open =
+    module _ (new : List ℕ) (higher : IsLower new ends) where
+      before : (q l : ℕ) → l ≤ end_of looked q → IsLookedBehind steps sent q l new
+      before q l le a kind at = within_more (event.Step q l kind) a 9 ends new higher (was.closed q l le a kind at)
+
+      pub goes_on : IsSoundPast steps sent one end new → IsLookedBehind steps sent (i + 1) next_one new → AreFew new → IsRaising steps sent one end longer new
+      goes_on sound_now looked_at few =
+          record {
+            so_far = record { sound = sound_now; itself = itself_more one ends new higher was.so_far.itself; causes = within_more one end 9 ends new higher was.so_far.causes; few = few };
+            closed = λ q l le.
+                elim (same_or_other q (suc i)) [
+                  | inl e ↦ (let now = here_now q e in let then = here_before q e in
+                      elim (same_or_other l next_one) [
+                        | inl f ↦ (let q_is : i + 1 ≡ q = omega arith in subst (λ x. IsLookedBehind steps sent x l new) q_is (subst (λ x. IsLookedBehind steps sent (i + 1) x new) (sym f) looked_at))
+                        | inr other ↦ before q l (omega arith)
+                      ])
+                  | inr other ↦ before q l (rw (cut_set_other looked i next_one q other) at le)
+                ];
+            above = λ q.
+                elim (same_or_other q (suc i)) [
+                  | inl e ↦ (let now = here_now q e in let then = here_before q e in let q_is : q ≡ i + 1 = omega arith in let first = rw (← q_is) at less in let more = higher q in omega arith)
+                  | inr other ↦ (let same = cut_set_other looked i next_one q other in let old = was.above q in let more = higher q in omega arith)
+                ];
+            long = length-set looked i next_one ∙ was.long;
+          }
+
+  pub none_above : {one : Event} {end : ℕ} {looked ends : List ℕ} → IsRaising steps sent one end looked ends → ((q : ℕ) → end_of ends q ≤ end_of looked q) → IsPast steps sent one end ends
+  none_above was none_open =
       record { sound = was.so_far.sound; itself = was.so_far.itself; causes = was.so_far.causes; closed = λ q l le. was.closed q l (let all = none_open q in omega arith) }
 
   -- ---- in the history
 
-  module _ (one : Event) (end : ℕ) (stands : Stands steps sent end one) where
+  module _ {one : Event} {end : ℕ} (stands : Stands steps sent end one) where
     led_stands : (a : ℕ) (it : Event) → IsLedFrom steps sent one end a it → Stands steps sent a it
     led_stands a it itself = stands
     led_stands a it (back r c) = c.stands
@@ -249,10 +251,10 @@ module _ (next : ℕ) (steps : List (List Entry)) (sent : List (List Sent)) (sou
           (led_past b effect r here.0 here.1)
 
       past_led : (i : ℕ) → IsInPast depends History at i → (a : ℕ) (it : Event) → IsPlace next steps sent sound i a it → IsLedFrom steps sent one end a it
-      past_led i (one_link l) a it there = back itself (cause_at next steps sent sound one end at place i a it there l)
+      past_led i (one_link l) a it there = back itself (cause_at sound at place i a it there l)
       past_led h (link_before {i = i} l p) a it there =
           let here = mark_at next steps sent sound i l.effect l.at_effect in
-          back (past_led i p here.0 l.effect here.1) (cause_at next steps sent sound l.effect here.0 i here.1 h a it there l)
+          back (past_led i p here.0 l.effect here.1) (cause_at sound i here.1 h a it there l)
 
       led : (j : ℕ) → HasLedTo depends History at j → (a : ℕ) (it : Event) → IsPlace next steps sent sound j a it → IsLedFrom steps sent one end a it
       led j (inr p) a it there = past_led j p a it there
@@ -260,13 +262,13 @@ module _ (next : ℕ) (steps : List (List Entry)) (sent : List (List Sent)) (sou
           let same = same_at (standing steps sent) at (marked end one) (marked a it) place (rw e at there) in
           subst (λ (x : Marked). IsLedFrom steps sent one end x.mark x.event) same itself
 
-      module _ (ends : List ℕ) (are : IsPast steps sent one end ends) where
+      module _ {ends : List ℕ} (are : IsPast steps sent one end ends) where
         within_of : (b : ℕ) (effect : Event) → IsLedFrom steps sent one end b effect → HasCausesWithin steps sent effect b 9 ends
         within_of b effect itself = are.causes
         within_of b effect (back {b = d} {effect = further} r c) = by effect c (within_of d further r)
           where
             by : (effect : Event) → IsCause steps sent further d b effect → HasCausesWithin steps sent further d 9 ends → HasCausesWithin steps sent effect b 9 ends
-            by (event.Lost copy) c within = absurd (no_loss next steps sent sound further d b copy (led_stands d further r) c)
+            by (event.Lost copy) c within = absurd (no_loss sound (led_stands d further r) c)
             by (event.Step q l kind) c within = are.closed q l (within q l b kind c (process_within next steps sent sound q l b kind c.stands).1) b kind c.stands
 
         itself_up : (x : Event) → IsItselfWithin x ends → IsUpTo ends (event_name x) x
@@ -278,7 +280,7 @@ module _ (next : ℕ) (steps : List (List Entry)) (sent : List (List Sent)) (sou
         led_up a it (back {b = b} {effect = effect} r c) = by it c
           where
             by : (it : Event) → IsCause steps sent effect b a it → IsUpTo ends (event_name one) it
-            by (event.Lost copy) c = absurd (no_loss next steps sent sound effect b a copy (led_stands b effect r) c)
+            by (event.Lost copy) c = absurd (no_loss sound (led_stands b effect r) c)
             by (event.Step q l kind) c = within_of b effect r q l a kind c (process_within next steps sent sound q l a kind c.stands).1
 
         up_led : (a : ℕ) (it : Event) → Stands steps sent a it → IsUpTo ends (event_name one) it → IsLedFrom steps sent one end a it

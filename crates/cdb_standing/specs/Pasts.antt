@@ -1,31 +1,13 @@
--- The past of an event: of each process the steps up to a number.
-use Rattle.std.specs.Prelude.{◌≡◌, ◌↔◌, ℕ, ◌+◌, ◌-◌, ◌≤◌, ⊤, cond, nat_eq, nat_lt, List, [], ◌∷◌, Option, Some, None}
-use Rattle.cdb_base.specs.Positions.{nth}
+-- The past of an event in the tables: of each process the steps up to a number.
+use Rattle.std.specs.Prelude.{◌≡◌, ℕ, ◌+◌, ◌-◌, ◌≤◌, ⊤, cond, nat_eq, nat_lt, List, [], ◌∷◌, Option, Some, None}
 use Rattle.cdb_base.specs.declared.event.Event.{Event}
 use Rattle.cdb_base.specs.declared.event.Event.TheVariants.{Step, Lost}
 use Rattle.cdb_base.specs.declared.event.Kind.{Kind}
-use Rattle.cdb_base.specs.declared.name.StepId.{StepId}
-use Rattle.cdb_base.specs.declared.name.StepId.TheVariants as named
-use Rattle.cdb_causal.specs.Dependence.{depends}
-use Rattle.cdb_causal.specs.Names.{IsNamedAt}
-use Rattle.cdb_causal.specs.Past.{HasLedTo}
 use Rattle.cdb_standing.specs.Causes.{IsCause}
 use Rattle.cdb_standing.specs.Cuts.{cut_of as end_of}
 use Rattle.cdb_standing.specs.Tables.{IsEntry}
 use Rattle.cdb_standing.specs.declared.tables.Entry.{Entry}
 use Rattle.cdb_standing.specs.declared.tables.Sent.{Sent}
-
--- the event is one of those: a step up to the number of its process, or the named one itself
-abbrev pub IsUpTo : List ℕ → StepId → Event → Type 0
-IsUpTo ends name (Step q l kind) = l ≤ end_of ends q
-IsUpTo ends name (Lost copy) = named.Lost copy ≡ name
-
--- those are exactly the events that led to the one of that name, and that one
-abbrev pub IsPastOfName : List Event → StepId → List ℕ → Type 0
-IsPastOfName history name ends =
-    (at : ℕ) → IsNamedAt history at name → (other : ℕ) (it : Event) → nth history other ≡ Some it → (IsUpTo ends name it) ↔ (HasLedTo depends history at other)
-
--- ---- in the tables
 
 -- the event at a mark is one, or a chain of dependences leads from it to that one
 pub data IsLedFrom (steps : List (List Entry)) (sent : List (List Sent)) (one : Event) (end : ℕ) : ℕ → Event → Type 0 where

@@ -9,7 +9,7 @@ ghost use Rattle.cdb_causal.specs.DirectCauses.{AreDirectCauses};
 ghost use Rattle.cdb_causal.specs.Names.{IsNamedAt, IsNewName, IsFirstDependentOrFree};
 ghost use Rattle.cdb_causal.specs.Dependence.{depends as depends_of};
 ghost use Rattle.cdb_causal.specs.Rollback.{rolled_back};
-ghost use Rattle.cdb_standing.specs.Pasts.{IsPastOfName};
+ghost use Rattle.cdb_standing.specs.LedTo.{IsPastOfName};
 ghost use Rattle.cdb_standing.specs.Moves.{IsNextStep, MayDo, IsPending, MayCome, IsEndOf, IsStandingName, IsFreeAlone, IsNamed, IsTakenOut};
 
 use crate::add::{add_loss, add_step, reserve_mark, reserve_step};

@@ -1,23 +1,21 @@
 use Rattle.std.proofs.Common.{ap, ◌∙◌}
-use Rattle.cdb_standing.specs.Tables.{rows_in}
 use Rattle.cdb_standing.proofs.DirectCauses.{none_more, one_more}
 use Rattle.cdb_standing.proofs.causes.direct_in.Goals as goal
 use Rattle.cdb_standing.proofs.causes.direct_in.Goals.{in-Some, in_default}
 
 pub loop-i-preserved : goal.loop-i-preserved
 loop-i-preserved c =
-    let t = c.args.tables.now in
     let before = c.loop-i.invariant in
     let here = rw c.new.ensures.value at c.direct_of.ensures in
     elim c.match-direct_of.branch [
       | in-Some w ↦ (
         rw (ap (λ v. v.items) w.causes-is, w.push_reserved.ensures.items)
-            (one_more t.next (rows_in t.steps.items) (rows_in t.sent.items) c.requires.kept.sound c.args.effect.now c.args.ahead c.loop-i.i c.loop-i.causes.items before.0 w.in-Some.name (rw w.in-Some.is at here)),
+            (one_more c.requires.kept.sound before.0 w.in-Some.name (rw w.in-Some.is at here)),
         ap (λ v. v.capacity) w.causes-is ∙ w.push_reserved.ensures.capacity ∙ before.1,
       )
       | in_default w ↦ (
         rw (ap (λ v. v.items) w.causes-is)
-            (none_more t.next (rows_in t.steps.items) (rows_in t.sent.items) c.requires.kept.sound c.args.effect.now c.args.ahead c.loop-i.i c.loop-i.causes.items before.0 (rw w.in_default.is at here)),
+            (none_more c.requires.kept.sound before.0 (rw w.in_default.is at here)),
         ap (λ v. v.capacity) w.causes-is ∙ before.1,
       )
     ]

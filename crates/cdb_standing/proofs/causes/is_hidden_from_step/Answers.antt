@@ -1,22 +1,16 @@
 use Rattle.std.proofs.Common.{ℕ, true≢false, inl, inr, sym, ◌∙◌, arith}
-use Rattle.cdb_standing.specs.Tables.{rows_in}
 use Rattle.cdb_standing.proofs.Between.{none_without, from_list, none_on_lists}
 use Rattle.cdb_standing.proofs.Mailing.{same_or_other}
 use Rattle.cdb_standing.proofs.causes.is_hidden_from_step.Goals as goal
 
 pub returns-in_default : goal.returns-in_default
 returns-in_default c = λ q l is.
-    let t = c.args.tables.now in
-    let cause = c.args.cause.now in
-    none_without t.next (rows_in t.steps.items) (rows_in t.sent.items) c.requires.kept.sound c.args.p c.args.k c.args.ahead c.args.kind.now c.requires.at q l cause.mark cause.kind is
+    none_without c.requires.kept.sound c.requires.at is
     (sym c.common_register.ensures.value ∙ c.in_default.is)
 
 pub returns-then-is_between : goal.returns-then-is_between
 returns-then-is_between c = λ q l is.
-    let t = c.args.tables.now in
-    let cause = c.args.cause.now in
-    from_list t.next (rows_in t.steps.items) (rows_in t.sent.items) c.requires.kept.sound c.args.p c.args.k c.args.ahead c.args.kind.now c.requires.at q l cause.mark cause.kind is
-    (rows_in t.accesses.items) (rows_in t.writes.items) c.requires.kept.accesses c.requires.kept.writes c.in-Some.n c.in-Some.ensures.few (sym c.in-Some.ensures.value)
+    from_list c.requires.kept.sound c.requires.at is c.requires.kept.accesses c.requires.kept.writes c.in-Some.n c.in-Some.ensures.few (sym c.in-Some.ensures.value)
     c.new-s.result (omega arith) (omega arith) (c.is_between.ensures.0 c.if-is_between.true)
 
 pub loop-i-preserved : goal.loop-i-preserved
@@ -29,8 +23,5 @@ loop-i-preserved c = λ s one le.
 
 pub returns : goal.returns
 returns c = λ q l is.
-    let t = c.args.tables.now in
-    let cause = c.args.cause.now in
-    none_on_lists t.next (rows_in t.steps.items) (rows_in t.sent.items) c.requires.kept.sound c.args.p c.args.k c.args.ahead c.args.kind.now c.requires.at q l cause.mark cause.kind is
-    (rows_in t.accesses.items) (rows_in t.writes.items) c.requires.kept.accesses c.requires.kept.writes c.in-Some.n c.in-Some.ensures.few (sym c.in-Some.ensures.value)
+    none_on_lists c.requires.kept.sound c.requires.at is c.requires.kept.accesses c.requires.kept.writes c.in-Some.n c.in-Some.ensures.few (sym c.in-Some.ensures.value)
     (λ s one nine. c.loop-i.invariant s one (omega arith))

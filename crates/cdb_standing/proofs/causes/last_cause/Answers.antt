@@ -1,4 +1,3 @@
-use Rattle.cdb_standing.specs.Tables.{rows_in}
 use Rattle.cdb_standing.proofs.LastCauses.{loss_last}
 use Rattle.cdb_standing.proofs.causes.last_cause.Goals as goal
 
@@ -9,4 +8,4 @@ pub returns-in-Lost : goal.returns-in-Lost
 returns-in-Lost c =
     let t = c.args.tables.now in
     rw (c.in-Lost.is, c.by_message.ensures)
-    (loss_last t.next (rows_in t.steps.items) (rows_in t.sent.items) c.requires.kept.sound c.in-Lost.copy c.args.ahead c.args.q (rw c.in-Lost.is at c.requires.stands))
+    (loss_last c.requires.kept.sound c.in-Lost.copy c.args.ahead c.args.q (rw c.in-Lost.is at c.requires.stands))

@@ -1,5 +1,4 @@
 use Rattle.cdb_standing.specs.Pasts.{itself}
-use Rattle.cdb_standing.specs.Tables.{rows_in}
 use Rattle.cdb_standing.proofs.Led.{none_sound, begun}
 use Rattle.cdb_standing.proofs.past.first_numbers.Goals as goal
 
@@ -7,9 +6,9 @@ pub returns-in-Step : goal.returns-in-Step
 returns-in-Step c =
     let t = c.args.tables.now in
     let effect = c.args.effect.now in
-    let sound = c.look_behind.ensures.sound effect c.args.ahead itself (none_sound t.next (rows_in t.steps.items) (rows_in t.sent.items) c.requires.kept.sound effect c.args.ahead) in
+    let sound = c.look_behind.ensures.sound effect c.args.ahead itself (none_sound c.requires.kept.sound effect c.args.ahead) in
     rw c.in-Step.is
-    (begun t.next (rows_in t.steps.items) (rows_in t.sent.items) c.requires.kept.sound c.in-Step.p c.in-Step.k c.args.ahead c.in-Step.kind c.look_behind.new.numbers c.raise.new.numbers
+    (begun c.requires.kept.sound c.in-Step.p c.in-Step.k c.args.ahead c.in-Step.kind c.look_behind.new.numbers c.raise.new.numbers
     (rw c.in-Step.is at c.requires.stands) c.raise.ensures (rw c.in-Step.is at sound) c.look_behind.ensures.few (rw c.in-Step.is at c.look_behind.ensures.within))
 
 pub returns-in-Lost : goal.returns-in-Lost
@@ -17,7 +16,7 @@ returns-in-Lost c =
     let t = c.args.tables.now in
     let effect = c.args.effect.now in
     record {
-      sound = c.look_behind.ensures.sound effect c.args.ahead itself (none_sound t.next (rows_in t.steps.items) (rows_in t.sent.items) c.requires.kept.sound effect c.args.ahead);
+      sound = c.look_behind.ensures.sound effect c.args.ahead itself (none_sound c.requires.kept.sound effect c.args.ahead);
       itself = rw c.in-Lost.is tt;
       causes = c.look_behind.ensures.within;
       few = c.look_behind.ensures.few;

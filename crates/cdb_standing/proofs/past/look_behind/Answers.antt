@@ -1,5 +1,4 @@
 use Rattle.std.proofs.Common.{◌≡◌, sym, arith}
-use Rattle.cdb_standing.specs.Tables.{rows_in}
 use Rattle.cdb_standing.proofs.Led.{raise_higher, raise_few, raise_sound, causes_few, causes_led, causes_within, none_within}
 use Rattle.cdb_standing.proofs.past.look_behind.Goals as goal
 
@@ -8,7 +7,7 @@ loop-i-init c =
     let t = c.args.tables.now in
     record {
       sound = λ one end led was. was;
-      within = none_within t.next (rows_in t.steps.items) (rows_in t.sent.items) c.requires.kept.sound c.args.effect.now c.args.ahead c.args.numbers.now;
+      within = none_within c.requires.kept.sound c.args.effect.now c.args.ahead c.args.numbers.now;
       higher = λ q. omega arith;
       few = c.requires.few;
     }
@@ -24,15 +23,15 @@ loop-i-preserved c =
     let was = c.loop-i.invariant in
     record {
       sound = λ one end led before.
-          raise_sound t.next (rows_in t.steps.items) (rows_in t.sent.items) c.requires.kept.sound q found old new c.raise.ensures one end
-          (causes_led t.next (rows_in t.steps.items) (rows_in t.sent.items) c.requires.kept.sound c.args.effect.now c.args.ahead q found last one end led) (was.sound one end led before);
+          raise_sound c.requires.kept.sound q found old new c.raise.ensures one end
+          (causes_led c.requires.kept.sound c.args.effect.now c.args.ahead q found last one end led) (was.sound one end led before);
       within =
-          causes_within t.next (rows_in t.steps.items) (rows_in t.sent.items) c.requires.kept.sound c.args.effect.now c.args.ahead q found last old new c.raise.ensures c.loop-i.i (sym c.new-q.ensures.value) was.within;
+          causes_within c.requires.kept.sound c.args.effect.now c.args.ahead q found last old new c.raise.ensures c.loop-i.i (sym c.new-q.ensures.value) was.within;
       higher = λ r.
-          let more = raise_higher t.next (rows_in t.steps.items) (rows_in t.sent.items) c.requires.kept.sound q found old new c.raise.ensures r in let before = was.higher r in omega arith;
+          let more = raise_higher c.requires.kept.sound q found old new c.raise.ensures r in let before = was.higher r in omega arith;
       few =
-          raise_few t.next (rows_in t.steps.items) (rows_in t.sent.items) c.requires.kept.sound q found old new c.raise.ensures was.few
-          (causes_few t.next (rows_in t.steps.items) (rows_in t.sent.items) c.requires.kept.sound c.args.effect.now c.args.ahead q found last);
+          raise_few c.requires.kept.sound q found old new c.raise.ensures was.few
+          (causes_few c.requires.kept.sound c.args.effect.now c.args.ahead q found last);
     }
 
 pub returns : goal.returns

@@ -9,8 +9,8 @@ returns-in-Some c = λ at h other it there.
     let one = c.in-Some.it in
     let is = c.in-Some.ensures in
     rw (← is.named)
-    (exactly_led t.next (rows_in t.steps.items) (rows_in t.sent.items) c.requires.sound one.event one.mark is.stands at
-    (the_place t.next (rows_in t.steps.items) (rows_in t.sent.items) c.requires.sound one.mark one.event is.stands at (rw (← is.named) at h)) c.past_of.result c.past_of.ensures other it there)
+    (exactly_led c.requires.sound is.stands at
+    (the_place t.next (rows_in t.steps.items) (rows_in t.sent.items) c.requires.sound one.mark one.event is.stands at (rw (← is.named) at h)) c.past_of.ensures other it there)
 
 pub returns-in-None : goal.returns-in-None
 returns-in-None c = λ at h other it there. absurd (c.in-None.ensures at h)
