@@ -27,10 +27,6 @@ events_kept t = length t.history + waiting t.redo
 abbrev pub AreOfRun : State → Type 0
 AreOfRun t = AllByRecursion (IsOfRun t.setup) t.history × AllByRecursion (AllByRecursion (IsOfRun t.setup)) t.redo
 
--- each number is below this one
-abbrev pub AreBelow : ℕ → Stops → Type 0
-AreBelow next stops = AllByRecursion (λ b. b.0 < next) stops
-
 abbrev pub with_stop : Numbered → Stop → Numbered
 with_stop b stop = record { stops = b.stops ++ (b.next, stop) ∷ []; next = b.next + 1 }
 

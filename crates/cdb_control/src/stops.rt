@@ -82,7 +82,7 @@ pub struct Breakpoints {
 
 impl Model for Breakpoints {
     ghost use Rattle.cdb_control.specs.Stops.{Numbered};
-    ghost use Rattle.cdb_control.specs.Kept.{AreBelow};
+    ghost use Rattle.cdb_control.specs.Stops.{AreBelow};
 
     ghost Value = { Numbered };
 

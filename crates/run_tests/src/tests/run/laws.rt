@@ -28,7 +28,8 @@ fn worked_journals()
 fn laws_of_commands_and_lines() {
     laws::refused_changes_nothing();
     laws::other_lists_stay();
-    laws::numbers_rise();
+    laws::numbers_are_used_once();
+    laws::looks_leave_the_run();
     laws::own_command_adds_its_reply();
     laws::others_add_no_reply();
     laws::headline::<RunOfSetup>();
