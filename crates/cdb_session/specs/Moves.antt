@@ -70,7 +70,7 @@ abbrev pub move_of_write : {E : Type 0} → Result ℕ E → List ℕ → Move
 move_of_write (Ok count) piece = Wrote (take count piece)
 move_of_write (Err failed) piece = WriteFailed
 
--- ---- what is known of whom a session talks with
+-- ---- what is known of the console of a session
 
 -- What the session read from it and wrote to it, in order, where that is known; the bytes that it has left, and those that
 -- it was written, where they are known; and how many of its reads and of its writes failed, each in 64 bits

@@ -1,4 +1,4 @@
--- How a session speaks, and what calls do to the part of a journal that is its own.
+-- What a session shows beside its responses, and what calls do to the part of a journal that is its own.
 use Rattle.std.specs.Prelude.{◌≡◌, ℕ, ◌≤◌, Bool, true, List, [], ◌∷◌, ◌++◌, Result, Ok, Err}
 use Rattle.cdb_base.specs.declared.limits.TheConstants.{MAX_ENTRIES}
 use Rattle.cdb_commands.specs.ToldReply.{ToldReply, told}

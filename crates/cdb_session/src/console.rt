@@ -1,4 +1,4 @@
-//! Whom a session talks with.
+//! What a session reads from and writes to.
 
 ghost use Rattle.std.specs.Prelude.{◌≡◌, ◌<◌, ◌++◌, ◌∷◌, [], length};
 ghost use Rattle.std.specs.Io.{ReadsAtMost, WritesAtMost};

@@ -1,7 +1,7 @@
-pub mod Knowing
+pub mod FinalJournal
 pub mod Kept
-pub mod NotHeld
-pub mod Outcomes
-pub mod Reporting
+pub mod SetupFaults
+pub mod AllSeats
+pub mod FailureLines
 pub mod SeatCalls
 pub mod WrittenTexts

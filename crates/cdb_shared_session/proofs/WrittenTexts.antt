@@ -1,7 +1,8 @@
 -- Texts that are written one after the other.
 use Rattle.std.proofs.Common.{◌≡◌, ℕ, List, ◌++◌, refl, sym, ap, ◌∙◌, append_assoc}
 use Rattle.std.proofs.KnownBytes.{Appends-trans}
-use Rattle.cdb_streams.specs.Streams.{Stream, Takes, Fails, one_more}
+use Rattle.std.specs.Prelude.{Result, Ok, Err}
+use Rattle.cdb_streams.specs.Streams.{Stream, Takes, Fails, Writes, one_more}
 
 module _ {W : Type 0} (stream : W → Stream) where
   pub takes_then : (old now new : W) (a b : List ℕ) → Takes stream old now a → Takes stream now new b → Takes stream old new (a ++ b)
@@ -22,3 +23,7 @@ module _ {W : Type 0} (stream : W → Stream) where
   pub fails_first : (old new : W) (a b : List ℕ) → Fails stream old new a → Fails stream old new (a ++ b)
   fails_first old new a b ((written, rest, is, added), failed) =
       ((written, rest ++ b, ap (λ text. text ++ b) is ∙ append_assoc written rest b, added), failed)
+
+  pub writes_then : {A E : Type 0} (r : Result A E) (old now new : W) (a b : List ℕ) → Takes stream old now a → Writes stream r now new b → Writes stream r old new (a ++ b)
+  writes_then (Ok done) old now new a b first second = takes_then old now new a b first second
+  writes_then (Err failed) old now new a b first second = fails_then old now new a b first second

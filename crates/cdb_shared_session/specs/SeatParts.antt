@@ -1,4 +1,4 @@
--- What a journal has of a seat, and how the seat's session speaks.
+-- What a journal has of a seat, and the style of its session.
 use Rattle.std.specs.Prelude.{ℕ, false, List, length, map}
 use Rattle.cdb_control.specs.Journal.{Journaled, entry, own, replies_of}
 use Rattle.cdb_rules.specs.Rules.{Rules}

@@ -83,7 +83,10 @@ fn write_seats<T, W: Sink>(finished: &[Finished<T>], out: &mut W) -> Result<(), 
 }
 
 /// Writes the line of a journal that was not written, if it was not.
-fn write_journal_fault<W: Sink>(written: &Result<(), OutputFault>, out: &mut W) -> Result<(), Failed>
+fn write_journal_fault<W: Sink>(
+    written: &Result<(), OutputFault>,
+    out: &mut W,
+) -> Result<(), Failed>
     ensures { Writes W.stream result out.old out.new (journal_line written.now) }
 {
     match written {

@@ -102,7 +102,10 @@ pub(crate) fn run_seat<R: Runs, T: Console + Drop, Rt: Wait>(
     requires { IsUnused shared.now seat }
     ensures { HasRun R.rules T.known seat endpoint result.seat result.finished }
 {
-    let Endpoint { mut console, prompt } = endpoint;
+    let Endpoint {
+        mut console,
+        prompt,
+    } = endpoint;
     let style = Style {
         prompt,
         first: seat.number(),

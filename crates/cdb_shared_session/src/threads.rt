@@ -244,7 +244,7 @@ pub fn debug_seats<R: Runs + Send, T: Console + Drop + Send, Rt: Threads + Wait 
     let all = reserve(alloc, endpoints.len())?;
     let (shared, seats) = open_shared::<R, Rt>(rt, alloc, setup, count)?;
     let (seats, finished) = match run_all(rt, alloc, &shared, seats, endpoints, done, all) {
-        Ok(run) => run,
+        Ok(joined) => joined,
         Err(fault) => {
             shared.close();
             return Err(fault);

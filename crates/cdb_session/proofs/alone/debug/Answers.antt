@@ -4,8 +4,8 @@ use Rattle.cdb_control.specs.Journal.{Journaled}
 use Rattle.cdb_session.specs.Alone.{IsLaterControl}
 use Rattle.cdb_session.specs.Styles.{Onward}
 use Rattle.cdb_session.specs.declared.session.Session.{Session}
-use Rattle.cdb_session.proofs.Debugged.{setup_failed, no_control, debugged}
-use Rattle.cdb_session.proofs.Ordered.{Makes-nothing}
+use Rattle.cdb_session.proofs.FromSetup.{setup_failed, no_control, debugged}
+use Rattle.cdb_session.proofs.MovesInOrder.{Makes-nothing}
 use Rattle.cdb_session.proofs.alone.debug.Goals as goal
 
 pub returns-in_err-setup : goal.returns-in_err-setup

@@ -4,8 +4,8 @@ use Rattle.std.proofs.lemmas.Result.{err_from_is_err_and}
 use Rattle.cdb_setup.specs.Format.{longest}
 use Rattle.cdb_session.specs.Lines.{seen_by}
 use Rattle.cdb_session.specs.Styles.{stays}
-use Rattle.cdb_session.proofs.Chain.{Onward-trans}
-use Rattle.cdb_session.proofs.Looking.{starts, no_memory, holds, responds, quits, fails}
+use Rattle.cdb_session.proofs.CallChain.{Onward-trans}
+use Rattle.cdb_session.proofs.FedBytes.{starts, no_memory, holds, responds, quits, fails}
 use Rattle.cdb_session.proofs.feed.feed.Goals as goal
 
 pub loop-line-init : goal.loop-line-init

@@ -2,7 +2,7 @@ use Rattle.std.proofs.Common.{◌+◌, ◌≤◌, length}
 use Rattle.cdb_setup.specs.Format.{longest}
 use Rattle.cdb_session.specs.Lines.{seen_by}
 use Rattle.cdb_session.specs.Styles.{MaySit, Onward}
-use Rattle.cdb_session.proofs.Looking.{Goes}
+use Rattle.cdb_session.proofs.FedBytes.{Goes}
 use Rattle.cdb_session.proofs.feed.feed.Given as goal
 
 abbrev pub invariant-loop-line : goal.invariant-loop-line

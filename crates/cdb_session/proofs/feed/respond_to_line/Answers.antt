@@ -7,7 +7,7 @@ use Rattle.cdb_session.specs.Moves.{WritesAll}
 use Rattle.cdb_session.specs.Requests.{Asks}
 use Rattle.cdb_session.specs.declared.request.Request.TheVariants.{Quit}
 use Rattle.cdb_session.specs.Lines.{seen_by}
-use Rattle.cdb_session.proofs.Responding.{line_is_lost, line_is_broken, line_is_done}
+use Rattle.cdb_session.proofs.LineResponse.{line_is_lost, line_is_broken, line_is_done}
 use Rattle.cdb_session.proofs.feed.respond_to_line.Goals as goal
 
 pub returns-in_err-text-clause-unfinished : goal.returns-in_err-text-clause-unfinished

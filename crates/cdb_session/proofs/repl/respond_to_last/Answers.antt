@@ -1,7 +1,7 @@
 use Rattle.std.proofs.Common.{arith, ◌≡◌, ◌<◌, refl, length}
 use Rattle.cdb_session.proofs.Emptiness.{none_where_empty, some_where_not_empty}
 use Rattle.std.proofs.lemmas.Result.{err_from_is_err_and}
-use Rattle.cdb_session.proofs.Conversing.{last_none, last_done, last_fails}
+use Rattle.cdb_session.proofs.WholeSession.{last_none, last_done, last_fails}
 use Rattle.cdb_session.specs.Lines.{seen_by}
 use Rattle.cdb_session.specs.Styles.{stays}
 use Rattle.cdb_session.proofs.repl.respond_to_last.Goals as goal

@@ -5,8 +5,8 @@ use Rattle.cdb_session.specs.Lines.{seen_by}
 use Rattle.std.specs.Prelude.{Ok, Err}
 use Rattle.cdb_session.specs.Moves.{WritesAll}
 use Rattle.cdb_session.specs.Styles.{StyleView, stays}
-use Rattle.cdb_session.proofs.Chain.{Onward-trans}
-use Rattle.cdb_session.proofs.Conversing.{Arrives, started, not_started, not_read, over_at_most, over_at_end, goes_on, quits, breaks}
+use Rattle.cdb_session.proofs.CallChain.{Onward-trans}
+use Rattle.cdb_session.proofs.WholeSession.{Arrives, started, not_started, not_read, over_at_most, over_at_end, goes_on, quits, breaks}
 use Rattle.cdb_session.proofs.repl.run_from_first.Goals as goal
 
 pub returns-in_default-clause-all : goal.returns-in_default-clause-all

@@ -2,7 +2,7 @@ use Rattle.std.proofs.Common.{◌+◌, ◌-◌, ◌≤◌, length}
 use Rattle.cdb_setup.specs.Format.{longest}
 use Rattle.cdb_session.specs.Lines.{seen_by}
 use Rattle.cdb_session.specs.Styles.{MaySit, Onward}
-use Rattle.cdb_session.proofs.Conversing.{Arrives}
+use Rattle.cdb_session.proofs.WholeSession.{Arrives}
 use Rattle.cdb_session.proofs.repl.run_from_first.Given as goal
 
 abbrev pub invariant-loop-read : goal.invariant-loop-read

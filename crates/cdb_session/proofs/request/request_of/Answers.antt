@@ -1,8 +1,8 @@
 use Rattle.std.proofs.Common.{rules, ◌≢◌, refl}
 use Rattle.std.specs.Prelude.{Ok, Err}
 use Rattle.cdb_session.specs.Requests.{help_line, quit_line}
-use Rattle.cdb_session.proofs.One.{only_seat, only_call, only_fault}
-use Rattle.cdb_session.proofs.Seats.{not_own}
+use Rattle.cdb_session.proofs.OneRequest.{only_seat, only_call, only_fault}
+use Rattle.cdb_session.proofs.SeatLines.{not_own}
 use Rattle.cdb_session.proofs.request.request_of.Goals as goal
 
 pub returns-in-Some-clause-only : goal.returns-in-Some-clause-only

@@ -1,5 +1,5 @@
 use Rattle.std.proofs.Common.{◌∙◌, sym}
-use Rattle.cdb_shared_session.proofs.Reporting.{well, failed}
+use Rattle.cdb_shared_session.proofs.FailureLines.{well, failed}
 use Rattle.cdb_shared_session.proofs.reports.status_of_seats.Goals as goal
 
 pub loop-its-preserved : goal.loop-its-preserved

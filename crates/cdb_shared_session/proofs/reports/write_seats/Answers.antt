@@ -3,7 +3,7 @@ use Rattle.std.proofs.KnownBytes.{Appends-nil}
 use Rattle.std.proofs.lemmas.Result.{err_from_is_err_and}
 use Rattle.cdb_streams.specs.Streams.{Takes, Fails}
 use Rattle.cdb_shared_session.specs.Reports.{outcomes, failed_seat_line, failed_seat_lines}
-use Rattle.cdb_shared_session.proofs.Reporting.{lines_cut, one_line_more}
+use Rattle.cdb_shared_session.proofs.FailureLines.{lines_cut, one_line_more}
 use Rattle.cdb_shared_session.proofs.WrittenTexts.{takes_then, fails_then, fails_first}
 use Rattle.cdb_shared_session.proofs.reports.write_seats.Goals as goal
 

@@ -7,8 +7,8 @@ use Rattle.cdb_shared_session.specs.SharedSessions.{journal_text}
 use Rattle.cdb_shared_session.specs.Reported.{IsFaultOfSessions}
 use Rattle.cdb_shared_session.specs.Reports.{outcomes, failures_text, status_of}
 use Rattle.cdb_shared_session.specs.declared.endpoint.Finished.{Finished}
-use Rattle.cdb_shared_session.proofs.NotHeld.{setup_failed, threads_failed}
-use Rattle.cdb_shared_session.proofs.shared.hold.Goals as goal
+use Rattle.cdb_shared_session.proofs.SetupFaults.{setup_failed, threads_failed}
+use Rattle.cdb_shared_session.proofs.shared.debug_shared.Goals as goal
 
 pub returns-in-Err-clause-fault : goal.returns-in-Err-clause-fault
 returns-in-Err-clause-fault g c = subst (IsFaultOfSessions c.args.setup.now) (sym c.from.ensures) (setup_failed c.args.setup.now c.in-Err.fault c.in-Err.ensures.fault (λ long. cc (c.in-Err.ensures.too_long long)))

@@ -32,15 +32,15 @@ loop-handle-preserved g c =
     let rules = g.R.Runs.rules in
     let known = g.T.Console.known in
     let Run : ℕ → SeatView → Finished g.row.T.Denot → Type 0 = λ i s a. ((other : PromisedHandle (SeatResult g.row.R.Denot g.row.T.Denot) (SeatPromise g.row.R.Denot g.row.T.Denot))
-        → HasRun rules known (get_or all (length all - 1 - i) other).promise.seat.value (get_or all (length all - 1 - i) other).promise.endpoint.value s a) in
+    → HasRun rules known (get_or all (length all - 1 - i) other).promise.seat.value (get_or all (length all - 1 - i) other).promise.endpoint.value s a) in
     record {
       joined = (handle ∷ was.joined.0, whole);
       count = omega (arith, less, seats.len, was.count);
       both = omega (arith, seats.len, ends.len, was.both);
       room = (omega (arith, seats.capacity, was.room.0), omega (arith, ends.capacity, was.room.1));
       each =
-          pair_push Run c.loop-handle.seats.items _ c.loop-handle.all.items _ c.join.result.seat c.join.result.finished seats.items ends.items (omega (arith, was.both, c.loop-handle.seats.ok.0, c.loop-handle.all.ok.0)) was.each
-          (λ other. subst (λ (h : PromisedHandle (SeatResult g.row.R.Denot g.row.T.Denot) (SeatPromise g.row.R.Denot g.row.T.Denot)). HasRun rules known h.promise.seat.value h.promise.endpoint.value c.join.result.seat c.join.result.finished) (sym (get_or-middle front was.joined.0 all handle other _ whole at)) c.join.ensures);
+          pair_push Run c.loop-handle.seats.items _ c.loop-handle.all.items _ c.join-seat.result.seat c.join-seat.result.finished seats.items ends.items (omega (arith, was.both, c.loop-handle.seats.ok.0, c.loop-handle.all.ok.0)) was.each
+          (λ other. subst (λ (h : PromisedHandle (SeatResult g.row.R.Denot g.row.T.Denot) (SeatPromise g.row.R.Denot g.row.T.Denot)). HasRun rules known h.promise.seat.value h.promise.endpoint.value c.join-seat.result.seat c.join-seat.result.finished) (sym (get_or-middle front was.joined.0 all handle other _ whole at)) c.join-seat.ensures);
     }
 
 pub returns : goal.returns

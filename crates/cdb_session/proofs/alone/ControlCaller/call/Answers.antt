@@ -1,4 +1,4 @@
-use Rattle.cdb_session.proofs.Owning.{calls_made}
+use Rattle.cdb_session.proofs.OwnControl.{calls_made}
 use Rattle.cdb_session.proofs.alone.ControlCaller.call.Goals as goal
 
 pub returns-clause-call : goal.returns-clause-call

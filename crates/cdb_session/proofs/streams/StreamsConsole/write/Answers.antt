@@ -1,5 +1,5 @@
 use Rattle.std.proofs.Common.{rules}
-use Rattle.cdb_session.proofs.Ending.{write_is_no_end}
+use Rattle.cdb_session.proofs.InputEnd.{write_is_no_end}
 use Rattle.cdb_session.proofs.streams.StreamsConsole.write.Goals as goal
 
 pub returns-clause-moves : goal.returns-clause-moves

@@ -10,7 +10,7 @@ use Rattle.cdb_text.specs.declared.fault.LineFault.{LineFault}
 use Rattle.cdb_session.specs.Requests.{Asks, IsOwn, most_seats, help_line, quit_line, seat_line}
 use Rattle.cdb_session.specs.declared.request.Request.{Request}
 use Rattle.cdb_session.specs.declared.request.Request.TheVariants.{Call, Seat, Help, Quit, Fault, TooLong}
-use Rattle.cdb_session.proofs.Seats.{digit}
+use Rattle.cdb_session.proofs.SeatLines.{digit}
 
 -- the first byte of a line that is equal to two
 first : (line one other : List ℕ) → line ≡ one → line ≡ other → get_or one 0 0 ≡ get_or other 0 0

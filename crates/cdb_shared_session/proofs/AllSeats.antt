@@ -14,7 +14,7 @@ use Rattle.cdb_shared_session.specs.Promises.{IsUnused, HasRun, AllHaveRun}
 use Rattle.cdb_shared_session.specs.declared.endpoint.Endpoint.{Endpoint}
 use Rattle.cdb_shared_session.specs.declared.endpoint.Finished.{Finished}
 use Rattle.cdb_shared_session.proofs.Kept.{some_of}
-use Rattle.cdb_shared_session.proofs.Knowing.{session_known}
+use Rattle.cdb_shared_session.proofs.FinalJournal.{session_known}
 
 pub all_ready : (shared : TableId) (setup : Parts) (count : ℕ) (seats : List SeatView) → AreFresh shared setup count seats → All (λ seat. IsUnused shared seat) seats
 all_ready shared setup count seats new k d low =

@@ -24,8 +24,8 @@ use Rattle.cdb_session.specs.Served.{IsAnswered, IsServed, IsCutShort, IsSession
 use Rattle.cdb_session.specs.Sessions.{EndsAs}
 use Rattle.cdb_session.specs.Styles.{Onward}
 use Rattle.cdb_session.specs.Table.{begun, IsDialogue}
-use Rattle.cdb_session.proofs.NothingLost.{nothing_lost}
-use Rattle.cdb_session.proofs.Owning.{later_control}
+use Rattle.cdb_session.proofs.SameAsTable.{nothing_lost}
+use Rattle.cdb_session.proofs.OwnControl.{later_control}
 
 -- ---- by its journal, and by the table
 

@@ -17,11 +17,11 @@ use Rattle.cdb_session.specs.Moves.{Move, Read, ReadFailed, read_in, written_in,
 use Rattle.cdb_session.specs.Sessions.{most_input, HasEnded, IsOpen, HasResponded, RespondsInTime, by_quit, at_end, at_most}
 use Rattle.cdb_session.specs.declared.request.Request.{Request}
 use Rattle.cdb_session.specs.declared.request.Request.TheVariants.{Quit}
-use Rattle.cdb_session.proofs.Asking.{asks_whole, is_not_quit, AreOthers, AllZip-more, AreOthers-more, up_to_quit-append, up_to_quit-one, up_to_quit-quit, have_none}
-use Rattle.cdb_session.proofs.Cutting.{ended_of_joined, ended_and_more, lines_of_joined, one_unended, with_ends-append, lines_of_none}
-use Rattle.cdb_session.proofs.Holding.{take-take_append}
-use Rattle.cdb_session.proofs.Saying.{AreWrites-append}
-use Rattle.cdb_session.proofs.Ordered.{nothing_asked, one_move, writes_more, read-append, written-append, nothing_read, EndsWith-more}
+use Rattle.cdb_session.proofs.AskedLines.{asks_whole, is_not_quit, AreOthers, AllZip-more, AreOthers-more, up_to_quit-append, up_to_quit-one, up_to_quit-quit, have_none}
+use Rattle.cdb_session.proofs.CutLines.{ended_of_joined, ended_and_more, lines_of_joined, one_unended, with_ends-append, lines_of_none}
+use Rattle.cdb_session.proofs.HeldBytes.{take-take_append}
+use Rattle.cdb_session.proofs.WrittenText.{AreWrites-append}
+use Rattle.cdb_session.proofs.MovesInOrder.{nothing_asked, one_move, writes_more, read-append, written-append, nothing_read, EndsWith-more}
 use Rattle.cdb_session.specs.Replies.{Along, begun_along, next_along, shown, dialogue}
 use Rattle.cdb_session.specs.Unfinished.{IsAt}
 use Rattle.cdb_session.specs.Styles.{StyleView, Part}

@@ -1,5 +1,5 @@
 use Rattle.std.proofs.Common.{inl}
-use Rattle.cdb_program.proofs.seats.perform_hall.Goals as goal
+use Rattle.cdb_program.proofs.seats.perform_shared.Goals as goal
 
 pub returns-in-Err : goal.returns-in-Err
 returns-in-Err g c =

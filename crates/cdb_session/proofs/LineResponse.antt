@@ -10,14 +10,14 @@ use Rattle.cdb_session.specs.Moves.{WritesAll, Known, Makes}
 use Rattle.cdb_session.specs.Requests.{Asks}
 use Rattle.cdb_session.specs.declared.request.Request.{Request}
 use Rattle.cdb_session.specs.declared.request.Request.TheVariants.{Call, Seat, Help, Quit, Fault, TooLong}
-use Rattle.cdb_session.proofs.Ordered.{Makes-nothing}
+use Rattle.cdb_session.proofs.MovesInOrder.{Makes-nothing}
 use Rattle.cdb_streams.specs.declared.buffer.OutputFault.TheVariants as output
 use Rattle.cdb_session.specs.Styles.{StyleView, IsCalled, MakesNone}
 use Rattle.cdb_session.specs.Replies.{own_response}
 use Rattle.cdb_session.specs.Parts.{seat_next}
 use Rattle.cdb_session.specs.Unfinished.{RespondsToLine}
 use Rattle.cdb_session.specs.Lines.{SessionView, HasDone, Responds, Shows}
-use Rattle.cdb_session.proofs.Going.{MakesNone-refl, none_done}
+use Rattle.cdb_session.proofs.GotReplies.{MakesNone-refl, none_done}
 
 module _ (style : StyleView) where
   -- a command was carried out

@@ -9,13 +9,13 @@ use Rattle.cdb_streams.specs.declared.fault.PlayFault.TheVariants as fault
 use Rattle.cdb_session.specs.Unfinished.{IsOver, ended_well, ended_by}
 use Rattle.cdb_session.specs.Moves.{WritesAll, Known, Move, Read, ReadFailed, read_in, Makes}
 use Rattle.cdb_session.specs.Sessions.{most_input, IsOpen}
-use Rattle.cdb_session.proofs.Ordered.{Makes-nothing, Makes-more, read-append, nothing_read}
+use Rattle.cdb_session.proofs.MovesInOrder.{Makes-nothing, Makes-more, read-append, nothing_read}
 use Rattle.cdb_session.specs.Styles.{StyleView, Part}
 use Rattle.cdb_session.specs.Replies.{Along, begun_along}
 use Rattle.cdb_session.specs.Unfinished.{IsAt, StaysAt, RespondsToLine, HasEndedAs, Feeds, RespondsToLast, RespondsToAll}
 use Rattle.cdb_session.specs.Lines.{SessionView, at_line}
-use Rattle.cdb_session.proofs.Looking.{as_seen, last_is_none, last_is_done, last_breaks, last_loses}
-use Rattle.cdb_session.proofs.Stepping.{open_more, open_writes, more_read, read_failed, prompted, not_prompted}
+use Rattle.cdb_session.proofs.FedBytes.{as_seen, last_is_none, last_is_done, last_breaks, last_loses}
+use Rattle.cdb_session.proofs.NextState.{open_more, open_writes, more_read, read_failed, prompted, not_prompted}
 
 module _ (style : StyleView) where
   -- all that was read is answered, as far as it has ended

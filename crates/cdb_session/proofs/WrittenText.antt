@@ -4,7 +4,7 @@ use Rattle.std.specs.Prelude.{Ok, Err}
 use Rattle.std.proofs.lemmas.List.{take_rest, take_all}
 use Rattle.std.proofs.Math.Seq.{take-add}
 use Rattle.cdb_session.specs.Moves.{WritesAll, Known, Move, Wrote, written_in, written_by, AsksForInput, AreWrites, FailsToWrite, Makes}
-use Rattle.cdb_session.proofs.Ordered.{Makes-nothing, Makes-more, written-append}
+use Rattle.cdb_session.proofs.MovesInOrder.{Makes-nothing, Makes-more, written-append}
 
 -- the first bytes of the text were taken
 pub record HasWritten (old now : Known) (text : List ℕ) (done : ℕ) : Type 0 where

@@ -12,8 +12,8 @@ use Rattle.cdb_session.specs.Requests.{HasNoEnd}
 use Rattle.cdb_session.specs.Moves.{Known, Move, AreWrites, Makes}
 use Rattle.cdb_session.specs.declared.request.Request.{Request}
 use Rattle.cdb_session.specs.declared.request.Request.TheVariants.{Quit}
-use Rattle.cdb_session.proofs.Ordered.{Makes-nothing, Makes-more}
-use Rattle.cdb_session.proofs.Saying.{AreWrites-append}
+use Rattle.cdb_session.proofs.MovesInOrder.{Makes-nothing, Makes-more}
+use Rattle.cdb_session.proofs.WrittenText.{AreWrites-append}
 use Rattle.cdb_session.specs.Styles.{StyleView, Part}
 use Rattle.cdb_session.specs.Replies.{Along, begun_along}
 use Rattle.cdb_session.specs.Parts.{seat_behind}
@@ -21,8 +21,8 @@ use Rattle.cdb_session.proofs.Along.{seat_along}
 use Rattle.cdb_session.specs.Unfinished.{IsAt, MoreMayFollow, StaysAt, IsLineDone, IsLineBroken, IsLineLost, RespondsToLine, HasEndedAs, Feeds}
 use Rattle.cdb_session.specs.Lines.{SessionView, HasGot, at_line}
 use Rattle.cdb_session.specs.Served.{IsSession}
-use Rattle.cdb_session.proofs.Going.{may_follow, same_replies, same_line, commands_done, commands_lost}
-use Rattle.cdb_session.proofs.Stepping.{more_unfinished, lost_before, line_lost, line_broken, line_responded, line_quit, last_lost, last_broken, last_responded, no_last_line}
+use Rattle.cdb_session.proofs.GotReplies.{may_follow, same_replies, same_line, commands_done, commands_lost}
+use Rattle.cdb_session.proofs.NextState.{more_unfinished, lost_before, line_lost, line_broken, line_responded, line_quit, last_lost, last_broken, last_responded, no_last_line}
 
 false_is_not_true : (b : Bool) → b ≡ false → IsTrue b → ⊥
 false_is_not_true b is holds = search rules
