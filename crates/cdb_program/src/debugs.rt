@@ -7,7 +7,7 @@ use crate::fault::{Fault, of_play};
 use crate::files::{Files, read_file};
 use crate::outside::Outside;
 use cdb_any_run::RunOfSetup;
-use cdb_debug::debug;
+use cdb_session::debug;
 use cdb_streams::{Sink, Source};
 use std::alloc::Global;
 

@@ -11,7 +11,7 @@ mod reading;
 mod several_seats;
 mod streams;
 
-use cdb_debug::Streams;
+use cdb_session::Streams;
 use cdb_program::{MAX_TURNS, Outside, Request, perform};
 use files::Folder;
 use std::process::Abort;
@@ -54,7 +54,7 @@ fn has_turns(request: Request<'_>) -> bool
 {
     match request {
         Request::Race { turns, .. } => turns <= MAX_TURNS,
-        Request::Hall { seats, .. } => !seats.is_empty(),
+        Request::DebugShared { seats, .. } => !seats.is_empty(),
         _ => true,
     }
 }
