@@ -4,7 +4,9 @@ ghost use Rattle.std.specs.Prelude.{◌≡◌, IsTrue, ◌↔◌, [], ◌∷◌,
 ghost use Rattle.std.specs.Option.{option_copied, option_and_then};
 ghost use Rattle.cdb_base.specs.Positions.{without_last};
 ghost use Rattle.cdb_base.specs.Processes.{all_processes};
-ghost use Rattle.cdb_leader.specs.Inbox.{first_phase, second_phase, first_phase_from, second_phase_from, decision_from, first_phase_senders, agreed_estimate, second_phase_senders, proposal, is_only_proposal, learnt};
+ghost use Rattle.cdb_leader.specs.Inbox.{first_phase, second_phase, first_phase_from, second_phase_from, decision_from};
+ghost use Rattle.cdb_leader.specs.Inbox.{first_phase_senders, agreed_estimate, second_phase_senders, proposal};
+ghost use Rattle.cdb_leader.specs.Inbox.{is_only_proposal, learnt};
 ghost use Rattle.cdb_leader.specs.Index.{known, later, AreFirsts, IsRowOf, said_by};
 
 use crate::first_phases::FirstPhases;

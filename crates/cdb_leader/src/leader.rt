@@ -47,7 +47,8 @@ impl Model for Leader {
 
 impl Leader {
     ghost use Rattle.cdb_leader.specs.LocalState.{LocalState};
-    ghost use Rattle.cdb_leader.specs.Table.{heard_first_phase, heard_second_phase, heard_lead, set_aux, end_round, query_at, payload_at, send_at, local_at, learn_at, recv_at};
+    ghost use Rattle.cdb_leader.specs.Table.{heard_first_phase, heard_second_phase, heard_lead, set_aux, end_round};
+    ghost use Rattle.cdb_leader.specs.Table.{query_at, payload_at, send_at, local_at, learn_at, recv_at};
     ghost use Rattle.cdb_leader.specs.Place.{is_last};
     ghost use Rattle.cdb_leader.specs.Inbox.{proposal};
     ghost use Rattle.cdb_leader.specs.Back.{state_before};
