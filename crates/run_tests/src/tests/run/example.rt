@@ -52,18 +52,7 @@ fn run_of(alloc: Global, setup: &str) -> Option<AnyRun> {
 
 /// The least copy that process `p` can still receive.
 fn next_copy(run: &AnyRun, p: u32) -> Option<MsgName> {
-    let run = run.any();
     run.pending(run.process(p)?, None)
-}
-
-/// How many writes of the register stand, where the run has it.
-fn writes(run: &AnyRun, register: Reg) -> Option<u32> {
-    let again = register;
-    let run = run.any();
-    if !run.has(again) {
-        return None;
-    }
-    Some(run.writes(register))
 }
 
 /// Whether process `p` and its register show the same in both runs.
@@ -74,7 +63,7 @@ fn is_as_far(one: &AnyRun, other: &AnyRun, p: u32) -> bool {
 /// Whether the register shows the same in both runs.
 fn is_same_register(one: &AnyRun, other: &AnyRun, register: Reg) -> bool {
     let (again, once_more, last) = (register, register, register);
-    one.cell(register) == other.cell(again) && writes(one, once_more) == writes(other, last)
+    one.cell(register) == other.cell(again) && one.writes(once_more) == other.writes(last)
 }
 
 /// Whether the same events stand in both, in the same order.
@@ -128,8 +117,8 @@ impl Example {
                 self.run.step_first(rt.alloc(), p)
             }
             Command::Lose(s, m, p) => self.run.lose(rt.alloc(), s, m, p),
-            Command::Undo(p, k) => Ok(self.run.undo(EventRef::Step(p, k))),
-            Command::UndoLost(s, m, p) => Ok(self.run.undo(EventRef::Lost(s, m, p))),
+            Command::Undo(p, k) => Ok(self.run.undo(p, k)),
+            Command::UndoLost(s, m, p) => Ok(self.run.undo_lost(s, m, p)),
             _ => panic!(rt; "a step, a loss or an undo"),
         }
     }
@@ -143,7 +132,7 @@ impl Example {
 
     /// Undoes an event.
     pub fn undo(&mut self, event: EventRef) -> Result<Event, Refusal> {
-        self.run.undo(event)
+        self.run.undo_event(event)
     }
 
     /// Takes an event again, which has to be one that a run of the setup can have.
@@ -164,7 +153,7 @@ impl Example {
         undone: &mut Vec<Event>,
     ) -> Result<Result<u32, Refusal>, NoMemory> {
         assert!(rt; self.run.history().len() <= 999_999);
-        self.run.rollback(rt.alloc(), event, undone)
+        Runs::rollback(&mut self.run, rt.alloc(), event, undone)
     }
 
     /// The standing events.
@@ -174,7 +163,7 @@ impl Example {
 
     /// How many writes of the register stand, where the run has it.
     pub fn writes(&self, register: Reg) -> Option<u32> {
-        writes(&self.run, register)
+        self.run.writes(register)
     }
 
     /// Whether two runs of one setup are in the same state.
