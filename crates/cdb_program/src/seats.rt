@@ -9,7 +9,7 @@ use crate::fault::Fault;
 use crate::files::{Files, read_file};
 use crate::outside::Outside;
 use crate::reports::report;
-use cdb_any_run::RunOfSetup;
+use cdb_any_run::AnyRun;
 use cdb_base::NoMemory;
 use cdb_base::limits::MAX_SEATS;
 use cdb_shared_session::{Endpoint, debug_shared};
@@ -99,7 +99,7 @@ fn hold_seats<
     let json = read_file(alloc, &mut outside.files, setup)?;
     let endpoints = open_each(alloc, &mut outside.files, seats)?;
     let (output, error) = (&mut outside.streams.output, &mut outside.error);
-    match debug_shared::<RunOfSetup, _, R, O, E>(threads, alloc, json.as_slice(), endpoints, output, error) {
+    match debug_shared::<AnyRun, _, R, O, E>(threads, alloc, json.as_slice(), endpoints, output, error) {
         Ok(status) => Ok(status),
         Err(fault) => Err(Fault::Race(fault)),
     }

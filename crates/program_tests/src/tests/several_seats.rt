@@ -1,7 +1,7 @@
 //! Sessions of several seats at once, a thread each.
 
 use super::person::{Person, with_lines};
-use cdb_any_run::RunOfSetup;
+use cdb_any_run::AnyRun;
 use cdb_control::{Control, Entry};
 use cdb_shared_session::{Endpoint, Finished, debug_seats, journal_text, status_after, write_failures};
 use cdb_setup::Setup;
@@ -71,10 +71,10 @@ fn check_report<R: Abort + AllocGlobal>(rt: &R, seats: &[Finished<Person>]) {
 fn hold<R: Threads + Wait + Sync + Abort + AllocGlobal>(
     rt: &R,
     endpoints: Vec<Endpoint<Person>>,
-) -> (Control<RunOfSetup>, Vec<Finished<Person>>) {
+) -> (Control<AnyRun>, Vec<Finished<Person>>) {
     assert!(rt; endpoints.len() == 3);
     let setup = Setup::read(rt.alloc(), THREE).expect(rt, "a setup");
-    debug_seats::<RunOfSetup, _, _>(rt, rt.alloc(), setup, endpoints).expect(rt, "sessions")
+    debug_seats::<AnyRun, _, _>(rt, rt.alloc(), setup, endpoints).expect(rt, "sessions")
 }
 
 #[test]

@@ -1,11 +1,10 @@
 use Rattle.std.proofs.Common.{arith, ◌≤◌, ◌++◌, length, get_or, option_to_list, sym, ap, subst, ◌∙◌, append-nil}
 use Rattle.cdb_agreement.proofs.Lawful.{few_registers}
 use Rattle.cdb_agreement.specs.Algorithms.{rules as rules_of_setup}
-use Rattle.cdb_rules.specs.RunView.{RunView}
 use Rattle.cdb_setup.specs.Parts.{AreInRange}
 use Rattle.cdb_any_run.proofs.Cells.{one-more, all-cells, number_at}
-use Rattle.cdb_any_run.proofs.run_of_setup.RunOfSetupRuns.cells.Goals as goal
-use Rattle.cdb_any_run.proofs.run_of_setup.RunOfSetupRuns.cells.Goals.{in-Some+in_ok-push, in_default, in-Some-cell+in_ok-push-2, in_default-cell}
+use Rattle.cdb_any_run.proofs.runs.AnyRunRuns.cells.Goals as goal
+use Rattle.cdb_any_run.proofs.runs.AnyRunRuns.cells.Goals.{in-Some+in_ok-push, in_default, in-Some-cell+in_ok-push-2, in_default-cell}
 
 pub loop-p-preserved : goal.loop-p-preserved
 loop-p-preserved c =
@@ -25,7 +24,7 @@ returns c =
     let now = c.args.self.now in
     let registers = (rules_of_setup now.setup).registers now.history in
     let cells = c.loop-p.cells.items in
-    let range : AreInRange now.setup = subst (λ (s : RunView). AreInRange s.setup) c.self.view_is (subst AreInRange c.setup.ensures c.n-ranges.ensures.ranges) in
+    let range : AreInRange now.setup = subst AreInRange c.setup.ensures c.n-ranges.ensures.ranges in
     let fewer = few_registers now.setup range now.history in
     let few : length registers.of_processes ≤ c.loop-p.p-index = omega (arith, fewer, range.processes, c.loop-p-test.false) in
     let all = all-cells registers c.loop-p.p-index c.cell-2.result cells few c.cell-2.ensures c.loop-p.invariant in

@@ -4,27 +4,26 @@ use Rattle.cdb_any_run.proofs.OpenCopies.{copies-rise, none-looked, one-looked, 
 use Rattle.cdb_message.specs.Mail.{copies_for, is_above}
 use Rattle.cdb_agreement.specs.Algorithms.{rules}
 use Rattle.cdb_rules.specs.Views.{shown_copy}
-use Rattle.cdb_any_run.specs.Any.{run_view}
-use Rattle.cdb_any_run.proofs.run_of_setup.push_open_copies.Goals as goal
-use Rattle.cdb_any_run.proofs.run_of_setup.push_open_copies.Goals.{in-Some-copy_of+in_ok-push, in_default-copy_of}
+use Rattle.cdb_any_run.proofs.runs.push_open_copies.Goals as goal
+use Rattle.cdb_any_run.proofs.runs.push_open_copies.Goals.{in-Some-copy_of+in_ok-push, in_default-copy_of}
 
 pub loop-name-init : goal.loop-name-init
 loop-name-init c =
-    let run = run_view c.args.run.now in
+    let run = c.args.run.now in
     let mail = (rules run.setup).mail run.history in
     let p = c.args.p.now in
     none-looked (shown_copy mail p) (copies_for mail p) c.args.copies.now.items c.args.copies.now.items refl
 
 pub loop-name-smaller : goal.loop-name-smaller
 loop-name-smaller c =
-    let run = run_view c.args.run.now in
+    let run = c.args.run.now in
     let mail = (rules run.setup).mail run.history in
     let p = c.args.p.now in
     fewer-left c.loop-name.after (copies_for mail p) c.in-Some.name (copies-rise mail p) (sym c.pending.ensures ∙ c.in-Some.is)
 
 pub loop-name-preserved : goal.loop-name-preserved
 loop-name-preserved c =
-    let run = run_view c.args.run.now in
+    let run = c.args.run.now in
     let mail = (rules run.setup).mail run.history in
     let p = c.args.p.now in
     let name = c.in-Some.name in
@@ -40,7 +39,7 @@ loop-name-preserved c =
 
 pub returns : goal.returns
 returns c =
-    let run = run_view c.args.run.now in
+    let run = c.args.run.now in
     let mail = (rules run.setup).mail run.history in
     let p = c.args.p.now in
     all-looked (shown_copy mail p) (copies_for mail p) c.args.copies.now.items c.loop-name.after c.loop-name.copies.items (sym c.pending.ensures ∙ c.in_default.is) c.loop-name.invariant

@@ -1,48 +1,29 @@
-//! A run of either algorithm, as one that keeps to the rules of its setup.
+//! A run of the algorithm that its setup names, as one that keeps to the rules of its setup.
 
 ghost use Rattle.std.specs.Prelude.{◌≡◌, ◌≤◌, ◌++◌, OnOk, option_to_list};
-ghost use Rattle.cdb_rules.specs.Views.{open_copies, shown_copy};
 ghost use Rattle.cdb_agreement.proofs.KeptHistories.{rules_keep_histories};
 ghost use Rattle.cdb_agreement.proofs.Lawful.{rules_are_lawful};
 ghost use Rattle.cdb_agreement.specs.Algorithms.{rules as rules_of_setup};
-ghost use Rattle.cdb_any_run.specs.Any.{run_view, IsTrueToSetup};
-ghost use Rattle.cdb_rules.specs.ByRules.{mail_in};
-ghost use Rattle.cdb_rules.specs.RunView.{RunView};
 ghost use Rattle.cdb_agreement.specs.SameState.{ReachSameState};
+ghost use Rattle.cdb_rules.specs.ByRules.{mail_in};
+ghost use Rattle.cdb_rules.specs.Views.{open_copies, shown_copy};
 
-use crate::any::AnyRun;
+use crate::any::{AnyRun, ByMachine};
+use crate::shown::cell_of;
 use cdb_base::{
     Act, Cell, Event, MsgName, NoMemory, Payload, Proc, ProcView, Refusal, Reg, StepId, Val,
 };
 use cdb_past::{Chronicle, Chronicled};
 use cdb_rules::{EventRef, Runs};
+use cdb_run::Run;
 use cdb_setup::{Algorithm, Setup};
 use smallvec::SmallVec;
 use std::alloc::Global;
-use std::marker::Model;
-
-/// A run of the algorithm that its setup names. A contract sees its setup and its standing events.
-#[derive(Drop)]
-pub struct RunOfSetup {
-    run: AnyRun,
-}
-
-impl Model for RunOfSetup {
-    ghost use Rattle.cdb_any_run.specs.Any.{run_view, IsTrueToSetup};
-    ghost use Rattle.cdb_rules.specs.RunView.{RunView};
-
-    ghost Value = { RunView };
-
-    ghost view = { λ fields. run_view fields.run };
-
-    ghost invariant = { λ fields. IsTrueToSetup fields.run };
-}
 
 /// The copy of a message for a process, where the message was sent.
 fn copy_of(run: &AnyRun, p: &Proc, name: &MsgName) -> Option<(Proc, MsgName, Payload)>
-    requires { IsTrueToSetup run.now }
     ensures { option_to_list result
-        ≡ shown_copy (mail_in rules_of_setup (run_view run.now)) p.now name.now }
+        ≡ shown_copy (mail_in rules_of_setup run.now) p.now name.now }
 {
     let payload = run.payload(*name).copied()?;
     Some((*p, *name, payload))
@@ -54,10 +35,9 @@ fn push_open_copies(
     p: &Proc,
     copies: &mut Vec<(Proc, MsgName, Payload)>,
 ) -> Result<(), NoMemory>
-    requires true_to_setup { IsTrueToSetup run.now }
-    requires among { p.now ≤ (run_view run.now).setup.processes }
+    requires { p.now ≤ run.now.setup.processes }
     ensures { OnOk result (copies.new.items
-        ≡ copies.old.items ++ open_copies (mail_in rules_of_setup (run_view run.now)) p.now) }
+        ≡ copies.old.items ++ open_copies (mail_in rules_of_setup run.now) p.now) }
 {
     // Names the type inside a payload, which the check finds in no other part of the function.
     let _value: Option<Val> = None;
@@ -71,17 +51,7 @@ fn push_open_copies(
     Ok(())
 }
 
-impl RunOfSetup {
-    /// The run, whose calls show more of it.
-    pub fn any(&self) -> &AnyRun
-        ensures run { run_view result.now ≡ self.now }
-        ensures true_to_setup { IsTrueToSetup result.now }
-    {
-        &self.run
-    }
-}
-
-impl Runs for RunOfSetup {
+impl Runs for AnyRun {
     ghost rules = { rules_of_setup };
 
     ghost same_state = { ReachSameState };
@@ -89,8 +59,11 @@ impl Runs for RunOfSetup {
     ghost run = { λ run. run };
 
     fn start(alloc: Global, given: Setup) -> Result<Self, NoMemory> {
-        let run = AnyRun::start(alloc, given)?;
-        Ok(RunOfSetup { run })
+        let run = match given.algorithm() {
+            Algorithm::Leader => ByMachine::Leader(Run::start(alloc, given)?),
+            Algorithm::Alpha => ByMachine::Alpha(Run::start(alloc, given)?),
+        };
+        Ok(AnyRun { run })
     }
 
     fn step(
@@ -99,11 +72,11 @@ impl Runs for RunOfSetup {
         p: u32,
         act: Act,
     ) -> Result<Result<Event, Refusal>, NoMemory> {
-        self.run.step(alloc, p, act)
+        AnyRun::step(self, alloc, p, act)
     }
 
     fn step_first(&mut self, alloc: Global, p: u32) -> Result<Result<Event, Refusal>, NoMemory> {
-        self.run.step_first(alloc, p)
+        AnyRun::step_first(self, alloc, p)
     }
 
     fn lose(
@@ -113,19 +86,19 @@ impl Runs for RunOfSetup {
         m: u32,
         p: u32,
     ) -> Result<Result<Event, Refusal>, NoMemory> {
-        self.run.lose(alloc, s, m, p)
+        AnyRun::lose(self, alloc, s, m, p)
     }
 
     fn again(&mut self, alloc: Global, event: &Event) -> Result<Result<Event, Refusal>, NoMemory> {
-        self.run.again(alloc, event)
+        AnyRun::again(self, alloc, event)
     }
 
     fn undo(&mut self, event: EventRef) -> Result<Event, Refusal> {
-        self.run.undo_event(event)
+        self.undo_event(event)
     }
 
     fn refuses_undo(&self, event: EventRef) -> Option<Refusal> {
-        self.run.refuses_undo(event)
+        by_machine!(&self.run, run => run.refuses_undo(event))
     }
 
     fn rollback(
@@ -134,38 +107,34 @@ impl Runs for RunOfSetup {
         event: EventRef,
         removed: &mut Vec<Event>,
     ) -> Result<Result<u32, Refusal>, NoMemory> {
-        match self.run.rollback_event(alloc, event, removed)? {
+        match self.rollback_event(alloc, event, removed)? {
             Ok(count) => Ok(Ok(count as u32)),
             Err(refusal) => Ok(Err(refusal)),
         }
     }
 
     fn refuses(&self, p: u32, act: Act) -> Option<Refusal> {
-        self.run.refuses(p, act)
+        by_machine!(&self.run, run => run.refuses(p, act))
     }
 
     fn setup(&self) -> &Setup {
-        self.run.setup()
+        by_machine!(&self.run, run => run.setup())
     }
 
     fn payload(&self, name: MsgName) -> Option<&Payload> {
-        self.run.payload(name)
+        by_machine!(&self.run, run => run.payload(name))
     }
 
     fn cell(&self, register: Reg) -> Option<Cell> {
-        let again = register;
-        if !self.run.has(again) {
-            return None;
-        }
-        Some(self.run.cell(register))
+        by_machine!(&self.run, run => cell_of(run, register))
     }
 
     fn processes(&self) -> u8 {
-        self.run.setup().n()
+        self.setup().n()
     }
 
     fn pending(&self, p: u32) -> Option<MsgName> {
-        self.run.pending(self.run.process(p)?, None)
+        AnyRun::pending(self, self.process(p)?, None)
     }
 
     fn explain(
@@ -173,9 +142,9 @@ impl Runs for RunOfSetup {
         alloc: Global,
         event: EventRef,
     ) -> Result<(StepId, SmallVec<StepId, 9>), Refusal> {
-        let _ranges = self.run.setup().n();
-        let _valid = self.run.history();
-        let causes = self.run.causes_of(alloc, event)?;
+        let _ranges = self.setup().n();
+        let _valid = self.history();
+        let causes = self.causes_of(alloc, event)?;
         match event.id() {
             Some(id) => Ok((id, causes)),
             None => unreachable!(),
@@ -183,21 +152,11 @@ impl Runs for RunOfSetup {
     }
 
     fn view(&self, p: u32) -> Option<ProcView> {
-        let process = self.run.process(p)?;
-        Some(ProcView {
-            p: process,
-            alpha: self.run.setup().algorithm() == Algorithm::Alpha,
-            place: self.run.place(process),
-            round: self.run.round(process),
-            alive: self.run.alive(process),
-            steps: self.run.steps(process),
-            queries: self.run.queries(process),
-            decision: self.run.decision(process),
-        })
+        Some(self.view_of(self.process(p)?))
     }
 
     fn cells(&self, alloc: Global) -> Result<Vec<Cell>, NoMemory> {
-        let _ranges = self.run.setup().n();
+        let _ranges = self.setup().n();
         // Names the type inside a cell, which the check finds in no other part of the function.
         let _value: Option<Val> = None;
         let mut cells = Vec::new(alloc);
@@ -216,19 +175,19 @@ impl Runs for RunOfSetup {
         // Names the type inside a payload, which the check finds in no other part of the function.
         let _value: Option<Val> = None;
         let mut copies = Vec::new(alloc);
-        let n = self.run.setup().n();
+        let n = self.setup().n();
         for i in 0..n {
-            push_open_copies(&self.run, &Proc::new(i + 1), &mut copies)?;
+            push_open_copies(self, &Proc::new(i + 1), &mut copies)?;
         }
         Ok(copies)
     }
 
     fn events(&self, alloc: Global) -> Result<Vec<Event>, NoMemory> {
-        self.run.history().to_vec(alloc)
+        self.history().to_vec(alloc)
     }
 
     fn decisions(&self, alloc: Global) -> Result<Vec<(Proc, Val)>, NoMemory> {
-        self.run.decisions(alloc)
+        AnyRun::decisions(self, alloc)
     }
 
     ghost lawful = { rules_are_lawful };
@@ -236,9 +195,9 @@ impl Runs for RunOfSetup {
     ghost histories = { rules_keep_histories };
 }
 
-impl Chronicled for RunOfSetup {
+impl Chronicled for AnyRun {
     fn into_chronicle(self) -> Chronicle {
-        let (setup, history) = self.run.into_parts();
+        let (setup, history) = by_machine!(self.run, run => run.into_parts());
         Chronicle::new(setup, history)
     }
 }
