@@ -1,7 +1,9 @@
 -- ---- what the public contracts name
+pub mod Pieces
 pub mod Layout
 pub mod Positions
 pub mod Lanes
+pub mod Ways
 pub mod Arrows
 pub mod EventMarks
 pub mod Picture

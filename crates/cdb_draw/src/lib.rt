@@ -11,6 +11,8 @@ mod piece;
 mod script;
 mod sends;
 pub mod style;
+mod way;
 
 pub use draws::draw_run;
+pub use layout::COLUMNS;
 pub use script::{StepAsked, draw};

@@ -7,7 +7,7 @@ use crate::fault::{Fault, of_explain};
 use crate::files::{Files, read_two};
 use crate::outside::Outside;
 use cdb_any_run::AnyRun;
-use cdb_draw::{StepAsked, draw};
+use cdb_draw::{COLUMNS, StepAsked, draw};
 use cdb_streams::{Bytes, Sink, Source};
 use std::alloc::Global;
 
@@ -29,6 +29,7 @@ pub fn draw_files<'a, F: Files + Drop, I: Source + Drop, O: Sink + Drop, E: Sink
         alloc,
         json.as_slice(),
         &mut commands,
+        COLUMNS,
         step,
         &mut outside.streams.output,
     );

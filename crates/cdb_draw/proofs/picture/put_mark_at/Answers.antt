@@ -5,11 +5,12 @@ use Rattle.cdb_explain.specs.Explanations.{run_after}
 use Rattle.cdb_explain.specs.Flagged.{is_flagged}
 use Rattle.cdb_draw.specs.EventMarks.{mark_at, mark_text}
 use Rattle.cdb_draw.proofs.LastMarks.{mark_of_last}
-use Rattle.cdb_draw.proofs.picture.mark_of.Goals as goal
+use Rattle.cdb_draw.proofs.picture.put_mark_at.Goals as goal
 
 pub returns : goal.returns
 returns g c =
     let run = c.args.run.now in
+    let grid = c.args.grid in
     let flags = c.args.flags.now in
     let i = c.args.position - 1 in
     let event = c.event-event.result.now in
@@ -20,6 +21,5 @@ returns g c =
     let at = rw c.history-history.ensures at c.event-event.ensures in
     let standing = rw c.history-history.ensures at c.len-standing.ensures.standing in
     let flagged = by_next (λ n. is_flagged flags n ≡ full) c.args.position c.requires.from_one (flag_read flags i false full within refl) in
-    rw c.new-text.ensures.bytes at c.in_ok-push_mark.ensures
-    ∙ by_next (λ n. after ≡ run_after run n → is_flagged flags n ≡ full → mark_text rules after after full n event ≡ mark_at rules run flags n) c.args.position c.requires.from_one
-    (λ is marked. mark_of_last rules g.T.Runs.same_state g.met.T.Runs.histories run flags i event standing at after is full marked) c.requires.after flagged
+    rw (by_next (λ n. after ≡ run_after run n → is_flagged flags n ≡ full → mark_text rules grid after after full n event ≡ mark_at rules grid run flags n) c.args.position c.requires.from_one
+    (λ is marked. mark_of_last rules grid g.T.Runs.same_state g.met.T.Runs.histories run flags i event standing at after is full marked) c.requires.after flagged) at c.put_mark.ensures
