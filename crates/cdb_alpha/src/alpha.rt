@@ -57,6 +57,41 @@ impl Alpha {
     ghost use Rattle.cdb_alpha.specs.Seen.{is_overtaken};
     ghost use Rattle.cdb_alpha.specs.Back.{state_before};
 
+    /// Where the process stands in its round.
+    pub fn stands_at(&self) -> Place
+        ensures { result ≡ self.now.place }
+    {
+        self.place
+    }
+
+    /// The input of the process.
+    pub fn input(&self) -> Val
+        ensures { result ≡ self.now.input }
+    {
+        self.input
+    }
+
+    /// The cell that the process last wrote to its own register.
+    pub fn own(&self) -> &Cell
+        ensures { result.now ≡ self.now.own }
+    {
+        &self.own
+    }
+
+    /// The cells that the process has read in this pass, in order.
+    pub fn seen(&self) -> &[Cell]
+        ensures { result.now ≡ self.now.seen }
+    {
+        &self.seen
+    }
+
+    /// The value that the process chose last, its input before it has chosen one.
+    pub fn value(&self) -> Val
+        ensures { result ≡ self.now.value }
+    {
+        self.value
+    }
+
     /// The cell with which the process enters its round: what it last wrote, with the new round.
     fn entered(&self) -> Cell
         ensures { result ≡ entered self.now }
@@ -110,7 +145,7 @@ impl Alpha {
     }
 
     /// Whether another process entered a later round.
-    fn is_overtaken(&self) -> bool
+    pub fn is_overtaken(&self) -> bool
         ensures { result ≡ is_overtaken self.now.round self.now.seen }
     {
         shows_later_round(&self.seen, self.round)

@@ -58,7 +58,7 @@ impl Received {
     }
 
     /// The message as a first-phase message of that round from that sender.
-    pub(crate) fn first_phase(&self, in_round: u32, sender: Proc) -> Option<FirstPhase>
+    pub fn first_phase(&self, in_round: u32, sender: Proc) -> Option<FirstPhase>
         ensures { result ≡ if_from sender (first_phase in_round) self.now }
     {
         match self.payload {
@@ -73,7 +73,7 @@ impl Received {
     }
 
     /// The message as a second-phase message of that round from that sender.
-    pub(crate) fn second_phase(&self, in_round: u32, sender: Proc) -> Option<Option<Val>>
+    pub fn second_phase(&self, in_round: u32, sender: Proc) -> Option<Option<Val>>
         ensures { result ≡ if_from sender (second_phase in_round) self.now }
     {
         match self.payload {
@@ -83,7 +83,7 @@ impl Received {
     }
 
     /// The message as a decision of that sender.
-    pub(crate) fn decision(&self, sender: Proc) -> Option<Val>
+    pub fn decision(&self, sender: Proc) -> Option<Val>
         ensures { result ≡ if_from sender as_decision self.now }
     {
         match self.payload {
@@ -150,6 +150,13 @@ impl Inbox {
         if let Some(message) = self.messages.pop() {
             self.index.forget(&self.messages, &message);
         }
+    }
+
+    /// The messages, in the order of receipt.
+    pub(crate) fn messages(&self) -> &[Received]
+        ensures { result.now ≡ self.now }
+    {
+        &self.messages
     }
 
     /// The messages that the index knows.

@@ -7,7 +7,7 @@ use crate::inbox::{FirstPhase, Received};
 use cdb_base::{Proc, Val};
 
 /// The first-phase message of that round from that sender.
-pub(crate) fn find_first_phase(
+pub fn find_first_phase(
     messages: &[Received],
     round: u32,
     sender: Proc,
