@@ -28,7 +28,7 @@ pub struct Alpha {
 }
 
 impl Model for Alpha {
-    ghost use Rattle.cdb_base.specs.declared.limits.TheConstants.{MAX_PROCESSES};
+    ghost use Rattle.cdb_base.specs.Limits.{MAX_PROCESSES};
     ghost use Rattle.std.specs.Prelude.{◌≡◌, ◌≤◌, is_some};
     ghost use Rattle.cdb_alpha.specs.LocalState.{LocalState};
     ghost use Rattle.cdb_alpha.specs.Place.{is_last};

@@ -1,6 +1,6 @@
 -- Quorums of processes.
 use Rattle.std.specs.Prelude.{◌≡◌, ℕ, zero, suc, ◌+◌, ◌*◌, ◌<◌, ◌≤◌, Bool, true, cond}
-use Rattle.cdb_base.specs.declared.limits.TheConstants.{MAX_PROCESSES}
+use Rattle.cdb_base.specs.Limits.{MAX_PROCESSES}
 
 -- how many of the processes 1 to n pass the test
 abbrev pub count_processes : ℕ → (ℕ → Bool) → ℕ

@@ -3,7 +3,7 @@
 use Rattle.std.specs.Prelude.{ℕ, ◌+◌, Bool, true, false, ◌==◌, ◌&&◌, not, nat_le, nat_lt, ◌++◌, [], ◌∷◌, Option, Some}
 use Rattle.std.specs.Prelude.{None, is_some, if◌then◌else◌}
 use Rattle.std.specs.Option.{option_or, option_map, option_and_then}
-use Rattle.cdb_base.specs.declared.limits.TheConstants.{MAX_ROUND}
+use Rattle.cdb_base.specs.Limits.{MAX_ROUND}
 use Rattle.cdb_base.specs.declared.payload.Payload.{Payload}
 use Rattle.cdb_base.specs.declared.payload.Payload.TheVariants.{P1, P2, D}
 use Rattle.cdb_process.specs.declared.Input.{Input}

@@ -1,7 +1,7 @@
 -- Bytes stand for one setup.
 use Rattle.cdb_base.specs.Memory.{no_memory}
 use Rattle.std.proofs.Common.{◌≡◌, ◌⊎◌, inl, inr, ℕ, ◌+◌, ◌≤◌, Result, Ok, Err, ap, subst, ◌∙◌}
-use Rattle.cdb_base.specs.declared.limits.TheConstants.{MAX_SEATS}
+use Rattle.cdb_base.specs.Limits.{MAX_SEATS}
 use Rattle.cdb_setup.specs.Parts.{Parts}
 use Rattle.cdb_setup.specs.declared.fault.SetupFault.{SetupFault}
 use Rattle.cdb_setup.specs.declared.fault.SetupFault.TheVariants.{NoMemory}

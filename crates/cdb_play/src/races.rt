@@ -1,7 +1,7 @@
 //! A race: one thread for each process and one for each script, over one shared run, and its text.
 
 ghost use Rattle.std.specs.Prelude.{◌≡◌, ◌+◌, ◌≤◌, length, vec_len, IfOk, IfErr};
-ghost use Rattle.cdb_base.specs.declared.limits.TheConstants.{MAX_SEATS};
+ghost use Rattle.cdb_base.specs.Limits.{MAX_SEATS};
 ghost use Rattle.cdb_race.specs.Faults.{IsFaultBehind};
 ghost use Rattle.cdb_race.specs.Races.{AllPass};
 ghost use Rattle.cdb_rules.specs.Agreement.{HasMajorityIfNeeded};

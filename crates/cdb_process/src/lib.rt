@@ -10,7 +10,7 @@
 #![tactic(auto)]
 
 ghost use Rattle.std.specs.Prelude.{◌≡◌, ℕ, ◌↔◌, ◌≤◌, Option, Some, IsTrue, IsSome, IfOk, OnErr};
-ghost use Rattle.cdb_base.specs.declared.limits.TheConstants.{MAX_PROCESSES};
+ghost use Rattle.cdb_base.specs.Limits.{MAX_PROCESSES};
 ghost use Rattle.cdb_process.specs.declared.Input.{Input};
 ghost use Rattle.cdb_process.specs.declared.Wish.{Wish};
 ghost use Rattle.cdb_process.specs.Table.{Table};

@@ -1,7 +1,7 @@
 -- What sessions of several seats do.
 use Rattle.std.specs.Prelude.{◌≡◌, ◌⊎◌, ℕ, ◌<◌, List, [], ◌∷◌, length, Result, Ok, Err, IfSome}
 use Rattle.std.specs.List.{AllZip}
-use Rattle.cdb_base.specs.declared.limits.TheConstants.{MAX_SEATS}
+use Rattle.cdb_base.specs.Limits.{MAX_SEATS}
 use Rattle.cdb_session.specs.Moves.{Known}
 use Rattle.cdb_shared_session.specs.Reported.{RunsSessions, IsFaultOfSessions}
 use Rattle.cdb_shared_session.specs.declared.endpoint.Endpoint.{Endpoint}

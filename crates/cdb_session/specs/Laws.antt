@@ -1,6 +1,6 @@
 -- The journal of a session.
 use Rattle.std.specs.Prelude.{◌≡◌, true, List, take}
-use Rattle.cdb_base.specs.declared.limits.TheConstants.{MAX_ENTRIES}
+use Rattle.cdb_base.specs.Limits.{MAX_ENTRIES}
 use Rattle.cdb_rules.specs.Rules.{Rules}
 use Rattle.cdb_setup.specs.Parts.{Parts}
 use Rattle.cdb_session.specs.Parts.{all_asked}

@@ -1,6 +1,6 @@
 -- What a session shows beside its responses, and what calls do to the part of a journal that is its own.
 use Rattle.std.specs.Prelude.{◌≡◌, ℕ, ◌≤◌, Bool, true, List, [], ◌∷◌, ◌++◌, Result, Ok, Err}
-use Rattle.cdb_base.specs.declared.limits.TheConstants.{MAX_ENTRIES}
+use Rattle.cdb_base.specs.Limits.{MAX_ENTRIES}
 use Rattle.cdb_commands.specs.ToldReply.{ToldReply, told}
 use Rattle.cdb_commands.specs.declared.reply.Reply.{Reply}
 use Rattle.cdb_control.specs.declared.control.CallFault.{CallFault}

@@ -3,7 +3,7 @@ use Rattle.std.proofs.Common.{◌≡◌, ℕ, ◌+◌, List, length, map, subst,
 use Rattle.std.specs.List.{AllByRecursion}
 use Rattle.std.proofs.lemmas.Bool.{cases_lt}
 use Rattle.serde_json.specs.Data.{Data, Members, object}
-use Rattle.cdb_base.specs.declared.limits.TheConstants.{MAX_VALUE}
+use Rattle.cdb_base.specs.Limits.{MAX_VALUE}
 use Rattle.cdb_setup.specs.declared.setup.Algorithm.{Algorithm}
 use Rattle.cdb_setup.specs.declared.key.Key.TheVariants as key
 use Rattle.cdb_setup.specs.declared.fault.SetupFault.{SetupFault}

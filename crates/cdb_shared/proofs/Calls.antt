@@ -8,7 +8,7 @@ use Rattle.cdb_control.specs.declared.control.Entry.{Entry}
 use Rattle.cdb_commands.specs.declared.reply.Reply.{Reply}
 use Rattle.cdb_control.specs.declared.control.CallFault.{CallFault}
 use Rattle.cdb_control.specs.declared.control.CallFault.TheVariants.{JournalFull}
-use Rattle.cdb_base.specs.declared.limits.TheConstants.{MAX_ENTRIES}
+use Rattle.cdb_base.specs.Limits.{MAX_ENTRIES}
 use Rattle.cdb_commands.specs.ToldReply.{ToldReply, told}
 use Rattle.cdb_control.specs.Commands.{reply_of}
 use Rattle.cdb_control.specs.Headline.{Headline}

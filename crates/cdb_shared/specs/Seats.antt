@@ -3,7 +3,7 @@ use Rattle.std.specs.Prelude.{◌≡◌, ℕ, ◌+◌, ◌<◌, Bool, true, List
 use Rattle.std.specs.List.{range_with_len}
 use Rattle.atomic_table.specs.Seated.{TableId}
 use Rattle.cdb_base.specs.declared.event.Event.{Event}
-use Rattle.cdb_base.specs.declared.limits.TheConstants.{MAX_ENTRIES}
+use Rattle.cdb_base.specs.Limits.{MAX_ENTRIES}
 use Rattle.cdb_commands.specs.declared.command.Command.{Command}
 use Rattle.cdb_control.specs.declared.control.Entry.{Entry}
 use Rattle.cdb_commands.specs.ToldReply.{ToldReply}

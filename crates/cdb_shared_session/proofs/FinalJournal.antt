@@ -1,7 +1,7 @@
 -- What the final journal has of a seat.
 use Rattle.std.proofs.Common.{◌≡◌, inl, inr, ℕ, ◌≤◌, List, ◌++◌, length, map, sym, ap, ◌∙◌, arith, length-append}
 use Rattle.std.specs.Prelude.{Result, Ok, Err}
-use Rattle.cdb_base.specs.declared.limits.TheConstants.{MAX_ENTRIES}
+use Rattle.cdb_base.specs.Limits.{MAX_ENTRIES}
 use Rattle.cdb_commands.specs.ToldReply.{ToldReply}
 use Rattle.cdb_control.proofs.Own.{replies_of-same}
 use Rattle.cdb_control.specs.Journal.{Journaled, entry, own, replies_of}

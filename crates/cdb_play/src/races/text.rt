@@ -2,7 +2,7 @@
 
 ghost use Rattle.std.specs.Prelude.{◌≡◌, ◌+◌, ◌≤◌, [], ◌++◌, length, map};
 ghost use Rattle.std.specs.List.{flat_map};
-ghost use Rattle.cdb_base.specs.declared.limits.TheConstants.{MAX_SEATS};
+ghost use Rattle.cdb_base.specs.Limits.{MAX_SEATS};
 ghost use Rattle.cdb_commands.specs.ToldReply.{told};
 ghost use Rattle.cdb_race.specs.Races.{all_told};
 ghost use Rattle.cdb_text.specs.Texts.{text_of};

@@ -1,6 +1,6 @@
 use Rattle.std.proofs.Common.{map, refl}
 use Rattle.serde_json.specs.View.{view}
-use Rattle.cdb_base.specs.declared.limits.TheConstants.{MAX_VALUE}
+use Rattle.cdb_base.specs.Limits.{MAX_VALUE}
 use Rattle.cdb_setup.specs.Format.{whole}
 use Rattle.cdb_setup.specs.Parts.{IsWithin}
 use Rattle.cdb_setup.proofs.Walk.{push_read, push_all, stops_at, reads_value}
