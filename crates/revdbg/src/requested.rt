@@ -9,8 +9,8 @@ ghost use Rattle.cdb_base.specs.Memory.{no_memory};
 ghost use Rattle.revdbg.specs.RequestFor.{IsRequestFor, Makes};
 ghost use Rattle.revdbg.specs.Requested.{IsAskedBy, IsOutOfMemory, IsRefusal, IsRequestOf, IsUnread, OrOutOfMemory, unread_of};
 
-use cdb_base::NoMemory;
 use cdb_arguments::{AskFault, Asked, ask_status, asked};
+use cdb_base::NoMemory;
 use cdb_draw::StepAsked;
 use cdb_program::{Fault, Request};
 use cdb_streams::PlayFault;
