@@ -116,7 +116,7 @@ fn refusal_of<'a>(fault: &AskFault, text: &'a str) -> Request<'a>
 }
 
 /// The request where the arguments could not be read, for this reason.
-fn unread(reason: Unread) -> Request<'static>
+fn report_unread(reason: Unread) -> Request<'static>
     ensures unread { IsUnread reason result }
     ensures turns { HasTurns result }
 {
@@ -135,7 +135,7 @@ pub fn request_for<'a>(asked: &'a Result<Asked<'a>, ArgsError>, prompt: &'a str)
 {
     match asked {
         Ok(asked) => request_of(asked, prompt),
-        Err(ArgsError::Unread(reason)) => unread(*reason),
+        Err(ArgsError::Unread(reason)) => report_unread(*reason),
         Err(ArgsError::Refused(fault, text)) => refusal_of(fault, text.as_str()),
     }
 }
