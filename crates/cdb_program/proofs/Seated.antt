@@ -111,7 +111,7 @@ module _ {T : Type 0} (known : T → Known) where
   same_seats files (name ∷ names) [] are = absurd are
   same_seats files (name ∷ names) (endpoint ∷ endpoints) are = (are.0, same_seats files names endpoints are.1)
 
-  -- the endpoints are those of the names, whatever was opened before, and by what is known of whom they console with
+  -- the endpoints are those of the names, whatever was opened before, and by what is known of what each reads and writes
   pub seats_known : (old mid : FilesSeen) (first names : List (List ℕ)) (endpoints : List (Endpoint T)) → mid ≡ after_opening old first
       → AreEndpointsOf known mid names endpoints → AreEndpointsOf (λ (k : Known). k) old names (map known_endpoint endpoints)
   seats_known old mid first names endpoints before are = same_seats old names endpoints (subst (λ (f : FilesSeen). AreEndpointsOf known f names endpoints) before are)

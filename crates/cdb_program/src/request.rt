@@ -152,7 +152,9 @@ pub fn perform<
     ensures { Performs request.entry outside.old outside.new result }
 {
     match request {
-        Request::DebugShared { setup, seats } => perform_shared(threads, alloc, setup, seats, outside),
+        Request::DebugShared { setup, seats } => perform_shared(
+            threads, alloc, setup, seats, outside,
+        ),
         _ => perform_one(threads, alloc, request, outside),
     }
 }

@@ -99,7 +99,14 @@ fn hold_seats<
     let json = read_file(alloc, &mut outside.files, setup)?;
     let endpoints = open_each(alloc, &mut outside.files, seats)?;
     let (output, error) = (&mut outside.streams.output, &mut outside.error);
-    match debug_shared::<AnyRun, _, R, O, E>(threads, alloc, json.as_slice(), endpoints, output, error) {
+    match debug_shared::<AnyRun, _, R, O, E>(
+        threads,
+        alloc,
+        json.as_slice(),
+        endpoints,
+        output,
+        error,
+    ) {
         Ok(status) => Ok(status),
         Err(fault) => Err(Fault::Race(fault)),
     }

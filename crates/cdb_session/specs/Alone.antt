@@ -13,12 +13,17 @@ use Rattle.cdb_session.specs.Styles.{StyleView, Part, Seats}
 -- the replies to all entries, along the journal
 abbrev pub all_replies_from : Rules → State → List Entry → List ToldReply
 all_replies_from rules t [] = []
-all_replies_from rules t (e ∷ es) = reply_of rules t e.seat e.command ∷ all_replies_from rules (obey rules t e.seat e.command) es
+all_replies_from rules t (e ∷ es) =
+    reply_of rules t e.seat e.command ∷ all_replies_from rules (obey rules t e.seat e.command) es
 
 -- all of the journal of a control
 abbrev pub whole_part : (Parts → Rules) → Journaled → Part
 whole_part rules c =
-    record { calls = c.journal; replies = all_replies_from (rules c.setup) (first_control_state c.setup c.seats) c.journal; entries = length c.journal }
+    record {
+      calls = c.journal;
+      replies = all_replies_from (rules c.setup) (first_control_state c.setup c.seats) c.journal;
+      entries = length c.journal;
+    }
 
 abbrev pub all_seats : Journaled → Seats
 all_seats c = record { lowest = 1; highest = c.seats }

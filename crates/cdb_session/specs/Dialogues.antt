@@ -53,4 +53,5 @@ module _ {S : Type 0} (respond : S → Request → List ℕ) (next : S → Reque
 
   -- the text is what is shown in a session with these lines, of which it responds to those up to `quit`
   abbrev pub IsDialogueBy : S → List (List ℕ) → List ℕ → Type 0
-  IsDialogueBy start lines text = (requests : List Request) × AreAsked requests lines × (text ≡ dialogue_by start requests)
+  IsDialogueBy start lines text = (requests : List Request) × AreAsked requests lines
+      × (text ≡ dialogue_by start requests)

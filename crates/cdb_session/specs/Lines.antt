@@ -31,7 +31,8 @@ FindsFull request got part = (command : Command) → request ≡ Call command �
 -- The session has called nothing since, or the command that the line asks for, and got this reply to it.
 abbrev pub HasGot : ℕ → Part → Request → List ToldReply → Part → Type 0
 HasGot seat old request [] new = MakesNone old new
-HasGot seat old request (reply ∷ []) new = (command : Command) × (request ≡ Call command) × IsCalled old (entry seat command) reply new
+HasGot seat old request (reply ∷ []) new = (command : Command) × (request ≡ Call command)
+    × IsCalled old (entry seat command) reply new
 HasGot seat old request (reply ∷ other ∷ more) new = ⊥
 
 -- what a line asks for was done, by this seat, with these replies, none or one
@@ -43,11 +44,13 @@ module _ (style : StyleView) where
   -- The response to a line that asks for this. Out of memory it may have been done.
   abbrev pub Responds : {E : Type 0} → Result (Vec ℕ Global) E → SessionView → Request → SessionView → Type 0
   Responds (Ok text) old request new =
-      (got : List ToldReply) × HasDone old.seat old.part request got new.part × (text.items ≡ response style (at_line old got) request)
+      (got : List ToldReply) × HasDone old.seat old.part request got new.part
+      × (text.items ≡ response style (at_line old got) request)
   Responds (Err fault) old request new = (got : List ToldReply) × HasGot old.seat old.part request got new.part
 
   -- what is shown then
   abbrev pub Shows : {E : Type 0} → Result (Vec ℕ Global) E → SessionView → Request → SessionView → Type 0
   Shows (Ok text) old request new =
-      (got : List ToldReply) × HasDone old.seat old.part request got new.part × (text.items ≡ shown style (at_line old got) request)
+      (got : List ToldReply) × HasDone old.seat old.part request got new.part
+      × (text.items ≡ shown style (at_line old got) request)
   Shows (Err fault) old request new = (got : List ToldReply) × HasGot old.seat old.part request got new.part

@@ -1,5 +1,6 @@
 -- What a session and its outside did, in the order in which they did it.
-use Rattle.std.specs.Prelude.{◌≡◌, ℕ, ◌==◌, Bool, true, false, List, [], ◌∷◌, ◌++◌, length, take, fold, Option, Some, None, Result, Ok, Err}
+use Rattle.std.specs.Prelude.{◌≡◌, ℕ, ◌==◌, Bool, true, false, List, [], ◌∷◌, ◌++◌, length, take, fold, Option, Some}
+use Rattle.std.specs.Prelude.{None, Result, Ok, Err}
 use Rattle.std.specs.Io.KnownBytes.{Appends, Consumes}
 use Rattle.std.specs.List.{AllByRecursion, flat_map}
 use Rattle.cdb_streams.specs.Streams.{counted}
@@ -72,8 +73,8 @@ move_of_write (Err failed) piece = WriteFailed
 
 -- ---- what is known of the console of a session
 
--- What the session read from it and wrote to it, in order, where that is known; the bytes that it has left, and those that
--- it was written, where they are known; and how many of its reads and of its writes failed, each in 64 bits
+-- What the session read from it and wrote to it, in order, where that is known; the bytes that it has left, and those
+-- that it was written, where they are known; and how many of its reads and of its writes failed, each in 64 bits
 pub record Known : Type 0 where
   pub moves : Option (List Move)
   pub left : Option (List ℕ)
@@ -110,8 +111,8 @@ abbrev pub AreAllOf : Option (List ℕ) → List ℕ → Type 0
 AreAllOf None read = Unit {0}
 AreAllOf (Some left) read = read ≡ left
 
--- These moves led from what was known before to what is known after; where the last read found the end of the input, all
--- was read.
+-- These moves led from what was known before to what is known after; where the last read found the end of the input,
+-- all was read.
 pub record Makes (old new : Known) (made : List Move) : Type 0 where
   pub moves : Continues old.moves new.moves made
   pub left : Consumes old.left new.left (read_in made)

@@ -32,7 +32,8 @@ seat_behind chooses seat requests = fold (seat_next chooses) seat requests
 -- what the lines ask for, each of the seat that was chosen last
 abbrev pub all_asked : Bool → ℕ → List Request → List Entry
 all_asked chooses seat [] = []
-all_asked chooses seat (request ∷ requests) = asked_of seat request ++ all_asked chooses (seat_next chooses seat request) requests
+all_asked chooses seat (request ∷ requests) = asked_of seat request
+    ++ all_asked chooses (seat_next chooses seat request) requests
 
 module _ (style : StyleView) where
   abbrev pub all_of : List Request → List Entry
@@ -41,7 +42,8 @@ module _ (style : StyleView) where
   -- The journal has these entries, in order and each once; or it has the first of them, and is full.
   abbrev pub HasCommands : Part → List Request → Type 0
   HasCommands part requests =
-      (part.calls ≡ all_of requests) ⊎ (IsFull part × (missing : List Entry) × (all_of requests ≡ part.calls ++ missing))
+      (part.calls ≡ all_of requests)
+      ⊎ (IsFull part × (missing : List Entry) × (all_of requests ≡ part.calls ++ missing))
 
   -- and of these lines, up to `quit`
   abbrev pub HasCommandsOf : Part → List (List ℕ) → Type 0

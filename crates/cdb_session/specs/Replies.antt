@@ -3,7 +3,8 @@ use Rattle.std.specs.Prelude.{◌≡◌, ℕ, ◌+◌, List, [], ◌∷◌, ◌+
 use Rattle.cdb_commands.specs.ToldReply.{ToldReply}
 use Rattle.cdb_text.specs.Texts.{text_of}
 use Rattle.cdb_text.specs.declared.fault.LineFault.TheVariants.{Word}
-use Rattle.cdb_session.specs.Dialogues.{full_text, faulty_line_text, long_line_text, help_text, shown_by, shown_from_by, dialogue_by}
+use Rattle.cdb_session.specs.Dialogues.{full_text, faulty_line_text, long_line_text, help_text, shown_by, shown_from_by}
+use Rattle.cdb_session.specs.Dialogues.{dialogue_by}
 use Rattle.cdb_session.specs.Parts.{seat_next}
 use Rattle.cdb_session.specs.Requests.{seat_line}
 use Rattle.cdb_session.specs.Styles.{StyleView}
@@ -43,7 +44,8 @@ module _ (style : StyleView) where
   -- the response to a line that asks for no command, after this many lines
   abbrev pub own_response : ℕ → Request → List ℕ
   own_response lines (Call command) = []
-  own_response lines (Seat seat) = if style.chooses then (seat_line seat ++ codes "\n") else faulty_line_text (lines + 1) Word
+  own_response lines (Seat seat) =
+      if style.chooses then (seat_line seat ++ codes "\n") else faulty_line_text (lines + 1) Word
   own_response lines Help = help_text style.chooses
   own_response lines Quit = []
   own_response lines (Fault fault) = faulty_line_text (lines + 1) fault
@@ -61,7 +63,11 @@ module _ (style : StyleView) where
   -- the session after a line that asks for this
   abbrev pub next_along : Along → Request → Along
   next_along s request =
-      record { seat = seat_next style.chooses s.seat request; replies = replies_after s.replies request; lines = s.lines + 1 }
+      record {
+        seat = seat_next style.chooses s.seat request;
+        replies = replies_after s.replies request;
+        lines = s.lines + 1;
+      }
 
   -- ---- all lines
 

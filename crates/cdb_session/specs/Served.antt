@@ -11,7 +11,8 @@ use Rattle.cdb_session.specs.Styles.{StyleView, Part}
 use Rattle.cdb_session.specs.declared.request.Request.{Request}
 
 module _ (style : StyleView) (part : Part) where
-  -- the text has the replies to the commands of these lines, which the journal has, and after them maybe those of further lines
+  -- the text has the replies to the commands of these lines, which the journal has, and after them maybe those of
+  -- further lines
   abbrev pub IsAnswered : List (List ℕ) → List ℕ → Type 0
   IsAnswered lines text =
       (requests others : List Request) × AreAsked requests lines × (text ≡ dialogue style part.replies requests)
@@ -20,10 +21,11 @@ module _ (style : StyleView) (part : Part) where
   -- so it is, without further ones
   abbrev pub IsServed : List (List ℕ) → List ℕ → Type 0
   IsServed lines text =
-      (requests : List Request) × AreAsked requests lines × (text ≡ dialogue style part.replies requests) × HasCommands style part requests
+      (requests : List Request) × AreAsked requests lines × (text ≡ dialogue style part.replies requests)
+      × HasCommands style part requests
 
-  -- The first of the lines have their responses in full, and the others not at all. The journal has the commands of the first
-  -- lines, and maybe that of the next line too.
+  -- The first of the lines have their responses in full, and the others not at all. The journal has the commands of the
+  -- first lines, and maybe that of the next line too.
   pub record IsCutShort (moves : List Move) : Type 0 where
     pub lines : List (List ℕ)
     pub next : List (List ℕ)

@@ -4,7 +4,8 @@ use Rattle.std.specs.List.{AllByRecursion}
 use Rattle.cdb_streams.specs.Lines.{lines_of}
 use Rattle.cdb_streams.specs.declared.fault.PlayFault.{PlayFault}
 use Rattle.cdb_streams.specs.declared.fault.PlayFault.TheVariants as fault
-use Rattle.cdb_session.specs.Moves.{Move, Read, ReadFailed, read_in, written_in, AsksForInput, FailsToWrite, EndsWith, FindsTheEnd}
+use Rattle.cdb_session.specs.Moves.{Move, Read, ReadFailed, read_in, written_in, AsksForInput, FailsToWrite, EndsWith}
+use Rattle.cdb_session.specs.Moves.{FindsTheEnd}
 use Rattle.cdb_session.specs.Requests.{ended_lines, HaveQuit}
 
 -- the most bytes that a session reads, which no input has in practice
@@ -50,7 +51,8 @@ module _ (Responds : List (List ℕ) → List ℕ → Type 0) where
     pub responded : Responds lines text
     pub written : text ≡ written_in moves ++ missing
 
--- What may be said besides, once the session has ended: so it has served these lines with this text, and so it was cut short.
+-- What may be said besides, once the session has ended: so it has served these lines with this text, and so it was cut
+-- short.
 module _ (Responds Serves : List (List ℕ) → List ℕ → Type 0) (IsCutShort : List Move → Type 0) where
   -- the moves by what the session returned
   abbrev pub EndsAs : {A : Type 0} → Result A PlayFault → List Move → Type 0

@@ -15,8 +15,8 @@ pub record StyleView : Type 0 where
   pub first : ℕ
   pub chooses : Bool
 
--- What a journal has of a session: its entries, in order; the replies to them, each at its position in the journal; and how
--- many entries the journal has in all.
+-- What a journal has of a session: its entries, in order; the replies to them, each at its position in the journal; and
+-- how many entries the journal has in all.
 pub record Part : Type 0 where
   pub calls : List Entry
   pub replies : List ToldReply

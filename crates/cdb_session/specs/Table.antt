@@ -5,14 +5,15 @@ use Rattle.cdb_control.specs.Journal.{Journaled, opened, extended, reply_in}
 use Rattle.cdb_rules.specs.Rules.{Rules}
 use Rattle.cdb_setup.specs.Parts.{Parts}
 use Rattle.cdb_text.specs.Texts.{text_of}
-use Rattle.cdb_session.specs.Dialogues.{full_text, faulty_line_text, long_line_text, help_text, dialogue_by, IsDialogueBy}
+use Rattle.cdb_session.specs.Dialogues.{full_text, faulty_line_text, long_line_text, help_text, dialogue_by}
+use Rattle.cdb_session.specs.Dialogues.{IsDialogueBy}
 use Rattle.cdb_session.specs.Parts.{seat_next}
 use Rattle.cdb_session.specs.Requests.{most_seats, seat_line}
 use Rattle.cdb_session.specs.declared.request.Request.{Request}
 use Rattle.cdb_session.specs.declared.request.Request.TheVariants.{Call, Seat, Help, Quit, Fault, TooLong}
 
--- A session between two lines: the rules of its run, its control, whose state is the replay of its journal, the seat that
--- the next command is of, and how many lines there were.
+-- A session between two lines: the rules of its run, its control, whose state is the replay of its journal, the seat
+-- that the next command is of, and how many lines there were.
 pub record Session : Type 0 where
   pub rules : Parts → Rules
   pub control : Journaled

@@ -1,9 +1,11 @@
 -- What the code keeps for itself: a session in the middle of its input.
-use Rattle.std.specs.Prelude.{◌≡◌, ◌⊎◌, ℕ, ◌+◌, ◌≤◌, Bool, true, false, List, [], ◌∷◌, ◌++◌, length, take, Result, Ok, Err, IsTrue, ◌↔◌}
+use Rattle.std.specs.Prelude.{◌≡◌, ◌⊎◌, ℕ, ◌+◌, ◌≤◌, Bool, true, false, List, [], ◌∷◌, ◌++◌, length, take, Result, Ok}
+use Rattle.std.specs.Prelude.{Err, IsTrue, ◌↔◌}
 use Rattle.std.specs.List.{AllZip, AllByRecursion, flat_map}
 use Rattle.cdb_commands.specs.ToldReply.{ToldReply}
 use Rattle.cdb_session.specs.Requests.{HasNoEnd, Asks, quit_line}
-use Rattle.cdb_session.specs.Moves.{Known, Move, read_in, written_in, AreWrites, FailsToWrite, EndsWith, FindsTheEnd, Makes}
+use Rattle.cdb_session.specs.Moves.{Known, Move, read_in, written_in, AreWrites, FailsToWrite, EndsWith, FindsTheEnd}
+use Rattle.cdb_session.specs.Moves.{Makes}
 use Rattle.cdb_session.specs.declared.request.Request.{Request}
 use Rattle.cdb_session.specs.declared.request.Request.TheVariants.{Quit}
 use Rattle.cdb_streams.specs.declared.buffer.OutputFault.{OutputFault}
@@ -52,9 +54,10 @@ module _ (style : StyleView) where
       (final : Part) (others : List Request) → HasCommands style final (requests ++ others)
       → RespondsInTime (IsAnswered style (part_with replies final)) moves
 
-  -- After these moves the lines that have ended have their responses, with these of the replies. Of the next line this much is
-  -- held, and these bytes that were read are not yet looked at.
-  pub record IsAt (replies : List ToldReply) (moves : List Move) (part : Part) (along : Along) (unfinished left : List ℕ) : Type 0 where
+  -- After these moves the lines that have ended have their responses, with these of the replies. Of the next line this
+  -- much is held, and these bytes that were read are not yet looked at.
+  pub record IsAt (replies : List ToldReply) (moves : List Move) (part : Part) (along : Along)
+      (unfinished left : List ℕ) : Type 0 where
     pub lines : List (List ℕ)
     pub line : List ℕ
     pub requests : List Request
@@ -77,7 +80,8 @@ module _ (style : StyleView) where
       → IsAt (session.part.replies ++ more) moves session.part (at_line session more) unfinished left
 
   -- what a line asks for was done, with the response to it; it was `quit` where this is true
-  pub record IsLineDone (old new : SessionView) (unfinished left : List ℕ) (was_quit : Bool) (made : List Move) : Type 0 where
+  pub record IsLineDone (old new : SessionView) (unfinished left : List ℕ) (was_quit : Bool)
+      (made : List Move) : Type 0 where
     pub request : Request
     pub asks : Asks request unfinished
     pub writes : AreWrites made
@@ -114,7 +118,8 @@ module _ (style : StyleView) where
   RespondsAs (Err (output.NoMemory refused)) old new unfinished left made = IsLineLost old new unfinished made
 
   -- a line that had ended was responded to
-  abbrev pub RespondsToLine : Result Bool OutputFault → Known → Known → SessionView → SessionView → List ℕ → List ℕ → Type 0
+  abbrev pub RespondsToLine : Result Bool OutputFault → Known → Known → SessionView → SessionView → List ℕ → List ℕ
+      → Type 0
   RespondsToLine result before behind old new unfinished left =
       (made : List Move) × Makes before behind made × RespondsAs result old new unfinished left made
 
@@ -129,7 +134,8 @@ module _ (style : StyleView) where
   HasComeTo (Err fault) moves session unfinished = HasEndedAs (ended_by fault) moves session
 
   -- the bytes were looked at
-  abbrev pub Feeds : Result Bool OutputFault → Known → Known → SessionView → SessionView → List ℕ → List ℕ → List ℕ → Type 0
+  abbrev pub Feeds : Result Bool OutputFault → Known → Known → SessionView → SessionView → List ℕ → List ℕ → List ℕ
+      → Type 0
   Feeds result before behind old new unfinished left bytes =
       (moves : List Move) → StaysAt moves old unfinished bytes
       → (made : List Move) × Makes before behind made × AreWrites made × HasComeTo result (moves ++ made) new left

@@ -45,15 +45,15 @@ fn open<R: Runs>(alloc: Global, setup: Setup) -> Result<Control<R>, NoMemory>
     }
 }
 
-/// A session on a run of the setup, in which each line has its response before more input is asked for: a command of the
-/// seat that the session is at, `help`, `seat S`, or `quit`, which ends it; a line that is none of these has its fault.
-/// The prompt is shown before each line. The end of the input, which is asked for once, ends the session too, and so do
-/// 2^63 bytes.
+/// A session on a run of the setup, in which each line has its response before more input is asked for: a command of
+/// the seat that the session is at, `help`, `seat S`, or `quit`, which ends it; a line that is none of these has its
+/// fault. The prompt is shown before each line. The end of the input, which is asked for once, ends the session too,
+/// and so do 2^63 bytes.
 ///
 /// # Errors
 /// `Setup` with the setup's first fault, before any input is asked for. `Read` where the reading failed: each line is
-/// responded to. `Write` where the writing failed: what was written is a beginning of the responses. `NoMemory` where an
-/// allocation fails: what was written are the responses to a beginning of the lines.
+/// responded to. `Write` where the writing failed: what was written is a beginning of the responses. `NoMemory` where
+/// an allocation fails: what was written are the responses to a beginning of the lines.
 pub fn debug<R: Runs, T: Console>(
     alloc: Global,
     setup: &[u8],

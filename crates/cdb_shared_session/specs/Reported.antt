@@ -18,9 +18,11 @@ use Rattle.cdb_shared_session.specs.Reports.{outcomes, failures_text, status_of}
 use Rattle.cdb_shared_session.specs.declared.endpoint.Endpoint.{Endpoint}
 use Rattle.cdb_shared_session.specs.declared.endpoint.Finished.{Finished}
 
--- the sessions have ended, the journal was written and what failed was reported, as far as that went, and this is the status
-pub record RunsSessions {T O E : Type 0} (rules : Parts → Rules) (known : T → Known) (output_stream : O → Stream) (error_stream : E → Stream)
-    (json : List ℕ) (endpoints : List (Endpoint T)) (output output_after : O) (error error_after : E) (status : ℕ) : Type 0 where
+-- the sessions have ended, the journal was written and what failed was reported, as far as that went, and this is the
+-- status
+pub record RunsSessions {T O E : Type 0} (rules : Parts → Rules) (known : T → Known)
+    (output_stream : O → Stream) (error_stream : E → Stream) (json : List ℕ) (endpoints : List (Endpoint T))
+    (output output_after : O) (error error_after : E) (status : ℕ) : Type 0 where
   pub setup : Parts
   pub encodes : Encodes json setup
   pub control : Journaled
@@ -32,8 +34,8 @@ pub record RunsSessions {T O E : Type 0} (rules : Parts → Rules) (known : T �
   pub lines : Writes error_stream reported error error_after (failures_text written (outcomes finished))
   pub status_is : status ≡ status_of written (outcomes finished)
 
--- The setup's first fault, or memory or a thread is not there; a setup that is too long is told so, and no thread is started for one
--- with a fault.
+-- The setup's first fault, or memory or a thread is not there; a setup that is too long is told so, and no thread is
+-- started for one with a fault.
 abbrev pub IsFaultOfSessions : List ℕ → RaceFault → Type 0
 IsFaultOfSessions json (fault.Setup why) = IsFirstFault why json
 IsFaultOfSessions json (fault.NoMemory refused) = length json ≤ longest

@@ -19,7 +19,11 @@ part_in rules c seat =
 -- in the journal that the seat has seen
 abbrev pub part_seen : (Parts → Rules) → SeatView → Part
 part_seen rules seat =
-    record { calls = map (entry seat.number) (calls_of seat); replies = replies_to rules seat; entries = length seat.seen }
+    record {
+      calls = map (entry seat.number) (calls_of seat);
+      replies = replies_to rules seat;
+      entries = length seat.seen;
+    }
 
 -- the seats that a command of it may be of: this one
 abbrev pub own_seat : SeatView → Seats

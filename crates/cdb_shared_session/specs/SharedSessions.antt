@@ -13,13 +13,15 @@ use Rattle.cdb_shared_session.specs.declared.endpoint.Endpoint.{Endpoint}
 use Rattle.cdb_shared_session.specs.declared.endpoint.Finished.{Finished}
 
 -- the session of the seat of this number, by the final journal
-pub record IsFinished {T : Type 0} (rules : Parts → Rules) (known : T → Known) (c : Journaled) (seat : ℕ) (endpoint : Endpoint T) (finished : Finished T) : Type 0 where
+pub record IsFinished {T : Type 0} (rules : Parts → Rules) (known : T → Known) (c : Journaled) (seat : ℕ)
+    (endpoint : Endpoint T) (finished : Finished T) : Type 0 where
   pub made : List Move
   pub makes : Makes (known endpoint.console) (known finished.console) made
   pub session : IsSession (seat_style endpoint.prompt.now seat) (part_in rules c seat) finished.outcome made
 
 -- One journal explains the responses to all seats: each console is that of its seat, and no entry is of another.
-pub record AreSessions {T : Type 0} (rules : Parts → Rules) (known : T → Known) (setup : Parts) (endpoints : List (Endpoint T)) (c : Journaled) (finished : List (Finished T)) : Type 0 where
+pub record AreSessions {T : Type 0} (rules : Parts → Rules) (known : T → Known) (setup : Parts)
+    (endpoints : List (Endpoint T)) (c : Journaled) (finished : List (Finished T)) : Type 0 where
   pub setup_is : c.setup ≡ setup
   pub seats_are : c.seats ≡ length endpoints
   pub entries : AreOfSeats c.seats c.journal

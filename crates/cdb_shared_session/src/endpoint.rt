@@ -9,7 +9,8 @@ pub struct Endpoint<T> {
     pub prompt: &'static [u8],
 }
 
-/// What a seat's session read from and wrote to, and how the session ended: a fault ended it alone, and the others went on.
+/// What a seat's session read from and wrote to, and how the session ended: a fault ended it alone, and the others went
+/// on.
 #[derive(Drop)]
 pub struct Finished<T> {
     pub console: T,

@@ -1,5 +1,5 @@
-//! Sessions of several people at once over one shared run. Each seat is served by a thread of its own, line by line, until
-//! all inputs have ended; one journal then explains the responses to each.
+//! Sessions of several people at once over one shared run. Each seat is served by a thread of its own, line by line,
+//! until all inputs have ended; one journal then explains the responses to each.
 //!
 //! ```text
 //! let endpoints = vec![in alloc; Endpoint { console, prompt: b"> " }]?;

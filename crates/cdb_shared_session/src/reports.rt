@@ -96,8 +96,8 @@ fn write_journal_fault<W: Sink>(
 }
 
 /// Writes a line for each seat whose session failed, with its number and the fault, in the order of the seats, of which
-/// there are at most 64, and then one for a journal that was not written. It takes no memory, and where the writer fails,
-/// what was written is a beginning of the lines.
+/// there are at most 64, and then one for a journal that was not written. It takes no memory, and where the writer
+/// fails, what was written is a beginning of the lines.
 pub fn write_failures<T, W: Sink>(
     finished: &[Finished<T>],
     written: &Result<(), OutputFault>,

@@ -26,10 +26,11 @@ fn of_sessions(fault: SessionsFault) -> RaceFault
     }
 }
 
-/// Holds sessions of as many seats as there are endpoints, from 1 to 64, over one run of the setup, until all have ended.
-/// Then the journal is written to the output, a line for each entry, and to the other output a line for each seat that
-/// failed, and one where the journal could not be written; these lines take no memory. Returned is the status: 6 or 7 where
-/// the journal could not be written, else that of the least seat that failed, and 0 where none did.
+/// Holds sessions of as many seats as there are endpoints, from 1 to 64, over one run of the setup, until all have
+/// ended. Then the journal is written to the output, a line for each entry, and to the other output a line for each
+/// seat that failed, and one where the journal could not be written; these lines take no memory. Returned is the
+/// status: 6 or 7 where the journal could not be written, else that of the least seat that failed, and 0 where none
+/// did.
 ///
 /// # Errors
 /// `Setup` with the setup's first fault, and then no session was begun; `Spawn` where a thread can't be started, and

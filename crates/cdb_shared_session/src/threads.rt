@@ -104,8 +104,8 @@ fn start_all<'s, E, R: Runs + Send + 's, T: Console + Drop + Send + 's, Rt: Thre
     Ok(handles)
 }
 
-/// Joins the threads, of which the last seat's comes first, and adds the seats and how their sessions ended, the first seat's
-/// first, to lists that have room for them.
+/// Joins the threads, of which the last seat's comes first, and adds the seats and how their sessions ended, the first
+/// seat's first, to lists that have room for them.
 fn join_each<R: Runs, T: Console + Drop, Rt: Threads>(
     rt: &Rt,
     mut handles: Vec<PromisedHandle<SeatResult<R, T>, SeatPromise<R, T>>>,
@@ -125,8 +125,8 @@ fn join_each<R: Runs, T: Console + Drop, Rt: Threads>(
     (seats, all)
 }
 
-/// Starts a thread for each seat in this scope, and joins them all; the seats and how their sessions ended are added to lists
-/// that have room for them.
+/// Starts a thread for each seat in this scope, and joins them all; the seats and how their sessions ended are added to
+/// lists that have room for them.
 fn join_all<'s, E, R: Runs + Send + 's, T: Console + Drop + Send + 's, Rt: Threads + Wait + Sync>(
     scope: &Scope<'s, E>,
     rt: &'s Rt,
@@ -150,8 +150,8 @@ fn join_all<'s, E, R: Runs + Send + 's, T: Console + Drop + Send + 's, Rt: Threa
     Ok(join_each(rt, handles, done, all))
 }
 
-/// Serves every seat in a thread of its own, and joins them all; the seats and how their sessions ended are added to lists
-/// that have room for them.
+/// Serves every seat in a thread of its own, and joins them all; the seats and how their sessions ended are added to
+/// lists that have room for them.
 fn run_all<R: Runs + Send, T: Console + Drop + Send, Rt: Threads + Wait + Sync>(
     rt: &Rt,
     alloc: Global,
@@ -218,15 +218,16 @@ fn open_shared<R: Runs, Rt: Wait>(
     }
 }
 
-/// Sessions of as many seats as there are endpoints, from 1 to 64, over one run of the setup, each in a thread of its own,
-/// until all have ended; then the control, whose journal has the commands of all, and the endpoints in the same order, each
-/// with how its session ended. The k-th endpoint is that of seat k. A line has its response as in a session of one seat, but that
-/// no line chooses a seat. A seat whose session ends with a fault ends alone, and the others go on.
+/// Sessions of as many seats as there are endpoints, from 1 to 64, over one run of the setup, each in a thread of its
+/// own, until all have ended; then the control, whose journal has the commands of all, and the endpoints in the same
+/// order, each with how its session ended. The k-th endpoint is that of seat k. A line has its response as in a session
+/// of one seat, but that no line chooses a seat. A seat whose session ends with a fault ends alone, and the others go
+/// on.
 ///
 /// # Errors
-/// `NoMemory` where the control, the results or the threads find no memory, and then no session was begun. `Spawn` where a
-/// thread can't be started: sessions that were begun by then go on to their ends, but their endpoints and the journal are
-/// lost.
+/// `NoMemory` where the control, the results or the threads find no memory, and then no session was begun. `Spawn`
+/// where a thread can't be started: sessions that were begun by then go on to their ends, but their endpoints and the
+/// journal are lost.
 pub fn debug_seats<R: Runs + Send, T: Console + Drop + Send, Rt: Threads + Wait + Sync>(
     rt: &Rt,
     alloc: Global,

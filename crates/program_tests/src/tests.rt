@@ -11,8 +11,8 @@ mod reading;
 mod several_seats;
 mod streams;
 
-use cdb_session::Streams;
 use cdb_program::{MAX_TURNS, Outside, Request, perform};
+use cdb_session::Streams;
 use files::Folder;
 use std::process::Abort;
 use std::sync::Wait;

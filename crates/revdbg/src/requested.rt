@@ -9,8 +9,8 @@ ghost use Rattle.cdb_base.specs.Memory.{no_memory};
 ghost use Rattle.revdbg.specs.RequestFor.{IsRequestFor, Makes};
 ghost use Rattle.revdbg.specs.Requested.{IsAskedBy, IsOutOfMemory, IsRefusal, IsRequestOf, IsUnread, OrOutOfMemory, unread_of};
 
-use cdb_base::NoMemory;
 use cdb_arguments::{AskFault, Asked, ask_status, asked};
+use cdb_base::NoMemory;
 use cdb_draw::StepAsked;
 use cdb_program::{Fault, Request};
 use cdb_streams::PlayFault;
@@ -116,7 +116,7 @@ fn refusal_of<'a>(fault: &AskFault, text: &'a str) -> Request<'a>
 }
 
 /// The request where the arguments could not be read, for this reason.
-fn unread(reason: Unread) -> Request<'static>
+fn report_unread(reason: Unread) -> Request<'static>
     ensures unread { IsUnread reason result }
     ensures turns { HasTurns result }
 {
@@ -135,7 +135,7 @@ pub fn request_for<'a>(asked: &'a Result<Asked<'a>, ArgsError>, prompt: &'a str)
 {
     match asked {
         Ok(asked) => request_of(asked, prompt),
-        Err(ArgsError::Unread(reason)) => unread(*reason),
+        Err(ArgsError::Unread(reason)) => report_unread(*reason),
         Err(ArgsError::Refused(fault, text)) => refusal_of(fault, text.as_str()),
     }
 }

@@ -1,9 +1,9 @@
 //! The files of the system.
 
 use cdb_base::NoMemory;
+use cdb_program::Files;
 use cdb_session::Streams;
 use cdb_shared_session::Endpoint;
-use cdb_program::Files;
 use cdb_streams::{Input, Output, ReadFault, read_up_to};
 use std::alloc::Global;
 use std::fs::File;
@@ -82,7 +82,11 @@ impl<'a> Files for SystemFiles<'a> {
         read
     }
 
-    fn open_seat(&mut self, _alloc: Global, name: &str) -> Result<Endpoint<SeatConsole>, ReadFault> {
+    fn open_seat(
+        &mut self,
+        _alloc: Global,
+        name: &str,
+    ) -> Result<Endpoint<SeatConsole>, ReadFault> {
         match seat_of(self.rt, name) {
             Ok(endpoint) => Ok(endpoint),
             Err(error) => {

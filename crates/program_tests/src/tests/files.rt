@@ -1,8 +1,8 @@
 //! Files in memory.
 
 use super::streams::Visitor;
-use cdb_shared_session::Endpoint;
 use cdb_program::Files;
+use cdb_shared_session::Endpoint;
 use cdb_streams::ReadFault;
 use std::alloc::{AllocError, Global};
 
@@ -97,6 +97,9 @@ impl Files for Folder {
             return Err(ReadFault::Failed);
         }
         let console = Visitor::new(lines);
-        Ok(Endpoint { console, prompt: b"" })
+        Ok(Endpoint {
+            console,
+            prompt: b"",
+        })
     }
 }
