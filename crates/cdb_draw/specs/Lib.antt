@@ -4,6 +4,7 @@ pub mod Layout
 pub mod Positions
 pub mod Lanes
 pub mod Ways
+pub mod Apart
 pub mod Arrows
 pub mod EventMarks
 pub mod Picture
