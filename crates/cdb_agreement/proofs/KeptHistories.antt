@@ -85,7 +85,7 @@ module _ {L : Type 0} (table : Table L) (setup : Parts) (range : AreInRange setu
       lawful process.1 act event process.2
 
   -- the last event is enabled before it
-  last_enabled : (history : List Event) (event : Event) → IsValid machine (history ++ event ∷ []) → IsEnabled machine (state_of machine history) event
+  pub last_enabled : (history : List Event) (event : Event) → IsValid machine (history ++ event ∷ []) → IsEnabled machine (state_of machine history) event
   last_enabled history event valid =
       let was = reached_front_some _ _ history _ valid in
       subst IsSome
@@ -129,13 +129,18 @@ module _ {L : Type 0} (table : Table L) (setup : Parts) (range : AreInRange setu
       let first = both loses _ sends.0 in
       (second_version _ first.0, at_most _ copy.to (subst (λ (n : ℕ). is_among n copy.to ≡ true) number first.1))
 
+  pub next_of_run : (history : List Event) (event : Event) → IsValid machine (history ++ event ∷ []) → IsOfRun setup event
+  next_of_run history event valid =
+      let named = valid_named machine (history ++ event ∷ []) valid (suc (length history)) event (at_end history event) in
+      of_run history event valid (subst (λ (n : ℕ). names_processes n (event_name event) ≡ true) number named.among)
+
   stands : (history : List Event) → IsValid machine history → IsStanding history
   stands history valid =
       let most = range.processes.1 in
       let count = number in
       valid_standing machine history valid (omega (arith, most, count))
 
-  taken_again : (history : List Event) (event : Event) → IsEnabled machine (state_of machine history) event
+  pub taken_again : (history : List Event) (event : Event) → IsEnabled machine (state_of machine history) event
       → again_result machine setup (state_of machine history) event ≡ Ok event
   taken_again history (Step p k kind) enabled =
       let state = state_of machine history in
@@ -163,9 +168,7 @@ module _ {L : Type 0} (table : Table L) (setup : Parts) (range : AreInRange setu
         lose = λ history valid name p event h. pushed history valid event (when_ok _ _ event h (lose_enabled machine setup number refl _ name p));
         again = λ history valid event of_run h. pushed history valid event (again_enabled history event of_run h);
         last_again = λ history event valid. taken_again history event (last_enabled history event valid);
-        of_run = λ history event valid.
-            let named = valid_named machine _ valid (suc (length history)) event (at_end history event) in
-            of_run history event valid (subst (λ (n : ℕ). names_processes n (event_name event) ≡ true) number named.among);
+        of_run = next_of_run;
         standing = stands;
         exchanged = λ history other exchanged valid. subst IsSome (fold_exchanged machine history other exchanged) valid;
         same_state = λ history other exchanged. same other history (sym (fold_exchanged machine history other exchanged));
