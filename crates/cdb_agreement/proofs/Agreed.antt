@@ -38,7 +38,7 @@ agreed setup ranges majority history valid = by_algorithm setup.algorithm refl v
         → AllAgree ((rules_by algorithm setup).decisions history)
     by_algorithm Leader is valid =
         of_state (leader_machine setup) (λ state. AllAgree (decisions_of (λ (local : LeaderState). local.decision) state)) history
-          (leader_agrees setup ranges (majority is) history) valid
+        (leader_agrees setup ranges (majority is) history) valid
     by_algorithm Alpha is valid =
         of_state (alpha_machine setup) _ history (alpha_agrees setup ranges history) valid
 
@@ -60,7 +60,7 @@ proposed setup ranges history valid = by_algorithm setup.algorithm valid
         → AreProposed setup ((rules_by algorithm setup).decisions history)
     by_algorithm Leader valid =
         of_state (leader_machine setup) (λ state. AreProposed setup (decisions_of (λ (local : LeaderState). local.decision)
-          state)) history (leader_proposes setup ranges history) valid
+        state)) history (leader_proposes setup ranges history) valid
     by_algorithm Alpha valid =
         of_state (alpha_machine setup) _ history (alpha_proposes setup ranges history) valid
 

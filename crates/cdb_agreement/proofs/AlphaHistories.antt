@@ -143,7 +143,7 @@ module _ (n : ℕ) (setup : Parts) (t : RunState LocalState) (lawful : Lawful n 
     stepped : (i : Input) → (it : IsTaken i) → Step n (own_of lawful.run) lawful.run.dec mine (traced_of s it.own_writes_after it.carried_after) it.published
     stepped i it =
         let P : ℕ → Type 0 = λ m. Step m (own_of lawful.run) lawful.run.dec (traced_of local mine.own_writes mine.carried)
-          (traced_of s it.own_writes_after it.carried_after) it.published in
+        (traced_of s it.own_writes_after it.carried_after) it.published in
         let Q : Traced → Type 0 = λ l. Step n (own_of lawful.run) lawful.run.dec l (traced_of s it.own_writes_after it.carried_after) it.published in
         subst Q (sym tied_here) (subst P (lawful.among local.me x at) it.step)
 
@@ -287,7 +287,7 @@ module _ (n : ℕ) (setup : Parts) (t : RunState LocalState) (lawful : Lawful n 
       high = let within = nth_within _ p x at in let size = lawful.size in omega arith;
       step =
           let P : ℕ → Type 0 =
-            λ o. Step n (own_of lawful.run) lawful.run.dec (lawful.run.traced o) (traced_of s kinded.own_writes_after kinded.carried_after) kinded.published in
+          λ o. Step n (own_of lawful.run) lawful.run.dec (lawful.run.traced o) (traced_of s kinded.own_writes_after kinded.carried_after) kinded.published in
           let Q : Traced → Type 0 = λ l. Step n (own_of lawful.run) lawful.run.dec (lawful.run.traced p) l kinded.published in
           subst Q (sym traced_here) (subst P is_me kinded.step);
       others = traced_other;
@@ -376,7 +376,7 @@ module _ (n : ℕ) (setup : Parts) (t : RunState LocalState) (lawful : Lawful n 
       let same = same_Some (record t { lost = set.insert t.lost copy }) to lost.1 in
       let here = subst (λ (z : RunState LocalState). nth z.registers.of_processes i ≡ Some later) (sym same) there in
       subst (λ (r : RegisterState). (before.cell.lre ≤ r.cell.lre) × (before.cell.lrww ≤ r.cell.lrww))
-        (same_Some before later (sym at ∙ here)) (omega arith, omega arith)
+      (same_Some before later (sym at ∙ here)) (omega arith, omega arith)
 
   -- an enabled event keeps the laws
   pub after_lawful : (event : Event) (to : RunState LocalState) → after (alpha_machine setup) t event ≡ Some to → Lawful n to
@@ -387,8 +387,17 @@ module _ (n : ℕ) (setup : Parts) (t : RunState LocalState) (lawful : Lawful n 
   after_lawful (happening.Lost copy) to is =
       let lost = where_true _ _ to is in
       subst (λ z. Lawful n z) (same_Some (record t { lost = set.insert t.lost copy }) to lost.1)
-      (record { run = lawful.run; laws = lawful.laws; size = lawful.size; me = lawful.me; among = lawful.among; tied =
-        lawful.tied; holds = lawful.holds; dec = lawful.dec })
+      (record {
+        run = lawful.run;
+        laws = lawful.laws;
+        size = lawful.size;
+        me = lawful.me;
+        among = lawful.among;
+        tied =
+            lawful.tied;
+        holds = lawful.holds;
+        dec = lawful.dec;
+      })
 
 -- each state that a valid history reaches keeps the laws
 pub reached_lawful : (setup : Parts) → length setup.inputs ≡ setup.processes → (history : List Event) (t : RunState LocalState)

@@ -263,10 +263,10 @@ module _ (n : ℕ) (t u : Run) (laws : RunLaws n t) (run_step : RunStep n t u) w
               → Dead n u i r ⊎ Visible i r mover_after.seen
           by_seen (inl same) =
               visible_still i r mover_before.seen mover_after.seen
-                (subst (λ (x : List Cell). Visible i r mover_before.seen → Visible i r x) (sym same) (λ it. it)) earlier
+              (subst (λ (x : List Cell). Visible i r mover_before.seen → Visible i r x) (sym same) (λ it. it)) earlier
           by_seen (inr same) =
               visible_still i r mover_before.seen mover_after.seen
-                (subst (λ (x : List Cell). Visible i r mover_before.seen → Visible i r x) (sym same) reads) earlier
+              (subst (λ (x : List Cell). Visible i r mover_before.seen → Visible i r x) (sym same) reads) earlier
 
   keeps_visible : (i r v j : ℕ) → 1 ≤ i → i ≤ n → 1 ≤ j → j ≤ n → IsIn (r, v) (u.traced i).own_writes → r < (u.traced j).round
       → 3 ≤ (u.traced j).place → (u.traced j).place ≤ 4 → Dead n u i r ⊎ Visible i r (u.traced j).seen
@@ -309,7 +309,7 @@ module _ (n : ℕ) (t u : Run) (laws : RunLaws n t) (run_step : RunStep n t u) w
               (laws.bound i r v run_step.process il ih run_step.low run_step.high old (omega arith) was.0)
           by_value (inr settles) =
               by_pass (laws.visible i r v run_step.process il ih run_step.low run_step.high old (omega arith)
-                (let here = settles.0 in omega arith) (let here = settles.0 in omega arith))
+              (let here = settles.0 in omega arith) (let here = settles.0 in omega arith))
             where
               by_pass : Dead n t i r ⊎ Visible i r mover_before.seen → Dead n u i r ⊎ (mover_after.value ≡ v)
               by_pass (inl dead) = inl (dead_still i r dead)

@@ -221,8 +221,13 @@ module _ (n j : ℕ) (low : 1 ≤ j) (high : j ≤ n) (somebody : ℕ → ℕ �
 
   keeps_write : l.place ≡ 5
       → TracedLaws n j somebody settled
-      (record l { place = 6; own = record { lre = l.round; lrww = l.round; val = Some l.value }; seen = []; own_writes =
-        l.own_writes ++ (l.round, l.value) ∷ [] })
+      (record l {
+        place = 6;
+        own = record { lre = l.round; lrww = l.round; val = Some l.value };
+        seen = [];
+        own_writes =
+            l.own_writes ++ (l.round, l.value) ∷ [];
+      })
   keeps_write here = record {
     own_class = laws.own_class;
     order = (omega arith, omega arith);

@@ -157,7 +157,7 @@ module _ {L : Type 0} (table : Table L) (setup : Parts) (range : AreInRange setu
   rules_keep : (SameState : List Event → List Event → Type 0)
       → ((history other : List Event) → fold machine history ≡ fold machine other → SameState history other)
       → (HasMajorityIfNeeded setup → (history : List Event) → IsTrue ((rules_of table setup).valid history)
-        → AllAgree ((rules_of table setup).decisions history))
+      → AllAgree ((rules_of table setup).decisions history))
       → ((history : List Event) → IsTrue ((rules_of table setup).valid history) → AreProposed setup ((rules_of table setup).decisions history))
       → KeepHistories (rules_of table setup) SameState setup
   rules_keep SameState same agree proposed =
@@ -173,7 +173,7 @@ module _ {L : Type 0} (table : Table L) (setup : Parts) (range : AreInRange setu
         exchanged = λ history other exchanged valid. subst IsSome (fold_exchanged machine history other exchanged) valid;
         same_state = λ history other exchanged. same other history (sym (fold_exchanged machine history other exchanged));
         named = λ history valid i event at. subst (λ (n : ℕ). IsEventNamed n history (event_name event) i event) number
-          (valid_named machine history valid i event at);
+            (valid_named machine history valid i event at);
         losses_free = λ history valid i copy at. loss_free machine history valid i copy at;
         agreement = agree;
         validity = proposed;
@@ -181,21 +181,21 @@ module _ {L : Type 0} (table : Table L) (setup : Parts) (range : AreInRange setu
 
 leader_lawful : (setup : Parts) → IsLawful (leader_machine setup)
 leader_lawful setup =
-  record { query = leader_laws.next_state-query; recv = leader_laws.next_state-recv; send = leader_laws.wish_of-send; write = leader_laws.wish_of-write }
+    record { query = leader_laws.next_state-query; recv = leader_laws.next_state-recv; send = leader_laws.wish_of-send; write = leader_laws.wish_of-write }
 
 alpha_lawful : (setup : Parts) → IsLawful (alpha_machine setup)
 alpha_lawful setup =
-  record { query = alpha_laws.next_state-query; recv = alpha_laws.next_state-recv; send = alpha_laws.wish_of-send; write = alpha_laws.wish_of-write }
+    record { query = alpha_laws.next_state-query; recv = alpha_laws.next_state-recv; send = alpha_laws.wish_of-send; write = alpha_laws.wish_of-write }
 
 by_algorithm : (setup : Parts) → AreInRange setup → (algorithm : Algorithm)
     → (HasMajorityIfNeeded setup → (history : List Event) → IsTrue ((rules_by algorithm setup).valid history)
-      → AllAgree ((rules_by algorithm setup).decisions history))
+    → AllAgree ((rules_by algorithm setup).decisions history))
     → ((history : List Event) → IsTrue ((rules_by algorithm setup).valid history) → AreProposed setup ((rules_by algorithm setup).decisions history))
     → KeepHistories (rules_by algorithm setup) (ReachSameStateBy algorithm setup) setup
 by_algorithm setup range Leader agree proposed =
-  rules_keep leader_table setup range (leader_lawful setup) (ReachSameStateBy Leader setup) (λ history other same. same) agree proposed
+    rules_keep leader_table setup range (leader_lawful setup) (ReachSameStateBy Leader setup) (λ history other same. same) agree proposed
 by_algorithm setup range Alpha agree proposed =
-  rules_keep alpha_table setup range (alpha_lawful setup) (ReachSameStateBy Alpha setup) (λ history other same. same) agree proposed
+    rules_keep alpha_table setup range (alpha_lawful setup) (ReachSameStateBy Alpha setup) (λ history other same. same) agree proposed
 
 pub rules_keep_histories : (setup : Parts) → AreInRange setup → KeepHistories (rules setup) (ReachSameState setup) setup
 rules_keep_histories setup range = by_algorithm setup range setup.algorithm (agreed setup range) (proposed setup range)

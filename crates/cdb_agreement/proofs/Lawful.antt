@@ -214,9 +214,12 @@ module _ {L : Type 0} (machine : Machine L) where
         let high : p ≤ setup.processes = omega (arith, place.1, count, firsts) in
         record {
           there = among _ p place.0 high;
-          of_run = subst (IsOfRun setup) named.2
-              (high, below_limit _ pass.1.1.1.1.1.1.1.0, kind_names _ _ _ _ a named.0 (λ leader given.
-                answers_within setup p _ leader range given) pass.1.1.1.1.1.0 named.1);
+          of_run = subst (IsOfRun setup) named.2 (
+            high,
+            below_limit _ pass.1.1.1.1.1.1.1.0,
+            kind_names _ _ _ _ a named.0 (λ leader given.
+                answers_within setup p _ leader range given) pass.1.1.1.1.1.0 named.1,
+          );
         }
 
     lose_of_run : (state : RunState L) (name : MsgName) (p : ℕ) (event : Event) → loss_result setup state name p ≡ Ok event → IsOfRun setup event
@@ -230,10 +233,10 @@ module _ {L : Type 0} (machine : Machine L) where
     again_same : (state : RunState L) (event taken : Event) → again_result machine setup state event ≡ Ok taken → taken ≡ event
     again_same state (Step p k kind) taken h =
         let process = of_some (λ (process : ProcessState L).
-          unless_refused (first_refusal (again_checks machine (mail_of state) state.registers process.progress p k kind))
-            (Some (Step p k kind))) (nth state.processes p) _ taken h in
+        unless_refused (first_refusal (again_checks machine (mail_of state) state.registers process.progress p k kind))
+        (Some (Step p k kind))) (nth state.processes p) _ taken h in
         sym (same_Some (Step p k kind) taken (answered (first_refusal (again_checks machine (mail_of state) state.registers
-          process.0.progress p k kind)) _ taken process.2).1)
+        process.0.progress p k kind)) _ taken process.2).1)
     again_same state (Lost copy) taken h =
         sym (same_Some (Lost (copy_name copy.msg copy.to)) taken (answered _ _ taken h).1)
 
@@ -243,7 +246,7 @@ rules_lawful table setup range =
     let firsts = length-first_states table.first 1 setup.processes _ _ ∙ range.an_input_each in
     record {
       shown =
-        λ history p it h. there_where_shown machine setup range firsts Shown (shown_of table) (state_of machine history) p it (count_is machine history) h;
+          λ history p it h. there_where_shown machine setup range firsts Shown (shown_of table) (state_of machine history) p it (count_is machine history) h;
       among = λ history p a event h. (step_planned machine setup range firsts (state_of machine history) p a event (count_is machine history) h).there;
       step = λ history p a event h. (step_planned machine setup range firsts (state_of machine history) p a event (count_is machine history) h).of_run;
       lose = λ history name p event h. lose_of_run machine setup range firsts (state_of machine history) name p event h;
@@ -271,6 +274,6 @@ few_registers setup range history = go setup.algorithm
   where
     go : (algorithm : Algorithm) → length ((rules_by algorithm setup).registers history).of_processes ≤ setup.processes
     go Leader = subst (λ n. length ((rules_by Leader setup).registers history).of_processes ≤ n)
-      (length-first_states _ 1 _ _ _ ∙ range.an_input_each) (few_cells (leader_machine setup) history)
+        (length-first_states _ 1 _ _ _ ∙ range.an_input_each) (few_cells (leader_machine setup) history)
     go Alpha = subst (λ n. length ((rules_by Alpha setup).registers history).of_processes ≤ n)
-      (length-first_states _ 1 _ _ _ ∙ range.an_input_each) (few_cells (alpha_machine setup) history)
+        (length-first_states _ 1 _ _ _ ∙ range.an_input_each) (few_cells (alpha_machine setup) history)

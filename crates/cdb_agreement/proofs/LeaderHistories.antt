@@ -95,7 +95,7 @@ module _ (setup : Parts) where
     where
       at : (p : ℕ)
           → HasTaken setup.quorum (local_in setup.quorum (begun p)) (sent_in (begun p)) × (sent_in (begun p) ≡ [])
-            × ((local_in setup.quorum (begun p)).inbox ≡ [])
+          × ((local_in setup.quorum (begun p)).inbox ≡ [])
       at p = starts _ _ (first_of p)
 
 -- ---- an event
@@ -160,12 +160,12 @@ module _ (n : ℕ) (setup : Parts) (t : RunState LocalState) (lawful : Lawful n 
               let sender : o ≡ r = cc in
               let payload : y ≡ z = cc in
               subst (λ a. Contains (mail r) a) payload (subst (λ a. Contains (mail a) y) sender
-                (mailed t o m y (carried (mail_of t) p (message_name o m) y at) setup.quorum))
+              (mailed t o m y (carried (mail_of t) p (message_name o m) y at) setup.quorum))
   kind_step x s p (Read register) met is = go (register_of t.registers register) met is
     where
       go : (o : Option RegisterState) → is_some o ≡ true
           → taken_local table.next_state x.progress.local
-            (option_map (λ (stands : RegisterState). input.Read register stands.cell) o) ≡ Some s → IsStep x s x.sent
+          (option_map (λ (stands : RegisterState). input.Read register stands.cell) o) ≡ Some s → IsStep x s x.sent
       go None there it = absurd (true≢false (sym there))
       go (Some stands) there it = absurd (none-some s it)
   kind_step x s p (Write register) met is = go (register_of t.registers register) met is
@@ -180,7 +180,7 @@ module _ (n : ℕ) (setup : Parts) (t : RunState LocalState) (lawful : Lawful n 
 
   -- the state after a step of a process x that goes on to the local state s
   module _ (p k : ℕ) (kind : Kind) (x : ProcessState LocalState) (s : LocalState) (at : nth t.processes p ≡ Some x)
-    (stepped : IsStep x s (sent_after (leader_machine setup) x kind)) where
+      (stepped : IsStep x s (sent_after (leader_machine setup) x kind)) where
     abbrev left : ProcessState LocalState
     left = process_after (leader_machine setup) x p k kind (sight_in t p kind) s
 
@@ -200,7 +200,7 @@ module _ (n : ℕ) (setup : Parts) (t : RunState LocalState) (lawful : Lawful n 
       moves =
           let P : Option (ProcessState LocalState) → Type 0 = λ a. Moves mail (local_in setup.quorum a) (sent_in a) s left.sent in
           let Q : Option (ProcessState LocalState) → Type 0 =
-            λ b. Moves mail (local_in setup.quorum (nth t.processes p)) (sent_in (nth t.processes p)) (local_in setup.quorum b) (sent_in b) in
+          λ b. Moves mail (local_in setup.quorum (nth t.processes p)) (sent_in (nth t.processes p)) (local_in setup.quorum b) (sent_in b) in
           subst Q (sym at_later) (subst P (sym at) stepped);
       others = λ o other. (ap (local_in setup.quorum) (elsewhere o other), ap sent_in (elsewhere o other));
     }

@@ -158,7 +158,7 @@ module _ (n q : ℕ) (t u : Run) (laws : RunLaws n q t) (run_step : RunStep n t 
       by_process (λ o. HasTaken q (u.local o) (u.sent o)) p
       (has_moved t.sent (t.local mover) (t.sent mover) (u.local mover) (u.sent mover) q (laws.each mover) run_step.moves)
       (λ other. subst (λ xs. HasTaken q (u.local p) xs) (sym (run_step.others p other).1)
-        (subst (λ l. HasTaken q l (t.sent p)) (sym (run_step.others p other).0) (laws.each p)))
+      (subst (λ l. HasTaken q l (t.sent p)) (sym (run_step.others p other).0) (laws.each p)))
 
   keeps_members : (p : ℕ) (x : Payload) → Contains (u.sent p) x → p ≤ n
   keeps_members p x =

@@ -71,7 +71,7 @@ module _ {L : Type 0} (machine : Machine L) where
   -- events of a sort, each with a number, of which a state counts how many there were
   module _ (is : Event → Bool) (number : Event → ℕ) (count : RunState L → ℕ)
       (counts : (state next : RunState L) (event : Event) → after machine state event ≡ Some next → is event ≡ true
-        → (number event ≡ count state + 1) × (count next ≡ number event))
+      → (number event ≡ count state + 1) × (count next ≡ number event))
       (keeps : (state next : RunState L) (event : Event) → after machine state event ≡ Some next → is event ≡ false → count next ≡ count state) where
     numbered : (events : List Event) (state to : RunState L) → Reaches machine state events to → (i : ℕ) (x : Event)
         → slice_get (filter is events) i ≡ Some x → (is x ≡ true) × (number x ≡ count state + suc i)
@@ -129,7 +129,7 @@ module _ {L : Type 0} (machine : Machine L) where
         → steps_of next p ≡ steps_of state p
     steps_keep state next (Step q k kind) one e =
         ap (of_process (λ process. process.progress.steps))
-          (process_kept machine state next q k kind (taken_from machine state next q k kind one) p (nat_eq-ne q p e))
+        (process_kept machine state next q k kind (taken_from machine state next q k kind one) p (nat_eq-ne q p e))
     steps_keep state next (Lost copy) one e = ap (λ (x : RunState L). steps_of x p) (sym (lost_from machine state next copy one).1)
 
     no_steps : steps_of (start machine) p ≡ 0
@@ -232,7 +232,7 @@ module _ {L : Type 0} (machine : Machine L) where
 
   pub sends_numbered : (history : List Event) → IsValid machine history → AreSendsNumbered history
   sends_numbered history valid p m event =
-    (at_number m, λ sent. stands m sent.0 (let is = sent.1.1 in (subst (λ x. is_send_by p x ≡ true) (sym is) (is_its_own p), ap (message_number p) is)))
+      (at_number m, λ sent. stands m sent.0 (let is = sent.1.1 in (subst (λ x. is_send_by p x ≡ true) (sym is) (is_its_own p), ap (message_number p) is)))
     where
       order : (i : ℕ) (x : Event) → slice_get (filter (is_send_by p) history) i ≡ Some x → (is_send_by p x ≡ true) × (message_number p x ≡ suc i)
       order = in_order (is_send_by p) (message_number p) (λ state. sends_of state p) (sends_count p) (sends_keep p) history valid (no_sends p)

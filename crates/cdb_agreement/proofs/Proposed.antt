@@ -54,7 +54,7 @@ in_more x xs (Some y) here = go (in_push x y xs here)
     go (inr new) = inr (ap (λ z. Some z) (sym new))
 
 module _ {L : Type 0} (table : Table L) (holds : L → ℕ → Type 0) (makes : MakesNoValue table holds) (setup : Parts)
-  (each : length setup.inputs ≡ setup.processes) where
+    (each : length setup.inputs ≡ setup.processes) where
   abbrev machine : Machine L
   machine = machine_of table setup
 
@@ -135,7 +135,7 @@ module _ {L : Type 0} (table : Table L) (holds : L → ℕ → Type 0) (makes : 
     brought p Crash i is v brings = absurd (none-some i is)
 
     module _ (p k : ℕ) (kind : Kind) (x : ProcessState L) (s : L) (at : nth t.processes p ≡ Some x)
-      (takes : taken_local table.next x.progress.local (input_of kind (sight_in t p kind)) ≡ Some s) where
+        (takes : taken_local table.next x.progress.local (input_of kind (sight_in t p kind)) ≡ Some s) where
       abbrev left : ProcessState L
       left = process_after machine x p k kind (sight_in t p kind) s
 
@@ -181,7 +181,7 @@ module _ {L : Type 0} (table : Table L) (holds : L → ℕ → Type 0) (makes : 
           go : (i ≡ j) ⊎ (i ≡ j → ⊥) → IsProposed setup v
           go (inl same) =
               let here =
-                sym (nth-update_nth_same _ _ j) ∙ subst (λ m. register_of (with_register (put_cell cell) t.registers (R j)) (R m) ≡ Some stands) same is in
+              sym (nth-update_nth_same _ _ j) ∙ subst (λ m. register_of (with_register (put_cell cell) t.registers (R j)) (R m) ≡ Some stands) same is in
               let was = mapped _ _ stands here in
               proposed v (ap (λ (y : RegisterState). y.cell.val) was.2 ∙ val)
           go (inr other) =
@@ -226,7 +226,7 @@ module _ {L : Type 0} (table : Table L) (holds : L → ℕ → Type 0) (makes : 
       sourced_left = record {
         held = by_process (λ y. (v : ℕ) → holds y.progress.local v → IsProposed setup v) held_left sourced.held;
         sent =
-          by_process (λ y. (payload : Payload) → IsIn payload y.sent → (v : ℕ) → payload_value payload ≡ Some v → IsProposed setup v) sent_left sourced.sent;
+            by_process (λ y. (payload : Payload) → IsIn payload y.sent → (v : ℕ) → payload_value payload ≡ Some v → IsProposed setup v) sent_left sourced.sent;
         shown = shown_left;
       }
 

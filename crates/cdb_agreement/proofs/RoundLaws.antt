@@ -77,9 +77,9 @@ module _ (n q : ℕ) (t : RunState LeaderState) (lawful : leader.Lawful n q t) w
   rounds : n ≤ 9 → n < q + q → LeaderRounds q t
   rounds small majority = record {
     one_value =
-      λ r p o v w mine other. one_aux n q small majority sent heard joint r p v o w (sent_in p (P2 r (Some v)) mine) (sent_in o (P2 r (Some w)) other);
+        λ r p o v w mine other. one_aux n q small majority sent heard joint r p v o w (sent_in p (P2 r (Some v)) mine) (sent_in o (P2 r (Some w)) other);
     taken_along =
-      λ r v d p e k it there. locked n q small majority sent heard joint r v (chosen r v it) d (r + d) p e k refl (sent_in p (P1 (suc (r + d)) e k) there);
+        λ r v d p e k it there. locked n q small majority sent heard joint r v (chosen r v it) d (r + d) p e k refl (sent_in p (P1 (suc (r + d)) e k) there);
     one_decided = λ r v u w one other. one_chosen n q small majority sent heard joint r v u w (chosen r v one) (chosen u w other);
   }
 
@@ -179,7 +179,7 @@ module _ (n : ℕ) (t : RunState AlphaState) (lawful : alpha.Lawful n t) where
               let last = ap (λ (c : Cell). c.lrww) cell_is in
               ap (λ (c : Cell). c.val) cell_is
               ∙ settled_later v settled.0 settled.1 settled.2 settled.3 settled.4 settled.5 j (low_at j other there)
-                (high_at j other there) (omega (arith, later, last)),
+              (high_at j other there) (omega (arith, later, last)),
         )
 
 pub alpha_rounds : (setup : Parts) → AreInRange setup → (history : List Event) (t : RunState AlphaState)

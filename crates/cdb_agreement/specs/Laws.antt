@@ -38,12 +38,12 @@ Reaches machine history state = fold machine history ≡ Some state
 -- both histories lead to one state
 abbrev pub ReachOneState : {L : Type 0} → Machine L → List Event → List Event → Type 0
 ReachOneState {L} machine history other =
-  (state : RunState L) × Reaches machine history state × Reaches machine other state
+    (state : RunState L) × Reaches machine history state × Reaches machine other state
 
 -- of each history and the state that it reaches
 abbrev pub ForReached : (L : Type 0) → (Machine L → List Event → RunState L → Type 0) → Type 0
 ForReached L Holds = (machine : Machine L) (history : List Event) (state : RunState L) → Reaches machine history state
-  → Holds machine history state
+    → Holds machine history state
 
 -- of each state that a history of the machine reaches
 abbrev pub InReached : {L : Type 0} → Machine L → (RunState L → Type 0) → Type 0
@@ -64,7 +64,7 @@ ForMajorities Holds = ForSetups (λ setup. HasMajority setup → Holds setup)
 -- of each history that is valid by the rules of its setup
 abbrev pub ForValid : (Parts → List Event → Type 0) → Type 0
 ForValid Holds =
-  ForSetups (λ setup. (history : List Event) → IsTrue ((rules setup).valid history) → Holds setup history)
+    ForSetups (λ setup. (history : List Event) → IsTrue ((rules setup).valid history) → Holds setup history)
 
 -- of each free event of a valid history, and what is left without it
 abbrev pub ForFree : (L : Type 0) → (Machine L → List Event → Event → List Event → Type 0) → Type 0
@@ -76,30 +76,30 @@ ForFree L Holds =
 abbrev pub ForConsequences : (L : Type 0) → (Machine L → List Event → List Event → List Event → Type 0) → Type 0
 ForConsequences L Holds =
     (machine : Machine L) (history : List Event) (at : ℕ)
-      → Holds machine history (rolled_back depends history at) (remaining depends history at)
+    → Holds machine history (rolled_back depends history at) (remaining depends history at)
 
 -- among any number of processes, of each name: of one that an event has, with its position; of one that none has; of
 -- one whose processes are not all there
 abbrev pub ForNamed : (ℕ → List Event → StepId → ℕ → Event → Type 0) → Type 0
 ForNamed Holds =
     (n : ℕ) (history : List Event) (name : StepId) (at : ℕ) (event : Event) → IsEventNamed n history name at event
-      → Holds n history name at event
+    → Holds n history name at event
 
 -- of the name of a free event, and what is left without that event; of the name of one that is not free, and the first
 -- that depends on it
 abbrev pub ForFreeNamed : (ℕ → List Event → StepId → Event → List Event → Type 0) → Type 0
 ForFreeNamed Holds =
-  ForNamed (λ n history name at event. IsFree depends history at → Holds n history name event (without history at))
+    ForNamed (λ n history name at event. IsFree depends history at → Holds n history name event (without history at))
 
 abbrev pub ForNeeded : (ℕ → List Event → StepId → StepId → Type 0) → Type 0
 ForNeeded Holds =
     ForNamed (λ n history name at event. (dependent : StepId) → IsFirstDependent history at dependent
-      → Holds n history name dependent)
+    → Holds n history name dependent)
 
 abbrev pub ForNew : (ℕ → List Event → StepId → Type 0) → Type 0
 ForNew Holds =
     (n : ℕ) (history : List Event) (name : StepId) → names_processes n name ≡ true → IsNewName history name
-      → Holds n history name
+    → Holds n history name
 
 -- of the name of an event that is taken, which none has
 abbrev pub ForTaken : (ℕ → List Event → StepId → Event → Type 0) → Type 0
@@ -112,24 +112,24 @@ ForAbsent Holds = (n : ℕ) (history : List Event) (name : StepId) → names_pro
 abbrev pub ForUndone : (List Event → StepId → Event → List Event → Type 0) → Type 0
 ForUndone Holds =
     (n : ℕ) (history : List Event) (name : StepId) (event : Event) (left : List Event)
-      → undo_of n history name ≡ Ok (event, left)
+    → undo_of n history name ≡ Ok (event, left)
     → Holds history name event left
 
 abbrev pub ForRolledBack : (List Event → StepId → List Event → List Event → Type 0) → Type 0
 ForRolledBack Holds =
     (n : ℕ) (history : List Event) (name : StepId) (removed left : List Event)
-      → rollback_of n history name ≡ Ok (removed, left)
+    → rollback_of n history name ≡ Ok (removed, left)
     → Holds history name removed left
 
 -- of each of these in a valid history
 abbrev pub ForUndoneIn : (L : Type 0) → (Machine L → List Event → Event → List Event → Type 0) → Type 0
 ForUndoneIn L Holds = (machine : Machine L) → ForUndone (λ history name event left. IsValid machine history
-  → Holds machine history event left)
+    → Holds machine history event left)
 
 abbrev pub ForRolledBackIn : (L : Type 0) → (Machine L → List Event → List Event → List Event → Type 0) → Type 0
 ForRolledBackIn L Holds =
     (machine : Machine L) → ForRolledBack (λ history name removed left. IsValid machine history
-      → Holds machine history removed left)
+    → Holds machine history removed left)
 
 -- ---- what
 
@@ -140,7 +140,7 @@ DecisionsAgree machine decision = InReached machine (λ state. AllAgree (decisio
 -- each decision in a state that the machine of a setup reaches was the input of a process of that setup
 abbrev pub DecisionsAreProposed : {L : Type 0} → (Parts → Machine L) → (L → Option ℕ) → Parts → Type 0
 DecisionsAreProposed machine decision setup =
-  InReached (machine setup) (λ state. AreProposed setup (decisions_of decision state))
+    InReached (machine setup) (λ state. AreProposed setup (decisions_of decision state))
 
 -- both histories lead to the same state, or neither leads anywhere
 abbrev pub LeadAlike : {L : Type 0} → Machine L → List Event → List Event → Type 0
@@ -163,7 +163,7 @@ taken_back history at = (reverse (rolled_back depends history at), remaining dep
 abbrev pub IsUndone : List Event → StepId → Event → List Event → Type 0
 IsUndone history name event left =
     (at : ℕ) × (is_named name event ≡ true) × (nth history at ≡ Some event) × IsFree depends history at
-      × (left ≡ without history at)
+    × (left ≡ without history at)
 
 -- an event has the name, and it is removed with its consequences, the last first; all others are left
 abbrev pub IsRolledBackTo : List Event → StepId → List Event → List Event → Type 0
@@ -186,16 +186,16 @@ NamesDiffer history = (i j : ℕ) (name : StepId) → IsNamedAt history i name �
 -- each event is the one of its name
 abbrev pub AreNamed : ℕ → List Event → Type 0
 AreNamed n history =
-  (at : ℕ) (event : Event) → nth history at ≡ Some event → IsEventNamed n history (event_name event) at event
+    (at : ℕ) (event : Event) → nth history at ≡ Some event → IsEventNamed n history (event_name event) at event
 
 -- each loss of a copy stands behind the send of its message
 abbrev pub LossesFollowSends : List Event → Type 0
 LossesFollowSends history =
     (copy : CopyName) → IsIn (Lost copy) history
-      → (k : ℕ) × IsBefore (Step copy.msg.s k (Send copy.msg.m)) (Lost copy) history
+    → (k : ℕ) × IsBefore (Step copy.msg.s k (Send copy.msg.m)) (Lost copy) history
 
 -- no lost copy is received
 abbrev pub LostStayUnreceived : List Event → Type 0
 LostStayUnreceived history =
     (copy : CopyName) (k : ℕ) → IsIn (Lost copy) history → IsIn (Step copy.to k
-      (Recv copy.msg.s copy.msg.m)) history → ⊥
+    (Recv copy.msg.s copy.msg.m)) history → ⊥

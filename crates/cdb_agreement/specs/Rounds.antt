@@ -29,7 +29,7 @@ HasSent t p payload = (process : ProcessState LeaderState) × IsProcess t p proc
 -- process p has received this payload from process s
 abbrev pub HasReceived : RunState LeaderState → ℕ → ℕ → Payload → Type 0
 HasReceived t p s payload =
-  (process : ProcessState LeaderState) × IsProcess t p process × IsHeard process.progress.local.inbox s payload
+    (process : ProcessState LeaderState) × IsProcess t p process × IsHeard process.progress.local.inbox s payload
 
 -- v is decided in round r: a quorum of q processes voted v there
 abbrev pub IsDecided : ℕ → RunState LeaderState → ℕ → ℕ → Type 0
@@ -70,7 +70,7 @@ pub record AlphaRounds (machine : Machine AlphaState) (n : ℕ) (t : RunState Al
   pub shown : (i : ℕ) (process : ProcessState AlphaState) (register : RegisterState) → IsProcess t i process
       → IsRegister t i register
       → let cell = register.cell in (cell ≡ process.progress.local.own) × (cell.lrww ≤ cell.lre)
-        × (cell.lre ≤ process.progress.local.round)
+      × (cell.lre ≤ process.progress.local.round)
   -- and whatever event comes next, neither round in a register falls
   pub rising : (event : Event) (next : RunState AlphaState) → after machine t event ≡ Some next
       → (i : ℕ) (before later : RegisterState)
@@ -86,5 +86,5 @@ pub record AlphaRounds (machine : Machine AlphaState) (n : ℕ) (t : RunState Al
   pub decided : (p v : ℕ) (process : ProcessState AlphaState) → IsProcess t p process
       → process.progress.local.decision ≡ Some v
       → (r : ℕ) × (1 ≤ r) × ((i : ℕ) (other : ProcessState AlphaState) (register : RegisterState) → IsProcess t i other
-        → IsRegister t i register
+      → IsRegister t i register
       → r ≤ register.cell.lrww → register.cell.val ≡ Some v)

@@ -24,7 +24,7 @@ push_by : {X : Type 0} (test : X → Bool) (x : X) (xs : List X) (y : X) (a b : 
     → first_position test (xs ++ y ∷ []) ≡ (if b then noted (length xs) (first_position test xs) else first_position test xs)
     → (if a then Some zero else option_map suc (first_position test (xs ++ y ∷ [])))
     ≡ (if b then noted (suc (length xs)) (if a then Some zero else option_map suc (first_position test xs)) else
-      (if a then Some zero else option_map suc (first_position test xs)))
+    (if a then Some zero else option_map suc (first_position test xs)))
 push_by test x xs y a b h1 = grind (arith, common_steps, gets)
 
 pub first_position-push : {X : Type 0} (test : X → Bool) (xs : List X) (y : X)
@@ -104,7 +104,7 @@ module _ {X : Type 0} (f : X → Option (Option ℕ)) where
         → (if are_different a o then Some zero else option_map suc (first_position (λ x. are_different a (f x)) xs)) ≡ None
     by_first (Some v) rest e more = absurd (cc)
     by_first None rest e more =
-      ap (λ b. if b then Some zero else option_map suc (first_position (λ x. are_different a (f x)) xs)) (not_different a) ∙ ap (option_map suc) (more e)
+        ap (λ b. if b then Some zero else option_map suc (first_position (λ x. are_different a (f x)) xs)) (not_different a) ∙ ap (option_map suc) (more e)
 
   abbrev pub others : List X → Option ℕ
   others xs = first_position (λ x. are_different (first_given f xs) (f x)) xs
@@ -117,7 +117,7 @@ module _ {X : Type 0} (f : X → Option (Option ℕ)) where
       by_given : (a : Option (Option ℕ)) → first_given f xs ≡ a
           → first_position (λ x. are_different (option_or a (f y)) (f x)) (xs ++ y ∷ [])
           ≡ (if are_different a (f y) then noted (length xs) (first_position (λ x. are_different a (f x)) xs) else first_position
-            (λ x. are_different a (f x)) xs)
+          (λ x. are_different a (f x)) xs)
       by_given (Some v) is = first_position-push _ xs y
       by_given None is =
           first_position-silent _ xs y (same_vote (f y))
@@ -157,7 +157,7 @@ module _ {A : Type 0} (reading : Payload → Option A) (inbox : List Received) (
       changes t
       ∙ ap (λ o. if y.from == t then forgotten (length inbox) o else o) (h t)
       ∙ ap (λ b. if b then forgotten (length inbox) (first_position (reads_from t reading) (inbox ++ y ∷ [])) else first_position
-        (reads_from t reading) (inbox ++ y ∷ []))
+      (reads_from t reading) (inbox ++ y ∷ []))
       (sym (read_true _ _ v reads))
       ∙ sym (first_position-forget _ inbox y)
 
@@ -185,7 +185,7 @@ module _ (r : ℕ) (inbox : List Received) (y : Received) where
   IsRowOf-push_first v old new reads nil h changes seconds vote other = record {
     first_phases = AreFirsts-push (first_phase r) inbox y v old.first_phases new.first_phases reads h.first_phases changes;
     second_phases = subst (λ f. AreFirsts (second_phase r) f (inbox ++ y ∷ [])) (sym seconds)
-      (AreFirsts-longer (second_phase r) inbox y old.second_phases nil h.second_phases);
+        (AreFirsts-longer (second_phase r) inbox y old.second_phases nil h.second_phases);
     vote = vote ∙ h.vote ∙ sym (no_vote nil);
     other_vote = other ∙ h.other_vote ∙ sym (others-silent (λ e. second_phase r e.payload) inbox y nil);
   }
@@ -197,7 +197,7 @@ module _ (r : ℕ) (inbox : List Received) (y : Received) where
   IsRowOf-forget_first v old new reads nil h changes seconds vote other = record {
     first_phases = AreFirsts-forget (first_phase r) inbox y v old.first_phases new.first_phases reads h.first_phases changes;
     second_phases =
-      subst (λ f. AreFirsts (second_phase r) f inbox) (sym seconds) (AreFirsts-shorter (second_phase r) inbox y old.second_phases nil h.second_phases);
+        subst (λ f. AreFirsts (second_phase r) f inbox) (sym seconds) (AreFirsts-shorter (second_phase r) inbox y old.second_phases nil h.second_phases);
     vote = vote ∙ h.vote ∙ no_vote nil;
     other_vote = other ∙ h.other_vote ∙ others-silent (λ e. second_phase r e.payload) inbox y nil;
   }
@@ -211,14 +211,14 @@ module _ (r : ℕ) (inbox : List Received) (y : Received) where
       → IsRowOf r new (inbox ++ y ∷ [])
   IsRowOf-push_vote aux b old new nil reads h firsts changes vote tells other = record {
     first_phases =
-      subst (λ f. AreFirsts (first_phase r) f (inbox ++ y ∷ [])) (sym firsts) (AreFirsts-longer (first_phase r) inbox y old.first_phases nil h.first_phases);
+        subst (λ f. AreFirsts (first_phase r) f (inbox ++ y ∷ [])) (sym firsts) (AreFirsts-longer (first_phase r) inbox y old.first_phases nil h.first_phases);
     second_phases = AreFirsts-push (second_phase r) inbox y aux old.second_phases new.second_phases reads h.second_phases changes;
     vote = vote ∙ ap (noted (length inbox)) h.vote ∙ sym (first_position-noted _ inbox y (ap is_some reads));
     other_vote =
         other
         ∙ ap (λ o. if b then noted (length inbox) o else o) h.other_vote
         ∙ ap (λ d. if d then noted (length inbox) (first_position (λ e. are_different (vote_in r inbox)
-          (second_phase r e.payload)) inbox) else first_position (λ e. are_different (vote_in r inbox) (second_phase r e.payload)) inbox)
+        (second_phase r e.payload)) inbox) else first_position (λ e. are_different (vote_in r inbox) (second_phase r e.payload)) inbox)
         (tells ∙ ap (are_different (vote_in r inbox)) (sym reads))
         ∙ sym (others-push (λ e. second_phase r e.payload) inbox y);
   }
@@ -293,7 +293,7 @@ module _ (r : ℕ) (inbox : List Received) where
   row_of_none (Some row) none h = absurd (cc)
 
 module _ (r : ℕ) (inbox : List Received) (o : Option Row) (none : o ≡ None) (h : IsRoundOf r o inbox) (new : Firsts)
-  (empty : (s : ℕ) → position_from s new ≡ None) where
+    (empty : (s : ℕ) → position_from s new ≡ None) where
   abbrev new_row : Row
   new_row = record { first_phases = new; second_phases = new; vote = None; other_vote = None }
 
@@ -333,7 +333,7 @@ module _ (old new : Index) (inbox : List Received) (y : Received) where
     IsIndexOf-push_row h row_is = record {
       rounds = λ q. subst (λ o. IsRoundOf q o (inbox ++ y ∷ [])) (sym (updates q)) (by_round q (nat_eq r q) refl);
       decisions = subst (λ f. AreFirsts as_decision f (inbox ++ y ∷ [])) (sym decisions)
-        (AreFirsts-longer as_decision inbox y old.decisions (not_decision _ r at) h.decisions);
+          (AreFirsts-longer as_decision inbox y old.decisions (not_decision _ r at) h.decisions);
     } where
       by_round : (q : ℕ) (b : Bool) → nat_eq r q ≡ b → IsRoundOf q (cond b (Some row) (get nat_eq old.rows q)) (inbox ++ y ∷ [])
       by_round q true e = subst (λ n. IsRowOf n row (inbox ++ y ∷ [])) (eqb-true r q e) row_is
@@ -343,7 +343,7 @@ module _ (old new : Index) (inbox : List Received) (y : Received) where
     IsIndexOf-forget_row h row_is = record {
       rounds = λ q. subst (λ o. IsRoundOf q o inbox) (sym (updates q)) (by_round q (nat_eq r q) refl);
       decisions =
-        subst (λ f. AreFirsts as_decision f inbox) (sym decisions) (AreFirsts-shorter as_decision inbox y old.decisions (not_decision _ r at) h.decisions);
+          subst (λ f. AreFirsts as_decision f inbox) (sym decisions) (AreFirsts-shorter as_decision inbox y old.decisions (not_decision _ r at) h.decisions);
     } where
       by_round : (q : ℕ) (b : Bool) → nat_eq r q ≡ b → IsRoundOf q (cond b (Some row) (get nat_eq old.rows q)) inbox
       by_round q true e = subst (λ n. IsRowOf n row inbox) (eqb-true r q e) row_is
@@ -355,7 +355,7 @@ module _ (old new : Index) (inbox : List Received) (y : Received) where
         let d = a_decision _ none in
         record {
           rounds = λ q. subst (λ m. IsRoundOf q (get nat_eq m q) (inbox ++ y ∷ [])) (sym rows)
-            (IsRoundOf-longer q inbox y (d.2 q) (d.3 q) (get nat_eq old.rows q) (h.rounds q));
+              (IsRoundOf-longer q inbox y (d.2 q) (d.3 q) (get nat_eq old.rows q) (h.rounds q));
           decisions = AreFirsts-push as_decision inbox y d.0 old.decisions new.decisions d.1 h.decisions changes;
         }
 
@@ -365,7 +365,7 @@ module _ (old new : Index) (inbox : List Received) (y : Received) where
         let d = a_decision _ none in
         record {
           rounds =
-            λ q. subst (λ m. IsRoundOf q (get nat_eq m q) inbox) (sym rows) (IsRoundOf-shorter q inbox y (d.2 q) (d.3 q) (get nat_eq old.rows q) (h.rounds q));
+              λ q. subst (λ m. IsRoundOf q (get nat_eq m q) inbox) (sym rows) (IsRoundOf-shorter q inbox y (d.2 q) (d.3 q) (get nat_eq old.rows q) (h.rounds q));
           decisions = AreFirsts-forget as_decision inbox y d.0 old.decisions new.decisions d.1 h.decisions changes;
         }
 

@@ -68,7 +68,7 @@ module _ {A : Type 0} (reading : Payload → Option A) (kept : Firsts) (inbox : 
   look_up : option_and_then (if_from s reading) o ≡ first_from s reading inbox
   look_up =
       ap (option_and_then (if_from s reading)) (at ∙ ap (option_and_then (slice_get messages)) spot_is
-        ∙ ap (λ m. option_and_then (slice_get m) (position_from s kept)) messages_are)
+      ∙ ap (λ m. option_and_then (slice_get m) (position_from s kept)) messages_are)
       ∙ read_at reading kept inbox h s
 
   pub read_none : o ≡ None → None ≡ first_from s reading inbox
@@ -104,12 +104,12 @@ module _ {X : Type 0} (f : X → Option (Option ℕ)) (w : ℕ) where
   pub all_carry : (xs : List X) → passes xs ≡ not (is_some (first_position (λ x. are_different (Some (Some w)) (f x)) xs))
   all_carry [] = refl
   all_carry (x ∷ xs) = ap (λ b. b && passes xs) (carries_alike (f x))
-    ∙ by_first (are_different (Some (Some w)) (f x)) (first_position (λ x. are_different (Some (Some w)) (f x)) xs) (all_carry xs) where
-    by_first : (b : Bool) (o : Option ℕ) → passes xs ≡ not (is_some o)
-        → (not b && passes xs) ≡ not (is_some (if b then Some zero else option_map suc o))
-    by_first true o rest = refl
-    by_first false None rest = rest
-    by_first false (Some i) rest = rest
+      ∙ by_first (are_different (Some (Some w)) (f x)) (first_position (λ x. are_different (Some (Some w)) (f x)) xs) (all_carry xs) where
+        by_first : (b : Bool) (o : Option ℕ) → passes xs ≡ not (is_some o)
+            → (not b && passes xs) ≡ not (is_some (if b then Some zero else option_map suc o))
+        by_first true o rest = refl
+        by_first false None rest = rest
+        by_first false (Some i) rest = rest
 
   -- where the first carries something else, they do not all carry w
   first_fails : (xs : List X) (a : Option ℕ) → first_given f xs ≡ Some a → carries w (Some a) ≡ false → passes xs ≡ false
@@ -118,7 +118,7 @@ module _ {X : Type 0} (f : X → Option (Option ℕ)) (w : ℕ) where
     by_first : (o : Option (Option ℕ)) → option_or o (first_given f xs) ≡ Some a → (first_given f xs ≡ Some a → passes xs ≡ false)
         → (carries w o && passes xs) ≡ false
     by_first (Some b) e rest =
-      let same : Path (Option (Option ℕ)) (Some b) (Some a) = e in ap (λ o. carries w o && passes xs) same ∙ ap (λ c. c && passes xs) nil
+        let same : Path (Option (Option ℕ)) (Some b) (Some a) = e in ap (λ o. carries w o && passes xs) same ∙ ap (λ c. c && passes xs) nil
     by_first None e rest = rest e
 
   -- where none is there, all do
@@ -162,9 +162,19 @@ EachOf P (x ∷ xs) = P x × EachOf P xs
 
 each_process : (P : ℕ → Type 0) → All P all_processes → EachOf P all_processes
 unfolding all_processes
-each_process P h =
-    (h 0 0 (omega arith), (h 1 0 (omega arith), (h 2 0 (omega arith), (h 3 0 (omega arith),
-      (h 4 0 (omega arith), (h 5 0 (omega arith), (h 6 0 (omega arith), (h 7 0 (omega arith), (h 8 0 (omega arith), tt)))))))))
+each_process P h = (
+  h 0 0 (omega arith),
+  (
+    h 1 0 (omega arith),
+    (
+      h 2 0 (omega arith),
+      (
+        h 3 0 (omega arith),
+        (h 4 0 (omega arith), (h 5 0 (omega arith), (h 6 0 (omega arith), (h 7 0 (omega arith), (h 8 0 (omega arith), tt))))),
+      ),
+    ),
+  ),
+)
 
 module _ (q r : ℕ) (said : FirstPhases) (inbox : List Received) (h : All (λ s. said_by s said ≡ first_phase_from r s inbox) all_processes) where
   abbrev Says : ℕ → Type 0
@@ -194,9 +204,9 @@ module _ (q r : ℕ) (said : FirstPhases) (inbox : List Received) (h : All (λ s
     same [] each = refl
     same (m ∷ ms) each =
         ap (λ o. option_or (if nat_le q (backers_among m said) then o else None)
-          (first_given (λ m. if nat_le q (backers_among m said) then said_by m said else None) ms)) each.0
+        (first_given (λ m. if nat_le q (backers_among m said) then said_by m said else None) ms)) each.0
         ∙ ap (λ n. option_or (if nat_le q n then first_phase_from r m inbox else None)
-          (first_given (λ m. if nat_le q (backers_among m said) then said_by m said else None) ms)) (backers_same m)
+        (first_given (λ m. if nat_le q (backers_among m said) then said_by m said else None) ms)) (backers_same m)
         ∙ step m (nat_le q (backers r m inbox)) (first_phase_from r m inbox) refl _ _ (same ms each.1)
 
   pub estimate_same : option_map (λ own. own.estimate) (agreed_among q said) ≡ agreed_estimate q r inbox

@@ -99,7 +99,7 @@ quorum_follows : (q : ℕ) (P R : ℕ → Type 0) → ((s : ℕ) → P s → R s
 quorum_follows q P R follows one = (one.0, one.1, λ s low high passes. follows s (one.2 s low high passes))
 
 module _ (q : ℕ) (sent posted : Payload → Type 0) (heard more : ℕ → Payload → Type 0)
-  (more_sent : (x : Payload) → sent x → posted x) (more_heard : (s : ℕ) (x : Payload) → heard s x → more s x) where
+    (more_sent : (x : Payload) → sent x → posted x) (more_heard : (s : ℕ) (x : Payload) → heard s x → more s x) where
   pub aux_follows : (r v : ℕ) → AuxBasis q heard r v → AuxBasis q more r v
   aux_follows r v basis = record {
     leader = basis.leader;

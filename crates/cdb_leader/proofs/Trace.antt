@@ -47,7 +47,7 @@ module _ (q : ℕ) where
       subst (λ n. Step n (mail_of i) (local_of s) sent (local_of t) (posted_by s i sent)) same step.0 in (
         step.1 ∙ same,
         subst (λ posted. LocalLaws q (local_of t) posted) (posted_is s i sent)
-          (step_keeps q (mail_of i) (local_of s) sent (local_of t) (posted_by s i sent) laws by_q),
+            (step_keeps q (mail_of i) (local_of s) sent (local_of t) (posted_by s i sent) laws by_q),
       )
 
   keeps_along : (s : LocalState) (sent : List Payload) → s.quorum ≡ q → LocalLaws q (local_of s) sent → (is : List Input)
@@ -57,7 +57,7 @@ module _ (q : ℕ) where
     where
       go : (o : Option LocalState) → next_state s i ≡ o
           → ((t : LocalState) → t.quorum ≡ q → LocalLaws q (local_of t) (sent ++ sent_of s i)
-            → LocalLaws q (local_of (state_along next_state t is)) ((sent ++ sent_of s i) ++ sent_along t is))
+          → LocalLaws q (local_of (state_along next_state t is)) ((sent ++ sent_of s i) ++ sent_along t is))
           → LocalLaws q (local_of (option_map_or (λ t. state_along next_state t is) o s)) (sent ++ option_map_or (λ t. sent_of s i ++ sent_along t is) o [])
       go None none rest = subst (λ xs. LocalLaws q (local_of s) xs) (sym (append-nil sent)) laws
       go (Some t) taken rest =
@@ -84,7 +84,7 @@ module _ (q : ℕ) where
 pub sent_messages_are_founded : SentMessagesAreFounded
 sent_messages_are_founded q input is =
     founded q (state_along next_state (first_state q input) is) (sent_along (first_state q input) is)
-      (keeps_along q (first_state q input) [] refl (first_laws q input) is)
+    (keeps_along q (first_state q input) [] refl (first_laws q input) is)
 
 -- what the input carries, where it has that payload for the process
 carried : (i : Input) (from : ℕ) (x : Payload) → IsIn x (mail_of i from) → i ≡ input.Recv from x

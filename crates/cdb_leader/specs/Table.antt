@@ -117,4 +117,4 @@ next_state s input.Learn = learn_at s.place s
 abbrev pub wish_of : LocalState → Option Wish
 wish_of s =
     option_or (option_map wished.Send (payload_at s.place s))
-      (if is_some (local_at s.place s) then Some wished.Local else None)
+    (if is_some (local_at s.place s) then Some wished.Local else None)

@@ -43,7 +43,7 @@ pub record IsFounded (q : ℕ) (s : LocalState) (sent : List Payload) : Type 0 w
 -- whatever inputs a process takes in turn
 abbrev pub SentMessagesAreFounded : Type 0
 SentMessagesAreFounded = (q input : ℕ) (is : List Input)
-  → IsFounded q (state_along next_state (first_state q input) is) (sent_along (first_state q input) is)
+    → IsFounded q (state_along next_state (first_state q input) is) (sent_along (first_state q input) is)
 
 -- what a process has received after an input it had received before, or the input brought it
 abbrev pub ReceivedIsBrought : Type 0

@@ -51,6 +51,6 @@ ends_in_agreement front pairs agree =
     let line = line_ends pairs in (
       front ++ line.0,
       ap (λ v. front ++ (decisions_text pairs ++ v)) verdict ∙ ap (λ d. front ++ (d ++ last)) line.1
-        ∙ ap (λ t. front ++ t) (append_assoc line.0 (codes "\n") last) ∙ sym (append_assoc front line.0 (codes "\n" ++ last))
+          ∙ ap (λ t. front ++ t) (append_assoc line.0 (codes "\n") last) ∙ sym (append_assoc front line.0 (codes "\n" ++ last))
           ∙ sym (append_assoc (front ++ line.0) (codes "\n") last),
     )

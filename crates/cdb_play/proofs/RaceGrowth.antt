@@ -27,10 +27,10 @@ module _ (replies : List Reply) (i : ℕ) (reply : Reply) (is : reply ≡ get_or
   pub parted_replies : texts replies ≡ texts (take i replies) ++ (text_of (told reply) ++ texts (drop (i + 1) replies))
   parted_replies =
       ap texts (parted replies i reply below ∙ ap (λ r. take i replies ++ r ∷ drop (i + 1) replies) (sym is))
-        ∙ texts-append (take i replies) (reply ∷ drop (i + 1) replies)
+      ∙ texts-append (take i replies) (reply ∷ drop (i + 1) replies)
 
 module _ (first : ℕ) (seats : List (Vec Reply Global)) (i : ℕ) (replies : Vec Reply Global)
-  (is : replies ≡ get_or seats i replies) (below : i < length seats) where
+    (is : replies ≡ get_or seats i replies) (below : i < length seats) where
   abbrev told_of : Vec Reply Global → List ToldReply
   told_of list = map told list.items
 
@@ -45,13 +45,13 @@ module _ (first : ℕ) (seats : List (Vec Reply Global)) (i : ℕ) (replies : Ve
   pub one_seat : seats_text first (all_told (take (i + 1) seats)) ≡ seats_text first (all_told (take i seats)) ++ seat_text (first + i) (map told replies.items)
   one_seat =
       ap (λ s. seats_text first (all_told s)) (take_more seats i replies below ∙ ap (λ r. take i seats ++ r ∷ []) (sym is))
-        ∙ ap (seats_text first) (map-append told_of (take i seats) (replies ∷ [])) ∙ behind (told_of replies ∷ [])
+      ∙ ap (seats_text first) (map-append told_of (take i seats) (replies ∷ [])) ∙ behind (told_of replies ∷ [])
       ∙ ap (λ t. seats_text first (all_told (take i seats)) ++ t) (append-nil (seat_text (first + i) (told_of replies)))
 
   pub parted_seats : seats_text first (all_told seats)
-    ≡ seats_text first (all_told (take i seats))
+      ≡ seats_text first (all_told (take i seats))
       ++ (seat_text (first + i) (map told replies.items) ++ seats_text (first + i + 1) (all_told (drop (i + 1) seats)))
   parted_seats =
       ap (λ s. seats_text first (all_told s)) (parted seats i replies below ∙ ap (λ r. take i seats ++ r ∷ drop (i + 1) seats)
-        (sym is)) ∙ ap (seats_text first) (map-append told_of (take i seats) (replies ∷ drop (i + 1) seats))
+      (sym is)) ∙ ap (seats_text first) (map-append told_of (take i seats) (replies ∷ drop (i + 1) seats))
       ∙ behind (told_of replies ∷ all_told (drop (i + 1) seats))

@@ -20,7 +20,7 @@ seats_text-append first [] others = ap (λ n. seats_text n others) (omega arith)
 seats_text-append first (replies_given ∷ lists) others =
     let same : first + 1 + length lists ≡ first + suc (length lists) = omega arith in
     ap (λ text. seat_text first replies_given ++ text)
-      (seats_text-append (first + 1) lists others ∙ ap (λ n. seats_text (first + 1) lists ++ seats_text n others) same)
+    (seats_text-append (first + 1) lists others ∙ ap (λ n. seats_text (first + 1) lists ++ seats_text n others) same)
     ∙ sym (append_assoc (seat_text first replies_given) (seats_text (first + 1) lists) (seats_text (first + suc (length lists)) others))
 
 -- lists with these items, in order
@@ -34,7 +34,7 @@ these_items f first (replies_given ∷ lists) same =
 
 -- what the seats of the scripts were answered is what the journal says
 pub text_of_race : (rules : Parts → Rules) (setup : Parts) (turns : ℕ) (scripts : List (List Command)) (c : Journaled)
-  (replies_given : List (List ToldReply)) → IsRaced rules setup turns scripts c replies_given
+    (replies_given : List (List ToldReply)) → IsRaced rules setup turns scripts c replies_given
     → seats_text (c.setup.processes + 1) (drop setup.processes replies_given) ++ end_text (last_decisions rules c) ≡ race_text rules c
 unfolding race_text
 text_of_race rules setup turns scripts c replies_given raced =
@@ -46,16 +46,16 @@ text_of_race rules setup turns scripts c replies_given raced =
     λ k below. get_or-drop n replies_given k [] ∙ raced.replied k (omega (arith, below, few)) ∙ ap (λ s. replies_in rules s c) (omega (arith, same)) in
     ap (λ lists. seats_text (c.setup.processes + 1) lists ++ end_text (last_decisions rules c))
     (these_items (λ s. replies_in rules s c) (c.setup.processes + 1) (drop n replies_given) item
-      ∙ ap (λ k. map (λ s. replies_in rules s c) (range_with_len (c.setup.processes + 1) k)) many)
+    ∙ ap (λ k. map (λ s. replies_in rules s c) (range_with_len (c.setup.processes + 1) k)) many)
 
 -- the same of replies of which those of the scripts' seats are shown
 pub text_of_replies : (rules : Parts → Rules) (setup : Parts) (turns : ℕ) (scripts : List (List Command)) (c : Journaled)
-  (replies shown : List (Vec Reply Global)) (n : ℕ) → shown ≡ replies → n ≡ setup.processes → IsRaced rules setup turns scripts c (all_told replies)
+    (replies shown : List (Vec Reply Global)) (n : ℕ) → shown ≡ replies → n ≡ setup.processes → IsRaced rules setup turns scripts c (all_told replies)
     → seats_text (c.setup.processes + 1) (all_told (take (length shown - n) (drop n shown))) ++ end_text (last_decisions rules c) ≡ race_text rules c
 text_of_replies rules setup turns scripts c replies shown n same count raced =
     ap (λ list. seats_text (c.setup.processes + 1) (all_told list) ++ end_text (last_decisions rules c)) (take_rest shown n ∙ ap (drop n) same)
     ∙ ap (λ lists. seats_text (c.setup.processes + 1) lists ++ end_text (last_decisions rules c))
-      (sym (drop-map (λ (list : Vec Reply Global). map told list.items) n replies))
+    (sym (drop-map (λ (list : Vec Reply Global). map told list.items) n replies))
     ∙ ap (λ k. seats_text (c.setup.processes + 1) (drop k (all_told replies)) ++ end_text (last_decisions rules c)) count
     ∙ text_of_race rules setup turns scripts c (all_told replies) raced
 

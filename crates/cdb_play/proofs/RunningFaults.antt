@@ -30,7 +30,7 @@ both (Err e) P Q R f p q = f e p q
 
 -- a fault of the threads is one of the race
 pub of_threads : {G : Type 0} (T : Type 0) (rules : Parts → Rules) (heard : G → Option (List Heard)) (passes : G → Bool)
-  (gates : List G) (setup : Parts) (turns : ℕ) (commands : List (List Command)) (fault : ThreadFault)
+    (gates : List G) (setup : Parts) (turns : ℕ) (commands : List (List Command)) (fault : ThreadFault)
     → IsAmongSeats (setup.processes + length commands) fault → (fault ≡ threads.JournalFull → MayFill setup turns commands)
     → IsTold T rules heard passes gates setup turns commands fault
     → IsFaultOfCommands (IsFaultBehind T rules heard passes gates) setup turns commands (race_fault_of_threads fault)

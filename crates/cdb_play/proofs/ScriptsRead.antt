@@ -45,7 +45,7 @@ module _ (scripts : List (Vec ℕ Global)) (i : ℕ) (script : Vec ℕ Global) (
 
   pub one_more_taken : bytes_of (take (i + 1) scripts) ≡ bytes_of (take i scripts) ++ script.items ∷ []
   one_more_taken = ap bytes_of (take_more scripts i script below ∙ ap (λ s. take i scripts ++ s ∷ []) (sym is))
-    ∙ map-append (λ (s : Vec ℕ Global). s.items) (take i scripts) (script ∷ [])
+      ∙ map-append (λ (s : Vec ℕ Global). s.items) (take i scripts) (script ∷ [])
 
   pub so_many : length (bytes_of (take i scripts)) ≡ i
   so_many = length-map (take i scripts) (λ (s : Vec ℕ Global). s.items) ∙ omega (arith, length-take i scripts)

@@ -21,7 +21,7 @@ module _ (IsFaultOfSessions : Parts → ℕ → List (List Command) → ThreadFa
       MayFill setup turns commands × IsFaultOfSessions setup turns commands threads.JournalFull
   IsFaultOfCommands setup turns commands (Stopped seat) =
       IsWithin 1 (setup.processes + length commands) seat
-        × IsFaultOfSessions setup turns commands (threads.Stopped seat)
+      × IsFaultOfSessions setup turns commands (threads.Stopped seat)
   IsFaultOfCommands setup turns commands (Spawn refused) = Unit {0}
   IsFaultOfCommands setup turns commands Write = Unit {0}
   IsFaultOfCommands setup turns commands (NoMemory refused) = Unit {0}
@@ -31,7 +31,7 @@ module _ (IsFaultOfSessions : Parts → ℕ → List (List Command) → ThreadFa
 abbrev pub IsTextOfCommands : (Parts → Rules) → Parts → ℕ → List (List Command) → List ℕ → Type 0
 IsTextOfCommands rules setup turns commands text =
     (control : Journaled) × (replies_given : List (List ToldReply))
-      × IsRaced rules setup turns commands control replies_given
+    × IsRaced rules setup turns commands control replies_given
     × (text ≡ race_text rules control)
 
 -- a fault of reading the scripts

@@ -121,7 +121,7 @@ AreAllRead scripts = (read : List (List Command)) × AreScripts read scripts
 
 -- the text is that of a race of these scripts on a setup, each process with this many turns
 pub record IsTextOnSetup (rules : Parts → Rules) (setup : Parts) (turns : ℕ) (scripts : List (List ℕ))
-  (text : List ℕ) : Type 0 where
+    (text : List ℕ) : Type 0 where
   pub commands : List (List Command)
   pub control : Journaled
   pub replies_given : List (List ToldReply)
@@ -174,7 +174,7 @@ module _ (IsFaultOfSessions : Parts → ℕ → List (List Command) → ThreadFa
       × IsFaultOfSessions setup turns commands threads.JournalFull
   IsFaultOnSetup setup turns scripts (Stopped seat) =
       (commands : List (List Command)) × AreScripts commands scripts
-        × IsWithin 1 (setup.processes + length scripts) seat
+      × IsWithin 1 (setup.processes + length scripts) seat
       × IsFaultOfSessions setup turns commands (threads.Stopped seat)
   IsFaultOnSetup setup turns scripts (Spawn refused) = AreAllRead scripts
   IsFaultOnSetup setup turns scripts Write = AreAllRead scripts

@@ -24,12 +24,7 @@ pub fn play_input<F: Files + Drop, I: Source + Drop, O: Sink + Drop, E: Sink + D
     ensures error { outside.new.error ≡ outside.old.error }
 {
     let streams = &mut outside.streams;
-    let played = play::<AnyRun, I, O>(
-        alloc,
-        ONE_PROCESS,
-        &mut streams.input,
-        &mut streams.output,
-    );
+    let played = play::<AnyRun, I, O>(alloc, ONE_PROCESS, &mut streams.input, &mut streams.output);
     of_play(played, "standard input")
 }
 

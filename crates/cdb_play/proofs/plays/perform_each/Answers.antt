@@ -32,8 +32,8 @@ returns-in_err-perform g c =
     parted _ i _ c.loop-command-test.true ∙ ap (λ other. take i commands ++ other ∷ drop (i + 1) commands) (sym c.command-item.is) in
     rw (p.1, p.2, whole)
     (cut_short g.W.Sink.stream (Unit {0}) c.in_err-perform.field-0.0 _ _ _ _ _ _
-      (transcript (rules_of setup) setup (take i commands)) (reply_to rules_of c.loop-command.control command)
-        (texts_behind (rules_of setup) setup (take i commands) command (drop (i + 1) commands)) _
+    (transcript (rules_of setup) setup (take i commands)) (reply_to rules_of c.loop-command.control command)
+    (texts_behind (rules_of setup) setup (take i commands) command (drop (i + 1) commands)) _
     so.put (parted_transcript rules_of setup (take i commands) command c.loop-command.control so.control (drop (i + 1) commands)) c.in_err-perform.ensures.put)
 
 pub loop-command-preserved : goal.loop-command-preserved
@@ -54,10 +54,10 @@ loop-command-preserved g c =
     ap (λ other. done ++ other ∷ []) c.command-item.is ∙ sym (take_more _ i _ c.loop-command-test.true) in
     record {
       control = subst (λ carried. HasCarriedOut setup carried c.perform.new.control) more
-        (one_command rules_of setup done command control so.control c.perform.new.control c.in_ok-perform.ensures.done);
+          (one_command rules_of setup done command control so.control c.perform.new.control c.in_ok-perform.ensures.done);
       put =
           subst (IsPut g.W.Sink.stream old held new left)
-            (sym (one_reply rules_of setup done command control so.control) ∙ ap (transcript (rules_of setup) setup) more)
+          (sym (one_reply rules_of setup done command control so.control) ∙ ap (transcript (rules_of setup) setup) more)
           (put_more g.W.Sink.stream _ _ _ _ _ _ _ _ so.put c.in_ok-perform.ensures.put);
     }
 

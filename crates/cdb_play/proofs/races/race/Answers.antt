@@ -16,7 +16,7 @@ returns-in_err-parts g c =
       agree = λ majority. tt;
       proposed = λ parts encodes. tt;
       fault = of_setup_read IsFaultUngated c.args.turns c.args.setup.now (bytes_of c.args.scripts.now) c.in_err-parts.field-0.0
-        c.in_err-parts.ensures.fault (λ long. cc (c.in_err-parts.ensures.too_long long));
+          c.in_err-parts.ensures.fault (λ long. cc (c.in_err-parts.ensures.too_long long));
     })
 
 pub returns-clause-wrote : goal.returns-clause-wrote

@@ -29,7 +29,7 @@ pub returns-clause-fault : goal.returns-clause-fault
 returns-clause-fault g c =
     both _ _ _ _
     (ungated (IsFaultBehind g.row.T.Denot g.T.Runs.rules (λ (gate : Open). None) (λ (gate : Open). true)
-      c.in_ok-gates.gates.items) _ c.args.setup _ _ c.in_ok-commands.ensures.read)
+    c.in_ok-gates.gates.items) _ c.args.setup _ _ c.in_ok-commands.ensures.read)
     (rw c.as_slice.ensures.value at c.run_race.ensures.fault) (c.run_race.ensures.passes (λ k gate low. refl))
 
 pub returns-in_err-gates-clause-fault : goal.returns-in_err-gates-clause-fault

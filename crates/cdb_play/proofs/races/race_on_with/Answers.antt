@@ -15,7 +15,7 @@ returns-in_err-commands g c =
       agree = λ majority. tt;
       proposed = tt;
       fault = of_reading (IsFaultBehind g.row.T.Denot g.T.Runs.rules g.G.Gate.heard g.G.Gate.passes c.args.gates.items)
-        c.args.turns c.args.setup (bytes_of c.args.scripts.now) c.in_err-commands.field-0.0 c.in_err-commands.ensures.fault;
+          c.args.turns c.args.setup (bytes_of c.args.scripts.now) c.in_err-commands.field-0.0 c.in_err-commands.ensures.fault;
       passes = λ all. not_of_reading _ _ c.in_err-commands.ensures.fault;
     })
 
@@ -28,4 +28,4 @@ returns-clause-wrote g c =
 pub returns-clause-fault : goal.returns-clause-fault
 returns-clause-fault g c =
     IfErr-weaker c.run_race.result _ _ (on_setup (IsFaultBehind g.row.T.Denot g.T.Runs.rules g.G.Gate.heard g.G.Gate.passes
-      c.args.gates.items) c.args.turns _ _ _ c.in_ok-commands.ensures.read) (rw c.as_slice.ensures.value at c.run_race.ensures.fault)
+    c.args.gates.items) c.args.turns _ _ _ c.in_ok-commands.ensures.read) (rw c.as_slice.ensures.value at c.run_race.ensures.fault)

@@ -17,7 +17,7 @@ returns-in_err-parts g c =
       agree = λ majority. tt;
       proposed = λ parts encodes. tt;
       fault = of_setup_read (IsFaultBehind g.row.T.Denot g.T.Runs.rules g.G.Gate.heard g.G.Gate.passes c.args.gates.items)
-        c.args.turns c.args.setup.now (bytes_of c.args.scripts.now) c.in_err-parts.field-0.0 c.in_err-parts.ensures.fault
+          c.args.turns c.args.setup.now (bytes_of c.args.scripts.now) c.in_err-parts.field-0.0 c.in_err-parts.ensures.fault
           (λ long. cc (c.in_err-parts.ensures.too_long long));
       passes = λ all. not_of_setup _;
     })
@@ -31,7 +31,7 @@ returns-clause-wrote g c =
 pub returns-clause-fault : goal.returns-clause-fault
 returns-clause-fault g c =
     IfErr-weaker _ _ _ (of_race (IsFaultBehind g.row.T.Denot g.T.Runs.rules g.G.Gate.heard g.G.Gate.passes c.args.gates.items) _ _
-      _ _ c.in_ok-parts.ensures.found) c.race_on_with.ensures.fault
+    _ _ c.in_ok-parts.ensures.found) c.race_on_with.ensures.fault
 
 pub returns-clause-proposed : goal.returns-clause-proposed
 returns-clause-proposed g c = λ parts encodes.
@@ -41,4 +41,4 @@ returns-clause-proposed g c = λ parts encodes.
 pub returns-clause-agree : goal.returns-clause-agree
 returns-clause-agree g c = λ of_majority.
     c.race_on_with.ensures.agree (subst HasMajorityIfNeeded (sym (same_setup _ _ _ refl
-      (c.in_ok-parts.ensures.only of_majority.0 of_majority.1))) of_majority.2)
+    (c.in_ok-parts.ensures.only of_majority.0 of_majority.1))) of_majority.2)

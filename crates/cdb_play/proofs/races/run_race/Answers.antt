@@ -33,12 +33,12 @@ returns-in_err-written g c =
     text_of_replies g.T.Runs.rules _ _ _ _ _ _ _ c.deref.ensures.value (c.from-processes.ensures ∙ c.n.ensures.value) c.in-Ok.ensures.raced in
     rw (p.1, p.2) (record {
       wrote = race_wrote g.W.Sink.stream (Unit {0}) (IsTextOfCommands g.T.Runs.rules c.args.setup c.args.turns c.args.scripts.now)
-        c.in_err-written.field-0.0 c.args.out.now c.write_race-written.new.out _
+          c.in_err-written.field-0.0 c.args.out.now c.write_race-written.new.out _
           (raced.control, all_told raced.replies.items, c.in-Ok.ensures.raced, same) (rw c.in_err-written.was at c.write_race-written.ensures);
       agree = λ majority. tt;
       proposed = tt;
       fault = of_writing (IsFaultBehind g.row.T.Denot g.T.Runs.rules g.G.Gate.heard g.G.Gate.passes c.args.gates.items)
-        c.args.turns c.args.setup c.args.scripts.now c.in_err-written.field-0.0;
+          c.args.turns c.args.setup c.args.scripts.now c.in_err-written.field-0.0;
       passes = λ all. not_of_writing _;
     })
 
@@ -47,10 +47,10 @@ returns-clause-wrote g c =
     let raced = c.in-Ok.raced in
     let same =
     text_of_replies g.T.Runs.rules c.args.setup c.args.turns c.args.scripts.now raced.control raced.replies.items
-      c.deref.result.now c.from-processes.result c.deref.ensures.value (c.from-processes.ensures ∙ c.n.ensures.value) c.in-Ok.ensures.raced in
+    c.deref.result.now c.from-processes.result c.deref.ensures.value (c.from-processes.ensures ∙ c.n.ensures.value) c.in-Ok.ensures.raced in
     only_as g.W.Sink.stream Complete c.args.out.now c.write_race-written.new.out _
-      (IsTextOfCommands g.T.Runs.rules c.args.setup c.args.turns c.args.scripts.now)
-        (raced.control, all_told raced.replies.items, c.in-Ok.ensures.raced, same) (rw c.in_ok-written.was at c.write_race-written.ensures)
+    (IsTextOfCommands g.T.Runs.rules c.args.setup c.args.turns c.args.scripts.now)
+    (raced.control, all_told raced.replies.items, c.in-Ok.ensures.raced, same) (rw c.in_ok-written.was at c.write_race-written.ensures)
 
 pub returns-clause-agree : goal.returns-clause-agree
 returns-clause-agree g c = λ majority.
@@ -58,8 +58,8 @@ returns-clause-agree g c = λ majority.
     let said = c.in-Ok.ensures in
     only_as g.W.Sink.stream Complete c.args.out.now c.write_race-written.new.out _ EndsInAgreement
     (ends_in_agreement _ (last_decisions g.T.Runs.rules raced.control)
-      (agrees g.T.Runs.rules g.T.Runs.same_state raced.control c.args.setup said.raced.setup_is said.headline majority))
-        (rw c.in_ok-written.was at c.write_race-written.ensures)
+    (agrees g.T.Runs.rules g.T.Runs.same_state raced.control c.args.setup said.raced.setup_is said.headline majority))
+    (rw c.in_ok-written.was at c.write_race-written.ensures)
 
 pub returns-clause-proposed : goal.returns-clause-proposed
 returns-clause-proposed g c =
@@ -67,7 +67,7 @@ returns-clause-proposed g c =
     let said = c.in-Ok.ensures in
     only_as g.W.Sink.stream Complete c.args.out.now c.write_race-written.new.out _ (EndsInProposed c.args.setup)
     (ends_in_proposed c.args.setup _ (last_decisions g.T.Runs.rules raced.control)
-      (proposes g.T.Runs.rules g.T.Runs.same_state raced.control _ said.raced.setup_is said.headline)) (rw c.in_ok-written.was at c.write_race-written.ensures)
+    (proposes g.T.Runs.rules g.T.Runs.same_state raced.control _ said.raced.setup_is said.headline)) (rw c.in_ok-written.was at c.write_race-written.ensures)
 
 pub returns-in-Err-clause-passes : goal.returns-in-Err-clause-passes
 returns-in-Err-clause-passes g c = λ all. rw c.of_threads.ensures (not_of_threads _ (c.in-Err.ensures.passes all))
@@ -78,7 +78,7 @@ slice_bounds-write_race-count g c =
     let replies = c.in-Ok.raced.replies.items in
     let processes = c.from-processes.ensures ∙ c.n.ensures.value in
     let long = ap length c.deref.ensures.value ∙ sym (length-map replies (λ list. map told list.items))
-      ∙ c.in-Ok.ensures.raced.many ∙ c.in-Ok.ensures.raced.seats_are in
+    ∙ c.in-Ok.ensures.raced.many ∙ c.in-Ok.ensures.raced.seats_are in
     omega (arith, processes, long)
 
 pub slice_bounds-write_race-start : goal.slice_bounds-write_race-start
@@ -89,7 +89,7 @@ write_race-written-requires-clause-seats g c =
     let replies = c.in-Ok.raced.replies.items in
     let processes = c.from-processes.ensures ∙ c.n.ensures.value in
     let long = ap length c.deref.ensures.value ∙ sym (length-map replies (λ list. map told list.items))
-      ∙ c.in-Ok.ensures.raced.many ∙ c.in-Ok.ensures.raced.seats_are in
+    ∙ c.in-Ok.ensures.raced.many ∙ c.in-Ok.ensures.raced.seats_are in
     let same = ap (λ (s : Parts). s.processes) c.in-Ok.ensures.raced.setup_is in
     let all = c.deref.result.now in
     let first = c.from-processes.result in

@@ -13,7 +13,7 @@ returns-in-Err-clause-fault c =
     let said = c.in-Err.ensures in
     let before = bytes_of (take i scripts) in
     let position : c.len.result + 1 ≡ length before + 1 =
-        omega (arith, c.len.ensures, c.loop-script.read.ok.0, so.count, so_many scripts i script c.script-item.is c.loop-script-test.true) in
+    omega (arith, c.len.ensures, c.loop-script.read.ok.0, so.count, so_many scripts i script c.script-item.is c.loop-script-test.true) in
     rw c.fault_of_script.ensures
     (bad_script c.loop-script.read.items before script.items _ _ _ (script_at _ i _ c.script-item.is c.loop-script-test.true) position so.read _
     (rw c.as_slice.ensures.value at said.fault))
@@ -25,7 +25,7 @@ loop-script-preserved c =
     let so = c.loop-script.invariant in
     let said = c.in-Ok.ensures in
     let is_script : IsScript c.in-Ok.commands.items script.items =
-        (rw c.as_slice.ensures.value at said.short, (rw c.as_slice.ensures.value at said.commands)) in
+    (rw c.as_slice.ensures.value at said.short, (rw c.as_slice.ensures.value at said.commands)) in
     let items : c.push.new.self.items ≡ c.loop-script.read.items ++ c.new.result ∷ [] = search rules in
     record {
       read =

@@ -103,10 +103,7 @@ impl Session {
 
     /// Whether the same events stand in both, and both have the same journal.
     pub fn shows_same(&self, other: &Session) -> bool {
-        let (one, two) = (
-            self.control.run().history(),
-            other.control.run().history(),
-        );
+        let (one, two) = (self.control.run().history(), other.control.run().history());
         if one.len() != two.len() || self.control.journal() != other.control.journal() {
             return false;
         }

@@ -8,7 +8,7 @@ use Rattle.cdb_leader.proofs.inbox.Inbox.second_phase_at.Goals as goal
 pub returns : goal.returns
 returns c = λ h.
     let either : c.or_else.result ≡ option_or c.known_second_phase.result
-      (second_phase_from c.args.round c.args.sender (later c.args.self.now)) = search rules in
+    (second_phase_from c.args.round c.args.sender (later c.args.self.now)) = search rules in
     either
     ∙ ap (λ said. option_or said (second_phase_from c.args.round c.args.sender (later c.args.self.now))) (c.known_second_phase.ensures h)
     ∙ first_from_parts _ _ _

@@ -9,7 +9,7 @@ returns-in-Some-get_mut c = λ h.
     let at = sym c.round.ensures ∙ c.in-Some.is in
     let there = c.in-Some-get_mut.ensures.value in
     IsIndexOf-forget_row c.args.self.now (record c.args.self.now { rows = c.get_mut.follows.lender c.forget.new.self })
-      c.args.messages.now c.args.message.now c.in-Some.round c.forget.new.self
+    c.args.messages.now c.args.message.now c.in-Some.round c.forget.new.self
     at refl ((c.get_mut.follows.holds c.forget.new.self).3 (subst IsSome there refl)).0
     h (c.forget.ensures at (row_is_there _ _ _ _ there (h.rounds c.in-Some.round)))
 

@@ -8,4 +8,4 @@ pub returns-in-Some : goal.returns-in-Some
 returns-in-Some c =
     let whole : c.args.decisions.now ≡ c.in-Some.first.now ∷ c.in-Some.others.now = c.in-Some.ensures.cases.0 in
     all_from_yields_List (λ other. other.1 == c.in-Some.first.now.1) _ _ _ c.all.ensures.ran (YieldsList-from_slice _ cc)
-      (λ x b q k. search (rules, tests)) ∙ ap have_one_value (sym whole)
+    (λ x b q k. search (rules, tests)) ∙ ap have_one_value (sym whole)

@@ -12,8 +12,8 @@ returns-in_err-put_seats g c =
     let first : c.from.result ≡ control.setup.processes = c.from.ensures ∙ c.processes.ensures ∙ ap (λ s. s.processes) c.run-run.ensures.setup in
     rw (p.1, p.2)
     (cut_short g.W.Sink.stream (Unit {0}) c.in_err-put_seats.field-0.0 _ _ _ _ _ _ _
-      (seats_text (control.setup.processes + 1) (all_told c.args.replies.now)) (end_text (last_decisions g.T.Runs.rules control))
-        _ (put_nothing g.W.Sink.stream _ _) refl (rw first at c.in_err-put_seats.ensures))
+    (seats_text (control.setup.processes + 1) (all_told c.args.replies.now)) (end_text (last_decisions g.T.Runs.rules control))
+    _ (put_nothing g.W.Sink.stream _ _) refl (rw first at c.in_err-put_seats.ensures))
 
 pub returns : goal.returns
 returns g c =
@@ -22,5 +22,5 @@ returns g c =
     let first : c.from.result ≡ control.setup.processes = c.from.ensures ∙ c.processes.ensures ∙ ap (λ s. s.processes) c.run-run.ensures.setup in
     let decisions : c.in_ok-decisions.decisions.items ≡ last_decisions g.T.Runs.rules control =
     c.in_ok-decisions.ensures ∙ ap (λ s. (g.T.Runs.rules s).decisions run.history) c.run-run.ensures.setup
-      ∙ ap (λ events. (g.T.Runs.rules control.setup).decisions events) c.run-run.ensures.history in
+    ∙ ap (λ events. (g.T.Runs.rules control.setup).decisions events) c.run-run.ensures.history in
     put_last _ _ _ _ _ _ _ _ _ _ _ (rw first at c.in_ok-put_seats.ensures) refl (rw decisions at c.put_end.ensures)

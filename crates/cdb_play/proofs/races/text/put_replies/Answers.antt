@@ -18,8 +18,8 @@ returns-in_err-put_reply g c =
     let reply = c.reply-item.result in
     rw (p.1, p.2)
     (cut_short g.W.Sink.stream (Unit {0}) c.in_err-put_reply.field-0.0 _ _ _ _ _ _ (texts (take i replies)) (text_of (told reply))
-      (texts (drop (i + 1) replies)) (texts replies) c.loop-reply.invariant
-        (parted_replies replies i reply c.reply-item.is c.loop-reply-test.true) c.in_err-put_reply.ensures)
+    (texts (drop (i + 1) replies)) (texts replies) c.loop-reply.invariant
+    (parted_replies replies i reply c.reply-item.is c.loop-reply-test.true) c.in_err-put_reply.ensures)
 
 pub loop-reply-preserved : goal.loop-reply-preserved
 loop-reply-preserved g c =

@@ -22,7 +22,7 @@ returns-in_err-put_seat g c =
     let so = c.loop-replies.invariant in
     rw (p.1, p.2)
     (cut_short g.W.Sink.stream (Unit {0}) c.in_err-put_seat.field-0.0 _ _ _ _ _ _ (seats_text first (all_told (take i seats)))
-      (seat_text (first + i) (map told replies.items)) (seats_text (first + i + 1) (all_told (drop (i + 1) seats))) _
+    (seat_text (first + i) (map told replies.items)) (seats_text (first + i + 1) (all_told (drop (i + 1) seats))) _
     so.put (parted_seats _ _ i _ c.replies-item.is c.loop-replies-test.true) (rw (c.as_slice.ensures.value, so.seat) at c.in_err-put_seat.ensures))
 
 pub loop-replies-preserved : goal.loop-replies-preserved
@@ -33,7 +33,7 @@ loop-replies-preserved g c =
       seat = omega (arith, so.seat);
       put =
           subst (IsPut g.W.Sink.stream c.args.out.now c.args.buffer.now c.put_seat.new.out c.put_seat.new.buffer)
-            (sym (one_seat _ _ i _ c.replies-item.is c.loop-replies-test.true))
+          (sym (one_seat _ _ i _ c.replies-item.is c.loop-replies-test.true))
           (put_more g.W.Sink.stream _ _ _ _ _ _ _ _ so.put (rw (c.as_slice.ensures.value, so.seat) at c.in_ok-put_seat.ensures));
     }
 
