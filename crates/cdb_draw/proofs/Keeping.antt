@@ -57,10 +57,10 @@ place high c k i a b other = elim (rows high ((k - 1) / c) ((i - 1) / c)) [
 
 -- the two ends of a line may change places
 swapped : {mark from to : Point} → IsOff 8 mark from to → IsOff 8 mark to from
-swapped (inl both) = inl (both.2, both.1)
-swapped (inr (inl both)) = inr (inl (both.2, both.1))
-swapped (inr (inr (inl both))) = inr (inr (inl (both.2, both.1)))
-swapped (inr (inr (inr both))) = inr (inr (inr (both.2, both.1)))
+swapped (inl both) = inl (both.1, both.0)
+swapped (inr (inl both)) = inr (inl (both.1, both.0))
+swapped (inr (inr (inl both))) = inr (inr (inl (both.1, both.0)))
+swapped (inr (inr (inr both))) = inr (inr (inr (both.1, both.0)))
 
 -- half a column before a receive no mark stands
 upright : (a b mark_y y1 y2 : ℕ) → IsOff 8 (record { x = 110 + 52 * a; y = mark_y }) (record { x = 110 + 52 * b - 26; y = y1 }) (record { x = 110 + 52 * b - 26; y = y2 })
@@ -168,10 +168,10 @@ module _ (n high c : ℕ) (tall : high ≡ 88 * n + 20) (k q : ℕ) (late : 1 �
       let side = side_of s p in
       let suit : Suits side s p = suits s p in
       let begin = begins side i s p early one suit from to in
-      let up = upright ((k - 1) % c) ((j - 1) % c) here.y _ _ in
+      let up = upright ((k - 1) % c) ((j - 1) % c) here.y in
       let end = ends side j s p later other suit from to in
-      one_of_two (nat_eq (row_of grid i) (row_of grid j)) _ _ ((begin, passes side i s p _ _ suit from to, up, end, tt), tt)
-      ((begin, passes side i s p _ _ suit from to, tt), (passes side j s p _ _ suit from to, up, end, tt), tt)
+      one_of_two (nat_eq (row_of grid i) (row_of grid j)) _ _ ((begin, (passes side i s p _ _ suit from to, (up _ _, (end, tt)))), tt)
+      ((begin, (passes side i s p _ _ suit from to, tt)), ((passes side j s p _ _ suit from to, (up _ _, (end, tt))), tt))
 
 pub arrows_keep_off : ArrowsKeepOff
 arrows_keep_off setup columns count i s j p k q leads early later late one other from to among =
