@@ -57,10 +57,10 @@ place high c k i a b other = elim (rows high ((k - 1) / c) ((i - 1) / c)) [
 
 -- the two ends of a line may change places
 swapped : {mark from to : Point} → IsOff 8 mark from to → IsOff 8 mark to from
-swapped (inl both) = inl (both.2, both.1)
-swapped (inr (inl both)) = inr (inl (both.2, both.1))
-swapped (inr (inr (inl both))) = inr (inr (inl (both.2, both.1)))
-swapped (inr (inr (inr both))) = inr (inr (inr (both.2, both.1)))
+swapped (inl both) = inl (both.1, both.0)
+swapped (inr (inl both)) = inr (inl (both.1, both.0))
+swapped (inr (inr (inl both))) = inr (inr (inl (both.1, both.0)))
+swapped (inr (inr (inr both))) = inr (inr (inr (both.1, both.0)))
 
 -- half a column before a receive no mark stands
 upright : (a b mark_y y1 y2 : ℕ) → IsOff 8 (record { x = 110 + 52 * a; y = mark_y }) (record { x = 110 + 52 * b - 26; y = y1 }) (record { x = 110 + 52 * b - 26; y = y2 })
@@ -141,23 +141,35 @@ module _ (n high c : ℕ) (tall : high ≡ 88 * n + 20) (k q : ℕ) (late : 1 �
   abbrev lane : ℕ → ℕ → ℕ
   lane i s = lane_y grid (row_of grid i) s
 
+  steep_at : (i s x y : ℕ) → 1 ≤ i → k ≢ i → IsOneOf n s → x_of grid i ≤ x + 26 → x ≤ x_of grid i + 26 → lane i s ≤ y + 22 → y ≤ lane i s + 44
+      → IsOff 8 here (spot grid i s) (record { x = x; y = y })
+  steep_at i s x y early other one left right low up =
+      steep n high tall (row_of grid k) (q - 1) ((k - 1) % c) (omega arith) (row_of grid i) ((i - 1) % c) (s - 1) x y (omega arith) (place high c k i late early other)
+      left right low up
+
   begins : (side : Side) (i s p : ℕ) → 1 ≤ i → k ≢ i → Suits side s p → IsOneOf n s → IsOneOf n p
       → IsOff 8 here (spot grid i s) (record { x = x_of grid i + 26; y = leaving side (lane i s) })
-  begins Below i s p early other suit one two = steep n high tall (row_of grid k) (q - 1) ((k - 1) % c) (omega arith) (row_of grid i) ((i - 1) % c) (s - 1) _ _ (omega arith) (place high c k i late early other) (omega arith) (omega arith) (omega arith) (omega arith)
-  begins Above i s p early other suit one two = steep n high tall (row_of grid k) (q - 1) ((k - 1) % c) (omega arith) (row_of grid i) ((i - 1) % c) (s - 1) _ _ (omega arith) (place high c k i late early other) (omega arith) (omega arith) (omega arith) (omega arith)
-  begins Own i s p early other suit one two = steep n high tall (row_of grid k) (q - 1) ((k - 1) % c) (omega arith) (row_of grid i) ((i - 1) % c) (s - 1) _ _ (omega arith) (place high c k i late early other) (omega arith) (omega arith) (omega arith) (omega arith)
+  begins Below i s p early other suit one two = steep_at i s _ _ early other one (omega arith) (omega arith) (omega arith) (omega arith)
+  begins Above i s p early other suit one two = steep_at i s _ _ early other one (omega arith) (omega arith) (omega arith) (omega arith)
+  begins Own i s p early other suit one two = steep_at i s _ _ early other one (omega arith) (omega arith) (omega arith) (omega arith)
+
+  between_at : (i b x1 y1 x2 y2 : ℕ) → b + 1 ≤ n → lane i (b + 1) + 22 ≤ y1 → y1 ≤ lane i (b + 1) + 66 → lane i (b + 1) + 22 ≤ y2 → y2 ≤ lane i (b + 1) + 66
+      → IsOff 8 here (record { x = x1; y = y1 }) (record { x = x2; y = y2 })
+  between_at i b x1 y1 x2 y2 few low1 up1 low2 up2 =
+      between n high tall (row_of grid k) (q - 1) ((k - 1) % c) (omega arith) (row_of grid i) b x1 y1 x2 y2 few (rows high (row_of grid k) (row_of grid i))
+      (omega arith) (omega arith) (omega arith) (omega arith)
 
   passes : (side : Side) (i s p x1 x2 : ℕ) → Suits side s p → IsOneOf n s → IsOneOf n p
       → IsOff 8 here (record { x = x1; y = leaving side (lane i s) }) (record { x = x2; y = passing side (lane i s) })
-  passes Below i s p x1 x2 suit one two = between n high tall (row_of grid k) (q - 1) ((k - 1) % c) (omega arith) (row_of grid i) (s - 1) _ _ _ _ (omega arith) (rows high (row_of grid k) (row_of grid i)) (omega arith) (omega arith) (omega arith) (omega arith)
-  passes Above i s p x1 x2 suit one two = between n high tall (row_of grid k) (q - 1) ((k - 1) % c) (omega arith) (row_of grid i) (s - 2) _ _ _ _ (omega arith) (rows high (row_of grid k) (row_of grid i)) (omega arith) (omega arith) (omega arith) (omega arith)
-  passes Own i s p x1 x2 suit one two = between n high tall (row_of grid k) (q - 1) ((k - 1) % c) (omega arith) (row_of grid i) (s - 1) _ _ _ _ (omega arith) (rows high (row_of grid k) (row_of grid i)) (omega arith) (omega arith) (omega arith) (omega arith)
+  passes Below i s p x1 x2 suit one two = between_at i (s - 1) _ _ _ _ (omega arith) (omega arith) (omega arith) (omega arith) (omega arith)
+  passes Above i s p x1 x2 suit one two = between_at i (s - 2) _ _ _ _ (omega arith) (omega arith) (omega arith) (omega arith) (omega arith)
+  passes Own i s p x1 x2 suit one two = between_at i (s - 1) _ _ _ _ (omega arith) (omega arith) (omega arith) (omega arith) (omega arith)
 
   ends : (side : Side) (j s p : ℕ) → 1 ≤ j → k ≢ j → Suits side s p → IsOneOf n s → IsOneOf n p
       → IsOff 8 here (record { x = x_of grid j - 26; y = coming side (lane j p) }) (spot grid j p)
-  ends Below j s p early other suit one two = swapped (steep n high tall (row_of grid k) (q - 1) ((k - 1) % c) (omega arith) (row_of grid j) ((j - 1) % c) (p - 1) _ _ (omega arith) (place high c k j late early other) (omega arith) (omega arith) (omega arith) (omega arith))
-  ends Above j s p early other suit one two = swapped (steep n high tall (row_of grid k) (q - 1) ((k - 1) % c) (omega arith) (row_of grid j) ((j - 1) % c) (p - 1) _ _ (omega arith) (place high c k j late early other) (omega arith) (omega arith) (omega arith) (omega arith))
-  ends Own j s p early other suit one two = swapped (steep n high tall (row_of grid k) (q - 1) ((k - 1) % c) (omega arith) (row_of grid j) ((j - 1) % c) (p - 1) _ _ (omega arith) (place high c k j late early other) (omega arith) (omega arith) (omega arith) (omega arith))
+  ends Below j s p early other suit one two = swapped (steep_at j p _ _ early other two (omega arith) (omega arith) (omega arith) (omega arith))
+  ends Above j s p early other suit one two = swapped (steep_at j p _ _ early other two (omega arith) (omega arith) (omega arith) (omega arith))
+  ends Own j s p early other suit one two = swapped (steep_at j p _ _ early other two (omega arith) (omega arith) (omega arith) (omega arith))
 
   one_of_two : (b : Bool) (first second : List (List Point)) → IsWayOff 8 here first → IsWayOff 8 here second → IsWayOff 8 here (if b then first else second)
   one_of_two true first second a b = a
@@ -168,10 +180,10 @@ module _ (n high c : ℕ) (tall : high ≡ 88 * n + 20) (k q : ℕ) (late : 1 �
       let side = side_of s p in
       let suit : Suits side s p = suits s p in
       let begin = begins side i s p early one suit from to in
-      let up = upright ((k - 1) % c) ((j - 1) % c) here.y _ _ in
+      let up = upright ((k - 1) % c) ((j - 1) % c) here.y in
       let end = ends side j s p later other suit from to in
-      one_of_two (nat_eq (row_of grid i) (row_of grid j)) _ _ ((begin, passes side i s p _ _ suit from to, up, end, tt), tt)
-      ((begin, passes side i s p _ _ suit from to, tt), (passes side j s p _ _ suit from to, up, end, tt), tt)
+      one_of_two (nat_eq (row_of grid i) (row_of grid j)) _ _ ((begin, (passes side i s p _ _ suit from to, (up _ _, (end, tt)))), tt)
+      ((begin, (passes side i s p _ _ suit from to, tt)), ((passes side j s p _ _ suit from to, (up _ _, (end, tt))), tt))
 
 pub arrows_keep_off : ArrowsKeepOff
 arrows_keep_off setup columns count i s j p k q leads early later late one other from to among =

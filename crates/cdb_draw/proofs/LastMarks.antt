@@ -1,8 +1,7 @@
 -- The mark of an event is that of the last event of the run once it had come to it.
-use Rattle.std.proofs.Common.{◌≡◌, ℕ, suc, Bool, List, ◌++◌, take, Some, slice_get, refl, sym, ap, ◌∙◌}
+use Rattle.std.proofs.Common.{◌≡◌, ℕ, suc, Bool, List, take, Some, slice_get, refl, sym, ap, ◌∙◌}
 use Rattle.cdb_base.specs.declared.event.Event.{Event}
 use Rattle.cdb_causal.specs.Standing.{IsStanding}
-use Rattle.cdb_control.specs.Commands.{decides}
 use Rattle.cdb_explain.specs.Explanations.{run_after}
 use Rattle.cdb_explain.specs.Flagged.{is_flagged}
 use Rattle.cdb_explain.proofs.Along.{whole_of_last}

@@ -1,13 +1,13 @@
 -- What the ways of arrows are for: no arrow touches a mark that is not one of its ends.
-use Rattle.std.specs.Prelude.{◌≡◌, ◌≢◌, ◌⊎◌, ℕ, ◌+◌, ◌<◌, ◌≤◌, List, [], ◌∷◌}
+use Rattle.std.specs.Prelude.{◌≡◌, ◌≢◌, ◌⊎◌, ℕ, ◌+◌, ◌≤◌, List, [], ◌∷◌}
 use Rattle.cdb_setup.specs.Parts.{Parts}
 use Rattle.cdb_setup.specs.declared.setup.Algorithm.TheVariants.{Leader}
 use Rattle.cdb_draw.specs.Layout.{grid_of, spot}
 use Rattle.cdb_draw.specs.Ways.{way_of}
 use Rattle.cdb_draw.specs.declared.layout.Point.{Point}
 
--- a point keeps so far from a line between two others, since both of these are so far to its right, to its left, below it, or
--- above it
+-- a point keeps so far from a line between two others, since both of these are so far to its right, to its left, below
+-- it, or above it
 abbrev pub IsOff : ℕ → Point → Point → Point → Type 0
 IsOff far mark from to =
     ((mark.x + far ≤ from.x) × (mark.x + far ≤ to.x)) ⊎ (((from.x + far ≤ mark.x) × (to.x + far ≤ mark.x))
@@ -28,8 +28,8 @@ IsWayOff far mark (stroke ∷ strokes) = IsStrokeOff far mark stroke × IsWayOff
 abbrev pub IsOneOf : ℕ → ℕ → Type 0
 IsOneOf n p = (1 ≤ p) × (p ≤ n)
 
--- The arrow from position i on the lane of process s to position j on that of process p keeps 8 units from the middle of the
--- mark at each other position k, on the lane of whatever process q.
+-- The arrow from position i on the lane of process s to position j on that of process p keeps 8 units from the middle of
+-- the mark at each other position k, on the lane of whatever process q.
 abbrev pub ArrowsKeepOff : Type 0
 ArrowsKeepOff =
     (setup : Parts) (columns count i s j p k q : ℕ) → setup.algorithm ≡ Leader

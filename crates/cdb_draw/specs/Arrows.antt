@@ -1,5 +1,5 @@
 -- The arrows of a picture.
-use Rattle.std.specs.Prelude.{ℕ, ◌+◌, Bool, List, [], ◌∷◌, ◌++◌, codes, decimal, Option, None, Some, if◌then◌else◌}
+use Rattle.std.specs.Prelude.{ℕ, ◌+◌, Bool, List, [], ◌∷◌, ◌++◌, codes, if◌then◌else◌}
 use Rattle.std.specs.List.{concat}
 use Rattle.std.specs.Option.{option_map_or}
 use Rattle.cdb_base.specs.Positions.{nth}
@@ -25,7 +25,9 @@ weight_text full = if full then codes "full" else codes "pale"
 -- an arrow of that class, along these strokes
 unfoldable pub arrow_text : List ℕ → Bool → List (List Point) → List ℕ
 arrow_text class full way =
-    concat (codes "<path class='" ∷ class ∷ codes " " ∷ weight_text full ∷ codes "' d='" ∷ way_parts way ++ codes "'/>\n" ∷ [])
+    concat
+    (codes "<path class='" ∷ class ∷ codes " " ∷ weight_text full ∷ codes "' d='" ∷ way_parts way
+    ++ codes "'/>\n" ∷ [])
 
 -- that of a copy, from the position where its message was sent to position j on the lane of process p
 abbrev pub copy_arrow : Grid → List Event → List ℕ → Bool → MsgName → ℕ → ℕ → List ℕ
@@ -55,15 +57,19 @@ write_way grid position p register =
 -- the arrow to a step of process p of that kind: to a receive from its send, to a read from the register; and of a
 -- write to the register
 abbrev pub step_arrow : Grid → List Event → Bool → ℕ → ℕ → Kind → List ℕ
-step_arrow grid history full position p (Recv s m) = copy_arrow grid history (codes "copy") full (message_name s m) position p
-step_arrow grid history full position p (Read register) = arrow_text (codes "read") full (read_way grid position p register)
-step_arrow grid history full position p (Write register) = arrow_text (codes "write") full (write_way grid position p register)
+step_arrow grid history full position p (Recv s m) =
+    copy_arrow grid history (codes "copy") full (message_name s m) position p
+step_arrow grid history full position p (Read register) =
+    arrow_text (codes "read") full (read_way grid position p register)
+step_arrow grid history full position p (Write register) =
+    arrow_text (codes "write") full (write_way grid position p register)
 step_arrow grid history full position p kind = []
 
 -- the arrow of an event; that of a lost copy ends on the lane of its receiver, where its cross stands
 abbrev pub event_arrow : Grid → List Event → Bool → ℕ → Event → List ℕ
 event_arrow grid history full position (Step p k kind) = step_arrow grid history full position p kind
-event_arrow grid history full position (Lost copy) = copy_arrow grid history (codes "lost") full copy.msg position copy.to
+event_arrow grid history full position (Lost copy) =
+    copy_arrow grid history (codes "lost") full copy.msg position copy.to
 
 abbrev pub arrow_at : Grid → List Event → List Bool → ℕ → List ℕ
 arrow_at grid history flags position =

@@ -125,4 +125,5 @@ mark_text rules grid run after full position event =
 
 abbrev pub mark_at : (Parts → Rules) → Grid → RunView → List Bool → ℕ → List ℕ
 mark_at rules grid run flags position =
-    option_map_or (mark_text rules grid run (run_after run position) (is_flagged flags position) position) (nth run.history position) []
+    let mark = mark_text rules grid run (run_after run position) (is_flagged flags position) position in
+    option_map_or mark (nth run.history position) []

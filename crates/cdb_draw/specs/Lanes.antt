@@ -39,7 +39,8 @@ abbrev pub register_name : Grid → ℕ → List ℕ
 register_name grid k = if nat_le k grid.processes then codes "r" ++ decimal k else codes "dec"
 
 abbrev pub register_lane_text : Grid → ℕ → ℕ → List ℕ
-register_lane_text grid row k = lane_text (codes "register") (register_y grid row k) (register_name grid k) [] (end_x grid)
+register_lane_text grid row k =
+    lane_text (codes "register") (register_y grid row k) (register_name grid k) [] (end_x grid)
 
 -- the k-th lane of a row: those of the processes, and then those of the registers
 abbrev pub lane_of_row : Grid → RunView → ℕ → ℕ → List ℕ

@@ -21,13 +21,14 @@ abbrev pub heading_text : Algorithm → ℕ → List ℕ
 heading_text Leader quorum = codes "leader, quorum " ++ decimal quorum
 heading_text Alpha quorum = codes "alpha"
 
--- the fixed parts, as src/style.rt has them; the width in millimetres and the height in units, four to a millimetre, and
--- the size of both in units; and the heading
+-- the fixed parts, as src/style.rt has them; the width in millimetres; the width and the height in units, four to a
+-- millimetre; and the heading
 unfoldable pub document_text : ℕ → ℕ → List ℕ → List ℕ
 document_text w h heading =
     concat
     (NAMESPACE.now ∷ codes "width='" ∷ decimal w ∷ codes "mm' viewBox='0 0 " ∷ decimal (4 * w) ∷ codes " " ∷ decimal h
-    ∷ codes "'>\n" ∷ STYLE.now ∷ SHAPES.now ∷ codes "<text class='heading' x='8' y='16'>" ∷ heading ∷ codes "</text>\n" ∷ [])
+    ∷ codes "'>\n" ∷ STYLE.now ∷ SHAPES.now ∷ codes "<text class='heading' x='8' y='16'>" ∷ heading
+    ∷ codes "</text>\n" ∷ [])
 
 abbrev pub head_text : Grid → RunView → List ℕ
 head_text grid run =

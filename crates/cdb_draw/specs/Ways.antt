@@ -2,9 +2,9 @@
 --
 -- An arrow leaves its send and comes to its receive steeply, half a column along. For the rest it lies between the lane
 -- of its sender and the next one on its side, and crosses further lanes half a column before its receive: each column
--- has one event, so no mark stands there, and no other arrow crosses there. Between two lanes arrows begin at one height
--- and end at another, so two that begin or end at different columns never lie on each other. Where the receive stands in
--- another row, the arrow ends at the edge of the first row, and begins again at that of the other.
+-- has one event, so no mark stands there, and no other arrow crosses there. Between two lanes arrows begin at one
+-- height and end at another, so two that begin or end at different columns never lie on each other. Where the receive
+-- stands in another row, the arrow ends at the edge of the first row, and begins again at that of the other.
 use Rattle.std.specs.Prelude.{ℕ, ◌+◌, ◌-◌, List, [], ◌∷◌, ◌++◌, codes, decimal, nat_eq, nat_lt, if◌then◌else◌}
 use Rattle.std.specs.List.{flat_map}
 use Rattle.cdb_draw.specs.Layout.{end_x, lane_y, row_of, spot, start_x}

@@ -1,4 +1,4 @@
-use Rattle.std.proofs.Common.{◌<◌, ◌-◌, Bool, false, List, ℕ, get_or, length, Some, refl, arith, ◌∙◌, ◌≡◌}
+use Rattle.std.proofs.Common.{◌<◌, ◌-◌, Bool, false, List, ℕ, get_or, length, Some, refl, arith, ◌≡◌}
 use Rattle.cdb_base.specs.Positions.{nth}
 use Rattle.cdb_base.specs.declared.event.Event.{Event}
 use Rattle.cdb_causal.proofs.FromOne.{by_next}

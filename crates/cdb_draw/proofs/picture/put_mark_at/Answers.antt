@@ -1,4 +1,4 @@
-use Rattle.std.proofs.Common.{◌≡◌, ◌<◌, ◌-◌, false, get_or, length, refl, arith, ◌∙◌}
+use Rattle.std.proofs.Common.{◌≡◌, ◌<◌, ◌-◌, false, get_or, length, refl, arith}
 use Rattle.cdb_causal.proofs.FromOne.{by_next}
 use Rattle.cdb_explain.proofs.Flagging.{flag_read}
 use Rattle.cdb_explain.specs.Explanations.{run_after}
