@@ -9,7 +9,7 @@ import os
 import re
 
 FUNCTION = re.compile(r"^( *)(pub(?:\([^)]*\))? )?(?:const )?fn (\w+)")
-IMPL = re.compile(r"^impl(?:<.*?>)? (?:(\w+(?:::\w+)*)(<.*?>)? for )?(?:&\w* ?)?(\w+|\()")
+IMPL = re.compile(r"^impl(?:<.*?>)? (?:(\w+(?:::\w+)*)(<.*?>)? for )?(?:&\w* ?)?(\w+(?:::\w+)*|\()")
 TYPE = re.compile(r"^(?:pub(?:\([^)]*\))? )?(?:struct|enum) (\w+)", re.M)
 
 
@@ -23,7 +23,8 @@ class Function:
 
     def __init__(self, match, impl, head, body, calls):
         self.name, self.trait = match[3], impl and impl[1] and impl[1].split("::")[-1]
-        self.owner = impl and impl[3].replace("(", "Tuple")
+        # (the check joins the parts of a type's path)
+        self.owner = impl and "".join(it[:1].upper() + it[1:] for it in impl[3].replace("(", "Tuple").split("::"))
         self.is_public = (match[2] or "").strip() == "pub" or self.trait is not None
         # Whether it stands in a trait, or is evaluated by the compiler.
         self.is_default, self.is_const = bool(match[1]) and not impl, "const fn" in match[0]

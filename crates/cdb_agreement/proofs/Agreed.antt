@@ -23,20 +23,24 @@ use Rattle.cdb_agreement.proofs.Proposed.{all_proposed}
 use Rattle.cdb_rules.proofs.Taken.{some_of}
 
 -- what holds of each state that the history reaches holds of the state of a valid history
-of_state : {L : Type 0} (machine : Machine L) (Holds : RunState L → Type 0) (history : List Event) → ((state : RunState L) → fold machine history ≡ Some state → Holds state)
+of_state : {L : Type 0} (machine : Machine L) (Holds : RunState L → Type 0) (history : List Event)
+    → ((state : RunState L) → fold machine history ≡ Some state → Holds state)
     → IsTrue (is_some (fold machine history)) → Holds (state_of machine history)
 of_state machine Holds history each valid =
-    let reached = some_of (fold machine history) valid in
+    let reached = some_of _ valid in
     subst Holds (sym (ap (λ o. unwrap_or o (start machine)) reached.1)) (each reached.0 reached.1)
 
-pub agreed : (setup : Parts) → AreInRange setup → HasMajorityIfNeeded setup → (history : List Event) → IsTrue ((rules setup).valid history) → AllAgree ((rules setup).decisions history)
+pub agreed : (setup : Parts) → AreInRange setup → HasMajorityIfNeeded setup → (history : List Event)
+    → IsTrue ((rules setup).valid history) → AllAgree ((rules setup).decisions history)
 agreed setup ranges majority history valid = by_algorithm setup.algorithm refl valid
   where
-    by_algorithm : (algorithm : Algorithm) → setup.algorithm ≡ algorithm → IsTrue ((rules_by algorithm setup).valid history) → AllAgree ((rules_by algorithm setup).decisions history)
+    by_algorithm : (algorithm : Algorithm) → setup.algorithm ≡ algorithm → IsTrue ((rules_by algorithm setup).valid history)
+        → AllAgree ((rules_by algorithm setup).decisions history)
     by_algorithm Leader is valid =
-        of_state (leader_machine setup) (λ state. AllAgree (decisions_of (λ (local : LeaderState). local.decision) state)) history (leader_agrees setup ranges (majority is) history) valid
+        of_state (leader_machine setup) (λ state. AllAgree (decisions_of (λ (local : LeaderState). local.decision) state)) history
+        (leader_agrees setup ranges (majority is) history) valid
     by_algorithm Alpha is valid =
-        of_state (alpha_machine setup) (λ state. AllAgree (decisions_of (λ (local : AlphaState). local.decision) state)) history (alpha_agrees setup ranges history) valid
+        of_state (alpha_machine setup) _ history (alpha_agrees setup ranges history) valid
 
 -- ---- what is decided was proposed
 
@@ -48,23 +52,28 @@ pub alpha_proposes : (setup : Parts) → AreInRange setup → (history : List Ev
     → AreProposed setup (decisions_of (λ local. local.decision) t)
 alpha_proposes setup ranges = all_proposed alpha_table AlphaHolds alpha.no_value_is_made setup ranges.an_input_each
 
-pub proposed : (setup : Parts) → AreInRange setup → (history : List Event) → IsTrue ((rules setup).valid history) → AreProposed setup ((rules setup).decisions history)
+pub proposed : (setup : Parts) → AreInRange setup → (history : List Event) → IsTrue ((rules setup).valid history)
+    → AreProposed setup ((rules setup).decisions history)
 proposed setup ranges history valid = by_algorithm setup.algorithm valid
   where
-    by_algorithm : (algorithm : Algorithm) → IsTrue ((rules_by algorithm setup).valid history) → AreProposed setup ((rules_by algorithm setup).decisions history)
+    by_algorithm : (algorithm : Algorithm) → IsTrue ((rules_by algorithm setup).valid history)
+        → AreProposed setup ((rules_by algorithm setup).decisions history)
     by_algorithm Leader valid =
-        of_state (leader_machine setup) (λ state. AreProposed setup (decisions_of (λ (local : LeaderState). local.decision) state)) history (leader_proposes setup ranges history) valid
+        of_state (leader_machine setup) (λ state. AreProposed setup (decisions_of (λ (local : LeaderState). local.decision)
+        state)) history (leader_proposes setup ranges history) valid
     by_algorithm Alpha valid =
-        of_state (alpha_machine setup) (λ state. AreProposed setup (decisions_of (λ (local : AlphaState). local.decision) state)) history (alpha_proposes setup ranges history) valid
+        of_state (alpha_machine setup) _ history (alpha_proposes setup ranges history) valid
 
 -- ---- what is answered, where it is the decisions that are shown
 
-pub result_agrees : {V E : Type 0} (items : V → List (ℕ × ℕ)) (returned : Result V E) (setup : Parts) → AreInRange setup → (history : List Event) → IsTrue ((rules setup).valid history)
+pub result_agrees : {V E : Type 0} (items : V → List (ℕ × ℕ)) (returned : Result V E) (setup : Parts) → AreInRange setup
+    → (history : List Event) → IsTrue ((rules setup).valid history)
     → IfOk returned (λ found. items found ≡ (rules setup).decisions history) → IfOk returned (λ found. HasMajorityIfNeeded setup → AllAgree (items found))
 result_agrees items (Ok found) setup ranges history valid is = λ majority. subst AllAgree (sym is) (agreed setup ranges majority history valid)
 result_agrees items (Err why) setup ranges history valid is = tt
 
-pub result_proposed : {V E : Type 0} (items : V → List (ℕ × ℕ)) (returned : Result V E) (setup : Parts) → AreInRange setup → (history : List Event) → IsTrue ((rules setup).valid history)
+pub result_proposed : {V E : Type 0} (items : V → List (ℕ × ℕ)) (returned : Result V E) (setup : Parts) → AreInRange setup
+    → (history : List Event) → IsTrue ((rules setup).valid history)
     → IfOk returned (λ found. items found ≡ (rules setup).decisions history) → IfOk returned (λ found. AreProposed setup (items found))
 result_proposed items (Ok found) setup ranges history valid is = subst (AreProposed setup) (sym is) (proposed setup ranges history valid)
 result_proposed items (Err why) setup ranges history valid is = tt

@@ -1,5 +1,8 @@
 -- The states that valid histories of the Alpha machine reach, seen as runs of its steps with traces.
-use Rattle.std.proofs.Common.{◌≡◌, ℕ, zero, suc, ◌≤◌, ◌==◌, Bool, true, false, List, [], length, Option, Some, None, is_some, option_map, slice_index, if◌then◌else◌, ◌⊎◌, inl, inr, refl, sym, ap, subst, ◌∙◌, arith, true≢false, eqb-true, eq-eqb}
+use Rattle.std.proofs.lemmas.Grind.{common_steps}
+use Rattle.std.proofs.lemmas.Option.{gets}
+use Rattle.std.proofs.Common.{◌≡◌, ℕ, zero, suc, ◌≤◌, ◌==◌, true, List, [], length, Option, Some, None, is_some, option_map, slice_index}
+use Rattle.std.proofs.Common.{if◌then◌else◌, ◌⊎◌, inl, inr, refl, sym, ap, subst, ◌∙◌, arith, true≢false, eq-eqb}
 use Rattle.std.specs.FinSet as set
 use Rattle.std.proofs.lemmas.Bool.{cases_eq}
 use Rattle.std.proofs.lemmas.Option.{none-some, same_Some}
@@ -29,7 +32,7 @@ use Rattle.cdb_agreement.specs.Algorithms.{alpha_machine}
 use Rattle.cdb_rules.specs.Decisions.{decisions_of}
 use Rattle.cdb_rules.specs.Mail.{mail_of}
 use Rattle.cdb_rules.specs.State.{ProcessState, RunState, start, fresh_process}
-use Rattle.cdb_rules.specs.Step.{may_lose, after, fold}
+use Rattle.cdb_rules.specs.Step.{after, fold}
 use Rattle.cdb_rules.specs.Taking.{arriving, taken_local, input_of, registers_after}
 use Rattle.cdb_rules.proofs.Stages.{sight_in, meets, process_after, state_after}
 use Rattle.cdb_agreement.proofs.AlphaRuns.{Run, first_run, own_of, RunStep, RunLaws, first_run_laws, cells_rise, run_step_keeps, laws_agree}
@@ -47,13 +50,13 @@ pub record Lawful (n : ℕ) (t : RunState LocalState) : Type 0 where
   pub size : length t.processes ≡ n
   pub me : (p : ℕ) (x : ProcessState LocalState) → nth t.processes p ≡ Some x → x.progress.local.me ≡ p
   pub among : (p : ℕ) (x : ProcessState LocalState) → nth t.processes p ≡ Some x → x.progress.local.processes ≡ n
-  pub tied : (p : ℕ) (x : ProcessState LocalState) → nth t.processes p ≡ Some x → run.traced p ≡ traced_of x.progress.local (run.traced p).own_writes (run.traced p).carried
+  pub tied : (p : ℕ) (x : ProcessState LocalState) → nth t.processes p ≡ Some x
+      → run.traced p ≡ traced_of x.progress.local (run.traced p).own_writes (run.traced p).carried
   pub holds : (p : ℕ) (r : RegisterState) → nth t.registers.of_processes p ≡ Some r → r.cell ≡ (run.traced p).own
   pub dec : (r : RegisterState) → t.registers.of_decision ≡ Some r → r.cell.val ≡ run.dec
 
 pub nth_low : {A : Type 0} (xs : List A) (i : ℕ) (x : A) → nth xs i ≡ Some x → 1 ≤ i
-nth_low xs zero x is = absurd (none-some x is)
-nth_low xs (suc i) x is = omega arith
+nth_low xs i x h1 = grind (arith, common_steps, gets)
 
 -- ---- the start
 
@@ -65,15 +68,16 @@ module _ (setup : Parts) where
   abbrev cells : ℕ
   cells = if (alpha_machine setup).has_registers then length (alpha_machine setup).firsts else 0
 
-  first_process : (p : ℕ) (x : ProcessState LocalState) → nth (start (alpha_machine setup)).processes p ≡ Some x → x ≡ fresh_process (first_state p setup.processes (input_at setup.inputs p))
+  first_process : (p : ℕ) (x : ProcessState LocalState) → nth (start (alpha_machine setup)).processes p ≡ Some x
+      → x ≡ fresh_process (first_state p setup.processes (input_at setup.inputs p))
   first_process zero x is = absurd (none-some x is)
-  first_process (suc k) x is = first_at (λ me n q value. first_state me n value) setup.processes setup.quorum setup.inputs k x is
+  first_process (suc k) x is = first_at _ _ _ _ k x is
 
   pub start_lawful : length setup.inputs ≡ setup.processes → Lawful setup.processes (start (alpha_machine setup))
   start_lawful each = record {
     run = first_run (input_at setup.inputs);
-    laws = first_run_laws setup.processes (input_at setup.inputs);
-    size = length-firsts (λ me n q value. first_state me n value) setup.processes setup.quorum setup.inputs ∙ each;
+    laws = first_run_laws _ _;
+    size = length-firsts _ _ _ _ ∙ each;
     me = λ p x is. ap (λ (y : ProcessState LocalState). y.progress.local.me) (first_process p x is);
     among = λ p x is. ap (λ (y : ProcessState LocalState). y.progress.local.processes) (first_process p x is);
     tied = λ p x is. sym (ap (λ (y : ProcessState LocalState). traced_of y.progress.local [] []) (first_process p x is));
@@ -91,11 +95,7 @@ put_same : (traced : ℕ → Traced) (p : ℕ) (k : Traced) → put traced p k p
 put_same traced p k = ap (λ b. if b then k else traced p) (eq-eqb p p refl)
 
 put_other : (traced : ℕ → Traced) (p : ℕ) (k : Traced) (s : ℕ) → (s ≡ p → ⊥) → put traced p k s ≡ traced s
-put_other traced p k s other = go (s == p) refl
-  where
-    go : (b : Bool) → (s == p) ≡ b → (if b then k else traced s) ≡ traced s
-    go true same = absurd (other (eqb-true s p same))
-    go false same = refl
+put_other traced p k s h1 = grind (arith, common_steps, gets)
 
 -- what a step of the process x to the local state s leaves
 pub record Kinded (n : ℕ) (t : RunState LocalState) (run : Run) (x : ProcessState LocalState) (s : LocalState) (left : RegisterStates) : Type 0 where
@@ -142,7 +142,8 @@ module _ (n : ℕ) (setup : Parts) (t : RunState LocalState) (lawful : Lawful n 
 
     stepped : (i : Input) → (it : IsTaken i) → Step n (own_of lawful.run) lawful.run.dec mine (traced_of s it.own_writes_after it.carried_after) it.published
     stepped i it =
-        let P : ℕ → Type 0 = λ m. Step m (own_of lawful.run) lawful.run.dec (traced_of local mine.own_writes mine.carried) (traced_of s it.own_writes_after it.carried_after) it.published in
+        let P : ℕ → Type 0 = λ m. Step m (own_of lawful.run) lawful.run.dec (traced_of local mine.own_writes mine.carried)
+        (traced_of s it.own_writes_after it.carried_after) it.published in
         let Q : Traced → Type 0 = λ l. Step n (own_of lawful.run) lawful.run.dec l (traced_of s it.own_writes_after it.carried_after) it.published in
         subst Q (sym tied_here) (subst P (lawful.among local.me x at) it.step)
 
@@ -178,10 +179,10 @@ module _ (n : ℕ) (setup : Parts) (t : RunState LocalState) (lawful : Lawful n 
           same_processes = it.same_processes;
           own_cell = λ r is.
               let here = subst (λ (p : ℕ). nth (update_nth (put_cell s.own) t.registers.of_processes j) p ≡ Some r) (sym it.leaves.0) is in
-              let was = mapped (put_cell s.own) (nth t.registers.of_processes j) r (sym (nth-update_nth_same (put_cell s.own) t.registers.of_processes j) ∙ here) in
+              let was = mapped _ _ r (sym (nth-update_nth_same _ _ j) ∙ here) in
               sym (ap (λ (y : RegisterState). y.cell) was.2);
           other_cells = λ p r other is.
-              lawful.holds p r (sym (nth-update_nth_other (put_cell s.own) t.registers.of_processes j p (λ same. other (sym same ∙ it.leaves.0))) ∙ is);
+              lawful.holds p r (sym (nth-update_nth_other _ _ j p (λ same. other (sym same ∙ it.leaves.0))) ∙ is);
           dec = λ r is. lawful.dec r is ∙ sym it.leaves.2;
         })
 
@@ -198,7 +199,7 @@ module _ (n : ℕ) (setup : Parts) (t : RunState LocalState) (lawful : Lawful n 
           own_cell = λ r is. lawful.holds local.me r is ∙ (own_is ∙ sym it.leaves.0);
           other_cells = λ p r other is. lawful.holds p r is;
           dec = λ r is.
-              let was = mapped (put_cell it.leaves.1) t.registers.of_decision r is in
+              let was = mapped _ _ r is in
               sym (ap (λ (y : RegisterState). y.cell.val) was.2) ∙ sym it.leaves.3;
         })
 
@@ -214,7 +215,8 @@ module _ (n : ℕ) (setup : Parts) (t : RunState LocalState) (lawful : Lawful n 
         go (Some y) there it = let taken = takes (input.Recv o y) tt it in keeps_cells (input.Recv o y) taken taken.leaves
     kind_step p (Read register) met is = go register (register_of t.registers register) refl met is
       where
-        holds : (r : Reg) (stands : RegisterState) → register_of t.registers r ≡ Some stands → ReadsRegisters (own_of lawful.run) lawful.run.dec (input.Read r stands.cell)
+        holds : (r : Reg) (stands : RegisterState) → register_of t.registers r ≡ Some stands
+            → ReadsRegisters (own_of lawful.run) lawful.run.dec (input.Read r stands.cell)
         holds (R j) stands here = lawful.holds j stands here
         holds Dec stands here = lawful.dec stands here
 
@@ -270,21 +272,22 @@ module _ (n : ℕ) (setup : Parts) (t : RunState LocalState) (lawful : Lawful n 
     run_left = record { traced = put lawful.run.traced p (traced_of s kinded.own_writes_after kinded.carried_after); dec = kinded.published }
 
     traced_here : run_left.traced p ≡ traced_of s kinded.own_writes_after kinded.carried_after
-    traced_here = put_same lawful.run.traced p (traced_of s kinded.own_writes_after kinded.carried_after)
+    traced_here = put_same lawful.run.traced p _
 
     traced_other : (o : ℕ) → (o ≡ p → ⊥) → run_left.traced o ≡ lawful.run.traced o
-    traced_other o other = put_other lawful.run.traced p (traced_of s kinded.own_writes_after kinded.carried_after) o other
+    traced_other o other = put_other lawful.run.traced p _ o other
 
     at_later : nth to.processes p ≡ Some left
-    at_later = nth-set_nth_same t.processes p left x at
+    at_later = nth-set_nth_same _ p left x at
 
     moves : RunStep n lawful.run run_left
     moves = record {
       process = p;
       low = nth_low t.processes p x at;
-      high = let within = nth_within t.processes p x at in let size = lawful.size in omega arith;
+      high = let within = nth_within _ p x at in let size = lawful.size in omega arith;
       step =
-          let P : ℕ → Type 0 = λ o. Step n (own_of lawful.run) lawful.run.dec (lawful.run.traced o) (traced_of s kinded.own_writes_after kinded.carried_after) kinded.published in
+          let P : ℕ → Type 0 =
+          λ o. Step n (own_of lawful.run) lawful.run.dec (lawful.run.traced o) (traced_of s kinded.own_writes_after kinded.carried_after) kinded.published in
           let Q : Traced → Type 0 = λ l. Step n (own_of lawful.run) lawful.run.dec (lawful.run.traced p) l kinded.published in
           subst Q (sym traced_here) (subst P is_me kinded.step);
       others = traced_other;
@@ -302,7 +305,7 @@ module _ (n : ℕ) (setup : Parts) (t : RunState LocalState) (lawful : Lawful n 
             let here = subst (λ i. nth to.processes i ≡ Some y) same is_y in
             let is_left : left ≡ y = same_Some left y (sym at_later ∙ here) in
             inl (same, sym (ap (λ (z : ProcessState LocalState). z.progress.local) is_left))
-        go (inr other) = inr (other, sym (nth-set_nth_other t.processes p o left (λ same. other (sym same))) ∙ is_y)
+        go (inr other) = inr (other, sym (nth-set_nth_other _ p o left (λ same. other (sym same))) ∙ is_y)
 
     -- what the registers hold after the step
     holds_after : (o : ℕ) (r : RegisterState) → nth to.registers.of_processes o ≡ Some r → (o ≡ p) ⊎ (o ≡ p → ⊥) → r.cell ≡ (run_left.traced o).own
@@ -315,8 +318,8 @@ module _ (n : ℕ) (setup : Parts) (t : RunState LocalState) (lawful : Lawful n 
     lawful_left : Lawful n to
     lawful_left = record {
       run = run_left;
-      laws = run_step_keeps n lawful.run run_left lawful.laws moves;
-      size = length-set_nth t.processes p left ∙ lawful.size;
+      laws = run_step_keeps n _ _ lawful.laws moves;
+      size = length-set_nth _ p left ∙ lawful.size;
       me = λ o y is_y. me_after o y (later_process o y is_y);
       among = λ o y is_y. among_after o y (later_process o y is_y);
       tied = λ o y is_y. tied_after o y (later_process o y is_y);
@@ -348,7 +351,7 @@ module _ (n : ℕ) (setup : Parts) (t : RunState LocalState) (lawful : Lawful n 
     rising o before later was is_later =
         let old = lawful.holds o before was in
         let new = holds_after o later is_later (cases_eq o p) in
-        let up = cells_rise n lawful.run run_left lawful.laws moves o in
+        let up = cells_rise n _ _ lawful.laws moves o in
         let old_entry = ap (λ (c : Cell). c.lre) old in
         let new_entry = ap (λ (c : Cell). c.lre) new in
         let old_write = ap (λ (c : Cell). c.lrww) old in
@@ -357,18 +360,7 @@ module _ (n : ℕ) (setup : Parts) (t : RunState LocalState) (lawful : Lawful n 
 
   -- register i is written by process i alone
   pub writes_alone : (p k i : ℕ) (to : RunState LocalState) → after (alpha_machine setup) t (happening.Step p k (Write (R i))) ≡ Some to → p ≡ i
-  writes_alone p k i to is =
-      let taken = taken_from (alpha_machine setup) t to p k (Write (R i)) is in
-      let accepted = parts (alpha_machine setup) t to p k (Write (R i)) taken in
-      go taken.process taken.next taken.at_process (register_of t.registers (R i)) accepted.met accepted.takes
-    where
-      go : (x : ProcessState LocalState) (s : LocalState) → nth t.processes p ≡ Some x → (o : Option RegisterState) → is_some o ≡ true
-          → taken_local table.next_state x.progress.local (option_map (λ (stands : RegisterState). input.Write (R i)) o) ≡ Some s → p ≡ i
-      go x s at None there it = absurd (true≢false (sym there))
-      go x s at (Some stands) there it =
-          let me = lawful.me p x at in
-          let wrote = takes x (subst (λ o. nth t.processes o ≡ Some x) (sym me) at) s (input.Write (R i)) tt it in
-          sym (wrote.leaves.0 ∙ me)
+  writes_alone p k i to h1 = grind (arith, common_steps, gets)
 
   -- whatever event comes next, the rounds in the registers never fall
   pub rises : (event : Event) (to : RunState LocalState) → after (alpha_machine setup) t event ≡ Some to → (i : ℕ) (before later : RegisterState)
@@ -380,36 +372,49 @@ module _ (n : ℕ) (setup : Parts) (t : RunState LocalState) (lawful : Lawful n 
       rising p k kind taken.process taken.next taken.at_process accepted.met accepted.takes i before later at
       (subst (λ (z : RunState LocalState). nth z.registers.of_processes i ≡ Some later) (sym taken.leads_to) there)
   rises (happening.Lost copy) to is i before later at there =
-      let lost = where_true (may_lose (alpha_machine setup) (mail_of t) copy) (Some (record t { lost = set.insert t.lost copy })) to is in
+      let lost = where_true _ _ to is in
       let same = same_Some (record t { lost = set.insert t.lost copy }) to lost.1 in
       let here = subst (λ (z : RunState LocalState). nth z.registers.of_processes i ≡ Some later) (sym same) there in
-      subst (λ (r : RegisterState). (before.cell.lre ≤ r.cell.lre) × (before.cell.lrww ≤ r.cell.lrww)) (same_Some before later (sym at ∙ here)) (omega arith, omega arith)
+      subst (λ (r : RegisterState). (before.cell.lre ≤ r.cell.lre) × (before.cell.lrww ≤ r.cell.lrww))
+      (same_Some before later (sym at ∙ here)) (omega arith, omega arith)
 
   -- an enabled event keeps the laws
   pub after_lawful : (event : Event) (to : RunState LocalState) → after (alpha_machine setup) t event ≡ Some to → Lawful n to
   after_lawful (happening.Step p k kind) to is =
       let taken = taken_from (alpha_machine setup) t to p k kind is in
-      let accepted = parts (alpha_machine setup) t to p k kind taken in
+      let accepted = parts _ t to p k kind taken in
       subst (λ z. Lawful n z) taken.leads_to (lawful_left p k kind taken.process taken.next taken.at_process accepted.met accepted.takes)
   after_lawful (happening.Lost copy) to is =
-      let lost = where_true (may_lose (alpha_machine setup) (mail_of t) copy) (Some (record t { lost = set.insert t.lost copy })) to is in
+      let lost = where_true _ _ to is in
       subst (λ z. Lawful n z) (same_Some (record t { lost = set.insert t.lost copy }) to lost.1)
-      (record { run = lawful.run; laws = lawful.laws; size = lawful.size; me = lawful.me; among = lawful.among; tied = lawful.tied; holds = lawful.holds; dec = lawful.dec })
+      (record {
+        run = lawful.run;
+        laws = lawful.laws;
+        size = lawful.size;
+        me = lawful.me;
+        among = lawful.among;
+        tied =
+            lawful.tied;
+        holds = lawful.holds;
+        dec = lawful.dec;
+      })
 
 -- each state that a valid history reaches keeps the laws
-pub reached_lawful : (setup : Parts) → length setup.inputs ≡ setup.processes → (history : List Event) (t : RunState LocalState) → fold (alpha_machine setup) history ≡ Some t → Lawful setup.processes t
+pub reached_lawful : (setup : Parts) → length setup.inputs ≡ setup.processes → (history : List Event) (t : RunState LocalState)
+    → fold (alpha_machine setup) history ≡ Some t → Lawful setup.processes t
 reached_lawful setup each history t is =
-    reached_keeps (after (alpha_machine setup)) (Lawful setup.processes) (λ s e u it. after_lawful setup.processes setup s it e u)
-    (start (alpha_machine setup)) history t (start_lawful setup each) is
+    reached_keeps (after (alpha_machine setup)) _ (λ s e u it. after_lawful setup.processes setup s it e u)
+    _ history t (start_lawful setup each) is
 
 -- no two processes decide differently in a valid history
-one_decision : (setup : Parts) → length setup.inputs ≡ setup.processes → (history : List Event) (t : RunState LocalState) → fold (alpha_machine setup) history ≡ Some t
+one_decision : (setup : Parts) → length setup.inputs ≡ setup.processes → (history : List Event) (t : RunState LocalState)
+    → fold (alpha_machine setup) history ≡ Some t
     → (p o v w : ℕ) → HasDecided (λ (local : LocalState). local.decision) t p v → HasDecided (λ (local : LocalState). local.decision) t o w → v ≡ w
 one_decision setup each history t is p o v w mine other =
     let size = lawful.size in
-    let here = nth_within t.processes p mine.0 mine.1 in
-    let there = nth_within t.processes o other.0 other.1 in
-    laws_agree setup.processes lawful.run lawful.laws p o (nth_low t.processes p mine.0 mine.1) (omega arith) (nth_low t.processes o other.0 other.1) (omega arith) v w
+    let here = nth_within _ p mine.0 mine.1 in
+    let there = nth_within _ o other.0 other.1 in
+    laws_agree _ _ lawful.laws p o (nth_low _ p mine.0 mine.1) (omega arith) (nth_low _ o other.0 other.1) (omega arith) v w
     (ap (λ (l : Traced). l.decision) (lawful.tied p mine.0 mine.1) ∙ mine.2) (ap (λ (l : Traced). l.decision) (lawful.tied o other.0 other.1) ∙ other.2)
   where
     lawful : Lawful setup.processes t

@@ -1,4 +1,6 @@
 -- Runs of the Alpha machine: what each step keeps, and that no two decisions differ.
+use Rattle.std.proofs.lemmas.Grind.{common_steps}
+use Rattle.std.proofs.lemmas.Option.{gets}
 use Rattle.std.specs.Prelude.{◌≡◌, ℕ, zero, suc, ◌+◌, ◌*◌, ◌<◌, ◌≤◌, List, [], ◌∷◌, ◌++◌, length, Option, Some, None, ◌⊎◌}
 use Rattle.std.proofs.Common.{inl, inr, arith, sym, ◌∙◌, ap, subst, length-append}
 use Rattle.std.proofs.lemmas.Bool.{cases_eq, cases_lt}
@@ -6,7 +8,8 @@ use Rattle.cdb_base.specs.declared.register.Cell.{Cell}
 use Rattle.cdb_process.proofs.Members.{IsIn, Grows, same_grows, in_push_old, in_push_new, contained_in, in_contained}
 use Rattle.cdb_alpha.specs.Steps.{Traced, ValueBasis, Step}
 use Rattle.cdb_agreement.proofs.AlphaSteps.{first_traced, KnownCell, TracedLaws, first_traced_laws, laws_follow, step_keeps}
-use Rattle.cdb_agreement.proofs.AlphaStepFacts.{DeadAt, Doomed, dead_own_up, Wrote, PassFrom, ValueFrom, lre_up, lrww_up, written_grows, carried_grows, written_from, published_from, pass_from, value_from, dead_moves}
+use Rattle.cdb_agreement.proofs.AlphaStepFacts.{DeadAt, Doomed, dead_own_up, Wrote, PassFrom, ValueFrom, written_grows, carried_grows}
+use Rattle.cdb_agreement.proofs.AlphaStepFacts.{written_from, published_from, pass_from, value_from, dead_moves}
 
 -- the local state of each process with its trace, and what the register of the decision holds. Register i holds process i's own cell
 pub record Run : Type 0 where
@@ -56,7 +59,7 @@ pub record RunLaws (n : ℕ) (t : Run) : Type 0 where
 
 pub first_run_laws : (n : ℕ) (inputs : ℕ → ℕ) → RunLaws n (first_run inputs)
 first_run_laws n inputs = record {
-  each = λ j low high. first_traced_laws n j (inputs j) (Somebody n (first_run inputs)) (Settled n (first_run inputs)) low;
+  each = λ j low high. first_traced_laws n j _ _ _ low;
   dec_settled = λ v is. absurd (cc);
   visible = λ i r v j a b c d none. elim none [ ];
   bound = λ i r v j a b c d none. elim none [ ];
@@ -112,29 +115,21 @@ module _ (n : ℕ) (t u : Run) (laws : RunLaws n t) (run_step : RunStep n t u) w
   all_written : (p : ℕ) → Grows (t.traced p).own_writes (u.traced p).own_writes
   all_written p =
       by_process (λ o. Grows (t.traced o).own_writes (u.traced o).own_writes) p
-      (written_grows n run_step.process some_process (Somebody n t) (Settled n t) (own_of t) t.dec mover_before mine mover_after u.dec run_step.step)
-      (λ other. unmoved (λ x. Grows (t.traced p).own_writes x.own_writes) p other (same_grows (t.traced p).own_writes))
+      (written_grows n _ some_process _ _ _ t.dec _ mine _ u.dec run_step.step)
+      (λ other. unmoved (λ x. Grows (t.traced p).own_writes x.own_writes) p other (same_grows _))
 
   all_carried : (p : ℕ) → Grows (t.traced p).carried (u.traced p).carried
   all_carried p =
       by_process (λ o. Grows (t.traced o).carried (u.traced o).carried) p
-      (carried_grows n run_step.process some_process (Somebody n t) (Settled n t) (own_of t) t.dec mover_before mine mover_after u.dec run_step.step)
-      (λ other. unmoved (λ x. Grows (t.traced p).carried x.carried) p other (same_grows (t.traced p).carried))
+      (carried_grows n _ some_process _ _ _ t.dec _ mine _ u.dec run_step.step)
+      (λ other. unmoved (λ x. Grows (t.traced p).carried x.carried) p other (same_grows _))
 
   all_lre : (p : ℕ) → (t.traced p).own.lre ≤ (u.traced p).own.lre
-  all_lre p =
-      by_process (λ o. (t.traced o).own.lre ≤ (u.traced o).own.lre) p
-      (lre_up n run_step.process some_process (Somebody n t) (Settled n t) (own_of t) t.dec mover_before mine mover_after u.dec run_step.step)
-      (λ other. unmoved (λ x. (t.traced p).own.lre ≤ x.own.lre) p other (omega arith))
+  all_lre p = grind (arith, common_steps, gets)
 
   -- the rounds in the cells never fall
   pub cells_rise : (p : ℕ) → ((t.traced p).own.lre ≤ (u.traced p).own.lre) × ((t.traced p).own.lrww ≤ (u.traced p).own.lrww)
-  cells_rise p = (
-    all_lre p,
-    by_process (λ o. (t.traced o).own.lrww ≤ (u.traced o).own.lrww) p
-        (lrww_up n run_step.process some_process (Somebody n t) (Settled n t) (own_of t) t.dec mover_before mine mover_after u.dec run_step.step)
-        (λ other. unmoved (λ x. (t.traced p).own.lrww ≤ x.own.lrww) p other (omega arith)),
-  )
+  cells_rise p = grind (arith, common_steps, gets)
 
   somebody_still : (r v : ℕ) → Somebody n t r v → Somebody n u r v
   somebody_still r v it = (it.0, it.1, it.2, all_written it.0 (r, v) it.3)
@@ -152,21 +147,21 @@ module _ (n : ℕ) (t u : Run) (laws : RunLaws n t) (run_step : RunStep n t u) w
   dead_still i r it =
       dead_own_up n (own_of t) (own_of u) (u.traced i) r (λ m low high. all_lre m)
       (by_process (λ o. DeadAt n (own_of t) (t.traced o) r → DeadAt n (own_of t) (u.traced o) r) i
-      (dead_moves n run_step.process some_process (Somebody n t) (Settled n t) (own_of t) t.dec mover_before mine mover_after u.dec run_step.step r)
+      (dead_moves n _ some_process _ _ _ t.dec _ mine _ u.dec run_step.step r)
       (λ other was. unmoved (λ x. DeadAt n (own_of t) x r) i other was)
       it)
 
   keeps_each : (p : ℕ) → 1 ≤ p → p ≤ n → TracedLaws n p (Somebody n u) (Settled n u) (u.traced p)
   keeps_each p low high =
-      laws_follow n p (Somebody n t) (Somebody n u) (Settled n t) (Settled n u) (u.traced p) somebody_still settled_still
+      laws_follow n p _ _ _ _ _ somebody_still settled_still
       (by_process (λ o. TracedLaws n o (Somebody n t) (Settled n t) (u.traced o)) p
-      (step_keeps n run_step.process run_step.low run_step.high (Somebody n t) (Settled n t) (own_of t) t.dec mover_before mover_after u.dec
+      (step_keeps n _ run_step.low run_step.high _ _ _ t.dec _ _ u.dec
       cell_known laws.dec_settled mine run_step.step)
       (λ other. unmoved (λ x. TracedLaws n p (Somebody n t) (Settled n t) x) p other (laws.each p low high)))
 
   keeps_dec : (v : ℕ) → u.dec ≡ Some v → Settled n u v
   keeps_dec v is =
-      settled_still v (go (published_from n run_step.process some_process (Somebody n t) (Settled n t) (own_of t) t.dec mover_before mine mover_after u.dec run_step.step v is))
+      settled_still v (go (published_from n _ some_process _ _ _ t.dec _ mine _ u.dec run_step.step v is))
     where
       go : (t.dec ≡ Some v) ⊎ ((r : ℕ) × IsIn r mover_before.carried × IsIn (r, v) mover_before.own_writes) → Settled n t v
       go (inl was) = laws.dec_settled v was
@@ -186,7 +181,7 @@ module _ (n : ℕ) (t u : Run) (laws : RunLaws n t) (run_step : RunStep n t u) w
           → IsIn (r, v) (t.traced i).own_writes ⊎ ((i ≡ run_step.process) × Wrote mover_before mover_after r v)
       go (inl same) =
           let P : ℕ → Type 0 = λ o. IsIn (r, v) (u.traced o).own_writes in
-          moved_from (written_from n run_step.process some_process (Somebody n t) (Settled n t) (own_of t) t.dec mover_before mine mover_after u.dec run_step.step r v (subst P same it)) same
+          moved_from (written_from n _ some_process _ _ _ t.dec _ mine _ u.dec run_step.step r v (subst P same it)) same
       go (inr other) = inl (was_unmoved (λ x. IsIn (r, v) x.own_writes) i other it)
 
   -- a round just written can't be carried through where a process has entered a later one
@@ -223,7 +218,8 @@ module _ (n : ℕ) (t u : Run) (laws : RunLaws n t) (run_step : RunStep n t u) w
           inl (new_is_dead i r v j new.0 new.1 jl jh (omega arith))
       go (inr new) (inr also) = let a = new.1.round in let b = also.1.round in absurd (omega arith)
 
-  visible_still : (i r : ℕ) (before after : List Cell) → (Visible i r before → Visible i r after) → Dead n t i r ⊎ Visible i r before → Dead n u i r ⊎ Visible i r after
+  visible_still : (i r : ℕ) (before after : List Cell) → (Visible i r before → Visible i r after)
+      → Dead n t i r ⊎ Visible i r before → Dead n u i r ⊎ Visible i r after
   visible_still i r before after more (inl dead) = inl (dead_still i r dead)
   visible_still i r before after more (inr it) = inr (more it)
 
@@ -231,14 +227,14 @@ module _ (n : ℕ) (t u : Run) (laws : RunLaws n t) (run_step : RunStep n t u) w
   moving_sees : (i r v : ℕ) → 1 ≤ i → i ≤ n → IsIn (r, v) (t.traced i).own_writes → r < mover_after.round
       → 3 ≤ mover_after.place → mover_after.place ≤ 4 → Dead n u i r ⊎ Visible i r mover_after.seen
   moving_sees i r v il ih old before from to =
-      go (pass_from n run_step.process some_process (Somebody n t) (Settled n t) (own_of t) t.dec mover_before mine mover_after u.dec run_step.step from to)
+      go (pass_from n _ some_process _ _ _ t.dec _ mine _ u.dec run_step.step from to)
     where
       known_low : r ≤ (t.traced i).own.lrww
       known_low = ((laws.each i il ih).written_low r v old).1
 
       reads : Visible i r mover_before.seen
           → Visible i r (mover_before.seen ++ own_of t (suc (length mover_before.seen)) ∷ [])
-      reads (inr it) = inr (it.0, in_push_old it.0 (own_of t (suc (length mover_before.seen))) mover_before.seen it.1, it.2)
+      reads (inr it) = inr (it.0, in_push_old it.0 _ _ it.1, it.2)
       reads (inl ahead) = at (cases_eq i (suc (length mover_before.seen)))
         where
           at : (i ≡ suc (length mover_before.seen)) ⊎ (i ≡ suc (length mover_before.seen) → ⊥)
@@ -247,7 +243,7 @@ module _ (n : ℕ) (t u : Run) (laws : RunLaws n t) (run_step : RunStep n t u) w
               let P : ℕ → Type 0 = λ m. r ≤ (t.traced m).own.lrww in
               inr (
                 own_of t (suc (length mover_before.seen)),
-                in_push_new (own_of t (suc (length mover_before.seen))) mover_before.seen,
+                in_push_new _ _,
                 subst P same known_low,
               )
           at (inr other) =
@@ -266,9 +262,11 @@ module _ (n : ℕ) (t u : Run) (laws : RunLaws n t) (run_step : RunStep n t u) w
               ⊎ (mover_after.seen ≡ mover_before.seen ++ own_of t (suc (length mover_before.seen)) ∷ [])
               → Dead n u i r ⊎ Visible i r mover_after.seen
           by_seen (inl same) =
-              visible_still i r mover_before.seen mover_after.seen (subst (λ (x : List Cell). Visible i r mover_before.seen → Visible i r x) (sym same) (λ it. it)) earlier
+              visible_still i r mover_before.seen mover_after.seen
+              (subst (λ (x : List Cell). Visible i r mover_before.seen → Visible i r x) (sym same) (λ it. it)) earlier
           by_seen (inr same) =
-              visible_still i r mover_before.seen mover_after.seen (subst (λ (x : List Cell). Visible i r mover_before.seen → Visible i r x) (sym same) reads) earlier
+              visible_still i r mover_before.seen mover_after.seen
+              (subst (λ (x : List Cell). Visible i r mover_before.seen → Visible i r x) (sym same) reads) earlier
 
   keeps_visible : (i r v j : ℕ) → 1 ≤ i → i ≤ n → 1 ≤ j → j ≤ n → IsIn (r, v) (u.traced i).own_writes → r < (u.traced j).round
       → 3 ≤ (u.traced j).place → (u.traced j).place ≤ 4 → Dead n u i r ⊎ Visible i r (u.traced j).seen
@@ -283,7 +281,8 @@ module _ (n : ℕ) (t u : Run) (laws : RunLaws n t) (run_step : RunStep n t u) w
           by_process (λ o. r < (u.traced o).round → 3 ≤ (u.traced o).place → (u.traced o).place ≤ 4 → Dead n u i r ⊎ Visible i r (u.traced o).seen) j
           (moving_sees i r v il ih old) rests before from to
         where
-          rests : (j ≡ run_step.process → ⊥) → r < (u.traced j).round → 3 ≤ (u.traced j).place → (u.traced j).place ≤ 4 → Dead n u i r ⊎ Visible i r (u.traced j).seen
+          rests : (j ≡ run_step.process → ⊥) → r < (u.traced j).round → 3 ≤ (u.traced j).place → (u.traced j).place ≤ 4
+              → Dead n u i r ⊎ Visible i r (u.traced j).seen
           rests other a b c =
               visible_still i r (t.traced j).seen (u.traced j).seen (λ it. unmoved (λ x. Visible i r x.seen) j other it)
               (laws.visible i r v j il ih jl jh old (was_unmoved (λ x. r < x.round) j other a) (was_unmoved (λ x. 3 ≤ x.place) j other b)
@@ -297,7 +296,7 @@ module _ (n : ℕ) (t u : Run) (laws : RunLaws n t) (run_step : RunStep n t u) w
   moving_bound : (i r v : ℕ) → 1 ≤ i → i ≤ n → IsIn (r, v) (t.traced i).own_writes → r < mover_after.round
       → mover_after.place ≡ 5 → Dead n u i r ⊎ (mover_after.value ≡ v)
   moving_bound i r v il ih old before at =
-      go (value_from n run_step.process some_process (Somebody n t) (Settled n t) (own_of t) t.dec mover_before mine mover_after u.dec run_step.step at)
+      go (value_from n _ some_process _ _ _ t.dec _ mine _ u.dec run_step.step at)
     where
       go : ValueFrom mover_before mover_after → Dead n u i r ⊎ (mover_after.value ≡ v)
       go it = by_value it.value
@@ -306,12 +305,11 @@ module _ (n : ℕ) (t u : Run) (laws : RunLaws n t) (run_step : RunStep n t u) w
               ⊎ ((mover_before.place ≡ 4) × ValueBasis mover_before.seen mover_after.value)
               → Dead n u i r ⊎ (mover_after.value ≡ v)
           by_value (inl was) =
-              let stays = it.stays in
               bound_still i r v mover_after.value mover_before.value was.1
               (laws.bound i r v run_step.process il ih run_step.low run_step.high old (omega arith) was.0)
           by_value (inr settles) =
-              let stays = it.stays in
-              by_pass (laws.visible i r v run_step.process il ih run_step.low run_step.high old (omega arith) (let here = settles.0 in omega arith) (let here = settles.0 in omega arith))
+              by_pass (laws.visible i r v run_step.process il ih run_step.low run_step.high old (omega arith)
+              (let here = settles.0 in omega arith) (let here = settles.0 in omega arith))
             where
               by_pass : Dead n t i r ⊎ Visible i r mover_before.seen → Dead n u i r ⊎ (mover_after.value ≡ v)
               by_pass (inl dead) = inl (dead_still i r dead)
@@ -320,13 +318,13 @@ module _ (n : ℕ) (t u : Run) (laws : RunLaws n t) (run_step : RunStep n t u) w
                   by_round (cases_lt r settles.1.top.lrww)
                 where
                   reaches : r ≤ settles.1.top.lrww
-                  reaches = let bound = settles.1.greatest later.0 (in_contained mover_before.seen later.0 later.1) in let is = later.2 in omega arith
+                  reaches = let bound = settles.1.greatest later.0 (in_contained _ later.0 later.1) in let is = later.2 in omega arith
 
                   positive : 1 ≤ r
                   positive = ((laws.each i il ih).written_low r v old).0
 
                   known : (x : ℕ) × (settles.1.top.val ≡ Some x) × Somebody n t settles.1.top.lrww x
-                  known = let a = reaches in let b = positive in (mine.seen_known settles.1.top (contained_in mover_before.seen settles.1.top settles.1.is_seen)).known (omega arith)
+                  known = let a = reaches in let b = positive in (mine.seen_known settles.1.top (contained_in _ _ settles.1.is_seen)).known (omega arith)
 
                   taken : mover_after.value ≡ known.0
                   taken = let a = reaches in let b = positive in settles.1.taken known.0 (omega arith) known.1
@@ -339,7 +337,7 @@ module _ (n : ℕ) (t u : Run) (laws : RunLaws n t) (run_step : RunStep n t u) w
                       let a = reaches in
                       let same : settles.1.top.lrww ≡ r = omega arith in
                       let P : ℕ → Type 0 = λ x. IsIn (x, known.0) (t.traced known.2.0).own_writes in
-                      inr (taken ∙ sym (one_value n t laws i r v known.2.0 known.0 il ih known.2.1 known.2.2 old (subst P same known.2.3)))
+                      inr (taken ∙ sym (one_value n t laws i r v _ known.0 il ih known.2.1 known.2.2 old (subst P same known.2.3)))
 
   keeps_bound : (i r v j : ℕ) → 1 ≤ i → i ≤ n → 1 ≤ j → j ≤ n → IsIn (r, v) (u.traced i).own_writes → r < (u.traced j).round
       → (u.traced j).place ≡ 5 → Dead n u i r ⊎ ((u.traced j).value ≡ v)

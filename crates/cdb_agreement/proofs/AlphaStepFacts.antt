@@ -1,11 +1,14 @@
 -- What one step of a process of the Alpha machine changes, fact by fact, and when a round can't be carried through any more.
+use Rattle.std.proofs.lemmas.Grind.{common_steps}
+use Rattle.std.proofs.lemmas.Option.{gets}
 use Rattle.std.specs.Prelude.{◌≡◌, ℕ, suc, ◌<◌, ◌≤◌, [], ◌∷◌, ◌++◌, length, Contains, Option, Some, ◌⊎◌, refl}
 use Rattle.std.proofs.Common.{inl, inr, arith, sym, ap, subst, length-append, ◌∙◌}
 use Rattle.std.proofs.lemmas.Bool.{cases_eq}
 use Rattle.cdb_base.specs.declared.register.Cell.{Cell}
 use Rattle.cdb_process.proofs.Members.{IsIn, Grows, same_grows, push_grows, in_push, in_push_old, in_push_new, in_contained}
 use Rattle.cdb_agreement.proofs.AlphaSteps.{TracedLaws}
-use Rattle.cdb_alpha.specs.Steps.{Traced, ValueBasis, PassPlace, FoundedRow, after_row, published_by, Step, stay, decide, look, lead, follow, enter, read, give_up, settle, write, read_again, fail, carry, publish}
+use Rattle.cdb_alpha.specs.Steps.{Traced, ValueBasis, PassPlace, FoundedRow, after_row, published_by, Step, stay, decide, look, lead, follow, enter, read}
+use Rattle.cdb_alpha.specs.Steps.{give_up, settle, write, read_again, fail, carry, publish}
 
 -- of a process that is in its second pass of round r: a cell that it has seen, or will read, was entered in a later round
 abbrev pub Doomed : ℕ → (ℕ → Cell) → Traced → ℕ → Type 0
@@ -54,8 +57,7 @@ module _ (n j : ℕ) (some_process : 1 ≤ n) (somebody : ℕ → ℕ → Type 0
   along P k {h} is it = subst P (sym is) it
 
   rows_round_up : (row : FoundedRow n own dec l) → l.round ≤ (after_row n own dec l row).round
-  rows_round_up stay = omega arith
-  rows_round_up _ = omega arith
+  rows_round_up row = grind (arith, common_steps, gets)
 
   pub round_up : (k : Traced) (published : Option ℕ) → Step n own dec l k published → l.round ≤ k.round
   round_up k published step = along (λ x. l.round ≤ x.round) k step.is (rows_round_up step.row)
@@ -63,16 +65,13 @@ module _ (n j : ℕ) (some_process : 1 ≤ n) (somebody : ℕ → ℕ → Type 0
   -- what a process writes to its register never falls
 
   rows_lre_up : (row : FoundedRow n own dec l) → l.own.lre ≤ (after_row n own dec l row).own.lre
-  rows_lre_up (enter here) = let order = laws.order in omega arith
-  rows_lre_up (write here) = let order = laws.order in omega arith
-  rows_lre_up _ = omega arith
+  rows_lre_up row = grind (arith, common_steps, gets)
 
   pub lre_up : (k : Traced) (published : Option ℕ) → Step n own dec l k published → l.own.lre ≤ k.own.lre
   lre_up k published step = along (λ x. l.own.lre ≤ x.own.lre) k step.is (rows_lre_up step.row)
 
   rows_lrww_up : (row : FoundedRow n own dec l) → l.own.lrww ≤ (after_row n own dec l row).own.lrww
-  rows_lrww_up (write here) = let order = laws.order in omega arith
-  rows_lrww_up _ = omega arith
+  rows_lrww_up row = grind (arith, common_steps, gets)
 
   pub lrww_up : (k : Traced) (published : Option ℕ) → Step n own dec l k published → l.own.lrww ≤ k.own.lrww
   lrww_up k published step = along (λ x. l.own.lrww ≤ x.own.lrww) k step.is (rows_lrww_up step.row)
@@ -80,15 +79,15 @@ module _ (n j : ℕ) (some_process : 1 ≤ n) (somebody : ℕ → ℕ → Type 0
   -- the trace only grows
 
   rows_written : (row : FoundedRow n own dec l) → Grows l.own_writes (after_row n own dec l row).own_writes
-  rows_written (write here) = push_grows (l.round, l.value) l.own_writes
-  rows_written _ = same_grows l.own_writes
+  rows_written (write here) = push_grows _ _
+  rows_written _ = same_grows _
 
   pub written_grows : (k : Traced) (published : Option ℕ) → Step n own dec l k published → Grows l.own_writes k.own_writes
   written_grows k published step = along (λ x. Grows l.own_writes x.own_writes) k step.is (rows_written step.row)
 
   rows_carried : (row : FoundedRow n own dec l) → Grows l.carried (after_row n own dec l row).carried
-  rows_carried (carry here low) = push_grows l.round l.carried
-  rows_carried _ = same_grows l.carried
+  rows_carried (carry here low) = push_grows l.round _
+  rows_carried _ = same_grows _
 
   pub carried_grows : (k : Traced) (published : Option ℕ) → Step n own dec l k published → Grows l.carried k.carried
   carried_grows k published step = along (λ x. Grows l.carried x.carried) k step.is (rows_carried step.row)
@@ -96,7 +95,7 @@ module _ (n j : ℕ) (some_process : 1 ≤ n) (somebody : ℕ → ℕ → Type 0
   -- a round carried through after the step was before, or is the round of the step
 
   rows_carried_from : (row : FoundedRow n own dec l) → (r : ℕ) → IsIn r (after_row n own dec l row).carried → IsIn r l.carried ⊎ (r ≡ l.round)
-  rows_carried_from (carry here low) r it = in_push r l.round l.carried it
+  rows_carried_from (carry here low) r it = in_push r l.round _ it
   rows_carried_from _ r it = inl it
 
   pub carried_from : (k : Traced) (published : Option ℕ) → Step n own dec l k published → (r : ℕ) → IsIn r k.carried → IsIn r l.carried ⊎ (r ≡ l.round)
@@ -107,7 +106,7 @@ module _ (n j : ℕ) (some_process : 1 ≤ n) (somebody : ℕ → ℕ → Type 0
 
   rows_written_from : (row : FoundedRow n own dec l) → (r v : ℕ) → IsIn (r, v) (after_row n own dec l row).own_writes
       → IsIn (r, v) l.own_writes ⊎ Wrote l (after_row n own dec l row) r v
-  rows_written_from (write here) r v it = new (in_push (r, v) (l.round, l.value) l.own_writes it)
+  rows_written_from (write here) r v it = new (in_push (r, v) _ _ it)
     where
       new : IsIn (r, v) l.own_writes ⊎ (◌≡◌ {A = ℕ × ℕ} (r, v) (l.round, l.value)) → IsIn (r, v) l.own_writes ⊎ Wrote l (after_row n own dec l (write here)) r v
       new (inl old) = inl old
@@ -144,16 +143,10 @@ module _ (n j : ℕ) (some_process : 1 ≤ n) (somebody : ℕ → ℕ → Type 0
 
   rows_pass : (row : FoundedRow n own dec l) → 3 ≤ (after_row n own dec l row).place → (after_row n own dec l row).place ≤ 4
       → ((after_row n own dec l row).seen ≡ []) ⊎ PassFrom own l (after_row n own dec l row)
-  rows_pass stay from to = inr (record { from = from; to = to; stays = refl; seen = inl refl })
-  rows_pass (enter here) from to = inl refl
-  rows_pass (read p here pass) from to = inr (record { from = omega arith; to = omega arith; stays = refl; seen = inr refl })
-  rows_pass (read_again p here (inl on)) from to = absurd (omega arith)
-  rows_pass (read_again p here (inr over)) from to = absurd (omega arith)
-  rows_pass _ from to = absurd (omega arith)
+  rows_pass row h1 h2 = grind (arith, common_steps, gets)
 
   pub pass_from : (k : Traced) (published : Option ℕ) → Step n own dec l k published → 3 ≤ k.place → k.place ≤ 4 → (k.seen ≡ []) ⊎ PassFrom own l k
-  pass_from k published step =
-      along (λ x. 3 ≤ x.place → x.place ≤ 4 → (x.seen ≡ []) ⊎ PassFrom own l x) k step.is (rows_pass step.row)
+  pass_from k published h1 h2 h3 = grind (arith, common_steps, gets)
 
   -- a value to be written after the step was before, or rests on what was seen
 
@@ -192,7 +185,7 @@ module _ (n j : ℕ) (some_process : 1 ≤ n) (somebody : ℕ → ℕ → Type 0
       reads : (p : ℕ) → l.place ≡ 6 → PassPlace n (length l.seen) 6 p → Doomed n own l r
           → Doomed n own (record l { place = p; seen = l.seen ++ own (suc (length l.seen)) ∷ [] }) r
       reads p here pass (inl seen) =
-          inl (from pass, to pass, seen.2, in_push_old seen.2 (own (suc (length l.seen))) l.seen seen.3, seen.4)
+          inl (from pass, to pass, seen.2, in_push_old seen.2 _ l.seen seen.3, seen.4)
         where
           from : PassPlace n (length l.seen) 6 p → 6 ≤ p
           from (inl on) = omega arith
@@ -209,7 +202,7 @@ module _ (n j : ℕ) (some_process : 1 ≤ n) (somebody : ℕ → ℕ → Type 0
           new : p ≤ 7 → 6 ≤ p → ahead.1 ≡ suc (length l.seen) → Doomed n own (record l { place = p; seen = l.seen ++ own (suc (length l.seen)) ∷ [] }) r
           new to from same =
               let P : ℕ → Type 0 = λ m. r < (own m).lre in
-              inl (from, to, own (suc (length l.seen)), in_push_new (own (suc (length l.seen))) l.seen, subst P same later)
+              inl (from, to, own (suc (length l.seen)), in_push_new _ l.seen, subst P same later)
 
           go : PassPlace n (length l.seen) 6 p → (ahead.1 ≡ suc (length l.seen)) ⊎ (ahead.1 ≡ suc (length l.seen) → ⊥)
               → Doomed n own (record l { place = p; seen = l.seen ++ own (suc (length l.seen)) ∷ [] }) r
@@ -217,10 +210,8 @@ module _ (n j : ℕ) (some_process : 1 ≤ n) (somebody : ℕ → ℕ → Type 0
           go (inr over) (inl same) = new (omega arith) (omega arith) same
           go (inl on) (inr other) =
               let long = length-append l.seen (own (suc (length l.seen)) ∷ []) in
-              let behind = ahead.2 in
               inr (on.0, ahead.1, omega arith, ahead.3, later)
           go (inr over) (inr other) =
-              let behind = ahead.2 in
               let within = ahead.3 in
               absurd (omega arith)
 

@@ -4,7 +4,8 @@ use Rattle.std.proofs.Common.{inl, inr, arith, sym, ◌∙◌, ap, subst, length
 use Rattle.cdb_base.specs.declared.register.Cell.{Cell}
 use Rattle.cdb_alpha.specs.LocalState.{first_cell}
 use Rattle.cdb_process.proofs.Members.{IsIn, in_push, in_push_new}
-use Rattle.cdb_alpha.specs.Steps.{Traced, PassPlace, FoundedRow, after_row, Step, stay, decide, look, lead, follow, enter, read, give_up, settle, write, read_again, fail, carry, publish}
+use Rattle.cdb_alpha.specs.Steps.{Traced, PassPlace, FoundedRow, after_row, Step, stay, decide, look, lead, follow, enter, read, give_up, settle, write}
+use Rattle.cdb_alpha.specs.Steps.{read_again, fail, carry, publish}
 
 -- before its first step
 abbrev pub first_traced : ℕ → ℕ → Traced
@@ -220,18 +221,24 @@ module _ (n j : ℕ) (low : 1 ≤ j) (high : j ≤ n) (somebody : ℕ → ℕ �
 
   keeps_write : l.place ≡ 5
       → TracedLaws n j somebody settled
-      (record l { place = 6; own = record { lre = l.round; lrww = l.round; val = Some l.value }; seen = []; own_writes = l.own_writes ++ (l.round, l.value) ∷ [] })
+      (record l {
+        place = 6;
+        own = record { lre = l.round; lrww = l.round; val = Some l.value };
+        seen = [];
+        own_writes =
+            l.own_writes ++ (l.round, l.value) ∷ [];
+      })
   keeps_write here = record {
     own_class = laws.own_class;
     order = (omega arith, omega arith);
     entered_here = λ from to. refl;
     fresh = λ early. absurd (omega arith);
-    own_known = λ positive. (l.value, refl, in_push_new (l.round, l.value) l.own_writes);
-    written_low = λ r v it. below r v (in_push (r, v) (l.round, l.value) l.own_writes it);
-    one_write = λ r v x it other. one r v x (in_push (r, v) (l.round, l.value) l.own_writes it) (in_push (r, x) (l.round, l.value) l.own_writes other);
+    own_known = λ positive. (l.value, refl, in_push_new _ _);
+    written_low = λ r v it. below r v (in_push (r, v) _ _ it);
+    one_write = λ r v x it other. one r v x (in_push (r, v) _ _ it) (in_push (r, x) _ _ other);
     seen_known = λ c none. elim none [ ];
     seen_all = λ at. absurd (omega arith);
-    value_here = λ from to. in_push_new (l.round, l.value) l.own_writes;
+    value_here = λ from to. in_push_new _ _;
     carried_past = λ r it. past r (laws.carried_past r it);
     carried_here = λ at. absurd (omega arith);
     decision_settled = laws.decision_settled;
@@ -247,7 +254,8 @@ module _ (n j : ℕ) (low : 1 ≤ j) (high : j ≤ n) (somebody : ℕ → ℕ �
           let fresh = laws.fresh (omega arith) in
           (omega arith, omega arith, (laws.own_class.0, same ∙ laws.own_class.1))
 
-      one : (r v x : ℕ) → IsIn (r, v) l.own_writes ⊎ (◌≡◌ {A = ℕ × ℕ} (r, v) (l.round, l.value)) → IsIn (r, x) l.own_writes ⊎ (◌≡◌ {A = ℕ × ℕ} (r, x) (l.round, l.value)) → v ≡ x
+      one : (r v x : ℕ) → IsIn (r, v) l.own_writes ⊎ (◌≡◌ {A = ℕ × ℕ} (r, v) (l.round, l.value))
+          → IsIn (r, x) l.own_writes ⊎ (◌≡◌ {A = ℕ × ℕ} (r, x) (l.round, l.value)) → v ≡ x
       one r v x (inl old) (inl other) = laws.one_write r v x old other
       one r v x (inl old) (inr other) =
           let same : r ≡ l.round = ap (λ (e : ℕ × ℕ). e.0) other in
@@ -310,8 +318,8 @@ module _ (n j : ℕ) (low : 1 ≤ j) (high : j ≤ n) (somebody : ℕ → ℕ �
     seen_known = laws.seen_known;
     seen_all = λ at. absurd (omega arith);
     value_here = λ from to. laws.value_here (omega arith) (omega arith);
-    carried_past = λ r it. past r (in_push r l.round l.carried it);
-    carried_here = λ at. in_push_new l.round l.carried;
+    carried_past = λ r it. past r (in_push r l.round _ it);
+    carried_here = λ at. in_push_new l.round _;
     decision_settled = laws.decision_settled;
   }
     where

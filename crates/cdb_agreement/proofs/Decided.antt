@@ -23,7 +23,8 @@ module _ {L : Type 0} (decision : L → Option ℕ) where
   listed p (local ∷ locals) =
       All-append (IsDecidedIn (local ∷ locals)) (option_to_list (option_map (λ v. (p, v)) (decision local))) (decided_from decision (suc p) locals)
       (here (decision local) refl)
-      (All-weaker (IsDecidedIn locals) (IsDecidedIn (local ∷ locals)) (λ pair it. (suc it.0, it.1, it.2, it.3)) (decided_from decision (suc p) locals) (listed (suc p) locals))
+      (All-weaker (IsDecidedIn locals) (IsDecidedIn (local ∷ locals)) (λ pair it. (suc it.0, it.1, it.2, it.3))
+      (decided_from decision (suc p) locals) (listed (suc p) locals))
     where
       here : (o : Option ℕ) → decision local ≡ o → All (IsDecidedIn (local ∷ locals)) (option_to_list (option_map (λ v. (p, v)) o))
       here None is = All-nil (IsDecidedIn (local ∷ locals))
@@ -35,7 +36,8 @@ module _ {L : Type 0} (decision : L → Option ℕ) where
 
     decided_by : (pair : ℕ × ℕ) → IsDecidedIn locals pair → (p : ℕ) × HasDecided decision t p pair.1
     decided_by pair it =
-        let process = mapped (λ (x : ProcessState L). x.progress.local) (nth t.processes (suc it.0)) it.1 (sym (nth-map (λ (x : ProcessState L). x.progress.local) t.processes (suc it.0)) ∙ it.2) in
+        let process =
+        mapped (λ (x : ProcessState L). x.progress.local) _ it.1 (sym (nth-map (λ (x : ProcessState L). x.progress.local) t.processes (suc it.0)) ∙ it.2) in
         (suc it.0, (process.0, process.1, ap decision process.2 ∙ it.3))
 
     -- each pair that is listed is the decision of a process

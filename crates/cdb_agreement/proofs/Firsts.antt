@@ -1,4 +1,6 @@
 -- The processes and the registers of a run in which nothing has happened.
+use Rattle.std.proofs.lemmas.Grind.{common_steps}
+use Rattle.std.proofs.lemmas.Option.{gets}
 use Rattle.std.proofs.Common.{◌≡◌, ℕ, zero, suc, ◌+◌, List, [], ◌∷◌, length, map, replicate, slice_get, slice_index, Some, refl, sym, ap, ◌∙◌, arith}
 use Rattle.std.proofs.lemmas.List.{length-map}
 use Rattle.std.proofs.lemmas.Option.{none-some, same_Some}
@@ -12,7 +14,8 @@ use Rattle.cdb_rules.proofs.FirstStates.{length-first_states}
 use Rattle.cdb_rules.proofs.Taken.{mapped}
 
 module _ {L : Type 0} (first : ℕ → ℕ → ℕ → ℕ → L) (n q : ℕ) where
-  nth-first_states : (p : ℕ) (values : List ℕ) (k : ℕ) (local : L) → nth (first_states first p n q values) (suc k) ≡ Some local → local ≡ first (k + p) n q (slice_index values k)
+  nth-first_states : (p : ℕ) (values : List ℕ) (k : ℕ) (local : L) → nth (first_states first p n q values) (suc k) ≡ Some local
+      → local ≡ first (k + p) n q (slice_index values k)
   nth-first_states p [] k local is = absurd (none-some local is)
   nth-first_states p (value ∷ values) zero local is =
       let same : p ≡ 0 + p = omega arith in
@@ -25,7 +28,7 @@ module _ {L : Type 0} (first : ℕ → ℕ → ℕ → ℕ → L) (n q : ℕ) wh
   pub first_at : (values : List ℕ) (k : ℕ) (x : ProcessState L) → nth (map fresh_process (first_states first 1 n q values)) (suc k) ≡ Some x
       → x ≡ fresh_process (first (suc k) n q (slice_index values k))
   first_at values k x is =
-      let local = mapped fresh_process (nth (first_states first 1 n q values) (suc k)) x (sym (nth-map fresh_process (first_states first 1 n q values) (suc k)) ∙ is) in
+      let local = mapped _ _ x (sym (nth-map _ _ (suc k)) ∙ is) in
       let same : k + 1 ≡ suc k = omega arith in
       sym local.2 ∙ ap fresh_process (nth-first_states 1 values k local.0 local.1 ∙ ap (λ m. first m n q (slice_index values k)) same)
 
@@ -42,15 +45,10 @@ module _ {L : Type 0} (first : ℕ → ℕ → ℕ → ℕ → L) (n q : ℕ) wh
 -- ---- registers
 
 nth_replicate : {A : Type 0} (n i : ℕ) (x y : A) → nth (replicate n x) i ≡ Some y → y ≡ x
-nth_replicate n zero x y is = absurd (none-some y is)
-nth_replicate zero (suc i) x y is = absurd (none-some y is)
-nth_replicate (suc n) (suc zero) x y is = sym (same_Some x y is)
-nth_replicate (suc n) (suc (suc i)) x y is = nth_replicate n (suc i) x y is
+nth_replicate n i x y h1 = grind (arith, common_steps, gets)
 
 pub first_cells : (m p : ℕ) (r : RegisterState) → nth (fresh_registers m).of_processes p ≡ Some r → r ≡ fresh_register
-first_cells zero p r is = nth_replicate 0 p fresh_register r is
-first_cells (suc m) p r is = nth_replicate (suc m) p fresh_register r is
+first_cells m p r h1 = grind (arith, common_steps, gets)
 
 pub first_decision : (m : ℕ) (r : RegisterState) → (fresh_registers m).of_decision ≡ Some r → r ≡ fresh_register
-first_decision zero r is = absurd (none-some r is)
-first_decision (suc m) r is = sym (same_Some fresh_register r is)
+first_decision m r h1 = grind (arith, common_steps, gets)

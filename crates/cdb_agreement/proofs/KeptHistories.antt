@@ -1,10 +1,12 @@
 -- The rules of every run keep valid histories, the state that they reach, and agreement.
-use Rattle.std.proofs.Common.{◌≡◌, ◌==◌, ◌&&◌, ℕ, suc, ◌+◌, ◌≤◌, true, not, arith, List, [], ◌∷◌, ◌++◌, length, slice_get, Some, Result, Ok, IfOk, IsSome, IsTrue, is_ok, option_and_then, refl, sym, ap, ◌∙◌, subst}
+use Rattle.std.proofs.lemmas.Grind.{common_steps}
+use Rattle.std.proofs.lemmas.Option.{gets}
+use Rattle.std.proofs.Common.{◌≡◌, ◌==◌, ℕ, suc, ◌≤◌, true, not, arith, List, [], ◌∷◌, ◌++◌, length, slice_get, Some, Result, Ok, IfOk, IsSome}
+use Rattle.std.proofs.Common.{IsTrue, is_ok, option_and_then, refl, sym, ap, ◌∙◌, subst}
 use Rattle.std.proofs.lemmas.Bool.Decides.{nat_tests}
 use Rattle.cdb_alpha.specs.Machine.{alpha_table}
 use Rattle.cdb_alpha.specs.TableLaws as alpha_laws
 use Rattle.cdb_base.specs.Event.{event_name}
-use Rattle.cdb_base.specs.Positions.{nth}
 use Rattle.cdb_base.specs.declared.act.Act.{Act}
 use Rattle.cdb_base.specs.declared.event.Event.{Event}
 use Rattle.cdb_base.specs.declared.event.Event.TheVariants.{Step, Lost}
@@ -15,17 +17,17 @@ use Rattle.cdb_causal.proofs.Reaches.{reached_front_some, reached_push}
 use Rattle.cdb_leader.specs.Machine.{leader_table}
 use Rattle.cdb_leader.specs.TableLaws as leader_laws
 use Rattle.cdb_causal.specs.Standing.{IsStanding}
-use Rattle.cdb_message.specs.Mail.{is_sent, is_received, is_lost}
+use Rattle.cdb_message.specs.Mail.{is_sent, is_received}
 use Rattle.cdb_process.specs.Table.{Table}
 use Rattle.cdb_rules.specs.Agreement.{AllAgree, AreProposed, HasMajorityIfNeeded}
 use Rattle.cdb_agreement.specs.Algorithms.{leader_machine, alpha_machine, rules, rules_by}
 use Rattle.cdb_rules.specs.Lawful.{KeepHistories}
 use Rattle.cdb_rules.specs.Machines.{machine_of}
 use Rattle.cdb_rules.specs.Mail.{mail_of}
-use Rattle.cdb_rules.specs.Refusals.{planned, step_result, loss_result, again_result, IsOfRun, NamesProcess}
+use Rattle.cdb_rules.specs.Refusals.{step_result, again_result, IsOfRun, NamesProcess}
 use Rattle.cdb_rules.specs.Rules.{rules_of}
 use Rattle.cdb_agreement.specs.SameState.{ReachSameState, ReachSameStateBy}
-use Rattle.cdb_rules.specs.State.{Machine, ProcessState, start}
+use Rattle.cdb_rules.specs.State.{Machine, ProcessState}
 use Rattle.cdb_rules.specs.Step.{after, fold, is_among, state_of, IsValid, IsEnabled}
 use Rattle.cdb_rules.proofs.Stages.{is_due}
 use Rattle.cdb_rules.specs.Undo.{IsEventNamed, names_processes}
@@ -59,42 +61,42 @@ second_version : (version : ℕ) → (version == 2) ≡ true → version ≡ 2
 second_version version h = grind (arith, nat_tests)
 
 at_end : {A : Type 0} (xs : List A) (x : A) → slice_get (xs ++ x ∷ []) (length xs) ≡ Some x
-at_end [] x = refl
-at_end (y ∷ ys) x = at_end ys x
+at_end xs x = grind (arith, common_steps, gets)
 
 module _ {L : Type 0} (table : Table L) (setup : Parts) (range : AreInRange setup) (lawful : IsLawful (machine_of table setup)) where
   abbrev machine : Machine L
   machine = machine_of table setup
 
   number : length machine.firsts ≡ setup.processes
-  number = length-first_states table.first 1 setup.processes setup.quorum setup.inputs ∙ range.an_input_each
+  number = length-first_states _ 1 _ _ _ ∙ range.an_input_each
 
-  pushed : (history : List Event) → IsValid machine history → (event : Event) → IsEnabled machine (state_of machine history) event → IsValid machine (history ++ event ∷ [])
-  pushed history valid event enabled = valid_push machine setup.processes number history valid event enabled
+  pushed : (history : List Event) → IsValid machine history → (event : Event) → IsEnabled machine (state_of machine history) event
+      → IsValid machine (history ++ event ∷ [])
+  pushed history valid event enabled = valid_push machine _ number history valid event enabled
 
-  step_enabled : (history : List Event) (p : ℕ) (act : Act) (event : Event) → step_result machine setup (state_of machine history) p act ≡ Ok event → IsEnabled machine (state_of machine history) event
+  step_enabled : (history : List Event) (p : ℕ) (act : Act) (event : Event)
+      → step_result machine setup (state_of machine history) p act ≡ Ok event → IsEnabled machine (state_of machine history) event
   step_enabled history p act event h =
       let state = state_of machine history in
-      let process = of_some (λ (process : ProcessState L). planned machine setup (mail_of state) state.registers process.progress p act) (nth state.processes p) _ event h in
-      planned_enabled machine setup number state p process.0
-      (λ leader given.
-      let within = answers_within setup p (process.0.progress.queries + 1) leader range given in
-      among_is setup.processes leader within.0 within.1)
+      let process = of_some _ _ _ event h in
+      planned_enabled machine setup number state p _ (λ leader given.
+      let within = answers_within setup p _ leader range given in
+      among_is _ leader within.0 within.1)
       lawful process.1 act event process.2
 
   -- the last event is enabled before it
-  last_enabled : (history : List Event) (event : Event) → IsValid machine (history ++ event ∷ []) → IsEnabled machine (state_of machine history) event
+  pub last_enabled : (history : List Event) (event : Event) → IsValid machine (history ++ event ∷ []) → IsEnabled machine (state_of machine history) event
   last_enabled history event valid =
-      let was = reached_front_some (after machine) (start machine) history (event ∷ []) valid in
+      let was = reached_front_some _ _ history _ valid in
       subst IsSome
-      (reached_push (after machine) (start machine) history event ∙ ap (option_and_then (λ next. after machine next event)) (reached_state machine history was))
+      (reached_push _ _ history event ∙ ap (option_and_then (λ next. after machine next event)) (reached_state machine history was))
       valid
 
   -- a query names a process of the run
   names_process : (process : ProcessState L) (kind : Kind) → is_due machine process kind ≡ true → NamesProcess setup.processes kind
   names_process process (Query leader) due =
       let among = subst (λ (n : ℕ). is_among n leader ≡ true) number due in
-      (from_one setup.processes leader among, at_most setup.processes leader among)
+      (from_one _ leader among, at_most _ leader among)
   names_process process (Send m) due = tt
   names_process process (Recv s m) due = tt
   names_process process (Read register) due = tt
@@ -103,28 +105,34 @@ module _ {L : Type 0} (table : Table L) (setup : Parts) (range : AreInRange setu
   names_process process Learn due = tt
   names_process process Crash due = tt
 
-  of_run : (history : List Event) (event : Event) → IsValid machine (history ++ event ∷ []) → names_processes setup.processes (event_name event) ≡ true → IsOfRun setup event
+  of_run : (history : List Event) (event : Event) → IsValid machine (history ++ event ∷ [])
+      → names_processes setup.processes (event_name event) ≡ true → IsOfRun setup event
   of_run history (Step p k kind) valid among =
       let state = state_of machine history in
-      let to = some_of (after machine state (Step p k kind)) (last_enabled history (Step p k kind) valid) in
+      let to = some_of _ (last_enabled history (Step p k kind) valid) in
       let taken = taken_from machine state to.0 p k kind to.1 in
       let a = parts machine state to.0 p k kind taken in
       let is = a.number in
-      (at_most setup.processes p among, (omega (arith, is), a.limit), names_process taken.process kind a.due)
+      (at_most _ p among, (omega (arith, is), a.limit), names_process taken.process kind a.due)
   of_run history (Lost copy) valid among =
       let state = state_of machine history in
       let mail = mail_of state in
-      let to = some_of (after machine state (Lost copy)) (last_enabled history (Lost copy) valid) in
+      let to = some_of _ (last_enabled history (Lost copy) valid) in
       let may = (lost_from machine state to.0 copy to.1).0 in
       let loses = machine.loses_copies in
       let receiver = is_among (length machine.firsts) copy.to in
       let sent = is_sent mail copy.msg in
       let open_to = not (is_received mail copy.to copy.msg) in
-      let kept = both (loses && receiver && sent && open_to) (not (is_lost mail copy)) may in
-      let received = both (loses && receiver && sent) open_to kept.0 in
-      let sends = both (loses && receiver) sent received.0 in
-      let first = both loses receiver sends.0 in
-      (second_version setup.version first.0, at_most setup.processes copy.to (subst (λ (n : ℕ). is_among n copy.to ≡ true) number first.1))
+      let kept = both _ _ may in
+      let received = both _ open_to kept.0 in
+      let sends = both _ sent received.0 in
+      let first = both loses _ sends.0 in
+      (second_version _ first.0, at_most _ copy.to (subst (λ (n : ℕ). is_among n copy.to ≡ true) number first.1))
+
+  pub next_of_run : (history : List Event) (event : Event) → IsValid machine (history ++ event ∷ []) → IsOfRun setup event
+  next_of_run history event valid =
+      let named = valid_named machine (history ++ event ∷ []) valid (suc (length history)) event (at_end history event) in
+      of_run history event valid (subst (λ (n : ℕ). names_processes n (event_name event) ≡ true) number named.among)
 
   stands : (history : List Event) → IsValid machine history → IsStanding history
   stands history valid =
@@ -132,54 +140,62 @@ module _ {L : Type 0} (table : Table L) (setup : Parts) (range : AreInRange setu
       let count = number in
       valid_standing machine history valid (omega (arith, most, count))
 
-  taken_again : (history : List Event) (event : Event) → IsEnabled machine (state_of machine history) event → again_result machine setup (state_of machine history) event ≡ Ok event
+  pub taken_again : (history : List Event) (event : Event) → IsEnabled machine (state_of machine history) event
+      → again_result machine setup (state_of machine history) event ≡ Ok event
   taken_again history (Step p k kind) enabled =
       let state = state_of machine history in
-      let to = some_of (after machine state (Step p k kind)) enabled in
+      let to = some_of _ enabled in
       let taken = taken_from machine state to.0 p k kind to.1 in
-      step_again machine lawful setup number refl state p k kind taken.process taken.at_process enabled
-  taken_again history (Lost copy) enabled = loss_again machine setup number refl (state_of machine history) copy enabled
+      step_again machine lawful setup number refl state p k kind _ taken.at_process enabled
+  taken_again history (Lost copy) enabled = loss_again machine setup number refl _ copy enabled
 
-  again_enabled : (history : List Event) (event : Event) → IsOfRun setup event → again_result machine setup (state_of machine history) event ≡ Ok event → IsEnabled machine (state_of machine history) event
+  again_enabled : (history : List Event) (event : Event) → IsOfRun setup event
+      → again_result machine setup (state_of machine history) event ≡ Ok event → IsEnabled machine (state_of machine history) event
   again_enabled history event of_run h =
-      (again_exact machine lawful setup number refl (state_of machine history) event of_run (again_result machine setup (state_of machine history) event) refl).0 (ap is_ok h)
+      (again_exact machine lawful setup number refl _ event of_run _ refl).0 (ap is_ok h)
 
-  rules_keep : (SameState : List Event → List Event → Type 0) → ((history other : List Event) → fold machine history ≡ fold machine other → SameState history other)
-      → (HasMajorityIfNeeded setup → (history : List Event) → IsTrue ((rules_of table setup).valid history) → AllAgree ((rules_of table setup).decisions history))
+  rules_keep : (SameState : List Event → List Event → Type 0)
+      → ((history other : List Event) → fold machine history ≡ fold machine other → SameState history other)
+      → (HasMajorityIfNeeded setup → (history : List Event) → IsTrue ((rules_of table setup).valid history)
+      → AllAgree ((rules_of table setup).decisions history))
       → ((history : List Event) → IsTrue ((rules_of table setup).valid history) → AreProposed setup ((rules_of table setup).decisions history))
       → KeepHistories (rules_of table setup) SameState setup
   rules_keep SameState same agree proposed =
       record {
         nothing = refl;
-        beginning = λ history more valid. reached_front_some (after machine) (start machine) history more valid;
+        beginning = λ history more valid. reached_front_some _ _ history more valid;
         step = λ history valid p act event h. pushed history valid event (step_enabled history p act event h);
-        lose = λ history valid name p event h. pushed history valid event (when_ok (loss_result setup (state_of machine history) name p) _ event h (lose_enabled machine setup number refl (state_of machine history) name p));
+        lose = λ history valid name p event h. pushed history valid event (when_ok _ _ event h (lose_enabled machine setup number refl _ name p));
         again = λ history valid event of_run h. pushed history valid event (again_enabled history event of_run h);
         last_again = λ history event valid. taken_again history event (last_enabled history event valid);
-        of_run = λ history event valid.
-            let named = valid_named machine (history ++ event ∷ []) valid (suc (length history)) event (at_end history event) in
-            of_run history event valid (subst (λ (n : ℕ). names_processes n (event_name event) ≡ true) number named.among);
+        of_run = next_of_run;
         standing = stands;
         exchanged = λ history other exchanged valid. subst IsSome (fold_exchanged machine history other exchanged) valid;
         same_state = λ history other exchanged. same other history (sym (fold_exchanged machine history other exchanged));
-        named = λ history valid i event at. subst (λ (n : ℕ). IsEventNamed n history (event_name event) i event) number (valid_named machine history valid i event at);
+        named = λ history valid i event at. subst (λ (n : ℕ). IsEventNamed n history (event_name event) i event) number
+            (valid_named machine history valid i event at);
         losses_free = λ history valid i copy at. loss_free machine history valid i copy at;
         agreement = agree;
         validity = proposed;
       }
 
 leader_lawful : (setup : Parts) → IsLawful (leader_machine setup)
-leader_lawful setup = record { query = leader_laws.next_state-query; recv = leader_laws.next_state-recv; send = leader_laws.wish_of-send; write = leader_laws.wish_of-write }
+leader_lawful setup =
+    record { query = leader_laws.next_state-query; recv = leader_laws.next_state-recv; send = leader_laws.wish_of-send; write = leader_laws.wish_of-write }
 
 alpha_lawful : (setup : Parts) → IsLawful (alpha_machine setup)
-alpha_lawful setup = record { query = alpha_laws.next_state-query; recv = alpha_laws.next_state-recv; send = alpha_laws.wish_of-send; write = alpha_laws.wish_of-write }
+alpha_lawful setup =
+    record { query = alpha_laws.next_state-query; recv = alpha_laws.next_state-recv; send = alpha_laws.wish_of-send; write = alpha_laws.wish_of-write }
 
 by_algorithm : (setup : Parts) → AreInRange setup → (algorithm : Algorithm)
-    → (HasMajorityIfNeeded setup → (history : List Event) → IsTrue ((rules_by algorithm setup).valid history) → AllAgree ((rules_by algorithm setup).decisions history))
+    → (HasMajorityIfNeeded setup → (history : List Event) → IsTrue ((rules_by algorithm setup).valid history)
+    → AllAgree ((rules_by algorithm setup).decisions history))
     → ((history : List Event) → IsTrue ((rules_by algorithm setup).valid history) → AreProposed setup ((rules_by algorithm setup).decisions history))
     → KeepHistories (rules_by algorithm setup) (ReachSameStateBy algorithm setup) setup
-by_algorithm setup range Leader agree proposed = rules_keep leader_table setup range (leader_lawful setup) (ReachSameStateBy Leader setup) (λ history other same. same) agree proposed
-by_algorithm setup range Alpha agree proposed = rules_keep alpha_table setup range (alpha_lawful setup) (ReachSameStateBy Alpha setup) (λ history other same. same) agree proposed
+by_algorithm setup range Leader agree proposed =
+    rules_keep leader_table setup range (leader_lawful setup) (ReachSameStateBy Leader setup) (λ history other same. same) agree proposed
+by_algorithm setup range Alpha agree proposed =
+    rules_keep alpha_table setup range (alpha_lawful setup) (ReachSameStateBy Alpha setup) (λ history other same. same) agree proposed
 
 pub rules_keep_histories : (setup : Parts) → AreInRange setup → KeepHistories (rules setup) (ReachSameState setup) setup
 rules_keep_histories setup range = by_algorithm setup range setup.algorithm (agreed setup range) (proposed setup range)

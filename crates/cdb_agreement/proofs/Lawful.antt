@@ -1,9 +1,12 @@
 -- The rules of every run are lawful.
-use Rattle.std.proofs.Common.{◌≡◌, ℕ, zero, suc, ◌+◌, ◌≤◌, ◌==◌, nat_le, Bool, true, false, not, List, [], ◌∷◌, length, Option, Some, None, unwrap_or, if◌then◌else◌, Result, Ok, Err, slice_get, option_map, refl, sym, ap, ◌∙◌, subst, arith}
+use Rattle.std.proofs.lemmas.Grind.{common_steps}
+use Rattle.std.proofs.lemmas.Option.{gets}
+use Rattle.std.proofs.Common.{◌≡◌, ℕ, zero, suc, ◌+◌, ◌≤◌, ◌==◌, nat_le, Bool, true, false, not, List, [], ◌∷◌, length, Option, Some, None, unwrap_or}
+use Rattle.std.proofs.Common.{if◌then◌else◌, Result, Ok, Err, slice_get, option_map, refl, sym, ap, ◌∙◌, subst, arith}
 use Rattle.std.specs.List.{AllByRecursion}
 use Rattle.std.specs.Option.{option_map_or}
 use Rattle.std.proofs.lemmas.Bool.Decides.{nat_tests}
-use Rattle.std.proofs.lemmas.List.{length-map, length-replicate}
+use Rattle.std.proofs.lemmas.List.{length-map}
 use Rattle.std.proofs.lemmas.Option.{none-some, same_Some}
 use Rattle.cdb_base.specs.Positions.{nth, update, update_nth}
 use Rattle.cdb_base.specs.declared.act.Act.{Act}
@@ -14,16 +17,17 @@ use Rattle.cdb_base.specs.declared.event.Kind.{Kind}
 use Rattle.cdb_base.specs.declared.event.Kind.TheVariants as kinds
 use Rattle.cdb_base.specs.declared.register.Cell.{Cell}
 use Rattle.cdb_base.specs.declared.register.Reg.TheVariants as register
-use Rattle.cdb_register.specs.Registers.{RegisterStates, fresh_register, fresh_registers, put_cell}
+use Rattle.cdb_register.specs.Registers.{RegisterStates, fresh_registers}
 use Rattle.cdb_base.specs.declared.name.MsgName.{MsgName}
 use Rattle.cdb_base.specs.declared.refusal.Refusal.{Refusal}
 use Rattle.cdb_causal.specs.Reach.{reached}
 use Rattle.cdb_rules.specs.Lawful.{AreLawful}
-use Rattle.cdb_message.specs.Mail.{copy_name, sent_by}
+use Rattle.cdb_message.specs.Mail.{copy_name}
 use Rattle.cdb_process.specs.declared.Wish.{Wish}
 use Rattle.cdb_process.specs.declared.Wish.TheVariants as wished
 use Rattle.cdb_rules.specs.Mail.{mail_of}
-use Rattle.cdb_rules.specs.Refusals.{first_refusal, named_kind, wished_kind, names_no_leader, step_checks, named_event, unless_refused, planned, step_result, again_checks, lose_checks, loss_result, again_result, IsOfRun, NamesProcess}
+use Rattle.cdb_rules.specs.Refusals.{first_refusal, named_kind, wished_kind, names_no_leader, step_checks, unless_refused, planned, step_result}
+use Rattle.cdb_rules.specs.Refusals.{again_checks, lose_checks, loss_result, again_result, IsOfRun, NamesProcess}
 use Rattle.cdb_agreement.specs.Algorithms.{leader_machine, alpha_machine, rules_by, rules}
 use Rattle.cdb_alpha.specs.Machine.{alpha_table}
 use Rattle.cdb_leader.specs.Machine.{leader_table}
@@ -31,7 +35,7 @@ use Rattle.cdb_process.specs.Table.{Table}
 use Rattle.cdb_rules.specs.Machines.{machine_of}
 use Rattle.cdb_rules.specs.Rules.{Shown, shown_of, rules_of}
 use Rattle.cdb_rules.specs.State.{Machine, ProcessState, RunState, start}
-use Rattle.cdb_rules.specs.Step.{is_among, may_lose, after, fold, state_of}
+use Rattle.cdb_rules.specs.Step.{is_among, after, fold, state_of}
 use Rattle.cdb_rules.specs.Taking.{registers_after}
 use Rattle.cdb_rules.proofs.Bounds.{start_sound, length-set_nth}
 use Rattle.cdb_rules.proofs.Granted.{all_pass}
@@ -42,26 +46,20 @@ use Rattle.cdb_setup.specs.declared.setup.Algorithm.{Algorithm}
 use Rattle.cdb_setup.specs.declared.setup.Algorithm.TheVariants.{Leader, Alpha}
 
 answered : (o : Option Refusal) (e : Option Event) (event : Event) → unless_refused o e ≡ Ok event → (o ≡ None) × (e ≡ Some event)
-answered (Some why) e event h = absurd (cc)
-answered None (Some x) event h = (refl, cc)
-answered None None event h = absurd (cc)
+answered o e event h1 = grind (arith, common_steps, gets)
 
-pub of_some : {A : Type 0} (f : A → Result Event Refusal) (o : Option A) (why : Refusal) (event : Event) → option_map_or f o (Err why) ≡ Ok event → (a : A) × (o ≡ Some a) × (f a ≡ Ok event)
-of_some f (Some a) why event h = (a, refl, h)
-of_some f None why event h = absurd (cc)
+pub of_some : {A : Type 0} (f : A → Result Event Refusal) (o : Option A) (why : Refusal) (event : Event)
+    → option_map_or f o (Err why) ≡ Ok event → (a : A) × (o ≡ Some a) × (f a ≡ Ok event)
+of_some f o why event h1 = grind (arith, common_steps, gets)
 
 not_false : (b : Bool) → not b ≡ false → b ≡ true
-not_false true h = refl
-not_false false h = sym h
+not_false b h1 = grind (arith, common_steps, gets)
 
 within : {A : Type 0} (xs : List A) (i : ℕ) (x : A) → slice_get xs i ≡ Some x → suc i ≤ length xs
-within [] i x at = absurd (none-some x at)
-within (y ∷ xs) zero x at = omega arith
-within (y ∷ xs) (suc i) x at = omega (arith, within xs i x at)
+within xs i x h1 = grind (arith, common_steps, gets)
 
 nth_among : {A : Type 0} (xs : List A) (p : ℕ) (x : A) → nth xs p ≡ Some x → (1 ≤ p) × (p ≤ length xs)
-nth_among xs zero x at = absurd (none-some x at)
-nth_among xs (suc i) x at = (omega arith, within xs i x at)
+nth_among xs p x h1 = grind (arith, common_steps, gets)
 
 among : (n p : ℕ) → 1 ≤ p → p ≤ n → is_among n p ≡ true
 among n p low high = grind (arith, nat_tests, low, high)
@@ -83,8 +81,8 @@ all_nth P (y ∷ xs) (suc (suc i)) x all at = all_nth P xs (suc i) x all.1 at
 
 pub answers_within : (setup : Parts) (p k leader : ℕ) → AreInRange setup → answer_of setup p k ≡ Some leader → IsWithin 1 setup.processes leader
 answers_within setup p k leader range h =
-    let row = bound (λ answers. nth answers k) (nth setup.answers p) leader h in
-    all_nth (IsWithin 1 setup.processes) row.0 k leader (all_nth (AllByRecursion (IsWithin 1 setup.processes)) setup.answers p row.0 range.answers row.1) row.2
+    let row = bound _ _ leader h in
+    all_nth _ row.0 k leader (all_nth _ _ p row.0 range.answers row.1) row.2
 
 below_limit : (steps : ℕ) → nat_le 9999 steps ≡ false → IsWithin 1 9999 (steps + 1)
 below_limit steps h = (omega arith, low steps h)
@@ -102,14 +100,16 @@ wish_names n sends (wished.Write register cell) = tt
 wish_names n sends wished.Local = tt
 
 -- a query is of a process of the run
-kind_names : (n sends : ℕ) (wish : Option Wish) (answer : Option ℕ) (a : Act) (kind : Kind) → ((leader : ℕ) → answer ≡ Some leader → IsWithin 1 n leader) → names_no_leader n a ≡ false → named_kind wish sends answer a ≡ Some kind → NamesProcess n kind
+kind_names : (n sends : ℕ) (wish : Option Wish) (answer : Option ℕ) (a : Act) (kind : Kind)
+    → ((leader : ℕ) → answer ≡ Some leader → IsWithin 1 n leader) → names_no_leader n a ≡ false
+    → named_kind wish sends answer a ≡ Some kind → NamesProcess n kind
 kind_names n sends (Some wish) answer act.Go kind fine fits h = subst (NamesProcess n) (same_Some (wished_kind sends wish) kind h) (wish_names n sends wish)
 kind_names n sends None answer act.Go kind fine fits h = absurd (none-some kind h)
 kind_names n sends wish answer act.Learn kind fine fits h = subst (NamesProcess n) (same_Some _ kind h) tt
 kind_names n sends wish answer act.Crash kind fine fits h = subst (NamesProcess n) (same_Some _ kind h) tt
 kind_names n sends wish (Some leader) (act.Query None) kind fine fits h = subst (NamesProcess n) (same_Some _ kind h) (fine leader refl)
 kind_names n sends wish None (act.Query None) kind fine fits h = absurd (none-some kind h)
-kind_names n sends wish answer (act.Query (Some leader)) kind fine fits h = subst (NamesProcess n) (same_Some _ kind h) (is_within n leader (not_false (is_among n leader) fits))
+kind_names n sends wish answer (act.Query (Some leader)) kind fine fits h = subst (NamesProcess n) (same_Some _ kind h) (is_within n leader (not_false _ fits))
 kind_names n sends wish answer (act.Recv s m) kind fine fits h = subst (NamesProcess n) (same_Some _ kind h) tt
 
 length-update : {A : Type 0} (change : A → A) (xs : List A) (i : ℕ) → length (update change xs i) ≡ length xs
@@ -125,15 +125,16 @@ module _ {L : Type 0} (machine : Machine L) where
   count_after : (state to : RunState L) (event : Event) → after machine state event ≡ Some to → length to.processes ≡ length state.processes
   count_after state to (Step p k kind) h =
       let taken = taken_from machine state to p k kind h in
-      ap (λ (s : RunState L). length s.processes) (sym taken.leads_to) ∙ length-set_nth state.processes p _
+      ap (λ (s : RunState L). length s.processes) (sym taken.leads_to) ∙ length-set_nth _ p _
   count_after state to (Lost copy) h =
-      let lost = where_true (may_lose machine (mail_of state) copy) _ to h in
+      let lost = where_true _ _ to h in
       ap (λ (s : RunState L). length s.processes) (sym (same_Some _ to lost.1))
 
-  count_reached : (history : List Event) (state to : RunState L) → reached (after machine) state history ≡ Some to → length to.processes ≡ length state.processes
+  count_reached : (history : List Event) (state to : RunState L) → reached (after machine) state history ≡ Some to
+      → length to.processes ≡ length state.processes
   count_reached [] state to h = ap (λ (s : RunState L). length s.processes) (sym (same_Some state to h))
   count_reached (event ∷ events) state to h =
-      let next = bound (λ s. reached (after machine) s events) (after machine state event) to h in
+      let next = bound _ _ to h in
       count_reached events next.0 to next.2 ∙ count_after state next.0 event next.1
 
   -- whatever the history, there are as many processes as at the start
@@ -145,8 +146,9 @@ module _ {L : Type 0} (machine : Machine L) where
       go None h = (start_sound machine).count
 
   -- and as many registers
-  registers_stay : (registers : RegisterStates) (kind : Kind) (cell : Option Cell) → length (registers_after registers kind cell).of_processes ≡ length registers.of_processes
-  registers_stay registers (kinds.Write (register.R p)) (Some cell) = length-update_nth (put_cell cell) registers.of_processes p
+  registers_stay : (registers : RegisterStates) (kind : Kind) (cell : Option Cell)
+      → length (registers_after registers kind cell).of_processes ≡ length registers.of_processes
+  registers_stay registers (kinds.Write (register.R p)) (Some cell) = length-update_nth _ _ p
   registers_stay registers (kinds.Write register.Dec) (Some cell) = refl
   registers_stay registers (kinds.Write x) None = refl
   registers_stay registers (kinds.Query leader) cell = refl
@@ -157,34 +159,32 @@ module _ {L : Type 0} (machine : Machine L) where
   registers_stay registers kinds.Learn cell = refl
   registers_stay registers kinds.Crash cell = refl
 
-  registers_after-event : (state to : RunState L) (event : Event) → after machine state event ≡ Some to → length to.registers.of_processes ≡ length state.registers.of_processes
+  registers_after-event : (state to : RunState L) (event : Event) → after machine state event ≡ Some to
+      → length to.registers.of_processes ≡ length state.registers.of_processes
   registers_after-event state to (Step p k kind) h =
       let taken = taken_from machine state to p k kind h in
       ap (λ (s : RunState L). length s.registers.of_processes) (sym taken.leads_to) ∙ registers_stay state.registers kind _
   registers_after-event state to (Lost copy) h =
-      let lost = where_true (may_lose machine (mail_of state) copy) _ to h in
+      let lost = where_true _ _ to h in
       ap (λ (s : RunState L). length s.registers.of_processes) (sym (same_Some _ to lost.1))
 
-  registers_reached : (history : List Event) (state to : RunState L) → reached (after machine) state history ≡ Some to → length to.registers.of_processes ≡ length state.registers.of_processes
+  registers_reached : (history : List Event) (state to : RunState L) → reached (after machine) state history ≡ Some to
+      → length to.registers.of_processes ≡ length state.registers.of_processes
   registers_reached [] state to h = ap (λ (s : RunState L). length s.registers.of_processes) (sym (same_Some state to h))
   registers_reached (event ∷ events) state to h =
-      let next = bound (λ s. reached (after machine) s events) (after machine state event) to h in
+      let next = bound _ _ to h in
       registers_reached events next.0 to next.2 ∙ registers_after-event state next.0 event next.1
 
   registers_are : (history : List Event) → length (state_of machine history).registers.of_processes ≡ length (start machine).registers.of_processes
   registers_are history = go (fold machine history) refl
     where
-      go : (o : Option (RunState L)) → fold machine history ≡ o → length (unwrap_or o (start machine)).registers.of_processes ≡ length (start machine).registers.of_processes
+      go : (o : Option (RunState L)) → fold machine history ≡ o
+          → length (unwrap_or o (start machine)).registers.of_processes ≡ length (start machine).registers.of_processes
       go (Some to) h = registers_reached history (start machine) to h
       go None h = refl
 
   first_registers : (has : Bool) → length (fresh_registers (if has then length machine.firsts else 0)).of_processes ≤ length machine.firsts
-  first_registers false = omega arith
-  first_registers true = fresh (length machine.firsts)
-    where
-      fresh : (n : ℕ) → length (fresh_registers n).of_processes ≤ n
-      fresh zero = omega arith
-      fresh (suc n) = omega (arith, length-replicate n fresh_register)
+  first_registers has = grind (arith, common_steps, gets)
 
   few_cells : (history : List Event) → length (state_of machine history).registers.of_processes ≤ length machine.firsts
   few_cells history = omega (arith, registers_are history, first_registers machine.has_registers)
@@ -199,48 +199,54 @@ module _ {L : Type 0} (machine : Machine L) where
 
     there_where_shown : (A : Type 0) (show : ProcessState L → A) (state : RunState L) (p : ℕ) (it : A) → length state.processes ≡ length machine.firsts
         → option_map show (nth state.processes p) ≡ Some it → is_among setup.processes p ≡ true
-    there_where_shown A show state p it count h =
-        let process = mapped show (nth state.processes p) it h in
-        let place = nth_among state.processes p process.0 process.1 in
-        among setup.processes p place.0 (omega (arith, place.1, count, firsts))
+    there_where_shown A show state p it h1 h2 = grind (arith, common_steps, gets)
 
-    step_planned : (state : RunState L) (p : ℕ) (a : Act) (event : Event) → length state.processes ≡ length machine.firsts → step_result machine setup state p a ≡ Ok event → IsPlanned p event
+    step_planned : (state : RunState L) (p : ℕ) (a : Act) (event : Event) → length state.processes ≡ length machine.firsts
+        → step_result machine setup state p a ≡ Ok event → IsPlanned p event
     step_planned state p a event count h =
-        let process = of_some (λ (process : ProcessState L). planned machine setup (mail_of state) state.registers process.progress p a) (nth state.processes p) _ event h in
+        let process = of_some (λ (process : ProcessState L). planned machine setup (mail_of state) state.registers process.progress p a) _ _ event h in
         let progress = process.0.progress in
         let checks = step_checks machine setup (mail_of state) state.registers progress p a in
-        let both = answered (first_refusal checks) (named_event machine setup (mail_of state) progress p a) event process.2 in
+        let both = answered _ _ event process.2 in
         let pass = all_pass checks both.0 in
-        let named = mapped (Step p (progress.steps + 1)) (named_kind (machine.wish progress.local) (length (sent_by (mail_of state) p)) (answer_of setup p (progress.queries + 1)) a) event both.1 in
-        let place = nth_among state.processes p process.0 process.1 in
+        let named = mapped _ _ event both.1 in
+        let place = nth_among _ p _ process.1 in
         let high : p ≤ setup.processes = omega (arith, place.1, count, firsts) in
         record {
-          there = among setup.processes p place.0 high;
-          of_run = subst (IsOfRun setup) named.2
-              (high, below_limit progress.steps pass.1.1.1.1.1.1.1.0, kind_names setup.processes _ _ _ a named.0 (λ leader given. answers_within setup p (progress.queries + 1) leader range given) pass.1.1.1.1.1.0 named.1);
+          there = among _ p place.0 high;
+          of_run = subst (IsOfRun setup) named.2 (
+            high,
+            below_limit _ pass.1.1.1.1.1.1.1.0,
+            kind_names _ _ _ _ a named.0 (λ leader given.
+                answers_within setup p _ leader range given) pass.1.1.1.1.1.0 named.1,
+          );
         }
 
     lose_of_run : (state : RunState L) (name : MsgName) (p : ℕ) (event : Event) → loss_result setup state name p ≡ Ok event → IsOfRun setup event
     lose_of_run state name p event h =
         let checks = lose_checks setup (mail_of state) name p in
-        let both = answered (first_refusal checks) (Some (Lost (copy_name name p))) event h in
+        let both = answered _ _ event h in
         let pass = all_pass checks both.0 in
         subst (IsOfRun setup) (same_Some (Lost (copy_name name p)) event both.1)
-        (is_two setup.version (not_false (setup.version == 2) pass.0), (is_within setup.processes p (not_false (is_among setup.processes p) pass.1.0)).1)
+        (is_two _ (not_false _ pass.0), (is_within _ p (not_false _ pass.1.0)).1)
 
     again_same : (state : RunState L) (event taken : Event) → again_result machine setup state event ≡ Ok taken → taken ≡ event
     again_same state (Step p k kind) taken h =
-        let process = of_some (λ (process : ProcessState L). unless_refused (first_refusal (again_checks machine (mail_of state) state.registers process.progress p k kind)) (Some (Step p k kind))) (nth state.processes p) _ taken h in
-        sym (same_Some (Step p k kind) taken (answered (first_refusal (again_checks machine (mail_of state) state.registers process.0.progress p k kind)) _ taken process.2).1)
+        let process = of_some (λ (process : ProcessState L).
+        unless_refused (first_refusal (again_checks machine (mail_of state) state.registers process.progress p k kind))
+        (Some (Step p k kind))) (nth state.processes p) _ taken h in
+        sym (same_Some (Step p k kind) taken (answered (first_refusal (again_checks machine (mail_of state) state.registers
+        process.0.progress p k kind)) _ taken process.2).1)
     again_same state (Lost copy) taken h =
-        sym (same_Some (Lost (copy_name copy.msg copy.to)) taken (answered (first_refusal (lose_checks setup (mail_of state) copy.msg copy.to)) _ taken h).1)
+        sym (same_Some (Lost (copy_name copy.msg copy.to)) taken (answered _ _ taken h).1)
 
 rules_lawful : {L : Type 0} (table : Table L) (setup : Parts) → AreInRange setup → AreLawful (rules_of table setup) setup
 rules_lawful table setup range =
     let machine = machine_of table setup in
-    let firsts = length-first_states table.first 1 setup.processes setup.quorum setup.inputs ∙ range.an_input_each in
+    let firsts = length-first_states table.first 1 setup.processes _ _ ∙ range.an_input_each in
     record {
-      shown = λ history p it h. there_where_shown machine setup range firsts Shown (shown_of table) (state_of machine history) p it (count_is machine history) h;
+      shown =
+          λ history p it h. there_where_shown machine setup range firsts Shown (shown_of table) (state_of machine history) p it (count_is machine history) h;
       among = λ history p a event h. (step_planned machine setup range firsts (state_of machine history) p a event (count_is machine history) h).there;
       step = λ history p a event h. (step_planned machine setup range firsts (state_of machine history) p a event (count_is machine history) h).of_run;
       lose = λ history name p event h. lose_of_run machine setup range firsts (state_of machine history) name p event h;
@@ -259,13 +265,15 @@ pub each_receives : (setup : Parts) → AreInRange setup → (history : List Eve
 each_receives setup range history = go setup.algorithm
   where
     go : (algorithm : Algorithm) → length ((rules_by algorithm setup).mail history).received ≡ setup.processes
-    go Leader = receivers_are (leader_machine setup) history ∙ length-first_states _ 1 setup.processes setup.quorum setup.inputs ∙ range.an_input_each
-    go Alpha = receivers_are (alpha_machine setup) history ∙ length-first_states _ 1 setup.processes setup.quorum setup.inputs ∙ range.an_input_each
+    go Leader = receivers_are (leader_machine setup) history ∙ length-first_states _ 1 _ _ _ ∙ range.an_input_each
+    go Alpha = receivers_are (alpha_machine setup) history ∙ length-first_states _ 1 _ _ _ ∙ range.an_input_each
 
 -- and no more processes have a register
 pub few_registers : (setup : Parts) → AreInRange setup → (history : List Event) → length ((rules setup).registers history).of_processes ≤ setup.processes
 few_registers setup range history = go setup.algorithm
   where
     go : (algorithm : Algorithm) → length ((rules_by algorithm setup).registers history).of_processes ≤ setup.processes
-    go Leader = subst (λ n. length ((rules_by Leader setup).registers history).of_processes ≤ n) (length-first_states _ 1 setup.processes setup.quorum setup.inputs ∙ range.an_input_each) (few_cells (leader_machine setup) history)
-    go Alpha = subst (λ n. length ((rules_by Alpha setup).registers history).of_processes ≤ n) (length-first_states _ 1 setup.processes setup.quorum setup.inputs ∙ range.an_input_each) (few_cells (alpha_machine setup) history)
+    go Leader = subst (λ n. length ((rules_by Leader setup).registers history).of_processes ≤ n)
+        (length-first_states _ 1 _ _ _ ∙ range.an_input_each) (few_cells (leader_machine setup) history)
+    go Alpha = subst (λ n. length ((rules_by Alpha setup).registers history).of_processes ≤ n)
+        (length-first_states _ 1 _ _ _ ∙ range.an_input_each) (few_cells (alpha_machine setup) history)

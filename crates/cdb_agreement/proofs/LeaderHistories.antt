@@ -1,5 +1,9 @@
 -- The states that valid histories of the leader machine reach, seen as runs of its steps.
-use Rattle.std.proofs.Common.{◌≡◌, ℕ, zero, suc, ◌+◌, ◌*◌, ◌<◌, ◌≤◌, Bool, true, false, List, [], ◌∷◌, ◌++◌, length, Contains, Option, Some, None, is_some, option_map, option_to_list, unwrap_or, slice_index, if◌then◌else◌, inl, inr, refl, sym, ap, subst, ◌∙◌, append-nil, arith, true≢false}
+use Rattle.std.proofs.lemmas.Grind.{common_steps}
+use Rattle.std.proofs.lemmas.Option.{gets}
+use Rattle.std.proofs.Common.{◌≡◌, ℕ, zero, suc, ◌+◌, ◌*◌, ◌<◌, ◌≤◌, Bool, true, List, [], ◌∷◌, ◌++◌, length, Contains, Option, Some, None, is_some}
+use Rattle.std.proofs.Common.{option_map, option_to_list, unwrap_or, slice_index, if◌then◌else◌, inl, inr, refl, sym, ap, subst, ◌∙◌, append-nil, arith}
+use Rattle.std.proofs.Common.{true≢false}
 use Rattle.std.specs.FinSet as set
 use Rattle.std.specs.Option.{option_or}
 use Rattle.std.proofs.lemmas.Option.{none-some, same_Some}
@@ -16,7 +20,7 @@ use Rattle.cdb_process.specs.declared.Wish.TheVariants as wished
 use Rattle.cdb_process.proofs.Members.{IsIn, in_contained}
 use Rattle.cdb_process.specs.Wishes.{wished_payload}
 use Rattle.cdb_base.specs.declared.name.MsgName.{MsgName}
-use Rattle.cdb_message.specs.Mail.{MailState, message_name, copy_name, payload_of, is_lost}
+use Rattle.cdb_message.specs.Mail.{MailState, message_name, payload_of}
 use Rattle.cdb_register.specs.Registers.{register_of}
 use Rattle.cdb_register.specs.declared.RegisterState.{RegisterState}
 use Rattle.cdb_leader.specs.LocalState.{LocalState, first_state}
@@ -28,7 +32,7 @@ use Rattle.cdb_agreement.specs.Algorithms.{leader_machine}
 use Rattle.cdb_rules.specs.Decisions.{decisions_of}
 use Rattle.cdb_rules.specs.Mail.{mail_of}
 use Rattle.cdb_rules.specs.State.{ProcessState, RunState, start, fresh_process}
-use Rattle.cdb_rules.specs.Step.{may_lose, after, fold}
+use Rattle.cdb_rules.specs.Step.{after, fold}
 use Rattle.cdb_rules.specs.Taking.{arriving, taken_local, input_of}
 use Rattle.cdb_rules.proofs.Stages.{sight_in, meets, sent_after, process_after, state_after}
 use Rattle.cdb_agreement.proofs.Firsts.{length-firsts, first_at}
@@ -76,29 +80,29 @@ module _ (setup : Parts) where
 
   first_of : (p : ℕ) (x : ProcessState LocalState) → begun p ≡ Some x → (value : ℕ) × (x ≡ fresh_process (first_state setup.quorum value))
   first_of zero x is = absurd (none-some x is)
-  first_of (suc k) x is = (slice_index setup.inputs k, first_at (λ me n q value. first_state q value) setup.processes setup.quorum setup.inputs k x is)
+  first_of (suc k) x is = (slice_index setup.inputs k, first_at _ _ _ _ k x is)
 
   pub start_lawful : Lawful (length setup.inputs) setup.quorum (start (leader_machine setup))
   start_lawful = record {
-    size = length-firsts (λ me n q value. first_state q value) setup.processes setup.quorum setup.inputs;
+    size = length-firsts _ _ _ _;
     laws = record {
       each = λ p. (at p).0;
-      members = λ p x it. absurd (nothing_in (sent_in (begun p)) x (at p).1 it);
-      delivered = λ p s x it. absurd (nothing_in (local_in setup.quorum (begun p)).inbox (record { from = s; payload = x }) (at p).2 it);
-      decided = λ p v it. absurd (nothing_in (sent_in (begun p)) (D v) (at p).1 it);
+      members = λ p x it. absurd (nothing_in _ x (at p).1 it);
+      delivered = λ p s x it. absurd (nothing_in _ _ (at p).2 it);
+      decided = λ p v it. absurd (nothing_in _ (D v) (at p).1 it);
     };
   }
     where
-      at : (p : ℕ) → HasTaken setup.quorum (local_in setup.quorum (begun p)) (sent_in (begun p)) × (sent_in (begun p) ≡ []) × ((local_in setup.quorum (begun p)).inbox ≡ [])
-      at p = starts (begun p) setup.quorum (first_of p)
+      at : (p : ℕ)
+          → HasTaken setup.quorum (local_in setup.quorum (begun p)) (sent_in (begun p)) × (sent_in (begun p) ≡ [])
+          × ((local_in setup.quorum (begun p)).inbox ≡ [])
+      at p = starts _ _ (first_of p)
 
 -- ---- an event
 
 -- what a process would send is what the table sends
 wish_sends : (o : Option Payload) (b : Bool) → wished_payload (option_or (option_map wished.Send o) (if b then Some wished.Local else None)) ≡ o
-wish_sends (Some x) b = refl
-wish_sends None true = refl
-wish_sends None false = refl
+wish_sends o b = grind (arith, common_steps, gets)
 
 nth_in : {A : Type 0} (xs : List A) (i : ℕ) (x : A) → nth xs i ≡ Some x → IsIn x xs
 nth_in xs zero x is = absurd (none-some x is)
@@ -108,19 +112,16 @@ nth_in (y ∷ ys) (suc (suc i)) x is = inr (nth_in ys (suc i) x is)
 
 -- a payload that is there was sent
 mailed : (t : RunState LocalState) (s m : ℕ) (y : Payload) → payload_of (mail_of t) (message_name s m) ≡ Some y → (q : ℕ) → Contains ((run_of q t).sent s) y
-mailed t s m y is q = go (nth t.processes s) (sym (ap (λ sent. nth (unwrap_or sent []) m) (nth-map (λ (x : ProcessState LocalState). x.sent) t.processes s)) ∙ is)
+mailed t s m y is q = go (nth t.processes s) (sym (ap (λ sent. nth (unwrap_or sent []) m) (nth-map _ _ s)) ∙ is)
   where
-    go : (o : Option (ProcessState LocalState)) → nth (unwrap_or (option_map (λ (x : ProcessState LocalState). x.sent) o) []) m ≡ Some y → Contains (sent_in o) y
+    go : (o : Option (ProcessState LocalState))
+        → nth (unwrap_or (option_map (λ (x : ProcessState LocalState). x.sent) o) []) m ≡ Some y → Contains (sent_in o) y
     go None there = in_contained [] y (nth_in [] m y there)
     go (Some x) there = in_contained x.sent y (nth_in x.sent m y there)
 
 -- a payload that arrives is there
 carried : (mail : MailState) (p : ℕ) (name : MsgName) (y : Payload) → arriving mail p name ≡ Some y → payload_of mail name ≡ Some y
-carried mail p name y is = go (is_lost mail (copy_name name p)) is
-  where
-    go : (b : Bool) → (if b then None else payload_of mail name) ≡ Some y → payload_of mail name ≡ Some y
-    go true it = absurd (none-some y it)
-    go false it = it
+carried mail p name y h1 = grind (arith, common_steps, gets)
 
 module _ (n : ℕ) (setup : Parts) (t : RunState LocalState) (lawful : Lawful n setup.quorum t) where
   abbrev mail : ℕ → List Payload
@@ -134,7 +135,8 @@ module _ (n : ℕ) (setup : Parts) (t : RunState LocalState) (lawful : Lawful n 
   takes x s i known is = inr (record { given = i; taken = is; posts = refl; brought = known })
 
   -- an input that sends nothing
-  takes_quietly : (x : ProcessState LocalState) (s : LocalState) (i : Input) → sent_of x.progress.local i ≡ [] → ((o : ℕ) (y : Payload) → i ≡ input.Recv o y → Contains (mail o) y)
+  takes_quietly : (x : ProcessState LocalState) (s : LocalState) (i : Input) → sent_of x.progress.local i ≡ []
+      → ((o : ℕ) (y : Payload) → i ≡ input.Recv o y → Contains (mail o) y)
       → table.next_state x.progress.local i ≡ Some s → IsStep x s x.sent
   takes_quietly x s i quiet known is = inr (record { given = i; taken = is; posts = sym (ap (λ ys. x.sent ++ ys) quiet ∙ append-nil x.sent); brought = known })
 
@@ -145,7 +147,7 @@ module _ (n : ℕ) (setup : Parts) (t : RunState LocalState) (lawful : Lawful n 
   kind_step x s p (Send m) met is = subst (λ o. IsStep x s (x.sent ++ option_to_list o)) (sym same) (takes x s input.Send (λ o y same. absurd (cc)) is)
     where
       same : wished_payload (table.wish_of x.progress.local) ≡ table.payload_at x.progress.local.place x.progress.local
-      same = wish_sends (table.payload_at x.progress.local.place x.progress.local) (is_some (table.local_at x.progress.local.place x.progress.local))
+      same = wish_sends _ _
   kind_step x s p (Recv o m) met is = go (arriving (mail_of t) p (message_name o m)) refl met is
     where
       go : (y : Option Payload) → arriving (mail_of t) p (message_name o m) ≡ y → is_some y ≡ true
@@ -157,11 +159,13 @@ module _ (n : ℕ) (setup : Parts) (t : RunState LocalState) (lawful : Lawful n 
           brought r z same =
               let sender : o ≡ r = cc in
               let payload : y ≡ z = cc in
-              subst (λ a. Contains (mail r) a) payload (subst (λ a. Contains (mail a) y) sender (mailed t o m y (carried (mail_of t) p (message_name o m) y at) setup.quorum))
+              subst (λ a. Contains (mail r) a) payload (subst (λ a. Contains (mail a) y) sender
+              (mailed t o m y (carried (mail_of t) p (message_name o m) y at) setup.quorum))
   kind_step x s p (Read register) met is = go (register_of t.registers register) met is
     where
       go : (o : Option RegisterState) → is_some o ≡ true
-          → taken_local table.next_state x.progress.local (option_map (λ (stands : RegisterState). input.Read register stands.cell) o) ≡ Some s → IsStep x s x.sent
+          → taken_local table.next_state x.progress.local
+          (option_map (λ (stands : RegisterState). input.Read register stands.cell) o) ≡ Some s → IsStep x s x.sent
       go None there it = absurd (true≢false (sym there))
       go (Some stands) there it = absurd (none-some s it)
   kind_step x s p (Write register) met is = go (register_of t.registers register) met is
@@ -175,7 +179,8 @@ module _ (n : ℕ) (setup : Parts) (t : RunState LocalState) (lawful : Lawful n 
   kind_step x s p Crash met is = inl (sym (same_Some x.progress.local s is), refl)
 
   -- the state after a step of a process x that goes on to the local state s
-  module _ (p k : ℕ) (kind : Kind) (x : ProcessState LocalState) (s : LocalState) (at : nth t.processes p ≡ Some x) (stepped : IsStep x s (sent_after (leader_machine setup) x kind)) where
+  module _ (p k : ℕ) (kind : Kind) (x : ProcessState LocalState) (s : LocalState) (at : nth t.processes p ≡ Some x)
+      (stepped : IsStep x s (sent_after (leader_machine setup) x kind)) where
     abbrev left : ProcessState LocalState
     left = process_after (leader_machine setup) x p k kind (sight_in t p kind) s
 
@@ -183,18 +188,19 @@ module _ (n : ℕ) (setup : Parts) (t : RunState LocalState) (lawful : Lawful n 
     to = state_after (leader_machine setup) t p k kind x s
 
     at_later : nth to.processes p ≡ Some left
-    at_later = nth-set_nth_same t.processes p left x at
+    at_later = nth-set_nth_same _ p left x at
 
     elsewhere : (o : ℕ) → (o ≡ p → ⊥) → nth to.processes o ≡ nth t.processes o
-    elsewhere o other = nth-set_nth_other t.processes p o left (λ same. other (sym same))
+    elsewhere o other = nth-set_nth_other _ p o left (λ same. other (sym same))
 
     moves : RunStep n (run_of setup.quorum t) (run_of setup.quorum to)
     moves = record {
       process = p;
-      member = let within = nth_within t.processes p x at in let size = lawful.size in omega arith;
+      member = let within = nth_within _ p x at in let size = lawful.size in omega arith;
       moves =
           let P : Option (ProcessState LocalState) → Type 0 = λ a. Moves mail (local_in setup.quorum a) (sent_in a) s left.sent in
-          let Q : Option (ProcessState LocalState) → Type 0 = λ b. Moves mail (local_in setup.quorum (nth t.processes p)) (sent_in (nth t.processes p)) (local_in setup.quorum b) (sent_in b) in
+          let Q : Option (ProcessState LocalState) → Type 0 =
+          λ b. Moves mail (local_in setup.quorum (nth t.processes p)) (sent_in (nth t.processes p)) (local_in setup.quorum b) (sent_in b) in
           subst Q (sym at_later) (subst P (sym at) stepped);
       others = λ o other. (ap (local_in setup.quorum) (elsewhere o other), ap sent_in (elsewhere o other));
     }
@@ -202,7 +208,7 @@ module _ (n : ℕ) (setup : Parts) (t : RunState LocalState) (lawful : Lawful n 
     lawful_left : Lawful n setup.quorum to
     lawful_left = record {
       size = length-set_nth t.processes p left ∙ lawful.size;
-      laws = run_step_keeps n setup.quorum (run_of setup.quorum t) (run_of setup.quorum to) lawful.laws moves;
+      laws = run_step_keeps n setup.quorum _ _ lawful.laws moves;
     }
 
   -- an enabled event keeps the laws
@@ -213,22 +219,23 @@ module _ (n : ℕ) (setup : Parts) (t : RunState LocalState) (lawful : Lawful n 
       subst (λ z. Lawful n setup.quorum z) taken.leads_to
       (lawful_left p k kind taken.process taken.next taken.at_process (kind_step taken.process taken.next p kind accepted.met accepted.takes))
   after_lawful (happening.Lost copy) to is =
-      let lost = where_true (may_lose (leader_machine setup) (mail_of t) copy) (Some (record t { lost = set.insert t.lost copy })) to is in
+      let lost = where_true _ _ to is in
       subst (λ z. Lawful n setup.quorum z) (same_Some (record t { lost = set.insert t.lost copy }) to lost.1)
       (record { size = lawful.size; laws = lawful.laws })
 
 -- each state that a valid history reaches keeps the laws
-pub reached_lawful : (setup : Parts) (history : List Event) (t : RunState LocalState) → fold (leader_machine setup) history ≡ Some t → Lawful (length setup.inputs) setup.quorum t
+pub reached_lawful : (setup : Parts) (history : List Event) (t : RunState LocalState)
+    → fold (leader_machine setup) history ≡ Some t → Lawful (length setup.inputs) setup.quorum t
 reached_lawful setup history t is =
-    reached_keeps (after (leader_machine setup)) (Lawful (length setup.inputs) setup.quorum) (λ s e u it. after_lawful (length setup.inputs) setup s it e u)
-    (start (leader_machine setup)) history t (start_lawful setup) is
+    reached_keeps _ _ (λ s e u it. after_lawful (length setup.inputs) setup s it e u)
+    _ history t (start_lawful setup) is
 
 -- no two processes decide differently in a valid history, where a quorum is more than half of the processes
 one_decision : (setup : Parts) → length setup.inputs ≤ 9 → length setup.inputs < setup.quorum + setup.quorum
     → (history : List Event) (t : RunState LocalState) → fold (leader_machine setup) history ≡ Some t
     → (p o v w : ℕ) → HasDecided (λ local. local.decision) t p v → HasDecided (λ local. local.decision) t o w → v ≡ w
 one_decision setup small majority history t is p o v w mine other =
-    laws_agree (length setup.inputs) setup.quorum small majority (run_of setup.quorum t) lawful.laws p o v w
+    laws_agree _ _ small majority _ lawful.laws p o v w
     (ap (λ a. (local_in setup.quorum a).decision) mine.1 ∙ mine.2) (ap (λ a. (local_in setup.quorum a).decision) other.1 ∙ other.2)
   where
     lawful : Lawful (length setup.inputs) setup.quorum t

@@ -1,5 +1,6 @@
 -- Runs of the leader machine: what each step keeps, and that no two decisions differ where a quorum is a majority.
-use Rattle.std.proofs.Common.{◌≡◌, ℕ, ◌+◌, ◌<◌, ◌≤◌, List, [], ◌∷◌, ◌++◌, Contains, Option, Some, None, option_and_then, ◌⊎◌, inl, inr, refl, sym, ap, subst, ◌∙◌, append_assoc, append-nil}
+use Rattle.std.proofs.Common.{◌≡◌, ℕ, ◌+◌, ◌<◌, ◌≤◌, List, [], ◌∷◌, ◌++◌, Contains, Option, Some, None, option_and_then, ◌⊎◌, inl, inr, refl, sym, ap, subst}
+use Rattle.std.proofs.Common.{◌∙◌, append_assoc, append-nil}
 use Rattle.std.proofs.lemmas.Bool.{cases_eq}
 use Rattle.std.proofs.lemmas.List.Elements.{Contains-append_left}
 use Rattle.std.proofs.lemmas.Option.{none-some, same_Some}
@@ -97,17 +98,17 @@ module _ (mail : ℕ → List Payload) (before : LocalState) (sent : List Payloa
   has_moved q has (inr it) = record {
     value = has.value;
     inputs = has.inputs ++ it.given ∷ [];
-    leads = leads_on (first_state q has.value) before later has.inputs it.given has.leads it.taken;
+    leads = leads_on (first_state q has.value) before later has.inputs _ has.leads it.taken;
     sends =
         it.posts
         ∙ ap (λ xs. xs ++ sent_of before it.given) has.sends
-        ∙ sym (sends_on (first_state q has.value) before later has.inputs it.given has.leads it.taken);
+        ∙ sym (sends_on (first_state q has.value) before later has.inputs _ has.leads it.taken);
   }
 
   -- what was sent stays sent
   still_sent : Moves mail before sent later posted → (x : Payload) → Contains sent x → Contains posted x
   still_sent (inl stays) x it = subst (λ xs. Contains xs x) (sym stays.1) it
-  still_sent (inr takes) x it = subst (λ xs. Contains xs x) (sym takes.posts) (Contains-append_left sent (sent_of before takes.given) x it)
+  still_sent (inr takes) x it = subst (λ xs. Contains xs x) (sym takes.posts) (Contains-append_left sent _ x it)
 
   -- what has been received was received before, or was sent
   was_heard : Moves mail before sent later posted → (s : ℕ) (x : Payload) → IsHeard later.inbox s x → IsHeard before.inbox s x ⊎ Contains (mail s) x
@@ -156,7 +157,8 @@ module _ (n q : ℕ) (t u : Run) (laws : RunLaws n q t) (run_step : RunStep n t 
   keeps_each p =
       by_process (λ o. HasTaken q (u.local o) (u.sent o)) p
       (has_moved t.sent (t.local mover) (t.sent mover) (u.local mover) (u.sent mover) q (laws.each mover) run_step.moves)
-      (λ other. subst (λ xs. HasTaken q (u.local p) xs) (sym (run_step.others p other).1) (subst (λ l. HasTaken q l (t.sent p)) (sym (run_step.others p other).0) (laws.each p)))
+      (λ other. subst (λ xs. HasTaken q (u.local p) xs) (sym (run_step.others p other).1)
+      (subst (λ l. HasTaken q l (t.sent p)) (sym (run_step.others p other).0) (laws.each p)))
 
   keeps_members : (p : ℕ) (x : Payload) → Contains (u.sent p) x → p ≤ n
   keeps_members p x =
@@ -176,7 +178,7 @@ module _ (n q : ℕ) (t u : Run) (laws : RunLaws n q t) (run_step : RunStep n t 
 
   chosen_stays : (r v : ℕ) → Chosen q (λ s. Contains (t.sent s)) r v → Chosen q (λ s. Contains (u.sent s)) r v
   chosen_stays r v chosen =
-      quorum_follows q (λ s. Contains (t.sent s) (P2 r (Some v))) (λ s. Contains (u.sent s) (P2 r (Some v))) (λ s it. posts s (P2 r (Some v)) it) chosen
+      quorum_follows q _ _ (λ s it. posts s (P2 r (Some v)) it) chosen
 
   -- what a decision message rests on is chosen
   basis_is_chosen : (p v : ℕ) → DecisionBasis q (IsHeard (u.local p).inbox) v → (r : ℕ) × Chosen q (λ s. Contains (u.sent s)) r v
@@ -186,8 +188,7 @@ module _ (n q : ℕ) (t u : Run) (laws : RunLaws n q t) (run_step : RunStep n t 
       go it = (it.0, chosen_stays it.0 v it.1)
   basis_is_chosen p v (inr alike) = (
     alike.0,
-    quorum_follows q (λ s. IsHeard (u.local p).inbox s (P2 alike.0 (Some v))) (λ s. Contains (u.sent s) (P2 alike.0 (Some v)))
-        (λ s it. posts s (P2 alike.0 (Some v)) (sent_before p s (P2 alike.0 (Some v)) it)) alike.1,
+    quorum_follows q _ _ (λ s it. posts s (P2 alike.0 (Some v)) (sent_before p s (P2 alike.0 (Some v)) it)) alike.1,
   )
 
 pub run_step_keeps : (n q : ℕ) (t u : Run) → RunLaws n q t → RunStep n t u → RunLaws n q u
@@ -195,13 +196,13 @@ run_step_keeps n q t u laws run_step = record {
   each = keeps_each n q t u laws run_step;
   members = keeps_members n q t u laws run_step;
   delivered = λ p s x it. posts n q t u laws run_step s x (sent_before n q t u laws run_step p s x it);
-  decided = λ p v it. basis_is_chosen n q t u laws run_step p v ((founded q (u.local p) (u.sent p) (keeps_each n q t u laws run_step p)).decision v it);
+  decided = λ p v it. basis_is_chosen n q t u laws run_step p v ((founded q _ _ (keeps_each n q t u laws run_step p)).decision v it);
 }
 
 -- the laws that each process keeps to by itself, out of what the machine promises
 pub joint_laws : (n q : ℕ) (t : Run) → RunLaws n q t → JointLaws n q (λ p. Contains (t.sent p)) (λ p. IsHeard (t.local p).inbox)
 joint_laws n q t laws = record {
-  each = λ p. let it = founded q (t.local p) (t.sent p) (laws.each p) in record {
+  each = λ p. let it = founded q (t.local p) _ (laws.each p) in record {
     one_proposal = λ r e l f k a b. it.one_proposal r e f l k a b;
     from_one = it.from_one;
     one_vote = it.one_vote;
@@ -218,4 +219,4 @@ pub laws_agree : (n q : ℕ) → n ≤ 9 → n < q + q → (t : Run) → RunLaws
     → (p o v w : ℕ) → (t.local p).decision ≡ Some v → (t.local o).decision ≡ Some w → v ≡ w
 laws_agree n q small majority t laws p o v w mine other =
     decisions_agree n q small majority (λ s. Contains (t.sent s)) (λ s. IsHeard (t.local s).inbox) (joint_laws n q t laws) p v o w
-    ((founded q (t.local p) (t.sent p) (laws.each p)).announced v mine) ((founded q (t.local o) (t.sent o) (laws.each o)).announced w other)
+    ((founded q _ _ (laws.each p)).announced v mine) ((founded q _ _ (laws.each o)).announced w other)

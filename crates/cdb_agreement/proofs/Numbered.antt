@@ -1,5 +1,8 @@
 -- In a valid history the steps of a process, and its sends, are numbered in order.
-use Rattle.std.proofs.Common.{◌≡◌, ℕ, zero, suc, ◌+◌, Bool, true, false, ◌==◌, List, [], ◌∷◌, ◌++◌, length, Option, Some, None, is_some, option_map, option_to_list, unwrap_or, cond, filter, slice_get, refl, sym, ap, ap₂, ◌∙◌, subst, true≢false, arith}
+use Rattle.std.proofs.lemmas.Grind.{common_steps}
+use Rattle.std.proofs.lemmas.Option.{gets}
+use Rattle.std.proofs.Common.{◌≡◌, ℕ, zero, suc, ◌+◌, Bool, true, false, ◌==◌, List, [], ◌∷◌, ◌++◌, length, Option, Some, None, option_map}
+use Rattle.std.proofs.Common.{option_to_list, unwrap_or, cond, filter, slice_get, refl, sym, ap, ◌∙◌, subst, true≢false, arith}
 use Rattle.std.proofs.lemmas.List.{length_push}
 use Rattle.std.proofs.lemmas.Bool.Decides.{nat_tests}
 use Rattle.std.proofs.lemmas.Option.{none-some, same_Some}
@@ -16,9 +19,9 @@ use Rattle.cdb_causal.specs.Exchange.{IsIn, here, there}
 use Rattle.cdb_rules.specs.Runs.{step_name}
 use Rattle.cdb_rules.specs.State.{Machine, ProcessState, RunState, start}
 use Rattle.cdb_process.specs.Wishes.{wished_payload}
-use Rattle.cdb_rules.specs.Step.{after, fold, IsValid}
+use Rattle.cdb_rules.specs.Step.{after, IsValid}
 use Rattle.cdb_rules.proofs.Commutes.{lost_from}
-use Rattle.cdb_rules.proofs.Kept.{nat_eq-ne, nat_eq-is, left, at_left, process_kept, other_sent_kept}
+use Rattle.cdb_rules.proofs.Kept.{nat_eq-ne, nat_eq-is, at_left, process_kept, other_sent_kept}
 use Rattle.cdb_rules.proofs.Mails.{sent_is}
 use Rattle.cdb_rules.proofs.Members.{Reaches, first_step, nth-fresh}
 use Rattle.cdb_rules.proofs.Numbers.{of_process, steps_of, sends_of, number_is, number_after, send_number}
@@ -32,7 +35,8 @@ passes : {E : Type 0} (is : E → Bool) (events : List E) (i : ℕ) (x : E) → 
 passes is [] i x h = absurd (none-some x h)
 passes {E} is (y ∷ ys) i x h = go (is y) (λ j k. passes is ys j x k) i h
   where
-    go : (b : Bool) → ((j : ℕ) → slice_get (filter is ys) j ≡ Some x → IsIn x ys) → (i : ℕ) → slice_get (cond b (y ∷ filter is ys) (filter is ys)) i ≡ Some x → IsIn x (y ∷ ys)
+    go : (b : Bool) → ((j : ℕ) → slice_get (filter is ys) j ≡ Some x → IsIn x ys) → (i : ℕ)
+        → slice_get (cond b (y ∷ filter is ys) (filter is ys)) i ≡ Some x → IsIn x (y ∷ ys)
     go true rest zero h = subst (λ (z : E). IsIn x (z ∷ ys)) (sym (same_Some y x h)) here
     go true rest (suc j) h = there (rest j h)
     go false rest i h = there (rest i h)
@@ -66,9 +70,11 @@ is_its_own n = grind (arith, nat_tests)
 module _ {L : Type 0} (machine : Machine L) where
   -- events of a sort, each with a number, of which a state counts how many there were
   module _ (is : Event → Bool) (number : Event → ℕ) (count : RunState L → ℕ)
-      (counts : (state next : RunState L) (event : Event) → after machine state event ≡ Some next → is event ≡ true → (number event ≡ count state + 1) × (count next ≡ number event))
+      (counts : (state next : RunState L) (event : Event) → after machine state event ≡ Some next → is event ≡ true
+      → (number event ≡ count state + 1) × (count next ≡ number event))
       (keeps : (state next : RunState L) (event : Event) → after machine state event ≡ Some next → is event ≡ false → count next ≡ count state) where
-    numbered : (events : List Event) (state to : RunState L) → Reaches machine state events to → (i : ℕ) (x : Event) → slice_get (filter is events) i ≡ Some x → (is x ≡ true) × (number x ≡ count state + suc i)
+    numbered : (events : List Event) (state to : RunState L) → Reaches machine state events to → (i : ℕ) (x : Event)
+        → slice_get (filter is events) i ≡ Some x → (is x ≡ true) × (number x ≡ count state + suc i)
     numbered [] state to h i x at = absurd (none-some x at)
     numbered (event ∷ events) state to h i x at =
         let s = first_step machine state to event events h in
@@ -76,7 +82,8 @@ module _ {L : Type 0} (machine : Machine L) where
       where
         go : (next : RunState L) → after machine state event ≡ Some next
             → ((j : ℕ) (y : Event) → slice_get (filter is events) j ≡ Some y → (is y ≡ true) × (number y ≡ count next + suc j))
-            → (b : Bool) → is event ≡ b → (i : ℕ) → slice_get (cond b (event ∷ filter is events) (filter is events)) i ≡ Some x → (is x ≡ true) × (number x ≡ count state + suc i)
+            → (b : Bool) → is event ≡ b → (i : ℕ) → slice_get (cond b (event ∷ filter is events) (filter is events)) i ≡ Some x
+            → (is x ≡ true) × (number x ≡ count state + suc i)
         go next one rest true e zero at =
             subst (λ y. (is y ≡ true) × (number y ≡ count state + suc 0)) (same_Some event x at) (e, (counts state next event one e).0)
         go next one rest true e (suc j) at =
@@ -93,9 +100,10 @@ module _ {L : Type 0} (machine : Machine L) where
             (r.0, omega (arith, a, b))
 
     -- in a history, of which none came before
-    in_order : (history : List Event) → IsValid machine history → count (start machine) ≡ 0 → (i : ℕ) (x : Event) → slice_get (filter is history) i ≡ Some x → (is x ≡ true) × (number x ≡ suc i)
+    in_order : (history : List Event) → IsValid machine history → count (start machine) ≡ 0 → (i : ℕ) (x : Event)
+        → slice_get (filter is history) i ≡ Some x → (is x ≡ true) × (number x ≡ suc i)
     in_order history valid none i x at =
-        let to = some_of (fold machine history) valid in
+        let to = some_of _ valid in
         let r = numbered history (start machine) to.0 to.1 i x at in
         let a = r.1 in
         (r.0, omega (arith, a, none))
@@ -107,7 +115,8 @@ module _ {L : Type 0} (machine : Machine L) where
     step_number (Step q k kind) = k
     step_number (Lost copy) = 0
 
-    steps_count : (state next : RunState L) (event : Event) → after machine state event ≡ Some next → is_step_of p event ≡ true → (step_number event ≡ steps_of state p + 1) × (steps_of next p ≡ step_number event)
+    steps_count : (state next : RunState L) (event : Event) → after machine state event ≡ Some next → is_step_of p event ≡ true
+        → (step_number event ≡ steps_of state p + 1) × (steps_of next p ≡ step_number event)
     steps_count state next (Step q k kind) one e =
         let t = taken_from machine state next q k kind one in
         let same : q ≡ p = nat_eq-is q p e in (
@@ -116,25 +125,26 @@ module _ {L : Type 0} (machine : Machine L) where
         )
     steps_count state next (Lost copy) one e = absurd (true≢false (sym e))
 
-    steps_keep : (state next : RunState L) (event : Event) → after machine state event ≡ Some next → is_step_of p event ≡ false → steps_of next p ≡ steps_of state p
+    steps_keep : (state next : RunState L) (event : Event) → after machine state event ≡ Some next → is_step_of p event ≡ false
+        → steps_of next p ≡ steps_of state p
     steps_keep state next (Step q k kind) one e =
-        ap (of_process (λ process. process.progress.steps)) (process_kept machine state next q k kind (taken_from machine state next q k kind one) p (nat_eq-ne q p e))
+        ap (of_process (λ process. process.progress.steps))
+        (process_kept machine state next q k kind (taken_from machine state next q k kind one) p (nat_eq-ne q p e))
     steps_keep state next (Lost copy) one e = ap (λ (x : RunState L). steps_of x p) (sym (lost_from machine state next copy one).1)
 
     no_steps : steps_of (start machine) p ≡ 0
     no_steps = go (nth (start machine).processes p) (λ process at. ap (λ (x : ProcessState L). x.progress.steps) (sym (nth-fresh machine p process at).1))
       where
-        go : (o : Option (ProcessState L)) → ((process : ProcessState L) → o ≡ Some process → process.progress.steps ≡ 0) → of_process (λ process. process.progress.steps) o ≡ 0
+        go : (o : Option (ProcessState L)) → ((process : ProcessState L) → o ≡ Some process → process.progress.steps ≡ 0)
+            → of_process (λ process. process.progress.steps) o ≡ 0
         go None fresh = refl
         go (Some process) fresh = fresh process refl
 
     step_named : (k : ℕ) (x : Event) → is_step_of p x ≡ true → step_number x ≡ k → event_name x ≡ step_name p k
-    step_named k (Step q l kind) is number = ap₂ (λ i j. named.Step (record { p = i; k = j })) (nat_eq-is q p is) number
-    step_named k (Lost copy) is number = absurd (true≢false (sym is))
+    step_named k x h1 h2 = grind (arith, common_steps, gets)
 
     is_of : (k : ℕ) (x : Event) → event_name x ≡ step_name p k → (is_step_of p x ≡ true) × (step_number x ≡ k)
-    is_of k (Step q l kind) same = (subst (λ i. (q == i) ≡ true) (ap process_in same) (is_its_own q), ap number_in same)
-    is_of k (Lost copy) same = absurd (true≢false (sym (ap is_step same)))
+    is_of k x h1 = grind (arith, common_steps, gets)
 
   pub steps_numbered : (history : List Event) → IsValid machine history → AreStepsNumbered history
   steps_numbered history valid p k event = (at_number k, λ named. stands k named.0 (is_of p k event named.1))
@@ -148,7 +158,7 @@ module _ {L : Type 0} (machine : Machine L) where
 
       stands : (k : ℕ) → IsIn event history → (is_step_of p event ≡ true) × (step_number p event ≡ k) → nth (filter (is_step_of p) history) k ≡ Some event
       stands k is_in its =
-          let at = passed (is_step_of p) history event its.0 is_in in
+          let at = passed _ history event its.0 is_in in
           subst (λ j. nth (filter (is_step_of p) history) j ≡ Some event) (sym (order at.0 event at.1).1 ∙ its.1) at.1
 
   -- sends
@@ -158,37 +168,41 @@ module _ {L : Type 0} (machine : Machine L) where
     message_number (Step q k (Send m)) = m
     message_number event = 0
 
-    sends_left : (state next : RunState L) (q k : ℕ) (kind : Kind) (t : IsTaken machine state q k kind next) → sends_of next q ≡ length (sent_after machine t.process kind)
-    sends_left state next q k kind t = ap length (sent_is next q (left machine state next q k kind t) (at_left machine state next q k kind t))
+    sends_left : (state next : RunState L) (q k : ℕ) (kind : Kind) (t : IsTaken machine state q k kind next)
+        → sends_of next q ≡ length (sent_after machine t.process kind)
+    sends_left state next q k kind t = ap length (sent_is next q _ (at_left machine state next q k kind t))
 
     sends_were : (state next : RunState L) (q k : ℕ) (kind : Kind) (t : IsTaken machine state q k kind next) → sends_of state q ≡ length t.process.sent
-    sends_were state next q k kind t = ap length (sent_is state q t.process t.at_process)
+    sends_were state next q k kind t = ap length (sent_is state q _ t.at_process)
 
     one_more : (state next : RunState L) (q k m : ℕ) (t : IsTaken machine state q k (Send m) next) → sends_of next q ≡ sends_of state q + 1
     one_more state next q k m t =
         let wish = wished_payload (machine.wish t.process.progress.local) in
-        let due = (parts machine state next q k (Send m) t).due in
-        let payload = some_of wish (both (m == length t.process.sent + 1) (is_some wish) due).1 in
+        let due = (parts machine state next q k _ t).due in
+        let payload = some_of wish (both _ _ due).1 in
         sends_left state next q k (Send m) t
         ∙ ap (λ o. length (t.process.sent ++ option_to_list o)) payload.1
-        ∙ length_push t.process.sent payload.0
+        ∙ length_push _ _
         ∙ ap (λ n. n + 1) (sym (sends_were state next q k (Send m) t))
 
-    sends_count : (state next : RunState L) (event : Event) → after machine state event ≡ Some next → is_send_by p event ≡ true → (message_number event ≡ sends_of state p + 1) × (sends_of next p ≡ message_number event)
+    sends_count : (state next : RunState L) (event : Event) → after machine state event ≡ Some next → is_send_by p event ≡ true
+        → (message_number event ≡ sends_of state p + 1) × (sends_of next p ≡ message_number event)
     sends_count state next (Step q k (Send m)) one e =
-        let t = taken_from machine state next q k (Send m) one in
+        let t = taken_from machine state next q k _ one in
         let same : q ≡ p = nat_eq-is q p e in
-        let number = send_number machine state next q k (Send m) t m refl in (
+        let number = send_number machine state next q k _ t m refl in (
           subst (λ i. m ≡ sends_of state i + 1) same number,
           subst (λ i. sends_of next i ≡ m) same (one_more state next q k m t ∙ sym number),
         )
     sends_count state next (Step q k kind) one e = absurd (true≢false (sym e))
     sends_count state next (Lost copy) one e = absurd (true≢false (sym e))
 
-    other_sends : (state next : RunState L) (q k : ℕ) (kind : Kind) (t : IsTaken machine state q k kind next) → (q == p) ≡ false → sends_of next p ≡ sends_of state p
+    other_sends : (state next : RunState L) (q k : ℕ) (kind : Kind) (t : IsTaken machine state q k kind next) → (q == p) ≡ false
+        → sends_of next p ≡ sends_of state p
     other_sends state next q k kind t e = ap length (other_sent_kept machine state next q k kind t p (nat_eq-ne q p e))
 
-    unsent : (state next : RunState L) (q k : ℕ) (kind : Kind) (t : IsTaken machine state q k kind next) → sent_after machine t.process kind ≡ t.process.sent → sends_of next p ≡ sends_of state p
+    unsent : (state next : RunState L) (q k : ℕ) (kind : Kind) (t : IsTaken machine state q k kind next)
+        → sent_after machine t.process kind ≡ t.process.sent → sends_of next p ≡ sends_of state p
     unsent state next q k kind t same =
         elim (q == p) as (λ b. (q == p) ≡ b → sends_of next p ≡ sends_of state p) [
           | true ↦ λ e.
@@ -197,36 +211,37 @@ module _ {L : Type 0} (machine : Machine L) where
           | false ↦ λ e. other_sends state next q k kind t e
         ] refl
 
-    sends_keep : (state next : RunState L) (event : Event) → after machine state event ≡ Some next → is_send_by p event ≡ false → sends_of next p ≡ sends_of state p
-    sends_keep state next (Step q k (Send m)) one e = other_sends state next q k (Send m) (taken_from machine state next q k (Send m) one) e
+    sends_keep : (state next : RunState L) (event : Event) → after machine state event ≡ Some next → is_send_by p event ≡ false
+        → sends_of next p ≡ sends_of state p
+    sends_keep state next (Step q k (Send m)) one e = other_sends state next q k (Send m) (taken_from machine state next q k _ one) e
     sends_keep state next (Step q k kind) one e = unsent state next q k kind (taken_from machine state next q k kind one) refl
     sends_keep state next (Lost copy) one e = ap (λ (x : RunState L). sends_of x p) (sym (lost_from machine state next copy one).1)
 
     no_sends : sends_of (start machine) p ≡ 0
     no_sends =
-        ap (λ o. length (unwrap_or o [])) (nth-map (λ (x : ProcessState L). x.sent) (start machine).processes p)
+        ap (λ o. length (unwrap_or o [])) (nth-map _ _ p)
         ∙ go (nth (start machine).processes p) (λ process at. ap (λ (x : ProcessState L). length x.sent) (sym (nth-fresh machine p process at).1))
       where
-        go : (o : Option (ProcessState L)) → ((process : ProcessState L) → o ≡ Some process → length process.sent ≡ 0) → length (unwrap_or (option_map (λ (x : ProcessState L). x.sent) o) []) ≡ 0
+        go : (o : Option (ProcessState L)) → ((process : ProcessState L) → o ≡ Some process → length process.sent ≡ 0)
+            → length (unwrap_or (option_map (λ (x : ProcessState L). x.sent) o) []) ≡ 0
         go None fresh = refl
         go (Some process) fresh = fresh process refl
 
     send_is : (m : ℕ) (x : Event) → is_send_by p x ≡ true → message_number x ≡ m → (k : ℕ) × (x ≡ Step p k (Send m))
-    send_is m (Step q k (Send l)) is number = (k, ap₂ (λ i j. Step i k (Send j)) (nat_eq-is q p is) number)
-    send_is m (Step q k kind) is number = absurd (true≢false (sym is))
-    send_is m (Lost copy) is number = absurd (true≢false (sym is))
+    send_is m x h1 h2 = grind (arith, common_steps, gets)
 
   pub sends_numbered : (history : List Event) → IsValid machine history → AreSendsNumbered history
-  sends_numbered history valid p m event = (at_number m, λ sent. stands m sent.0 (let is = sent.1.1 in (subst (λ x. is_send_by p x ≡ true) (sym is) (is_its_own p), ap (message_number p) is)))
+  sends_numbered history valid p m event =
+      (at_number m, λ sent. stands m sent.0 (let is = sent.1.1 in (subst (λ x. is_send_by p x ≡ true) (sym is) (is_its_own p), ap (message_number p) is)))
     where
       order : (i : ℕ) (x : Event) → slice_get (filter (is_send_by p) history) i ≡ Some x → (is_send_by p x ≡ true) × (message_number p x ≡ suc i)
       order = in_order (is_send_by p) (message_number p) (λ state. sends_of state p) (sends_count p) (sends_keep p) history valid (no_sends p)
 
       at_number : (m : ℕ) → nth (filter (is_send_by p) history) m ≡ Some event → IsIn event history × ((k : ℕ) × (event ≡ Step p k (Send m)))
       at_number zero h = absurd (none-some event h)
-      at_number (suc i) h = (passes (is_send_by p) history i event h, let o = order i event h in send_is p (suc i) event o.0 o.1)
+      at_number (suc i) h = (passes _ history i event h, let o = order i event h in send_is p (suc i) event o.0 o.1)
 
       stands : (m : ℕ) → IsIn event history → (is_send_by p event ≡ true) × (message_number p event ≡ m) → nth (filter (is_send_by p) history) m ≡ Some event
       stands m is_in its =
-          let at = passed (is_send_by p) history event its.0 is_in in
+          let at = passed _ history event its.0 is_in in
           subst (λ j. nth (filter (is_send_by p) history) j ≡ Some event) (sym (order at.0 event at.1).1 ∙ its.1) at.1

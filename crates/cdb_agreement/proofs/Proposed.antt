@@ -1,5 +1,8 @@
 -- Each value that a process of a run holds was the input of a process, where the machine makes no value of its own.
-use Rattle.std.proofs.Common.{◌≡◌, ℕ, zero, suc, Bool, true, false, List, [], ◌∷◌, ◌++◌, length, Option, Some, None, option_map, option_to_list, unwrap_or, if◌then◌else◌, ◌⊎◌, inl, inr, refl, sym, ap, subst, ◌∙◌, append-nil, arith}
+use Rattle.std.proofs.lemmas.Grind.{common_steps}
+use Rattle.std.proofs.lemmas.Option.{gets}
+use Rattle.std.proofs.Common.{◌≡◌, ℕ, zero, suc, Bool, true, false, List, [], ◌∷◌, ◌++◌, length, Option, Some, None, option_map, option_to_list, unwrap_or}
+use Rattle.std.proofs.Common.{if◌then◌else◌, ◌⊎◌, inl, inr, refl, sym, ap, subst, ◌∙◌, append-nil, arith}
 use Rattle.std.specs.FinSet as set
 use Rattle.std.proofs.lemmas.Bool.{cases_eq}
 use Rattle.std.proofs.lemmas.Option.{none-some, same_Some}
@@ -27,14 +30,14 @@ use Rattle.cdb_rules.specs.Decisions.{decisions_of}
 use Rattle.cdb_rules.specs.Machines.{machine_of}
 use Rattle.cdb_rules.specs.Mail.{mail_of}
 use Rattle.cdb_rules.specs.State.{Machine, ProcessState, RunState, start, fresh_process}
-use Rattle.cdb_rules.specs.Step.{may_lose, after, fold}
+use Rattle.cdb_rules.specs.Step.{after, fold}
 use Rattle.cdb_rules.specs.Taking.{arriving, taken_local, input_of, registers_after}
 use Rattle.cdb_rules.proofs.FoldKeeps.{reached_keeps}
 use Rattle.cdb_rules.proofs.Positions.{nth-map, nth-set_nth_same, nth-set_nth_other, nth-update_nth_same, nth-update_nth_other, nth_within}
 use Rattle.cdb_rules.proofs.Stages.{sight_in, sent_after, process_after, state_after}
 use Rattle.cdb_rules.proofs.Taken.{mapped, taken_from, parts, where_true}
 use Rattle.cdb_agreement.proofs.Decided.{decided_of}
-use Rattle.cdb_agreement.proofs.Firsts.{first_of_input, first_cells, first_decision}
+use Rattle.cdb_agreement.proofs.Firsts.{first_of_input}
 
 nth_in : {A : Type 0} (xs : List A) (i : ℕ) (x : A) → nth xs i ≡ Some x → IsIn x xs
 nth_in xs zero x is = absurd (none-some x is)
@@ -50,33 +53,35 @@ in_more x xs (Some y) here = go (in_push x y xs here)
     go (inl old) = inl old
     go (inr new) = inr (ap (λ z. Some z) (sym new))
 
-module _ {L : Type 0} (table : Table L) (holds : L → ℕ → Type 0) (makes : MakesNoValue table holds) (setup : Parts) (each : length setup.inputs ≡ setup.processes) where
+module _ {L : Type 0} (table : Table L) (holds : L → ℕ → Type 0) (makes : MakesNoValue table holds) (setup : Parts)
+    (each : length setup.inputs ≡ setup.processes) where
   abbrev machine : Machine L
   machine = machine_of table setup
 
   -- what every state of a valid history keeps to: what a process holds, what it has sent and what a register shows was proposed
   record Sourced (t : RunState L) : Type 0 where
     pub held : (p : ℕ) (x : ProcessState L) → nth t.processes p ≡ Some x → (v : ℕ) → holds x.progress.local v → IsProposed setup v
-    pub sent : (p : ℕ) (x : ProcessState L) → nth t.processes p ≡ Some x → (payload : Payload) → IsIn payload x.sent → (v : ℕ) → payload_value payload ≡ Some v → IsProposed setup v
+    pub sent : (p : ℕ) (x : ProcessState L) → nth t.processes p ≡ Some x → (payload : Payload) → IsIn payload x.sent → (v : ℕ)
+        → payload_value payload ≡ Some v → IsProposed setup v
     pub shown : (r : Reg) (stands : RegisterState) → register_of t.registers r ≡ Some stands → (v : ℕ) → stands.cell.val ≡ Some v → IsProposed setup v
 
   -- ---- the start
 
-  started : (p : ℕ) (x : ProcessState L) → nth (start machine).processes p ≡ Some x → (local : L) × (nth machine.firsts p ≡ Some local) × (fresh_process local ≡ x)
-  started p x is = mapped fresh_process (nth machine.firsts p) x (sym (nth-map fresh_process machine.firsts p) ∙ is)
+  started : (p : ℕ) (x : ProcessState L) → nth (start machine).processes p ≡ Some x
+      → (local : L) × (nth machine.firsts p ≡ Some local) × (fresh_process local ≡ x)
+  started p x is = mapped _ _ x (sym (nth-map _ _ p) ∙ is)
 
   first_proposed : (p : ℕ) (local : L) → nth machine.firsts p ≡ Some local → (v : ℕ) → holds local v → IsProposed setup v
   first_proposed zero local is v held = absurd (none-some local is)
   first_proposed (suc k) local is v held =
-      let first = first_of_input table.first setup.processes setup.quorum 1 setup.inputs k local is in
+      let first = first_of_input _ _ _ 1 _ k local is in
       let same = makes.first first.0 setup.processes setup.quorum first.1 v (subst (λ (l : L). holds l v) first.3 held) in
       let at : nth setup.inputs (suc k) ≡ Some v = first.2 ∙ ap (λ x. Some x) (sym same) in
-      let within = nth_within setup.inputs (suc k) v at in
+      let within = nth_within _ (suc k) v at in
       (suc k, omega arith, omega arith, at)
 
   fresh_shows_none : (m : ℕ) (r : Reg) (stands : RegisterState) → register_of (fresh_registers m) r ≡ Some stands → stands.cell.val ≡ None
-  fresh_shows_none m (R p) stands is = ap (λ (y : RegisterState). y.cell.val) (first_cells m p stands is)
-  fresh_shows_none m Dec stands is = ap (λ (y : RegisterState). y.cell.val) (first_decision m stands is)
+  fresh_shows_none m r stands h1 = grind (arith, common_steps, gets)
 
   start_sourced : Sourced (start machine)
   start_sourced = record {
@@ -99,13 +104,14 @@ module _ {L : Type 0} (table : Table L) (holds : L → ℕ → Type 0) (makes : 
     arrived : (p s m : ℕ) (y : Payload) → arriving (mail_of t) p (message_name s m) ≡ Some y → (v : ℕ) → payload_value y ≡ Some v → IsProposed setup v
     arrived p s m y is v carries = go (is_lost (mail_of t) (copy_name (message_name s m) p)) is
       where
-        by_sender : (o : Option (ProcessState L)) → nth t.processes s ≡ o → nth (unwrap_or (option_map (λ (x : ProcessState L). x.sent) o) []) m ≡ Some y → IsProposed setup v
+        by_sender : (o : Option (ProcessState L)) → nth t.processes s ≡ o
+            → nth (unwrap_or (option_map (λ (x : ProcessState L). x.sent) o) []) m ≡ Some y → IsProposed setup v
         by_sender None at there = let none = nth_in [] m y there in elim none [ ]
         by_sender (Some x) at there = sourced.sent s x at y (nth_in x.sent m y there) v carries
 
         go : (b : Bool) → (if b then None else payload_of (mail_of t) (message_name s m)) ≡ Some y → IsProposed setup v
         go true it = absurd (none-some y it)
-        go false it = by_sender (nth t.processes s) refl (sym (ap (λ sent. nth (unwrap_or sent []) m) (nth-map (λ (x : ProcessState L). x.sent) t.processes s)) ∙ it)
+        go false it = by_sender (nth t.processes s) refl (sym (ap (λ sent. nth (unwrap_or sent []) m) (nth-map _ _ s)) ∙ it)
 
     -- an input that brings no value
     quiet : (i j : Input) (v : ℕ) → brought_value i ≡ None → Some i ≡ Some j → brought_value j ≡ Some v → IsProposed setup v
@@ -116,19 +122,20 @@ module _ {L : Type 0} (table : Table L) (holds : L → ℕ → Type 0) (makes : 
     brought p (Query leader) i is v brings = quiet (input.Query leader) i v refl is brings
     brought p (Send m) i is v brings = quiet input.Send i v refl is brings
     brought p (Recv s m) i is v brings =
-        let it = mapped (input.Recv s) (arriving (mail_of t) p (message_name s m)) i is in
+        let it = mapped _ _ i is in
         arrived p s m it.0 it.1 v (ap brought_value it.2 ∙ brings)
     brought p (Read register) i is v brings =
-        let it = mapped (λ (stands : RegisterState). input.Read register stands.cell) (register_of t.registers register) i is in
+        let it = mapped _ _ i is in
         sourced.shown register it.0 it.1 v (ap brought_value it.2 ∙ brings)
     brought p (Write register) i is v brings =
-        let it = mapped (λ (stands : RegisterState). input.Write register) (register_of t.registers register) i is in
+        let it = mapped _ _ i is in
         quiet (input.Write register) i v refl (ap (λ (j : Input). Some j) it.2) brings
     brought p Local i is v brings = quiet input.Local i v refl is brings
     brought p Learn i is v brings = quiet input.Learn i v refl is brings
     brought p Crash i is v brings = absurd (none-some i is)
 
-    module _ (p k : ℕ) (kind : Kind) (x : ProcessState L) (s : L) (at : nth t.processes p ≡ Some x) (takes : taken_local table.next x.progress.local (input_of kind (sight_in t p kind)) ≡ Some s) where
+    module _ (p k : ℕ) (kind : Kind) (x : ProcessState L) (s : L) (at : nth t.processes p ≡ Some x)
+        (takes : taken_local table.next x.progress.local (input_of kind (sight_in t p kind)) ≡ Some s) where
       abbrev left : ProcessState L
       left = process_after machine x p k kind (sight_in t p kind) s
 
@@ -154,7 +161,7 @@ module _ {L : Type 0} (table : Table L) (holds : L → ℕ → Type 0) (makes : 
 
           go : (kind : Kind) → IsIn payload (sent_after machine x kind) → IsProposed setup v
           go (Query leader) it = old it
-          go (Send m) it = new (in_more payload x.sent (wished_payload (table.wish x.progress.local)) it)
+          go (Send m) it = new (in_more payload x.sent _ it)
             where
               new : IsIn payload x.sent ⊎ (wished_payload (table.wish x.progress.local) ≡ Some payload) → IsProposed setup v
               new (inl was) = old was
@@ -173,21 +180,23 @@ module _ {L : Type 0} (table : Table L) (holds : L → ℕ → Type 0) (makes : 
         where
           go : (i ≡ j) ⊎ (i ≡ j → ⊥) → IsProposed setup v
           go (inl same) =
-              let here = sym (nth-update_nth_same (put_cell cell) t.registers.of_processes j) ∙ subst (λ m. register_of (with_register (put_cell cell) t.registers (R j)) (R m) ≡ Some stands) same is in
-              let was = mapped (put_cell cell) (nth t.registers.of_processes j) stands here in
+              let here =
+              sym (nth-update_nth_same _ _ j) ∙ subst (λ m. register_of (with_register (put_cell cell) t.registers (R j)) (R m) ≡ Some stands) same is in
+              let was = mapped _ _ stands here in
               proposed v (ap (λ (y : RegisterState). y.cell.val) was.2 ∙ val)
           go (inr other) =
-              sourced.shown (R i) stands (sym (nth-update_nth_other (put_cell cell) t.registers.of_processes j i (λ same. other (sym same))) ∙ is) v val
+              sourced.shown (R i) stands (sym (nth-update_nth_other _ _ j i (λ same. other (sym same))) ∙ is) v val
       written (R j) Dec cell proposed stands is v val = sourced.shown Dec stands is v val
       written Dec (R i) cell proposed stands is v val = sourced.shown (R i) stands is v val
       written Dec Dec cell proposed stands is v val =
-          let was = mapped (put_cell cell) t.registers.of_decision stands is in
+          let was = mapped _ _ stands is in
           proposed v (ap (λ (y : RegisterState). y.cell.val) was.2 ∙ val)
 
       shown_left : (r : Reg) (stands : RegisterState) → register_of to.registers r ≡ Some stands → (v : ℕ) → stands.cell.val ≡ Some v → IsProposed setup v
       shown_left r stands is v val = go kind is
         where
-          by_cell : (register : Reg) (o : Option Cell) → wished_cell (table.wish x.progress.local) ≡ o → register_of (registers_after t.registers (Write register) o) r ≡ Some stands → IsProposed setup v
+          by_cell : (register : Reg) (o : Option Cell) → wished_cell (table.wish x.progress.local) ≡ o
+              → register_of (registers_after t.registers (Write register) o) r ≡ Some stands → IsProposed setup v
           by_cell register None wishes it = sourced.shown r stands it v val
           by_cell register (Some cell) wishes it =
               written register r cell (λ w carries. sourced.held p x at w (makes.written x.progress.local cell w wishes carries)) stands it v val
@@ -210,13 +219,14 @@ module _ {L : Type 0} (table : Table L) (holds : L → ℕ → Type 0) (makes : 
           go : (o ≡ p) ⊎ (o ≡ p → ⊥) → P y
           go (inl same) =
               let here = subst (λ m. nth to.processes m ≡ Some y) same is in
-              subst P (same_Some left y (sym (nth-set_nth_same t.processes p left x at) ∙ here)) moves
-          go (inr other) = rests o y (sym (nth-set_nth_other t.processes p o left (λ same. other (sym same))) ∙ is)
+              subst P (same_Some left y (sym (nth-set_nth_same _ p left x at) ∙ here)) moves
+          go (inr other) = rests o y (sym (nth-set_nth_other _ p o left (λ same. other (sym same))) ∙ is)
 
       sourced_left : Sourced to
       sourced_left = record {
         held = by_process (λ y. (v : ℕ) → holds y.progress.local v → IsProposed setup v) held_left sourced.held;
-        sent = by_process (λ y. (payload : Payload) → IsIn payload y.sent → (v : ℕ) → payload_value payload ≡ Some v → IsProposed setup v) sent_left sourced.sent;
+        sent =
+            by_process (λ y. (payload : Payload) → IsIn payload y.sent → (v : ℕ) → payload_value payload ≡ Some v → IsProposed setup v) sent_left sourced.sent;
         shown = shown_left;
       }
 
@@ -226,12 +236,12 @@ module _ {L : Type 0} (table : Table L) (holds : L → ℕ → Type 0) (makes : 
         let accepted = parts machine t to p k kind taken in
         subst Sourced taken.leads_to (sourced_left p k kind taken.process taken.next taken.at_process accepted.takes)
     after_sourced (happening.Lost copy) to is =
-        let lost = where_true (may_lose machine (mail_of t) copy) (Some (record t { lost = set.insert t.lost copy })) to is in
+        let lost = where_true _ _ to is in
         subst Sourced (same_Some (record t { lost = set.insert t.lost copy }) to lost.1)
         (record { held = sourced.held; sent = sourced.sent; shown = sourced.shown })
 
   reached_sourced : (history : List Event) (t : RunState L) → fold machine history ≡ Some t → Sourced t
-  reached_sourced history t is = reached_keeps (after machine) Sourced (λ s e u it. after_sourced s it e u) (start machine) history t start_sourced is
+  reached_sourced history t is = reached_keeps _ Sourced (λ s e u it. after_sourced s it e u) _ history t start_sourced is
 
   -- so was what is decided
   pub all_proposed : (history : List Event) (t : RunState L) → fold machine history ≡ Some t → AreProposed setup (decisions_of table.decision t)

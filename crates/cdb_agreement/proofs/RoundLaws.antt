@@ -54,10 +54,10 @@ module _ (n q : ℕ) (t : RunState LeaderState) (lawful : leader.Lawful n q t) w
   joint = joint_laws n q (leader.run_of q t) lawful.laws
 
   chosen : (r v : ℕ) → IsDecided q t r v → Chosen q sent r v
-  chosen r v it = quorum_follows q (λ s. HasSent t s (P2 r (Some v))) (λ s. sent s (P2 r (Some v))) (λ s has. sent_in s (P2 r (Some v)) has) it
+  chosen r v it = quorum_follows q _ _ (λ s has. sent_in s (P2 r (Some v)) has) it
 
   decided_in : (r v : ℕ) → Chosen q sent r v → IsDecided q t r v
-  decided_in r v it = quorum_follows q (λ s. sent s (P2 r (Some v))) (λ s. HasSent t s (P2 r (Some v))) (λ s has. has_sent s (P2 r (Some v)) has) it
+  decided_in r v it = quorum_follows q _ _ (λ s has. has_sent s (P2 r (Some v)) has) it
 
   is_received : (p s : ℕ) (x : Payload) → HasReceived t p s x → HasSent t s x
   is_received p s x it = has_sent s x (joint.delivered p s x (heard_in p s x it))
@@ -76,15 +76,19 @@ module _ (n q : ℕ) (t : RunState LeaderState) (lawful : leader.Lawful n q t) w
 
   rounds : n ≤ 9 → n < q + q → LeaderRounds q t
   rounds small majority = record {
-    one_value = λ r p o v w mine other. one_aux n q small majority sent heard joint r p v o w (sent_in p (P2 r (Some v)) mine) (sent_in o (P2 r (Some w)) other);
-    taken_along = λ r v d p e k it there. locked n q small majority sent heard joint r v (chosen r v it) d (r + d) p e k refl (sent_in p (P1 (suc (r + d)) e k) there);
+    one_value =
+        λ r p o v w mine other. one_aux n q small majority sent heard joint r p v o w (sent_in p (P2 r (Some v)) mine) (sent_in o (P2 r (Some w)) other);
+    taken_along =
+        λ r v d p e k it there. locked n q small majority sent heard joint r v (chosen r v it) d (r + d) p e k refl (sent_in p (P1 (suc (r + d)) e k) there);
     one_decided = λ r v u w one other. one_chosen n q small majority sent heard joint r v u w (chosen r v one) (chosen u w other);
   }
 
-pub leader_messages : (setup : Parts) (history : List Event) (t : RunState LeaderState) → fold (leader_machine setup) history ≡ Some t → LeaderMessages setup.quorum t
+pub leader_messages : (setup : Parts) (history : List Event) (t : RunState LeaderState)
+    → fold (leader_machine setup) history ≡ Some t → LeaderMessages setup.quorum t
 leader_messages setup history t is = messages (length setup.inputs) setup.quorum t (leader.reached_lawful setup history t is)
 
-pub leader_rounds : (setup : Parts) → AreInRange setup → setup.processes < 2 * setup.quorum → (history : List Event) (t : RunState LeaderState) → fold (leader_machine setup) history ≡ Some t → LeaderRounds setup.quorum t
+pub leader_rounds : (setup : Parts) → AreInRange setup → setup.processes < 2 * setup.quorum
+    → (history : List Event) (t : RunState LeaderState) → fold (leader_machine setup) history ≡ Some t → LeaderRounds setup.quorum t
 leader_rounds setup ranges majority history t is =
     let each = ranges.an_input_each in
     let high = ranges.processes.1 in
@@ -100,7 +104,7 @@ module _ (n : ℕ) (t : RunState AlphaState) (lawful : alpha.Lawful n t) where
   low_at i process at = alpha.nth_low t.processes i process at
 
   high_at : (i : ℕ) (process : ProcessState AlphaState) → nth t.processes i ≡ Some process → i ≤ n
-  high_at i process at = let within = nth_within t.processes i process at in let size = lawful.size in omega arith
+  high_at i process at = let within = nth_within _ i process at in let size = lawful.size in omega arith
 
   -- what is settled is what every later write wrote
   settled_later : (v i r : ℕ) → 1 ≤ i → i ≤ n → IsIn r (run.traced i).carried → IsIn (r, v) (run.traced i).own_writes
@@ -162,7 +166,8 @@ module _ (n : ℕ) (t : RunState AlphaState) (lawful : alpha.Lawful n t) where
         let entered = laws.entered_here (omega arith) (omega arith) in
         (sym seen ∙ laws.seen_all (place ∙ here), sym lre_is ∙ entered ∙ round_is)
 
-    decided : (v : ℕ) → local.decision ≡ Some v → (r : ℕ) × (1 ≤ r) × ((j : ℕ) (other : ProcessState AlphaState) (register : RegisterState) → nth t.processes j ≡ Some other
+    decided : (v : ℕ) → local.decision ≡ Some v
+        → (r : ℕ) × (1 ≤ r) × ((j : ℕ) (other : ProcessState AlphaState) (register : RegisterState) → nth t.processes j ≡ Some other
         → nth t.registers.of_processes j ≡ Some register → r ≤ register.cell.lrww → register.cell.val ≡ Some v)
     decided v is =
         let settled : Settled n run v = (lawful.laws.each i low high).decision_settled v (ap (λ (y : Traced). y.decision) (lawful.tied i process at) ∙ is) in
@@ -173,10 +178,12 @@ module _ (n : ℕ) (t : RunState AlphaState) (lawful : alpha.Lawful n t) where
               let cell_is = lawful.holds j register shown in
               let last = ap (λ (c : Cell). c.lrww) cell_is in
               ap (λ (c : Cell). c.val) cell_is
-              ∙ settled_later v settled.0 settled.1 settled.2 settled.3 settled.4 settled.5 j (low_at j other there) (high_at j other there) (omega (arith, later, last)),
+              ∙ settled_later v settled.0 settled.1 settled.2 settled.3 settled.4 settled.5 j (low_at j other there)
+              (high_at j other there) (omega (arith, later, last)),
         )
 
-pub alpha_rounds : (setup : Parts) → AreInRange setup → (history : List Event) (t : RunState AlphaState) → fold (alpha_machine setup) history ≡ Some t → AlphaRounds (alpha_machine setup) setup.processes t
+pub alpha_rounds : (setup : Parts) → AreInRange setup → (history : List Event) (t : RunState AlphaState)
+    → fold (alpha_machine setup) history ≡ Some t → AlphaRounds (alpha_machine setup) setup.processes t
 alpha_rounds setup ranges history t is =
     let lawful = alpha.reached_lawful setup ranges.an_input_each history t is in
     let n = setup.processes in

@@ -23,9 +23,11 @@ sends_by p history = filter (is_send_by p) history
 -- the k-th step of process p is the event that is named so
 abbrev pub AreStepsNumbered : List Event → Type 0
 AreStepsNumbered history =
-    (p k : ℕ) (event : Event) → (nth (steps_by p history) k ≡ Some event) ↔ (IsIn event history × (event_name event ≡ step_name p k))
+    (p k : ℕ) (event : Event) → (nth (steps_by p history) k ≡ Some event)
+    ↔ (IsIn event history × (event_name event ≡ step_name p k))
 
 -- the m-th send of process p sends the message that is named so
 abbrev pub AreSendsNumbered : List Event → Type 0
 AreSendsNumbered history =
-    (p m : ℕ) (event : Event) → (nth (sends_by p history) m ≡ Some event) ↔ (IsIn event history × ((k : ℕ) × (event ≡ Step p k (Send m))))
+    (p m : ℕ) (event : Event) → (nth (sends_by p history) m ≡ Some event)
+    ↔ (IsIn event history × ((k : ℕ) × (event ≡ Step p k (Send m))))

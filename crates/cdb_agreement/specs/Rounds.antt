@@ -28,7 +28,8 @@ HasSent t p payload = (process : ProcessState LeaderState) × IsProcess t p proc
 
 -- process p has received this payload from process s
 abbrev pub HasReceived : RunState LeaderState → ℕ → ℕ → Payload → Type 0
-HasReceived t p s payload = (process : ProcessState LeaderState) × IsProcess t p process × IsHeard process.progress.local.inbox s payload
+HasReceived t p s payload =
+    (process : ProcessState LeaderState) × IsProcess t p process × IsHeard process.progress.local.inbox s payload
 
 -- v is decided in round r: a quorum of q processes voted v there
 abbrev pub IsDecided : ℕ → RunState LeaderState → ℕ → ℕ → Type 0
@@ -64,18 +65,26 @@ IsRegister t i register = nth t.registers.of_processes i ≡ Some register
 pub record AlphaRounds (machine : Machine AlphaState) (n : ℕ) (t : RunState AlphaState) : Type 0 where
   -- register i is written by process i alone
   pub writer : (p k i : ℕ) (next : RunState AlphaState) → after machine t (Step p k (Write (R i))) ≡ Some next → p ≡ i
-  -- it shows the cell that the process wrote last: the last write is of an entry, and that is of the process's round or earlier
-  pub shown : (i : ℕ) (process : ProcessState AlphaState) (register : RegisterState) → IsProcess t i process → IsRegister t i register
-      → let cell = register.cell in (cell ≡ process.progress.local.own) × (cell.lrww ≤ cell.lre) × (cell.lre ≤ process.progress.local.round)
+  -- it shows the cell that the process wrote last: the last write is of an entry, and that is of the process's round or
+  -- earlier
+  pub shown : (i : ℕ) (process : ProcessState AlphaState) (register : RegisterState) → IsProcess t i process
+      → IsRegister t i register
+      → let cell = register.cell in (cell ≡ process.progress.local.own) × (cell.lrww ≤ cell.lre)
+      × (cell.lre ≤ process.progress.local.round)
   -- and whatever event comes next, neither round in a register falls
-  pub rising : (event : Event) (next : RunState AlphaState) → after machine t event ≡ Some next → (i : ℕ) (before later : RegisterState)
-      → IsRegister t i before → IsRegister next i later → (before.cell.lre ≤ later.cell.lre) × (before.cell.lrww ≤ later.cell.lrww)
+  pub rising : (event : Event) (next : RunState AlphaState) → after machine t event ≡ Some next
+      → (i : ℕ) (before later : RegisterState)
+      → IsRegister t i before → IsRegister next i later
+      → (before.cell.lre ≤ later.cell.lre) × (before.cell.lrww ≤ later.cell.lrww)
   -- a round is of one process: its number, and some times n
-  pub own_round : (p : ℕ) (process : ProcessState AlphaState) → IsProcess t p process → (a : ℕ) × (process.progress.local.round ≡ p + a * n)
+  pub own_round : (p : ℕ) (process : ProcessState AlphaState) → IsProcess t p process
+      → (a : ℕ) × (process.progress.local.round ≡ p + a * n)
   -- whoever settles the value that it writes has read every register after it entered the round
   pub pass : (p : ℕ) (process : ProcessState AlphaState) → IsProcess t p process → let local = process.progress.local in
       place_number local.place ≡ 4 → (length local.seen ≡ n) × (local.own.lre ≡ local.round)
   -- what is decided was written in some round, and is what every write of a later round wrote
-  pub decided : (p v : ℕ) (process : ProcessState AlphaState) → IsProcess t p process → process.progress.local.decision ≡ Some v
-      → (r : ℕ) × (1 ≤ r) × ((i : ℕ) (other : ProcessState AlphaState) (register : RegisterState) → IsProcess t i other → IsRegister t i register
+  pub decided : (p v : ℕ) (process : ProcessState AlphaState) → IsProcess t p process
+      → process.progress.local.decision ≡ Some v
+      → (r : ℕ) × (1 ≤ r) × ((i : ℕ) (other : ProcessState AlphaState) (register : RegisterState) → IsProcess t i other
+      → IsRegister t i register
       → r ≤ register.cell.lrww → register.cell.val ≡ Some v)

@@ -13,7 +13,8 @@ use Rattle.cdb_setup.specs.declared.setup.Algorithm.TheVariants.{Leader, Alpha}
 
 -- processes with these inputs, of which each is a quorum alone
 abbrev pub alone : Algorithm → List ℕ → Parts
-alone algorithm inputs = record { version = 1; algorithm = algorithm; processes = length inputs; quorum = 1; inputs = inputs; answers = [] }
+alone algorithm inputs =
+    record { version = 1; algorithm = algorithm; processes = length inputs; quorum = 1; inputs = inputs; answers = [] }
 
 -- the eight steps in which process p hears itself alone
 abbrev pub leader_steps : ℕ → List Event
@@ -29,7 +30,9 @@ alpha_steps =
 
 -- the decisions that stand after a valid history
 abbrev pub leader_decisions : List ℕ → List Event → Option (List (ℕ × ℕ))
-leader_decisions inputs history = option_map (decisions_of (λ local. local.decision)) (fold (leader_machine (alone Leader inputs)) history)
+leader_decisions inputs history =
+    option_map (decisions_of (λ local. local.decision)) (fold (leader_machine (alone Leader inputs)) history)
 
 abbrev pub alpha_decisions : List ℕ → List Event → Option (List (ℕ × ℕ))
-alpha_decisions inputs history = option_map (decisions_of (λ local. local.decision)) (fold (alpha_machine (alone Alpha inputs)) history)
+alpha_decisions inputs history =
+    option_map (decisions_of (λ local. local.decision)) (fold (alpha_machine (alone Alpha inputs)) history)

@@ -3,7 +3,8 @@
 //! Each function does nothing: its contract is the law.
 
 ghost use Rattle.std.specs.Prelude.{◌≡◌, [], ◌∷◌, ◌++◌, Some};
-ghost use Rattle.cdb_agreement.specs.Laws.{ForSetups, ForMajorities, ForValid, InReached, DecisionsAgree, DecisionsAreProposed};
+ghost use Rattle.cdb_agreement.specs.Laws.{ForSetups, ForMajorities, ForValid, InReached, DecisionsAgree};
+ghost use Rattle.cdb_agreement.specs.Laws.{DecisionsAreProposed};
 ghost use Rattle.cdb_agreement.specs.Rounds.{LeaderMessages, LeaderRounds, AlphaRounds};
 ghost use Rattle.cdb_agreement.specs.WorkedRuns.{leader_steps, leader_decisions, alpha_steps, alpha_decisions};
 ghost use Rattle.cdb_alpha.specs.Machine.{alpha_table};

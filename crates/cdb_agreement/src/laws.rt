@@ -1,8 +1,12 @@
 //! What holds of the histories of any machine. Each function does nothing: its contract is the law.
 
 ghost use Rattle.std.specs.Prelude.{◌≡◌, ℕ, ◌+◌, ◌≤◌, List, [], ◌∷◌, ◌++◌, length, reverse, Ok, Err};
-ghost use Rattle.cdb_base.specs.declared.limits.TheConstants.{MAX_PROCESSES};
-ghost use Rattle.cdb_agreement.specs.Laws.{InValid, ForTwo, ForReached, ForFree, ForConsequences, ForNamed, ForFreeNamed, ForNeeded, ForNew, ForTaken, ForAbsent, ForUndone, ForUndoneIn, ForRolledBack, ForRolledBackIn, LeadAlike, LeadsBack, AllLeadBack, ReachOneState, taken_back, IsUndone, IsRolledBackTo, NumbersRise, NamesDiffer, AreNamed, LossesFollowSends, LostStayUnreceived};
+ghost use Rattle.cdb_base.specs.Limits.{MAX_PROCESSES};
+ghost use Rattle.cdb_agreement.specs.Laws.{InValid, ForTwo, ForReached, ForFree, ForConsequences, ForNamed};
+ghost use Rattle.cdb_agreement.specs.Laws.{ForFreeNamed, ForNeeded, ForNew, ForTaken, ForAbsent, ForUndone};
+ghost use Rattle.cdb_agreement.specs.Laws.{ForUndoneIn, ForRolledBack, ForRolledBackIn, LeadAlike, LeadsBack};
+ghost use Rattle.cdb_agreement.specs.Laws.{AllLeadBack, ReachOneState, taken_back, IsUndone, IsRolledBackTo};
+ghost use Rattle.cdb_agreement.specs.Laws.{NumbersRise, NamesDiffer, AreNamed, LossesFollowSends, LostStayUnreceived};
 ghost use Rattle.cdb_agreement.specs.Numbering.{AreStepsNumbered, AreSendsNumbered};
 ghost use Rattle.cdb_causal.specs.Causality.{IsFree};
 ghost use Rattle.cdb_causal.specs.Dependence.{depends};

@@ -28,7 +28,7 @@ pub struct Alpha {
 }
 
 impl Model for Alpha {
-    ghost use Rattle.cdb_base.specs.declared.limits.TheConstants.{MAX_PROCESSES};
+    ghost use Rattle.cdb_base.specs.Limits.{MAX_PROCESSES};
     ghost use Rattle.std.specs.Prelude.{◌≡◌, ◌≤◌, is_some};
     ghost use Rattle.cdb_alpha.specs.LocalState.{LocalState};
     ghost use Rattle.cdb_alpha.specs.Place.{is_last};
@@ -56,6 +56,41 @@ impl Alpha {
     ghost use Rattle.cdb_alpha.specs.Table.{see_decision, entered, with_value, decision_cell, begin_pass, next_register, see, next_round, judge, next_state};
     ghost use Rattle.cdb_alpha.specs.Seen.{is_overtaken};
     ghost use Rattle.cdb_alpha.specs.Back.{state_before};
+
+    /// Where the process stands in its round.
+    pub fn stands_at(&self) -> Place
+        ensures { result ≡ self.now.place }
+    {
+        self.place
+    }
+
+    /// The input of the process.
+    pub fn input(&self) -> Val
+        ensures { result ≡ self.now.input }
+    {
+        self.input
+    }
+
+    /// The cell that the process last wrote to its own register.
+    pub fn own(&self) -> &Cell
+        ensures { result.now ≡ self.now.own }
+    {
+        &self.own
+    }
+
+    /// The cells that the process has read in this pass, in order.
+    pub fn seen(&self) -> &[Cell]
+        ensures { result.now ≡ self.now.seen }
+    {
+        &self.seen
+    }
+
+    /// The value that the process chose last, its input before it has chosen one.
+    pub fn value(&self) -> Val
+        ensures { result ≡ self.now.value }
+    {
+        self.value
+    }
 
     /// The cell with which the process enters its round: what it last wrote, with the new round.
     fn entered(&self) -> Cell
@@ -110,7 +145,7 @@ impl Alpha {
     }
 
     /// Whether another process entered a later round.
-    fn is_overtaken(&self) -> bool
+    pub fn is_overtaken(&self) -> bool
         ensures { result ≡ is_overtaken self.now.round self.now.seen }
     {
         shows_later_round(&self.seen, self.round)

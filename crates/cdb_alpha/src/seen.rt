@@ -6,7 +6,7 @@ ghost use Rattle.cdb_alpha.specs.Seen.{greatest_write, value_seen, is_overtaken}
 use cdb_base::{Cell, Val};
 
 /// The greatest round of a write among the cells, 0 if there is none.
-pub(crate) fn find_greatest_write(cells: &[Cell]) -> u32
+pub fn find_greatest_write(cells: &[Cell]) -> u32
     ensures { result ≡ greatest_write cells.now }
 {
     let mut greatest = 0u32;
@@ -17,7 +17,7 @@ pub(crate) fn find_greatest_write(cells: &[Cell]) -> u32
 }
 
 /// The value of the first cell with the greatest round of a write, where it was written.
-pub(crate) fn find_value(cells: &[Cell]) -> Option<Val>
+pub fn find_value(cells: &[Cell]) -> Option<Val>
     ensures { result ≡ value_seen cells.now }
 {
     let greatest = find_greatest_write(cells);

@@ -1,5 +1,5 @@
 pub mod Cells
-pub mod Forwarding
+pub mod Named
 pub mod Nameable
 pub mod OpenCopies
-pub mod Numbered
+pub mod Views

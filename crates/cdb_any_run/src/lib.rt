@@ -7,8 +7,19 @@
 //! ```
 #![tactic(auto)]
 
+/// What a call of the run is, whichever machine it has.
+macro_rules! by_machine {
+    ($any:expr, $run:ident => $call:expr) => {
+        match $any {
+            crate::any::ByMachine::Leader($run) => $call,
+            crate::any::ByMachine::Alpha($run) => $call,
+        }
+    };
+}
+
 mod any;
-mod run_of_setup;
+mod runs;
+mod shown;
 
 pub use any::AnyRun;
-pub use run_of_setup::RunOfSetup;
+pub use cdb_rules::Runs;

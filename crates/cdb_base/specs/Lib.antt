@@ -1,5 +1,6 @@
 -- what a reader of the contracts believes: names of events, lists that count from 1, registers, results, and the refusals
 pub mod Event
+pub mod Limits
 pub mod NameTexts
 pub mod Positions
 pub mod Processes

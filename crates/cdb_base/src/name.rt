@@ -13,7 +13,7 @@ use std::marker::Model;
 pub struct Proc(u8);
 
 impl Model for Proc {
-    ghost use Rattle.cdb_base.specs.declared.limits.TheConstants.{MAX_PROCESSES};
+    ghost use Rattle.cdb_base.specs.Limits.{MAX_PROCESSES};
     ghost use Rattle.std.specs.Prelude.{ℕ, ◌≤◌};
 
     ghost Value = { ℕ };

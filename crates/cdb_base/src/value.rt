@@ -11,7 +11,7 @@ pub struct Val(u32);
 
 impl Model for Val {
     ghost use Rattle.std.specs.Prelude.{ℕ, ◌≤◌};
-    ghost use Rattle.cdb_base.specs.declared.limits.TheConstants.{MAX_VALUE};
+    ghost use Rattle.cdb_base.specs.Limits.{MAX_VALUE};
 
     ghost Value = { ℕ };
 

@@ -2,7 +2,7 @@
 -- its name says of the position that is one greater.
 use Rattle.std.specs.Prelude.{◌≡◌, ℕ, zero, suc, ◌<◌, ◌≤◌, ◌⊎◌, Bool, true, false, List, [], ◌∷◌, Option, Some, MatchOption, drop, slice_get}
 use Rattle.cdb_base.specs.Event.{event_name}
-use Rattle.cdb_base.specs.declared.limits.TheConstants.{MAX_PROCESSES}
+use Rattle.cdb_base.specs.Limits.{MAX_PROCESSES}
 use Rattle.cdb_base.specs.declared.event.Event.{Event}
 use Rattle.cdb_base.specs.declared.event.Event.TheVariants.{Step, Lost}
 use Rattle.cdb_base.specs.declared.event.Kind.{Kind}

@@ -2,7 +2,7 @@
 -- processes 1 to 9.
 use Rattle.std.specs.Prelude.{◌≡◌, ℕ, ◌<◌, ◌≤◌, false, List, Some}
 use Rattle.cdb_base.specs.Positions.{nth}
-use Rattle.cdb_base.specs.declared.limits.TheConstants.{MAX_PROCESSES}
+use Rattle.cdb_base.specs.Limits.{MAX_PROCESSES}
 use Rattle.cdb_base.specs.declared.event.Event.{Event}
 use Rattle.cdb_base.specs.declared.event.Event.TheVariants.{Step, Lost}
 use Rattle.cdb_base.specs.declared.event.Kind.{Kind}

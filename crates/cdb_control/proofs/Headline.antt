@@ -11,7 +11,7 @@ use Rattle.cdb_base.specs.declared.name.StepId.{StepId}
 use Rattle.cdb_base.specs.declared.name.StepId.TheVariants as id
 use Rattle.cdb_base.specs.declared.refusal.Refusal.{Refusal}
 use Rattle.cdb_base.specs.declared.refusal.Refusal.TheVariants.{NoProcess, NothingToRedo, NoBreak, BreakLimit, NeededBy}
-use Rattle.cdb_base.specs.declared.limits.TheConstants.{MAX_BREAKPOINTS}
+use Rattle.cdb_base.specs.Limits.{MAX_BREAKPOINTS}
 use Rattle.cdb_causal.specs.Causality.{IsFree}
 use Rattle.cdb_causal.specs.Dependence.{depends}
 use Rattle.cdb_causal.specs.Exchange.{IsExchanged}

@@ -66,7 +66,7 @@ module _ (rules : Rules) where
   numbered_from [] t all = all
   numbered_from (e ∷ es) t all = numbered_from es (obey rules t e.seat e.command) (numbers_stay rules t e.seat e.command all)
 
-  numbered : (setup : Parts) (seats : ℕ) (journal : List Entry) → let now = replay rules setup seats journal in AreNumbered now.next now.stops
+  pub numbered : (setup : Parts) (seats : ℕ) (journal : List Entry) → let now = replay rules setup seats journal in AreNumbered now.next now.stops
   unfolding replay
   numbered setup seats journal = numbered_from journal (first_control_state setup seats) (tt, tt)
 

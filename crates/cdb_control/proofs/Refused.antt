@@ -1,5 +1,5 @@
 -- What the table of the commands leaves alone.
-use Rattle.std.proofs.Common.{◌≡◌, ◌≢◌, ℕ, ◌-◌, ◌≤◌, Bool, true, false, not, List, [], length, get_or, set, Option, Some, None, Result, Ok, Err, refl, sym, ap, subst, arith, nat_eq, nat_le, is_some}
+use Rattle.std.proofs.Common.{◌≡◌, ◌≢◌, ◌∙◌, ℕ, ◌+◌, ◌-◌, ◌≤◌, Bool, true, false, not, List, [], length, get_or, set, Option, Some, None, Result, Ok, Err, IfOk, OnOk, refl, sym, ap, subst, arith, nat_eq, nat_le, is_some}
 use Rattle.std.proofs.lemmas.List.{get_or-set_other}
 use Rattle.std.specs.Map.{lookup}
 use Rattle.cdb_base.specs.declared.event.Event.{Event}
@@ -7,9 +7,10 @@ use Rattle.cdb_base.specs.declared.name.StepId.{StepId}
 use Rattle.cdb_base.specs.declared.refusal.Refusal.{Refusal}
 use Rattle.cdb_base.specs.declared.refusal.Refusal.TheVariants.{NoProcess, NothingToRedo, NoBreak, BreakLimit}
 use Rattle.cdb_base.specs.declared.act.Act.{Act}
-use Rattle.cdb_base.specs.declared.limits.TheConstants.{MAX_BREAKPOINTS}
+use Rattle.cdb_base.specs.Limits.{MAX_BREAKPOINTS}
 use Rattle.cdb_commands.specs.declared.command.Command.{Command}
 use Rattle.cdb_commands.specs.declared.command.Command.TheVariants.{Step, Auto, Lose, Undo, UndoLost, Redo, Forget, Rollback, RollbackLost, Why, WhyLost, Break, Unbreak, Resume, Show, Decisions}
+use Rattle.cdb_commands.specs.declared.command.Stop.{Stop}
 use Rattle.cdb_commands.specs.declared.command.View.{View}
 use Rattle.cdb_commands.specs.declared.command.View.TheVariants as view
 use Rattle.cdb_commands.specs.ToldReply as reply
@@ -22,7 +23,14 @@ use Rattle.cdb_message.specs.Mail.{message_name}
 use Rattle.cdb_rules.specs.Undo.{undo_of, rollback_of, causes_of}
 use Rattle.cdb_control.specs.State.{State, redo_of, last_of}
 use Rattle.cdb_control.proofs.Numbers.{AreNumbered, AreBelow-push, AreBelow-remove, AreRising-push, AreRising-remove}
+use Rattle.cdb_commands.specs.ToldReply.{ToldReply, is_refused, told}
+use Rattle.cdb_commands.specs.declared.reply.Reply.{Reply}
+use Rattle.cdb_control.specs.declared.control.CallFault.{CallFault}
 use Rattle.cdb_control.specs.Commands.{Outcome, unless, granted, found, unpaused, step_done, step, lost, undo, rollback, why, redone, show, outcome, reply_of, obey}
+use Rattle.cdb_control.specs.Journal.{Journaled, control_state, extended, reply_in}
+use Rattle.cdb_control.specs.Laws.{ActsOnNoRun, IsKeptIfRefused, KeepsOtherLists, KeepsRun, UsesNextNumber}
+use Rattle.cdb_control.proofs.Along.{replay-push}
+use Rattle.cdb_setup.specs.Parts.{Parts}
 
 -- what an outcome leaves alone: everything where it is a refusal, and otherwise the lists of other seats, the
 -- numbers that were given, and their order
@@ -137,3 +145,109 @@ numbers_rise rules t seat command = (leaves rules t seat command).numbers
 
 pub numbers_stay : (rules : Rules) (t : State) (seat : ℕ) (command : Command) → AreNumbered t.next t.stops → AreNumbered (obey rules t seat command).next (obey rules t seat command).stops
 numbers_stay rules t seat command = (leaves rules t seat command).stops
+
+-- ---- commands that act on no run
+
+-- what holds now, and after an outcome that may be refused first
+module _ (t : State) (P : State → Type 0) (now : P t) where
+  unless-after : (b : Bool) (r : Refusal) (go : Outcome) → P go.after → P (unless b r t go).after
+  unless-after true r go h = now
+  unless-after false r go h = h
+
+  granted-after : {A : Type 0} (x : Result A Refusal) (go : A → Outcome) → ((a : A) → P (go a).after) → P (granted x t go).after
+  granted-after (Ok a) go h = h a
+  granted-after (Err r) go h = now
+
+  found-after : {A : Type 0} (x : Option A) (r : Refusal) (go : A → Outcome) → ((a : A) → P (go a).after) → P (found x r t go).after
+  found-after (Some a) r go h = h a
+  found-after None r go h = now
+
+same_run : (t : State) → KeepsRun t t
+same_run t = (refl, λ seat. refl)
+
+pub looks_keep_the_run : (rules : Rules) (t : State) (seat : ℕ) (command : Command) → ActsOnNoRun command → KeepsRun t (obey rules t seat command)
+unfolding outcome
+looks_keep_the_run rules t seat (Why p k) looks =
+    granted-after t (KeepsRun t) (same_run t) (causes_of t.setup.processes t.history (name_given (named.Step p k))) _ (λ causes. same_run t)
+looks_keep_the_run rules t seat (WhyLost s m p) looks =
+    granted-after t (KeepsRun t) (same_run t) (causes_of t.setup.processes t.history (name_given (named.Lost s m p))) _ (λ causes. same_run t)
+looks_keep_the_run rules t seat (Break stop) looks =
+    unless-after t (KeepsRun t) (same_run t) (names_none_of t.setup.processes stop) NoProcess _
+    (unless-after t (KeepsRun t) (same_run t) (nat_le MAX_BREAKPOINTS (length t.stops)) BreakLimit _ (refl, λ other. refl))
+looks_keep_the_run rules t seat (Unbreak number) looks =
+    unless-after t (KeepsRun t) (same_run t) (not (is_some (lookup (nat_eq number) t.stops))) NoBreak _ (refl, λ other. refl)
+looks_keep_the_run rules t seat Resume looks = (refl, λ other. refl)
+looks_keep_the_run rules t seat (Show (view.Proc p)) looks =
+    found-after t (KeepsRun t) (same_run t) (rules.process t.history p) NoProcess _ (λ process. same_run t)
+looks_keep_the_run rules t seat (Show view.Regs) looks = same_run t
+looks_keep_the_run rules t seat (Show view.Mail) looks = same_run t
+looks_keep_the_run rules t seat (Show view.History) looks = same_run t
+looks_keep_the_run rules t seat Decisions looks = same_run t
+looks_keep_the_run rules t seat (Step p act) looks = absurd looks
+looks_keep_the_run rules t seat (Auto p) looks = absurd looks
+looks_keep_the_run rules t seat (Lose s m p) looks = absurd looks
+looks_keep_the_run rules t seat (Undo p k) looks = absurd looks
+looks_keep_the_run rules t seat (UndoLost s m p) looks = absurd looks
+looks_keep_the_run rules t seat Redo looks = absurd looks
+looks_keep_the_run rules t seat Forget looks = absurd looks
+looks_keep_the_run rules t seat (Rollback p k) looks = absurd looks
+looks_keep_the_run rules t seat (RollbackLost s m p) looks = absurd looks
+
+pub forget_keeps_the_history : (rules : Rules) (t : State) (seat : ℕ) → (obey rules t seat Forget).history ≡ t.history
+unfolding outcome
+forget_keeps_the_history rules t seat = refl
+
+-- ---- the number of a breakpoint
+
+unless-sets : (b : Bool) (r : Refusal) (t : State) (go : Outcome) (number : ℕ)
+    → (go.reply ≡ reply.BreakSet number → (number ≡ t.next) × (go.after.next ≡ t.next + 1))
+    → (unless b r t go).reply ≡ reply.BreakSet number → (number ≡ t.next) × ((unless b r t go).after.next ≡ t.next + 1)
+unless-sets true r t go number h is = absurd (cc)
+unless-sets false r t go number h is = h is
+
+abbrev number_in : ToldReply → ℕ
+number_in (reply.BreakSet number) = number
+number_in _ = 0
+
+pub next_number_used : (rules : Rules) (t : State) (seat : ℕ) (stop : Stop) → UsesNextNumber rules t seat stop
+unfolding outcome
+next_number_used rules t seat stop number =
+    unless-sets (names_none_of t.setup.processes stop) NoProcess t _ number
+    (unless-sets (nat_le MAX_BREAKPOINTS (length t.stops)) BreakLimit t _ number
+    (λ is. (sym (ap (λ (r : ToldReply). number_in r) is), refl)))
+
+-- ---- one entry more
+
+state_extended : (rules : Parts → Rules) (c : Journaled) (seat : ℕ) (command : Command)
+    → control_state rules (extended rules c seat command) ≡ obey (rules c.setup) (control_state rules c) seat command
+state_extended rules c seat command = replay-push (rules c.setup) c.setup c.seats c.journal _
+
+refused_is : (it : ToldReply) → is_refused it ≡ true → (why : Refusal) × (it ≡ reply.Refused why)
+refused_is (reply.Refused why) is = (why, refl)
+refused_is _ is = absurd (cc)
+
+pub kept_if_refused : (rules : Parts → Rules) (old : Journaled) (seat : ℕ) (command : Command) {new : Journaled} {told : ToldReply}
+    → new ≡ extended rules old seat command → told ≡ reply_in rules old seat command → IsKeptIfRefused rules old new told
+kept_if_refused rules old seat command is same refused =
+    let why = refused_is (reply_in rules old seat command) (rw (← same) refused) in
+    ap (control_state rules) is ∙ state_extended rules old seat command
+    ∙ refused_changes_nothing (rules old.setup) (control_state rules old) seat command why.0 why.1
+
+pub keeps_other_lists : (rules : Parts → Rules) (old : Journaled) (seat : ℕ) (command : Command) {new : Journaled}
+    → new ≡ extended rules old seat command → KeepsOtherLists rules old new seat
+keeps_other_lists rules old seat command is other two =
+    ap (λ (c : Journaled). redo_of (control_state rules c) other) is
+    ∙ ap (λ (t : State). redo_of t other) (state_extended rules old seat command)
+    ∙ other_lists_stay (rules old.setup) (control_state rules old) seat other command two.0 two.1 two.2
+
+-- the same of a result
+pub all_kept_if_refused : (rules : Parts → Rules) (old new : Journaled) (seat : ℕ) (command : Command) (result : Result Reply CallFault)
+    → IfOk result (λ _. new ≡ extended rules old seat command) → IfOk result (λ r. told r ≡ reply_in rules old seat command)
+    → IfOk result (λ r. IsKeptIfRefused rules old new (told r))
+all_kept_if_refused rules old new seat command (Ok reply) is same = kept_if_refused rules old seat command is same
+all_kept_if_refused rules old new seat command (Err fault) is same = tt
+
+pub all_keep_other_lists : (rules : Parts → Rules) (old new : Journaled) (seat : ℕ) (command : Command) (result : Result Reply CallFault)
+    → IfOk result (λ _. new ≡ extended rules old seat command) → OnOk result (KeepsOtherLists rules old new seat)
+all_keep_other_lists rules old new seat command (Ok reply) is = keeps_other_lists rules old seat command is
+all_keep_other_lists rules old new seat command (Err fault) is = tt

@@ -2,7 +2,7 @@
 use Rattle.std.specs.Prelude.{ℕ, not, nat_le, if◌then◌else◌, is_some, List, Option, Some, None, Result, Err}
 use Rattle.cdb_base.specs.declared.act.Act.{Act}
 use Rattle.cdb_base.specs.declared.event.Event.{Event}
-use Rattle.cdb_base.specs.declared.limits.TheConstants.{MAX_STEPS}
+use Rattle.cdb_base.specs.Limits.{MAX_STEPS}
 use Rattle.cdb_base.specs.declared.refusal.Refusal.{Refusal}
 use Rattle.cdb_base.specs.declared.refusal.Refusal.TheVariants as refusal
 use Rattle.cdb_rules.specs.Auto.{first_act_of}

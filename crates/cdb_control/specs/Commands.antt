@@ -6,7 +6,7 @@ use Rattle.cdb_base.specs.Positions.{without_last}
 use Rattle.cdb_base.specs.declared.act.Act.{Act}
 use Rattle.cdb_base.specs.declared.event.Event.{Event}
 use Rattle.cdb_base.specs.declared.event.Event.TheVariants as event
-use Rattle.cdb_base.specs.declared.limits.TheConstants.{MAX_BREAKPOINTS}
+use Rattle.cdb_base.specs.Limits.{MAX_BREAKPOINTS}
 use Rattle.cdb_base.specs.declared.name.StepId.{StepId}
 use Rattle.cdb_base.specs.declared.refusal.Refusal.{Refusal}
 use Rattle.cdb_base.specs.declared.refusal.Refusal.TheVariants.{NoProcess, Paused, NothingToRedo, NoBreak, BreakLimit}

@@ -8,7 +8,7 @@ use Rattle.std.specs.Map.{remove_entry}
 use Rattle.cdb_commands.specs.declared.command.Stop.{Stop}
 use Rattle.cdb_control.specs.Stops.{Numbered, Stops}
 use Rattle.cdb_control.specs.Room.{StoredState}
-use Rattle.cdb_base.specs.declared.limits.TheConstants.{MAX_ENTRIES, MAX_SEATS}
+use Rattle.cdb_base.specs.Limits.{MAX_ENTRIES, MAX_SEATS}
 use Rattle.cdb_control.specs.declared.control.Entry.{Entry}
 use Rattle.cdb_setup.specs.Parts.{Parts, AreInRange}
 use Rattle.cdb_rules.specs.Rules.{Rules}
@@ -26,10 +26,6 @@ events_kept t = length t.history + waiting t.redo
 -- each event that stands or waits is one of a run of the setup
 abbrev pub AreOfRun : State → Type 0
 AreOfRun t = AllByRecursion (IsOfRun t.setup) t.history × AllByRecursion (AllByRecursion (IsOfRun t.setup)) t.redo
-
--- each number is below this one
-abbrev pub AreBelow : ℕ → Stops → Type 0
-AreBelow next stops = AllByRecursion (λ b. b.0 < next) stops
 
 abbrev pub with_stop : Numbered → Stop → Numbered
 with_stop b stop = record { stops = b.stops ++ (b.next, stop) ∷ []; next = b.next + 1 }

@@ -1,11 +1,13 @@
 -- The words of the laws: what they speak of.
-use Rattle.std.specs.Prelude.{◌≡◌, ℕ, ◌≢◌, ◌≤◌, [], ◌∷◌, ◌++◌, List}
+use Rattle.std.specs.Prelude.{◌≡◌, ℕ, ◌+◌, ◌≢◌, ◌≤◌, true, [], ◌∷◌, ◌++◌, List}
 use Rattle.cdb_base.specs.declared.refusal.Refusal.{Refusal}
-use Rattle.cdb_control.specs.Commands.{reply_of}
-use Rattle.cdb_control.specs.Journal.{Journaled, AreOfSeats, own, replies_in, extended, reply_in, replay}
-use Rattle.cdb_control.specs.State.{State}
-use Rattle.cdb_commands.specs.ToldReply.{Refused}
+use Rattle.cdb_control.specs.Commands.{reply_of, obey}
+use Rattle.cdb_control.specs.Journal.{Journaled, AreOfSeats, own, replies_in, extended, reply_in, control_state, replay}
+use Rattle.cdb_control.specs.State.{State, redo_of}
+use Rattle.cdb_commands.specs.ToldReply.{ToldReply, BreakSet, Refused, is_refused}
 use Rattle.cdb_commands.specs.declared.command.Command.{Command}
+use Rattle.cdb_commands.specs.declared.command.Stop.{Stop}
+use Rattle.cdb_commands.specs.declared.command.Command.TheVariants.{Why, WhyLost, Break, Unbreak, Resume, Show, Decisions}
 use Rattle.cdb_control.specs.declared.control.Entry.{Entry}
 use Rattle.cdb_rules.specs.Rules.{Rules}
 use Rattle.cdb_setup.specs.Parts.{Parts, AreInRange}
@@ -53,3 +55,35 @@ followed_by c more = record c { journal = c.journal ++ more }
 abbrev pub AddsReply : (Parts → Rules) → Journaled → ℕ → Command → Type 0
 AddsReply rules c seat command =
     replies_in rules seat (extended rules c seat command) ≡ replies_in rules seat c ++ reply_in rules c seat command ∷ []
+
+-- ---- what a command leaves as it was
+
+-- the control state, where the reply is a refusal
+abbrev pub IsKeptIfRefused : (Parts → Rules) → Journaled → Journaled → ToldReply → Type 0
+IsKeptIfRefused rules old new reply = is_refused reply ≡ true → control_state rules new ≡ control_state rules old
+
+-- the redo list of each other seat
+abbrev pub KeepsOtherLists : (Parts → Rules) → Journaled → Journaled → ℕ → Type 0
+KeepsOtherLists rules old new seat =
+    (other : ℕ) → AreTwoSeats seat other → redo_of (control_state rules new) other ≡ redo_of (control_state rules old) other
+
+-- commands that act on no run: they look, or are about breakpoints
+abbrev pub ActsOnNoRun : Command → Type 0
+ActsOnNoRun (Why p k) = Unit {0}
+ActsOnNoRun (WhyLost s m p) = Unit {0}
+ActsOnNoRun (Break stop) = Unit {0}
+ActsOnNoRun (Unbreak number) = Unit {0}
+ActsOnNoRun Resume = Unit {0}
+ActsOnNoRun (Show view) = Unit {0}
+ActsOnNoRun Decisions = Unit {0}
+ActsOnNoRun _ = ⊥
+
+-- the history, and the redo list of each seat
+abbrev pub KeepsRun : State → State → Type 0
+KeepsRun before after = (after.history ≡ before.history) × ((seat : ℕ) → redo_of after seat ≡ redo_of before seat)
+
+-- a breakpoint that is set gets the next number, and the one after it is next
+abbrev pub UsesNextNumber : Rules → State → ℕ → Stop → Type 0
+UsesNextNumber rules t seat stop =
+    (number : ℕ) → reply_of rules t seat (Break stop) ≡ BreakSet number
+    → (number ≡ t.next) × ((obey rules t seat (Break stop)).next ≡ t.next + 1)

@@ -1,5 +1,6 @@
 -- Breakpoints: a list of numbered stops in order of setting.
-use Rattle.std.specs.Prelude.{ℕ, ◌==◌, ◌≤◌, Bool, true, false, not, ◌&&◌, List, Contains, Option, Some, None, IsTrue, is_some, option_map, find}
+use Rattle.std.specs.Prelude.{ℕ, ◌==◌, ◌<◌, ◌≤◌, Bool, true, false, not, ◌&&◌, List, Contains, Option, Some, None, IsTrue, is_some, option_map, find}
+use Rattle.std.specs.List.{AllByRecursion}
 use Rattle.cdb_base.specs.Event.{is_step_of}
 use Rattle.cdb_base.specs.Registers.{same_register}
 use Rattle.cdb_base.specs.declared.event.Event.{Event}
@@ -14,6 +15,10 @@ use Rattle.cdb_rules.specs.Step.{is_among}
 
 abbrev pub Stops : Type 0
 Stops = List (ℕ × Stop)
+
+-- each number is below this one
+abbrev pub AreBelow : ℕ → Stops → Type 0
+AreBelow next stops = AllByRecursion (λ b. b.0 < next) stops
 
 abbrev pub is_receive : Event → Bool
 is_receive (Step p k (kind.Recv s m)) = true

@@ -6,6 +6,7 @@ ghost use Rattle.cdb_commands.specs.ToldReply.{told, as_reply};
 ghost use Rattle.cdb_control.specs.Auto.{choice};
 ghost use Rattle.cdb_control.specs.Headline.{Headline};
 ghost use Rattle.cdb_control.specs.Journal.{entry, opened, extended, reply_in, control_state, AreOfSeats, NeedsNoMemory};
+ghost use Rattle.cdb_control.specs.Laws.{IsKeptIfRefused, KeepsOtherLists};
 ghost use Rattle.cdb_control.specs.Room.{cost, room_of, with_room, raised};
 
 use crate::state::ControlState;
@@ -151,6 +152,8 @@ impl<R: Runs> Control<R> {
         ensures limit { length self.new.journal ≤ MAX_ENTRIES }
         ensures headline { Headline R.rules R.same_state
             self.new.setup self.new.seats self.new.journal }
+        ensures refused { IfOk result (λ r. IsKeptIfRefused R.rules self.old self.new (told r)) }
+        ensures others { OnOk result (KeepsOtherLists R.rules self.old self.new seat) }
         ensures spared { NeedsNoMemory R.rules self.old seat command →
             (refused : NoMemory) → result ≢ Err (CallFault.NoMemory refused) }
     {

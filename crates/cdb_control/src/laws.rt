@@ -2,12 +2,15 @@
 ghost use Rattle.std.specs.Prelude.{◌≡◌, ◌≤◌, ℕ};
 ghost use Rattle.cdb_base.specs.declared.act.Act.{Act};
 ghost use Rattle.cdb_commands.specs.declared.command.Command.{Command};
-ghost use Rattle.cdb_commands.specs.declared.command.Command.TheVariants.{Step, Auto};
+ghost use Rattle.cdb_commands.specs.declared.command.Stop.{Stop};
+ghost use Rattle.cdb_commands.specs.declared.command.Command.TheVariants.{Step, Auto, Forget};
 ghost use Rattle.cdb_control.specs.Commands.{TellsPause, reply_of, obey};
 ghost use Rattle.cdb_control.specs.Headline.{Headline};
 ghost use Rattle.cdb_control.specs.Journal.{replies_in};
-ghost use Rattle.cdb_control.specs.Laws.{followed_by, AddsReply, ForCommands, ForRefused, ForOtherSeats, ForSeats, ForOthers, ForJournals, InReplayed};
-ghost use Rattle.cdb_control.specs.State.{redo_of};
+ghost use Rattle.cdb_control.specs.Laws.{followed_by, ActsOnNoRun, AddsReply, KeepsRun, UsesNextNumber, ForCommands, ForRefused, ForOtherSeats, ForSeats, ForOthers, ForJournals, InReplayed};
+ghost use Rattle.cdb_control.specs.State.{State, redo_of};
+ghost use Rattle.cdb_control.specs.Stops.{AreBelow};
+ghost use Rattle.cdb_rules.specs.Rules.{Rules};
 
 use cdb_rules::Runs;
 
@@ -24,10 +27,23 @@ pub fn other_lists_stay()
         redo_of (obey rules t seat command) other ≡ redo_of t other) }
 {}
 
-/// The number of the next breakpoint never falls, so that no number is used again.
+/// No number of a breakpoint is used again: a breakpoint gets the next number, which never falls and is above those of all
+/// that stand.
 #[tactic(auto)]
-pub fn numbers_rise()
-    ensures { ForCommands (λ rules t seat command. t.next ≤ (obey rules t seat command).next) }
+pub fn numbers_are_used_once()
+    ensures next { (rules : Rules) (t : State) (seat : ℕ) (stop : Stop) →
+        UsesNextNumber rules t seat stop }
+    ensures rise { ForCommands (λ rules t seat command. t.next ≤ (obey rules t seat command).next) }
+    ensures above { InReplayed (λ rules t. AreBelow t.next t.stops) }
+{}
+
+/// A command that acts on no run leaves the history and all redo lists alone, and `forget` the history.
+#[tactic(auto)]
+pub fn looks_leave_the_run()
+    ensures looks { ForCommands (λ rules t seat command. ActsOnNoRun command →
+        KeepsRun t (obey rules t seat command)) }
+    ensures forget { (rules : Rules) (t : State) (seat : ℕ) →
+        (obey rules t seat Forget).history ≡ t.history }
 {}
 
 /// A step sets a pause by the least breakpoint that it fires, and by none where it fires none or a pause stands.

@@ -2,7 +2,7 @@
 //! commands. The state of a control is the replay of its journal.
 //!
 //! ```text
-//! let mut control: Control<RunOfSetup> = Control::open(alloc, setup, 1)?;
+//! let mut control: Control<AnyRun> = Control::open(alloc, setup, 1)?;
 //! let reply = control.execute(alloc, 1, Command::Auto(1))?;
 //! let journal = control.journal();
 //! ```

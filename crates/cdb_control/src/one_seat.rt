@@ -1,7 +1,7 @@
 //! A control of one seat, whose commands are given one after the other.
 
 ghost use Rattle.std.specs.Prelude.{◌≡◌, ◌≤◌, [], IfOk};
-ghost use Rattle.cdb_base.specs.declared.limits.TheConstants.{MAX_ENTRIES};
+ghost use Rattle.cdb_base.specs.Limits.{MAX_ENTRIES};
 ghost use Rattle.cdb_control.specs.OneSeat.{HasCarriedOut};
 ghost use Rattle.cdb_control.specs.Room.{room_of};
 

@@ -2,7 +2,7 @@
 ghost use Rattle.std.specs.Prelude.{◌≡◌, ◌↔◌, ◌≤◌, IsTrue, ◌==◌, ◌&&◌, [], IfOk, OnOk, OnErr, length, nat_eq, not, is_some};
 ghost use Rattle.std.specs.Map.{lookup};
 ghost use Rattle.cdb_base.specs.Event.{is_step_of};
-ghost use Rattle.cdb_base.specs.declared.limits.TheConstants.{MAX_ENTRIES};
+ghost use Rattle.cdb_base.specs.Limits.{MAX_ENTRIES};
 ghost use Rattle.cdb_control.specs.Stops.{fires, first_fired, is_receive, is_write_of, names_none_of};
 ghost use Rattle.cdb_control.specs.Kept.{with_stop, without_stop};
 ghost use Rattle.cdb_rules.specs.Step.{is_among};
@@ -82,7 +82,7 @@ pub struct Breakpoints {
 
 impl Model for Breakpoints {
     ghost use Rattle.cdb_control.specs.Stops.{Numbered};
-    ghost use Rattle.cdb_control.specs.Kept.{AreBelow};
+    ghost use Rattle.cdb_control.specs.Stops.{AreBelow};
 
     ghost Value = { Numbered };
 

@@ -3,3 +3,4 @@ pub mod Sending
 pub mod Parted
 pub mod Ended
 pub mod LastMarks
+pub mod Keeping

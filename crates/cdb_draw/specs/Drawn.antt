@@ -27,14 +27,14 @@ IsMissing history None = ⊥
 IsMissing history (Some step) = StandsNoStep history step.p step.k
 
 -- the text is the picture of the run, in which what led to the step is in full
-abbrev pub IsPictureFor : (Parts → Rules) → RunView → Option StepAsked → List ℕ → Type 0
-IsPictureFor rules run step text =
-    (position : Option ℕ) × IsPositionFor run.history step position × IsPicture rules run position text
+abbrev pub IsPictureFor : (Parts → Rules) → RunView → ℕ → Option StepAsked → List ℕ → Type 0
+IsPictureFor rules run columns step text =
+    (position : Option ℕ) × IsPositionFor run.history step position × IsPicture rules run columns position text
 
 -- the text is the picture of the run that the script leaves
-abbrev pub Draws : (Parts → Rules) → List ℕ → Option StepAsked → Stream → Stream → List ℕ → Type 0
-Draws rules json step old new text =
-    (run : RunView) × Leaves rules json old new run × IsPictureFor rules run step text
+abbrev pub Draws : (Parts → Rules) → List ℕ → ℕ → Option StepAsked → Stream → Stream → List ℕ → Type 0
+Draws rules json columns step old new text =
+    (run : RunView) × Leaves rules json old new run × IsPictureFor rules run columns step text
 
 -- the step does not stand in the run that the script leaves; else as a fault of a play
 abbrev pub IsFaultOfDraw : (Parts → Rules) → List ℕ → Option StepAsked → Stream → Stream → ExplainFault → Type 0

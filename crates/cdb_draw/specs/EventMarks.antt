@@ -1,22 +1,32 @@
--- The marks of a picture: one for each event, on the lane of its process, with its name and its whole text.
-use Rattle.std.specs.Prelude.{ℕ, Bool, List, [], ◌++◌, codes, decimal, Option, None, Some}
+-- The marks of a picture: one for each event, on the lane of its process, with its name and its whole text. What stands
+-- at a mark is at most as wide as a column: three rows above it, and below it the value that it carries, or the leader.
+use Rattle.std.specs.Prelude.{ℕ, Bool, List, [], ◌∷◌, ◌++◌, codes, decimal, Option, None, Some}
+use Rattle.std.specs.List.{concat}
 use Rattle.std.specs.Option.{option_map_or}
 use Rattle.cdb_base.specs.Positions.{nth}
 use Rattle.cdb_base.specs.declared.event.Event.{Event}
 use Rattle.cdb_base.specs.declared.event.Event.TheVariants.{Step, Lost}
 use Rattle.cdb_base.specs.declared.event.Kind.{Kind}
 use Rattle.cdb_base.specs.declared.event.Kind.TheVariants.{Query, Send, Recv, Read, Write, Local, Learn, Crash}
+use Rattle.cdb_base.specs.declared.payload.Payload.{Payload}
+use Rattle.cdb_base.specs.declared.payload.Payload.TheVariants.{P1, P2, D}
+use Rattle.cdb_base.specs.NameTexts.{message_text, register_text, step_text}
 use Rattle.cdb_control.specs.Commands.{decides}
 use Rattle.cdb_explain.specs.Explanations.{run_after, whole_text}
 use Rattle.cdb_explain.specs.Flagged.{is_flagged}
+use Rattle.cdb_message.specs.Mail.{MailState, message_name, payload_of}
+use Rattle.cdb_rules.specs.ByRules.{mail_in}
 use Rattle.cdb_rules.specs.RunView.{RunView}
 use Rattle.cdb_rules.specs.Rules.{Rules}
 use Rattle.cdb_setup.specs.Parts.{Parts}
-use Rattle.cdb_base.specs.NameTexts.{message_text, register_text, step_text}
-use Rattle.cdb_draw.specs.Arrows.{spot_text, weight_text}
+use Rattle.cdb_text.specs.Reports.{value_text}
+use Rattle.cdb_draw.specs.Arrows.{weight_text}
+use Rattle.cdb_draw.specs.Layout.{spot}
+use Rattle.cdb_draw.specs.Ways.{point_text}
+use Rattle.cdb_draw.specs.declared.layout.Grid.{Grid}
 
 -- what a step does, in a word: the name of the shape of its mark too
-unfoldable pub kind_word : Kind → List ℕ
+abbrev pub kind_word : Kind → List ℕ
 kind_word (Query leader) = codes "query"
 kind_word (Send m) = codes "send"
 kind_word (Recv s m) = codes "recv"
@@ -26,76 +36,94 @@ kind_word Local = codes "local"
 kind_word Learn = codes "learn"
 kind_word Crash = codes "crash"
 
--- with what: the leader, the message or the register
-unfoldable pub kind_with : ℕ → Kind → List ℕ
-kind_with p (Query leader) = decimal leader
+-- with what: the message or the register
+abbrev pub kind_with : ℕ → Kind → List ℕ
 kind_with p (Send m) = message_text p m
 kind_with p (Recv s m) = message_text s m
 kind_with p (Read register) = register_text register
 kind_with p (Write register) = register_text register
 kind_with p kind = []
 
--- a mark of that shape
-unfoldable pub shape_text : List ℕ → List ℕ
-shape_text shape = codes "<use href='#" ++ shape ++ codes "'/>"
+-- the shape of a mark, and the three rows above it: a step by its name and by what it does with what, a lost copy by
+-- its name
 
--- a row of text so far above the lane
-unfoldable pub row_open : ℕ → List ℕ
-row_open above = codes "<text y='-" ++ decimal above ++ codes "'>"
+abbrev pub shape_of : Event → List ℕ
+shape_of (Step p k kind) = kind_word kind
+shape_of (Lost copy) = codes "lost"
 
-unfoldable pub row_close : List ℕ
-row_close = codes "</text>"
+abbrev pub first_row : Event → List ℕ
+first_row (Step p k kind) = step_text p k
+first_row (Lost copy) = codes "lost"
 
-abbrev pub row_text : ℕ → List ℕ → List ℕ
-row_text above text = row_open above ++ text ++ row_close
+abbrev pub second_row : Event → List ℕ
+second_row (Step p k kind) = kind_word kind
+second_row (Lost copy) = message_text (copy.msg).s (copy.msg).m
 
--- three rows above the mark
-abbrev pub rows_text : List ℕ → List ℕ → List ℕ → List ℕ
-rows_text first second third = row_text 34 first ++ row_text 25 second ++ row_text 16 third
+abbrev pub third_row : Event → List ℕ
+third_row (Step p k kind) = kind_with p kind
+third_row (Lost copy) = codes "to " ++ decimal copy.to
 
--- `to P`
-unfoldable pub to_text : ℕ → List ℕ
-to_text p = codes "to " ++ decimal p
+-- ---- below it
 
--- a step by its name and by what it does with what, a lost copy by its name
-abbrev pub body_text : Event → List ℕ
-body_text (Step p k kind) =
-    shape_text (kind_word kind) ++ rows_text (step_text p k) (kind_word kind) (kind_with p kind)
-body_text (Lost copy) =
-    shape_text (codes "lost")
-    ++ rows_text (codes "lost") (message_text (copy.msg).s (copy.msg).m) (to_text copy.to)
+-- the value that a message carries
+abbrev pub value_of : Payload → Option ℕ
+value_of (P1 round est lead) = Some est
+value_of (P2 round aux) = aux
+value_of (D est) = Some est
 
--- a decision is a ring round the mark, and its value above it
-unfoldable pub decision_mark : ℕ → List ℕ
-decision_mark v = shape_text (codes "decided") ++ codes "<text class='decision' y='-46'>decides " ++ decimal v ++ row_close
+abbrev pub carried_text : Option Payload → List ℕ
+carried_text None = []
+carried_text (Some payload) = value_text (value_of payload)
+
+abbrev pub kind_below : MailState → ℕ → Kind → List ℕ
+kind_below mail p (Query leader) = codes "leader " ++ decimal leader
+kind_below mail p (Send m) = carried_text (payload_of mail (message_name p m))
+kind_below mail p (Recv s m) = carried_text (payload_of mail (message_name s m))
+kind_below mail p kind = []
+
+abbrev pub event_below : MailState → Event → List ℕ
+event_below mail (Step p k kind) = kind_below mail p kind
+event_below mail (Lost copy) = []
+
+-- a decision has its value there, a ring round the mark, and `decides` above it
+
+abbrev pub below_text : Option ℕ → MailState → Event → List ℕ
+below_text None mail event = event_below mail event
+below_text (Some v) mail event = decimal v
+
+abbrev pub below_class : Option ℕ → List ℕ
+below_class None = codes "value"
+below_class (Some v) = codes "decision"
 
 abbrev pub decided_text : Option ℕ → List ℕ
 decided_text None = []
-decided_text (Some v) = decision_mark v
+decided_text (Some v) = codes "<use href='#decided'/><text class='decision' y='-48'>decides</text>"
+
+-- ---- the mark
 
 -- the process on whose lane an event stands: a loss on that of the receiver
 abbrev pub lane_of : Event → ℕ
 lane_of (Step p k kind) = p
 lane_of (Lost copy) = copy.to
 
--- the beginning of a mark, at that point
-unfoldable pub open_text : Bool → List ℕ → List ℕ
-open_text full point =
-    codes "<g class='" ++ weight_text full ++ codes "' transform='translate(" ++ point ++ codes ")'>"
+-- the mark of an event at that position, where the run stands so after it, with its whole text
+unfoldable pub marked_text : (Parts → Rules) → Grid → RunView → Bool → ℕ → Event → List ℕ → List ℕ
+marked_text rules grid after full position event whole =
+    let decided = decides (rules after.setup) after.history event in
+    concat
+    (codes "<g class='" ∷ weight_text full ∷ codes "' transform='translate("
+    ∷ point_text (spot grid position (lane_of event)) ∷ codes ")'><title>" ∷ whole
+    ∷ codes "</title>" ∷ decided_text decided ∷ codes "<use href='#" ∷ shape_of event
+    ∷ codes "'/><text y='-37'>" ∷ first_row event ∷ codes "</text><text y='-26'>" ∷ second_row event
+    ∷ codes "</text><text y='-15'>" ∷ third_row event ∷ codes "</text><text class='" ∷ below_class decided
+    ∷ codes "' y='22'>" ∷ below_text decided (mail_in rules after) event ∷ codes "</text></g>\n" ∷ [])
 
--- what is shown where a pointer rests on the mark
-unfoldable pub title_text : List ℕ → List ℕ
-title_text whole = codes "<title>" ++ whole ++ codes "</title>"
+-- the whole text is shown where a pointer rests on the mark
+abbrev pub mark_text : (Parts → Rules) → Grid → RunView → RunView → Bool → ℕ → Event → List ℕ
+mark_text rules grid run after full position event =
+    marked_text rules grid after full position event (whole_text rules run after event)
 
-unfoldable pub mark_close : List ℕ
-mark_close = codes "</g>\n"
-
--- the mark of an event at that position, where the run stands so after it
-abbrev pub mark_text : (Parts → Rules) → RunView → RunView → Bool → ℕ → Event → List ℕ
-mark_text rules run after full position event =
-    open_text full (spot_text run.setup position (lane_of event)) ++ title_text (whole_text rules run after event)
-    ++ decided_text (decides (rules after.setup) after.history event) ++ body_text event ++ mark_close
-
-abbrev pub mark_at : (Parts → Rules) → RunView → List Bool → ℕ → List ℕ
-mark_at rules run flags position =
-    option_map_or (mark_text rules run (run_after run position) (is_flagged flags position) position) (nth run.history position) []
+abbrev pub mark_at : (Parts → Rules) → Grid → RunView → List Bool → ℕ → List ℕ
+mark_at rules grid run flags position =
+    let mark = mark_text rules grid run (run_after run position) (is_flagged flags position) position in
+    option_map_or mark (nth run.history position) []

@@ -1,66 +1,63 @@
--- The lanes of a picture: a line for each process, and in Alpha one for each register.
-use Rattle.std.specs.Prelude.{ℕ, List, [], ◌++◌, codes, decimal, length, unwrap_or}
-use Rattle.std.specs.List.{flat_map, range_with_len}
+-- The lanes of a picture, in each row: a line for each process, and in Alpha one for each register.
+use Rattle.std.specs.Prelude.{ℕ, ◌+◌, ◌-◌, ◌*◌, ◌/◌, ◌%◌, List, [], ◌∷◌, ◌++◌, codes, decimal, length, nat_eq, nat_le, nat_lt, unwrap_or, if◌then◌else◌}
+use Rattle.std.specs.List.{concat, flat_map, range_with_len}
 use Rattle.std.specs.Option.{option_map_or}
 use Rattle.cdb_base.specs.Positions.{nth}
 use Rattle.cdb_base.specs.declared.event.Event.{Event}
-use Rattle.cdb_base.specs.declared.register.Reg.{Reg}
-use Rattle.cdb_base.specs.declared.register.Reg.TheVariants.{R, Dec}
 use Rattle.cdb_rules.specs.RunView.{RunView}
 use Rattle.cdb_setup.specs.declared.setup.Algorithm.{Algorithm}
 use Rattle.cdb_setup.specs.declared.setup.Algorithm.TheVariants.{Leader, Alpha}
-use Rattle.cdb_base.specs.NameTexts.{register_text}
-use Rattle.cdb_draw.specs.Layout.{x_of, end_x, lane_y, register_y}
+use Rattle.cdb_draw.specs.Layout.{end_x, lane_y, register_y, row_of, rows_of, start_x, x_of}
 use Rattle.cdb_draw.specs.Positions.{crashed_at}
+use Rattle.cdb_draw.specs.declared.layout.Grid.{Grid}
 
--- the line of a lane: to its crash, or else to the edge
-unfoldable pub lane_path : ℕ → List ℕ
-lane_path end = codes "<path d='M64,0H" ++ decimal end ++ codes "'/></g>\n"
+-- a lane of that class, so far down: its name, what stands below the name, and its line
+unfoldable pub lane_text : List ℕ → ℕ → List ℕ → List ℕ → ℕ → List ℕ
+lane_text class y name detail end =
+    concat
+    (codes "<g class='" ∷ class ∷ codes "' transform='translate(0," ∷ decimal y ∷ codes ")'><text x='8'>" ∷ name
+    ∷ codes "</text><text class='input' x='8' y='12'>" ∷ detail ∷ codes "</text><path d='M72,0H" ∷ decimal end
+    ∷ codes "'/></g>\n" ∷ [])
 
-abbrev pub lane_end : List Event → ℕ → ℕ
-lane_end history p = option_map_or x_of (crashed_at history p) (end_x (length history))
+-- where the lane of a process ends in a row: at its crash, which leaves the later rows none, or else at the edge
+abbrev pub end_after : Grid → ℕ → ℕ → ℕ
+end_after grid row crash =
+    if nat_lt row (row_of grid crash) then end_x grid
+    else (if nat_eq row (row_of grid crash) then x_of grid crash else start_x)
 
--- a group of that class, so far down
-unfoldable pub lane_open : List ℕ → ℕ → List ℕ
-lane_open class y = codes "<g class='" ++ class ++ codes "' transform='translate(0," ++ decimal y ++ codes ")'>"
+abbrev pub lane_end : Grid → List Event → ℕ → ℕ → ℕ
+lane_end grid history row p = option_map_or (end_after grid row) (crashed_at history p) (end_x grid)
 
--- a process p and its input, and the line of its lane
-unfoldable pub process_lane_text : ℕ → ℕ → ℕ → ℕ → List ℕ
-process_lane_text y p input end =
-    lane_open (codes "lane") y
-    ++ codes "<text x='8'>p" ++ decimal p ++ codes "</text>"
-    ++ codes "<text class='input' x='8' y='12'>input " ++ decimal input ++ codes "</text>"
-    ++ lane_path end
+-- a process and its input
+abbrev pub process_lane : Grid → RunView → ℕ → ℕ → List ℕ
+process_lane grid run row p =
+    lane_text (codes "lane") (lane_y grid row p) (codes "p" ++ decimal p)
+    (codes "input " ++ decimal (unwrap_or (nth run.setup.inputs p) 0)) (lane_end grid run.history row p)
 
--- a register, and the line of its lane
-unfoldable pub register_lane_text : ℕ → Reg → ℕ → List ℕ
-register_lane_text y register end =
-    lane_open (codes "register") y
-    ++ codes "<text x='8' y='4'>" ++ register_text register ++ codes "</text>"
-    ++ lane_path end
+-- the k-th register: those of the processes, and then that of the decision
+abbrev pub register_name : Grid → ℕ → List ℕ
+register_name grid k = if nat_le k grid.processes then codes "r" ++ decimal k else codes "dec"
 
-abbrev pub process_lane : RunView → ℕ → List ℕ
-process_lane run p =
-    process_lane_text (lane_y run.setup p) p (unwrap_or (nth run.setup.inputs p) 0) (lane_end run.history p)
+abbrev pub register_lane_text : Grid → ℕ → ℕ → List ℕ
+register_lane_text grid row k =
+    lane_text (codes "register") (register_y grid row k) (register_name grid k) [] (end_x grid)
 
-abbrev pub register_lane : RunView → Reg → List ℕ
-register_lane run register =
-    register_lane_text (register_y run.setup register) register (end_x (length run.history))
+-- the k-th lane of a row: those of the processes, and then those of the registers
+abbrev pub lane_of_row : Grid → RunView → ℕ → ℕ → List ℕ
+lane_of_row grid run row k =
+    if nat_le k grid.processes then process_lane grid run row k
+    else register_lane_text grid row (k - grid.processes)
 
--- that of process p
-abbrev pub own_register_lane : RunView → ℕ → List ℕ
-own_register_lane run p = register_lane run (R p)
+-- how many there are
+abbrev pub lanes_by : Algorithm → ℕ → ℕ
+lanes_by Leader n = n
+lanes_by Alpha n = 2 * n + 1
 
-abbrev pub own_register_lanes : RunView → List ℕ
-own_register_lanes run = flat_map (own_register_lane run) (range_with_len 1 run.setup.processes)
+-- one lane of the whole, counted from 0 row by row, where each row has that many
+abbrev pub lane_at : Grid → RunView → ℕ → ℕ → List ℕ
+lane_at grid run lanes i = lane_of_row grid run (i / lanes) (i % lanes + 1)
 
-abbrev pub register_lanes_by : Algorithm → RunView → List ℕ
-register_lanes_by Leader run = []
-register_lanes_by Alpha run = own_register_lanes run ++ register_lane run Dec
-
-abbrev pub process_lanes : RunView → List ℕ
-process_lanes run = flat_map (process_lane run) (range_with_len 1 run.setup.processes)
-
--- a lane for each process, and then one for each register
-abbrev pub lanes_text : RunView → List ℕ
-lanes_text run = process_lanes run ++ register_lanes_by run.setup.algorithm run
+abbrev pub lanes_text : Grid → RunView → List ℕ
+lanes_text grid run =
+    let lanes = lanes_by run.setup.algorithm grid.processes in
+    flat_map (lane_at grid run lanes) (range_with_len 0 (rows_of grid (length run.history) * lanes))

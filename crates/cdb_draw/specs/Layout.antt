@@ -1,47 +1,88 @@
--- Where things stand in a picture, in quarters of a millimetre: x from the left, y from the top.
-use Rattle.std.specs.Prelude.{ℕ, ◌+◌, ◌-◌, ◌*◌}
-use Rattle.cdb_base.specs.declared.register.Reg.{Reg}
-use Rattle.cdb_base.specs.declared.register.Reg.TheVariants.{R, Dec}
+-- Where things stand in a picture, in quarters of a millimetre: x from the left, y from the top. Events stand in
+-- columns, each 13 mm after the one before it, so many to a row; each row has all lanes.
+use Rattle.std.specs.Prelude.{ℕ, ◌+◌, ◌-◌, ◌*◌, ◌/◌, ◌%◌, ◌≤◌, ◌||◌, max, nat_eq, nat_le, if◌then◌else◌}
+use Rattle.cdb_base.specs.Limits.{MAX_ENTRIES}
 use Rattle.cdb_setup.specs.Parts.{Parts}
 use Rattle.cdb_setup.specs.declared.setup.Algorithm.{Algorithm}
 use Rattle.cdb_setup.specs.declared.setup.Algorithm.TheVariants.{Leader, Alpha}
-
--- an event by its position in the history: each stands 6 mm after the one before it
-abbrev pub x_of : ℕ → ℕ
-x_of position = 60 + 24 * position
+use Rattle.cdb_draw.specs.declared.layout.Grid.{Grid}
+use Rattle.cdb_draw.specs.declared.layout.Point.{Point}
 
 -- how far the lanes of two processes are apart: arrows between them take more room than those to registers
 abbrev pub lane_gap : Algorithm → ℕ
-lane_gap Leader = 80
+lane_gap Leader = 88
 lane_gap Alpha = 60
 
--- the lane of process p
-abbrev pub lane_y : Parts → ℕ → ℕ
-lane_y setup p = 72 + lane_gap setup.algorithm * (p - 1)
+-- a row with all lanes, for that number of processes: at most 205 mm, on a page of 210
+abbrev pub row_height : Algorithm → ℕ → ℕ
+row_height Leader n = 88 * n + 20
+row_height Alpha n = 84 * n + 64
 
--- the lane of a register, below those of the processes: first the processes' own, then that of the decision
-abbrev pub register_y : Parts → Reg → ℕ
-register_y setup (R p) = lane_y setup setup.processes + 12 + 24 * p
-register_y setup Dec = lane_y setup setup.processes + 36 + 24 * setup.processes
+-- as many columns to a row as were asked for, or all in one row: where they are fewer, or where 0 were asked for
+abbrev pub columns_for : ℕ → ℕ → ℕ
+columns_for asked count = if nat_eq asked 0 || nat_le count asked then max count 1 else asked
 
--- ---- the picture as a whole, in millimetres
+-- the columns of a row, and what a row has, for that number of events
+abbrev pub grid_of : Parts → ℕ → ℕ → Grid
+grid_of setup asked count =
+    record {
+      columns = columns_for asked count;
+      processes = setup.processes;
+      gap = lane_gap setup.algorithm;
+      height = row_height setup.algorithm setup.processes;
+    }
 
--- with that number of events: 269 with 40, so that they fit a page of 297
-abbrev pub width : ℕ → ℕ
-width count = 29 + 6 * count
+-- what a grid is of
+pub record IsGrid (grid : Grid) : Type 0 where
+  pub some : 1 ≤ grid.columns
+  pub few : grid.columns ≤ MAX_ENTRIES
+  pub processes : grid.processes ≤ 9
+  pub a_process : 1 ≤ grid.processes
+  pub gap : grid.gap ≤ 88
+  pub height : grid.height ≤ 820
 
--- no picture is wider
-abbrev pub most_width : ℕ
-most_width = 9999999
+-- an event by its position in the history: its row, from 0, and its column
+abbrev pub row_of : Grid → ℕ → ℕ
+row_of grid position = (position - 1) / grid.columns
 
--- at most 205, on a page of 210
-abbrev pub height_by : Algorithm → ℕ → ℕ
-height_by Leader n = 7 + 20 * n
-height_by Alpha n = 16 + 21 * n
+abbrev pub x_of : Grid → ℕ → ℕ
+x_of grid position = 110 + 52 * ((position - 1) % grid.columns)
 
-abbrev pub height : Parts → ℕ
-height setup = height_by setup.algorithm setup.processes
+-- the lane of process p in a row
+abbrev pub lane_y : Grid → ℕ → ℕ → ℕ
+lane_y grid row p = 80 + row * grid.height + grid.gap * (p - 1)
 
--- where a lane ends that no crash ends: 2 mm before the edge
-abbrev pub end_x : ℕ → ℕ
-end_x count = 108 + 24 * count
+-- below those of the processes, the k-th lane of a register: first the processes' own, then that of the decision
+abbrev pub register_y : Grid → ℕ → ℕ → ℕ
+register_y grid row k = lane_y grid row grid.processes + 16 + 24 * k
+
+-- an event of process p at that position
+abbrev pub spot : Grid → ℕ → ℕ → Point
+spot grid position p = record { x = x_of grid position; y = lane_y grid (row_of grid position) p }
+
+-- no point is further off, and no lane
+pub record IsOnPage (point : Point) : Type 0 where
+  pub left : 110 ≤ point.x
+  pub right : point.x ≤ 52000110
+  pub top : 80 ≤ point.y
+  pub bottom : point.y ≤ 820001000
+
+-- where lanes begin, and where one ends that no crash ends
+abbrev pub start_x : ℕ
+start_x = 72
+
+abbrev pub end_x : Grid → ℕ
+end_x grid = 110 + 52 * grid.columns
+
+-- ---- the picture as a whole
+
+-- the rows of that number of events
+abbrev pub rows_of : Grid → ℕ → ℕ
+rows_of grid count = 1 + (count - 1) / grid.columns
+
+-- in millimetres, 297 with 20 columns
+abbrev pub width : Grid → ℕ
+width grid = 37 + 13 * grid.columns
+
+abbrev pub height : Grid → ℕ → ℕ
+height grid count = 20 + rows_of grid count * grid.height

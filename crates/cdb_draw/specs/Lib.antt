@@ -1,7 +1,10 @@
 -- ---- what the public contracts name
+pub mod Pieces
 pub mod Layout
 pub mod Positions
 pub mod Lanes
+pub mod Ways
+pub mod Apart
 pub mod Arrows
 pub mod EventMarks
 pub mod Picture

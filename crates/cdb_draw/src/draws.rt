@@ -6,6 +6,7 @@ ghost use Rattle.cdb_rules.specs.ByRules.{IsInOrder};
 ghost use Rattle.cdb_streams.specs.Endings.{pieces_ending};
 ghost use Rattle.cdb_streams.specs.Written.{IsWritten};
 
+use crate::layout::grid_of;
 use crate::picture::write_picture;
 use cdb_base::NoMemory;
 use cdb_base::limits::MAX_ENTRIES;
@@ -27,14 +28,16 @@ fn flags_of(alloc: Global, run: &Chronicle, position: Option<usize>) -> Result<V
     }
 }
 
-/// Writes the picture of a run of at most 999,999 events. With a position of its history, from 1, what led to the
-/// event there is drawn in full and the rest pale; without one everything is in full.
+/// Writes the picture of a run of at most 999,999 events, so many columns to a row; with 0 all are in one row. With a
+/// position of its history, from 1, what led to the event there is drawn in full and the rest pale; without one
+/// everything is in full.
 ///
 /// After `Write` what was written is a beginning of the picture, and after `NoMemory` nothing, or one of whole
 /// pieces of 65,536 bytes.
 pub fn draw_run<T: Runs, W: Sink>(
     alloc: Global,
     run: &Chronicle,
+    columns: u32,
     position: Option<usize>,
     out: &mut W,
 ) -> Result<(), OutputFault>
@@ -42,9 +45,11 @@ pub fn draw_run<T: Runs, W: Sink>(
     requires few { length run.now.history ≤ MAX_ENTRIES }
     requires stands { IfSome position (λ at. (1 ≤ at) × (at ≤ length run.now.history)) }
     ensures { IsWritten W.stream (pieces_ending result) out.old out.new
-        (IsPicture T.rules run.now position) }
+        (IsPicture T.rules run.now columns position) }
 {
     let flags = flags_of(alloc, run, position)?;
-    write_picture::<T, W>(alloc, run, flags.as_slice(), out)?;
+    let history = run.history();
+    let grid = grid_of(run.setup(), columns as usize, history.len());
+    write_picture::<T, W>(alloc, grid, run, flags.as_slice(), out)?;
     Ok(())
 }

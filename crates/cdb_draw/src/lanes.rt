@@ -1,152 +1,172 @@
 //! The lanes of a picture.
 
-ghost use Rattle.std.specs.Prelude.{◌≡◌, ◌≤◌, length};
-ghost use Rattle.cdb_draw.specs.Lanes.{lane_end, lane_open, lanes_text, lane_path, own_register_lanes, process_lane, process_lanes, process_lane_text, register_lane, register_lanes_by, register_lane_text};
-ghost use Rattle.cdb_text.specs.Pushes.{Pushes};
+ghost use Rattle.std.specs.Prelude.{◌≡◌, ◌+◌, ◌*◌, ◌≤◌, length};
+ghost use Rattle.cdb_draw.specs.Lanes.{end_after, lane_at, lane_end, lane_of_row, lane_text, lanes_by, lanes_text, process_lane, register_lane_text, register_name};
+ghost use Rattle.cdb_draw.specs.Layout.{grid_of, IsGrid};
+ghost use Rattle.cdb_draw.specs.Pieces.{piece_text, pieces_text};
+ghost use Rattle.cdb_streams.specs.Putting.{Puts};
 
-use crate::layout::{end_x, lane_y, register_y, x_of};
-use crate::piece::{push, push_number, push_process, push_register, push_val};
+use crate::layout::{Grid, end_x, lane_y, register_y, row_of, rows_of, x_of};
+use crate::piece::Piece::{After, Number, Text};
+use crate::piece::{Piece, put_each};
 use crate::sends::crashed_at;
+use cdb_base::Proc;
 use cdb_base::limits::MAX_ENTRIES;
-use cdb_base::{Proc, Reg, Val};
 use cdb_history::History;
 use cdb_past::Chronicle;
 use cdb_setup::Algorithm;
-use std::alloc::AllocError;
+use cdb_streams::{Buffer, OutputFault, Sink};
 
-/// Adds the line of a lane, to where it ends.
-fn push_line(text: &mut String, end: usize) -> Result<(), AllocError>
-    ensures { Pushes result text.old text.new (lane_path end) }
+/// A lane of that class, so far down.
+#[tactic(auto, unfolding(crate::specs::Lanes::lane_text))]
+fn lane(
+    class: &'static str,
+    y: usize,
+    name: Piece<'static>,
+    detail: Piece<'static>,
+    end: usize,
+) -> [Piece<'static>; 11]
+    ensures { pieces_text result
+        ≡ lane_text class.now y (piece_text name.entry) (piece_text detail.entry) end }
 {
-    push(text, "<path d='M64,0H")?;
-    push_number(text, end)?;
-    push(text, "'/></g>\n")
+    [
+        Text("<g class='"),
+        Text(class),
+        Text("' transform='translate(0,"),
+        Number(y),
+        Text(")'><text x='8'>"),
+        name,
+        Text("</text><text class='input' x='8' y='12'>"),
+        detail,
+        Text("</text><path d='M72,0H"),
+        Number(end),
+        Text("'/></g>\n"),
+    ]
 }
 
-/// Where the lane of a process ends: at its crash, or else at the edge.
-fn lane_end(history: &History, p: Proc) -> usize
-    requires { length history.now ≤ MAX_ENTRIES }
-    ensures { result ≡ lane_end history.now p }
+/// Where the lane of a process that crashes ends in a row.
+fn end_after(grid: Grid, row: usize, crash: usize) -> usize
+    requires grid { IsGrid grid }
+    requires crash { crash ≤ MAX_ENTRIES }
+    ensures { result ≡ end_after grid row crash }
+{
+    let last = row_of(grid, crash);
+    if row < last {
+        end_x(grid)
+    } else if row == last {
+        x_of(grid, crash)
+    } else {
+        72
+    }
+}
+
+/// Where the lane of a process ends in a row.
+fn lane_end(grid: Grid, history: &History, row: usize, p: Proc) -> usize
+    requires grid { IsGrid grid }
+    requires few { length history.now ≤ MAX_ENTRIES }
+    ensures { result ≡ lane_end grid history.now row p }
 {
     match crashed_at(history, p) {
-        Some(position) => x_of(position),
-        None => end_x(history.len()),
+        Some(crash) => end_after(grid, row, crash),
+        None => end_x(grid),
     }
 }
 
-/// Begins a lane of that class, so far down.
-fn push_open(text: &mut String, class: &str, y: usize) -> Result<(), AllocError>
-    ensures { Pushes result text.old text.new (lane_open class.now y) }
-{
-    push(text, "<g class='")?;
-    push(text, class)?;
-    push(text, "' transform='translate(0,")?;
-    push_number(text, y)?;
-    push(text, ")'>")
-}
-
-/// Adds a process, its input, and the line of its lane.
-#[tactic(auto, unfolding(crate::specs::Lanes::process_lane_text))]
-fn push_process_text(
-    text: &mut String,
-    y: usize,
-    p: Proc,
-    input: Val,
-    end: usize,
-) -> Result<(), AllocError>
-    ensures { Pushes result text.old text.new (process_lane_text y p input end) }
-{
-    push_open(text, "lane", y)?;
-    push(text, "<text x='8'>p")?;
-    push_process(text, p)?;
-    push(text, "</text>")?;
-    push(text, "<text class='input' x='8' y='12'>input ")?;
-    push_val(text, input)?;
-    push(text, "</text>")?;
-    push_line(text, end)
-}
-
-/// Adds a register, and the line of its lane.
-#[tactic(auto, unfolding(crate::specs::Lanes::register_lane_text))]
-fn push_register_text(
-    text: &mut String,
-    y: usize,
-    register: Reg,
-    end: usize,
-) -> Result<(), AllocError>
-    ensures { Pushes result text.old text.new (register_lane_text y register end) }
-{
-    push_open(text, "register", y)?;
-    push(text, "<text x='8' y='4'>")?;
-    push_register(text, register)?;
-    push(text, "</text>")?;
-    push_line(text, end)
-}
-
-/// Adds the lane of a process.
-fn push_process_lane(text: &mut String, run: &Chronicle, p: Proc) -> Result<(), AllocError>
+/// The lane of a process in a row.
+fn process_lane(grid: Grid, run: &Chronicle, row: usize, p: Proc) -> [Piece<'static>; 11]
+    requires grid { IsGrid grid }
     requires few { length run.now.history ≤ MAX_ENTRIES }
+    requires row { row ≤ MAX_ENTRIES }
     requires among { p ≤ run.now.setup.processes }
-    ensures { Pushes result text.old text.new (process_lane run.now p) }
+    ensures { pieces_text result ≡ process_lane grid run.now row p }
 {
+    let end = lane_end(grid, run.history(), row, p);
     let setup = run.setup();
-    let end = lane_end(run.history(), p);
-    push_process_text(text, lane_y(setup, p), p, setup.input(p), end)
+    let input = setup.input(p).number() as usize;
+    let number = usize::from(p.number());
+    lane(
+        "lane",
+        lane_y(grid, row, p),
+        After("p", number),
+        After("input ", input),
+        end,
+    )
 }
 
-/// Adds the lane of a register.
-fn push_register_lane(text: &mut String, run: &Chronicle, register: Reg) -> Result<(), AllocError>
-    requires { length run.now.history ≤ MAX_ENTRIES }
-    ensures { Pushes result text.old text.new (register_lane run.now register) }
+/// The lane of the `k`-th register in a row.
+fn register_lane(grid: Grid, row: usize, k: usize) -> [Piece<'static>; 11]
+    requires grid { IsGrid grid }
+    requires row { row ≤ MAX_ENTRIES }
+    requires few { k ≤ 10 }
+    ensures { pieces_text result ≡ register_lane_text grid row k }
 {
-    let again = register;
-    let y = register_y(run.setup(), again);
+    let name = if k <= grid.processes {
+        After("r", k)
+    } else {
+        Text("dec")
+    };
+    lane(
+        "register",
+        register_y(grid, row, k),
+        name,
+        Text(""),
+        end_x(grid),
+    )
+}
+
+/// The `k`-th lane of a row.
+fn lane_of_row(grid: Grid, run: &Chronicle, row: usize, k: usize) -> [Piece<'static>; 11]
+    requires grid { IsGrid grid }
+    requires processes { grid.processes ≡ run.now.setup.processes }
+    requires few { length run.now.history ≤ MAX_ENTRIES }
+    requires row { row ≤ MAX_ENTRIES }
+    requires from_one { 1 ≤ k }
+    requires to_last { k ≤ grid.processes + grid.processes + 1 }
+    ensures { pieces_text result ≡ lane_of_row grid run.now row k }
+{
+    if k <= grid.processes {
+        process_lane(grid, run, row, Proc::new(k as u8))
+    } else {
+        register_lane(grid, row, k - grid.processes)
+    }
+}
+
+/// How many lanes a row has.
+fn lanes_by(algorithm: Algorithm, processes: usize) -> usize
+    requires some { 1 ≤ processes }
+    requires few { processes ≤ 9 }
+    ensures value { result ≡ lanes_by algorithm processes }
+    ensures some { 1 ≤ result }
+    ensures few { result ≤ processes + processes + 1 }
+{
+    match algorithm {
+        Algorithm::Leader => processes,
+        Algorithm::Alpha => 2 * processes + 1,
+    }
+}
+
+/// Puts the lanes of all rows.
+pub(crate) fn put_lanes<W: Sink>(
+    grid: Grid,
+    run: &Chronicle,
+    buffer: &mut Buffer,
+    out: &mut W,
+) -> Result<(), OutputFault>
+    requires grid { IsGrid grid }
+    requires processes { grid.processes ≡ run.now.setup.processes }
+    requires few { length run.now.history ≤ MAX_ENTRIES }
+    ensures { Puts W.stream result out.old buffer.old out.new buffer.new
+        (lanes_text grid run.now) }
+{
+    let lanes = lanes_by(run.setup().algorithm(), grid.processes);
     let history = run.history();
-    push_register_text(text, y, register, end_x(history.len()))
-}
-
-/// Adds the lanes of the processes' registers.
-fn push_own_registers(text: &mut String, run: &Chronicle) -> Result<(), AllocError>
-    requires { length run.now.history ≤ MAX_ENTRIES }
-    ensures { Pushes result text.old text.new (own_register_lanes run.now) }
-{
-    for i in 0..run.setup().n() {
-        push_register_lane(text, run, Reg::R(Proc::new(i + 1)))?;
+    let rows = rows_of(grid, history.len());
+    for i in 0..rows * lanes {
+        put_each(
+            &lane_of_row(grid, run, i / lanes, i % lanes + 1),
+            buffer,
+            out,
+        )?;
     }
     Ok(())
-}
-
-/// Adds the lanes of the registers, of which Alpha alone has some.
-fn push_register_lanes(text: &mut String, run: &Chronicle) -> Result<(), AllocError>
-    requires { length run.now.history ≤ MAX_ENTRIES }
-    ensures { Pushes result text.old text.new
-        (register_lanes_by run.now.setup.algorithm run.now) }
-{
-    match run.setup().algorithm() {
-        Algorithm::Leader => Ok(()),
-        Algorithm::Alpha => {
-            push_own_registers(text, run)?;
-            push_register_lane(text, run, Reg::Dec)
-        }
-    }
-}
-
-/// Adds the lanes of the processes.
-fn push_process_lanes(text: &mut String, run: &Chronicle) -> Result<(), AllocError>
-    requires { length run.now.history ≤ MAX_ENTRIES }
-    ensures { Pushes result text.old text.new (process_lanes run.now) }
-{
-    for i in 0..run.setup().n() {
-        push_process_lane(text, run, Proc::new(i + 1))?;
-    }
-    Ok(())
-}
-
-/// Adds all lanes. Only out of memory is an error.
-pub(crate) fn push_lanes(text: &mut String, run: &Chronicle) -> Result<(), AllocError>
-    requires { length run.now.history ≤ MAX_ENTRIES }
-    ensures { Pushes result text.old text.new (lanes_text run.now) }
-{
-    push_process_lanes(text, run)?;
-    push_register_lanes(text, run)
 }

@@ -1,76 +1,158 @@
 //! Where things stand in a picture.
 
-ghost use Rattle.std.specs.Prelude.{◌≡◌, ◌≤◌};
-ghost use Rattle.cdb_draw.specs.Layout.{end_x, height, lane_gap, lane_y, register_y, width, x_of};
+ghost use Rattle.std.specs.Prelude.{◌≡◌, ◌+◌, ◌≤◌};
+ghost use Rattle.cdb_draw.specs.Layout.{columns_for, end_x, grid_of, height, IsGrid, IsOnPage, lane_gap, lane_y, register_y, row_height, row_of, rows_of, spot, width, x_of};
 
+use cdb_base::Proc;
 use cdb_base::limits::MAX_ENTRIES;
-use cdb_base::{Proc, Reg};
 use cdb_setup::{Algorithm, Setup};
 
-/// The event at a position of the history, from 1.
-pub(crate) fn x_of(position: usize) -> usize
-    requires { position ≤ MAX_ENTRIES }
-    ensures { result ≡ x_of position }
+/// As many columns to a row fit a page that lies.
+pub const COLUMNS: u32 = 20;
+
+/// The columns of a row, and what a row has.
+#[derive(Clone, Copy)]
+pub struct Grid {
+    pub columns: usize,
+    pub processes: usize,
+    /// How far the lanes of two processes are apart.
+    pub gap: usize,
+    /// How far two rows are apart.
+    pub height: usize,
+}
+
+/// A point, in quarters of a millimetre from the left and from the top.
+#[derive(Clone, Copy)]
+pub struct Point {
+    pub x: usize,
+    pub y: usize,
+}
+
+/// How many columns a row has, if so many were asked for.
+fn columns_for(asked: usize, count: usize) -> usize
+    requires { count ≤ MAX_ENTRIES }
+    ensures value { result ≡ columns_for asked count }
+    ensures some { 1 ≤ result }
+    ensures few { result ≤ MAX_ENTRIES }
 {
-    60 + 24 * position
+    if asked == 0 || count <= asked {
+        count.max(1)
+    } else {
+        asked
+    }
+}
+
+/// The grid of that number of events, with so many columns to a row; with 0 all are in one row.
+pub(crate) fn grid_of(setup: &Setup, asked: usize, count: usize) -> Grid
+    requires { count ≤ MAX_ENTRIES }
+    ensures value { result ≡ grid_of setup.now asked count }
+    ensures fits { IsGrid result }
+{
+    let processes = usize::from(setup.n());
+    let columns = columns_for(asked, count);
+    match setup.algorithm() {
+        Algorithm::Leader => Grid {
+            columns,
+            processes,
+            gap: 88,
+            height: 88 * processes + 20,
+        },
+        Algorithm::Alpha => Grid {
+            columns,
+            processes,
+            gap: 60,
+            height: 84 * processes + 64,
+        },
+    }
+}
+
+/// The row of the event at a position of the history, from 1.
+pub(crate) fn row_of(grid: Grid, position: usize) -> usize
+    requires grid { IsGrid grid }
+    requires position { position ≤ MAX_ENTRIES }
+    ensures value { result ≡ row_of grid position }
+    ensures few { result ≤ MAX_ENTRIES }
+{
+    position.saturating_sub(1) / grid.columns
+}
+
+/// Where its column is.
+pub(crate) fn x_of(grid: Grid, position: usize) -> usize
+    requires grid { IsGrid grid }
+    requires position { position ≤ MAX_ENTRIES }
+    ensures value { result ≡ x_of grid position }
+    ensures least { 110 ≤ result }
+    ensures most { result ≤ 52_000_110 }
+{
+    110 + 52 * (position.saturating_sub(1) % grid.columns)
+}
+
+/// The lane of a process in a row.
+pub(crate) fn lane_y(grid: Grid, row: usize, p: Proc) -> usize
+    requires grid { IsGrid grid }
+    requires row { row ≤ MAX_ENTRIES }
+    ensures value { result ≡ lane_y grid row p }
+    ensures least { 80 ≤ result }
+    ensures most { result ≤ 820_001_000 }
+{
+    80 + row * grid.height + grid.gap * p.index()
+}
+
+/// The lane of the `k`-th register in a row.
+pub(crate) fn register_y(grid: Grid, row: usize, k: usize) -> usize
+    requires grid { IsGrid grid }
+    requires row { row ≤ MAX_ENTRIES }
+    requires few { k ≤ 10 }
+    ensures { result ≡ register_y grid row k }
+{
+    80 + row * grid.height + grid.gap * (grid.processes - 1) + 16 + 24 * k
+}
+
+/// Where the event of a process at a position of the history, from 1, stands.
+pub(crate) fn spot(grid: Grid, position: usize, p: Proc) -> Point
+    requires grid { IsGrid grid }
+    requires position { position ≤ MAX_ENTRIES }
+    ensures value { result ≡ spot grid position p }
+    ensures within { IsOnPage result }
+{
+    let x = x_of(grid, position);
+    let y = lane_y(grid, row_of(grid, position), p);
+    Point { x, y }
 }
 
 /// Where a lane ends that no crash ends.
-pub(crate) fn end_x(count: usize) -> usize
-    requires { count ≤ MAX_ENTRIES }
-    ensures { result ≡ end_x count }
+pub(crate) fn end_x(grid: Grid) -> usize
+    requires { IsGrid grid }
+    ensures { result ≡ end_x grid }
 {
-    108 + 24 * count
+    110 + 52 * grid.columns
+}
+
+/// How many rows that number of events has.
+pub(crate) fn rows_of(grid: Grid, count: usize) -> usize
+    requires grid { IsGrid grid }
+    requires few { count ≤ MAX_ENTRIES }
+    ensures value { result ≡ rows_of grid count }
+    ensures some { 1 ≤ result }
+    ensures most { result ≤ MAX_ENTRIES + 1 }
+{
+    1 + count.saturating_sub(1) / grid.columns
 }
 
 /// How wide the picture is, in millimetres.
-pub(crate) fn width(count: usize) -> usize
-    requires { count ≤ MAX_ENTRIES }
-    ensures { result ≡ width count }
+pub(crate) fn width(grid: Grid) -> usize
+    requires { IsGrid grid }
+    ensures value { result ≡ width grid }
+    ensures most { result ≤ 13_000_024 }
 {
-    29 + 6 * count
+    37 + 13 * grid.columns
 }
 
-/// How high the picture is, in millimetres.
-pub(crate) fn height(setup: &Setup) -> usize
-    ensures value { result ≡ height setup.now }
-    ensures least { result ≤ 999 }
+/// How high the picture of that number of events is.
+pub(crate) fn height(grid: Grid, count: usize) -> usize
+    requires grid { IsGrid grid }
+    requires few { count ≤ MAX_ENTRIES }
+    ensures { result ≡ height grid count }
 {
-    let n = usize::from(setup.n());
-    match setup.algorithm() {
-        Algorithm::Leader => 7 + 20 * n,
-        Algorithm::Alpha => 16 + 21 * n,
-    }
-}
-
-/// How far the lanes of two processes are apart.
-fn lane_gap(algorithm: Algorithm) -> usize
-    ensures value { result ≡ lane_gap algorithm }
-    ensures most { result ≤ 80 }
-{
-    match algorithm {
-        Algorithm::Leader => 80,
-        Algorithm::Alpha => 60,
-    }
-}
-
-/// The lane of a process.
-pub(crate) fn lane_y(setup: &Setup, p: Proc) -> usize
-    ensures value { result ≡ lane_y setup.now p }
-    ensures most { result ≤ 712 }
-{
-    let gap = lane_gap(setup.algorithm());
-    72 + gap * p.index()
-}
-
-/// The lane of a register.
-pub(crate) fn register_y(setup: &Setup, register: Reg) -> usize
-    ensures { result ≡ register_y setup.now register }
-{
-    let n = setup.n();
-    let last = lane_y(setup, Proc::new(n));
-    match register {
-        Reg::R(p) => last + 12 + 24 * usize::from(p.number()),
-        Reg::Dec => last + 36 + 24 * usize::from(n),
-    }
+    20 + rows_of(grid, count) * grid.height
 }

@@ -4,6 +4,7 @@
 mod arrow;
 mod draws;
 mod lanes;
+mod laws;
 mod layout;
 mod mark;
 mod picture;
@@ -11,6 +12,9 @@ mod piece;
 mod script;
 mod sends;
 pub mod style;
+mod way;
 
 pub use draws::draw_run;
+pub use laws::arrows_keep_off_marks;
+pub use layout::COLUMNS;
 pub use script::{StepAsked, draw};

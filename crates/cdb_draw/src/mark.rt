@@ -1,211 +1,188 @@
 //! The marks of a picture.
 
-ghost use Rattle.std.specs.Prelude.{◌≡◌, ◌≤◌};
-ghost use Rattle.cdb_control.specs.Commands.{decides};
-ghost use Rattle.cdb_draw.specs.Arrows.{spot_text};
-ghost use Rattle.cdb_draw.specs.EventMarks.{body_text, decided_text, decision_mark, kind_with, kind_word, lane_of, mark_close, mark_text, open_text, row_close, row_open, row_text, shape_text, title_text, to_text};
-ghost use Rattle.cdb_explain.specs.Explanations.{whole_text};
-ghost use Rattle.cdb_base.specs.NameTexts.{message_text, step_text};
-ghost use Rattle.cdb_text.specs.Pushes.{Pushes};
+ghost use Rattle.std.specs.Prelude.{◌≡◌, ◌≤◌, [], option_copied, string_bytes};
+ghost use Rattle.cdb_draw.specs.EventMarks.{below_class, below_text, carried_text, decided_text, event_below, first_row, kind_below, kind_with, kind_word, lane_of, mark_text, marked_text, second_row, shape_of, third_row, value_of};
+ghost use Rattle.cdb_draw.specs.Layout.{IsGrid};
+ghost use Rattle.cdb_draw.specs.Pieces.{piece_text, pieces_text};
+ghost use Rattle.cdb_base.specs.NameTexts.{message_text, register_text};
+ghost use Rattle.cdb_message.specs.Mail.{payload_of};
+ghost use Rattle.cdb_rules.specs.ByRules.{mail_in};
+ghost use Rattle.cdb_streams.specs.Putting.{Puts};
+ghost use Rattle.cdb_text.specs.Reports.{value_text};
 
-use crate::arrow::{push_spot, push_weight};
-use crate::piece::{push, push_message, push_number, push_process, push_register, push_val};
+use crate::arrow::weight;
+use crate::layout::{Grid, spot};
+use crate::piece::Piece::{After, Between, Number, Text};
+use crate::piece::{Piece, put_each};
 use cdb_base::limits::MAX_ENTRIES;
-use cdb_base::{CopyName, Event, Kind, MsgName, Proc, Val};
+use cdb_base::{Event, Kind, MsgName, Payload, Proc, Reg, Val};
 use cdb_explain::{decision_by, push_whole};
 use cdb_rules::Runs;
-use cdb_setup::Setup;
-use std::alloc::{AllocError, Global};
+use cdb_streams::{Buffer, OutputFault, Sink};
+use std::alloc::Global;
 
-/// Adds what a step does, in a word.
-#[tactic(auto, unfolding(crate::specs::EventMarks::kind_word))]
-fn push_word(text: &mut String, kind: Kind) -> Result<(), AllocError>
-    ensures { Pushes result text.old text.new (kind_word kind) }
+/// What a step does, in a word.
+fn word_of(kind: Kind) -> &'static str
+    ensures { result.now ≡ kind_word kind }
 {
     match kind {
-        Kind::Query(_) => push(text, "query"),
-        Kind::Send(_) => push(text, "send"),
-        Kind::Recv(..) => push(text, "recv"),
-        Kind::Read(_) => push(text, "read"),
-        Kind::Write(_) => push(text, "write"),
-        Kind::Local => push(text, "local"),
-        Kind::Learn => push(text, "learn"),
-        Kind::Crash => push(text, "crash"),
+        Kind::Query(_) => "query",
+        Kind::Send(_) => "send",
+        Kind::Recv(..) => "recv",
+        Kind::Read(_) => "read",
+        Kind::Write(_) => "write",
+        Kind::Local => "local",
+        Kind::Learn => "learn",
+        Kind::Crash => "crash",
     }
 }
 
-/// Adds with what a step of process `p` does what it does.
-#[tactic(auto, unfolding(crate::specs::EventMarks::kind_with))]
-fn push_with(text: &mut String, p: Proc, kind: Kind) -> Result<(), AllocError>
-    ensures { Pushes result text.old text.new (kind_with p kind) }
+/// The name of a message.
+fn message(s: Proc, m: u16) -> Piece<'static>
+    ensures { piece_text result ≡ message_text s m }
 {
-    match kind {
-        Kind::Query(leader) => push_process(text, leader),
-        Kind::Send(m) => push_message(text, MsgName { s: p, m }),
-        Kind::Recv(s, m) => push_message(text, MsgName { s, m }),
-        Kind::Read(register) | Kind::Write(register) => push_register(text, register),
-        Kind::Local | Kind::Learn | Kind::Crash => Ok(()),
+    Between(usize::from(s.number()), "#", usize::from(m))
+}
+
+/// The name of a register.
+fn register(register: Reg) -> Piece<'static>
+    ensures { piece_text result ≡ register_text register }
+{
+    match register {
+        Reg::R(p) => After("r", usize::from(p.number())),
+        Reg::Dec => Text("dec"),
     }
 }
 
-/// Adds the mark of the shape that a step of that kind has.
-fn push_kind_shape(text: &mut String, kind: Kind) -> Result<(), AllocError>
-    ensures { Pushes result text.old text.new (shape_text (kind_word kind)) }
+/// With what a step of process `p` does what it does.
+fn with_of(p: Proc, kind: Kind) -> Piece<'static>
+    ensures { piece_text result ≡ kind_with p kind }
 {
-    push(text, "<use href='#")?;
-    push_word(text, kind)?;
-    push(text, "'/>")
+    match kind {
+        Kind::Send(m) => message(p, m),
+        Kind::Recv(s, m) => message(s, m),
+        Kind::Read(it) | Kind::Write(it) => register(it),
+        Kind::Query(_) | Kind::Local | Kind::Learn | Kind::Crash => Text(""),
+    }
 }
 
-/// Adds the mark of that shape.
-fn push_shape(text: &mut String, shape: &str) -> Result<(), AllocError>
-    ensures { Pushes result text.old text.new (shape_text shape.now) }
-{
-    push(text, "<use href='#")?;
-    push(text, shape)?;
-    push(text, "'/>")
-}
-
-/// Begins the row that stands so far above the lane.
-#[tactic(auto, unfolding(crate::specs::EventMarks::row_open))]
-fn push_row(text: &mut String, above: usize) -> Result<(), AllocError>
-    ensures { Pushes result text.old text.new (row_open above) }
-{
-    push(text, "<text y='-")?;
-    push_number(text, above)?;
-    push(text, "'>")
-}
-
-/// Ends a row.
-#[tactic(auto, unfolding(crate::specs::EventMarks::row_close))]
-fn end_row(text: &mut String) -> Result<(), AllocError>
-    ensures { Pushes result text.old text.new row_close }
-{
-    push(text, "</text>")
-}
-
-/// Adds the row with the name of a step.
-fn push_name_row(text: &mut String, p: Proc, k: u16) -> Result<(), AllocError>
-    ensures { Pushes result text.old text.new (row_text 34 (step_text p k)) }
-{
-    push_row(text, 34)?;
-    push_step_name(text, p, k)?;
-    end_row(text)
-}
-
-/// Adds the name of a step.
-fn push_step_name(text: &mut String, p: Proc, k: u16) -> Result<(), AllocError>
-    ensures { Pushes result text.old text.new (step_text p k) }
-{
-    let p = p.number();
-    write!(text, "{p}.{k}")
-}
-
-/// Adds the row with what a step does.
-fn push_word_row(text: &mut String, kind: Kind) -> Result<(), AllocError>
-    ensures { Pushes result text.old text.new (row_text 25 (kind_word kind)) }
-{
-    push_row(text, 25)?;
-    push_word(text, kind)?;
-    end_row(text)
-}
-
-/// Adds the row with what a step does it.
-fn push_with_row(text: &mut String, p: Proc, kind: Kind) -> Result<(), AllocError>
-    ensures { Pushes result text.old text.new (row_text 16 (kind_with p kind)) }
-{
-    push_row(text, 16)?;
-    push_with(text, p, kind)?;
-    end_row(text)
-}
-
-/// Adds the shape and the rows of a step.
-fn push_step(text: &mut String, p: Proc, k: u16, kind: Kind) -> Result<(), AllocError>
-    ensures { Pushes result text.old text.new (body_text (Event.Step p k kind)) }
-{
-    let (shape, word) = (kind, kind);
-    let name = p;
-    push_kind_shape(text, shape)?;
-    push_name_row(text, name, k)?;
-    push_word_row(text, word)?;
-    push_with_row(text, p, kind)
-}
-
-/// Adds the row with a fixed word.
-fn push_fixed_row(text: &mut String, word: &str) -> Result<(), AllocError>
-    ensures { Pushes result text.old text.new (row_text 34 word.now) }
-{
-    push_row(text, 34)?;
-    push(text, word)?;
-    end_row(text)
-}
-
-/// Adds the row with the message of a lost copy.
-fn push_message_row(text: &mut String, name: MsgName) -> Result<(), AllocError>
-    ensures { Pushes result text.old text.new (row_text 25 (message_text name.s name.m)) }
-{
-    push_row(text, 25)?;
-    push_message(text, name)?;
-    end_row(text)
-}
-
-/// Adds `to P`.
-#[tactic(auto, unfolding(crate::specs::EventMarks::to_text))]
-fn push_to(text: &mut String, p: Proc) -> Result<(), AllocError>
-    ensures { Pushes result text.old text.new (to_text p) }
-{
-    push(text, "to ")?;
-    push_process(text, p)
-}
-
-/// Adds the row with the receiver of a lost copy.
-fn push_to_row(text: &mut String, p: Proc) -> Result<(), AllocError>
-    ensures { Pushes result text.old text.new (row_text 16 (to_text p)) }
-{
-    push_row(text, 16)?;
-    push_to(text, p)?;
-    end_row(text)
-}
-
-/// Adds the cross and the rows of a lost copy.
-fn push_loss(text: &mut String, copy: CopyName) -> Result<(), AllocError>
-    ensures { Pushes result text.old text.new (body_text (Event.Lost copy)) }
-{
-    let CopyName { msg, to } = copy;
-    push_shape(text, "lost")?;
-    push_fixed_row(text, "lost")?;
-    push_message_row(text, msg)?;
-    push_to_row(text, to)
-}
-
-/// Adds the shape and the rows of an event.
-fn push_body(text: &mut String, event: &Event) -> Result<(), AllocError>
-    ensures { Pushes result text.old text.new (body_text event.now) }
+/// The shape of the mark of an event.
+fn shape_of(event: &Event) -> &'static str
+    ensures { result.now ≡ shape_of event.now }
 {
     match *event {
-        Event::Step { p, k, kind } => push_step(text, p, k, kind),
-        Event::Lost(copy) => push_loss(text, copy),
+        Event::Step { kind, .. } => word_of(kind),
+        Event::Lost(_) => "lost",
     }
 }
 
-/// Adds the ring and the value of a decision.
-#[tactic(auto, unfolding(crate::specs::EventMarks::decision_mark))]
-fn push_decision(text: &mut String, value: Val) -> Result<(), AllocError>
-    ensures { Pushes result text.old text.new (decision_mark value) }
+/// The name of a step, or `lost`.
+fn first_row(event: &Event) -> Piece<'static>
+    ensures { piece_text result ≡ first_row event.now }
 {
-    push_shape(text, "decided")?;
-    push(text, "<text class='decision' y='-46'>decides ")?;
-    push_val(text, value)?;
-    end_row(text)
+    match *event {
+        Event::Step { p, k, .. } => Between(usize::from(p.number()), ".", usize::from(k)),
+        Event::Lost(_) => Text("lost"),
+    }
 }
 
-/// Adds a decision, if there is one.
-fn push_decided(text: &mut String, value: Option<Val>) -> Result<(), AllocError>
-    ensures { Pushes result text.old text.new (decided_text value) }
+/// What a step does, or the message of a lost copy.
+fn second_row(event: &Event) -> Piece<'static>
+    ensures { piece_text result ≡ second_row event.now }
+{
+    match *event {
+        Event::Step { kind, .. } => Text(word_of(kind)),
+        Event::Lost(copy) => {
+            let name = copy.msg;
+            message(name.s, name.m)
+        }
+    }
+}
+
+/// With what, or the receiver of a lost copy.
+fn third_row(event: &Event) -> Piece<'static>
+    ensures { piece_text result ≡ third_row event.now }
+{
+    match *event {
+        Event::Step { p, kind, .. } => with_of(p, kind),
+        Event::Lost(copy) => After("to ", usize::from(copy.to.number())),
+    }
+}
+
+/// A value, or `none`.
+fn value(value: Option<Val>) -> Piece<'static>
+    ensures { piece_text result ≡ value_text value }
 {
     match value {
-        Some(value) => push_decision(text, value),
-        None => Ok(()),
+        Some(value) => Number(value.number() as usize),
+        None => Text("none"),
+    }
+}
+
+/// The value that a message carries.
+fn value_of(payload: &Payload) -> Option<Val>
+    ensures { result ≡ value_of payload.now }
+{
+    match *payload {
+        Payload::P1 { est, .. } | Payload::D { est } => Some(est),
+        Payload::P2 { aux, .. } => aux,
+    }
+}
+
+/// The value that a message of a run carries, where it was sent.
+fn carried<T: Runs>(run: &T, name: MsgName) -> Piece<'static>
+    ensures { piece_text result
+        ≡ carried_text (payload_of (mail_in T.rules (T.run run.now)) name) }
+{
+    match run.payload(name) {
+        Some(payload) => value(value_of(payload)),
+        None => Text(""),
+    }
+}
+
+/// What stands below the mark of an event that decides nothing.
+fn event_below<T: Runs>(run: &T, event: &Event) -> Piece<'static>
+    ensures { piece_text result ≡ event_below (mail_in T.rules (T.run run.now)) event.now }
+{
+    match *event {
+        Event::Step { p, kind, .. } => match kind {
+            Kind::Query(leader) => After("leader ", usize::from(leader.number())),
+            Kind::Send(m) => carried(run, MsgName { s: p, m }),
+            Kind::Recv(s, m) => carried(run, MsgName { s, m }),
+            _ => Text(""),
+        },
+        Event::Lost(_) => Text(""),
+    }
+}
+
+/// What stands below the mark of an event.
+fn below<T: Runs>(run: &T, event: &Event, decided: Option<Val>) -> Piece<'static>
+    ensures { piece_text result
+        ≡ below_text decided (mail_in T.rules (T.run run.now)) event.now }
+{
+    match decided {
+        Some(value) => Number(value.number() as usize),
+        None => event_below(run, event),
+    }
+}
+
+/// How it looks.
+fn below_class(decided: Option<Val>) -> &'static str
+    ensures { result.now ≡ below_class decided }
+{
+    match decided {
+        Some(_) => "decision",
+        None => "value",
+    }
+}
+
+/// The ring of a decision, and its word.
+fn ring(decided: Option<Val>) -> &'static str
+    ensures { result.now ≡ decided_text decided }
+{
+    match decided {
+        Some(_) => "<use href='#decided'/><text class='decision' y='-48'>decides</text>",
+        None => "",
     }
 }
 
@@ -219,64 +196,73 @@ fn lane_of(event: &Event) -> Proc
     }
 }
 
-/// Begins the mark of an event at a position, from 1.
-fn push_open(
-    text: &mut String,
-    setup: &Setup,
-    full: bool,
-    position: usize,
-    p: Proc,
-) -> Result<(), AllocError>
-    requires { position ≤ MAX_ENTRIES }
-    ensures { Pushes result text.old text.new (open_text full (spot_text setup.now position p)) }
-{
-    push(text, "<g class='")?;
-    push_weight(text, full)?;
-    push(text, "' transform='translate(")?;
-    push_spot(text, setup, position, p)?;
-    push(text, ")'>")
-}
-
-/// Ends the mark of an event.
-#[tactic(auto, unfolding(crate::specs::EventMarks::mark_close))]
-fn push_close(text: &mut String) -> Result<(), AllocError>
-    ensures { Pushes result text.old text.new mark_close }
-{
-    push(text, "</g>\n")
-}
-
-/// Adds the whole text of the last event of a run, which is shown where a pointer rests on the mark.
-#[tactic(auto, unfolding(crate::specs::EventMarks::title_text))]
-fn push_title<T: Runs>(
-    alloc: Global,
-    text: &mut String,
-    run: &T,
-    event: &Event,
-) -> Result<(), AllocError>
-    ensures { Pushes result text.old text.new
-        (title_text (whole_text T.rules (T.run run.now) (T.run run.now) event.now)) }
-{
-    push(text, "<title>")?;
-    push_whole(alloc, text, run, event)?;
-    push(text, "</title>")
-}
-
-/// Adds the mark of the last event of a run, which stands at a position, from 1. Only out of memory is an error.
-pub(crate) fn push_mark<T: Runs>(
-    alloc: Global,
-    text: &mut String,
+/// The mark of the last event of a run, which stands at a position, from 1.
+#[tactic(auto, unfolding(crate::specs::EventMarks::marked_text))]
+fn mark<'a, T: Runs>(
+    grid: Grid,
     run: &T,
     full: bool,
     position: usize,
     event: &Event,
-) -> Result<(), AllocError>
-    requires { position ≤ MAX_ENTRIES }
-    ensures { Pushes result text.old text.new
-        (mark_text T.rules (T.run run.now) (T.run run.now) full position event.now) }
+    whole: &'a str,
+) -> [Piece<'a>; 21]
+    requires grid { IsGrid grid }
+    requires position { position ≤ MAX_ENTRIES }
+    ensures { pieces_text result
+        ≡ marked_text T.rules grid (T.run run.now) full position event.now whole.entry.now }
 {
-    push_open(text, run.setup(), full, position, lane_of(event))?;
-    push_title(alloc, text, run, event)?;
-    push_decided(text, decision_by(run, event))?;
-    push_body(text, event)?;
-    push_close(text)
+    let decided = decision_by(run, event);
+    let (first, second) = (decided, decided);
+    let (ring, class) = (ring(first), below_class(second));
+    let below = below(run, event, decided);
+    let at = spot(grid, position, lane_of(event));
+    [
+        Text("<g class='"),
+        Text(weight(full)),
+        Text("' transform='translate("),
+        Between(at.x, ",", at.y),
+        Text(")'><title>"),
+        Text(whole),
+        Text("</title>"),
+        Text(ring),
+        Text("<use href='#"),
+        Text(shape_of(event)),
+        Text("'/><text y='-37'>"),
+        first_row(event),
+        Text("</text><text y='-26'>"),
+        second_row(event),
+        Text("</text><text y='-15'>"),
+        third_row(event),
+        Text("</text><text class='"),
+        Text(class),
+        Text("' y='22'>"),
+        below,
+        Text("</text></g>\n"),
+    ]
+}
+
+/// Puts the mark of the last event of a run, which stands at a position, from 1. Its whole text is made in `whole`.
+pub(crate) fn put_mark<T: Runs, W: Sink>(
+    alloc: Global,
+    grid: Grid,
+    run: &T,
+    full: bool,
+    position: usize,
+    event: &Event,
+    whole: &mut String,
+    buffer: &mut Buffer,
+    out: &mut W,
+) -> Result<(), OutputFault>
+    requires grid { IsGrid grid }
+    requires position { position ≤ MAX_ENTRIES }
+    ensures { Puts W.stream result out.old buffer.old out.new buffer.new
+        (mark_text T.rules grid (T.run run.now) (T.run run.now) full position event.now) }
+{
+    whole.clear();
+    push_whole(alloc, whole, run, event)?;
+    put_each(
+        &mark(grid, run, full, position, event, whole.as_str()),
+        buffer,
+        out,
+    )
 }

@@ -1,60 +1,70 @@
-//! Pieces of a picture's text.
+//! The pieces of a picture's text, and how they are written.
 
-ghost use Rattle.std.specs.Prelude.{◌≡◌, decimal};
-ghost use Rattle.cdb_text.specs.Pushes.{Pushes};
-ghost use Rattle.cdb_base.specs.NameTexts.{message_text, register_text};
+ghost use Rattle.cdb_draw.specs.Pieces.{piece_text, pieces_text};
+ghost use Rattle.cdb_streams.specs.Putting.{Puts};
+ghost use Rattle.std.specs.Prelude.{decimal};
 
-use cdb_base::{MsgName, Proc, Reg, Val};
-use std::alloc::AllocError;
+use cdb_streams::{Buffer, OutputFault, Sink};
 
-/// Adds a piece that is fixed.
-pub(crate) fn push(text: &mut String, piece: &str) -> Result<(), AllocError>
-    ensures { Pushes result text.old text.new piece.now }
-{
-    text.push_str(piece)
+/// A piece of a text; numbers are decimal.
+#[derive(Clone, Copy)]
+pub enum Piece<'a> {
+    Text(&'a str),
+    Number(usize),
+    /// A text, and a number after it.
+    After(&'a str, usize),
+    /// A text between two numbers.
+    Between(usize, &'a str, usize),
 }
 
-/// Adds a number.
-pub(crate) fn push_number(text: &mut String, number: usize) -> Result<(), AllocError>
-    ensures { Pushes result text.old text.new (decimal number) }
+/// Puts a text.
+fn put_text<W: Sink>(text: &str, buffer: &mut Buffer, out: &mut W) -> Result<(), OutputFault>
+    ensures { Puts W.stream result out.old buffer.old out.new buffer.new text.now }
 {
-    write!(text, "{number}")
+    buffer.put(out, text.as_bytes())?;
+    Ok(())
 }
 
-/// Adds the number of a process.
-pub(crate) fn push_process(text: &mut String, p: Proc) -> Result<(), AllocError>
-    ensures { Pushes result text.old text.new (decimal p) }
+/// Puts a number.
+fn put_number<W: Sink>(number: usize, buffer: &mut Buffer, out: &mut W) -> Result<(), OutputFault>
+    ensures { Puts W.stream result out.old buffer.old out.new buffer.new (decimal number) }
 {
-    let number = p.number();
-    write!(text, "{number}")
+    let mut digits = itoa::Buffer::new();
+    buffer.put(out, digits.format(number).as_bytes())?;
+    Ok(())
 }
 
-/// Adds a value.
-pub(crate) fn push_val(text: &mut String, value: Val) -> Result<(), AllocError>
-    ensures { Pushes result text.old text.new (decimal value) }
+/// Puts a piece.
+fn put_piece<W: Sink>(piece: Piece<'_>, buffer: &mut Buffer, out: &mut W) -> Result<(), OutputFault>
+    ensures { Puts W.stream result out.old buffer.old out.new buffer.new
+        (piece_text piece.entry) }
 {
-    let number = value.number();
-    write!(text, "{number}")
-}
-
-/// Adds the name of a message.
-pub(crate) fn push_message(text: &mut String, name: MsgName) -> Result<(), AllocError>
-    ensures { Pushes result text.old text.new (message_text name.s name.m) }
-{
-    let s = name.s.number();
-    let m = name.m;
-    write!(text, "{s}#{m}")
-}
-
-/// Adds the name of a register.
-pub(crate) fn push_register(text: &mut String, register: Reg) -> Result<(), AllocError>
-    ensures { Pushes result text.old text.new (register_text register) }
-{
-    match register {
-        Reg::R(p) => {
-            let number = p.number();
-            write!(text, "r{number}")
+    match piece {
+        Piece::Text(text) => put_text(text, buffer, out),
+        Piece::Number(number) => put_number(number, buffer, out),
+        Piece::After(text, number) => {
+            put_text(text, buffer, out)?;
+            put_number(number, buffer, out)
         }
-        Reg::Dec => text.push_str("dec"),
+        Piece::Between(first, text, second) => {
+            put_number(first, buffer, out)?;
+            put_text(text, buffer, out)?;
+            put_number(second, buffer, out)
+        }
     }
+}
+
+/// Puts pieces, one after the other.
+pub(crate) fn put_each<W: Sink>(
+    pieces: &[Piece<'_>],
+    buffer: &mut Buffer,
+    out: &mut W,
+) -> Result<(), OutputFault>
+    ensures { Puts W.stream result out.old buffer.old out.new buffer.new
+        (pieces_text pieces.now) }
+{
+    for piece in pieces {
+        put_piece(*piece, buffer, out)?;
+    }
+    Ok(())
 }

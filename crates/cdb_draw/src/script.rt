@@ -45,22 +45,23 @@ fn position_for(history: &History, step: Option<StepAsked>) -> Result<Option<usi
 fn write_drawing<T: Runs, W: Sink>(
     alloc: Global,
     run: &Chronicle,
+    columns: u32,
     step: Option<StepAsked>,
     out: &mut W,
 ) -> Result<(), ExplainFault>
     requires valid { IsInOrder T.rules run.now }
     requires few { length run.now.history ≤ MAX_ENTRIES }
     ensures wrote { IsWritten W.stream (draw_ending result) out.old out.new
-        (IsPictureFor T.rules run.now step) }
+        (IsPictureFor T.rules run.now columns step) }
     ensures fault { IfErr result (IsFaultOfStep (IsMissing run.now.history step)) }
 {
     let position = position_for(run.history(), step)?;
-    draw_run::<T, W>(alloc, run, position, out)?;
+    draw_run::<T, W>(alloc, run, columns, position, out)?;
     Ok(())
 }
 
-/// Draws the run that a script leaves, and writes the picture as SVG. With a step what led to it is drawn in full and
-/// the rest pale; without one everything is in full.
+/// Draws the run that a script leaves, and writes the picture as SVG, so many columns to a row; with 0 all are in one
+/// row. With a step what led to it is drawn in full and the rest pale; without one everything is in full.
 ///
 /// The setup is read first, then the whole script, then all its lines, and the step is looked for before anything is
 /// written. So after `Write` what was written is a beginning of the picture; after `NoMemory` nothing was, or whole
@@ -70,11 +71,12 @@ pub fn draw<T: Chronicled, R: Source, W: Sink>(
     alloc: Global,
     setup: &[u8],
     script: &mut R,
+    columns: u32,
     step: Option<StepAsked>,
     out: &mut W,
 ) -> Result<(), ExplainFault>
     ensures wrote { IsWritten W.stream (draw_ending result) out.old out.new
-        (Draws T.rules setup.now step (R.stream script.old) (R.stream script.new)) }
+        (Draws T.rules setup.now columns step (R.stream script.old) (R.stream script.new)) }
     ensures fault { IfErr result
         (IsFaultOfDraw T.rules setup.now step (R.stream script.old) (R.stream script.new)) }
     ensures unread { (fault : SetupFaultName) →
@@ -82,5 +84,5 @@ pub fn draw<T: Chronicled, R: Source, W: Sink>(
     ensures read { FailsWhere R.stream (result ≡ Err (of_play play.Read)) script.old script.new }
 {
     let run = run_left_by::<T, R>(alloc, setup, script)?;
-    write_drawing::<T, W>(alloc, &run, step, out)
+    write_drawing::<T, W>(alloc, &run, columns, step, out)
 }

@@ -1,7 +1,7 @@
 //! The run that a script leaves: its commands are carried out one after the other, without their replies.
 
 ghost use Rattle.std.specs.Prelude.{◌≡◌, ◌≢◌, ◌<◌, ◌≤◌, [], length, Err, IfErr, IfOk, OnOk};
-ghost use Rattle.cdb_base.specs.declared.limits.TheConstants.{MAX_ENTRIES};
+ghost use Rattle.cdb_base.specs.Limits.{MAX_ENTRIES};
 ghost use Rattle.cdb_control.specs.Journal.{extended};
 ghost use Rattle.cdb_control.specs.OneSeat.{HasCarriedOut};
 ghost use Rattle.cdb_explain.specs.Left.{LeavesOnHeadline};

@@ -1,8 +1,8 @@
 //! The run that a script leaves, and what led to a step of it, as text.
 //!
 //! ```text
-//! let run = run_left_by::<RunOfSetup, _>(alloc, setup, &mut script)?;
-//! let text = explain_step::<RunOfSetup>(alloc, &run, 2, None)?;
+//! let run = run_left_by::<AnyRun, _>(alloc, setup, &mut script)?;
+//! let text = explain_step::<AnyRun>(alloc, &run, 2, None)?;
 //! ```
 #![tactic(auto)]
 

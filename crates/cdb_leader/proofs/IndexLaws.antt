@@ -1,7 +1,9 @@
 -- How the index of an inbox changes with its last message, and what is read by it.
-use Rattle.std.proofs.Common.{◌≡◌, ℕ, zero, suc, ◌<◌, Bool, true, false, cond, List, [], ◌∷◌, ◌++◌, Option, Some, None, length, arith, refl, ap, sym, subst, ◌∙◌, eq-eqb, eqb-true}
-use Rattle.std.specs.Prelude.{◌==◌, if◌then◌else◌, is_some, not, nat_eq}
-use Rattle.std.proofs.lemmas.Bool.{ne_eqb}
+use Rattle.std.proofs.lemmas.Grind.{common_steps}
+use Rattle.std.proofs.lemmas.Option.{gets}
+use Rattle.std.proofs.Common.{◌≡◌, ℕ, zero, suc, ◌<◌, Bool, true, false, cond, List, [], ◌∷◌, ◌++◌, Option, Some, None, length, arith, refl, ap, sym, subst}
+use Rattle.std.proofs.Common.{◌∙◌, eqb-true}
+use Rattle.std.specs.Prelude.{◌==◌, if◌then◌else◌, is_some, nat_eq}
 use Rattle.std.specs.Option.{option_map, option_or}
 use Rattle.std.specs.HashMap.{get}
 use Rattle.cdb_base.specs.declared.payload.Payload.{Payload}
@@ -13,59 +15,50 @@ use Rattle.cdb_leader.specs.declared.row.Row.{Row}
 use Rattle.cdb_leader.specs.declared.index.Index.{Index}
 use Rattle.cdb_leader.specs.Inbox.{first_given, first_phase, second_phase, as_decision}
 use Rattle.cdb_leader.specs.Spot.{noted, forgotten}
-use Rattle.cdb_leader.specs.Index.{message_round, first_position, position_from, ChangesFrom, reads_from, AreFirsts, vote_in, are_different, IsRowOf, IsEmptyRow, IsRoundOf, IsIndexOf}
+use Rattle.cdb_leader.specs.Index.{message_round, first_position, position_from, ChangesFrom, reads_from, AreFirsts, vote_in, are_different, IsRowOf}
+use Rattle.cdb_leader.specs.Index.{IsEmptyRow, IsRoundOf, IsIndexOf}
 
 -- ---- the first that passes
 
 push_by : {X : Type 0} (test : X → Bool) (x : X) (xs : List X) (y : X) (a b : Bool)
     → first_position test (xs ++ y ∷ []) ≡ (if b then noted (length xs) (first_position test xs) else first_position test xs)
     → (if a then Some zero else option_map suc (first_position test (xs ++ y ∷ [])))
-    ≡ (if b then noted (suc (length xs)) (if a then Some zero else option_map suc (first_position test xs)) else (if a then Some zero else option_map suc (first_position test xs)))
-push_by test x xs y true true h = refl
-push_by test x xs y true false h = refl
-push_by test x xs y false true h = ap (option_map suc) h ∙ moved (first_position test xs) where
-  moved : (o : Option ℕ) → option_map suc (noted (length xs) o) ≡ noted (suc (length xs)) (option_map suc o)
-  moved None = refl
-  moved (Some i) = refl
-push_by test x xs y false false h = ap (option_map suc) h
+    ≡ (if b then noted (suc (length xs)) (if a then Some zero else option_map suc (first_position test xs)) else
+    (if a then Some zero else option_map suc (first_position test xs)))
+push_by test x xs y a b h1 = grind (arith, common_steps, gets)
 
 pub first_position-push : {X : Type 0} (test : X → Bool) (xs : List X) (y : X)
     → first_position test (xs ++ y ∷ []) ≡ (if test y then noted (length xs) (first_position test xs) else first_position test xs)
 first_position-push test [] y = refl
-first_position-push test (x ∷ xs) y = push_by test x xs y (test x) (test y) (first_position-push test xs y)
+first_position-push test (x ∷ xs) y = push_by test x xs y _ _ (first_position-push test xs y)
 
 within_by : {X : Type 0} (xs : List X) (i : ℕ) (a : Bool) (o : Option ℕ) → ((j : ℕ) → o ≡ Some j → j < length xs)
     → (if a then Some zero else option_map suc o) ≡ Some i → i < suc (length xs)
-within_by xs i true o below e = let at : zero ≡ i = cc in omega arith
-within_by xs i false None below e = absurd (cc)
-within_by xs i false (Some j) below e = let at : suc j ≡ i = cc in let under = below j refl in omega arith
+within_by xs i a o h1 h2 = grind (arith, common_steps, gets)
 
 pub first_position-within : {X : Type 0} (test : X → Bool) (xs : List X) (i : ℕ) → first_position test xs ≡ Some i → i < length xs
 first_position-within test [] i h = absurd (cc)
-first_position-within test (x ∷ xs) i h = within_by xs i (test x) (first_position test xs) (λ j. first_position-within test xs j) h
+first_position-within test (x ∷ xs) i h = within_by xs i _ _ (λ j. first_position-within test xs j) h
 
 -- the first of a list with one more is forgotten, where it is that one
 kept : (n : ℕ) (o : Option ℕ) → ((i : ℕ) → o ≡ Some i → i < n) → forgotten n (noted n o) ≡ o
-kept n None h = let same : (n == n) ≡ true = eq-eqb n n refl in rw same refl
-kept n (Some i) h = let below : i < n = h i refl in let other : (i == n) ≡ false = ne_eqb i n (λ e. omega arith) in rw other refl
+kept n o h1 = grind (arith, common_steps, gets)
 
 pub first_position-forget : {X : Type 0} (test : X → Bool) (xs : List X) (y : X)
     → first_position test xs ≡ (if test y then forgotten (length xs) (first_position test (xs ++ y ∷ [])) else first_position test (xs ++ y ∷ []))
 first_position-forget test xs y = by_last (test y) (first_position test (xs ++ y ∷ [])) (first_position-push test xs y) where
   by_last : (b : Bool) (o : Option ℕ) → o ≡ (if b then noted (length xs) (first_position test xs) else first_position test xs)
       → first_position test xs ≡ (if b then forgotten (length xs) o else o)
-  by_last true o e = sym (ap (forgotten (length xs)) e ∙ kept (length xs) (first_position test xs) (first_position-within test xs))
+  by_last true o e = sym (ap (forgotten (length xs)) e ∙ kept _ _ (first_position-within test xs))
   by_last false o e = sym e
 
 -- ---- a position is forgotten, whatever the last element was
 
 below : (n : ℕ) (o : Option ℕ) → ((i : ℕ) → o ≡ Some i → i < n) → forgotten n o ≡ o
-below n None h = refl
-below n (Some i) h = let under : i < n = h i refl in let other : (i == n) ≡ false = ne_eqb i n (λ e. omega arith) in rw other refl
+below n o h1 = grind (arith, common_steps, gets)
 
 back_by : (n : ℕ) (b : Bool) (o p : Option ℕ) → ((i : ℕ) → o ≡ Some i → i < n) → p ≡ (if b then noted n o else o) → forgotten n p ≡ o
-back_by n true o p h e = ap (forgotten n) e ∙ kept n o h
-back_by n false o p h e = ap (forgotten n) e ∙ below n o h
+back_by n b o p h1 h2 = grind (arith, common_steps, gets)
 
 -- an element that does not pass changes nothing
 pub first_position-silent : {X : Type 0} (test : X → Bool) (xs : List X) (y : X) → test y ≡ false
@@ -82,18 +75,15 @@ first_position-noted test xs y passed =
 pub first_position-back : {X : Type 0} (test : X → Bool) (xs : List X) (y : X)
     → forgotten (length xs) (first_position test (xs ++ y ∷ [])) ≡ first_position test xs
 first_position-back test xs y =
-    back_by (length xs) (test y) (first_position test xs) (first_position test (xs ++ y ∷ [])) (first_position-within test xs) (first_position-push test xs y)
+    back_by _ _ _ _ (first_position-within test xs) (first_position-push test xs y)
 
 -- ---- a vote that differs from the first
 
 not_different : (a : Option (Option ℕ)) → are_different a None ≡ false
-not_different None = refl
-not_different (Some a) = refl
+not_different a = grind (arith, common_steps, gets)
 
 same_vote : (a : Option (Option ℕ)) → are_different a a ≡ false
-same_vote None = refl
-same_vote (Some None) = refl
-same_vote (Some (Some v)) = ap not (eq-eqb v v refl)
+same_vote a = grind (arith, common_steps, gets)
 
 module _ {X : Type 0} (f : X → Option (Option ℕ)) where
   given-push : (xs : List X) (y : X) → first_given f (xs ++ y ∷ []) ≡ option_or (first_given f xs) (f y)
@@ -113,7 +103,8 @@ module _ {X : Type 0} (f : X → Option (Option ℕ)) where
     by_first : (o rest : Option (Option ℕ)) → option_or o rest ≡ None → (rest ≡ None → first_position (λ x. are_different a (f x)) xs ≡ None)
         → (if are_different a o then Some zero else option_map suc (first_position (λ x. are_different a (f x)) xs)) ≡ None
     by_first (Some v) rest e more = absurd (cc)
-    by_first None rest e more = ap (λ b. if b then Some zero else option_map suc (first_position (λ x. are_different a (f x)) xs)) (not_different a) ∙ ap (option_map suc) (more e)
+    by_first None rest e more =
+        ap (λ b. if b then Some zero else option_map suc (first_position (λ x. are_different a (f x)) xs)) (not_different a) ∙ ap (option_map suc) (more e)
 
   abbrev pub others : List X → Option ℕ
   others xs = first_position (λ x. are_different (first_given f xs) (f x)) xs
@@ -125,31 +116,29 @@ module _ {X : Type 0} (f : X → Option (Option ℕ)) where
     where
       by_given : (a : Option (Option ℕ)) → first_given f xs ≡ a
           → first_position (λ x. are_different (option_or a (f y)) (f x)) (xs ++ y ∷ [])
-          ≡ (if are_different a (f y) then noted (length xs) (first_position (λ x. are_different a (f x)) xs) else first_position (λ x. are_different a (f x)) xs)
-      by_given (Some v) is = first_position-push (λ x. are_different (Some v) (f x)) xs y
+          ≡ (if are_different a (f y) then noted (length xs) (first_position (λ x. are_different a (f x)) xs) else first_position
+          (λ x. are_different a (f x)) xs)
+      by_given (Some v) is = first_position-push _ xs y
       by_given None is =
-          first_position-silent (λ x. are_different (f y) (f x)) xs y (same_vote (f y))
+          first_position-silent _ xs y (same_vote (f y))
           ∙ nothing (f y) xs is ∙ sym (nothing None xs is)
 
   pub others-back : (xs : List X) (y : X) → forgotten (length xs) (others (xs ++ y ∷ [])) ≡ others xs
   others-back xs y =
-      back_by (length xs) (are_different (first_given f xs) (f y)) (others xs) (others (xs ++ y ∷ []))
-      (first_position-within (λ x. are_different (first_given f xs) (f x)) xs) (others-push xs y)
+      back_by _ _ _ _ (first_position-within _ xs) (others-push xs y)
 
   pub others-silent : (xs : List X) (y : X) → f y ≡ None → others (xs ++ y ∷ []) ≡ others xs
   others-silent xs y nil =
       others-push xs y
-      ∙ ap (λ b. if b then noted (length xs) (others xs) else others xs) (ap (are_different (first_given f xs)) nil ∙ not_different (first_given f xs))
+      ∙ ap (λ b. if b then noted (length xs) (others xs) else others xs) (ap (are_different (first_given f xs)) nil ∙ not_different _)
 
 -- ---- what a message reads as
 
 read_true : {A : Type 0} (a : Bool) (o : Option A) (v : A) → o ≡ Some v → is_some (if a then o else None) ≡ a
-read_true true o v e = ap is_some e
-read_true false o v e = refl
+read_true a o v h1 = grind (arith, common_steps, gets)
 
 read_false : {A : Type 0} (a : Bool) (o : Option A) → o ≡ None → is_some (if a then o else None) ≡ false
-read_false true o e = ap is_some e
-read_false false o e = refl
+read_false a o h1 = grind (arith, common_steps, gets)
 
 module _ {A : Type 0} (reading : Payload → Option A) (inbox : List Received) (y : Received) where
   -- a message that reads as something is noted for its sender
@@ -159,21 +148,22 @@ module _ {A : Type 0} (reading : Payload → Option A) (inbox : List Received) (
       changes t
       ∙ ap (λ o. if y.from == t then noted (length inbox) o else o) (h t)
       ∙ ap (λ b. if b then noted (length inbox) (first_position (reads_from t reading) inbox) else first_position (reads_from t reading) inbox)
-      (sym (read_true (y.from == t) (reading y.payload) v reads))
-      ∙ sym (first_position-push (reads_from t reading) inbox y)
+      (sym (read_true _ _ v reads))
+      ∙ sym (first_position-push _ inbox y)
 
   pub AreFirsts-forget : (v : A) (old new : Firsts) → reading y.payload ≡ Some v → AreFirsts reading old (inbox ++ y ∷ [])
       → ChangesFrom y.from (forgotten (length inbox)) old new → AreFirsts reading new inbox
   AreFirsts-forget v old new reads h changes = λ t.
       changes t
       ∙ ap (λ o. if y.from == t then forgotten (length inbox) o else o) (h t)
-      ∙ ap (λ b. if b then forgotten (length inbox) (first_position (reads_from t reading) (inbox ++ y ∷ [])) else first_position (reads_from t reading) (inbox ++ y ∷ []))
-      (sym (read_true (y.from == t) (reading y.payload) v reads))
-      ∙ sym (first_position-forget (reads_from t reading) inbox y)
+      ∙ ap (λ b. if b then forgotten (length inbox) (first_position (reads_from t reading) (inbox ++ y ∷ [])) else first_position
+      (reads_from t reading) (inbox ++ y ∷ []))
+      (sym (read_true _ _ v reads))
+      ∙ sym (first_position-forget _ inbox y)
 
   -- one that reads as nothing changes nothing
   unread : reading y.payload ≡ None → (t : ℕ) → first_position (reads_from t reading) (inbox ++ y ∷ []) ≡ first_position (reads_from t reading) inbox
-  unread nil t = first_position-silent (reads_from t reading) inbox y (read_false (y.from == t) (reading y.payload) nil)
+  unread nil t = first_position-silent _ inbox y (read_false _ _ nil)
 
   pub AreFirsts-longer : (old : Firsts) → reading y.payload ≡ None → AreFirsts reading old inbox → AreFirsts reading old (inbox ++ y ∷ [])
   AreFirsts-longer old nil h = λ t. h t ∙ sym (unread nil t)
@@ -186,7 +176,7 @@ module _ {A : Type 0} (reading : Payload → Option A) (inbox : List Received) (
 module _ (r : ℕ) (inbox : List Received) (y : Received) where
   no_vote : second_phase r y.payload ≡ None
       → first_position (λ e. is_some (second_phase r e.payload)) (inbox ++ y ∷ []) ≡ first_position (λ e. is_some (second_phase r e.payload)) inbox
-  no_vote nil = first_position-silent (λ e. is_some (second_phase r e.payload)) inbox y (ap is_some nil)
+  no_vote nil = first_position-silent _ inbox y (ap is_some nil)
 
   pub IsRowOf-push_first : (v : FirstPhase) (old new : Row) → first_phase r y.payload ≡ Some v → second_phase r y.payload ≡ None
       → IsRowOf r old inbox → ChangesFrom y.from (noted (length inbox)) old.first_phases new.first_phases
@@ -194,7 +184,8 @@ module _ (r : ℕ) (inbox : List Received) (y : Received) where
       → IsRowOf r new (inbox ++ y ∷ [])
   IsRowOf-push_first v old new reads nil h changes seconds vote other = record {
     first_phases = AreFirsts-push (first_phase r) inbox y v old.first_phases new.first_phases reads h.first_phases changes;
-    second_phases = subst (λ f. AreFirsts (second_phase r) f (inbox ++ y ∷ [])) (sym seconds) (AreFirsts-longer (second_phase r) inbox y old.second_phases nil h.second_phases);
+    second_phases = subst (λ f. AreFirsts (second_phase r) f (inbox ++ y ∷ [])) (sym seconds)
+        (AreFirsts-longer (second_phase r) inbox y old.second_phases nil h.second_phases);
     vote = vote ∙ h.vote ∙ sym (no_vote nil);
     other_vote = other ∙ h.other_vote ∙ sym (others-silent (λ e. second_phase r e.payload) inbox y nil);
   }
@@ -205,7 +196,8 @@ module _ (r : ℕ) (inbox : List Received) (y : Received) where
       → IsRowOf r new inbox
   IsRowOf-forget_first v old new reads nil h changes seconds vote other = record {
     first_phases = AreFirsts-forget (first_phase r) inbox y v old.first_phases new.first_phases reads h.first_phases changes;
-    second_phases = subst (λ f. AreFirsts (second_phase r) f inbox) (sym seconds) (AreFirsts-shorter (second_phase r) inbox y old.second_phases nil h.second_phases);
+    second_phases =
+        subst (λ f. AreFirsts (second_phase r) f inbox) (sym seconds) (AreFirsts-shorter (second_phase r) inbox y old.second_phases nil h.second_phases);
     vote = vote ∙ h.vote ∙ no_vote nil;
     other_vote = other ∙ h.other_vote ∙ others-silent (λ e. second_phase r e.payload) inbox y nil;
   }
@@ -218,13 +210,15 @@ module _ (r : ℕ) (inbox : List Received) (y : Received) where
       → new.other_vote ≡ (if b then noted (length inbox) old.other_vote else old.other_vote)
       → IsRowOf r new (inbox ++ y ∷ [])
   IsRowOf-push_vote aux b old new nil reads h firsts changes vote tells other = record {
-    first_phases = subst (λ f. AreFirsts (first_phase r) f (inbox ++ y ∷ [])) (sym firsts) (AreFirsts-longer (first_phase r) inbox y old.first_phases nil h.first_phases);
+    first_phases =
+        subst (λ f. AreFirsts (first_phase r) f (inbox ++ y ∷ [])) (sym firsts) (AreFirsts-longer (first_phase r) inbox y old.first_phases nil h.first_phases);
     second_phases = AreFirsts-push (second_phase r) inbox y aux old.second_phases new.second_phases reads h.second_phases changes;
-    vote = vote ∙ ap (noted (length inbox)) h.vote ∙ sym (first_position-noted (λ e. is_some (second_phase r e.payload)) inbox y (ap is_some reads));
+    vote = vote ∙ ap (noted (length inbox)) h.vote ∙ sym (first_position-noted _ inbox y (ap is_some reads));
     other_vote =
         other
         ∙ ap (λ o. if b then noted (length inbox) o else o) h.other_vote
-        ∙ ap (λ d. if d then noted (length inbox) (first_position (λ e. are_different (vote_in r inbox) (second_phase r e.payload)) inbox) else first_position (λ e. are_different (vote_in r inbox) (second_phase r e.payload)) inbox)
+        ∙ ap (λ d. if d then noted (length inbox) (first_position (λ e. are_different (vote_in r inbox)
+        (second_phase r e.payload)) inbox) else first_position (λ e. are_different (vote_in r inbox) (second_phase r e.payload)) inbox)
         (tells ∙ ap (are_different (vote_in r inbox)) (sym reads))
         ∙ sym (others-push (λ e. second_phase r e.payload) inbox y);
   }
@@ -237,7 +231,7 @@ module _ (r : ℕ) (inbox : List Received) (y : Received) where
   IsRowOf-forget_vote aux old new nil reads h firsts changes vote other = record {
     first_phases = subst (λ f. AreFirsts (first_phase r) f inbox) (sym firsts) (AreFirsts-shorter (first_phase r) inbox y old.first_phases nil h.first_phases);
     second_phases = AreFirsts-forget (second_phase r) inbox y aux old.second_phases new.second_phases reads h.second_phases changes;
-    vote = vote ∙ ap (forgotten (length inbox)) h.vote ∙ first_position-back (λ e. is_some (second_phase r e.payload)) inbox y;
+    vote = vote ∙ ap (forgotten (length inbox)) h.vote ∙ first_position-back _ inbox y;
     other_vote = other ∙ ap (forgotten (length inbox)) h.other_vote ∙ others-back (λ e. second_phase r e.payload) inbox y;
   }
 
@@ -271,37 +265,22 @@ module _ (r : ℕ) (inbox : List Received) (y : Received) where
 
 pub first_of : (x : Payload) (r round est lead : ℕ) → x ≡ P1 round est lead → message_round x ≡ Some r
     → first_phase r x ≡ Some (record { estimate = est; lead = lead })
-first_of x r round est lead is at =
-    let both : Path (Option ℕ) (Some round) (Some r) = sym (ap message_round is) ∙ at in
-    let same : round ≡ r = cc in
-    ap (first_phase r) is ∙ ap (λ b. if b then Some (record { estimate = est; lead = lead }) else None) (eq-eqb round r same)
+first_of x r round est lead h1 h2 = grind (arith, common_steps, gets)
 
 pub second_of : (x : Payload) (r round : ℕ) (aux : Option ℕ) → x ≡ P2 round aux → message_round x ≡ Some r → second_phase r x ≡ Some aux
-second_of x r round aux is at =
-    let both : Path (Option ℕ) (Some round) (Some r) = sym (ap message_round is) ∙ at in
-    let same : round ≡ r = cc in
-    ap (second_phase r) is ∙ ap (λ b. if b then Some aux else None) (eq-eqb round r same)
+second_of x r round aux h1 h2 = grind (arith, common_steps, gets)
 
 not_first : (x : Payload) (r q : ℕ) → message_round x ≡ Some r → (r == q) ≡ false → first_phase q x ≡ None
-not_first (P1 round est lead) r q at other =
-    let same : round ≡ r = cc in
-    ap (λ n. if n == q then Some (record { estimate = est; lead = lead }) else None) same ∙ ap (λ b. if b then Some (record { estimate = est; lead = lead }) else None) other
-not_first (P2 round aux) r q at other = refl
-not_first (D est) r q at other = refl
+not_first x r q h1 h2 = grind (arith, common_steps, gets)
 
 not_second : (x : Payload) (r q : ℕ) → message_round x ≡ Some r → (r == q) ≡ false → second_phase q x ≡ None
-not_second (P1 round est lead) r q at other = refl
-not_second (P2 round aux) r q at other =
-    let same : round ≡ r = cc in
-    ap (λ n. if n == q then Some aux else None) same ∙ ap (λ b. if b then Some aux else None) other
-not_second (D est) r q at other = refl
+not_second x r q h1 h2 = grind (arith, common_steps, gets)
 
 not_decision : (x : Payload) (r : ℕ) → message_round x ≡ Some r → as_decision x ≡ None
-not_decision (P1 round est lead) r at = refl
-not_decision (P2 round aux) r at = refl
-not_decision (D est) r at = absurd (cc)
+not_decision x r h1 = grind (arith, common_steps, gets)
 
-a_decision : (x : Payload) → message_round x ≡ None → (v : ℕ) × (as_decision x ≡ Some v) × ((q : ℕ) → first_phase q x ≡ None) × ((q : ℕ) → second_phase q x ≡ None)
+a_decision : (x : Payload) → message_round x ≡ None
+    → (v : ℕ) × (as_decision x ≡ Some v) × ((q : ℕ) → first_phase q x ≡ None) × ((q : ℕ) → second_phase q x ≡ None)
 a_decision (P1 round est lead) none = absurd (cc)
 a_decision (P2 round aux) none = absurd (cc)
 a_decision (D est) none = (est, refl, λ q. refl, λ q. refl)
@@ -313,7 +292,8 @@ module _ (r : ℕ) (inbox : List Received) where
   row_of_none None none h = h
   row_of_none (Some row) none h = absurd (cc)
 
-module _ (r : ℕ) (inbox : List Received) (o : Option Row) (none : o ≡ None) (h : IsRoundOf r o inbox) (new : Firsts) (empty : (s : ℕ) → position_from s new ≡ None) where
+module _ (r : ℕ) (inbox : List Received) (o : Option Row) (none : o ≡ None) (h : IsRoundOf r o inbox) (new : Firsts)
+    (empty : (s : ℕ) → position_from s new ≡ None) where
   abbrev new_row : Row
   new_row = record { first_phases = new; second_phases = new; vote = None; other_vote = None }
 
@@ -339,8 +319,8 @@ empty_back r inbox y (P1 round est lead) is at row e h =
     IsRowOf-forget_first r inbox y _ row row (first_of y.payload r round est lead is at) (ap (second_phase r) is) h
     (empty_changes y.from (length inbox) row.first_phases e.first_phases) refl refl refl
 empty_back r inbox y (P2 round aux) is at row e h =
-    IsRowOf-forget_vote r inbox y aux row row (ap (first_phase r) is) (second_of y.payload r round aux is at) h refl
-    (empty_changes y.from (length inbox) row.second_phases e.second_phases)
+    IsRowOf-forget_vote r inbox y aux row row (ap (first_phase r) is) (second_of _ r round aux is at) h refl
+    (empty_changes y.from _ _ e.second_phases)
     (e.vote ∙ sym (ap (forgotten (length inbox)) e.vote)) (e.other_vote ∙ sym (ap (forgotten (length inbox)) e.other_vote))
 empty_back r inbox y (D est) is at row e h = let nowhere : Path (Option ℕ) None (Some r) = sym (ap message_round is) ∙ at in absurd (cc)
 
@@ -352,35 +332,40 @@ module _ (old new : Index) (inbox : List Received) (y : Received) where
     pub IsIndexOf-push_row : IsIndexOf old inbox → IsRowOf r row (inbox ++ y ∷ []) → IsIndexOf new (inbox ++ y ∷ [])
     IsIndexOf-push_row h row_is = record {
       rounds = λ q. subst (λ o. IsRoundOf q o (inbox ++ y ∷ [])) (sym (updates q)) (by_round q (nat_eq r q) refl);
-      decisions = subst (λ f. AreFirsts as_decision f (inbox ++ y ∷ [])) (sym decisions) (AreFirsts-longer as_decision inbox y old.decisions (not_decision y.payload r at) h.decisions);
+      decisions = subst (λ f. AreFirsts as_decision f (inbox ++ y ∷ [])) (sym decisions)
+          (AreFirsts-longer as_decision inbox y old.decisions (not_decision _ r at) h.decisions);
     } where
       by_round : (q : ℕ) (b : Bool) → nat_eq r q ≡ b → IsRoundOf q (cond b (Some row) (get nat_eq old.rows q)) (inbox ++ y ∷ [])
       by_round q true e = subst (λ n. IsRowOf n row (inbox ++ y ∷ [])) (eqb-true r q e) row_is
-      by_round q false e = IsRoundOf-longer q inbox y (not_first y.payload r q at e) (not_second y.payload r q at e) (get nat_eq old.rows q) (h.rounds q)
+      by_round q false e = IsRoundOf-longer q inbox y (not_first _ r q at e) (not_second _ r q at e) (get nat_eq old.rows q) (h.rounds q)
 
     pub IsIndexOf-forget_row : IsIndexOf old (inbox ++ y ∷ []) → IsRowOf r row inbox → IsIndexOf new inbox
     IsIndexOf-forget_row h row_is = record {
       rounds = λ q. subst (λ o. IsRoundOf q o inbox) (sym (updates q)) (by_round q (nat_eq r q) refl);
-      decisions = subst (λ f. AreFirsts as_decision f inbox) (sym decisions) (AreFirsts-shorter as_decision inbox y old.decisions (not_decision y.payload r at) h.decisions);
+      decisions =
+          subst (λ f. AreFirsts as_decision f inbox) (sym decisions) (AreFirsts-shorter as_decision inbox y old.decisions (not_decision _ r at) h.decisions);
     } where
       by_round : (q : ℕ) (b : Bool) → nat_eq r q ≡ b → IsRoundOf q (cond b (Some row) (get nat_eq old.rows q)) inbox
       by_round q true e = subst (λ n. IsRowOf n row inbox) (eqb-true r q e) row_is
-      by_round q false e = IsRoundOf-shorter q inbox y (not_first y.payload r q at e) (not_second y.payload r q at e) (get nat_eq old.rows q) (h.rounds q)
+      by_round q false e = IsRoundOf-shorter q inbox y (not_first _ r q at e) (not_second _ r q at e) (get nat_eq old.rows q) (h.rounds q)
 
   module _ (none : message_round y.payload ≡ None) (rows : new.rows ≡ old.rows) where
     pub IsIndexOf-push_decision : IsIndexOf old inbox → ChangesFrom y.from (noted (length inbox)) old.decisions new.decisions → IsIndexOf new (inbox ++ y ∷ [])
     IsIndexOf-push_decision h changes =
-        let d = a_decision y.payload none in
+        let d = a_decision _ none in
         record {
-          rounds = λ q. subst (λ m. IsRoundOf q (get nat_eq m q) (inbox ++ y ∷ [])) (sym rows) (IsRoundOf-longer q inbox y (d.2 q) (d.3 q) (get nat_eq old.rows q) (h.rounds q));
+          rounds = λ q. subst (λ m. IsRoundOf q (get nat_eq m q) (inbox ++ y ∷ [])) (sym rows)
+              (IsRoundOf-longer q inbox y (d.2 q) (d.3 q) (get nat_eq old.rows q) (h.rounds q));
           decisions = AreFirsts-push as_decision inbox y d.0 old.decisions new.decisions d.1 h.decisions changes;
         }
 
-    pub IsIndexOf-forget_decision : IsIndexOf old (inbox ++ y ∷ []) → ChangesFrom y.from (forgotten (length inbox)) old.decisions new.decisions → IsIndexOf new inbox
+    pub IsIndexOf-forget_decision : IsIndexOf old (inbox ++ y ∷ [])
+        → ChangesFrom y.from (forgotten (length inbox)) old.decisions new.decisions → IsIndexOf new inbox
     IsIndexOf-forget_decision h changes =
-        let d = a_decision y.payload none in
+        let d = a_decision _ none in
         record {
-          rounds = λ q. subst (λ m. IsRoundOf q (get nat_eq m q) inbox) (sym rows) (IsRoundOf-shorter q inbox y (d.2 q) (d.3 q) (get nat_eq old.rows q) (h.rounds q));
+          rounds =
+              λ q. subst (λ m. IsRoundOf q (get nat_eq m q) inbox) (sym rows) (IsRoundOf-shorter q inbox y (d.2 q) (d.3 q) (get nat_eq old.rows q) (h.rounds q));
           decisions = AreFirsts-forget as_decision inbox y d.0 old.decisions new.decisions d.1 h.decisions changes;
         }
 
@@ -389,15 +374,15 @@ pub IsIndexOf-forget_none : (index : Index) (inbox : List Received) (y : Receive
     → IsIndexOf index (inbox ++ y ∷ []) → IsIndexOf index inbox
 IsIndexOf-forget_none index inbox y r at none h = record {
   rounds = λ q. by_round q (nat_eq r q) refl;
-  decisions = AreFirsts-shorter as_decision inbox y index.decisions (not_decision y.payload r at) h.decisions;
+  decisions = AreFirsts-shorter as_decision inbox y index.decisions (not_decision _ r at) h.decisions;
 } where
   there : IsRoundOf r (get nat_eq index.rows r) inbox
   there = subst (λ o. IsRoundOf r o inbox) (sym none)
-      (λ row e. empty_back r inbox y y.payload refl at row e (row_of_none r (inbox ++ y ∷ []) (get nat_eq index.rows r) none (h.rounds r) row e))
+      (λ row e. empty_back r inbox y _ refl at row e (row_of_none r (inbox ++ y ∷ []) (get nat_eq index.rows r) none (h.rounds r) row e))
 
   by_round : (q : ℕ) (b : Bool) → nat_eq r q ≡ b → IsRoundOf q (get nat_eq index.rows q) inbox
   by_round q true e = subst (λ n. IsRoundOf n (get nat_eq index.rows n) inbox) (eqb-true r q e) there
-  by_round q false e = IsRoundOf-shorter q inbox y (not_first y.payload r q at e) (not_second y.payload r q at e) (get nat_eq index.rows q) (h.rounds q)
+  by_round q false e = IsRoundOf-shorter q inbox y (not_first _ r q at e) (not_second _ r q at e) (get nat_eq index.rows q) (h.rounds q)
 
 pub row_is_there : (r : ℕ) (o : Option Row) (row : Row) (inbox : List Received) → Some row ≡ o → IsRoundOf r o inbox → IsRowOf r row inbox
 row_is_there r o row inbox is h = subst (λ p. IsRoundOf r p inbox) (sym is) h

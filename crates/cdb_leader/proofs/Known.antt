@@ -1,5 +1,8 @@
 -- The messages of an inbox that its index knows, and those after them.
-use Rattle.std.proofs.Common.{◌≡◌, ℕ, zero, suc, ◌<◌, ◌≤◌, List, [], ◌∷◌, ◌++◌, Option, Some, None, length, length-append, length-drop, true, false, ◌-◌, take, drop, arith, refl, ap, sym, subst, ◌∙◌}
+use Rattle.std.proofs.lemmas.Grind.{common_steps}
+use Rattle.std.proofs.lemmas.Option.{gets}
+use Rattle.std.proofs.Common.{◌≡◌, ℕ, ◌<◌, ◌≤◌, List, [], ◌∷◌, ◌++◌, Option, None, length, length-append, length-drop, true, false, ◌-◌, take, drop, arith}
+use Rattle.std.proofs.Common.{refl, ap, sym, subst, ◌∙◌}
 use Rattle.std.proofs.lemmas.List.{take-append-drop, take_all, take_min, take-append-le}
 use Rattle.std.proofs.lemmas.List.Folds.{list_all-append}
 use Rattle.std.specs.Prelude.{min, ◌&&◌, is_some, ◌||◌, count_by, not, slice_get}
@@ -16,9 +19,7 @@ use Rattle.cdb_leader.proofs.LookUps.{is_kept, count_kept}
 
 -- what is dropped, where no more is asked for than there is
 pub drop_min : {X : Type 0} (n : ℕ) (xs : List X) → drop (min n (length xs)) xs ≡ drop n xs
-drop_min zero xs = let least : min zero (length xs) ≡ zero = omega arith in rw least refl
-drop_min (suc n) [] = let least : min (suc n) zero ≡ zero = omega arith in rw least refl
-drop_min (suc n) (x ∷ xs) = let least : min (suc n) (length (x ∷ xs)) ≡ suc (min n (length xs)) = omega arith in rw least (drop_min n xs)
+drop_min n xs = grind (arith, common_steps, gets)
 
 -- the two parts, as slices give them
 module _ (inbox : List Received) (long at : ℕ) (is_long : long ≡ length inbox) (is_at : at ≡ min KNOWN long) where
@@ -49,12 +50,11 @@ known_long inbox y long = take-append-le KNOWN inbox (y ∷ []) long
 -- ---- what is read of both parts
 
 moved : {A : Type 0} (o p q : Option A) → option_or (option_or o p) q ≡ option_or o (option_or p q)
-moved (Some v) p q = refl
-moved None p q = refl
+moved o p q = grind (arith, common_steps, gets)
 
 given_parts : {X A : Type 0} (f : X → Option A) (xs ys : List X) → option_or (first_given f xs) (first_given f ys) ≡ first_given f (xs ++ ys)
 given_parts f [] ys = refl
-given_parts f (x ∷ xs) ys = moved (f x) (first_given f xs) (first_given f ys) ∙ ap (option_or (f x)) (given_parts f xs ys)
+given_parts f (x ∷ xs) ys = moved (f x) _ _ ∙ ap (option_or (f x)) (given_parts f xs ys)
 
 parts : (inbox : List Received) → known inbox ++ later inbox ≡ inbox
 unfolding known later
@@ -65,14 +65,13 @@ pub first_from_parts : {A : Type 0} (reading : Payload → Option A) (inbox : Li
 first_from_parts reading inbox s = given_parts (if_from s reading) (known inbox) (later inbox) ∙ ap (first_from s reading) (parts inbox)
 
 either : {A : Type 0} (o p : Option A) → (is_some o || is_some p) ≡ is_some (option_or o p)
-either (Some v) p = refl
-either None p = refl
+either o p = grind (arith, common_steps, gets)
 
 module _ {A : Type 0} (reading : Payload → Option A) (kept : Firsts) (inbox : List Received) (h : AreFirsts reading kept (known inbox)) (s : ℕ) where
   is_read : (is_some (position_from s kept) || is_some (first_from s reading (later inbox))) ≡ is_some (first_from s reading inbox)
   is_read =
       ap (λ b. b || is_some (first_from s reading (later inbox))) (is_kept reading kept (known inbox) h s)
-      ∙ either (first_from s reading (known inbox)) (first_from s reading (later inbox))
+      ∙ either _ _
       ∙ ap is_some (first_from_parts reading inbox s)
 
   -- a message is known, or it is one of the later
@@ -90,44 +89,39 @@ only_parts r w inbox =
 -- ---- where the index knows all
 
 without_end : {X : Type 0} (xs ys : List X) → ys ≡ [] → xs ++ ys ≡ xs
-without_end [] ys none = none
-without_end (x ∷ xs) ys none = ap (λ zs. x ∷ zs) (without_end xs ys none)
+without_end xs ys h1 = grind (arith, common_steps, gets)
 
 pub is_nil : {X : Type 0} (xs : List X) → length xs ≡ 0 → xs ≡ []
-is_nil [] none = refl
-is_nil (x ∷ xs) none = absurd (omega arith)
+is_nil xs h1 = grind (arith, common_steps, gets)
 
 pub knows_all : (inbox : List Received) → later inbox ≡ [] → known inbox ≡ inbox
-knows_all inbox none = sym (without_end (known inbox) (later inbox) none) ∙ parts inbox
+knows_all inbox none = sym (without_end _ _ none) ∙ parts inbox
 
-pub count_all_kept : {A : Type 0} (reading : Payload → Option A) (kept : Firsts) (inbox : List Received) → AreFirsts reading kept (known inbox) → later inbox ≡ []
+pub count_all_kept : {A : Type 0} (reading : Payload → Option A) (kept : Firsts) (inbox : List Received)
+    → AreFirsts reading kept (known inbox) → later inbox ≡ []
     → count_by (λ s. is_some (position_from s kept)) all_processes ≡ count_by (λ s. is_some (first_from s reading inbox)) all_processes
 count_all_kept reading kept inbox h none = count_kept reading kept inbox (subst (AreFirsts reading kept) (knows_all inbox none) h)
 
 -- ---- no decision
 
 kept_nowhere : (os : List (Option ℕ)) (i : ℕ) → list_all (λ position. not (is_some position)) os ≡ true → option_flatten (slice_get os i) ≡ None
-kept_nowhere [] i h = refl
-kept_nowhere (None ∷ os) zero h = refl
-kept_nowhere (None ∷ os) (suc i) h = kept_nowhere os i h
-kept_nowhere (Some j ∷ os) i h = absurd (cc)
+kept_nowhere os i h1 = grind (arith, common_steps, gets)
 
 nowhere : (kept : Firsts) → keeps_none kept ≡ true → (s : ℕ) → position_from s kept ≡ None
 unfolding position_from
-nowhere kept h zero = refl
-nowhere kept h (suc i) = kept_nowhere kept.positions i h
+nowhere kept h1 s = grind (arith, common_steps, gets)
 
 is_none : {A : Type 0} (o : Option A) → false ≡ is_some o → o ≡ None
-is_none None h = refl
-is_none (Some v) h = absurd (cc)
+is_none o h1 = grind (arith, common_steps, gets)
 
 none_given : {X A : Type 0} (f : X → Option A) (xs : List X) → ((x : X) → f x ≡ None) → None ≡ first_given f xs
 none_given f [] h = refl
 none_given f (x ∷ xs) h = none_given f xs h ∙ ap (λ o. option_or o (first_given f xs)) (sym (h x))
 
-pub no_decision : (kept : Firsts) (inbox : List Received) → AreFirsts as_decision kept (known inbox) → keeps_none kept ≡ true → later inbox ≡ [] → None ≡ learnt inbox
-no_decision kept inbox h empty none = none_given (λ s. decision_from s inbox) all_processes by_sender where
+pub no_decision : (kept : Firsts) (inbox : List Received) → AreFirsts as_decision kept (known inbox) → keeps_none kept ≡ true
+    → later inbox ≡ [] → None ≡ learnt inbox
+no_decision kept inbox h empty none = none_given _ _ by_sender where
   by_sender : (s : ℕ) → decision_from s inbox ≡ None
   by_sender s =
       ap (decision_from s) (sym (knows_all inbox none))
-      ∙ is_none (decision_from s (known inbox)) (ap is_some (sym (nowhere kept empty s)) ∙ is_kept as_decision kept (known inbox) h s)
+      ∙ is_none _ (ap is_some (sym (nowhere kept empty s)) ∙ is_kept _ kept _ h s)

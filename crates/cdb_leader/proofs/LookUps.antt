@@ -1,5 +1,8 @@
 -- What is read by the index of an inbox is what stands in the inbox.
-use Rattle.std.proofs.Common.{◌≡◌, ℕ, zero, suc, ◌+◌, ◌<◌, ◌≤◌, Bool, true, false, cond, ◌&&◌, List, [], ◌∷◌, Option, Some, None, length, arith, refl, ap, sym, subst, ◌∙◌, eq-eqb, eqb-true}
+use Rattle.std.proofs.lemmas.Grind.{common_steps}
+use Rattle.std.proofs.lemmas.Option.{gets}
+use Rattle.std.proofs.Common.{◌≡◌, ℕ, zero, suc, ◌+◌, ◌<◌, ◌≤◌, Bool, true, false, cond, ◌&&◌, List, [], ◌∷◌, Option, Some, None, length, arith, refl, ap, sym}
+use Rattle.std.proofs.Common.{subst, ◌∙◌, eq-eqb, eqb-true}
 use Rattle.std.specs.Prelude.{◌==◌, if◌then◌else◌, slice_get, slice_index_or, is_some, not, nat_le, All, ⊤, fold, count_by, find}
 use Rattle.std.proofs.lemmas.Option.{slice_get-get_or}
 use Rattle.std.specs.Option.{option_map, option_or, option_and_then, option_flatten}
@@ -14,7 +17,8 @@ use Rattle.cdb_leader.specs.declared.inbox.FirstPhase.{FirstPhase}
 use Rattle.cdb_leader.specs.declared.first_phases.FirstPhases.{FirstPhases}
 use Rattle.cdb_leader.specs.declared.firsts.Firsts.{Firsts}
 use Rattle.cdb_leader.specs.declared.row.Row.{Row}
-use Rattle.cdb_leader.specs.Inbox.{first_given, if_from, first_from, first_phase_from, names, backers, is_agreed, agreed_leader, agreed_estimate, second_phase, carries, is_only_proposal}
+use Rattle.cdb_leader.specs.Inbox.{first_given, if_from, first_from, first_phase_from, names, backers, is_agreed, agreed_leader, agreed_estimate, second_phase}
+use Rattle.cdb_leader.specs.Inbox.{carries, is_only_proposal}
 use Rattle.cdb_leader.specs.Index.{first_position, position_from, AreFirsts, said_by, backers_among, agreed_among, vote_in, are_different, IsRowOf}
 
 -- ---- the element at the first position that passes
@@ -50,7 +54,8 @@ module _ {A : Type 0} (reading : Payload → Option A) (kept : Firsts) (inbox : 
   -- for how many senders one is
   pub count_kept : count_by (λ s. is_some (position_from s kept)) all_processes ≡ count_by (λ s. is_some (first_from s reading inbox)) all_processes
   count_kept = same all_processes 0 where
-    same : (ss : List ℕ) (n : ℕ) → fold (λ a s. a + cond (is_some (position_from s kept)) 1 0) n ss ≡ fold (λ a s. a + cond (is_some (first_from s reading inbox)) 1 0) n ss
+    same : (ss : List ℕ) (n : ℕ)
+        → fold (λ a s. a + cond (is_some (position_from s kept)) 1 0) n ss ≡ fold (λ a s. a + cond (is_some (first_from s reading inbox)) 1 0) n ss
     same [] n = refl
     same (s ∷ ss) n =
         same ss (n + cond (is_some (position_from s kept)) 1 0)
@@ -62,7 +67,8 @@ module _ {A : Type 0} (reading : Payload → Option A) (kept : Firsts) (inbox : 
     (o : Option Received) (at : o ≡ option_and_then (slice_get messages) spot) where
   look_up : option_and_then (if_from s reading) o ≡ first_from s reading inbox
   look_up =
-      ap (option_and_then (if_from s reading)) (at ∙ ap (option_and_then (slice_get messages)) spot_is ∙ ap (λ m. option_and_then (slice_get m) (position_from s kept)) messages_are)
+      ap (option_and_then (if_from s reading)) (at ∙ ap (option_and_then (slice_get messages)) spot_is
+      ∙ ap (λ m. option_and_then (slice_get m) (position_from s kept)) messages_are)
       ∙ read_at reading kept inbox h s
 
   pub read_none : o ≡ None → None ≡ first_from s reading inbox
@@ -93,37 +99,34 @@ module _ {X : Type 0} (f : X → Option (Option ℕ)) (w : ℕ) where
 
   -- where the first carries w, no other may carry something else
   carries_alike : (x : Option (Option ℕ)) → carries w x ≡ not (are_different (Some (Some w)) x)
-  carries_alike None = refl
-  carries_alike (Some None) = refl
-  carries_alike (Some (Some v)) = by_eq (v == w) refl (w == v) refl where
-    by_eq : (a : Bool) → (v == w) ≡ a → (b : Bool) → (w == v) ≡ b → a ≡ not (not b)
-    by_eq true e true d = refl
-    by_eq false e false d = refl
-    by_eq true e false d = let same : v ≡ w = eqb-true v w e in let back : (w == v) ≡ true = eq-eqb w v (sym same) in absurd (cc)
-    by_eq false e true d = let same : w ≡ v = eqb-true w v d in let back : (v == w) ≡ true = eq-eqb v w (sym same) in absurd (cc)
+  carries_alike x = grind (arith, common_steps, gets)
 
   pub all_carry : (xs : List X) → passes xs ≡ not (is_some (first_position (λ x. are_different (Some (Some w)) (f x)) xs))
   all_carry [] = refl
-  all_carry (x ∷ xs) = ap (λ b. b && passes xs) (carries_alike (f x)) ∙ by_first (are_different (Some (Some w)) (f x)) (first_position (λ x. are_different (Some (Some w)) (f x)) xs) (all_carry xs) where
-    by_first : (b : Bool) (o : Option ℕ) → passes xs ≡ not (is_some o)
-        → (not b && passes xs) ≡ not (is_some (if b then Some zero else option_map suc o))
-    by_first true o rest = refl
-    by_first false None rest = rest
-    by_first false (Some i) rest = rest
+  all_carry (x ∷ xs) = ap (λ b. b && passes xs) (carries_alike (f x))
+      ∙ by_first (are_different (Some (Some w)) (f x)) (first_position (λ x. are_different (Some (Some w)) (f x)) xs) (all_carry xs) where
+        by_first : (b : Bool) (o : Option ℕ) → passes xs ≡ not (is_some o)
+            → (not b && passes xs) ≡ not (is_some (if b then Some zero else option_map suc o))
+        by_first true o rest = refl
+        by_first false None rest = rest
+        by_first false (Some i) rest = rest
 
   -- where the first carries something else, they do not all carry w
   first_fails : (xs : List X) (a : Option ℕ) → first_given f xs ≡ Some a → carries w (Some a) ≡ false → passes xs ≡ false
   first_fails [] a is nil = absurd (cc)
   first_fails (x ∷ xs) a is nil = by_first (f x) is (λ h. first_fails xs a h nil) where
-    by_first : (o : Option (Option ℕ)) → option_or o (first_given f xs) ≡ Some a → (first_given f xs ≡ Some a → passes xs ≡ false) → (carries w o && passes xs) ≡ false
-    by_first (Some b) e rest = let same : Path (Option (Option ℕ)) (Some b) (Some a) = e in ap (λ o. carries w o && passes xs) same ∙ ap (λ c. c && passes xs) nil
+    by_first : (o : Option (Option ℕ)) → option_or o (first_given f xs) ≡ Some a → (first_given f xs ≡ Some a → passes xs ≡ false)
+        → (carries w o && passes xs) ≡ false
+    by_first (Some b) e rest =
+        let same : Path (Option (Option ℕ)) (Some b) (Some a) = e in ap (λ o. carries w o && passes xs) same ∙ ap (λ c. c && passes xs) nil
     by_first None e rest = rest e
 
   -- where none is there, all do
   none_fails : (xs : List X) → first_given f xs ≡ None → passes xs ≡ true
   none_fails [] is = refl
   none_fails (x ∷ xs) is = by_first (f x) is (λ h. none_fails xs h) where
-    by_first : (o : Option (Option ℕ)) → option_or o (first_given f xs) ≡ None → (first_given f xs ≡ None → passes xs ≡ true) → (carries w o && passes xs) ≡ true
+    by_first : (o : Option (Option ℕ)) → option_or o (first_given f xs) ≡ None → (first_given f xs ≡ None → passes xs ≡ true)
+        → (carries w o && passes xs) ≡ true
     by_first (Some b) e rest = absurd (cc)
     by_first None e rest = rest e
 
@@ -159,8 +162,19 @@ EachOf P (x ∷ xs) = P x × EachOf P xs
 
 each_process : (P : ℕ → Type 0) → All P all_processes → EachOf P all_processes
 unfolding all_processes
-each_process P h =
-    (h 0 0 (omega arith), (h 1 0 (omega arith), (h 2 0 (omega arith), (h 3 0 (omega arith), (h 4 0 (omega arith), (h 5 0 (omega arith), (h 6 0 (omega arith), (h 7 0 (omega arith), (h 8 0 (omega arith), tt)))))))))
+each_process P h = (
+  h 0 0 (omega arith),
+  (
+    h 1 0 (omega arith),
+    (
+      h 2 0 (omega arith),
+      (
+        h 3 0 (omega arith),
+        (h 4 0 (omega arith), (h 5 0 (omega arith), (h 6 0 (omega arith), (h 7 0 (omega arith), (h 8 0 (omega arith), tt))))),
+      ),
+    ),
+  ),
+)
 
 module _ (q r : ℕ) (said : FirstPhases) (inbox : List Received) (h : All (λ s. said_by s said ≡ first_phase_from r s inbox) all_processes) where
   abbrev Says : ℕ → Type 0
@@ -168,7 +182,8 @@ module _ (q r : ℕ) (said : FirstPhases) (inbox : List Received) (h : All (λ s
 
   backers_same : (m : ℕ) → backers_among m said ≡ backers r m inbox
   backers_same m = same all_processes 0 (each_process Says h) where
-    same : (ss : List ℕ) (n : ℕ) → EachOf Says ss → fold (λ a s. a + cond (names m (said_by s said)) 1 0) n ss ≡ fold (λ a s. a + cond (names m (first_phase_from r s inbox)) 1 0) n ss
+    same : (ss : List ℕ) (n : ℕ) → EachOf Says ss
+        → fold (λ a s. a + cond (names m (said_by s said)) 1 0) n ss ≡ fold (λ a s. a + cond (names m (first_phase_from r s inbox)) 1 0) n ss
     same [] n each = refl
     same (s ∷ ss) n each =
         same ss (n + cond (names m (said_by s said)) 1 0) each.1
@@ -188,8 +203,10 @@ module _ (q r : ℕ) (said : FirstPhases) (inbox : List Received) (h : All (λ s
         ≡ option_and_then (λ m. first_phase_from r m inbox) (find (is_agreed q r inbox) ms)
     same [] each = refl
     same (m ∷ ms) each =
-        ap (λ o. option_or (if nat_le q (backers_among m said) then o else None) (first_given (λ m. if nat_le q (backers_among m said) then said_by m said else None) ms)) each.0
-        ∙ ap (λ n. option_or (if nat_le q n then first_phase_from r m inbox else None) (first_given (λ m. if nat_le q (backers_among m said) then said_by m said else None) ms)) (backers_same m)
+        ap (λ o. option_or (if nat_le q (backers_among m said) then o else None)
+        (first_given (λ m. if nat_le q (backers_among m said) then said_by m said else None) ms)) each.0
+        ∙ ap (λ n. option_or (if nat_le q n then first_phase_from r m inbox else None)
+        (first_given (λ m. if nat_le q (backers_among m said) then said_by m said else None) ms)) (backers_same m)
         ∙ step m (nat_le q (backers r m inbox)) (first_phase_from r m inbox) refl _ _ (same ms each.1)
 
   pub estimate_same : option_map (λ own. own.estimate) (agreed_among q said) ≡ agreed_estimate q r inbox
@@ -199,16 +216,7 @@ module _ (q r : ℕ) (said : FirstPhases) (inbox : List Received) (h : All (λ s
 
 pub nth_process : (k d : ℕ) → k < 9 → slice_index_or all_processes k d ≡ suc k
 unfolding all_processes
-nth_process zero d h = refl
-nth_process (suc zero) d h = refl
-nth_process (suc (suc zero)) d h = refl
-nth_process (suc (suc (suc zero))) d h = refl
-nth_process (suc (suc (suc (suc zero)))) d h = refl
-nth_process (suc (suc (suc (suc (suc zero))))) d h = refl
-nth_process (suc (suc (suc (suc (suc (suc zero)))))) d h = refl
-nth_process (suc (suc (suc (suc (suc (suc (suc zero))))))) d h = refl
-nth_process (suc (suc (suc (suc (suc (suc (suc (suc zero)))))))) d h = refl
-nth_process (suc (suc (suc (suc (suc (suc (suc (suc (suc k))))))))) d h = absurd (omega arith)
+nth_process k d h1 = grind (arith, common_steps, gets)
 
 -- what a map over the processes gives stands under each
 pub said_is : (ys : List (Option FirstPhase)) (f : ℕ → Option FirstPhase) → length ys ≡ 9
@@ -230,7 +238,8 @@ module _ {F A B : Type 0} (g : Mut F (A × Unit {0}) B) (f : F) (G : A → B) (h
       let now = h t.1 t.2 t.0 (subst (λ z. Called g z (t.1, tt) t.2 t.0) same t.5) in
       by_position now.0 (i == j) refl (λ past. maps_from n (i + 1) t.0 xs ys now.1 t.6 j (omega arith) (omega arith) d e)
     where
-      by_position : t.2 ≡ G t.1 → (b : Bool) → (i == j) ≡ b → (i < j → slice_index_or ys j e ≡ G (slice_index_or xs j d)) → slice_index_or ys j e ≡ G (slice_index_or xs j d)
+      by_position : t.2 ≡ G t.1 → (b : Bool) → (i == j) ≡ b → (i < j → slice_index_or ys j e ≡ G (slice_index_or xs j d))
+          → slice_index_or ys j e ≡ G (slice_index_or xs j d)
       by_position is true at later =
           let here : i ≡ j = eqb-true i j at in
           subst (λ m. slice_index_or ys m e ≡ G (slice_index_or xs m d)) here (t.4.1 e ∙ is ∙ ap G (sym (t.3.1 d)))

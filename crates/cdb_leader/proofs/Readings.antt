@@ -1,5 +1,8 @@
 -- What the leader machine reads from its inbox stands there.
-use Rattle.std.specs.Prelude.{◌≡◌, ℕ, ◌≤◌, Bool, true, false, cond, ◌==◌, ◌&&◌, nat_le, List, [], ◌∷◌, Option, Some, None, is_some, refl, count_by, find, if◌then◌else◌}
+use Rattle.std.proofs.lemmas.Grind.{common_steps}
+use Rattle.std.proofs.lemmas.Option.{gets}
+use Rattle.std.specs.Prelude.{◌≡◌, ℕ, ◌≤◌, Bool, true, false, cond, ◌==◌, ◌&&◌, nat_le, List, [], ◌∷◌, Option, Some, None, is_some, refl, count_by, find}
+use Rattle.std.specs.Prelude.{if◌then◌else◌}
 use Rattle.std.specs.Option.{option_or, option_map, option_and_then, option_flatten}
 use Rattle.std.specs.List.{list_all}
 use Rattle.std.proofs.Common.{inl, inr, arith, sym, ◌∙◌, ap, subst, eqb-true, eq-eqb, leb-true}
@@ -8,7 +11,8 @@ use Rattle.cdb_base.specs.declared.payload.Payload.{Payload}
 use Rattle.cdb_base.specs.declared.payload.Payload.TheVariants.{P1, P2, D}
 use Rattle.cdb_leader.specs.declared.inbox.Received.{Received}
 use Rattle.cdb_leader.specs.declared.inbox.FirstPhase.{FirstPhase}
-use Rattle.cdb_leader.specs.Inbox.{first_given, first_phase, second_phase, as_decision, if_from, first_from, first_phase_from, second_phase_from, decision_from, names, backers, is_agreed, agreed_leader, agreed_estimate, second_phase_senders, proposal, carries, is_only_proposal, learnt}
+use Rattle.cdb_leader.specs.Inbox.{first_given, first_phase, second_phase, as_decision, first_from, first_phase_from, second_phase_from, decision_from, names}
+use Rattle.cdb_leader.specs.Inbox.{backers, is_agreed, agreed_leader, agreed_estimate, second_phase_senders, proposal, carries, is_only_proposal, learnt}
 use Rattle.cdb_leader.specs.Quorum.{count_processes, IsQuorum}
 use Rattle.cdb_process.proofs.Members.{IsIn}
 use Rattle.cdb_leader.specs.Bases.{AuxBasis, Carried, Voted, VotedAlike}
@@ -52,8 +56,7 @@ all_pass {X} test (z ∷ zs) is x here = go (test z) refl is here (λ it. all_pa
     go false at it any later = absurd (cc)
 
 both_true : (a b : Bool) → a && b ≡ true → (a ≡ true) × (b ≡ true)
-both_true true b is = (refl, is)
-both_true false b is = absurd (cc)
+both_true a b h1 = grind (arith, common_steps, gets)
 
 -- ---- the processes 1 to 9
 
@@ -70,7 +73,7 @@ count_all test = omega arith
 -- a reading from a sender is that of a message
 first_from_heard : {A : Type 0} (s : ℕ) (reading : Payload → Option A) (inbox : Inbox) (a : A) → first_from s reading inbox ≡ Some a
     → (x : Payload) × Heard inbox s x × (reading x ≡ Some a)
-first_from_heard {A} s reading inbox a is = let found = given_from (if_from s reading) inbox a is in go found.0 found.1 (found.0.from == s) refl found.2
+first_from_heard {A} s reading inbox a is = let found = given_from _ inbox a is in go found.0 found.1 (found.0.from == s) refl found.2
   where
     go : (e : Received) → IsIn e inbox → (b : Bool) → (e.from == s) ≡ b → (if b then reading e.payload else None) ≡ Some a
         → (x : Payload) × Heard inbox s x × (reading x ≡ Some a)
@@ -81,48 +84,29 @@ first_from_heard {A} s reading inbox a is = let found = given_from (if_from s re
     go e here false same is_read = absurd (cc)
 
 first_phase_is : (r : ℕ) (x : Payload) (said : FirstPhase) → first_phase r x ≡ Some said → x ≡ P1 r said.estimate said.lead
-first_phase_is r (P1 round est lead) said is = go (round == r) refl is
-  where
-    go : (b : Bool) → (round == r) ≡ b → (if b then Some (record { estimate = est; lead = lead }) else None) ≡ Some said → P1 round est lead ≡ P1 r said.estimate said.lead
-    go true same it =
-        let at : round ≡ r = eqb-true round r same in
-        let said_is : Path FirstPhase (record { estimate = est; lead = lead }) said = cc in
-        ap (λ (m : ℕ). P1 m est lead) at ∙ ap (λ (z : FirstPhase). P1 r z.estimate z.lead) said_is
-    go false same it = absurd (cc)
-first_phase_is r (P2 round aux) said is = absurd (cc)
-first_phase_is r (D est) said is = absurd (cc)
+first_phase_is r x said h1 = grind (arith, common_steps, gets)
 
 second_phase_is : (r : ℕ) (x : Payload) (a : Option ℕ) → second_phase r x ≡ Some a → x ≡ P2 r a
-second_phase_is r (P1 round est lead) a is = absurd (cc)
-second_phase_is r (P2 round aux) a is = go (round == r) refl is
-  where
-    go : (b : Bool) → (round == r) ≡ b → (if b then Some aux else None) ≡ Some a → P2 round aux ≡ P2 r a
-    go true same it =
-        let at : round ≡ r = eqb-true round r same in
-        cc
-    go false same it = absurd (cc)
-second_phase_is r (D est) a is = absurd (cc)
+second_phase_is r x a h1 = grind (arith, common_steps, gets)
 
 decision_is : (x : Payload) (v : ℕ) → as_decision x ≡ Some v → x ≡ D v
-decision_is (P1 round est lead) v is = absurd (cc)
-decision_is (P2 round aux) v is = absurd (cc)
-decision_is (D est) v is = cc
+decision_is x v h1 = grind (arith, common_steps, gets)
 
 -- ---- what the table adopts
 
 first_phase_heard : (r s : ℕ) (inbox : Inbox) (said : FirstPhase) → first_phase_from r s inbox ≡ Some said → Heard inbox s (P1 r said.estimate said.lead)
 first_phase_heard r s inbox said is =
-    let found = first_from_heard s (first_phase r) inbox said is in
+    let found = first_from_heard s _ inbox said is in
     subst (Heard inbox s) (first_phase_is r found.0 said found.2) found.1
 
 second_phase_heard : (r s : ℕ) (inbox : Inbox) (a : Option ℕ) → second_phase_from r s inbox ≡ Some a → Heard inbox s (P2 r a)
 second_phase_heard r s inbox a is =
-    let found = first_from_heard s (second_phase r) inbox a is in
+    let found = first_from_heard s _ inbox a is in
     subst (Heard inbox s) (second_phase_is r found.0 a found.2) found.1
 
 decision_heard : (s : ℕ) (inbox : Inbox) (v : ℕ) → decision_from s inbox ≡ Some v → Heard inbox s (D v)
 decision_heard s inbox v is =
-    let found = first_from_heard s as_decision inbox v is in
+    let found = first_from_heard s _ inbox v is in
     subst (Heard inbox s) (decision_is found.0 v found.2) found.1
 
 -- a decision that the process learns was heard
@@ -151,11 +135,11 @@ agreed_rests q r inbox v is = go (agreed_leader q r inbox) refl is
     go (Some m) at it = said (first_phase_from r m inbox) refl it
       where
         passes : is_agreed q r inbox m ≡ true
-        passes = found_passes (is_agreed q r inbox) all_processes m at
+        passes = found_passes (is_agreed q r inbox) _ m at
 
         enough : q ≤ count_processes 9 (λ s. names m (first_phase_from r s inbox))
         enough =
-            let count = both_true (nat_le q (backers r m inbox)) (is_some (first_phase_from r m inbox)) passes in
+            let count = both_true _ _ passes in
             let same = count_all (λ s. names m (first_phase_from r s inbox)) in
             let is_enough : q ≤ backers r m inbox = leb-true q (backers r m inbox) count.0 in
             omega arith
@@ -172,10 +156,12 @@ agreed_rests q r inbox v is = go (agreed_leader q r inbox) refl is
               estimate = subst P same (first_phase_heard r m inbox own is_p);
             }
 
-some_heard : (r s : ℕ) (inbox : Inbox) → is_some (second_phase_from r s inbox) ≡ true → (a : Option ℕ) × (second_phase_from r s inbox ≡ Some a) × Heard inbox s (P2 r a)
+some_heard : (r s : ℕ) (inbox : Inbox) → is_some (second_phase_from r s inbox) ≡ true
+    → (a : Option ℕ) × (second_phase_from r s inbox ≡ Some a) × Heard inbox s (P2 r a)
 some_heard r s inbox is = go (second_phase_from r s inbox) refl is
   where
-    go : (o : Option (Option ℕ)) → second_phase_from r s inbox ≡ o → is_some o ≡ true → (a : Option ℕ) × (second_phase_from r s inbox ≡ Some a) × Heard inbox s (P2 r a)
+    go : (o : Option (Option ℕ)) → second_phase_from r s inbox ≡ o → is_some o ≡ true
+        → (a : Option ℕ) × (second_phase_from r s inbox ≡ Some a) × Heard inbox s (P2 r a)
     go None at it = absurd (cc)
     go (Some a) at it = (a, at, second_phase_heard r s inbox a at)
 
@@ -198,17 +184,19 @@ proposal_carried r inbox w is =
         (s, subst P it (second_phase_heard r s inbox a at))
 
 -- with no proposal all that voted voted none
-pub voted_none : (q r : ℕ) (inbox : Inbox) (e : ℕ) → nat_le q (second_phase_senders r inbox) ≡ true → proposal r inbox ≡ None → IsQuorum q (Voted (Heard inbox) r e)
+pub voted_none : (q r : ℕ) (inbox : Inbox) (e : ℕ) → nat_le q (second_phase_senders r inbox) ≡ true → proposal r inbox ≡ None
+    → IsQuorum q (Voted (Heard inbox) r e)
 voted_none q r inbox e is none =
     ((λ s. is_some (second_phase_from r s inbox)), enough_votes q r inbox is, (λ s low high it. go s low high (some_heard r s inbox it)))
   where
     go : (s : ℕ) → 1 ≤ s → s ≤ 9 → ((a : Option ℕ) × (second_phase_from r s inbox ≡ Some a) × Heard inbox s (P2 r a)) → Voted (Heard inbox) r e s
     go s low high it =
-        let flat : option_flatten (second_phase_from r s inbox) ≡ None = none_given (λ p. option_flatten (second_phase_from r p inbox)) all_processes none s (is_process s low high) in
+        let flat : option_flatten (second_phase_from r s inbox) ≡ None = none_given _ _ none s (is_process s low high) in
         let same : it.0 ≡ None = sym (ap option_flatten it.1) ∙ flat in
         (it.0, it.2, inl same)
 
-pub voted_some : (q r : ℕ) (inbox : Inbox) (w : ℕ) → nat_le q (second_phase_senders r inbox) ≡ true → proposal r inbox ≡ Some w → IsQuorum q (Voted (Heard inbox) r w)
+pub voted_some : (q r : ℕ) (inbox : Inbox) (w : ℕ) → nat_le q (second_phase_senders r inbox) ≡ true → proposal r inbox ≡ Some w
+    → IsQuorum q (Voted (Heard inbox) r w)
 voted_some q r inbox w is some =
     ((λ s. is_some (second_phase_from r s inbox)), enough_votes q r inbox is, (λ s low high it. go s (some_heard r s inbox it)))
   where
@@ -216,12 +204,13 @@ voted_some q r inbox w is some =
     go s it = (it.0, it.2, inr (proposal_carried r inbox w some))
 
 -- where every vote carries w, all that voted voted w
-pub voted_alike : (q r : ℕ) (inbox : Inbox) (w : ℕ) → nat_le q (second_phase_senders r inbox) ≡ true → is_only_proposal r w inbox ≡ true → VotedAlike q (Heard inbox) r w
+pub voted_alike : (q r : ℕ) (inbox : Inbox) (w : ℕ) → nat_le q (second_phase_senders r inbox) ≡ true
+    → is_only_proposal r w inbox ≡ true → VotedAlike q (Heard inbox) r w
 voted_alike q r inbox w is only =
     ((λ s. is_some (second_phase_from r s inbox)), enough_votes q r inbox is, (λ s low high it. go s (some_heard r s inbox it)))
   where
     go : (s : ℕ) → ((a : Option ℕ) × (second_phase_from r s inbox ≡ Some a) × Heard inbox s (P2 r a)) → Heard inbox s (P2 r (Some w))
-    go s it = by_vote it.0 it.2 (all_pass (λ e. carries w (second_phase r e.payload)) inbox only (message s (P2 r it.0)) it.2)
+    go s it = by_vote it.0 it.2 (all_pass _ inbox only _ it.2)
       where
         reads : (a : Option ℕ) → second_phase r (P2 r a) ≡ Some a
         reads a = let same : (r == r) ≡ true = eq-eqb r r refl in ap (λ (b : Bool). if b then Some a else None) same

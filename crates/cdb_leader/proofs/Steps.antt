@@ -1,4 +1,6 @@
 -- The steps of one process of the leader machine, as far as agreement depends on them, and that each keeps the process's laws.
+use Rattle.std.proofs.lemmas.Grind.{common_steps}
+use Rattle.std.proofs.lemmas.Option.{gets}
 use Rattle.std.specs.Prelude.{◌≡◌, ℕ, suc, ◌+◌, ◌≤◌, List, [], ◌∷◌, ◌++◌, Option, Some, None, ◌⊎◌, refl}
 use Rattle.std.proofs.Common.{inl, inr, arith, sym, ap, subst}
 use Rattle.cdb_base.specs.declared.payload.Payload.{Payload}
@@ -96,13 +98,13 @@ pub record LocalLaws (q : ℕ) (l : Local) (sent : List Payload) : Type 0 where
 quorum_follows : (q : ℕ) (P R : ℕ → Type 0) → ((s : ℕ) → P s → R s) → IsQuorum q P → IsQuorum q R
 quorum_follows q P R follows one = (one.0, one.1, λ s low high passes. follows s (one.2 s low high passes))
 
-module _ (q : ℕ) (sent posted : Payload → Type 0) (heard more : ℕ → Payload → Type 0) (more_sent : (x : Payload) → sent x → posted x) (more_heard : (s : ℕ) (x : Payload) → heard s x → more s x) where
+module _ (q : ℕ) (sent posted : Payload → Type 0) (heard more : ℕ → Payload → Type 0)
+    (more_sent : (x : Payload) → sent x → posted x) (more_heard : (s : ℕ) (x : Payload) → heard s x → more s x) where
   pub aux_follows : (r v : ℕ) → AuxBasis q heard r v → AuxBasis q more r v
   aux_follows r v basis = record {
     leader = basis.leader;
     named = basis.named;
-    quorum = quorum_follows q (λ s. (e : ℕ) × heard s (P1 r e basis.leader)) (λ s. (e : ℕ) × more s (P1 r e basis.leader))
-        (λ s it. (it.0, more_heard s (P1 r it.0 basis.leader) it.1)) basis.quorum;
+    quorum = quorum_follows q _ _ (λ s it. (it.0, more_heard s (P1 r it.0 basis.leader) it.1)) basis.quorum;
     estimate = more_heard basis.leader (P1 r v basis.named) basis.estimate;
   }
 
@@ -118,7 +120,7 @@ module _ (q : ℕ) (sent posted : Payload → Type 0) (heard more : ℕ → Payl
 
   pub leave_follows : (r e : ℕ) → LeaveBasis q sent heard r e → LeaveBasis q posted more r e
   leave_follows r e basis = record {
-    quorum = quorum_follows q (Voted heard r e) (Voted more r e) (λ s it. voted_follows r e s it) basis.quorum;
+    quorum = quorum_follows q _ _ (λ s it. voted_follows r e s it) basis.quorum;
     value = go basis.value;
   }
     where
@@ -127,13 +129,12 @@ module _ (q : ℕ) (sent posted : Payload → Type 0) (heard more : ℕ → Payl
       go (inr own) = inr (own.0, more_sent (P1 r e own.0) own.1)
 
   pub first_or_leave_follows : (r e : ℕ) → (r ≡ 0) ⊎ LeaveBasis q sent heard r e → (r ≡ 0) ⊎ LeaveBasis q posted more r e
-  first_or_leave_follows r e (inl first) = inl first
-  first_or_leave_follows r e (inr basis) = inr (leave_follows r e basis)
+  first_or_leave_follows r e h1 = grind (arith, common_steps, gets)
 
   pub decision_follows : (v : ℕ) → DecisionBasis q heard v → DecisionBasis q more v
   decision_follows v (inl learnt) = inl (learnt.0, more_heard learnt.0 (D v) learnt.1)
   decision_follows v (inr alike) =
-      inr (alike.0, quorum_follows q (λ s. heard s (P2 alike.0 (Some v))) (λ s. more s (P2 alike.0 (Some v))) (λ s it. more_heard s (P2 alike.0 (Some v)) it) alike.1)
+      inr (alike.0, quorum_follows q _ _ (λ s it. more_heard s (P2 alike.0 (Some v)) it) alike.1)
 
 -- the same of lists that grow
 
@@ -220,30 +221,31 @@ module _ (q : ℕ) (l : Local) (sent : List Payload) (laws : LocalLaws q l sent)
     round_here = λ low high. laws.round_here (omega arith) (omega arith);
     left_here = λ at. absurd (omega arith);
     entering_here = λ at r is. absurd (omega arith);
-    proposed_here = λ low high. (m, in_push_new proposal sent);
+    proposed_here = λ low high. (m, in_push_new _ sent);
     entered = λ r e k it. more r e (entered r e k (split (suc r) e k it));
     decided_here = λ late. absurd (omega arith);
     decided = λ v it. laws.decided v (other_decision v it);
-    announced = λ v is. push_grows proposal sent (D v) (laws.announced v is);
+    announced = λ v is. push_grows _ sent (D v) (laws.announced v is);
   }
     where
       proposal : Payload
       proposal = P1 l.round l.estimate m
 
       split : (r e k : ℕ) → IsIn (P1 r e k) (sent ++ P1 l.round l.estimate m ∷ []) → IsIn (P1 r e k) sent ⊎ (P1 r e k ≡ P1 l.round l.estimate m)
-      split r e k it = in_push (P1 r e k) (P1 l.round l.estimate m) sent it
+      split r e k it = in_push _ _ sent it
 
       other_vote : (r : ℕ) (a : Option ℕ) → IsIn (P2 r a) (sent ++ P1 l.round l.estimate m ∷ []) → IsIn (P2 r a) sent
-      other_vote r a it = in_push_other (P2 r a) (P1 l.round l.estimate m) sent (λ same. cc) it
+      other_vote r a it = in_push_other _ _ sent (λ same. cc) it
 
       other_decision : (v : ℕ) → IsIn (D v) (sent ++ P1 l.round l.estimate m ∷ []) → IsIn (D v) sent
-      other_decision v it = in_push_other (D v) (P1 l.round l.estimate m) sent (λ same. cc) it
+      other_decision v it = in_push_other (D v) _ sent (λ same. cc) it
 
       below : (r e k : ℕ) → IsIn (P1 r e k) sent ⊎ (P1 r e k ≡ P1 l.round l.estimate m) → (r ≤ l.round) × (◌≡◌ {A = ℕ} 2 1 → suc r ≤ l.round)
       below r e k (inl old) = let it = laws.proposals_below r e k old in omega arith
       below r e k (inr new) = let same : r ≡ l.round = cc in omega arith
 
-      one : (r e j f k : ℕ) → IsIn (P1 r e j) sent ⊎ (P1 r e j ≡ P1 l.round l.estimate m) → IsIn (P1 r f k) sent ⊎ (P1 r f k ≡ P1 l.round l.estimate m) → (e ≡ f) × (j ≡ k)
+      one : (r e j f k : ℕ) → IsIn (P1 r e j) sent ⊎ (P1 r e j ≡ P1 l.round l.estimate m)
+          → IsIn (P1 r f k) sent ⊎ (P1 r f k ≡ P1 l.round l.estimate m) → (e ≡ f) × (j ≡ k)
       one r e j f k (inl old) (inl other) = laws.one_proposal r e j f k old other
       one r e j f k (inl old) (inr other) =
           let same : r ≡ l.round = cc in
@@ -263,8 +265,9 @@ module _ (q : ℕ) (l : Local) (sent : List Payload) (laws : LocalLaws q l sent)
           let P : ℕ → Type 0 = λ x. (r ≡ 0) ⊎ LeaveBasis q (SentIn sent) (Heard l.inbox) r x in
           subst P same (laws.entering_here here r at)
 
-      more : (r e : ℕ) → (r ≡ 0) ⊎ LeaveBasis q (SentIn sent) (Heard l.inbox) r e → (r ≡ 0) ⊎ LeaveBasis q (SentIn (sent ++ P1 l.round l.estimate m ∷ [])) (Heard l.inbox) r e
-      more r e it = first_or_leave_grows q sent (sent ++ P1 l.round l.estimate m ∷ []) l.inbox l.inbox r e (push_grows proposal sent) (same_grows l.inbox) it
+      more : (r e : ℕ) → (r ≡ 0) ⊎ LeaveBasis q (SentIn sent) (Heard l.inbox) r e
+          → (r ≡ 0) ⊎ LeaveBasis q (SentIn (sent ++ P1 l.round l.estimate m ∷ [])) (Heard l.inbox) r e
+      more r e it = first_or_leave_grows q sent _ l.inbox l.inbox r e (push_grows _ sent) (same_grows l.inbox) it
 
   keeps_vote : l.place ≡ 3 → LocalLaws q (record l { place = 4 }) (sent ++ P2 l.round l.aux ∷ [])
   keeps_vote here = record {
@@ -290,13 +293,13 @@ module _ (q : ℕ) (l : Local) (sent : List Payload) (laws : LocalLaws q l sent)
       vote = P2 l.round l.aux
 
       split : (r : ℕ) (a : Option ℕ) → IsIn (P2 r a) (sent ++ P2 l.round l.aux ∷ []) → IsIn (P2 r a) sent ⊎ (P2 r a ≡ P2 l.round l.aux)
-      split r a it = in_push (P2 r a) (P2 l.round l.aux) sent it
+      split r a it = in_push _ _ sent it
 
       other_proposal : (r e k : ℕ) → IsIn (P1 r e k) (sent ++ P2 l.round l.aux ∷ []) → IsIn (P1 r e k) sent
-      other_proposal r e k it = in_push_other (P1 r e k) (P2 l.round l.aux) sent (λ same. cc) it
+      other_proposal r e k it = in_push_other _ _ sent (λ same. cc) it
 
       other_decision : (v : ℕ) → IsIn (D v) (sent ++ P2 l.round l.aux ∷ []) → IsIn (D v) sent
-      other_decision v it = in_push_other (D v) (P2 l.round l.aux) sent (λ same. cc) it
+      other_decision v it = in_push_other (D v) _ sent (λ same. cc) it
 
       below : (r : ℕ) (a : Option ℕ) → IsIn (P2 r a) sent ⊎ (P2 r a ≡ P2 l.round l.aux) → (1 ≤ r) × (r ≤ l.round) × (1 ≤ 4 → 4 ≤ 3 → suc r ≤ l.round)
       below r a (inl old) = let it = laws.votes_below r a old in omega arith
@@ -325,8 +328,9 @@ module _ (q : ℕ) (l : Local) (sent : List Payload) (laws : LocalLaws q l sent)
           let P : ℕ → Type 0 = λ x. AuxBasis q (Heard l.inbox) x v in
           subst P same (laws.aux_here here v is)
 
-      more : (r e : ℕ) → (r ≡ 0) ⊎ LeaveBasis q (SentIn sent) (Heard l.inbox) r e → (r ≡ 0) ⊎ LeaveBasis q (SentIn (sent ++ P2 l.round l.aux ∷ [])) (Heard l.inbox) r e
-      more r e it = first_or_leave_grows q sent (sent ++ P2 l.round l.aux ∷ []) l.inbox l.inbox r e (push_grows vote sent) (same_grows l.inbox) it
+      more : (r e : ℕ) → (r ≡ 0) ⊎ LeaveBasis q (SentIn sent) (Heard l.inbox) r e
+          → (r ≡ 0) ⊎ LeaveBasis q (SentIn (sent ++ P2 l.round l.aux ∷ [])) (Heard l.inbox) r e
+      more r e it = first_or_leave_grows q sent _ l.inbox l.inbox r e (push_grows vote sent) (same_grows l.inbox) it
 
   -- to place 5 with an estimate that rests on what was received
   keeps_decide : (v : ℕ) → l.place ≤ 4 → DecisionBasis q (Heard l.inbox) v → LocalLaws q (record l { place = 5; estimate = v }) sent
@@ -387,21 +391,21 @@ module _ (q : ℕ) (l : Local) (sent : List Payload) (laws : LocalLaws q l sent)
     entering_here = λ at r is. absurd (omega arith);
     proposed_here = λ low high. absurd (omega arith);
     entered = λ r e k it.
-        first_or_leave_grows q sent (sent ++ D l.estimate ∷ []) l.inbox l.inbox r e (push_grows (D l.estimate) sent) (same_grows l.inbox)
+        first_or_leave_grows q sent _ l.inbox l.inbox r e (push_grows _ sent) (same_grows l.inbox)
         (laws.entered r e k (other_proposal (suc r) e k it));
     decided_here = λ late. laws.decided_here (omega arith);
-    decided = λ v it. decided v (in_push (D v) (D l.estimate) sent it);
+    decided = λ v it. decided v (in_push (D v) _ sent it);
     announced = λ v is.
         let same : l.estimate ≡ v = cc in
         let P : ℕ → Type 0 = λ x. IsIn (D x) (sent ++ D l.estimate ∷ []) in
-        subst P same (in_push_new (D l.estimate) sent);
+        subst P same (in_push_new _ sent);
   }
     where
       other_proposal : (r e k : ℕ) → IsIn (P1 r e k) (sent ++ D l.estimate ∷ []) → IsIn (P1 r e k) sent
-      other_proposal r e k it = in_push_other (P1 r e k) (D l.estimate) sent (λ same. cc) it
+      other_proposal r e k it = in_push_other _ _ sent (λ same. cc) it
 
       other_vote : (r : ℕ) (a : Option ℕ) → IsIn (P2 r a) (sent ++ D l.estimate ∷ []) → IsIn (P2 r a) sent
-      other_vote r a it = in_push_other (P2 r a) (D l.estimate) sent (λ same. cc) it
+      other_vote r a it = in_push_other _ _ sent (λ same. cc) it
 
       decided : (v : ℕ) → IsIn (D v) sent ⊎ (D v ≡ D l.estimate) → DecisionBasis q (Heard l.inbox) v
       decided v (inl old) = laws.decided v old
@@ -419,11 +423,11 @@ module _ (q : ℕ) (l : Local) (sent : List Payload) (laws : LocalLaws q l sent)
     aux_here = λ at v is. aux_grows q l.inbox more l.round v grows (laws.aux_here at v is);
     aux_rests = λ r v it. aux_grows q l.inbox more r v grows (laws.aux_rests r v it);
     round_here = laws.round_here;
-    left_here = λ at. first_or_leave_grows q sent sent l.inbox more l.round l.estimate (same_grows sent) grows (laws.left_here at);
-    entering_here = λ at r is. first_or_leave_grows q sent sent l.inbox more r l.estimate (same_grows sent) grows (laws.entering_here at r is);
+    left_here = λ at. first_or_leave_grows q sent sent l.inbox more l.round _ (same_grows sent) grows (laws.left_here at);
+    entering_here = λ at r is. first_or_leave_grows q sent sent l.inbox more r _ (same_grows sent) grows (laws.entering_here at r is);
     proposed_here = laws.proposed_here;
     entered = λ r e k it. first_or_leave_grows q sent sent l.inbox more r e (same_grows sent) grows (laws.entered r e k it);
-    decided_here = λ late. decision_grows q l.inbox more l.estimate grows (laws.decided_here late);
+    decided_here = λ late. decision_grows q l.inbox more _ grows (laws.decided_here late);
     decided = λ v it. decision_grows q l.inbox more v grows (laws.decided v it);
     announced = laws.announced;
   }
@@ -432,7 +436,7 @@ module _ (q : ℕ) (l : Local) (sent : List Payload) (laws : LocalLaws q l sent)
       more = l.inbox ++ message s x ∷ []
 
       grows : Grows l.inbox (l.inbox ++ message s x ∷ [])
-      grows = push_grows (message s x) l.inbox
+      grows = push_grows _ l.inbox
 
 -- each step of a process keeps its laws
 pub step_keeps : (q : ℕ) (mail : ℕ → List Payload) (l : Local) (sent : List Payload) (k : Local) (posted : List Payload)
@@ -454,17 +458,6 @@ step_keeps q mail l sent k posted laws step =
     by_row (announce here) = keeps_announce q l sent laws here
     by_row (receive s x known) = keeps_receive q l sent laws s x
 
--- what a process has sent stays sent
-pub step_posts : (q : ℕ) (mail : ℕ → List Payload) (l : Local) (sent : List Payload) (k : Local) (posted : List Payload)
-    → Step q mail l sent k posted → Grows sent posted
-step_posts q mail l sent k posted step = let P : List Payload → Type 0 = λ x. Grows sent x in subst P (sym step.same) (by_row step.row)
-  where
-    by_row : (row : Row q mail l) → Grows sent (sent_by q mail l sent row)
-    by_row (propose m here) = push_grows (P1 l.round l.estimate m) sent
-    by_row (vote here) = push_grows (P2 l.round l.aux) sent
-    by_row (announce here) = push_grows (D l.estimate) sent
-    by_row _ = same_grows sent
-
 -- a message of the inbox is an old one, or what its sender has sent
 pub step_delivers : (q : ℕ) (mail : ℕ → List Payload) (l : Local) (sent : List Payload) (k : Local) (posted : List Payload)
     → Step q mail l sent k posted → (s : ℕ) (x : Payload) → Heard k.inbox s x → Heard l.inbox s x ⊎ IsIn x (mail s)
@@ -482,5 +475,5 @@ step_delivers q mail l sent k posted step s x it =
         inr (subst Q payload (subst P sender known))
 
     by_row : (row : Row q mail l) → Heard (after_row q mail l row).inbox s x → Heard l.inbox s x ⊎ IsIn x (mail s)
-    by_row (receive p y known) here = new p y known (in_push (message s x) (message p y) l.inbox here)
+    by_row (receive p y known) here = new p y known (in_push _ _ l.inbox here)
     by_row _ here = inl here

@@ -11,7 +11,8 @@ use Rattle.cdb_leader.specs.declared.place.Place.TheVariants.{L0, L1, L2, L3, L4
 use Rattle.cdb_leader.specs.Place.{place_number}
 use Rattle.cdb_leader.specs.Inbox.{agreed_estimate, proposal, is_only_proposal, learnt}
 use Rattle.cdb_leader.specs.LocalState.{LocalState}
-use Rattle.cdb_leader.specs.Table.{heard_first_phase, heard_second_phase, heard_lead, is_lead, set_aux, end_round, query_at, payload_at, after_sending_at, send_at, local_at, adopt, learn_at, hear, recv_at, next_state}
+use Rattle.cdb_leader.specs.Table.{heard_first_phase, heard_second_phase, heard_lead, is_lead, set_aux, end_round, query_at, payload_at, after_sending_at}
+use Rattle.cdb_leader.specs.Table.{send_at, local_at, adopt, learn_at, hear, recv_at, next_state}
 use Rattle.cdb_process.proofs.Members.{IsIn}
 use Rattle.cdb_leader.proofs.Readings.{learnt_heard, agreed_rests, proposal_carried, voted_none, voted_some, voted_alike}
 use Rattle.cdb_leader.proofs.Steps.{Local, message, Row, after_row, sent_by, Step, enter, propose, stay, settle, vote, decide, leave, learn, announce, receive}
@@ -56,8 +57,8 @@ module _ (mail : ℕ → List Payload) (s t : LocalState) (sent : List Payload) 
   Taken posted = Step s.quorum mail (local_of s) sent (local_of t) posted × (t.quorum ≡ s.quorum)
 
   -- by a row of the table, which leaves u
-  by_row : (row : Row s.quorum mail (local_of s)) (u : LocalState) → Some u ≡ Some t → local_of u ≡ after_row s.quorum mail (local_of s) row
-      → u.quorum ≡ s.quorum → Taken (sent_by s.quorum mail (local_of s) sent row)
+  by_row : (row : Row s.quorum mail (local_of s)) (u : LocalState) → Some u ≡ Some t → local_of u ≡ after_row _ mail _ row
+      → u.quorum ≡ s.quorum → Taken (sent_by _ mail _ sent row)
   by_row row u is shows same_quorum =
       let is_t = some_is u t is in
       (record { row = row; is = ap local_of is_t ∙ shows; same = refl }, ap (λ (x : LocalState). x.quorum) is_t ∙ same_quorum)
@@ -102,7 +103,7 @@ module _ (mail : ℕ → List Payload) (s t : LocalState) (sent : List Payload) 
     where
       go : (b : Bool) → (if b then Some (set_aux s) else None) ≡ Some t → Taken sent
       go true it =
-          by_row (settle (agreed_estimate s.quorum s.round s.inbox) (ap place_number at) (λ v is_v. agreed_rests s.quorum s.round s.inbox v is_v))
+          by_row (settle (agreed_estimate s.quorum s.round s.inbox) (ap place_number at) (λ v is_v. agreed_rests _ s.round s.inbox v is_v))
           (set_aux s) it refl refl
       go false it = absurd (cc)
   local_step L3 at is = absurd (cc)
@@ -115,17 +116,17 @@ module _ (mail : ℕ → List Payload) (s t : LocalState) (sent : List Payload) 
         where
           ends : (o : Option ℕ) → proposal s.round s.inbox ≡ o → Some (end_round s o) ≡ Some t → Taken sent
           ends None none it_is =
-              by_row (leave s.estimate (ap place_number at) (voted_none s.quorum s.round s.inbox s.estimate enough none) (inr refl))
+              by_row (leave s.estimate (ap place_number at) (voted_none _ s.round s.inbox _ enough none) (inr refl))
               (end_round s None) it_is refl refl
           ends (Some w) some it_is = by_only (is_only_proposal s.round w s.inbox) refl it_is
             where
               by_only : (b : Bool) → is_only_proposal s.round w s.inbox ≡ b → Some (record s { estimate = w; place = if b then L5 else L0 }) ≡ Some t
                   → Taken sent
               by_only true only so =
-                  by_row (decide w (ap place_number at) (voted_alike s.quorum s.round s.inbox w enough only))
+                  by_row (decide w (ap place_number at) (voted_alike _ s.round s.inbox w enough only))
                   (record s { estimate = w; place = L5 }) so refl refl
               by_only false only so =
-                  by_row (leave w (ap place_number at) (voted_some s.quorum s.round s.inbox w enough some) (inl (proposal_carried s.round s.inbox w some)))
+                  by_row (leave w (ap place_number at) (voted_some _ s.round s.inbox w enough some) (inl (proposal_carried s.round s.inbox w some)))
                   (record s { estimate = w; place = L0 }) so refl refl
   local_step L5 at is = absurd (cc)
   local_step L6 at is = absurd (cc)

@@ -1,8 +1,12 @@
 -- What a process sends, for the inputs that it takes in turn, keeps the laws.
-use Rattle.std.proofs.Common.{◌≡◌, ℕ, suc, ◌==◌, Bool, true, false, if◌then◌else◌, ◌⊎◌, List, [], ◌∷◌, ◌++◌, Contains, Option, Some, None, inl, inr, refl, sym, ◌∙◌, subst, append_assoc, append-nil, eq-eqb, eqb-true}
+use Rattle.std.proofs.Common.{arith}
+use Rattle.std.proofs.lemmas.Grind.{common_steps}
+use Rattle.std.proofs.lemmas.Option.{gets}
+use Rattle.std.proofs.Common.{◌≡◌, ℕ, ◌==◌, if◌then◌else◌, ◌⊎◌, List, [], ◌∷◌, ◌++◌, Contains, Option, Some, None, inl, inr, refl, sym, ◌∙◌, subst}
+use Rattle.std.proofs.Common.{append_assoc, append-nil, eq-eqb}
 use Rattle.std.specs.Option.{option_map_or}
 use Rattle.cdb_base.specs.declared.payload.Payload.{Payload}
-use Rattle.cdb_base.specs.declared.payload.Payload.TheVariants.{P1, P2, D}
+use Rattle.cdb_base.specs.declared.payload.Payload.TheVariants.{D}
 use Rattle.cdb_process.specs.declared.Input.{Input}
 use Rattle.cdb_process.specs.declared.Input.TheVariants as input
 use Rattle.cdb_process.proofs.Members.{IsIn, contained_in, in_contained}
@@ -10,7 +14,8 @@ use Rattle.cdb_process.specs.Walk.{state_along}
 use Rattle.cdb_leader.specs.LocalState.{LocalState, first_state}
 use Rattle.cdb_leader.specs.Table.{next_state}
 use Rattle.cdb_leader.specs.Trace.{sent_of, sent_along, IsHeard, IsFounded, SentMessagesAreFounded, ReceivedIsBrought}
-use Rattle.cdb_leader.proofs.Steps.{Heard, SentIn, Step, LocalLaws, message, first_laws, step_keeps, step_delivers, aux_follows, decision_follows, first_or_leave_follows}
+use Rattle.cdb_leader.proofs.Steps.{Heard, SentIn, Step, LocalLaws, message, first_laws, step_keeps, step_delivers, aux_follows, decision_follows}
+use Rattle.cdb_leader.proofs.Steps.{first_or_leave_follows}
 use Rattle.cdb_leader.proofs.TableSteps.{local_of, posted_by, WasSent, table_step}
 
 -- ---- one input after another
@@ -30,13 +35,7 @@ known input.Local = tt
 known input.Learn = tt
 
 posted_is : (s : LocalState) (i : Input) (sent : List Payload) → posted_by s i sent ≡ sent ++ sent_of s i
-posted_is s input.Send sent = refl
-posted_is s (input.Recv p x) sent = sym (append-nil sent)
-posted_is s (input.Query l) sent = sym (append-nil sent)
-posted_is s (input.Read r c) sent = sym (append-nil sent)
-posted_is s (input.Write r) sent = sym (append-nil sent)
-posted_is s input.Local sent = sym (append-nil sent)
-posted_is s input.Learn sent = sym (append-nil sent)
+posted_is s i sent = grind (arith, common_steps, gets)
 
 module _ (q : ℕ) where
   -- the laws hold after an input that is taken
@@ -47,7 +46,8 @@ module _ (q : ℕ) where
       let by_q : Step q (mail_of i) (local_of s) sent (local_of t) (posted_by s i sent) =
       subst (λ n. Step n (mail_of i) (local_of s) sent (local_of t) (posted_by s i sent)) same step.0 in (
         step.1 ∙ same,
-        subst (λ posted. LocalLaws q (local_of t) posted) (posted_is s i sent) (step_keeps q (mail_of i) (local_of s) sent (local_of t) (posted_by s i sent) laws by_q),
+        subst (λ posted. LocalLaws q (local_of t) posted) (posted_is s i sent)
+            (step_keeps q (mail_of i) (local_of s) sent (local_of t) (posted_by s i sent) laws by_q),
       )
 
   keeps_along : (s : LocalState) (sent : List Payload) → s.quorum ≡ q → LocalLaws q (local_of s) sent → (is : List Input)
@@ -56,7 +56,8 @@ module _ (q : ℕ) where
   keeps_along s sent same laws (i ∷ is) = go (next_state s i) refl (λ t more kept. keeps_along t (sent ++ sent_of s i) more kept is)
     where
       go : (o : Option LocalState) → next_state s i ≡ o
-          → ((t : LocalState) → t.quorum ≡ q → LocalLaws q (local_of t) (sent ++ sent_of s i) → LocalLaws q (local_of (state_along next_state t is)) ((sent ++ sent_of s i) ++ sent_along t is))
+          → ((t : LocalState) → t.quorum ≡ q → LocalLaws q (local_of t) (sent ++ sent_of s i)
+          → LocalLaws q (local_of (state_along next_state t is)) ((sent ++ sent_of s i) ++ sent_along t is))
           → LocalLaws q (local_of (option_map_or (λ t. state_along next_state t is) o s)) (sent ++ option_map_or (λ t. sent_of s i ++ sent_along t is) o [])
       go None none rest = subst (λ xs. LocalLaws q (local_of s) xs) (sym (append-nil sent)) laws
       go (Some t) taken rest =
@@ -65,15 +66,15 @@ module _ (q : ℕ) where
 
   founded : (s : LocalState) (sent : List Payload) → LocalLaws q (local_of s) sent → IsFounded q s sent
   founded s sent laws = record {
-    one_proposal = λ r e f k l a b. laws.one_proposal r e k f l (contained_in sent (P1 r e k) a) (contained_in sent (P1 r f l) b);
-    from_one = λ r a it. (laws.votes_below r a (contained_in sent (P2 r a) it)).0;
-    one_vote = λ r a b x y. laws.one_vote r a b (contained_in sent (P2 r a) x) (contained_in sent (P2 r b) y);
+    one_proposal = λ r e f k l a b. laws.one_proposal r e k f l (contained_in sent _ a) (contained_in sent _ b);
+    from_one = λ r a it. (laws.votes_below r a (contained_in sent _ it)).0;
+    one_vote = λ r a b x y. laws.one_vote r a b (contained_in sent _ x) (contained_in sent _ y);
     estimate = λ r e k it.
-        first_or_leave_follows q (SentIn sent) (Contains sent) (Heard s.inbox) (IsHeard s.inbox) (in_contained sent) (λ o x h. in_contained s.inbox (message o x) h) r e
-        (laws.entered r e k (contained_in sent (P1 (suc r) e k) it));
+        first_or_leave_follows q _ _ _ _ (in_contained sent) (λ o x h. in_contained s.inbox (message o x) h) r e
+        (laws.entered r e k (contained_in sent _ it));
     vote = λ r v it.
-        aux_follows q (SentIn sent) (Contains sent) (Heard s.inbox) (IsHeard s.inbox) (in_contained sent) (λ o x h. in_contained s.inbox (message o x) h) r v
-        (laws.aux_rests r v (contained_in sent (P2 r (Some v)) it));
+        aux_follows q (SentIn sent) (Contains sent) _ _ (in_contained sent) (λ o x h. in_contained s.inbox (message o x) h) r v
+        (laws.aux_rests r v (contained_in sent _ it));
     decision = λ v it.
         decision_follows q (SentIn sent) (Contains sent) (Heard s.inbox) (IsHeard s.inbox) (in_contained sent) (λ o x h. in_contained s.inbox (message o x) h) v
         (laws.decided v (contained_in sent (D v) it));
@@ -82,28 +83,18 @@ module _ (q : ℕ) where
 
 pub sent_messages_are_founded : SentMessagesAreFounded
 sent_messages_are_founded q input is =
-    founded q (state_along next_state (first_state q input) is) (sent_along (first_state q input) is) (keeps_along q (first_state q input) [] refl (first_laws q input) is)
+    founded q (state_along next_state (first_state q input) is) (sent_along (first_state q input) is)
+    (keeps_along q (first_state q input) [] refl (first_laws q input) is)
 
 -- what the input carries, where it has that payload for the process
 carried : (i : Input) (from : ℕ) (x : Payload) → IsIn x (mail_of i from) → i ≡ input.Recv from x
-carried (input.Recv p y) from x it = go (from == p) refl it
-  where
-    go : (b : Bool) → (from == p) ≡ b → IsIn x (if b then y ∷ [] else []) → input.Recv p y ≡ input.Recv from x
-    go true same (inl is) = let is_p = eqb-true from p same in cc
-    go true same (inr none) = elim none [ ]
-    go false other none = elim none [ ]
-carried (input.Query l) from x none = elim none [ ]
-carried input.Send from x none = elim none [ ]
-carried (input.Read r c) from x none = elim none [ ]
-carried (input.Write r) from x none = elim none [ ]
-carried input.Local from x none = elim none [ ]
-carried input.Learn from x none = elim none [ ]
+carried i from x h1 = grind (arith, common_steps, gets)
 
 pub received_is_brought : ReceivedIsBrought
 received_is_brought s t i taken from x here =
-    let step = table_step (mail_of i) s t [] i (known i) taken in
-    go (step_delivers s.quorum (mail_of i) (local_of s) [] (local_of t) (posted_by s i []) step.0 from x (contained_in t.inbox (message from x) here))
+    let step = table_step _ s t [] i (known i) taken in
+    go (step_delivers _ _ _ [] _ _ step.0 from x (contained_in t.inbox _ here))
   where
     go : Heard s.inbox from x ⊎ IsIn x (mail_of i from) → IsHeard s.inbox from x ⊎ (i ≡ input.Recv from x)
-    go (inl old) = inl (in_contained s.inbox (message from x) old)
+    go (inl old) = inl (in_contained s.inbox _ old)
     go (inr new) = inr (carried i from x new)

@@ -1,5 +1,9 @@
 -- The leader machine makes no value of its own.
-use Rattle.std.proofs.Common.{◌≡◌, ℕ, ◌+◌, Bool, true, false, ◌&&◌, not, ◌⊎◌, List, [], ◌∷◌, ◌++◌, Contains, Option, Some, None, nat_lt, is_some, if◌then◌else◌, inl, inr, refl, sym, ap, subst, ◌∙◌}
+use Rattle.std.proofs.Common.{arith}
+use Rattle.std.proofs.lemmas.Grind.{common_steps}
+use Rattle.std.proofs.lemmas.Option.{gets}
+use Rattle.std.proofs.Common.{◌≡◌, ℕ, ◌+◌, Bool, true, false, ◌&&◌, not, ◌⊎◌, List, [], ◌∷◌, ◌++◌, Contains, Option, Some, None, nat_lt, is_some, if◌then◌else◌}
+use Rattle.std.proofs.Common.{inl, inr, refl, sym, ap, subst, ◌∙◌}
 use Rattle.std.specs.Option.{option_map, option_or}
 use Rattle.cdb_base.specs.declared.payload.Payload.{Payload}
 use Rattle.cdb_base.specs.declared.payload.Payload.TheVariants.{P1, P2, D}
@@ -15,14 +19,15 @@ use Rattle.cdb_leader.specs.declared.place.Place.TheVariants.{L0, L1, L2, L3, L4
 use Rattle.cdb_leader.specs.Inbox.{proposal, is_only_proposal, learnt}
 use Rattle.cdb_leader.specs.LocalState.{LocalState, first_state}
 use Rattle.cdb_leader.specs.Machine.{leader_table}
-use Rattle.cdb_leader.specs.Table.{heard_first_phase, heard_second_phase, heard_lead, is_lead, set_aux, end_round, query_at, payload_at, after_sending_at, send_at, local_at, adopt, learn_at, hear, recv_at, next_state}
+use Rattle.cdb_leader.specs.Table.{heard_first_phase, heard_second_phase, heard_lead, is_lead, set_aux, end_round, query_at, payload_at, after_sending_at}
+use Rattle.cdb_leader.specs.Table.{send_at, local_at, adopt, learn_at, hear, recv_at, next_state}
 use Rattle.cdb_leader.specs.Values.{HoldsValue, as_estimate, as_aux, as_decision, in_message}
 use Rattle.cdb_leader.proofs.Readings.{learnt_heard, agreed_rests, proposal_carried}
 use Rattle.cdb_leader.proofs.Steps.{Heard, message}
 
 -- a process that was heard to carry the value holds it
 heard_holds : (s : LocalState) (o : ℕ) (x : Payload) (v : ℕ) → Heard s.inbox o x → payload_value x ≡ Some v → HoldsValue s v
-heard_holds s o x v here carries = in_message (message o x) (in_contained s.inbox (message o x) here) carries
+heard_holds s o x v here carries = in_message (message o x) (in_contained s.inbox _ here) carries
 
 -- what holds of the values that a state holds holds of each
 by_parts : (s t : LocalState) → HoldsValue s t.estimate → ((v : ℕ) → t.aux ≡ Some v → HoldsValue s v) → ((v : ℕ) → t.decision ≡ Some v → HoldsValue s v)
@@ -41,7 +46,7 @@ module _ (s : LocalState) where
   at t u same quiet = let is : u ≡ t = cc in subst Quiet is quiet
 
   moved : (place : Place) (round : ℕ) (lead : Option ℕ) → Quiet (record s { place = place; round = round; lead = lead })
-  moved place round lead = by_parts s (record s { place = place; round = round; lead = lead }) (as_estimate refl) (λ v is. as_aux is) (λ v is. as_decision is) refl
+  moved place round lead = by_parts s _ (as_estimate refl) (λ v is. as_aux is) (λ v is. as_decision is) refl
 
   settled : Quiet (set_aux s)
   settled =
@@ -51,7 +56,7 @@ module _ (s : LocalState) where
 
   -- another estimate, which the process holds
   adopted : (w : ℕ) (place : Place) → HoldsValue s w → Quiet (record s { estimate = w; place = place })
-  adopted w place holds = by_parts s (record s { estimate = w; place = place }) holds (λ v is. as_aux is) (λ v is. as_decision is) refl
+  adopted w place holds = by_parts s _ holds (λ v is. as_aux is) (λ v is. as_decision is) refl
 
   queried : (p : Place) (l : ℕ) (t : LocalState) → query_at p s l ≡ Some t → Quiet t
   queried L0 l t is = go (nat_lt s.round 999999) is
@@ -82,7 +87,7 @@ module _ (s : LocalState) where
   sent_on L4 t is = absurd (cc)
   sent_on L5 t is =
       at t (after_sending_at L5 s) is
-      (by_parts s (after_sending_at L5 s) (as_estimate refl) (λ v it. as_aux it) (λ v it. let same : s.estimate ≡ v = cc in as_estimate same) refl)
+      (by_parts s _ (as_estimate refl) (λ v it. as_aux it) (λ v it. let same : s.estimate ≡ v = cc in as_estimate same) refl)
   sent_on L6 t is = absurd (cc)
 
   went_on : (p : Place) (t : LocalState) → local_at p s ≡ Some t → Quiet t
@@ -101,7 +106,7 @@ module _ (s : LocalState) where
       ends (Some w) some it =
           let carried = proposal_carried s.round s.inbox w some in
           at t (end_round s (Some w)) it
-          (adopted w (if is_only_proposal s.round w s.inbox then L5 else L0) (heard_holds s carried.0 (P2 s.round (Some w)) w carried.1 refl))
+          (adopted w (if is_only_proposal s.round w s.inbox then L5 else L0) (heard_holds s _ _ w carried.1 refl))
 
       go : (b : Bool) → (if b then Some (end_round s (proposal s.round s.inbox)) else None) ≡ Some t → Quiet t
       go true it = ends (proposal s.round s.inbox) refl it
@@ -132,13 +137,14 @@ module _ (s : LocalState) where
   heard_one o x v (as_estimate is) = inl (as_estimate is)
   heard_one o x v (as_aux is) = inl (as_aux is)
   heard_one o x v (as_decision is) = inl (as_decision is)
-  heard_one o x v (in_message m here carries) = go (in_push m (message o x) s.inbox (contained_in (s.inbox ++ message o x ∷ []) m here))
+  heard_one o x v (in_message m here carries) = go (in_push m _ s.inbox (contained_in _ m here))
     where
       go : IsIn m s.inbox ⊎ (m ≡ message o x) → HoldsValue s v ⊎ (payload_value x ≡ Some v)
       go (inl old) = inl (in_message m (in_contained s.inbox m old) carries)
       go (inr new) = inr (sym (ap (λ (e : Received). payload_value e.payload) new) ∙ carries)
 
-  received : (p : Place) (o : ℕ) (x : Payload) (t : LocalState) → recv_at p s o x ≡ Some t → (v : ℕ) → HoldsValue t v → HoldsValue s v ⊎ (payload_value x ≡ Some v)
+  received : (p : Place) (o : ℕ) (x : Payload) (t : LocalState) → recv_at p s o x ≡ Some t → (v : ℕ) → HoldsValue t v
+      → HoldsValue s v ⊎ (payload_value x ≡ Some v)
   received p o x t is v holds = go p is
     where
       one : hear s o x ≡ Some t → HoldsValue s v ⊎ (payload_value x ≡ Some v)
@@ -163,10 +169,7 @@ taken s t input.Local is v holds = inl (went_on s s.place t is v holds)
 taken s t input.Learn is v holds = inl (learns s s.place t is v holds)
 
 first : (q given v : ℕ) → HoldsValue (first_state q given) v → v ≡ given
-first q given v (as_estimate is) = sym is
-first q given v (as_aux is) = absurd (cc)
-first q given v (as_decision is) = absurd (cc)
-first q given v (in_message m here carries) = let none = contained_in [] m here in elim none [ ]
+first q given v h1 = grind (arith, common_steps, gets)
 
 -- what is sent is the estimate or what came of the first phase
 payload_held : (p : Place) (s : LocalState) (x : Payload) (v : ℕ) → payload_at p s ≡ Some x → payload_value x ≡ Some v → HoldsValue s v
@@ -194,14 +197,10 @@ payload_held L6 s x v is carries = absurd (cc)
 
 -- what a process of the machine wishes is no more than its table's send
 wish_sends : (o : Option Payload) (b : Bool) → wished_payload (option_or (option_map wished.Send o) (if b then Some wished.Local else None)) ≡ o
-wish_sends (Some x) b = refl
-wish_sends None true = refl
-wish_sends None false = refl
+wish_sends o b = grind (arith, common_steps, gets)
 
 writes_none : (o : Option Payload) (b : Bool) → wished_cell (option_or (option_map wished.Send o) (if b then Some wished.Local else None)) ≡ None
-writes_none (Some x) b = refl
-writes_none None true = refl
-writes_none None false = refl
+writes_none o b = grind (arith, common_steps, gets)
 
 pub makes_no_value : MakesNoValue leader_table HoldsValue
 makes_no_value = record {

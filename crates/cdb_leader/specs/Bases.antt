@@ -1,7 +1,7 @@
 -- What a message or a choice of the leader machine rests on.
 --
--- `sent x` says that a process has sent the payload x, `heard s x` that it has received x from s. Nothing else of a process
--- matters here, and nothing of how the two are kept.
+-- `sent x` says that a process has sent the payload x, `heard s x` that it has received x from s. Nothing else of a
+-- process matters here, and nothing of how the two are kept.
 use Rattle.std.specs.Prelude.{◌≡◌, ℕ, Option, Some, None, ◌⊎◌}
 use Rattle.cdb_base.specs.declared.payload.Payload.{Payload}
 use Rattle.cdb_base.specs.declared.payload.Payload.TheVariants.{P1, P2, D}
@@ -22,8 +22,8 @@ Carried heard r e = (c : ℕ) × heard c (P2 r (Some e))
 abbrev pub Voted : (ℕ → Payload → Type 0) → ℕ → ℕ → ℕ → Type 0
 Voted heard r e s = (a : Option ℕ) × heard s (P2 r a) × ((a ≡ None) ⊎ Carried heard r e)
 
--- a quorum voted in the second phase of round r, and e was voted, or is what the process proposed there itself where all of
--- that quorum voted none
+-- a quorum voted in the second phase of round r, and e was voted, or is what the process proposed there itself where
+-- all of that quorum voted none
 pub record LeaveBasis (q : ℕ) (sent : Payload → Type 0) (heard : ℕ → Payload → Type 0) (r e : ℕ) : Type 0 where
   pub quorum : IsQuorum q (Voted heard r e)
   pub value : Carried heard r e ⊎ ((l : ℕ) × sent (P1 r e l))

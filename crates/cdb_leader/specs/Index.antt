@@ -1,5 +1,6 @@
 -- Where in an inbox the first messages of each kind stand.
-use Rattle.std.specs.Prelude.{◌≡◌, ℕ, zero, suc, ◌==◌, Bool, true, false, not, List, [], ◌∷◌, Option, Some, None, is_some, take, drop, nat_eq, nat_le, count_by, if◌then◌else◌}
+use Rattle.std.specs.Prelude.{◌≡◌, ℕ, zero, suc, ◌==◌, Bool, true, false, not, List, [], ◌∷◌, Option, Some, None}
+use Rattle.std.specs.Prelude.{is_some, take, drop, nat_eq, nat_le, count_by, if◌then◌else◌}
 use Rattle.std.specs.Option.{option_map, option_flatten}
 use Rattle.std.specs.List.{list_all}
 use Rattle.std.specs.HashMap.{get}

@@ -1,6 +1,6 @@
 -- Quorums of processes.
 use Rattle.std.specs.Prelude.{◌≡◌, ℕ, zero, suc, ◌+◌, ◌*◌, ◌<◌, ◌≤◌, Bool, true, cond}
-use Rattle.cdb_base.specs.declared.limits.TheConstants.{MAX_PROCESSES}
+use Rattle.cdb_base.specs.Limits.{MAX_PROCESSES}
 
 -- how many of the processes 1 to n pass the test
 abbrev pub count_processes : ℕ → (ℕ → Bool) → ℕ
@@ -9,7 +9,8 @@ count_processes (suc n) test = count_processes n test + cond (test (suc n)) 1 0
 
 -- at least q processes of 1 to 9, picked by a test, have the property
 abbrev pub IsQuorum : ℕ → (ℕ → Type 0) → Type 0
-IsQuorum q P = (test : ℕ → Bool) × (q ≤ count_processes MAX_PROCESSES test) × ((s : ℕ) → 1 ≤ s → s ≤ MAX_PROCESSES → test s ≡ true → P s)
+IsQuorum q P = (test : ℕ → Bool) × (q ≤ count_processes MAX_PROCESSES test)
+    × ((s : ℕ) → 1 ≤ s → s ≤ MAX_PROCESSES → test s ≡ true → P s)
 
 -- only processes of 1 to n pass the test
 abbrev pub IsPickOf : ℕ → (ℕ → Bool) → Type 0

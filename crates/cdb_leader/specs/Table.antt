@@ -1,8 +1,9 @@
 -- The table of the leader machine: for each place and input the state after it, where the machine
 -- accepts the input.
-use Rattle.std.specs.Prelude.{ℕ, ◌+◌, Bool, true, false, ◌==◌, ◌&&◌, not, nat_le, nat_lt, ◌++◌, [], ◌∷◌, Option, Some, None, is_some, if◌then◌else◌}
+use Rattle.std.specs.Prelude.{ℕ, ◌+◌, Bool, true, false, ◌==◌, ◌&&◌, not, nat_le, nat_lt, ◌++◌, [], ◌∷◌, Option, Some}
+use Rattle.std.specs.Prelude.{None, is_some, if◌then◌else◌}
 use Rattle.std.specs.Option.{option_or, option_map, option_and_then}
-use Rattle.cdb_base.specs.declared.limits.TheConstants.{MAX_ROUND}
+use Rattle.cdb_base.specs.Limits.{MAX_ROUND}
 use Rattle.cdb_base.specs.declared.payload.Payload.{Payload}
 use Rattle.cdb_base.specs.declared.payload.Payload.TheVariants.{P1, P2, D}
 use Rattle.cdb_process.specs.declared.Input.{Input}
@@ -11,7 +12,8 @@ use Rattle.cdb_process.specs.declared.Input.TheVariants as input
 use Rattle.cdb_process.specs.declared.Wish.TheVariants as wished
 use Rattle.cdb_leader.specs.declared.place.Place.{Place}
 use Rattle.cdb_leader.specs.declared.place.Place.TheVariants.{L0, L1, L2, L3, L4, L5, L6}
-use Rattle.cdb_leader.specs.Inbox.{first_phase_senders, first_phase_from, agreed_estimate, second_phase_senders, proposal, is_only_proposal, learnt}
+use Rattle.cdb_leader.specs.Inbox.{first_phase_senders, first_phase_from, agreed_estimate, second_phase_senders}
+use Rattle.cdb_leader.specs.Inbox.{proposal, is_only_proposal, learnt}
 use Rattle.cdb_leader.specs.LocalState.{LocalState}
 
 -- the first phase of the round came from at least as many senders as the quorum
@@ -114,4 +116,5 @@ next_state s input.Learn = learn_at s.place s
 -- what the process would do of itself: send, where a send is due, or go on
 abbrev pub wish_of : LocalState → Option Wish
 wish_of s =
-    option_or (option_map wished.Send (payload_at s.place s)) (if is_some (local_at s.place s) then Some wished.Local else None)
+    option_or (option_map wished.Send (payload_at s.place s))
+    (if is_some (local_at s.place s) then Some wished.Local else None)

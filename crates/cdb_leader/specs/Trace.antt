@@ -33,7 +33,8 @@ pub record IsFounded (q : ℕ) (s : LocalState) (sent : List Payload) : Type 0 w
   pub from_one : (r : ℕ) (a : Option ℕ) → Contains sent (P2 r a) → 1 ≤ r
   -- an estimate rests on the votes of the round before, a vote with a value on a quorum for one leader, a
   -- decision on votes that were alike, or on a decision that was received
-  pub estimate : (r e k : ℕ) → Contains sent (P1 (suc r) e k) → (r ≡ 0) ⊎ LeaveBasis q (Contains sent) (IsHeard s.inbox) r e
+  pub estimate : (r e k : ℕ) → Contains sent (P1 (suc r) e k)
+      → (r ≡ 0) ⊎ LeaveBasis q (Contains sent) (IsHeard s.inbox) r e
   pub vote : (r v : ℕ) → Contains sent (P2 r (Some v)) → AuxBasis q (IsHeard s.inbox) r v
   pub decision : (v : ℕ) → Contains sent (D v) → DecisionBasis q (IsHeard s.inbox) v
   -- what the process has decided it has sent
@@ -41,7 +42,8 @@ pub record IsFounded (q : ℕ) (s : LocalState) (sent : List Payload) : Type 0 w
 
 -- whatever inputs a process takes in turn
 abbrev pub SentMessagesAreFounded : Type 0
-SentMessagesAreFounded = (q input : ℕ) (is : List Input) → IsFounded q (state_along next_state (first_state q input) is) (sent_along (first_state q input) is)
+SentMessagesAreFounded = (q input : ℕ) (is : List Input)
+    → IsFounded q (state_along next_state (first_state q input) is) (sent_along (first_state q input) is)
 
 -- what a process has received after an input it had received before, or the input brought it
 abbrev pub ReceivedIsBrought : Type 0

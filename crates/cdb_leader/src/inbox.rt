@@ -4,7 +4,9 @@ ghost use Rattle.std.specs.Prelude.{◌≡◌, IsTrue, ◌↔◌, [], ◌∷◌,
 ghost use Rattle.std.specs.Option.{option_copied, option_and_then};
 ghost use Rattle.cdb_base.specs.Positions.{without_last};
 ghost use Rattle.cdb_base.specs.Processes.{all_processes};
-ghost use Rattle.cdb_leader.specs.Inbox.{first_phase, second_phase, first_phase_from, second_phase_from, decision_from, first_phase_senders, agreed_estimate, second_phase_senders, proposal, is_only_proposal, learnt};
+ghost use Rattle.cdb_leader.specs.Inbox.{first_phase, second_phase, first_phase_from, second_phase_from, decision_from};
+ghost use Rattle.cdb_leader.specs.Inbox.{first_phase_senders, agreed_estimate, second_phase_senders, proposal};
+ghost use Rattle.cdb_leader.specs.Inbox.{is_only_proposal, learnt};
 ghost use Rattle.cdb_leader.specs.Index.{known, later, AreFirsts, IsRowOf, said_by};
 
 use crate::first_phases::FirstPhases;
@@ -56,7 +58,7 @@ impl Received {
     }
 
     /// The message as a first-phase message of that round from that sender.
-    pub(crate) fn first_phase(&self, in_round: u32, sender: Proc) -> Option<FirstPhase>
+    pub fn first_phase(&self, in_round: u32, sender: Proc) -> Option<FirstPhase>
         ensures { result ≡ if_from sender (first_phase in_round) self.now }
     {
         match self.payload {
@@ -71,7 +73,7 @@ impl Received {
     }
 
     /// The message as a second-phase message of that round from that sender.
-    pub(crate) fn second_phase(&self, in_round: u32, sender: Proc) -> Option<Option<Val>>
+    pub fn second_phase(&self, in_round: u32, sender: Proc) -> Option<Option<Val>>
         ensures { result ≡ if_from sender (second_phase in_round) self.now }
     {
         match self.payload {
@@ -81,7 +83,7 @@ impl Received {
     }
 
     /// The message as a decision of that sender.
-    pub(crate) fn decision(&self, sender: Proc) -> Option<Val>
+    pub fn decision(&self, sender: Proc) -> Option<Val>
         ensures { result ≡ if_from sender as_decision self.now }
     {
         match self.payload {
@@ -148,6 +150,13 @@ impl Inbox {
         if let Some(message) = self.messages.pop() {
             self.index.forget(&self.messages, &message);
         }
+    }
+
+    /// The messages, in the order of receipt.
+    pub(crate) fn messages(&self) -> &[Received]
+        ensures { result.now ≡ self.now }
+    {
+        &self.messages
     }
 
     /// The messages that the index knows.

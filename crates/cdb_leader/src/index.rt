@@ -1,4 +1,5 @@
-//! An index of the first messages of an inbox: for each round and sender the first message of each phase, and for each sender its first decision.
+//! An index of the first messages of an inbox: for each round and sender the first message of each phase, and for each
+//! sender its first decision.
 
 ghost use Rattle.std.specs.Prelude.{◌≡◌, ◌<◌, length, List, [], ◌∷◌, ◌++◌, OnOk, OnErr};
 ghost use Rattle.cdb_leader.specs.declared.inbox.Received.{Received};

@@ -7,11 +7,7 @@ use crate::inbox::{FirstPhase, Received};
 use cdb_base::{Proc, Val};
 
 /// The first-phase message of that round from that sender.
-pub(crate) fn find_first_phase(
-    messages: &[Received],
-    round: u32,
-    sender: Proc,
-) -> Option<FirstPhase>
+pub fn find_first_phase(messages: &[Received], round: u32, sender: Proc) -> Option<FirstPhase>
     ensures { result ≡ first_phase_from round sender messages.now }
 {
     for message in messages {
@@ -23,11 +19,7 @@ pub(crate) fn find_first_phase(
 }
 
 /// The second-phase message of that round from that sender.
-pub(crate) fn find_second_phase(
-    messages: &[Received],
-    round: u32,
-    sender: Proc,
-) -> Option<Option<Val>>
+pub fn find_second_phase(messages: &[Received], round: u32, sender: Proc) -> Option<Option<Val>>
     ensures { result ≡ second_phase_from round sender messages.now }
 {
     for message in messages {
@@ -39,7 +31,7 @@ pub(crate) fn find_second_phase(
 }
 
 /// The decision of that sender.
-pub(crate) fn find_decision(messages: &[Received], sender: Proc) -> Option<Val>
+pub fn find_decision(messages: &[Received], sender: Proc) -> Option<Val>
     ensures { result ≡ decision_from sender messages.now }
 {
     for message in messages {

@@ -47,13 +47,56 @@ impl Model for Leader {
 
 impl Leader {
     ghost use Rattle.cdb_leader.specs.LocalState.{LocalState};
-    ghost use Rattle.cdb_leader.specs.Table.{heard_first_phase, heard_second_phase, heard_lead, set_aux, end_round, query_at, payload_at, send_at, local_at, learn_at, recv_at};
+    ghost use Rattle.cdb_leader.specs.Table.{heard_first_phase, heard_second_phase, heard_lead, set_aux, end_round};
+    ghost use Rattle.cdb_leader.specs.Table.{query_at, payload_at, send_at, local_at, learn_at, recv_at};
     ghost use Rattle.cdb_leader.specs.Place.{is_last};
     ghost use Rattle.cdb_leader.specs.Inbox.{proposal};
     ghost use Rattle.cdb_leader.specs.Back.{state_before};
 
+    /// Where the process stands in its round.
+    pub fn stands_at(&self) -> Place
+        ensures { result ≡ self.now.place }
+    {
+        self.place
+    }
+
+    /// From how many processes a phase has to come.
+    pub fn quorum(&self) -> u8
+        ensures { result ≡ self.now.quorum }
+    {
+        self.quorum
+    }
+
+    /// The value that the process holds.
+    pub fn estimate(&self) -> Val
+        ensures { result ≡ self.now.estimate }
+    {
+        self.estimate
+    }
+
+    /// The leader that the oracle named when the round began.
+    pub fn lead(&self) -> Option<Proc>
+        ensures { result ≡ self.now.lead }
+    {
+        self.lead
+    }
+
+    /// What came of the first phase.
+    pub fn aux(&self) -> Option<Val>
+        ensures { result ≡ self.now.aux }
+    {
+        self.aux
+    }
+
+    /// The messages that the process has received, in the order of receipt.
+    pub fn received(&self) -> &[Received]
+        ensures { result.now ≡ self.now.inbox }
+    {
+        self.inbox.messages()
+    }
+
     /// Whether the first phase of the round came from at least as many senders as the quorum.
-    fn heard_first_phase(&self) -> bool
+    pub fn heard_first_phase(&self) -> bool
         ensures { result ≡ heard_first_phase self.now }
     {
         usize::from(self.quorum) <= self.inbox.count_first_phase(self.round)

@@ -1,13 +1,12 @@
 -- Which copies are received or lost after a receive, a loss, or one that was taken back, and so what may be passed over.
-use Rattle.std.proofs.Common.{◌≡◌, ◌≢◌, ℕ, ◌≤◌, Bool, true, false, not, ◌&&◌, ◌||◌, List, Some, set, refl, ap, ◌∙◌, inl, inr, arith}
-use Rattle.std.specs.Prelude.{◌⊎◌, slice_get}
+use Rattle.std.proofs.Common.{◌≡◌, ◌≢◌, ℕ, ◌≤◌, Bool, true, false, not, ◌&&◌, ◌||◌, refl, ap, ◌∙◌, inl, inr, arith}
 use Rattle.std.proofs.lemmas.Grind.{common_steps}
 use Rattle.std.proofs.lemmas.Option.{gets}
 use Rattle.std.specs.Ordering.{eq_by_cmp}
 use Rattle.std.specs.Cmp.{IsTotalOrder, Equal-is}
 use Rattle.std.specs.declared.cmp.Ordering.{Ordering}
 use Rattle.std.specs.FinSet as finite
-use Rattle.cdb_base.specs.Positions.{nth, set_nth}
+use Rattle.cdb_base.specs.Positions.{set_nth}
 use Rattle.cdb_base.specs.declared.name.MsgName.{MsgName}
 use Rattle.cdb_base.specs.declared.name.CopyName.{CopyName}
 use Rattle.cdb_message.specs.Names.{NameSet}
@@ -36,15 +35,6 @@ module _ {K : Type 0} {R : K → K → Ordering} (total : IsTotalOrder R) (antis
       ∙ both-true (eq_by_cmp R q k) (finite.contains s q) (λ tie. other (antisymmetric q k ((Equal-is (R q k)).0 tie))) h
 
 -- ---- positions
-
--- a position of a list in which one position was set holds what was set there, or what it held
-slice_get-set : {A : Type 0} (xs : List A) (i j : ℕ) (y : A)
-    → ((j ≡ i) × (slice_get (set xs i y) j ≡ Some y)) ⊎ (slice_get (set xs i y) j ≡ slice_get xs j)
-slice_get-set xs i j y = grind (arith, common_steps, gets)
-
-pub nth-set_nth : {A : Type 0} (xs : List A) (p q : ℕ) (y : A)
-    → ((q ≡ p) × (nth (set_nth xs p y) q ≡ Some y)) ⊎ (nth (set_nth xs p y) q ≡ nth xs q)
-nth-set_nth xs p q y = grind (arith, common_steps, gets)
 
 -- what process q received, where that of process p was set
 set_received-cases : (mail : MailState) (p q : ℕ) (names : NameSet) (other : MsgName)
@@ -79,7 +69,8 @@ module _ (passed : Passed) (mail : MailState) (closed : AreClosed passed mail) w
 
   pub closed-add_loss : (copy : CopyName) → AreClosed passed (add_loss mail copy)
   closed-add_loss copy q t m from is =
-      still_closed _ _ _ _ (λ h. h) (stays-insert copy_cmp_total copy_cmp-IsAntisymmetric mail.lost copy (copy_name (message_name t m) q)) (closed q t m from is)
+      still_closed _ _ _ _ (λ h. h) (stays-insert copy_cmp_total copy_cmp-IsAntisymmetric mail.lost copy
+      (copy_name (message_name t m) q)) (closed q t m from is)
 
   -- one copy was left out
   module _ (left : Passed) (p s number : ℕ) (leaves : LeavesOut passed left p s number) where

@@ -1,19 +1,12 @@
 -- How the floors change.
-use Rattle.std.proofs.Common.{◌≡◌, ◌≢◌, ℕ, suc, ◌+◌, ◌<◌, Bool, ◌&&◌, List, Option, Some, length, get_or, set, arith, refl}
-use Rattle.std.specs.Prelude.{◌==◌, if◌then◌else◌, slice_get, unwrap_or}
+use Rattle.std.proofs.Common.{◌≡◌, ℕ, suc, ◌+◌, ◌<◌, Bool, ◌&&◌, List, Option, length, get_or, set, arith, refl}
+use Rattle.std.specs.Prelude.{◌==◌, if◌then◌else◌, unwrap_or}
 use Rattle.std.specs.Option.{option_map}
 use Rattle.std.proofs.lemmas.Grind.{common_steps}
 use Rattle.std.proofs.lemmas.Option.{gets}
 use Rattle.cdb_base.specs.Positions.{nth}
 use Rattle.cdb_message.specs.declared.floors.Row.{Row}
 use Rattle.cdb_message.specs.Floors.{number_up_to, floor_of}
-
--- what stands at a position of a list in which one position was set
-slice_get-same : {A : Type 0} (xs : List A) (i : ℕ) (y : A) → i < length xs → slice_get (set xs i y) i ≡ Some y
-slice_get-same xs i y h = grind (arith, common_steps, gets)
-
-slice_get-other : {A : Type 0} (xs : List A) (i j : ℕ) (y : A) → j ≢ i → slice_get (set xs i y) j ≡ slice_get xs j
-slice_get-other xs i j y h = grind (arith, common_steps, gets)
 
 module _ (rows : List Row) (i p s number : ℕ) (d row changed : Row) (at : i + 1 ≡ p) (within : i < length rows) (is : row ≡ get_or rows i d)
     (changes : (t : ℕ) → number_up_to changed t ≡ (if t == s then number else number_up_to row t)) where

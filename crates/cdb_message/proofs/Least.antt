@@ -1,12 +1,14 @@
 -- The pending message that is found first is the least.
-use Rattle.std.proofs.Common.{◌≡◌, ℕ, zero, suc, ◌+◌, ◌<◌, ◌≤◌, Bool, true, false, ◌&&◌, cond, List, [], ◌∷◌, ◌++◌, length, Option, None, Some, map, filter, find, refl, sym, subst, ◌∙◌, arith, inl, inr, nat_le}
+use Rattle.std.proofs.Common.{◌≡◌, ℕ, zero, suc, ◌+◌, ◌<◌, ◌≤◌, Bool, true, false, ◌&&◌, cond, List, [], ◌∷◌, ◌++◌, length, Option, None, Some, map, filter}
+use Rattle.std.proofs.Common.{find, refl, sym, subst, ◌∙◌, arith, inl, inr, nat_le}
 use Rattle.std.specs.Prelude.{MatchOption}
 use Rattle.std.specs.List.{AllByRecursion, range_with_len, flat_map}
 use Rattle.std.proofs.lemmas.Bool.{cases_eq}
 use Rattle.std.proofs.lemmas.Bool.Decides.{nat_tests}
 use Rattle.std.proofs.lemmas.Option.{none-some, same_Some}
 use Rattle.cdb_base.specs.declared.name.MsgName.{MsgName}
-use Rattle.cdb_message.specs.Mail.{MailState, message_name, sent_by, sent_names, messages_of, is_sent, is_open, is_above, copies_for, next_pending, IsPending, IsLeastPending, HasNonePending}
+use Rattle.cdb_message.specs.Mail.{MailState, message_name, sent_by, sent_names, messages_of, is_sent, is_open, is_above, copies_for, next_pending, IsPending}
+use Rattle.cdb_message.specs.Mail.{IsLeastPending, HasNonePending}
 use Rattle.cdb_message.specs.Names.{is_name_below}
 use Rattle.cdb_message.proofs.Rising.{Rise, all-mapped, all-joined, all_nine, below-not_back, copies-rise, not_below_itself}
 use Rattle.cdb_message.proofs.Sent.{is_sent_within, unsent_by_none}
@@ -73,7 +75,8 @@ found-least test (first ∷ names) name rise found = go (test first) refl (found
         → cond b (Some first) (find test names) ≡ Some name
         → (test first ≡ true → is_name_below first name ≡ false) × AllByRecursion (λ other. test other ≡ true → is_name_below other name ≡ false) names
     go true is rest h =
-        subst (λ least. (test first ≡ true → is_name_below first least ≡ false) × AllByRecursion (λ other. test other ≡ true → is_name_below other least ≡ false) names)
+        subst (λ least. (test first ≡ true → is_name_below first least ≡ false)
+        × AllByRecursion (λ other. test other ≡ true → is_name_below other least ≡ false) names)
         (same_Some first name h) (
           (λ passes. not_below_itself first),
           all-mapped (λ other. is_name_below first other ≡ true) (λ other. test other ≡ true → is_name_below other first ≡ false) names

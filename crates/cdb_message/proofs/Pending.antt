@@ -1,7 +1,8 @@
 -- The first pending message, looked for among the messages of one sender after another.
 use Rattle.std.proofs.lemmas.Grind.{common_steps}
 use Rattle.std.proofs.lemmas.Option.{gets}
-use Rattle.std.proofs.Common.{◌≡◌, ℕ, suc, zero, ◌+◌, ◌-◌, ◌<◌, ◌≤◌, Bool, true, false, cond, List, ◌∷◌, Option, None, Some, length, get_or, drop, max, refl, sym, ◌∙◌, arith, map, filter, find, inl, inr, add-one}
+use Rattle.std.proofs.Common.{◌≡◌, ℕ, suc, zero, ◌+◌, ◌-◌, ◌<◌, ◌≤◌, Bool, true, false, cond, List, ◌∷◌, Option, None, length, get_or, drop, max, refl}
+use Rattle.std.proofs.Common.{sym, ◌∙◌, arith, map, filter, find, inl, inr, add-one}
 use Rattle.std.specs.Prelude.{nat_le}
 use Rattle.std.proofs.lemmas.Bool.{cases_lt}
 use Rattle.std.proofs.lemmas.List.Elements.{filter-append}
@@ -31,7 +32,8 @@ find-passed name is_open m (suc k) end closed =
     elim (cases_lt m end) [
       | inl within ↦
           let same : m + suc k ≡ m + 1 + k = omega arith in
-          rw same (find-passed name is_open (m + 1) k end (λ j from to. closed j (omega arith) (omega arith)) ∙ find-closed name is_open m end within (closed m (omega arith) (omega arith)))
+          rw same (find-passed name is_open (m + 1) k end (λ j from to. closed j (omega arith) (omega arith))
+          ∙ find-closed name is_open m end within (closed m (omega arith) (omega arith)))
       | inr past ↦
           let none : end - m ≡ 0 = omega arith in
           let none_behind : end - (m + suc k) ≡ 0 = omega arith in
@@ -47,11 +49,6 @@ module _ (above is_open : MsgName → Bool) where
       → find above (cond o (x ∷ filter is_open xs) (filter is_open xs)) ≡ first_pending xs
   first-below true x xs e = rw e refl
   first-below false x xs e = refl
-
-  first-above : (o : Bool) (x : MsgName) (xs : List MsgName) → above x ≡ true → first_pending xs ≡ find is_open xs
-      → find above (cond o (x ∷ filter is_open xs) (filter is_open xs)) ≡ cond o (Some x) (find is_open xs)
-  first-above true x xs e rest = rw e refl
-  first-above false x xs e rest = rest
 
   -- the first name is below `low`, or else the one sought stands from here on
   next-number : (b : Bool) (name : ℕ → MsgName) (low m k start len : ℕ) → nat_le low m ≡ b → above (name m) ≡ b

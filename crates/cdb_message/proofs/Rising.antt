@@ -76,7 +76,8 @@ module _ (mail : MailState) where
   senders-from s low zero h = tt
   senders-from s low (suc n) h =
       all-joined (λ (name : MsgName). s < name.s) (messages_of mail low) (flat_map (messages_of mail) (range_with_len (low + 1) n))
-      (all-mapped (λ (name : MsgName). name.s ≡ low) (λ name. s < name.s) (messages_of mail low) (λ name is. omega (arith, is)) (numbers-sender low 1 (length (sent_by mail low))))
+      (all-mapped (λ (name : MsgName). name.s ≡ low) (λ name. s < name.s) (messages_of mail low) (λ name is. omega (arith, is))
+      (numbers-sender low 1 (length (sent_by mail low))))
       (senders-from s (low + 1) n (omega arith))
 
   senders-rise : (low n : ℕ) → Rise (flat_map (messages_of mail) (range_with_len low n))
@@ -85,7 +86,8 @@ module _ (mail : MailState) where
       let more = flat_map (messages_of mail) (range_with_len (low + 1) n) in
       rise-joined (messages_of mail low) more (numbers-rise low 1 (length (sent_by mail low))) (senders-rise (low + 1) n)
       (all-mapped (λ (name : MsgName). name.s ≡ low) (λ name. AreAbove name more) (messages_of mail low)
-      (λ name is. all-mapped (λ (other : MsgName). low < other.s) (λ other. is_name_below name other ≡ true) more (λ other later. later_sender name other (omega (arith, is, later))) (senders-from low (low + 1) n (omega arith)))
+      (λ name is. all-mapped (λ (other : MsgName). low < other.s) (λ other. is_name_below name other ≡ true) more
+      (λ other later. later_sender name other (omega (arith, is, later))) (senders-from low (low + 1) n (omega arith)))
       (numbers-sender low 1 (length (sent_by mail low))))
 
   pub all_nine : all_processes ≡ range_with_len 1 9

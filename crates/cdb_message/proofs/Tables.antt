@@ -1,7 +1,8 @@
 -- What a set flag does to the set of a table.
 use Rattle.std.proofs.lemmas.Grind.{common_steps}
 use Rattle.std.proofs.lemmas.Option.{gets}
-use Rattle.std.proofs.Common.{◌≡◌, inl, inr, ℕ, zero, suc, ◌+◌, ◌-◌, ◌*◌, ◌<◌, ◌≤◌, ◌==◌, Bool, true, false, not, ◌&&◌, ◌||◌, nat_le, List, [], ◌∷◌, map, filter, refl, sym, ◌∙◌, ap, arith}
+use Rattle.std.proofs.Common.{◌≡◌, inl, inr, ℕ, zero, suc, ◌+◌, ◌<◌, ◌≤◌, ◌==◌, Bool, true, false, not, ◌&&◌, ◌||◌, nat_le, List, [], ◌∷◌, map}
+use Rattle.std.proofs.Common.{filter, refl, sym, ◌∙◌, ap, arith}
 use Rattle.std.proofs.lemmas.Bool.{cases_eq}
 use Rattle.std.proofs.lemmas.Bool.Decides.{nat_tests}
 use Rattle.std.specs.List.{list_any, flat_map, range_with_len}
@@ -14,7 +15,8 @@ use Rattle.std.specs.FinSet as set
 use Rattle.cdb_base.specs.Processes.{all_processes}
 use Rattle.cdb_base.specs.declared.name.MsgName.{MsgName}
 use Rattle.cdb_base.specs.declared.name.CopyName.{CopyName}
-use Rattle.cdb_message.specs.Flags.{flag_in, SetsFlag, KeyTable, has_key, keys_in, is_process, is_name, names_of_number, count_numbers, all_names, name_table, is_copy, copies_of_name, all_copies, copy_table}
+use Rattle.cdb_message.specs.Flags.{flag_in, SetsFlag, KeyTable, has_key, keys_in, is_process, is_name, names_of_number, count_numbers, all_names, name_table}
+use Rattle.cdb_message.specs.Flags.{is_copy, copies_of_name, all_copies, copy_table}
 use Rattle.cdb_message.specs.Mail.{message_name, copy_name}
 use Rattle.cdb_message.specs.Names.{name_cmp, copy_cmp}
 use Rattle.cdb_message.proofs.Sets.{name_cmp_total, name_cmp-IsAntisymmetric, copy_cmp_total, copy_cmp-IsAntisymmetric}
@@ -49,7 +51,8 @@ module _ {K : Type 0} {R : K → K → Ordering} (total : IsTotalOrder R) (antis
       (λ q. contains-kept new q ∙ go q (eq_by_cmp R q k) refl
       ∙ sym (set.contains-remove total (kept old) k q ∙ ap (λ b. not (eq_by_cmp R q k) && b) (contains-kept old q)))
     where
-      go : (q : K) (b : Bool) → eq_by_cmp R q k ≡ b → (new q && list_any (eq_by_cmp R q) all) ≡ (not (eq_by_cmp R q k) && (old q && list_any (eq_by_cmp R q) all))
+      go : (q : K) (b : Bool) → eq_by_cmp R q k ≡ b
+          → (new q && list_any (eq_by_cmp R q) all) ≡ (not (eq_by_cmp R q k) && (old q && list_any (eq_by_cmp R q) all))
       go q true e = rw (e, is_same q k e, is) refl
       go q false e = rw (e, others q e) refl
 
@@ -96,12 +99,14 @@ module _ {K : Type 0} {R : K → K → Ordering} {table : KeyTable R} (is_table 
     is_kept q h1 = grind (arith, common_steps, gets)
 
   -- a flag that is set adds its key, one that is cleared takes it out
-  pub key_inserted : (old new : List Bool) (k : K) → table.is_key k ≡ true → SetsFlag old new (table.cell k) true → keys_in table new ≡ set.insert (keys_in table old) k
+  pub key_inserted : (old new : List Bool) (k : K) → table.is_key k ≡ true → SetsFlag old new (table.cell k) true
+      → keys_in table new ≡ set.insert (keys_in table old) k
   key_inserted old new k is_key sets =
       kept-insert is_table.total is_table.antisymmetric table.all (has_key table old) (has_key table new) k (is_table.is_listed k is_key)
       (is_set old new k true is_key sets) (is_kept old new k true is_key sets)
 
-  pub key_removed : (old new : List Bool) (k : K) → table.is_key k ≡ true → SetsFlag old new (table.cell k) false → keys_in table new ≡ set.remove (keys_in table old) k
+  pub key_removed : (old new : List Bool) (k : K) → table.is_key k ≡ true → SetsFlag old new (table.cell k) false
+      → keys_in table new ≡ set.remove (keys_in table old) k
   key_removed old new k is_key sets =
       kept-remove is_table.total is_table.antisymmetric table.all (has_key table old) (has_key table new) k
       (is_set old new k false is_key sets) (is_kept old new k false is_key sets)
@@ -109,7 +114,8 @@ module _ {K : Type 0} {R : K → K → Ordering} {table : KeyTable R} (is_table 
   -- the flag of a key says whether it is in the set
   pub contains_key : (flags : List Bool) (k : K) → table.is_key k ≡ true → flag_in flags (table.cell k) ≡ set.contains (keys_in table flags) k
   contains_key flags k is_key =
-      sym (contains-kept is_table.total is_table.antisymmetric table.all (has_key table flags) k ∙ rw (is_key, is_table.is_listed k is_key) (and-true (flag_in flags (table.cell k))))
+      sym (contains-kept is_table.total is_table.antisymmetric table.all (has_key table flags) k
+      ∙ rw (is_key, is_table.is_listed k is_key) (and-true (flag_in flags (table.cell k))))
 
   -- without flags no key is
   pub no_keys : keys_in table [] ≡ set.empty
@@ -162,10 +168,6 @@ is_listed_name k named =
     count_numbers 0 (omega arith) (below_count k.m parts.1)
 
 -- ---- the tables of names and of copies
-
--- of a number and a process, from one cell
-same_digits : (m n p q : ℕ) → is_process p ≡ true → is_process q ≡ true → m * 9 + (p - 1) ≡ n * 9 + (q - 1) → (m ≡ n) × (p ≡ q)
-same_digits m n p q is_p is_q e = (grind (arith, nat_tests), grind (arith, nat_tests))
 
 same_name : (j k : MsgName) → is_name j ≡ true → is_name k ≡ true → name_table.cell j ≡ name_table.cell k → j ≡ k
 same_name j k h1 h2 h3 = grind (arith, common_steps, gets)

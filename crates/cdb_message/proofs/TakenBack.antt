@@ -7,7 +7,8 @@ use Rattle.cdb_base.specs.Positions.{nth, set_nth, without_last}
 use Rattle.cdb_base.specs.declared.name.MsgName.{MsgName}
 use Rattle.cdb_base.specs.declared.name.CopyName.{CopyName}
 use Rattle.cdb_base.specs.declared.payload.Payload.{Payload}
-use Rattle.cdb_message.specs.Mail.{MailState, sent_by, received_by, is_received, is_lost, add_send, add_receive, add_loss, remove_send, remove_receive, remove_loss}
+use Rattle.cdb_message.specs.Mail.{MailState, sent_by, received_by, is_received, is_lost, add_send, add_receive, add_loss, remove_send, remove_receive}
+use Rattle.cdb_message.specs.Mail.{remove_loss}
 use Rattle.cdb_message.proofs.Sets.{remove-insert, name_cmp_total, name_cmp-IsAntisymmetric, copy_cmp_total, copy_cmp-IsAntisymmetric}
 
 module _ {A : Type 0} (d : A) (change back : A → A) where

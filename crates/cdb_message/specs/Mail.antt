@@ -7,7 +7,7 @@ use Rattle.std.specs.List.{flat_map, range_with_len}
 use Rattle.std.specs.FinSet as set
 use Rattle.cdb_base.specs.Positions.{nth, set_nth, without_last}
 use Rattle.cdb_base.specs.Processes.{all_processes}
-use Rattle.cdb_base.specs.declared.limits.TheConstants.{MAX_STEPS}
+use Rattle.cdb_base.specs.Limits.{MAX_STEPS}
 use Rattle.cdb_base.specs.declared.name.MsgName.{MsgName}
 use Rattle.cdb_base.specs.declared.name.CopyName.{CopyName}
 use Rattle.cdb_base.specs.declared.payload.Payload.{Payload}

@@ -6,7 +6,8 @@ use Rattle.cdb_message.specs.Mail.{MailState, message_name, is_open}
 
 -- the copy for p of the m-th message of s is passed over: its number is not above the floor, or in the stretch
 abbrev pub IsPassed : Passed → ℕ → ℕ → ℕ → Type 0
-IsPassed passed p s m = (m ≤ floor_of passed.floors p s) ⊎ ((floor_of passed.lows p s < m) × (m ≤ floor_of passed.tops p s))
+IsPassed passed p s m =
+    (m ≤ floor_of passed.floors p s) ⊎ ((floor_of passed.lows p s < m) × (m ≤ floor_of passed.tops p s))
 
 -- each copy that is passed over was received or lost
 abbrev pub AreClosed : Passed → MailState → Type 0

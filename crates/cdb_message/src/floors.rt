@@ -66,9 +66,9 @@ impl Floors {
     }
 }
 
-/// For each receiver and sender copies that need not be looked at: those up to its floor, and a stretch of others, above
-/// one number and up to another. A copy that is taken back leaves those behind it in the stretch, so that they are not
-/// looked at again when it comes again.
+/// For each receiver and sender copies that need not be looked at: those up to its floor, and a stretch of others,
+/// above one number and up to another. A copy that is taken back leaves those behind it in the stretch, so that they
+/// are not looked at again when it comes again.
 #[derive(Drop)]
 pub struct Passed {
     floors: Floors,

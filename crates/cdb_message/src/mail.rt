@@ -26,7 +26,7 @@ pub struct Mail {
 
 impl Model for Mail {
     ghost use Rattle.std.specs.Prelude.{◌≡◌, ◌≤◌, length};
-    ghost use Rattle.cdb_base.specs.declared.limits.TheConstants.{MAX_PROCESSES};
+    ghost use Rattle.cdb_base.specs.Limits.{MAX_PROCESSES};
     ghost use Rattle.cdb_message.specs.Codes.{mail_code};
     ghost use Rattle.cdb_message.specs.Mail.{MailState};
     ghost use Rattle.cdb_message.specs.Passed.{AreClosed};
@@ -52,7 +52,7 @@ impl Model for Mail {
 
 impl Mail {
     ghost use Rattle.std.specs.Prelude.{ℕ};
-    ghost use Rattle.cdb_base.specs.declared.limits.TheConstants.{MAX_PROCESSES, MAX_STEPS};
+    ghost use Rattle.cdb_base.specs.Limits.{MAX_PROCESSES, MAX_STEPS};
     ghost use Rattle.cdb_message.specs.Mail.{first_mail, sent_by};
     ghost use Rattle.cdb_message.specs.Mail.{message_name, copy_name};
     ghost use Rattle.cdb_message.specs.Mail.{last_name, next_name, MaySend, IsNameOfSent, IsUnsent};

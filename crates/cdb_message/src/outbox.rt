@@ -3,7 +3,7 @@
 ghost use Rattle.std.specs.Prelude.{◌≡◌, ◌<◌, ◌≤◌, length, [], ◌∷◌, ◌++◌, OnOk, OnErr, slice_get};
 ghost use Rattle.std.specs.Option.{option_copied};
 ghost use Rattle.cdb_base.specs.Positions.{without_last};
-ghost use Rattle.cdb_base.specs.declared.limits.TheConstants.{MAX_STEPS};
+ghost use Rattle.cdb_base.specs.Limits.{MAX_STEPS};
 
 use cdb_base::{NoMemory, Payload, Val};
 use std::alloc::Global;
@@ -17,7 +17,7 @@ pub struct Outbox {
 
 impl Model for Outbox {
     ghost use Rattle.std.specs.Prelude.{◌≤◌, List, length};
-    ghost use Rattle.cdb_base.specs.declared.limits.TheConstants.{MAX_STEPS};
+    ghost use Rattle.cdb_base.specs.Limits.{MAX_STEPS};
     ghost use Rattle.cdb_base.specs.declared.payload.Payload.{Payload};
 
     ghost Value = { List Payload };

@@ -1,5 +1,6 @@
 -- A race whose decisions agree ends with the line that says so, and the decisions before it were inputs.
-use Rattle.std.proofs.Common.{◌≡◌, ℕ, suc, ◌==◌, ◌&&◌, true, List, [], ◌∷◌, ◌++◌, Contains, codes, if◌then◌else◌, refl, sym, ap, ◌∙◌, subst, arith, append_assoc, eq-eqb}
+use Rattle.std.proofs.Common.{◌≡◌, ℕ, suc, ◌==◌, ◌&&◌, true, List, [], ◌∷◌, ◌++◌, Contains, codes, if◌then◌else◌, refl, sym, ap, ◌∙◌, subst, arith}
+use Rattle.std.proofs.Common.{append_assoc, eq-eqb}
 use Rattle.std.specs.List.{flat_map, list_all}
 use Rattle.cdb_base.specs.declared.event.Event.{Event}
 use Rattle.cdb_control.specs.Commands.{outcome}
@@ -12,12 +13,14 @@ use Rattle.cdb_text.specs.Reports.{decision_text, decisions_text}
 use Rattle.cdb_play.specs.Races.{EndsInAgreement, EndsInProposed, end_text, have_one_value, last_decisions, verdict_text}
 
 -- the decisions of a control agree
-pub agrees : (rules : Parts → Rules) (SameState : Parts → List Event → List Event → Type 0) (c : Journaled) (setup : Parts) → c.setup ≡ setup → HasHeadline rules SameState c → HasMajorityIfNeeded setup → AllAgree (last_decisions rules c)
+pub agrees : (rules : Parts → Rules) (SameState : Parts → List Event → List Event → Type 0) (c : Journaled) (setup : Parts)
+    → c.setup ≡ setup → HasHeadline rules SameState c → HasMajorityIfNeeded setup → AllAgree (last_decisions rules c)
 unfolding outcome
 agrees rules SameState c setup is headline majority = headline.agreement 1 (last_decisions rules c) (subst HasMajorityIfNeeded (sym is) majority) refl
 
 -- each of them was proposed
-pub proposes : (rules : Parts → Rules) (SameState : Parts → List Event → List Event → Type 0) (c : Journaled) (setup : Parts) → c.setup ≡ setup → HasHeadline rules SameState c → AreProposed setup (last_decisions rules c)
+pub proposes : (rules : Parts → Rules) (SameState : Parts → List Event → List Event → Type 0) (c : Journaled) (setup : Parts)
+    → c.setup ≡ setup → HasHeadline rules SameState c → AreProposed setup (last_decisions rules c)
 unfolding outcome
 proposes rules SameState c setup is headline = subst (λ s. AreProposed s (last_decisions rules c)) is (headline.validity 1 (last_decisions rules c) refl)
 
@@ -47,5 +50,7 @@ ends_in_agreement front pairs agree =
     let verdict : verdict_text pairs ≡ last = ap (λ b. if b then codes "decisions agree\n" else codes "decisions differ\n") (one_value pairs agree) in
     let line = line_ends pairs in (
       front ++ line.0,
-      ap (λ v. front ++ (decisions_text pairs ++ v)) verdict ∙ ap (λ d. front ++ (d ++ last)) line.1 ∙ ap (λ t. front ++ t) (append_assoc line.0 (codes "\n") last) ∙ sym (append_assoc front line.0 (codes "\n" ++ last)) ∙ sym (append_assoc (front ++ line.0) (codes "\n") last),
+      ap (λ v. front ++ (decisions_text pairs ++ v)) verdict ∙ ap (λ d. front ++ (d ++ last)) line.1
+          ∙ ap (λ t. front ++ t) (append_assoc line.0 (codes "\n") last) ∙ sym (append_assoc front line.0 (codes "\n" ++ last))
+          ∙ sym (append_assoc (front ++ line.0) (codes "\n") last),
     )

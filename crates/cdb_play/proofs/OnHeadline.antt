@@ -16,7 +16,8 @@ of_the_only_seat [] = tt
 of_the_only_seat (command ∷ commands) = ((omega arith, omega arith), of_the_only_seat commands)
 
 -- what the law on every journal says of the one that a play makes
-pub rests_on_headline : (rules : Parts → Rules) (SameState : Parts → List Event → List Event → Type 0) → ((setup : Parts) → AreInRange setup → (seats : ℕ) (journal : List Entry) → AreOfSeats seats journal → Headline rules SameState setup seats journal)
+pub rests_on_headline : (rules : Parts → Rules) (SameState : Parts → List Event → List Event → Type 0)
+    → ((setup : Parts) → AreInRange setup → (seats : ℕ) (journal : List Entry) → AreOfSeats seats journal → Headline rules SameState setup seats journal)
     → (json : List ℕ) (old new : Stream) (text : List ℕ) → Plays rules json old new text → RestsOnHeadline rules SameState json old new text
 rests_on_headline rules SameState holds json old new text plays = record {
   plays = plays;

@@ -1,4 +1,6 @@
 -- The text of a race by one reply after the other, and by one seat after the other.
+use Rattle.std.proofs.lemmas.Grind.{common_steps}
+use Rattle.std.proofs.lemmas.Option.{gets}
 use Rattle.std.proofs.Common.{◌≡◌, ℕ, ◌+◌, ◌<◌, List, [], ◌∷◌, ◌++◌, length, map, get_or, take, drop, Vec, Global, sym, ap, ◌∙◌, arith, append-nil, length-take}
 use Rattle.std.specs.List.{flat_map}
 use Rattle.std.proofs.lemmas.Grind.{flat_map-append}
@@ -20,29 +22,36 @@ module _ (replies : List Reply) (i : ℕ) (reply : Reply) (is : reply ≡ get_or
   texts-append xs ys = ap (flat_map text_of) (map-append told xs ys) ∙ flat_map-append text_of (map told xs) (map told ys)
 
   pub one_reply : texts (take (i + 1) replies) ≡ texts (take i replies) ++ text_of (told reply)
-  one_reply =
-      ap texts (take_more replies i reply below ∙ ap (λ r. take i replies ++ r ∷ []) (sym is)) ∙ texts-append (take i replies) (reply ∷ []) ∙ ap (λ t. texts (take i replies) ++ t) (append-nil (text_of (told reply)))
+  one_reply = grind (arith, common_steps, gets)
 
   pub parted_replies : texts replies ≡ texts (take i replies) ++ (text_of (told reply) ++ texts (drop (i + 1) replies))
   parted_replies =
-      ap texts (parted replies i reply below ∙ ap (λ r. take i replies ++ r ∷ drop (i + 1) replies) (sym is)) ∙ texts-append (take i replies) (reply ∷ drop (i + 1) replies)
+      ap texts (parted replies i reply below ∙ ap (λ r. take i replies ++ r ∷ drop (i + 1) replies) (sym is))
+      ∙ texts-append (take i replies) (reply ∷ drop (i + 1) replies)
 
-module _ (first : ℕ) (seats : List (Vec Reply Global)) (i : ℕ) (replies : Vec Reply Global) (is : replies ≡ get_or seats i replies) (below : i < length seats) where
+module _ (first : ℕ) (seats : List (Vec Reply Global)) (i : ℕ) (replies : Vec Reply Global)
+    (is : replies ≡ get_or seats i replies) (below : i < length seats) where
   abbrev told_of : Vec Reply Global → List ToldReply
   told_of list = map told list.items
 
   count : length (all_told (take i seats)) ≡ i
   count = length-map (take i seats) told_of ∙ omega (arith, length-take i seats)
 
-  behind : (others : List (List ToldReply)) → seats_text first (all_told (take i seats) ++ others) ≡ seats_text first (all_told (take i seats)) ++ seats_text (first + i) others
-  behind others = seats_text-append first (all_told (take i seats)) others ∙ ap (λ n. seats_text first (all_told (take i seats)) ++ seats_text (first + n) others) count
+  behind : (others : List (List ToldReply))
+      → seats_text first (all_told (take i seats) ++ others) ≡ seats_text first (all_told (take i seats)) ++ seats_text (first + i) others
+  behind others =
+      seats_text-append first (all_told (take i seats)) others ∙ ap (λ n. seats_text first (all_told (take i seats)) ++ seats_text (first + n) others) count
 
   pub one_seat : seats_text first (all_told (take (i + 1) seats)) ≡ seats_text first (all_told (take i seats)) ++ seat_text (first + i) (map told replies.items)
   one_seat =
-      ap (λ s. seats_text first (all_told s)) (take_more seats i replies below ∙ ap (λ r. take i seats ++ r ∷ []) (sym is)) ∙ ap (seats_text first) (map-append told_of (take i seats) (replies ∷ [])) ∙ behind (told_of replies ∷ [])
+      ap (λ s. seats_text first (all_told s)) (take_more seats i replies below ∙ ap (λ r. take i seats ++ r ∷ []) (sym is))
+      ∙ ap (seats_text first) (map-append told_of (take i seats) (replies ∷ [])) ∙ behind (told_of replies ∷ [])
       ∙ ap (λ t. seats_text first (all_told (take i seats)) ++ t) (append-nil (seat_text (first + i) (told_of replies)))
 
-  pub parted_seats : seats_text first (all_told seats) ≡ seats_text first (all_told (take i seats)) ++ (seat_text (first + i) (map told replies.items) ++ seats_text (first + i + 1) (all_told (drop (i + 1) seats)))
+  pub parted_seats : seats_text first (all_told seats)
+      ≡ seats_text first (all_told (take i seats))
+      ++ (seat_text (first + i) (map told replies.items) ++ seats_text (first + i + 1) (all_told (drop (i + 1) seats)))
   parted_seats =
-      ap (λ s. seats_text first (all_told s)) (parted seats i replies below ∙ ap (λ r. take i seats ++ r ∷ drop (i + 1) seats) (sym is)) ∙ ap (seats_text first) (map-append told_of (take i seats) (replies ∷ drop (i + 1) seats))
+      ap (λ s. seats_text first (all_told s)) (parted seats i replies below ∙ ap (λ r. take i seats ++ r ∷ drop (i + 1) seats)
+      (sym is)) ∙ ap (seats_text first) (map-append told_of (take i seats) (replies ∷ drop (i + 1) seats))
       ∙ behind (told_of replies ∷ all_told (drop (i + 1) seats))

@@ -29,8 +29,10 @@ both (Ok done) P Q R f p q = tt
 both (Err e) P Q R f p q = f e p q
 
 -- a fault of the threads is one of the race
-pub of_threads : {G : Type 0} (T : Type 0) (rules : Parts → Rules) (heard : G → Option (List Heard)) (passes : G → Bool) (gates : List G) (setup : Parts) (turns : ℕ) (commands : List (List Command)) (fault : ThreadFault)
-    → IsAmongSeats (setup.processes + length commands) fault → (fault ≡ threads.JournalFull → MayFill setup turns commands) → IsTold T rules heard passes gates setup turns commands fault
+pub of_threads : {G : Type 0} (T : Type 0) (rules : Parts → Rules) (heard : G → Option (List Heard)) (passes : G → Bool)
+    (gates : List G) (setup : Parts) (turns : ℕ) (commands : List (List Command)) (fault : ThreadFault)
+    → IsAmongSeats (setup.processes + length commands) fault → (fault ≡ threads.JournalFull → MayFill setup turns commands)
+    → IsTold T rules heard passes gates setup turns commands fault
     → IsFaultOfCommands (IsFaultBehind T rules heard passes gates) setup turns commands (race_fault_of_threads fault)
 of_threads T rules heard passes gates setup turns commands (threads.NoMemory refused) within most told = tt
 of_threads T rules heard passes gates setup turns commands (threads.Spawn refused) within most told = tt
@@ -63,12 +65,14 @@ no_memory_fits json said = at_most (length json) longest (λ long. cc (said long
 
 module _ (IsFaultOfSessions : Parts → ℕ → List (List Command) → ThreadFault → Type 0) (turns : ℕ) where
   -- so is one of the output
-  pub of_writing : (setup : Parts) (commands : List (List Command)) (fault : OutputFault) → IsFaultOfCommands IsFaultOfSessions setup turns commands (race_fault_of_output fault)
+  pub of_writing : (setup : Parts) (commands : List (List Command)) (fault : OutputFault)
+      → IsFaultOfCommands IsFaultOfSessions setup turns commands (race_fault_of_output fault)
   of_writing setup commands output.Write = tt
   of_writing setup commands (output.NoMemory refused) = tt
 
   -- what they say of the scripts
-  pub on_setup : (setup : Parts) (commands : List (List Command)) (scripts : List (List ℕ)) → AreScripts commands scripts → (fault : RaceFault) → IsFaultOfCommands IsFaultOfSessions setup turns commands fault → IsFaultOnSetup IsFaultOfSessions setup turns scripts fault
+  pub on_setup : (setup : Parts) (commands : List (List Command)) (scripts : List (List ℕ)) → AreScripts commands scripts
+      → (fault : RaceFault) → IsFaultOfCommands IsFaultOfSessions setup turns commands fault → IsFaultOnSetup IsFaultOfSessions setup turns scripts fault
   on_setup setup commands scripts read (Setup fault) is = absurd is
   on_setup setup commands scripts read (Line position line fault) is = absurd is
   on_setup setup commands scripts read (ScriptTooLong position) is = absurd is
@@ -76,17 +80,20 @@ module _ (IsFaultOfSessions : Parts → ℕ → List (List Command) → ThreadFa
   on_setup setup commands scripts read (NoMemory refused) is = first_fits commands scripts read
   on_setup setup commands scripts read JournalFull is = (commands, read, is.0, is.1)
   on_setup setup commands scripts read (Spawn refused) is = (commands, read)
-  on_setup setup commands scripts read (Stopped seat) is = let many = so_many commands scripts read in (commands, read, (is.0.0, omega (arith, is.0.1, many)), is.1)
+  on_setup setup commands scripts read (Stopped seat) is =
+      let many = so_many commands scripts read in (commands, read, (is.0.0, omega (arith, is.0.1, many)), is.1)
 
   -- so do those of reading them
-  pub of_reading : (setup : Parts) (scripts : List (List ℕ)) (fault : RaceFault) → IsFaultOfScripts fault scripts → IsFaultOnSetup IsFaultOfSessions setup turns scripts fault
+  pub of_reading : (setup : Parts) (scripts : List (List ℕ)) (fault : RaceFault) → IsFaultOfScripts fault scripts
+      → IsFaultOnSetup IsFaultOfSessions setup turns scripts fault
   of_reading setup scripts (Line position line fault) is = is
   of_reading setup scripts (ScriptTooLong position) is = is
   of_reading setup scripts (NoMemory refused) is = is
   of_reading setup scripts fault is = absurd is
 
   -- and on the setup that a text encodes
-  pub of_race : (json : List ℕ) (setup : Parts) (scripts : List (List ℕ)) → Encodes json setup → (fault : RaceFault) → IsFaultOnSetup IsFaultOfSessions setup turns scripts fault → IsFaultOfRace IsFaultOfSessions json turns scripts fault
+  pub of_race : (json : List ℕ) (setup : Parts) (scripts : List (List ℕ)) → Encodes json setup → (fault : RaceFault)
+      → IsFaultOnSetup IsFaultOfSessions setup turns scripts fault → IsFaultOfRace IsFaultOfSessions json turns scripts fault
   of_race json setup scripts stands (Setup fault) is = absurd is
   of_race json setup scripts stands (NoMemory refused) is = stands.0
   of_race json setup scripts stands (Line position line fault) is = (setup, stands, is)
@@ -97,12 +104,16 @@ module _ (IsFaultOfSessions : Parts → ℕ → List (List Command) → ThreadFa
   of_race json setup scripts stands (Stopped seat) is = (setup, stands, is)
 
   -- a fault of the setup is its first one, or an allocation failed
-  pub of_setup_read : (json : List ℕ) (scripts : List (List ℕ)) (fault : SetupFault) → (fault ≢ setup.NoMemory no_memory → IsFirstFault fault json) → (longest < length json → fault ≡ setup.TooLong) → IsFaultOfRace IsFaultOfSessions json turns scripts (race_fault_of_setup fault)
+  pub of_setup_read : (json : List ℕ) (scripts : List (List ℕ)) (fault : SetupFault)
+      → (fault ≢ setup.NoMemory no_memory → IsFirstFault fault json) → (longest < length json → fault ≡ setup.TooLong)
+      → IsFaultOfRace IsFaultOfSessions json turns scripts (race_fault_of_setup fault)
   of_setup_read json scripts (setup.NoMemory refused) said long = no_memory_fits json long
   of_setup_read json scripts fault said long = said (λ same. absurd cc)
 
   -- a fault by which no gate stopped a session is one of gates that always pass
-  pub ungated : (setup : Parts) (commands : List (List Command)) (scripts : List (List ℕ)) → AreScripts commands scripts → (fault : RaceFault) → IsFaultOfCommands IsFaultOfSessions setup turns commands fault → StopsNoSeat fault → IsFaultOnSetup IsFaultUngated setup turns scripts fault
+  pub ungated : (setup : Parts) (commands : List (List Command)) (scripts : List (List ℕ)) → AreScripts commands scripts
+      → (fault : RaceFault) → IsFaultOfCommands IsFaultOfSessions setup turns commands fault → StopsNoSeat fault
+      → IsFaultOnSetup IsFaultUngated setup turns scripts fault
   ungated setup commands scripts read JournalFull is none = (commands, read, is.0, tt)
   ungated setup commands scripts read (Stopped seat) is none = absurd none
   ungated setup commands scripts read (Setup fault) is none = is

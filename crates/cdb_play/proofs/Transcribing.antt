@@ -20,29 +20,36 @@ no_texts rules setup = refl
 
 -- the texts of what follows a command
 abbrev pub texts_behind : Rules → Parts → List Command → Command → List Command → List ℕ
-texts_behind rules setup done command rest = flat_map text_of (replies_from rules (obey rules (replay_from rules (first_control_state setup 1) (journal_of done)) 1 command) 1 (journal_of rest))
+texts_behind rules setup done command rest =
+    flat_map text_of (replies_from rules (obey rules (replay_from rules (first_control_state setup 1) (journal_of done)) 1 command) 1 (journal_of rest))
 
 pub one_text : (rules : Parts → Rules) (setup : Parts) (done : List Command) (command : Command) (rest : List Command)
-    → transcript (rules setup) setup (done ++ command ∷ rest) ≡ transcript (rules setup) setup done ++ (reply_to rules (carried_out setup done) command ++ texts_behind (rules setup) setup done command rest)
+    → transcript (rules setup) setup (done ++ command ∷ rest)
+    ≡ transcript (rules setup) setup done ++ (reply_to rules (carried_out setup done) command ++ texts_behind (rules setup) setup done command rest)
 unfolding transcript replay
 one_text rules setup done command rest =
     let r = rules setup in
     let first = first_control_state setup 1 in
     ap (λ journal. flat_map text_of (replies_from r first 1 journal)) (map-append (entry 1) done (command ∷ rest))
     ∙ ap (flat_map text_of) (replies_from-append r first 1 (journal_of done) (journal_of (command ∷ rest)))
-    ∙ flat_map-append text_of (replies_from r first 1 (journal_of done)) (replies_from r (replay_from r first (journal_of done)) 1 (journal_of (command ∷ rest)))
+    ∙ flat_map-append text_of (replies_from r first 1 (journal_of done))
+    (replies_from r (replay_from r first (journal_of done)) 1 (journal_of (command ∷ rest)))
 
-module _ (rules : Parts → Rules) (setup : Parts) (done : List Command) (command : Command) (control : Journaled) (along : HasCarriedOut setup done control) where
+module _ (rules : Parts → Rules) (setup : Parts) (done : List Command) (command : Command) (control : Journaled)
+    (along : HasCarriedOut setup done control) where
   same_text : reply_to rules control command ≡ reply_to rules (carried_out setup done) command
   same_text = rw (along.of_setup, along.one_seat, along.carried_out) refl
 
   -- the transcript so far, and the text of the reply to one command more
   pub one_reply : transcript (rules setup) setup (done ++ command ∷ []) ≡ transcript (rules setup) setup done ++ reply_to rules control command
   one_reply =
-      one_text rules setup done command [] ∙ ap (λ text. transcript (rules setup) setup done ++ text) (append-nil (reply_to rules (carried_out setup done) command) ∙ sym same_text)
+      one_text rules setup done command [] ∙ ap (λ text. transcript (rules setup) setup done ++ text)
+      (append-nil (reply_to rules (carried_out setup done) command) ∙ sym same_text)
 
   -- the transcript so far, the text of one reply, and those after it
   pub parted_transcript : (rest : List Command)
-      → transcript (rules setup) setup (done ++ command ∷ rest) ≡ transcript (rules setup) setup done ++ (reply_to rules control command ++ texts_behind (rules setup) setup done command rest)
+      → transcript (rules setup) setup (done ++ command ∷ rest)
+      ≡ transcript (rules setup) setup done ++ (reply_to rules control command ++ texts_behind (rules setup) setup done command rest)
   parted_transcript rest =
-      one_text rules setup done command rest ∙ ap (λ text. transcript (rules setup) setup done ++ (text ++ texts_behind (rules setup) setup done command rest)) (sym same_text)
+      one_text rules setup done command rest ∙ ap (λ text. transcript (rules setup) setup done
+      ++ (text ++ texts_behind (rules setup) setup done command rest)) (sym same_text)

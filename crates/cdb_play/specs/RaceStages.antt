@@ -9,7 +9,8 @@ use Rattle.cdb_race.specs.declared.threads.RaceFault.TheVariants as threads
 use Rattle.cdb_rules.specs.Rules.{Rules}
 use Rattle.cdb_setup.specs.Parts.{Parts, IsWithin}
 use Rattle.cdb_streams.specs.declared.fault.RaceFault.{RaceFault}
-use Rattle.cdb_streams.specs.declared.fault.RaceFault.TheVariants.{Line, ScriptTooLong, Write, NoMemory, JournalFull, Spawn, Stopped}
+use Rattle.cdb_streams.specs.declared.fault.RaceFault.TheVariants.{Line, ScriptTooLong, Write, NoMemory, JournalFull}
+use Rattle.cdb_streams.specs.declared.fault.RaceFault.TheVariants.{Spawn, Stopped}
 use Rattle.cdb_streams.specs.declared.script.ScriptFault.TheVariants as script
 use Rattle.cdb_play.specs.Races.{IsFirstBad, IsFirstNotTooLong, race_text}
 
@@ -19,7 +20,8 @@ module _ (IsFaultOfSessions : Parts → ℕ → List (List Command) → ThreadFa
   IsFaultOfCommands setup turns commands JournalFull =
       MayFill setup turns commands × IsFaultOfSessions setup turns commands threads.JournalFull
   IsFaultOfCommands setup turns commands (Stopped seat) =
-      IsWithin 1 (setup.processes + length commands) seat × IsFaultOfSessions setup turns commands (threads.Stopped seat)
+      IsWithin 1 (setup.processes + length commands) seat
+      × IsFaultOfSessions setup turns commands (threads.Stopped seat)
   IsFaultOfCommands setup turns commands (Spawn refused) = Unit {0}
   IsFaultOfCommands setup turns commands Write = Unit {0}
   IsFaultOfCommands setup turns commands (NoMemory refused) = Unit {0}
@@ -28,7 +30,8 @@ module _ (IsFaultOfSessions : Parts → ℕ → List (List Command) → ThreadFa
 -- the text is that of a race of these commands
 abbrev pub IsTextOfCommands : (Parts → Rules) → Parts → ℕ → List (List Command) → List ℕ → Type 0
 IsTextOfCommands rules setup turns commands text =
-    (control : Journaled) × (replies_given : List (List ToldReply)) × IsRaced rules setup turns commands control replies_given
+    (control : Journaled) × (replies_given : List (List ToldReply))
+    × IsRaced rules setup turns commands control replies_given
     × (text ≡ race_text rules control)
 
 -- a fault of reading the scripts

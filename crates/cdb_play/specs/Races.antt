@@ -1,5 +1,6 @@
 -- What a race reads and writes.
-use Rattle.std.specs.Prelude.{◌≡◌, ℕ, ◌+◌, ◌-◌, ◌≤◌, ◌==◌, Bool, true, List, [], ◌∷◌, ◌++◌, length, map, codes, decimal, Result, OnOk, if◌then◌else◌}
+use Rattle.std.specs.Prelude.{◌≡◌, ℕ, ◌+◌, ◌-◌, ◌≤◌, ◌==◌, Bool, true, List, [], ◌∷◌, ◌++◌, length, map, codes, decimal}
+use Rattle.std.specs.Prelude.{Result, OnOk, if◌then◌else◌}
 use Rattle.std.specs.List.{AllZip, flat_map, list_all, range_with_len}
 use Rattle.std.proofs.Common.{Vec, Global}
 use Rattle.cdb_commands.specs.ToldReply.{ToldReply}
@@ -21,7 +22,8 @@ use Rattle.cdb_streams.specs.Scripts.{IsScript, IsFaultOfScript}
 use Rattle.cdb_streams.specs.Streams.{Stream}
 use Rattle.cdb_streams.specs.Written.{IsWritten}
 use Rattle.cdb_streams.specs.declared.fault.RaceFault.{RaceFault}
-use Rattle.cdb_streams.specs.declared.fault.RaceFault.TheVariants.{Setup, Line, ScriptTooLong, Write, NoMemory, JournalFull, Spawn, Stopped}
+use Rattle.cdb_streams.specs.declared.fault.RaceFault.TheVariants.{Setup, Line, ScriptTooLong, Write, NoMemory}
+use Rattle.cdb_streams.specs.declared.fault.RaceFault.TheVariants.{JournalFull, Spawn, Stopped}
 use Rattle.cdb_streams.specs.declared.script.ScriptFault.{ScriptFault}
 use Rattle.cdb_streams.specs.declared.script.ScriptFault.TheVariants as script
 
@@ -63,7 +65,8 @@ EndsInAgreement text = (before : List ℕ) × (text ≡ before ++ codes "\n" ++ 
 
 -- the text ends with the lines of decisions that were inputs of processes of the setup
 abbrev pub EndsInProposed : Parts → List ℕ → Type 0
-EndsInProposed setup text = (before : List ℕ) × (decisions : List (ℕ × ℕ)) × (text ≡ before ++ end_text decisions) × AreProposed setup decisions
+EndsInProposed setup text =
+    (before : List ℕ) × (decisions : List (ℕ × ℕ)) × (text ≡ before ++ end_text decisions) × AreProposed setup decisions
 
 -- Of a writer before and after, each seen as a stream
 module _ {W : Type 0} (stream : W → Stream) where
@@ -117,7 +120,8 @@ abbrev pub AreAllRead : List (List ℕ) → Type 0
 AreAllRead scripts = (read : List (List Command)) × AreScripts read scripts
 
 -- the text is that of a race of these scripts on a setup, each process with this many turns
-pub record IsTextOnSetup (rules : Parts → Rules) (setup : Parts) (turns : ℕ) (scripts : List (List ℕ)) (text : List ℕ) : Type 0 where
+pub record IsTextOnSetup (rules : Parts → Rules) (setup : Parts) (turns : ℕ) (scripts : List (List ℕ))
+    (text : List ℕ) : Type 0 where
   pub commands : List (List Command)
   pub control : Journaled
   pub replies_given : List (List ToldReply)
@@ -127,7 +131,8 @@ pub record IsTextOnSetup (rules : Parts → Rules) (setup : Parts) (turns : ℕ)
 
 -- the same on the setup that a text of JSON encodes
 abbrev pub IsTextOfRace : (Parts → Rules) → List ℕ → ℕ → List (List ℕ) → List ℕ → Type 0
-IsTextOfRace rules json turns scripts text = (setup : Parts) × Encodes json setup × IsTextOnSetup rules setup turns scripts text
+IsTextOfRace rules json turns scripts text =
+    (setup : Parts) × Encodes json setup × IsTextOnSetup rules setup turns scripts text
 
 -- ---- which fault of a race each fault of its scripts and of its threads is; out of memory is one fault
 
@@ -150,15 +155,16 @@ abbrev pub StopsNoSeat : RaceFault → Type 0
 StopsNoSeat (Stopped seat) = ⊥
 StopsNoSeat other = Unit {0}
 
--- What a fault of the sessions says of the setup, the turns and the commands of a race whose gates always pass: none was stopped.
+-- What a fault of the sessions says of the setup, the turns and the commands of a race whose gates always pass: none
+-- was stopped.
 abbrev pub IsFaultUngated : Parts → ℕ → List (List Command) → ThreadFault → Type 0
 IsFaultUngated setup turns commands fault = of_threads.IsNotStopped fault
 
 module _ (IsFaultOfSessions : Parts → ℕ → List (List Command) → ThreadFault → Type 0) where
-  -- What a fault says of a race of these scripts on a setup, each process with this many turns. Those of the scripts come before
-  -- the others. A journal is full only where the most calls of such a race are as many as a journal has entries at most; a
-  -- stopped seat is one of a process or of a script; of both the parameter says what ended the sessions. Out of memory comes
-  -- only where the first script is not too long.
+  -- What a fault says of a race of these scripts on a setup, each process with this many turns. Those of the scripts
+  -- come before the others. A journal is full only where the most calls of such a race are as many as a journal has
+  -- entries at most; a stopped seat is one of a process or of a script; of both the parameter says what ended the
+  -- sessions. Out of memory comes only where the first script is not too long.
   abbrev pub IsFaultOnSetup : Parts → ℕ → List (List ℕ) → RaceFault → Type 0
   IsFaultOnSetup setup turns scripts (Setup fault) = ⊥
   IsFaultOnSetup setup turns scripts (Line position line fault) = IsFirstBad position (script.Line line fault) scripts
@@ -167,15 +173,17 @@ module _ (IsFaultOfSessions : Parts → ℕ → List (List Command) → ThreadFa
       (commands : List (List Command)) × AreScripts commands scripts × MayFill setup turns commands
       × IsFaultOfSessions setup turns commands threads.JournalFull
   IsFaultOnSetup setup turns scripts (Stopped seat) =
-      (commands : List (List Command)) × AreScripts commands scripts × IsWithin 1 (setup.processes + length scripts) seat
+      (commands : List (List Command)) × AreScripts commands scripts
+      × IsWithin 1 (setup.processes + length scripts) seat
       × IsFaultOfSessions setup turns commands (threads.Stopped seat)
   IsFaultOnSetup setup turns scripts (Spawn refused) = AreAllRead scripts
   IsFaultOnSetup setup turns scripts Write = AreAllRead scripts
   IsFaultOnSetup setup turns scripts (NoMemory refused) = IsFirstNotTooLong scripts
 
-  -- the same of a race on the setup that a text of JSON encodes: a fault of the setup comes before all others, and out of
-  -- memory only where the text is not too long
+  -- the same of a race on the setup that a text of JSON encodes: a fault of the setup comes before all others, and out
+  -- of memory only where the text is not too long
   abbrev pub IsFaultOfRace : List ℕ → ℕ → List (List ℕ) → RaceFault → Type 0
   IsFaultOfRace json turns scripts (Setup fault) = IsFirstFault fault json
   IsFaultOfRace json turns scripts (NoMemory refused) = length json ≤ longest
-  IsFaultOfRace json turns scripts fault = (setup : Parts) × Encodes json setup × IsFaultOnSetup setup turns scripts fault
+  IsFaultOfRace json turns scripts fault =
+      (setup : Parts) × Encodes json setup × IsFaultOnSetup setup turns scripts fault

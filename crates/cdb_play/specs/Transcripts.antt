@@ -36,6 +36,7 @@ abbrev pub Plays : (Parts → Rules) → List ℕ → Stream → Stream → List
 Plays rules json old new text = (script : List ℕ) × IsReadToEnd old script new × IsTranscriptOf rules json script text
 
 -- such a play, and the headline holds of the journal whose replies the transcript has
-pub record RestsOnHeadline (rules : Parts → Rules) (SameState : Parts → List Event → List Event → Type 0) (json : List ℕ) (old new : Stream) (text : List ℕ) : Type 0 where
+pub record RestsOnHeadline (rules : Parts → Rules) (SameState : Parts → List Event → List Event → Type 0)
+    (json : List ℕ) (old new : Stream) (text : List ℕ) : Type 0 where
   pub plays : Plays rules json old new text
   pub headline : Headline rules SameState plays.2.setup 1 (journal_of plays.2.commands)

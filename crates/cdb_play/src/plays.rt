@@ -1,7 +1,7 @@
 //! A script is played: its commands are carried out one after the other, and each reply is written.
 
 ghost use Rattle.std.specs.Prelude.{◌≡◌, true, ◌<◌, [], length, Err, IfErr, OnOk};
-ghost use Rattle.cdb_base.specs.declared.limits.TheConstants.{MAX_ENTRIES};
+ghost use Rattle.cdb_base.specs.Limits.{MAX_ENTRIES};
 ghost use Rattle.cdb_control.specs.Journal.{extended};
 ghost use Rattle.cdb_commands.specs.OneEvent.{is_of_one_event};
 ghost use Rattle.cdb_setup.specs.declared.fault.SetupFault.{SetupFault as SetupFaultName};

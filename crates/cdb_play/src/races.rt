@@ -1,13 +1,15 @@
 //! A race: one thread for each process and one for each script, over one shared run, and its text.
 
 ghost use Rattle.std.specs.Prelude.{◌≡◌, ◌+◌, ◌≤◌, length, vec_len, IfOk, IfErr};
-ghost use Rattle.cdb_base.specs.declared.limits.TheConstants.{MAX_SEATS};
+ghost use Rattle.cdb_base.specs.Limits.{MAX_SEATS};
 ghost use Rattle.cdb_race.specs.Faults.{IsFaultBehind};
 ghost use Rattle.cdb_race.specs.Races.{AllPass};
 ghost use Rattle.cdb_rules.specs.Agreement.{HasMajorityIfNeeded};
 ghost use Rattle.cdb_setup.specs.Format.{Encodes};
 ghost use Rattle.cdb_setup.specs.Parts.{Parts};
-ghost use Rattle.cdb_play.specs.Races.{race_fault_of_script, race_fault_of_threads, bytes_of, AreScripts, IsTextOnSetup, IsTextOfRace, StopsNoSeat, IsFaultUngated, IsFaultOnSetup, IsFaultOfRace, IsSetupWithMajority, AgreesAtEnd, ProposedAtEnd};
+ghost use Rattle.cdb_play.specs.Races.{race_fault_of_script, race_fault_of_threads, bytes_of, AreScripts};
+ghost use Rattle.cdb_play.specs.Races.{IsTextOnSetup, IsTextOfRace, StopsNoSeat, IsFaultUngated, IsFaultOnSetup};
+ghost use Rattle.cdb_play.specs.Races.{IsFaultOfRace, IsSetupWithMajority, AgreesAtEnd, ProposedAtEnd};
 ghost use Rattle.cdb_play.specs.RaceStages.{IsTextOfCommands, IsFaultOfScripts, IsFaultOfCommands};
 ghost use Rattle.cdb_streams.specs.Endings.{race_ending};
 ghost use Rattle.cdb_streams.specs.Written.{IsWritten};
@@ -140,10 +142,10 @@ fn run_race<T: Runs + Send, G: Gate + Drop + Send, R: Threads + Wait + Sync, W: 
 /// 65,536 bytes. `Write` comes only where the writer failed in this call, and `Setup` never. `NoMemory` comes only
 /// where the first script is not too long.
 ///
-/// With a majority, or in Alpha, the last line of a race that ended well is `decisions agree`, and each decision in the line
-/// before it was the input of a process. Of several faults of
-/// sessions that of the least seat is reported; `JournalFull` comes only where processes times turns and the commands
-/// of the scripts are 999,999 at least, and `Stopped` only of a gate that did not let a call go on.
+/// With a majority, or in Alpha, the last line of a race that ended well is `decisions agree`, and each decision in the
+/// line before it was the input of a process. Of several faults of sessions that of the least seat is reported;
+/// `JournalFull` comes only where processes times turns and the commands of the scripts are 999,999 at least, and
+/// `Stopped` only of a gate that did not let a call go on.
 pub fn race_on_with<T: Runs + Send, G: Gate + Drop + Send, R: Threads + Wait + Sync, W: Sink>(
     rt: &R,
     alloc: Global,

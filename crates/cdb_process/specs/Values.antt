@@ -25,8 +25,11 @@ pub record MakesNoValue {Local : Type 0} (table : Table Local) (holds : Local �
   -- before its first step a process holds its input alone
   pub first : (me n q given v : ℕ) → holds (table.first me n q given) v → v ≡ given
   -- what it holds after an input it held before, or the input brought it
-  pub taken : (s t : Local) (i : Input) → table.next s i ≡ Some t → (v : ℕ) → holds t v → holds s v ⊎ (brought_value i ≡ Some v)
+  pub taken : (s t : Local) (i : Input) → table.next s i ≡ Some t → (v : ℕ) → holds t v
+      → holds s v ⊎ (brought_value i ≡ Some v)
   -- what it sends, what it writes and what it has decided, it holds
-  pub sent : (s : Local) (payload : Payload) (v : ℕ) → wished_payload (table.wish s) ≡ Some payload → payload_value payload ≡ Some v → holds s v
-  pub written : (s : Local) (cell : Cell) (v : ℕ) → wished_cell (table.wish s) ≡ Some cell → cell.val ≡ Some v → holds s v
+  pub sent : (s : Local) (payload : Payload) (v : ℕ) → wished_payload (table.wish s) ≡ Some payload
+      → payload_value payload ≡ Some v → holds s v
+  pub written : (s : Local) (cell : Cell) (v : ℕ) → wished_cell (table.wish s) ≡ Some cell → cell.val ≡ Some v
+      → holds s v
   pub decided : (s : Local) (v : ℕ) → table.decision s ≡ Some v → holds s v

@@ -10,11 +10,12 @@
 #![tactic(auto)]
 
 ghost use Rattle.std.specs.Prelude.{◌≡◌, ℕ, ◌↔◌, ◌≤◌, Option, Some, IsTrue, IsSome, IfOk, OnErr};
-ghost use Rattle.cdb_base.specs.declared.limits.TheConstants.{MAX_PROCESSES};
+ghost use Rattle.cdb_base.specs.Limits.{MAX_PROCESSES};
 ghost use Rattle.cdb_process.specs.declared.Input.{Input};
 ghost use Rattle.cdb_process.specs.declared.Wish.{Wish};
 ghost use Rattle.cdb_process.specs.Table.{Table};
-ghost use Rattle.cdb_process.specs.Process.{QueryDependsOnStateAlone, RecvDependsOnStateAlone, WishNamesSend, WishNamesRead, WishNamesWrite, WishNamesLocal};
+ghost use Rattle.cdb_process.specs.Process.{QueryDependsOnStateAlone, RecvDependsOnStateAlone, WishNamesSend};
+ghost use Rattle.cdb_process.specs.Process.{WishNamesRead, WishNamesWrite, WishNamesLocal};
 
 use cdb_base::{Cell, NoMemory, Payload, Proc, Reg, Val};
 use std::alloc::Global;

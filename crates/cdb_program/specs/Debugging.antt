@@ -1,7 +1,7 @@
 -- What sessions do that go on line by line.
 use Rattle.std.specs.Prelude.{◌≡◌, ◌⊎◌, ℕ, List, [], ◌∷◌, codes, None, Result}
-use Rattle.cdb_debug.specs.Moves.{Known}
-use Rattle.cdb_debug.specs.Sessions.{Debugs}
+use Rattle.cdb_session.specs.Moves.{Known}
+use Rattle.cdb_session.specs.Debugs.{Debugs}
 use Rattle.cdb_streams.specs.declared.fault.PlayFault.{PlayFault}
 use Rattle.cdb_agreement.specs.Algorithms.{rules}
 use Rattle.cdb_program.specs.Known.{Seen}
@@ -10,8 +10,8 @@ use Rattle.cdb_program.specs.Reading.{HasRead, CannotReadFiles}
 
 -- What is known of standard input and standard output, over which a session takes place. In which order it reads from the one and
 -- writes to the other, neither of them knows.
-abbrev pub talk_of : Seen → Known
-talk_of seen = record {
+abbrev pub console_of : Seen → Known
+console_of seen = record {
   moves = None;
   left = seen.input.bytes;
   held = seen.output.bytes;
@@ -23,7 +23,7 @@ talk_of seen = record {
 abbrev pub DebugsBytes : List ℕ → List ℕ → Seen → Seen → RequestEnd → Type 0
 DebugsBytes json prompt old new outcome =
     (debugged : Result (Unit {0}) PlayFault) × IsOfPlay (codes "standard input") debugged outcome
-    × Debugs rules prompt json debugged (talk_of old) (talk_of new)
+    × Debugs rules prompt json debugged (console_of old) (console_of new)
 
 -- The file of the setup is read, and then the session takes place. Where the file can't be read, no input is.
 abbrev pub DebugsFile : List ℕ → List ℕ → Seen → Seen → RequestEnd → Type 0

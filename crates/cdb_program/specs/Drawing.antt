@@ -1,6 +1,7 @@
 -- What pictures do.
 use Rattle.std.specs.Prelude.{◌≡◌, ℕ, List, [], ◌∷◌, Option, Some, Result, Err, IfErr}
 use Rattle.cdb_draw.specs.Drawn.{draw_ending, Draws, IsFaultOfDraw}
+use Rattle.cdb_draw.specs.declared.layout.TheConstants.{COLUMNS}
 use Rattle.cdb_draw.specs.declared.script.StepAsked.{StepAsked}
 use Rattle.cdb_explain.specs.declared.fault.ExplainFault.{ExplainFault}
 use Rattle.cdb_explain.specs.declared.fault.ExplainFault.TheVariants.{Play}
@@ -13,10 +14,10 @@ use Rattle.cdb_program.specs.Known.{Seen, in_memory}
 use Rattle.cdb_program.specs.Outcomes.{RequestEnd, IsOfExplain}
 use Rattle.cdb_program.specs.Reading.{ReadsThen}
 
--- The picture of the run that a script leaves on the setup of this text ended so. The script's reader and the output are
+-- The picture of the run that a script leaves on the setup of this text, 20 columns to a row, ended so. The script's reader and the output are
 -- seen before and after.
 pub record IsDrawn (json : List ℕ) (step : Option StepAsked) (drawn : Result (Unit {0}) ExplainFault) (script left old new : Stream) : Type 0 where
-  pub wrote : IsWritten itself (draw_ending drawn) old new (Draws rules json step script left)
+  pub wrote : IsWritten itself (draw_ending drawn) old new (Draws rules json COLUMNS step script left)
   pub fault : IfErr drawn (IsFaultOfDraw rules json step script left)
   pub unread : (fault : SetupFault) → drawn ≡ Err (Play (play.Setup fault)) → left ≡ script
   pub read : FailsWhere itself (drawn ≡ Err (Play play.Read)) script left

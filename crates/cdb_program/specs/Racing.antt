@@ -1,7 +1,7 @@
 -- What races do.
 use Rattle.cdb_base.specs.Memory.{no_memory}
 use Rattle.std.specs.Prelude.{◌≡◌, ◌≢◌, ◌⊎◌, ℕ, ◌+◌, ◌<◌, ◌≤◌, List, [], ◌∷◌, length, Result, Err, IfErr}
-use Rattle.cdb_base.specs.declared.limits.TheConstants.{MAX_SEATS}
+use Rattle.cdb_base.specs.Limits.{MAX_SEATS}
 use Rattle.cdb_streams.specs.Endings.{race_ending}
 use Rattle.cdb_play.specs.Races.{IsTextOfRace, IsFaultOfRace, IsFaultUngated, IsSetupWithMajority, AgreesAtEnd}
 use Rattle.cdb_streams.specs.Streams.{Stream, itself}

@@ -27,4 +27,4 @@ fault_status (Refused reason) = 2
 abbrev pub IsReported : Result (Unit {0}) Fault → Stream → Stream → ℕ → Type 0
 IsReported (Ok done) old new status = (new ≡ old) × (status ≡ 0)
 IsReported (Err fault) old new status =
-    ((told : Result (Unit {0}) Failed) × Writes itself told old new (fault_text fault)) × (status ≡ fault_status fault)
+    ((reported : Result (Unit {0}) Failed) × Writes itself reported old new (fault_text fault)) × (status ≡ fault_status fault)

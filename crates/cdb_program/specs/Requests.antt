@@ -11,7 +11,7 @@ use Rattle.cdb_program.specs.Playing.{PlaysInput, PlaysFiles}
 use Rattle.cdb_program.specs.Racing.{RacesFiles}
 use Rattle.cdb_program.specs.Reading.{file_names}
 use Rattle.cdb_program.specs.Reports.{IsReported}
-use Rattle.cdb_program.specs.Seating.{PerformsHall}
+use Rattle.cdb_program.specs.Seating.{PerformsShared}
 use Rattle.cdb_program.specs.declared.fault.Fault.TheVariants.{Play}
 use Rattle.cdb_program.specs.declared.request.Request.{Request}
 use Rattle.cdb_program.specs.declared.request.TheConstants.{MAX_TURNS}
@@ -30,13 +30,13 @@ Prints text old new (Err other) = ⊥
 -- a race has turns that its threads can count, and sessions of seats have one seat at least
 abbrev pub HasTurns : Request → Type 0
 HasTurns (request.Race setup turns scripts) = turns ≤ MAX_TURNS
-HasTurns (request.Hall setup seats) = 1 ≤ length seats.now
+HasTurns (request.DebugShared setup seats) = 1 ≤ length seats.now
 HasTurns other = Unit {0}
 
 -- the request is not one of sessions of several seats
-abbrev pub IsNoHall : Request → Type 0
-IsNoHall (request.Hall setup seats) = ⊥
-IsNoHall other = Unit {0}
+abbrev pub IsAlone : Request → Type 0
+IsAlone (request.DebugShared setup seats) = ⊥
+IsAlone other = Unit {0}
 
 -- what is done with a request that has no seats, but for what is reported of a fault
 abbrev pub Does : Request → Seen → Seen → RequestEnd → Type 0
@@ -46,7 +46,7 @@ Does (request.Race setup turns scripts) old new outcome = RacesFiles setup.now t
 Does (request.Explain setup script p k) old new outcome = ExplainsFiles setup.now script.now p k old new outcome
 Does (request.Draw setup script step) old new outcome = DrawsFiles setup.now script.now step old new outcome
 Does (request.Debug setup prompt) old new outcome = DebugsFile setup.now prompt.now old new outcome
-Does (request.Hall setup seats) old new outcome = ⊥
+Does (request.DebugShared setup seats) old new outcome = ⊥
 Does (request.Print text) old new outcome = ReadsNothing old new × Prints text.now old.output new.output outcome
 Does (request.Refuse fault) old new outcome = ReadsNothing old new × (new.output ≡ old.output) × (outcome ≡ Err fault)
 
@@ -57,5 +57,5 @@ PerformsAlone request old new status =
 
 -- the request was carried out, and how it ended was reported
 abbrev pub Performs : Request → Seen → Seen → ℕ → Type 0
-Performs (request.Hall setup seats) old new status = PerformsHall setup.now (file_names seats.now) old new status
+Performs (request.DebugShared setup seats) old new status = PerformsShared setup.now (file_names seats.now) old new status
 Performs request old new status = PerformsAlone request old new status

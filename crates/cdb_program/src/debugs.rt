@@ -6,8 +6,8 @@ ghost use Rattle.cdb_program.specs.Debugging.{DebugsFile};
 use crate::fault::{Fault, of_play};
 use crate::files::{Files, read_file};
 use crate::outside::Outside;
-use cdb_any_run::RunOfSetup;
-use cdb_debug::debug;
+use cdb_any_run::AnyRun;
+use cdb_session::debug;
 use cdb_streams::{Sink, Source};
 use std::alloc::Global;
 
@@ -23,6 +23,6 @@ pub fn debug_file<'a, F: Files + Drop, I: Source + Drop, O: Sink + Drop, E: Sink
 {
     let json = read_file(alloc, &mut outside.files, setup)?;
     let prompt = prompt.as_bytes();
-    let debugged = debug::<RunOfSetup, _>(alloc, json.as_slice(), prompt, &mut outside.streams);
+    let debugged = debug::<AnyRun, _>(alloc, json.as_slice(), prompt, &mut outside.streams);
     of_play(debugged, "standard input")
 }

@@ -6,8 +6,8 @@ ghost use Rattle.cdb_program.specs.Drawing.{DrawsFiles};
 use crate::fault::{Fault, of_explain};
 use crate::files::{Files, read_two};
 use crate::outside::Outside;
-use cdb_any_run::RunOfSetup;
-use cdb_draw::{StepAsked, draw};
+use cdb_any_run::AnyRun;
+use cdb_draw::{COLUMNS, StepAsked, draw};
 use cdb_streams::{Bytes, Sink, Source};
 use std::alloc::Global;
 
@@ -25,10 +25,11 @@ pub fn draw_files<'a, F: Files + Drop, I: Source + Drop, O: Sink + Drop, E: Sink
 {
     let (json, bytes) = read_two(alloc, &mut outside.files, setup, script)?;
     let mut commands = Bytes::new(bytes.as_slice());
-    let drawn = draw::<RunOfSetup, _, _>(
+    let drawn = draw::<AnyRun, _, _>(
         alloc,
         json.as_slice(),
         &mut commands,
+        COLUMNS,
         step,
         &mut outside.streams.output,
     );

@@ -6,7 +6,7 @@ ghost use Rattle.cdb_program.specs.Explaining.{ExplainsFiles};
 use crate::fault::{Fault, of_explain};
 use crate::files::{Files, read_two};
 use crate::outside::Outside;
-use cdb_any_run::RunOfSetup;
+use cdb_any_run::AnyRun;
 use cdb_explain::explain;
 use cdb_streams::{Bytes, Sink, Source};
 use std::alloc::Global;
@@ -27,7 +27,7 @@ pub fn explain_files<'a, F: Files + Drop, I: Source + Drop, O: Sink + Drop, E: S
 {
     let (json, bytes) = read_two(alloc, &mut outside.files, setup, script)?;
     let mut commands = Bytes::new(bytes.as_slice());
-    let explained = explain::<RunOfSetup, _, _>(
+    let explained = explain::<AnyRun, _, _>(
         alloc,
         json.as_slice(),
         &mut commands,

@@ -8,8 +8,8 @@ ghost use Rattle.cdb_program.specs.Seating.{OpensSeat};
 use crate::fault::Fault;
 use cdb_base::NoMemory;
 use cdb_base::limits::MAX_BYTES;
-use cdb_debug::Talk;
-use cdb_hall::Station;
+use cdb_session::Console;
+use cdb_shared_session::Endpoint;
 use cdb_streams::{PlayFault, ReadFault};
 use std::alloc::Global;
 
@@ -18,11 +18,11 @@ const MOST_READ: usize = MAX_BYTES + 1;
 
 /// Files that can be read by their names.
 pub trait Files {
-    /// Whom the session of a seat talks with.
-    type Seat: Talk + Drop + Send;
+    /// What the session of a seat reads from and writes to.
+    type Seat: Console + Drop + Send;
 
     /// What is known of the files: their bytes, the names of those that were opened, how many could not be read, and
-    /// whom the session of the seat of a name talks with.
+    /// what the session of the seat of a name reads from and writes to, and its prompt.
     ghost seen: { Self → FilesSeen };
 
     /// Reads the file of this name to its end, or this many bytes where it has more.
@@ -38,7 +38,7 @@ pub trait Files {
     /// # Errors
     /// `Failed` where it can't be opened, and `NoMemory` where an allocation fails, which counts as if it had not been
     /// opened.
-    fn open_seat(&mut self, alloc: Global, name: &str) -> Result<Station<Self::Seat>, ReadFault>
+    fn open_seat(&mut self, alloc: Global, name: &str) -> Result<Endpoint<Self::Seat>, ReadFault>
         ensures { OpensSeat Self.Seat.known (seen self.old) (seen self.new) name.now result };
 }
 

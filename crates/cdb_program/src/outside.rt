@@ -3,7 +3,7 @@
 ghost use Rattle.cdb_program.specs.Known.{Seen};
 
 use crate::files::Files;
-use cdb_debug::Streams;
+use cdb_session::Streams;
 use cdb_streams::{Sink, Source};
 use std::marker::Model;
 

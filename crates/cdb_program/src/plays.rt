@@ -6,7 +6,7 @@ ghost use Rattle.cdb_program.specs.Playing.{PlaysInput, PlaysFiles};
 use crate::fault::{Fault, of_play};
 use crate::files::{Files, read_two};
 use crate::outside::Outside;
-use cdb_any_run::RunOfSetup;
+use cdb_any_run::AnyRun;
 use cdb_play::play;
 use cdb_streams::{HeldBytes, Sink, Source};
 use std::alloc::Global;
@@ -24,12 +24,7 @@ pub fn play_input<F: Files + Drop, I: Source + Drop, O: Sink + Drop, E: Sink + D
     ensures error { outside.new.error ≡ outside.old.error }
 {
     let streams = &mut outside.streams;
-    let played = play::<RunOfSetup, I, O>(
-        alloc,
-        ONE_PROCESS,
-        &mut streams.input,
-        &mut streams.output,
-    );
+    let played = play::<AnyRun, I, O>(alloc, ONE_PROCESS, &mut streams.input, &mut streams.output);
     of_play(played, "standard input")
 }
 
@@ -45,7 +40,7 @@ pub fn play_files<'a, F: Files + Drop, I: Source + Drop, O: Sink + Drop, E: Sink
 {
     let (json, bytes) = read_two(alloc, &mut outside.files, setup, script)?;
     let mut commands = HeldBytes::new(alloc, bytes);
-    let played = play::<RunOfSetup, _, O>(
+    let played = play::<AnyRun, _, O>(
         alloc,
         json.as_slice(),
         &mut commands,

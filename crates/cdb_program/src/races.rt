@@ -9,7 +9,7 @@ use crate::fault::{Fault, of_race};
 use crate::files::{Files, read_each, read_file};
 use crate::outside::Outside;
 use crate::request::MAX_TURNS;
-use cdb_any_run::RunOfSetup;
+use cdb_any_run::AnyRun;
 use cdb_play::race_on;
 use cdb_setup::Setup;
 use cdb_streams::{RaceFault, Sink, Source, fits};
@@ -37,7 +37,7 @@ fn race_bytes<R: Threads + Wait + Sync, O: Sink>(
     if !fits(&parts, scripts.len()) {
         return Err(Fault::TooManySeats);
     }
-    let raced = race_on::<RunOfSetup, R, O>(threads, alloc, parts, turns, scripts, output);
+    let raced = race_on::<AnyRun, R, O>(threads, alloc, parts, turns, scripts, output);
     of_race(raced)
 }
 

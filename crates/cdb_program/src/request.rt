@@ -1,7 +1,7 @@
 //! What the program is asked to do, and that it does it.
 
 ghost use Rattle.std.specs.Prelude.{◌≡◌, ◌≤◌};
-ghost use Rattle.cdb_program.specs.Requests.{Does, IsNoHall, Performs, PerformsAlone, Prints, HasTurns};
+ghost use Rattle.cdb_program.specs.Requests.{Does, IsAlone, Performs, PerformsAlone, Prints, HasTurns};
 
 use crate::debugs::debug_file;
 use crate::draws::draw_files;
@@ -12,7 +12,7 @@ use crate::outside::Outside;
 use crate::plays::{play_files, play_input};
 use crate::races::race_files;
 use crate::reports::report;
-use crate::seats::perform_hall;
+use crate::seats::perform_shared;
 use cdb_draw::StepAsked;
 use cdb_streams::{PlayFault, Sink, Source, write_all};
 use std::alloc::Global;
@@ -60,7 +60,7 @@ pub enum Request<'a> {
     },
     /// Holds sessions of these seats, 1 to 64, over one run of a setup file, each in a thread of its own, and writes their
     /// journal to standard output.
-    Hall {
+    DebugShared {
         setup: &'a str,
         seats: &'a [&'a str],
     },
@@ -92,7 +92,7 @@ fn carry_out<
     outside: &mut Outside<F, I, O, E>,
 ) -> Result<(), Fault<'a>>
     requires turns { HasTurns request }
-    requires alone { IsNoHall request }
+    requires alone { IsAlone request }
     ensures does { Does request.entry outside.old outside.new result }
     ensures error { outside.new.error ≡ outside.old.error }
 {
@@ -116,7 +116,7 @@ fn carry_out<
             step,
         } => draw_files(alloc, setup, script, step, outside),
         Request::Debug { setup, prompt } => debug_file(alloc, setup, prompt, outside),
-        Request::Hall { .. } => unreachable!(),
+        Request::DebugShared { .. } => unreachable!(),
         Request::Print(text) => print(text, &mut outside.streams.output),
         Request::Refuse(fault) => Err(fault),
     }
@@ -131,7 +131,7 @@ fn perform_one<
     E: Sink + Drop,
 >(threads: &R, alloc: Global, request: Request<'_>, outside: &mut Outside<F, I, O, E>) -> u8
     requires turns { HasTurns request }
-    requires alone { IsNoHall request }
+    requires alone { IsAlone request }
     ensures { PerformsAlone request.entry outside.old outside.new result }
 {
     let outcome = carry_out(threads, alloc, request, outside);
@@ -152,7 +152,9 @@ pub fn perform<
     ensures { Performs request.entry outside.old outside.new result }
 {
     match request {
-        Request::Hall { setup, seats } => perform_hall(threads, alloc, setup, seats, outside),
+        Request::DebugShared { setup, seats } => perform_shared(
+            threads, alloc, setup, seats, outside,
+        ),
         _ => perform_one(threads, alloc, request, outside),
     }
 }

@@ -3,22 +3,22 @@
 ghost use Rattle.std.specs.Prelude.{◌≡◌, ◌≤◌, ◌∷◌, [], length, vec_len, IfOk, IfErr};
 ghost use Rattle.cdb_program.specs.Known.{after_opening};
 ghost use Rattle.cdb_program.specs.Reading.{file_names, FailsToRead};
-ghost use Rattle.cdb_program.specs.Seating.{AreStationsOf, HoldsSeats, IsFaultOfSeats, IsStationOf, PerformsHall};
+ghost use Rattle.cdb_program.specs.Seating.{AreEndpointsOf, HoldsSeats, IsFaultOfSeats, IsEndpointOf, PerformsShared};
 
 use crate::fault::Fault;
 use crate::files::{Files, read_file};
 use crate::outside::Outside;
 use crate::reports::report;
-use cdb_any_run::RunOfSetup;
+use cdb_any_run::AnyRun;
 use cdb_base::NoMemory;
 use cdb_base::limits::MAX_SEATS;
-use cdb_hall::{Station, hold};
+use cdb_shared_session::{Endpoint, debug_shared};
 use cdb_streams::{PlayFault, Sink, Source};
 use std::alloc::Global;
 use std::sync::Wait;
 use std::thread::Threads;
 
-/// The station of the seat of this name.
+/// The endpoint of the seat of this name.
 ///
 /// # Errors
 /// `Play(Read, name)` where it can't be opened, and `Play(NoMemory, name)` where an allocation fails.
@@ -26,20 +26,20 @@ fn open_one<'a, F: Files>(
     alloc: Global,
     files: &mut F,
     name: &'a str,
-) -> Result<Station<F::Seat>, Fault<'a>>
+) -> Result<Endpoint<F::Seat>, Fault<'a>>
     ensures opened { IfOk result
         (λ _. F.seen files.new ≡ after_opening (F.seen files.old) (name.entry.now ∷ [])) }
-    ensures seat { IfOk result (IsStationOf F.Seat.known (F.seen files.old) name.entry.now) }
+    ensures seat { IfOk result (IsEndpointOf F.Seat.known (F.seen files.old) name.entry.now) }
     ensures fault { IfErr result
         (FailsToRead (F.seen files.old) (F.seen files.new) (name.entry.now ∷ [])) }
 {
     match files.open_seat(alloc, name) {
-        Ok(station) => Ok(station),
+        Ok(endpoint) => Ok(endpoint),
         Err(fault) => Err(Fault::Play(PlayFault::from(fault), name)),
     }
 }
 
-/// The stations of the seats of these names, in their order, which are opened one after the other.
+/// The endpoints of the seats of these names, in their order, which are opened one after the other.
 ///
 /// # Errors
 /// `Play(Read, name)` with the name of the first seat that can't be opened; those after it are not opened.
@@ -48,25 +48,25 @@ fn open_each<'a, F: Files>(
     alloc: Global,
     files: &mut F,
     names: &[&'a str],
-) -> Result<Vec<Station<F::Seat>>, Fault<'a>>
+) -> Result<Vec<Endpoint<F::Seat>>, Fault<'a>>
     ensures opened { IfOk result
         (λ _. F.seen files.new ≡ after_opening (F.seen files.old) (file_names names.now)) }
     ensures seats { IfOk result
-        (λ stations. AreStationsOf F.Seat.known (F.seen files.old) (file_names names.now)
-        stations.items) }
-    ensures count { IfOk result (λ stations. vec_len stations ≡ length names.now) }
+        (λ endpoints. AreEndpointsOf F.Seat.known (F.seen files.old) (file_names names.now)
+        endpoints.items) }
+    ensures count { IfOk result (λ endpoints. vec_len endpoints ≡ length names.now) }
     ensures fault { IfErr result
         (FailsToRead (F.seen files.old) (F.seen files.new) (file_names names.now)) }
 {
-    let mut stations = Vec::new(alloc);
+    let mut endpoints = Vec::new(alloc);
     for name in names {
-        let station = open_one(alloc, files, name)?;
-        if let Err(error) = stations.push(station) {
+        let endpoint = open_one(alloc, files, name)?;
+        if let Err(error) = endpoints.push(endpoint) {
             let refused = NoMemory::from(error);
             return Err(Fault::Play(PlayFault::NoMemory(refused), name));
         }
     }
-    Ok(stations)
+    Ok(endpoints)
 }
 
 /// Holds sessions of these seats over one run of a setup file, and returns the status. A fault is not reported yet.
@@ -97,9 +97,16 @@ fn hold_seats<
         return Err(Fault::TooManySeats);
     }
     let json = read_file(alloc, &mut outside.files, setup)?;
-    let stations = open_each(alloc, &mut outside.files, seats)?;
+    let endpoints = open_each(alloc, &mut outside.files, seats)?;
     let (output, error) = (&mut outside.streams.output, &mut outside.error);
-    match hold::<RunOfSetup, _, R, O, E>(threads, alloc, json.as_slice(), stations, output, error) {
+    match debug_shared::<AnyRun, _, R, O, E>(
+        threads,
+        alloc,
+        json.as_slice(),
+        endpoints,
+        output,
+        error,
+    ) {
         Ok(status) => Ok(status),
         Err(fault) => Err(Fault::Race(fault)),
     }
@@ -107,7 +114,7 @@ fn hold_seats<
 
 /// Holds sessions of these seats, one at least, over one run of a setup file, reports on standard error what failed, and
 /// returns the status with which the program ends.
-pub fn perform_hall<
+pub fn perform_shared<
     R: Threads + Wait + Sync,
     F: Files + Drop,
     I: Source + Drop,
@@ -115,7 +122,7 @@ pub fn perform_hall<
     E: Sink + Drop,
 >(threads: &R, alloc: Global, setup: &str, seats: &[&str], outside: &mut Outside<F, I, O, E>) -> u8
     requires { 1 ≤ length seats.now }
-    ensures { PerformsHall setup.now (file_names seats.now) outside.old outside.new result }
+    ensures { PerformsShared setup.now (file_names seats.now) outside.old outside.new result }
 {
     match hold_seats(threads, alloc, setup, seats, outside) {
         Ok(status) => status,

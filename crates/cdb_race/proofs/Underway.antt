@@ -1,7 +1,7 @@
 -- What the final journal has of the seats of a race that a fault ended.
 use Rattle.std.proofs.Common.{◌≡◌, ℕ, ◌+◌, ◌-◌, ◌<◌, ◌≤◌, List, [], All, Some, Result, Err, length, map, replicate, take, get_or, sym, ap, ◌∙◌, subst, arith, length-append}
 use Rattle.atomic_table.specs.Seated.{TableId}
-use Rattle.cdb_base.specs.declared.limits.TheConstants.{MAX_ENTRIES}
+use Rattle.cdb_base.specs.Limits.{MAX_ENTRIES}
 use Rattle.cdb_commands.specs.ToldReply.{told}
 use Rattle.cdb_control.specs.Journal.{Journaled, opened, own, AreOfSeats}
 use Rattle.cdb_commands.specs.declared.command.Command.TheVariants.{Auto}

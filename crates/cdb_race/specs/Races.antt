@@ -1,7 +1,7 @@
 -- What a race has done.
 use Rattle.std.specs.Prelude.{◌≡◌, ℕ, ◌+◌, ◌-◌, ◌*◌, ◌<◌, ◌≤◌, Bool, true, List, [], Option, All, length, map, replicate, sum, take, slice_index_or, Vec}
 use Rattle.std.specs.Global.{Global}
-use Rattle.cdb_base.specs.declared.limits.TheConstants.{MAX_ENTRIES}
+use Rattle.cdb_base.specs.Limits.{MAX_ENTRIES}
 use Rattle.cdb_commands.specs.ToldReply.{ToldReply, told}
 use Rattle.cdb_control.specs.Journal.{Journaled, own, AreOfSeats}
 pub use Rattle.cdb_control.specs.Journal.{replies_in}

@@ -2,7 +2,7 @@
 
 ghost use Rattle.std.specs.Prelude.{◌≡◌, ◌≤◌, Some, IfOk, is_some};
 ghost use Rattle.std.specs.Option.{option_copied};
-ghost use Rattle.cdb_base.specs.declared.limits.TheConstants.{MAX_PROCESSES};
+ghost use Rattle.cdb_base.specs.Limits.{MAX_PROCESSES};
 ghost use Rattle.cdb_register.specs.Registers.{fresh_registers, register_of, cell_of, writes_of};
 ghost use Rattle.cdb_register.specs.Registers.{HasRegister, MayBeWritten, HasWrite};
 ghost use Rattle.cdb_register.specs.Registers.{after_write, after_restore, IsBeforeWrite};

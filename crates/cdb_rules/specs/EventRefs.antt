@@ -1,6 +1,6 @@
 -- Events by the numbers that a session gives.
 use Rattle.std.specs.Prelude.{◌≤◌}
-use Rattle.cdb_base.specs.declared.limits.TheConstants.{MAX_PROCESSES, MAX_STEPS}
+use Rattle.cdb_base.specs.Limits.{MAX_PROCESSES, MAX_STEPS}
 use Rattle.cdb_base.specs.declared.name.StepId.{StepId}
 use Rattle.cdb_base.specs.declared.name.StepId.TheVariants as named
 use Rattle.cdb_message.specs.Mail.{message_name, copy_name}

@@ -11,7 +11,7 @@ use Rattle.cdb_process.specs.declared.Input.TheVariants as input
 use Rattle.cdb_register.specs.Registers.{RegisterStates, register_of, with_register, put_cell}
 use Rattle.cdb_register.specs.declared.RegisterState.{RegisterState}
 use Rattle.cdb_rules.specs.declared.progress.Progress.{Progress}
-use Rattle.cdb_base.specs.declared.limits.TheConstants.{MAX_STEPS}
+use Rattle.cdb_base.specs.Limits.{MAX_STEPS}
 
 -- at a receive the message's payload, where the copy is not lost; at a read or a write the register as it stands
 pub record Sight : Type 0 where

@@ -3,7 +3,7 @@
 ghost use Rattle.std.specs.Prelude.{◌≡◌, ◌≤◌, List, [], None, IfOk, OnErr, IsOk, true, length, option_map, vec_capacity};
 ghost use Rattle.std.specs.Option.{option_copied};
 ghost use Rattle.std.specs.Result.{result_err};
-ghost use Rattle.cdb_base.specs.declared.limits.TheConstants.{MAX_ENTRIES};
+ghost use Rattle.cdb_base.specs.Limits.{MAX_ENTRIES};
 ghost use Rattle.cdb_base.specs.declared.event.Event.{Event};
 ghost use Rattle.cdb_base.specs.Results.{Tells};
 ghost use Rattle.cdb_rules.specs.Auto.{first_step_by};

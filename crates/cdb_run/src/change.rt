@@ -1,7 +1,7 @@
 //! What one step changes: its process, the mail and the registers.
 
 ghost use Rattle.std.specs.Prelude.{◌≡◌, ℕ, ◌<◌, ◌≤◌, Some, IsSome, IfOk, OnOk, OnErr};
-ghost use Rattle.cdb_base.specs.declared.limits.TheConstants.{MAX_STEPS};
+ghost use Rattle.cdb_base.specs.Limits.{MAX_STEPS};
 ghost use Rattle.cdb_message.specs.Mail.{MailState};
 ghost use Rattle.cdb_register.specs.Registers.{RegisterStates};
 ghost use Rattle.cdb_run.specs.Back.{put_back, overwritten_cell};

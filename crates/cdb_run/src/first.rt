@@ -1,7 +1,7 @@
 //! The processes of a run in which nothing has happened, and how many registers there are.
 
 ghost use Rattle.std.specs.Prelude.{◌≡◌, ◌≤◌, if◌then◌else◌, IfOk};
-ghost use Rattle.cdb_base.specs.declared.limits.TheConstants.{MAX_PROCESSES};
+ghost use Rattle.cdb_base.specs.Limits.{MAX_PROCESSES};
 ghost use Rattle.cdb_rules.specs.Machines.{progress_at_start, uses_registers};
 
 use cdb_base::{NoMemory, Proc};

@@ -2,7 +2,7 @@
 
 ghost use Rattle.std.specs.Prelude.{◌≡◌, ◌<◌, ◌≤◌, length, map, Some, IsSome, IfOk, OnErr};
 ghost use Rattle.std.specs.Option.{ForSome};
-ghost use Rattle.cdb_base.specs.declared.limits.TheConstants.{MAX_PROCESSES, MAX_STEPS};
+ghost use Rattle.cdb_base.specs.Limits.{MAX_PROCESSES, MAX_STEPS};
 ghost use Rattle.cdb_rules.specs.Decisions.{decided_from};
 ghost use Rattle.cdb_run.specs.Back.{put_back};
 ghost use Rattle.cdb_rules.specs.Taking.{taken_local, progress_after};

@@ -28,7 +28,8 @@ numbers : (xs ys : List ℕ) → Decides (pointwise ◌==◌ xs ys) (xs ≡ ys)
 numbers = pointwise_decides unsigned_Decides
 
 abbrev HaveSameFields : Parts → Parts → Type 0
-HaveSameFields s t = (s.version ≡ t.version) × ((s.algorithm ≡ t.algorithm) × ((s.processes ≡ t.processes) × ((s.quorum ≡ t.quorum) × ((s.inputs ≡ t.inputs) × (s.answers ≡ t.answers)))))
+HaveSameFields s t = (s.version ≡ t.version)
+    × ((s.algorithm ≡ t.algorithm) × ((s.processes ≡ t.processes) × ((s.quorum ≡ t.quorum) × ((s.inputs ≡ t.inputs) × (s.answers ≡ t.answers)))))
 
 fields_decided : (s t : Parts) → Decides (are_equal s t) (HaveSameFields s t)
 fields_decided s t =
@@ -42,5 +43,8 @@ same_parts : (s t : Parts) → s ≡ t → HaveSameFields s t
 same_parts s t e = (cc, (cc, (cc, (cc, (cc, cc)))))
 
 pub are_equal_decides : (s t : Parts) → Decides (are_equal s t) (s ≡ t)
-are_equal_decides s t =
-    (λ e. let f = (fields_decided s t).0 e in same_fields s t f.0 f.1.0 f.1.1.0 f.1.1.1.0 f.1.1.1.1.0 f.1.1.1.1.1, λ e. (fields_decided s t).1 (same_parts s t e))
+are_equal_decides s t = (
+  λ e. let f = (fields_decided s t).0 e in same_fields s t f.0 f.1.0 f.1.1.0 f.1.1.1.0 f.1.1.1.1.0 f.1.1.1.1.1,
+  λ e.
+      (fields_decided s t).1 (same_parts s t e),
+)

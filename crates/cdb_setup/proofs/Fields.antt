@@ -11,4 +11,5 @@ same_built build s t version algorithm processes quorum inputs answers = cc
 pub same_fields : (s t : Parts)
     → s.version ≡ t.version → s.algorithm ≡ t.algorithm → s.processes ≡ t.processes → s.quorum ≡ t.quorum → s.inputs ≡ t.inputs → s.answers ≡ t.answers → s ≡ t
 same_fields s t version algorithm processes quorum inputs answers =
-    same_built (λ v a n q xs ls. record { version = v; algorithm = a; processes = n; quorum = q; inputs = xs; answers = ls }) s t version algorithm processes quorum inputs answers
+    same_built (λ v a n q xs ls. record { version = v; algorithm = a; processes = n; quorum = q; inputs = xs; answers = ls }) s t
+    version algorithm processes quorum inputs answers

@@ -12,9 +12,11 @@ at_position P [] (suc k) all = tt
 at_position P (item ∷ items) (suc zero) all = all.0
 at_position P (item ∷ items) (suc (suc k)) all = at_position P items (suc k) all.1
 
-of_list : (n k : ℕ) (list : Option (List ℕ)) → IfSome list (AllByRecursion (IsWithin 1 n)) → IfSome (option_and_then (λ answers. nth answers k) list) (IsWithin 1 n)
+of_list : (n k : ℕ) (list : Option (List ℕ)) → IfSome list (AllByRecursion (IsWithin 1 n))
+    → IfSome (option_and_then (λ answers. nth answers k) list) (IsWithin 1 n)
 of_list n k None all = tt
 of_list n k (Some answers) all = at_position (IsWithin 1 n) answers k all
 
 pub answer_in_range : (parts : Parts) (p k : ℕ) → AreInRange parts → IfSome (answer_of parts p k) (IsWithin 1 parts.processes)
-answer_in_range parts p k ranges = of_list parts.processes k (nth parts.answers p) (at_position (AllByRecursion (IsWithin 1 parts.processes)) parts.answers p ranges.answers)
+answer_in_range parts p k ranges =
+    of_list parts.processes k (nth parts.answers p) (at_position (AllByRecursion (IsWithin 1 parts.processes)) parts.answers p ranges.answers)

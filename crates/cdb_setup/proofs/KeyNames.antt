@@ -1,5 +1,6 @@
 -- The keys of an object, and the first needed key that is not there.
-use Rattle.std.proofs.Common.{◌≡◌, ◌≢◌, ℕ, ◌<◌, ◌+◌, Bool, true, false, ◌&&◌, cond, List, [], ◌∷◌, Option, Some, None, String, Global, string_bytes, bytes_eq, refl, sym, subst, ◌∙◌, arith, inl, inr}
+use Rattle.std.proofs.Common.{◌≡◌, ◌≢◌, ℕ, ◌<◌, ◌+◌, Bool, true, false, ◌&&◌, cond, List, [], ◌∷◌, Option, Some, None, String, Global, string_bytes, bytes_eq}
+use Rattle.std.proofs.Common.{refl, sym, subst, ◌∙◌, arith, inl, inr}
 use Rattle.std.specs.Prelude.{MatchOption, is_none, find}
 use Rattle.std.specs.List.{list_all, list_any}
 use Rattle.std.specs.Map.{keys_of}
@@ -27,7 +28,8 @@ some_key name [] e = absurd cc
 some_key name (key ∷ keys) e =
     elim (cases_Bool (bytes_eq name (name_of key))) [
       | inl h ↦ (key, (bytes_eq-Decides name (name_of key)).0 h)
-      | inr h ↦ some_key name keys (let rest : list_any (λ k. bytes_eq name (name_of k)) (key ∷ keys) ≡ list_any (λ k. bytes_eq name (name_of k)) keys = rw h refl in sym rest ∙ e)
+      | inr h ↦ some_key name keys (let rest : list_any (λ k. bytes_eq name (name_of k)) (key ∷ keys)
+          ≡ list_any (λ k. bytes_eq name (name_of k)) keys = rw h refl in sym rest ∙ e)
     ]
 
 -- what the test on a name says
@@ -35,7 +37,11 @@ is_name : (name : List ℕ) → is_key_name name ≡ true → (key : Key) × (na
 is_name name e =
     elim (cases_Bool (list_any (λ k. bytes_eq name (name_of k)) constants.Key.NEEDED)) [
       | inl h ↦ some_key name constants.Key.NEEDED h
-      | inr h ↦ (Version, (bytes_eq-Decides name (name_of Version)).0 (let rest : is_key_name name ≡ bytes_eq name (name_of Version) = rw h refl in sym rest ∙ e))
+      | inr h ↦ (
+        Version,
+        (bytes_eq-Decides name (name_of Version)).0
+            (let rest : is_key_name name ≡ bytes_eq name (name_of Version) = rw h refl in sym rest ∙ e),
+      )
     ]
 
 name_is : (key : Key) → is_key_name (name_of key) ≡ true
@@ -57,7 +63,8 @@ both true b e = (refl, e)
 both false b e = absurd cc
 
 -- where each name is that of a key, what is found has the name of a key
-all_known : (entries : List Entry) → list_all test (keys_of entries) ≡ true → (name : List ℕ) (value : Data) → get_member name (members_view entries) ≡ Some value
+all_known : (entries : List Entry) → list_all test (keys_of entries) ≡ true → (name : List ℕ) (value : Data)
+    → get_member name (members_view entries) ≡ Some value
     → (key : Key) × (name ≡ name_of key)
 all_known [] e name value there = absurd cc
 all_known (entry ∷ entries) e name value there =
@@ -88,7 +95,8 @@ some_other [] e = absurd cc
 some_other (entry ∷ entries) e =
     elim (cases_Bool (test entry.0)) [
       | inr h ↦ (string_bytes entry.0, view entry.1, member_here (string_bytes entry.0) entry entries refl, not_name (string_bytes entry.0) h)
-      | inl h ↦ further entry entries (some_other entries (let rest : list_all test (keys_of (entry ∷ entries)) ≡ list_all test (keys_of entries) = rw h refl in sym rest ∙ e))
+      | inl h ↦ further entry entries (some_other entries (let rest : list_all test (keys_of (entry ∷ entries))
+          ≡ list_all test (keys_of entries) = rw h refl in sym rest ∙ e))
     ]
 
 -- what the test on all names says
@@ -143,7 +151,8 @@ stops json k before holds = record { in_rank = refl; holds = holds; first = firs
 abbrev Finds : Data → Option Key → Type 0
 Finds json found = MatchOption found (HasNeededKeys json) (λ k. IsFirstMissing k json)
 
-goes_on : (json : Data) (k : Key) (missing : Bool) (further : Option Key) → k ≢ Version → is_none (get (name_of k) json) ≡ missing → AreThereBelow json (key_number k)
+goes_on : (json : Data) (k : Key) (missing : Bool) (further : Option Key) → k ≢ Version → is_none (get (name_of k) json) ≡ missing
+    → AreThereBelow json (key_number k)
     → (AreThereBelow json (key_number k + 1) → Finds json further) → Finds json (cond missing (Some k) further)
 goes_on json k true further needed e before rest = stops json k before (needed, λ value. absent (get (name_of k) json) value e)
 goes_on json k false further needed e before rest = rest (one_more json k before (λ holds. present (get (name_of k) json) e holds.1))

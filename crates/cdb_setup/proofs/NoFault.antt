@@ -4,7 +4,7 @@ use Rattle.std.specs.Prelude.{slice_get}
 use Rattle.std.specs.List.{AllByRecursion}
 use Rattle.std.proofs.lemmas.List.{length-map}
 use Rattle.serde_json.specs.Data.{Data}
-use Rattle.cdb_base.specs.declared.limits.TheConstants.{MAX_VALUE}
+use Rattle.cdb_base.specs.Limits.{MAX_VALUE}
 use Rattle.cdb_setup.specs.declared.key.Key.TheVariants as key
 use Rattle.cdb_setup.specs.declared.fault.SetupFault.TheVariants.{BadInput, BadOracle, BadVersion}
 use Rattle.cdb_setup.specs.Parts.{IsWithin}
@@ -30,7 +30,8 @@ module _ (n : ℕ) (inputs : List ℕ) (json : Data) (count : IsCount n json) (a
 
 -- ---- lists of answers
 
-list_at : (n : ℕ) (lists : List (List ℕ)) (p : ℕ) (list : Data) → AllByRecursion (AllByRecursion (IsWithin 1 n)) lists → slice_get (map array_of_whole lists) p ≡ Some list → IsAnswerList n list
+list_at : (n : ℕ) (lists : List (List ℕ)) (p : ℕ) (list : Data) → AllByRecursion (AllByRecursion (IsWithin 1 n)) lists
+    → slice_get (map array_of_whole lists) p ≡ Some list → IsAnswerList n list
 list_at n [] p list all there = absurd cc
 list_at n (answers ∷ lists) zero list all there = (answers, (let same : array_of_whole answers ≡ list = cc in sym same), all.0)
 list_at n (answers ∷ lists) (suc p) list all there = list_at n lists p list all.1 there
@@ -51,7 +52,8 @@ module _ (n : ℕ) (lists : List (List ℕ)) (json : Data) (count : IsCount n js
       holds.4 (map whole found.0) found.1
   no_bad_answer (suc p) (suc k) holds =
       let same = one_list key.Oracle holds.0 (map array_of_whole lists) json holds.3 lists_each in
-      let there : slice_get (map array_of_whole lists) p ≡ Some (array_of holds.1) = subst (λ (vs : List Data). slice_get vs p ≡ Some (array_of holds.1)) same holds.4 in
+      let there : slice_get (map array_of_whole lists) p ≡ Some (array_of holds.1) =
+      subst (λ (vs : List Data). slice_get vs p ≡ Some (array_of holds.1)) same holds.4 in
       let found = list_at n lists p (array_of holds.1) all there in
       let as_many : length holds.0 ≡ n = ap (λ (vs : List Data). length vs) same ∙ length-map lists array_of_whole ∙ len in
       let answer = answer_in n (array_of holds.1) holds.1 k holds.2 found refl holds.5 in

@@ -4,7 +4,7 @@ use Rattle.std.specs.Prelude.{slice_get, Result, Ok, Err, IfErr}
 use Rattle.std.specs.List.{AllByRecursion}
 use Rattle.std.proofs.lemmas.Bool.{cases_lt}
 use Rattle.serde_json.specs.Data.{Data}
-use Rattle.cdb_base.specs.declared.limits.TheConstants.{MAX_VALUE}
+use Rattle.cdb_base.specs.Limits.{MAX_VALUE}
 use Rattle.cdb_setup.specs.declared.key.Key.{Key}
 use Rattle.cdb_setup.specs.declared.key.Key.TheVariants as key
 use Rattle.cdb_base.specs.Memory.{no_memory}
@@ -19,7 +19,8 @@ use Rattle.cdb_setup.specs.Readings.{IsFirstNot, IsAnswerList, IsFirstOfLists}
 use Rattle.cdb_setup.proofs.Values.{array_same}
 
 -- a value before the first that isn't so is so
-pub before_is_so : (P : Data → Type 0) (values : List Data) (i j : ℕ) (value : Data) → AllByRecursion P (take i values) → j < i → slice_get values j ≡ Some value → P value
+pub before_is_so : (P : Data → Type 0) (values : List Data) (i j : ℕ) (value : Data) → AllByRecursion P (take i values) → j < i
+    → slice_get values j ≡ Some value → P value
 before_is_so P [] i j value all below there = absurd cc
 before_is_so P (v ∷ values) zero j value all below there = absurd (omega arith)
 before_is_so P (v ∷ values) (suc i) zero value all below there = let same : v ≡ value = cc in subst P same all.0
@@ -57,13 +58,15 @@ inputs_first_fault values json (Err fault) each stops = λ differs.
 -- ---- the oracle
 
 -- a value of a list of numbers in range is one
-pub within_at : (low high : ℕ) (numbers : List ℕ) (k : ℕ) (value : Data) → AllByRecursion (IsWithin low high) numbers → slice_get (map whole numbers) k ≡ Some value → IsWholeWithin low high value
+pub within_at : (low high : ℕ) (numbers : List ℕ) (k : ℕ) (value : Data) → AllByRecursion (IsWithin low high) numbers
+    → slice_get (map whole numbers) k ≡ Some value → IsWholeWithin low high value
 within_at low high [] k value all there = absurd cc
 within_at low high (m ∷ numbers) zero value all there = (m, (let same : whole m ≡ value = cc in sym same), all.0)
 within_at low high (m ∷ numbers) (suc k) value all there = within_at low high numbers k value all.1 there
 
 -- a value of a list of answers is an answer
-pub answer_in : (n : ℕ) (list : Data) (answers : List Data) (k : ℕ) (answer : Data) → IsAnswerList n list → list ≡ array_of answers → slice_get answers k ≡ Some answer → IsWholeWithin 1 n answer
+pub answer_in : (n : ℕ) (list : Data) (answers : List Data) (k : ℕ) (answer : Data) → IsAnswerList n list
+    → list ≡ array_of answers → slice_get answers k ≡ Some answer → IsWholeWithin 1 n answer
 answer_in n list answers k answer is same there =
     let equal : array_of answers ≡ array_of (map whole is.0) = let a = is.1 in cc in
     let one : answers ≡ map whole is.0 = array_same answers (map whole is.0) equal in
@@ -82,7 +85,8 @@ module _ (lists : List Data) (json : Data) (p : ℕ) (list : Data) (each : HasOn
   -- a list that is no array doesn't stand before p
   no_other_list : (q : ℕ) → q < p → ¬ Holds (BadOracle (suc q) zero) json
   no_other_list q below holds =
-      let there : slice_get lists q ≡ Some holds.1 = subst (λ (vs : List Data). slice_get vs q ≡ Some holds.1) (one_list key.Oracle holds.0 lists json holds.2 each) holds.3 in
+      let there : slice_get lists q ≡ Some holds.1 =
+      subst (λ (vs : List Data). slice_get vs q ≡ Some holds.1) (one_list key.Oracle holds.0 lists json holds.2 each) holds.3 in
       let is = before_is_so (IsAnswerList (length lists)) lists p q holds.1 before_p below there in
       holds.4 (map whole is.0) is.1
 
@@ -113,7 +117,8 @@ module _ (lists : List Data) (json : Data) (p : ℕ) (list : Data) (each : HasOn
     -- the list at p is an array
     not_list : ¬ Holds (BadOracle (suc p) zero) json
     not_list holds =
-        let there : slice_get lists p ≡ Some holds.1 = subst (λ (vs : List Data). slice_get vs p ≡ Some holds.1) (one_list key.Oracle holds.0 lists json holds.2 each) holds.3 in
+        let there : slice_get lists p ≡ Some holds.1 =
+        subst (λ (vs : List Data). slice_get vs p ≡ Some holds.1) (one_list key.Oracle holds.0 lists json holds.2 each) holds.3 in
         let same : holds.1 ≡ array_of answers = let e = at_array in cc in
         holds.4 answers same
 
@@ -151,15 +156,19 @@ module _ (lists : List Data) (json : Data) (p : ℕ) (list : Data) (each : HasOn
       first = before_answer;
     }
 
-lists_first : (lists : List Data) (json : Data) (fault : SetupFault) → HasOneEach key.Oracle lists json → IsFirstOfLists (length lists) lists fault → IsFirstOfRank 9 fault json
+lists_first : (lists : List Data) (json : Data) (fault : SetupFault) → HasOneEach key.Oracle lists json
+    → IsFirstOfLists (length lists) lists fault → IsFirstOfRank 9 fault json
 lists_first lists json fault each stop =
     elim stop.4 [
       | inl list ↦ subst (λ (f : SetupFault). IsFirstOfRank 9 f json) (sym list.0) (rw add-one (list_first lists json stop.0 stop.1 each stop.2 stop.3 list.1))
-      | inr answer ↦ subst (λ (f : SetupFault). IsFirstOfRank 9 f json) (sym answer.2) (rw (add-one, add-one) (answer_first lists json stop.0 stop.1 each stop.2 stop.3 answer.0 answer.1 answer.3 answer.4))
+      | inr answer ↦ subst (λ (f : SetupFault). IsFirstOfRank 9 f json) (sym answer.2)
+          (rw (add-one, add-one) (answer_first lists json stop.0 stop.1 each stop.2 stop.3 answer.0 answer.1 answer.3 answer.4))
     ]
 
-pub lists_first_fault : {A : Type 0} (lists : List Data) (n : ℕ) (json : Data) (result : Result A SetupFault) → length lists ≡ n → HasOneEach key.Oracle lists json
-    → IfErr result (λ fault. fault ≢ NoMemory no_memory → IsFirstOfLists n lists fault) → IfErr result (λ fault. fault ≢ NoMemory no_memory → IsFirstOfRank 9 fault json)
+pub lists_first_fault : {A : Type 0} (lists : List Data) (n : ℕ) (json : Data) (result : Result A SetupFault) → length lists ≡ n
+    → HasOneEach key.Oracle lists json
+    → IfErr result (λ fault. fault ≢ NoMemory no_memory → IsFirstOfLists n lists fault)
+    → IfErr result (λ fault. fault ≢ NoMemory no_memory → IsFirstOfRank 9 fault json)
 lists_first_fault lists n json (Ok found) len each stops = tt
 lists_first_fault lists n json (Err fault) len each stops = λ differs.
     lists_first lists json fault each (subst (λ (m : ℕ). IsFirstOfLists m lists fault) (sym len) (stops differs))

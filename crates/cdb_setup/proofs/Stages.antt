@@ -3,11 +3,12 @@ use Rattle.std.proofs.Common.{◌≡◌, ℕ, ◌+◌, List, length, map, subst,
 use Rattle.std.specs.List.{AllByRecursion}
 use Rattle.std.proofs.lemmas.Bool.{cases_lt}
 use Rattle.serde_json.specs.Data.{Data, Members, object}
-use Rattle.cdb_base.specs.declared.limits.TheConstants.{MAX_VALUE}
+use Rattle.cdb_base.specs.Limits.{MAX_VALUE}
 use Rattle.cdb_setup.specs.declared.setup.Algorithm.{Algorithm}
 use Rattle.cdb_setup.specs.declared.key.Key.TheVariants as key
 use Rattle.cdb_setup.specs.declared.fault.SetupFault.{SetupFault}
-use Rattle.cdb_setup.specs.declared.fault.SetupFault.TheVariants.{NotJson, NotObject, UnknownKey, Missing, BadAlgorithm, BadCount, BadQuorum, BadInput, BadOracle, TooLong, BadVersion, NoMemory}
+use Rattle.cdb_setup.specs.declared.fault.SetupFault.TheVariants.{NotJson, NotObject, UnknownKey, Missing, BadAlgorithm, BadCount, BadQuorum, BadInput}
+use Rattle.cdb_setup.specs.declared.fault.SetupFault.TheVariants.{BadOracle, TooLong, BadVersion, NoMemory}
 use Rattle.cdb_setup.specs.Parts.{IsWithin}
 use Rattle.cdb_setup.specs.Format.{whole, array_of, array_of_whole, HasAt, HasAlgorithm, HasKnownKeys}
 use Rattle.cdb_setup.specs.Faults.{Holds, IsCount}
@@ -61,11 +62,13 @@ no_bad_count : (n : ℕ) (json : Data) → IsCount n json → (other : SetupFaul
 no_bad_count n json count BadCount is holds = holds n count
 no_bad_count n json count other is holds = absurd (omega arith)
 
-no_bad_quorum : (n q : ℕ) (json : Data) → IsCount n json → HasAt key.Quorum (whole q) json → IsWithin 1 n q → (other : SetupFault) → rank other ≡ 7 → ¬ Holds other json
+no_bad_quorum : (n q : ℕ) (json : Data) → IsCount n json → HasAt key.Quorum (whole q) json → IsWithin 1 n q → (other : SetupFault)
+    → rank other ≡ 7 → ¬ Holds other json
 no_bad_quorum n q json count at within BadQuorum is holds = holds n q count at within
 no_bad_quorum n q json count at within other is holds = absurd (omega arith)
 
-no_input : (n : ℕ) (inputs : List ℕ) (json : Data) → IsCount n json → HasAt key.Inputs (array_of_whole inputs) json → length inputs ≡ n → AllByRecursion (IsWithin 0 MAX_VALUE) inputs
+no_input : (n : ℕ) (inputs : List ℕ) (json : Data) → IsCount n json → HasAt key.Inputs (array_of_whole inputs) json
+    → length inputs ≡ n → AllByRecursion (IsWithin 0 MAX_VALUE) inputs
     → (other : SetupFault) → rank other ≡ 8 → ¬ Holds other json
 no_input n inputs json count at len all (BadInput position) is holds = no_bad_input n inputs json count at len all position holds
 no_input n inputs json count at len all other is holds = absurd (omega arith)
@@ -83,15 +86,18 @@ after_count algorithm n json five named count = passes 6 json (after_algorithm a
 
 pub after_quorum : (algorithm : Algorithm) (n q : ℕ) (json : Data) → IsClearBelow 5 json → HasAlgorithm algorithm json → IsCount n json
     → HasAt key.Quorum (whole q) json → IsWithin 1 n q → IsClearBelow 8 json
-after_quorum algorithm n q json five named count quorum within = passes 7 json (after_count algorithm n json five named count) (no_bad_quorum n q json count quorum within)
+after_quorum algorithm n q json five named count quorum within =
+    passes 7 json (after_count algorithm n json five named count) (no_bad_quorum n q json count quorum within)
 
 -- once the inputs are read, no fault of a rank up to theirs is left
 pub after_inputs : (algorithm : Algorithm) (n q : ℕ) (inputs : List ℕ) (json : Data) → IsClearBelow 5 json → HasAlgorithm algorithm json → IsCount n json
-    → HasAt key.Quorum (whole q) json → IsWithin 1 n q → HasAt key.Inputs (array_of_whole inputs) json → length inputs ≡ n → AllByRecursion (IsWithin 0 MAX_VALUE) inputs → IsClearBelow 9 json
+    → HasAt key.Quorum (whole q) json → IsWithin 1 n q → HasAt key.Inputs (array_of_whole inputs) json → length inputs ≡ n
+    → AllByRecursion (IsWithin 0 MAX_VALUE) inputs → IsClearBelow 9 json
 after_inputs algorithm n q inputs json five named count quorum within at len all =
     passes 8 json (after_quorum algorithm n q json five named count quorum within) (no_input n inputs json count at len all)
 
-pub after_answers : (n : ℕ) (lists : List (List ℕ)) (json : Data) → IsClearBelow 9 json → IsCount n json → HasAt key.Oracle (array_of (map array_of_whole lists)) json → length lists ≡ n
+pub after_answers : (n : ℕ) (lists : List (List ℕ)) (json : Data) → IsClearBelow 9 json → IsCount n json
+    → HasAt key.Oracle (array_of (map array_of_whole lists)) json → length lists ≡ n
     → AllByRecursion (AllByRecursion (IsWithin 1 n)) lists → IsClearBelow 10 json
 after_answers n lists json clear count at len all = passes 9 json clear (no_answer n lists json count at len all)
 

@@ -11,7 +11,8 @@ use Rattle.cdb_setup.specs.Faults.{IsWholeWithin}
 use Rattle.cdb_setup.specs.Readings.{IsFirstNot, IsAnswerList}
 
 -- one more value is read
-pub push_read : {A : Type 0} (form : A → Data) (values : List Data) (parts : List A) (i : ℕ) (part : A) → slice_get values i ≡ Some (form part) → take i values ≡ map form parts
+pub push_read : {A : Type 0} (form : A → Data) (values : List Data) (parts : List A) (i : ℕ) (part : A)
+    → slice_get values i ≡ Some (form part) → take i values ≡ map form parts
     → take (i + 1) values ≡ map form (parts ++ part ∷ [])
 push_read form values parts i part there read =
     let more = take_more values i (form part) (slice_get_within values i (form part) there) in
@@ -23,7 +24,8 @@ push_all P [] part all one = (one, tt)
 push_all P (first ∷ parts) part all one = (all.0, push_all P parts part all.1 one)
 
 -- numbers in range are written so
-pub within_written : (low high : ℕ) (numbers : List ℕ) → AllByRecursion (IsWithin low high) numbers → AllByRecursion (IsWholeWithin low high) (map whole numbers)
+pub within_written : (low high : ℕ) (numbers : List ℕ) → AllByRecursion (IsWithin low high) numbers
+    → AllByRecursion (IsWholeWithin low high) (map whole numbers)
 within_written low high [] all = tt
 within_written low high (n ∷ numbers) all = ((n, refl, all.0), within_written low high numbers all.1)
 
@@ -38,15 +40,18 @@ stops_at low high values numbers i value there not_so read within = record {
 }
 
 -- what a loop reads at a position stands there
-pub reads_value : {A B : Type 0} (seen : A → B) (items : List A) (i : ℕ) (item : A) → i < length items → item ≡ get_or items i item → slice_get (map seen items) i ≡ Some (seen item)
+pub reads_value : {A B : Type 0} (seen : A → B) (items : List A) (i : ℕ) (item : A) → i < length items
+    → item ≡ get_or items i item → slice_get (map seen items) i ≡ Some (seen item)
 reads_value seen items i item below read = slice_get-map seen items i ∙ ap (option_map seen) (slice_get_read items (length items) i item refl below read)
 
 -- lists of answers in range are written so
-pub lists_written : (n : ℕ) (lists : List (List ℕ)) → AllByRecursion (AllByRecursion (IsWithin 1 n)) lists → AllByRecursion (IsAnswerList n) (map array_of_whole lists)
+pub lists_written : (n : ℕ) (lists : List (List ℕ)) → AllByRecursion (AllByRecursion (IsWithin 1 n)) lists
+    → AllByRecursion (IsAnswerList n) (map array_of_whole lists)
 lists_written n [] all = tt
 lists_written n (answers ∷ lists) all = ((answers, refl, all.0), lists_written n lists all.1)
 
 -- the lists that were read are lists of answers
-pub lists_before : (n i : ℕ) (values : List Data) (lists : List (List ℕ)) → take i values ≡ map array_of_whole lists → AllByRecursion (AllByRecursion (IsWithin 1 n)) lists
+pub lists_before : (n i : ℕ) (values : List Data) (lists : List (List ℕ)) → take i values ≡ map array_of_whole lists
+    → AllByRecursion (AllByRecursion (IsWithin 1 n)) lists
     → AllByRecursion (IsAnswerList n) (take i values)
 lists_before n i values lists read within = subst (λ (vs : List Data). AllByRecursion (IsAnswerList n) vs) (sym read) (lists_written n lists within)

@@ -1,19 +1,18 @@
 -- The bytes as a whole: what encodes a setup has no fault, and encodes no other.
-use Rattle.std.proofs.Common.{◌≡◌, ◌≢◌, ◌⊎◌, ℕ, ◌<◌, ◌≤◌, List, [], ◌∷◌, length, map, Some, None, refl, sym, ap, subst, ◌∙◌, arith, inl, inr}
+use Rattle.std.proofs.Common.{◌≡◌, ◌≢◌, ◌⊎◌, ℕ, ◌<◌, ◌≤◌, List, [], ◌∷◌, length, map, Some, refl, sym, ap, subst, ◌∙◌, arith, inl, inr}
 use Rattle.std.specs.Prelude.{Result, Ok, Err, IfOk, IfErr}
-use Rattle.std.specs.Str.{IsUtf8}
 use Rattle.serde_json.specs.Data.{Data, null, boolean, number, string, array, object, Members}
-use Rattle.serde_json.specs.Read as reading
 use Rattle.cdb_setup.specs.declared.setup.Algorithm.{Algorithm}
 use Rattle.cdb_setup.specs.declared.setup.Algorithm.TheVariants.{Leader, Alpha}
 use Rattle.cdb_setup.specs.declared.key.Key.TheVariants as key
 use Rattle.cdb_base.specs.Memory.{no_memory}
 use Rattle.cdb_setup.specs.declared.fault.SetupFault.{SetupFault}
-use Rattle.cdb_setup.specs.declared.fault.SetupFault.TheVariants.{NotJson, NotObject, UnknownKey, Missing, BadAlgorithm, BadCount, BadQuorum, BadInput, BadOracle, TooLong, BadVersion, NoMemory}
+use Rattle.cdb_setup.specs.declared.fault.SetupFault.TheVariants.{NotJson, NotObject, UnknownKey, Missing, BadAlgorithm, BadCount, BadQuorum, BadInput}
+use Rattle.cdb_setup.specs.declared.fault.SetupFault.TheVariants.{BadOracle, TooLong, BadVersion, NoMemory}
 use Rattle.cdb_setup.specs.Parts.{Parts}
 use Rattle.cdb_setup.specs.Format.{algorithm_name, whole, array_of, array_of_whole, HasVersion, IsSetupOf, IsJsonOf, Encodes, longest}
 use Rattle.cdb_setup.specs.Faults.{Holds, HoldsOf}
-use Rattle.cdb_setup.specs.Order.{IsFirstFault, IsLookedForBefore}
+use Rattle.cdb_setup.specs.Order.{IsFirstFault}
 use Rattle.cdb_setup.specs.Ranks.{IsFirstOf}
 use Rattle.cdb_setup.proofs.Values.{array_same, whole_same}
 use Rattle.cdb_setup.proofs.Fields.{same_fields}
@@ -45,23 +44,8 @@ pub all_lifted : {A : Type 0} (result : Result A SetupFault) (bytes : List ℕ) 
 all_lifted (Ok setup) bytes json short is faults = tt
 all_lifted (Err fault) bytes json short is faults = λ differs. lifted fault bytes json short is (faults differs)
 
-pub all_stand : {A : Type 0} (parts : A → Parts) (result : Result A SetupFault) (bytes : List ℕ) (json : Data) → length bytes ≤ longest → IsJsonOf bytes json
-    → IfOk result (λ setup. IsSetupOf json (parts setup)) → IfOk result (λ setup. Encodes bytes (parts setup))
-all_stand parts (Ok setup) bytes json short is found = (short, json, is, found)
-all_stand parts (Err fault) bytes json short is found = tt
-
 pub too_long : (bytes : List ℕ) → longest < length bytes → IsFirstFault TooLong bytes
 too_long bytes long = record { holds = long; first = λ other before holds. omega arith }
-
-before_not_json : (other : SetupFault) (bytes : List ℕ) → length bytes ≤ longest → IsLookedForBefore other NotJson → ¬ HoldsOf other bytes
-before_not_json TooLong bytes short before holds = omega arith
-before_not_json other bytes short before holds = absurd (omega arith)
-
-pub not_json : (bytes : List ℕ) → length bytes ≤ longest → (IsUtf8 bytes → reading.read bytes ≡ None) → IsFirstFault NotJson bytes
-not_json bytes short none = record {
-  holds = λ json is. let nothing = none is.0 in let there = is.1 in cc;
-  first = λ other before. before_not_json other bytes short before;
-}
 
 -- ---- what encodes a setup has no fault
 
@@ -91,7 +75,8 @@ no_setup BadQuorum json parts is holds = holds parts.processes parts.quorum (is.
 no_setup (BadInput position) json parts is holds =
     no_bad_input parts.processes parts.inputs json (is.processes, is.ranges.processes) is.inputs is.ranges.an_input_each is.ranges.inputs position holds
 no_setup (BadOracle process position) json parts is holds =
-    no_bad_answer parts.processes parts.answers json (is.processes, is.ranges.processes) is.answers is.ranges.a_list_each is.ranges.answers process position holds
+    no_bad_answer parts.processes parts.answers json (is.processes, is.ranges.processes) is.answers is.ranges.a_list_each
+    is.ranges.answers process position holds
 no_setup BadVersion json parts is holds = no_bad_version parts.version json is.version is.ranges.version holds
 no_setup NotJson json parts is holds = holds
 no_setup TooLong json parts is holds = holds
@@ -130,15 +115,18 @@ same_parts json s t a b =
     let algorithm : s.algorithm ≡ t.algorithm = same_name s.algorithm t.algorithm (same_at (sym a.algorithm ∙ b.algorithm)) in
     let processes : s.processes ≡ t.processes = let e = same_at (sym a.processes ∙ b.processes) in cc in
     let quorum : s.quorum ≡ t.quorum = let e = same_at (sym a.quorum ∙ b.quorum) in cc in
-    let inputs : s.inputs ≡ t.inputs = whole_same s.inputs t.inputs (array_same (map whole s.inputs) (map whole t.inputs) (same_at (sym a.inputs ∙ b.inputs))) in
-    let answers : s.answers ≡ t.answers = lists_same s.answers t.answers (array_same (map array_of_whole s.answers) (map array_of_whole t.answers) (same_at (sym a.answers ∙ b.answers))) in
+    let inputs : s.inputs ≡ t.inputs =
+    whole_same s.inputs t.inputs (array_same (map whole s.inputs) (map whole t.inputs) (same_at (sym a.inputs ∙ b.inputs))) in
+    let answers : s.answers ≡ t.answers =
+    lists_same s.answers t.answers (array_same (map array_of_whole s.answers) (map array_of_whole t.answers) (same_at (sym a.answers ∙ b.answers))) in
     same_fields s t version algorithm processes quorum inputs answers
 
 pub one_setup : (bytes : List ℕ) (s t : Parts) → Encodes bytes s → Encodes bytes t → s ≡ t
 one_setup bytes s t a b = same_parts a.1 s t a.3 (subst (λ (d : Data). IsSetupOf d t) (one_value bytes b.1 a.1 b.2 a.2) b.3)
 
 -- what encodes a setup is answered, unless memory runs out
-pub only : (result : Result Parts SetupFault) (bytes : List ℕ) → IfOk result (λ setup. Encodes bytes setup) → IfErr result (λ fault. fault ≢ NoMemory no_memory → IsFirstFault fault bytes)
+pub only : (result : Result Parts SetupFault) (bytes : List ℕ) → IfOk result (λ setup. Encodes bytes setup)
+    → IfErr result (λ fault. fault ≢ NoMemory no_memory → IsFirstFault fault bytes)
     → (setup : Parts) → Encodes bytes setup → (result ≡ Ok setup) ⊎ (result ≡ Err (NoMemory no_memory))
 only (Ok found) bytes stands faults setup other = inl (ap Ok (one_setup bytes found setup stands other))
 only (Err (NoMemory refused)) bytes stands faults setup other = inr refl

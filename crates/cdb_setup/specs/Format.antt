@@ -5,7 +5,7 @@ use Rattle.serde_json.specs.Data.{Data, number, unsigned, string, array}
 use Rattle.serde_json.specs.Find.{get}
 use Rattle.serde_json.specs.Read as reading
 use Rattle.serde_json.specs.View.{items_of}
-use Rattle.cdb_base.specs.declared.limits.TheConstants.{MAX_BYTES}
+use Rattle.cdb_base.specs.Limits.{MAX_BYTES}
 use Rattle.cdb_setup.specs.declared.setup.Algorithm.{Algorithm}
 use Rattle.cdb_setup.specs.declared.setup.Algorithm.TheVariants.{Leader, Alpha}
 use Rattle.cdb_setup.specs.declared.key.Key.{Key}

@@ -4,7 +4,7 @@ use Rattle.std.specs.Borrow.{Bor}
 use Rattle.std.specs.Global.{Global}
 use Rattle.std.specs.List.{AllByRecursion}
 use Rattle.cdb_base.specs.Positions.{nth}
-use Rattle.cdb_base.specs.declared.limits.TheConstants.{MAX_PROCESSES, MAX_VALUE}
+use Rattle.cdb_base.specs.Limits.{MAX_PROCESSES, MAX_VALUE}
 use Rattle.cdb_setup.specs.declared.setup.Algorithm.{Algorithm}
 
 -- the parts of a setup, with an input and a list of answers for each process, by number

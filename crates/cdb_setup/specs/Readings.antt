@@ -1,8 +1,9 @@
 -- What is read from a JSON value, and where the reading of an array stops.
-use Rattle.std.specs.Prelude.{◌≡◌, ◌≢◌, ◌⊎◌, ℕ, ◌+◌, Bool, MatchBool, List, length, map, take, slice_get, Option, Some, MatchOption}
+use Rattle.std.specs.Prelude.{◌≡◌, ◌≢◌, ◌⊎◌, ℕ, ◌+◌, Bool, MatchBool, List, length, map, take, slice_get, Option, Some}
+use Rattle.std.specs.Prelude.{MatchOption}
 use Rattle.std.specs.List.{AllByRecursion}
 use Rattle.serde_json.specs.Data.{Data}
-use Rattle.cdb_base.specs.declared.limits.TheConstants.{MAX_VALUE}
+use Rattle.cdb_base.specs.Limits.{MAX_VALUE}
 use Rattle.cdb_setup.specs.declared.fault.SetupFault.{SetupFault}
 use Rattle.cdb_setup.specs.declared.fault.SetupFault.TheVariants.{UnknownKey, BadInput, BadOracle}
 use Rattle.cdb_setup.specs.declared.key.Key.TheVariants as key

@@ -2,7 +2,7 @@
 
 ghost use Rattle.std.specs.Prelude.{◌≡◌, ◌<◌, ◌≤◌, length, map, IfOk};
 ghost use Rattle.serde_json.specs.View.{view};
-ghost use Rattle.cdb_base.specs.declared.limits.TheConstants.{MAX_PROCESSES};
+ghost use Rattle.cdb_base.specs.Limits.{MAX_PROCESSES};
 ghost use Rattle.cdb_setup.specs.Parts.{lists_in};
 ghost use Rattle.cdb_setup.specs.Faults.{IfFault, IsCount};
 ghost use Rattle.cdb_setup.specs.Ranks.{IsFirstOfRank};

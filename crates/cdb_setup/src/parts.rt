@@ -2,7 +2,7 @@
 
 ghost use Rattle.std.specs.Prelude.{◌≡◌, ◌<◌, ◌^◌, length, map, MatchOption, IfOk};
 ghost use Rattle.serde_json.specs.View.{view};
-ghost use Rattle.cdb_base.specs.declared.limits.TheConstants.{MAX_VALUE};
+ghost use Rattle.cdb_base.specs.Limits.{MAX_VALUE};
 ghost use Rattle.cdb_setup.specs.Format.{HasAlgorithm};
 ghost use Rattle.cdb_setup.specs.Faults.{IfFault, IsCount, HasOneEach, LacksOneEach};
 ghost use Rattle.cdb_setup.specs.Ranks.{IsFirstOfRank};

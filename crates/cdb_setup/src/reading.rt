@@ -14,8 +14,8 @@ use crate::fault::SetupFault;
 use crate::keys::check_keys;
 use crate::parts::{algorithm_of, count_of, inputs_of, quorum_of, version_of};
 use crate::setup::Setup;
-use cdb_base::{LibraryError, NoMemory};
 use cdb_base::limits::MAX_BYTES;
+use cdb_base::{LibraryError, NoMemory};
 use serde_json::{Error, Value};
 use std::alloc::Global;
 
@@ -65,7 +65,8 @@ impl LibraryError for JsonError {
 
 /// Why there is no JSON value: out of memory, or the bytes are the text of none.
 fn fault_of(error: &JsonError) -> SetupFault
-    ensures { (IsMemory error.now.0 × result ≡ SetupFault.NoMemory no_memory) ⊎ (¬ IsMemory error.now.0 × result ≡ SetupFault.NotJson) }
+    ensures { (IsMemory error.now.0 × result ≡ SetupFault.NoMemory no_memory)
+        ⊎ (¬ IsMemory error.now.0 × result ≡ SetupFault.NotJson) }
 {
     match NoMemory::of(error) {
         Some(refused) => SetupFault::NoMemory(refused),

@@ -47,7 +47,7 @@ impl Model for Setup {
 }
 
 impl Setup {
-    ghost use Rattle.cdb_base.specs.declared.limits.TheConstants.{MAX_PROCESSES};
+    ghost use Rattle.cdb_base.specs.Limits.{MAX_PROCESSES};
     ghost use Rattle.cdb_setup.specs.Parts.{Parts, IsWithin, AreInRange, AreValues};
     ghost use Rattle.cdb_setup.specs.Parts.{AreListsOfProcesses, lists_of, setup_with, answer_of};
     ghost use Rattle.cdb_setup.specs.Faults.{IfFault};

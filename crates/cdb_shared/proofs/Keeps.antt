@@ -1,5 +1,8 @@
 -- Each step on the queue of the turn keeps the rule.
-use Rattle.std.proofs.Common.{◌≡◌, ◌≢◌, inl, inr, ℕ, zero, suc, ◌+◌, ◌<◌, ◌≤◌, ◌==◌, cond, Bool, true, false, List, [], ◌∷◌, ◌++◌, map, set, take, drop, Option, Some, refl, sym, ap, ◌∙◌, subst, ⊎_elim, arith}
+use Rattle.std.proofs.lemmas.Grind.{common_steps}
+use Rattle.std.proofs.lemmas.Option.{gets}
+use Rattle.std.proofs.Common.{◌≡◌, ◌≢◌, inl, inr, ℕ, zero, suc, ◌+◌, ◌<◌, ◌≤◌, ◌==◌, cond, Bool, true, false, List, [], ◌∷◌, ◌++◌, map, set, take, drop, Option}
+use Rattle.std.proofs.Common.{Some, refl, sym, ap, ◌∙◌, subst, ⊎_elim, arith}
 use Rattle.std.proofs.lemmas.Bool.Decides.{nat_tests}
 use Rattle.std.proofs.lemmas.List.{map-append}
 use mathlib.Core.Option.{some, some-ne-none, some-injective}
@@ -14,7 +17,9 @@ use Rattle.cdb_shared.specs.declared.knowledge.Stage.TheVariants.{Spent, Resting
 use Rattle.cdb_shared.specs.declared.knowledge.KnownSeat.{KnownSeat}
 use Rattle.cdb_shared.specs.declared.knowledge.Story.{Story}
 use Rattle.cdb_shared.specs.declared.knowledge.Knowledge.{Knowledge}
-use Rattle.cdb_shared.specs.Turn.{story, longer, opening, spent, resting, holding, Knows, AllKnow, Whereabouts, InQueue, HeldBy, FitsAt, queued, IsHeld, seat_count, total_of, Turns, IsRuled, known_seats_from, seen_at, seen_by, TurnTaken, TurnGiven, MayGrow, MayFollow, MayGive, seats_after, NoneWaits, without_first, first_alone, joined_pass}
+use Rattle.cdb_shared.specs.Turn.{story, longer, opening, spent, resting, holding, Knows, AllKnow, Whereabouts, InQueue, HeldBy, FitsAt, queued, IsHeld}
+use Rattle.cdb_shared.specs.Turn.{seat_count, total_of, Turns, IsRuled, known_seats_from, seen_at, seen_by, TurnTaken, TurnGiven, MayGrow, MayFollow, MayGive}
+use Rattle.cdb_shared.specs.Turn.{seats_after, NoneWaits, without_first, first_alone, joined_pass}
 
 -- at the start there is one pass, and nothing in the queue
 pub begins : IsRuled [] (opening ∷ [])
@@ -22,32 +27,33 @@ begins = inl (refl, refl)
 
 -- the one view at the start
 only_view : (views : List Knowledge) (pass : ℕ) (v : Knowledge) → views ≡ opening ∷ [] → get_elem? views pass ≡ some v → (pass ≡ 0) × (v ≡ opening)
-only_view views pass v is at = only pass (ap (λ l. get_elem? l pass) (sym is) ∙ at)
-  where
-    only : (i : ℕ) → get_elem? (opening ∷ []) i ≡ some v → (i ≡ 0) × (v ≡ opening)
-    only zero e = (refl, sym (some-injective opening v e))
-    only (suc i) e = absurd (some-ne-none v (sym e))
+only_view views pass v h1 h2 = grind (arith, common_steps, gets)
 
 -- a fact of each view, after one of them has changed
-each_set : (F : ℕ → Knowledge → Type 0) (views : List Knowledge) (pass : ℕ) (w : Knowledge) → F pass w → ((j : ℕ) (u : Knowledge) → j ≢ pass → get_elem? views j ≡ some u → F j u) → (j : ℕ) (u : Knowledge) → get_elem? (set views pass w) j ≡ some u → F j u
+each_set : (F : ℕ → Knowledge → Type 0) (views : List Knowledge) (pass : ℕ) (w : Knowledge) → F pass w
+    → ((j : ℕ) (u : Knowledge) → j ≢ pass → get_elem? views j ≡ some u → F j u) → (j : ℕ) (u : Knowledge) → get_elem? (set views pass w) j ≡ some u → F j u
 each_set F views pass w mine others j u e =
     ⊎_elim (λ (x : (j ≡ pass) × (w ≡ u)). subst (λ (y : ℕ × Knowledge). F y.0 y.1) (λ i. (sym x.0 i, x.1 i)) mine)
     (λ (x : (j ≢ pass) × (get_elem? views j ≡ some u)). others j u x.0 x.1)
     (at_set views pass j w u e)
 
-total_set : (n : ℕ) (views : List Knowledge) (pass : ℕ) (v w : Knowledge) → get_elem? views pass ≡ some v → total_of n (set views pass w) + seat_count n v.known_seats ≡ total_of n views + seat_count n w.known_seats
+total_set : (n : ℕ) (views : List Knowledge) (pass : ℕ) (v w : Knowledge) → get_elem? views pass ≡ some v
+    → total_of n (set views pass w) + seat_count n v.known_seats ≡ total_of n views + seat_count n w.known_seats
 total_set n [] pass v w e = absurd (some-ne-none v (sym e))
-total_set n (x ∷ xs) zero v w e = let same : seat_count n x.known_seats ≡ seat_count n v.known_seats = ap (λ (u : Knowledge). seat_count n u.known_seats) (some-injective x v e) in omega arith
+total_set n (x ∷ xs) zero v w e =
+    let same : seat_count n x.known_seats ≡ seat_count n v.known_seats = ap (λ (u : Knowledge). seat_count n u.known_seats) (some-injective x v e) in omega arith
 total_set n (x ∷ xs) (suc i) v w e = let rest = total_set n xs i v w e in omega arith
 
 -- the seats of one pass
 total_has : (n : ℕ) (views : List Knowledge) (pass : ℕ) (v : Knowledge) → get_elem? views pass ≡ some v → seat_count n v.known_seats ≤ total_of n views
 total_has n [] pass v e = absurd (some-ne-none v (sym e))
-total_has n (x ∷ xs) zero v e = let same : seat_count n x.known_seats ≡ seat_count n v.known_seats = ap (λ (u : Knowledge). seat_count n u.known_seats) (some-injective x v e) in omega arith
+total_has n (x ∷ xs) zero v e =
+    let same : seat_count n x.known_seats ≡ seat_count n v.known_seats = ap (λ (u : Knowledge). seat_count n u.known_seats) (some-injective x v e) in omega arith
 total_has n (x ∷ xs) (suc i) v e = let rest = total_has n xs i v e in omega arith
 
 -- the seats of two passes
-total_two : (n : ℕ) (views : List Knowledge) (i j : ℕ) (v u : Knowledge) → i ≢ j → get_elem? views i ≡ some v → get_elem? views j ≡ some u → seat_count n v.known_seats + seat_count n u.known_seats ≤ total_of n views
+total_two : (n : ℕ) (views : List Knowledge) (i j : ℕ) (v u : Knowledge) → i ≢ j → get_elem? views i ≡ some v
+    → get_elem? views j ≡ some u → seat_count n v.known_seats + seat_count n u.known_seats ≤ total_of n views
 total_two n [] i j v u apart e f = absurd (some-ne-none v (sym e))
 total_two n (x ∷ xs) zero zero v u apart e f = absurd (apart refl)
 total_two n (x ∷ xs) zero (suc j) v u apart e f =
@@ -72,14 +78,10 @@ count_seen n c [] = refl
 count_seen n c (p ∷ ps) = let rest = count_seen n c ps in omega arith
 
 count_parts : (n : ℕ) (ps : List KnownSeat) → seat_count n (drop 1 ps) + seat_count n (take 1 ps) ≡ seat_count n ps
-count_parts n [] = refl
-count_parts n (p ∷ ps) = omega arith
+count_parts n ps = grind (arith, common_steps, gets)
 
 count_alone : (p : KnownSeat) → seat_count p.number (p ∷ []) ≡ 1
-count_alone p = ap (λ b. cond b 1 0 + 0) same ∙ refl
-  where
-    same : (p.number == p.number) ≡ true
-    same = grind arith
+count_alone p = grind (arith, common_steps, gets)
 
 count_below : (n first many : ℕ) (c : Story) → n < first → seat_count n (known_seats_from c first many) ≡ 0
 count_below n first zero c low = refl
@@ -87,7 +89,8 @@ count_below n first (suc many) c low =
     let apart : (first == n) ≡ false = grind (arith, nat_tests) in
     ap (λ b. cond b 1 0 + seat_count n (known_seats_from c (first + 1) many)) apart ∙ omega (arith, count_below n (first + 1) many c (omega arith))
 
-count_next : (n first many : ℕ) (c : Story) (b : Bool) → (first == n) ≡ b → seat_count n (known_seats_from c (first + 1) many) ≤ 1 → seat_count n (known_seats_from c first (suc many)) ≤ 1
+count_next : (n first many : ℕ) (c : Story) (b : Bool) → (first == n) ≡ b → seat_count n (known_seats_from c (first + 1) many) ≤ 1
+    → seat_count n (known_seats_from c first (suc many)) ≤ 1
 count_next n first many c true e rest =
     let same : first ≡ n = grind (arith, nat_tests) in
     let none = count_below n (first + 1) many c (omega arith) in
@@ -119,11 +122,7 @@ AllKnow-others c [] a = tt
 AllKnow-others c (p ∷ ps) a = a.1
 
 apart_from : (number n : ℕ) (rest : ℕ) → cond (number == n) 1 0 + rest ≡ 0 → n ≢ number
-apart_from number n rest none same = apart_by (number == n) (grind (arith, nat_tests)) none
-  where
-    apart_by : (b : Bool) → b ≡ true → cond b 1 0 + rest ≡ 0 → ⊥
-    apart_by true e h = omega arith
-    apart_by false e h = cc
+apart_from number n rest h1 = grind (arith, common_steps, gets)
 
 -- a command of a seat that isn't among these
 AllKnow-push : (c : Story) (ps : List KnownSeat) (seat : ℕ) (command : Command) → seat_count seat ps ≡ 0 → AllKnow c ps → AllKnow (longer c seat command) ps
@@ -140,10 +139,12 @@ AllKnow-push c (p ∷ ps) seat command none a =
     )
 
 -- the holder holds after another pass has changed
-held_set : (turn : Whereabouts) (views : List Knowledge) (pass : ℕ) (v w : Knowledge) → get_elem? views pass ≡ some v → v.stage ≢ Holding → IsHeld turn views → IsHeld turn (set views pass w)
+held_set : (turn : Whereabouts) (views : List Knowledge) (pass : ℕ) (v w : Knowledge) → get_elem? views pass ≡ some v
+    → v.stage ≢ Holding → IsHeld turn views → IsHeld turn (set views pass w)
 held_set InQueue views pass v w at apart held = tt
 held_set (HeldBy h) views pass v w at apart held =
-    let differs : h ≢ pass = λ same. apart (ap (λ (u : Knowledge). u.stage) (some-injective v held.0 (sym at ∙ ap (λ i. get_elem? views i) (sym same) ∙ held.1)) ∙ held.2) in
+    let differs : h ≢ pass =
+    λ same. apart (ap (λ (u : Knowledge). u.stage) (some-injective v held.0 (sym at ∙ ap (λ i. get_elem? views i) (sym same) ∙ held.1)) ∙ held.2) in
     (held.0, set_else views pass h w differs ∙ held.1, held.2)
 
 held_push : (turn : Whereabouts) (views : List Knowledge) (w : Knowledge) → IsHeld turn views → IsHeld turn (views ++ w ∷ [])
@@ -156,7 +157,8 @@ here (x ∷ xs) zero v w at = refl
 here (x ∷ xs) (suc i) v w at = here xs i v w at
 
 -- a pass at a stage that is known
-fits_as : (stage : Stage) (c : Story) (turn : Whereabouts) (pass : ℕ) (v : Knowledge) → v.stage ≡ stage → FitsAt v.stage c turn pass v → FitsAt stage c turn pass v
+fits_as : (stage : Stage) (c : Story) (turn : Whereabouts) (pass : ℕ) (v : Knowledge) → v.stage ≡ stage
+    → FitsAt v.stage c turn pass v → FitsAt stage c turn pass v
 fits_as stage c turn pass v is fits = subst (λ (s : Stage). FitsAt s c turn pass v) is fits
 
 resting_apart : (v : Knowledge) → v.stage ≡ Resting → v ≡ opening → ⊥
@@ -165,11 +167,12 @@ resting_apart v rests is = let e : Resting ≡ Holding = sym rests ∙ ap (λ (u
 resting_holds : (v : Knowledge) → v.stage ≡ Resting → v.stage ≢ Holding
 resting_holds v rests holds = let e : Resting ≡ Holding = sym rests ∙ holds in absurd (cc)
 
-stood : (turn : Whereabouts) (c : Story) (x : Journaled) (items : List Journaled) → map story (x ∷ items) ≡ queued turn c → (turn ≡ InQueue) × (story x ≡ c) × (map story items ≡ [])
-stood InQueue c x items e = (refl, (cc), (cc))
-stood (HeldBy h) c x items e = absurd (cc)
+stood : (turn : Whereabouts) (c : Story) (x : Journaled) (items : List Journaled) → map story (x ∷ items) ≡ queued turn c
+    → (turn ≡ InQueue) × (story x ≡ c) × (map story items ≡ [])
+stood turn c x items h1 = grind (arith, common_steps, gets)
 
-take_other : (stage : Stage) (c : Story) (turn : Whereabouts) (pass j : ℕ) (u : Knowledge) → turn ≡ InQueue → FitsAt stage c turn j u → FitsAt stage c (HeldBy pass) j u
+take_other : (stage : Stage) (c : Story) (turn : Whereabouts) (pass j : ℕ) (u : Knowledge) → turn ≡ InQueue
+    → FitsAt stage c turn j u → FitsAt stage c (HeldBy pass) j u
 take_other Spent c turn pass j u none fits = tt
 take_other Resting c turn pass j u none fits = fits
 take_other Holding c turn pass j u none fits = let e : InQueue ≡ HeldBy j = sym none ∙ fits.1 in absurd (cc)
@@ -195,13 +198,16 @@ takes pass v rests x items views (inr t) at =
       (refl, subst (λ (y : Story). AllKnow y v.known_seats) (sym was.1) fits),
     )
 
-give_other : (stage : Stage) (old new : Story) (turn : Whereabouts) (pass j : ℕ) (u : Knowledge) → turn ≡ HeldBy pass → j ≢ pass → (AllKnow old u.known_seats → AllKnow new u.known_seats) → FitsAt stage old turn j u → FitsAt stage new InQueue j u
+give_other : (stage : Stage) (old new : Story) (turn : Whereabouts) (pass j : ℕ) (u : Knowledge) → turn ≡ HeldBy pass → j ≢ pass
+    → (AllKnow old u.known_seats → AllKnow new u.known_seats) → FitsAt stage old turn j u → FitsAt stage new InQueue j u
 give_other Spent old new turn pass j u is apart grow fits = tt
 give_other Resting old new turn pass j u is apart grow fits = grow fits
 give_other Holding old new turn pass j u is apart grow fits = let e : HeldBy pass ≡ HeldBy j = sym is ∙ fits.1 in absurd (apart (cc))
 
 -- what the others know still holds after the journal has grown
-grown : (before after : Story) (views : List Knowledge) (pass j : ℕ) (v u : Knowledge) → MayGrow v.known_seats before after → ((k : ℕ) → total_of k views ≤ 1) → j ≢ pass → get_elem? views pass ≡ some v → get_elem? views j ≡ some u → AllKnow before u.known_seats → AllKnow after u.known_seats
+grown : (before after : Story) (views : List Knowledge) (pass j : ℕ) (v u : Knowledge) → MayGrow v.known_seats before after
+    → ((k : ℕ) → total_of k views ≤ 1) → j ≢ pass → get_elem? views pass ≡ some v → get_elem? views j ≡ some u
+    → AllKnow before u.known_seats → AllKnow after u.known_seats
 grown before after views pass j v u (inl same) once apart at other all = subst (λ (c : Story). AllKnow c u.known_seats) (sym same) all
 grown before after views pass j v u (inr (p, command, known_seats, longer)) once apart at other all =
     let two = total_two p.number views pass j v u (λ e. apart (sym e)) at other in
@@ -212,18 +218,23 @@ grown before after views pass j v u (inr (p, command, known_seats, longer)) once
 seen_one : (c : Story) (p : KnownSeat) → Knows c p → Knows c (seen_at c p)
 seen_one c p known = record { setup = known.setup; seats = known.seats; begins = Begins-refl c.journal; calls = refl }
 
-seen_more : (c : Story) (seat : ℕ) (command : Command) (p : KnownSeat) → Knows c p → Knows (longer c seat command) (record { number = p.number; setup = p.setup; seats = p.seats; seen = c.journal ++ entry seat command ∷ [] })
-seen_more c seat command p known = record { setup = known.setup; seats = known.seats; begins = Begins-refl (c.journal ++ entry seat command ∷ []); calls = refl }
+seen_more : (c : Story) (seat : ℕ) (command : Command) (p : KnownSeat) → Knows c p
+    → Knows (longer c seat command) (record { number = p.number; setup = p.setup; seats = p.seats; seen = c.journal ++ entry seat command ∷ [] })
+seen_more c seat command p known =
+    record { setup = known.setup; seats = known.seats; begins = Begins-refl (c.journal ++ entry seat command ∷ []); calls = refl }
 
 -- what the seats of the pass know of what it gives back
-AllKnow-given : (known_seats : List KnownSeat) (before after : Story) → MayGrow known_seats before after → AllKnow before known_seats → AllKnow after (seen_by after known_seats)
-AllKnow-given known_seats before after (inl same) all = subst (λ (c : Story). AllKnow c (seen_by c known_seats)) (sym same) (AllKnow-seen before known_seats (seen_one before) all)
+AllKnow-given : (known_seats : List KnownSeat) (before after : Story) → MayGrow known_seats before after
+    → AllKnow before known_seats → AllKnow after (seen_by after known_seats)
+AllKnow-given known_seats before after (inl same) all =
+    subst (λ (c : Story). AllKnow c (seen_by c known_seats)) (sym same) (AllKnow-seen before known_seats (seen_one before) all)
 AllKnow-given known_seats before after (inr (p, command, is, longer)) all =
     let one = (subst (λ (ps : List KnownSeat). AllKnow before ps) is all).0 in
     subst (λ (y : Story × List KnownSeat). AllKnow y.0 (seen_by y.0 y.1)) (λ i. (sym longer i, sym is i)) (seen_more before p.number command p one, tt)
 
 -- the first pass gives the control that is handed in
-gives_first : (n pass : ℕ) (v : Knowledge) (c : Journaled) (items : List Journaled) (views : List Knowledge) → items ≡ [] → views ≡ opening ∷ [] → get_elem? views pass ≡ some v
+gives_first : (n pass : ℕ) (v : Knowledge) (c : Journaled) (items : List Journaled) (views : List Knowledge) → items ≡ []
+    → views ≡ opening ∷ [] → get_elem? views pass ≡ some v
     → Turns (items ++ c ∷ []) (set views pass (resting (known_seats_from (story c) 1 c.seats)))
 gives_first n pass v c items views empty alone at =
     let k = story c in
@@ -241,7 +252,8 @@ gives_first n pass v c items views empty alone at =
     }
 
 -- and any other pass the control that it took, or that with one command more
-gives_next : (pass : ℕ) (v : Knowledge) (c : Journaled) (items : List Journaled) (views : List Knowledge) (t : Turns items views) → get_elem? views pass ≡ some v → t.turn ≡ HeldBy pass → AllKnow t.control v.known_seats
+gives_next : (pass : ℕ) (v : Knowledge) (c : Journaled) (items : List Journaled) (views : List Knowledge) (t : Turns items views)
+    → get_elem? views pass ≡ some v → t.turn ≡ HeldBy pass → AllKnow t.control v.known_seats
     → MayGrow v.known_seats t.control (story c) → Turns (items ++ c ∷ []) (set views pass (resting (seen_by (story c) v.known_seats)))
 gives_next pass v c items views t at mine known grow =
     let old = t.control in
@@ -300,7 +312,8 @@ forks pass v rests items views (inr t) at =
       turn = t.turn;
       waits = t.waits;
       held = held_push t.turn (set views pass left) right (held_set t.turn views pass v left at (resting_holds v rests) t.held);
-      each = λ j u e. ⊎_elim (λ there. was j u there) (λ (is : right ≡ u). subst (F j) is (AllKnow-first c v.known_seats fits)) (at_snoc (set views pass left) right u j e);
+      each = λ j u e. ⊎_elim (λ there. was j u there) (λ (is : right ≡ u). subst (F j) is (AllKnow-first c v.known_seats fits))
+          (at_snoc (set views pass left) right u j e);
       once = λ k.
           let total = total_set k views pass v left at in
           let longer = total_push k (set views pass left) right in
@@ -309,9 +322,10 @@ forks pass v rests items views (inr t) at =
     })
 
 -- a pass takes in the seats of another
-pub merges : (pass : ℕ) (v : Knowledge) (other : ℕ) (u : Knowledge) → v.stage ≡ Resting → u.stage ≡ Resting → Merges IsRuled pass v other u (joined_pass v u) spent
-merges pass v other u rests rests' items views (inl start) at apart at' = absurd (resting_apart v rests (only_view views pass v start.1 at).1)
-merges pass v other u rests rests' items views (inr t) at apart at' =
+pub merges : {pass : ℕ} {v : Knowledge} {other : ℕ} {u : Knowledge} → v.stage ≡ Resting → u.stage ≡ Resting
+    → Merges IsRuled pass v other u (joined_pass v u) spent
+merges {pass} {v} rests rests' items views (inl start) at apart at' = absurd (resting_apart v rests (only_view views pass v start.1 at).1)
+merges {pass} {v} {other} {u} rests rests' items views (inr t) at apart at' =
     let c = t.control in
     let both = joined_pass v u in
     let there : get_elem? views other ≡ some u = sym (set_else views pass other both apart) ∙ at' in
@@ -323,7 +337,8 @@ merges pass v other u rests rests' items views (inr t) at apart at' =
       control = c;
       turn = t.turn;
       waits = t.waits;
-      held = held_set t.turn (set views pass both) other u spent at' (resting_holds u rests') (held_set t.turn views pass v both at (resting_holds v rests) t.held);
+      held =
+          held_set t.turn (set views pass both) other u spent at' (resting_holds u rests') (held_set t.turn views pass v both at (resting_holds v rests) t.held);
       each = each_set F (set views pass both) other spent tt (λ j y _ e. was j y e);
       once = λ k.
           let total = total_set k views pass v both at in

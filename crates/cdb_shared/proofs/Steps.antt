@@ -1,5 +1,8 @@
 -- What one call adds to a seat's own calls and to the replies.
-use Rattle.std.proofs.Common.{◌≡◌, ◌≢◌, ℕ, length-append, suc, ◌+◌, ◌<◌, ◌≤◌, ◌==◌, Bool, true, false, cond, List, [], ◌∷◌, ◌++◌, length, get_or, take, replicate, refl, sym, ap, ◌∙◌, subst, arith, append_assoc}
+use Rattle.std.proofs.lemmas.Grind.{common_steps}
+use Rattle.std.proofs.lemmas.Option.{gets}
+use Rattle.std.proofs.Common.{◌≡◌, ◌≢◌, ℕ, length-append, suc, ◌+◌, ◌<◌, ◌≤◌, ◌==◌, Bool, cond, List, [], ◌∷◌, ◌++◌, length, get_or, take}
+use Rattle.std.proofs.Common.{replicate, refl, sym, ap, ◌∙◌, subst, arith, append_assoc}
 use Rattle.std.proofs.lemmas.List.{replicate-append-replicate, take_more}
 use Rattle.cdb_commands.specs.declared.command.Command.{Command}
 use Rattle.cdb_base.specs.declared.refusal.Refusal.TheVariants as refusal
@@ -27,15 +30,18 @@ IsLater-trans a b c x y = record {
 }
 
 -- a call is one more of the seat's own
-pub calls_of-call : (rules : Parts → Rules) (old new : SeatView) (command : Command) (reply : ToldReply) → IsLater old new → IsCall rules old command reply new → calls_of new ≡ calls_of old ++ command ∷ []
+pub calls_of-call : (rules : Parts → Rules) (old new : SeatView) (command : Command) (reply : ToldReply) → IsLater old new
+    → IsCall rules old command reply new → calls_of new ≡ calls_of old ++ command ∷ []
 calls_of-call rules old new command reply later call =
     (λ i. own (later.number i) (call.entry i)) ∙ own-push old.number call.journal command ∙ ap (λ l. l ++ command ∷ []) call.calls
 
-same_replies : (rules : Parts → Rules) (old new : SeatView) → IsLater old new → (journal : List Entry) → new.seen ≡ journal → replies_to rules new ≡ replies_of (rules old.setup) old.setup old.seats old.number journal
+same_replies : (rules : Parts → Rules) (old new : SeatView) → IsLater old new → (journal : List Entry) → new.seen ≡ journal
+    → replies_to rules new ≡ replies_of (rules old.setup) old.setup old.seats old.number journal
 same_replies rules old new later journal is = λ i. replies_of (rules (later.setup i)) (later.setup i) (later.seats i) (later.number i) (is i)
 
 -- and its reply is one more of the seat's replies
-pub replies_to-call : (rules : Parts → Rules) (old new : SeatView) (command : Command) (reply : ToldReply) → IsLater old new → IsCall rules old command reply new → replies_to rules new ≡ replies_to rules old ++ reply ∷ []
+pub replies_to-call : (rules : Parts → Rules) (old new : SeatView) (command : Command) (reply : ToldReply) → IsLater old new
+    → IsCall rules old command reply new → replies_to rules new ≡ replies_to rules old ++ reply ∷ []
 replies_to-call rules old new command reply later call =
     same_replies rules old new later (call.journal ++ entry old.number command ∷ []) call.entry
     ∙ replies_of-push (rules old.setup) old.setup old.seats old.number call.journal command
@@ -43,14 +49,14 @@ replies_to-call rules old new command reply later call =
 
 -- a call that met a fault adds no reply
 pub replies_to-fault : (rules : Parts → Rules) (old new : SeatView) → IsLater old new → SameCalls old new.seen → replies_to rules new ≡ replies_to rules old
-replies_to-fault rules old new later same = same_replies rules old new later new.seen refl ∙ replies_of-same (rules old.setup) old.setup old.seats old.number old.seen new.seen later.begins same
+replies_to-fault rules old new later same =
+    same_replies rules old new later new.seen refl ∙ replies_of-same (rules old.setup) old.setup old.seats old.number old.seen new.seen later.begins same
 
 pub calls_of-fault : (old new : SeatView) → IsLater old new → SameCalls old new.seen → calls_of new ≡ calls_of old
 calls_of-fault old new later same = ap (λ n. own n new.seen) later.number ∙ same
 
 shorter_if : (b : Bool) (x : Command) (xs : List Command) (n : ℕ) → length xs ≤ n → length (cond b (x ∷ xs) xs) ≤ suc n
-shorter_if true x xs n low = omega arith
-shorter_if false x xs n low = omega arith
+shorter_if b x xs n h1 = grind (arith, common_steps, gets)
 
 -- a seat has no more calls than the journal has entries
 pub length-own : (seat : ℕ) (es : List Entry) → length (own seat es) ≤ length es
@@ -62,20 +68,21 @@ NoneDone-push [] r none apart = (apart, tt)
 NoneDone-push (x ∷ rs) r none apart = (none.0, NoneDone-push rs r none.1 apart)
 
 -- a driven seat whose call met a fault
-pub ends_at_fault : (fault : CallFault) (end : End) → end ≡ end_at fault → (end ≢ All) × (end ≢ Done) × (end ≢ Stopped)
-ends_at_fault JournalFull end is = ((λ all. cc), (λ done. cc), (λ stopped. cc))
-ends_at_fault (NoMemory refused) end is = ((λ all. cc), (λ done. cc), (λ stopped. cc))
+pub ends_at_fault : (fault : CallFault) {end : End} → end ≡ end_at fault → (end ≢ All) × (end ≢ Done) × (end ≢ Stopped)
+ends_at_fault fault h1 = grind (arith, common_steps, gets)
 
-pub driven_fault : (fault : CallFault) (end : End) (count turns : ℕ) (replies : List ToldReply) → end ≡ end_at fault → count < turns → NoneDone replies → IsDriven end count turns replies
-driven_fault fault end count turns replies is low none = subst (λ (e : End). IsDriven e count turns replies) (sym is) (by_fault fault)
+pub driven_fault : (fault : CallFault) {end : End} {count turns : ℕ} (replies : List ToldReply) → end ≡ end_at fault
+    → count < turns → NoneDone replies → IsDriven end count turns replies
+driven_fault fault {count} {turns} replies is low none = subst (λ (e : End). IsDriven e count turns replies) (sym is) (by_fault fault)
   where
     by_fault : (f : CallFault) → IsDriven (end_at f) count turns replies
     by_fault JournalFull = (low, none)
     by_fault (NoMemory refused) = (low, none)
 
 -- one element more on both sides
-pub append_one : {A : Type 0} (before after start rest more : List A) (x : A) → before ≡ start ++ rest → after ≡ before ++ x ∷ [] → more ≡ rest ++ x ∷ [] → after ≡ start ++ more
-append_one before after start rest more x was grows is = grows ∙ ap (λ l. l ++ x ∷ []) was ∙ append_assoc start rest (x ∷ []) ∙ ap (λ l. start ++ l) (sym is)
+pub append_one : {A : Type 0} {before after : List A} (start rest : List A) {more : List A} (x : A) → before ≡ start ++ rest
+    → after ≡ before ++ x ∷ [] → more ≡ rest ++ x ∷ [] → after ≡ start ++ more
+append_one start rest x was grows is = grows ∙ ap (λ l. l ++ x ∷ []) was ∙ append_assoc start rest (x ∷ []) ∙ ap (λ l. start ++ l) (sym is)
 
 pub take_one_more : {A : Type 0} (xs : List A) (i : ℕ) (x : A) → i < length xs → x ≡ get_or xs i x → take (i + 1) xs ≡ take i xs ++ x ∷ []
 take_one_more xs i x low is = take_more xs i x low ∙ ap (λ y. take i xs ++ y ∷ []) (sym is)

@@ -28,7 +28,8 @@ HearsAsked old new call seat goes_on = Adds old new (Asked call (calls_of seat) 
 abbrev pub HearsTold : Option (List Heard) → Option (List Heard) → ℕ → SeatView → Type 0
 HearsTold old new call seat = Adds old new (Told call (calls_of seat))
 
--- of calls with replies, numbered from this one on, after those made before: asked for each, which goes on, and notified of it
+-- of calls with replies, numbered from this one on, after those made before: asked for each, which goes on, and
+-- notified of it
 abbrev pub heard_of : ℕ → List Command → List Command → List Heard
 heard_of number made [] = []
 heard_of number made (command ∷ rest) =

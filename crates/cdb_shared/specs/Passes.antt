@@ -30,7 +30,15 @@ known_seat_of v one = only_of v.known_seats one
 abbrev pub seat_of_pass : TableId → (v : Knowledge) → IsOfOneSeat v → SeatView
 seat_of_pass home v one =
     let p = known_seat_of v one in
-    record { home = home; setup = p.setup; seats = p.seats; number = p.number; seen = p.seen; rests = is_resting v.stage }
+    record {
+      home = home;
+      setup = p.setup;
+      seats = p.seats;
+      number = p.number;
+      seen = p.seen;
+      rests =
+          is_resting v.stage;
+    }
 
 -- it has this number, one of those of all seats
 pub record HasNumber (number : ℕ) (p : KnownSeat) : Type 0 where

@@ -3,7 +3,7 @@ use Rattle.std.specs.Prelude.{◌≡◌, ℕ, ◌+◌, ◌<◌, Bool, true, List
 use Rattle.std.specs.List.{range_with_len}
 use Rattle.atomic_table.specs.Seated.{TableId}
 use Rattle.cdb_base.specs.declared.event.Event.{Event}
-use Rattle.cdb_base.specs.declared.limits.TheConstants.{MAX_ENTRIES}
+use Rattle.cdb_base.specs.Limits.{MAX_ENTRIES}
 use Rattle.cdb_commands.specs.declared.command.Command.{Command}
 use Rattle.cdb_control.specs.declared.control.Entry.{Entry}
 use Rattle.cdb_commands.specs.ToldReply.{ToldReply}
@@ -39,7 +39,8 @@ fresh_seats shared c first n = map (fresh_seat shared c) (range_with_len first n
 -- the seats of a control in which nothing has happened
 pub record AreFresh (shared : TableId) (setup : Parts) (count : ℕ) (seats : List SeatView) : Type 0 where
   pub many : length seats ≡ count
-  pub each : (k : ℕ) (d : SeatView) → k < count → slice_index_or seats k d ≡ fresh_seat shared (opened setup count) (1 + k)
+  pub each : (k : ℕ) (d : SeatView) → k < count
+      → slice_index_or seats k d ≡ fresh_seat shared (opened setup count) (1 + k)
 
 -- the same seat, at rest, which has seen no less
 pub record IsLater (old new : SeatView) : Type 0 where
@@ -61,7 +62,8 @@ reply_at rules seat journal command =
     reply_of rules_of (replay rules_of seat.setup seat.seats journal) seat.number command
 
 -- one call: before it the others had made the journal what it was, and the reply is the one there
-pub record IsCall (rules : Parts → Rules) (old : SeatView) (command : Command) (replied : ToldReply) (new : SeatView) : Type 0 where
+pub record IsCall (rules : Parts → Rules) (old : SeatView) (command : Command) (replied : ToldReply)
+    (new : SeatView) : Type 0 where
   pub journal : List Entry
   pub begins : Begins old.seen journal
   pub calls : SameCalls old journal

@@ -10,7 +10,8 @@ use Rattle.cdb_control.specs.Journal.{own, replies_of}
 use Rattle.cdb_rules.specs.Rules.{Rules}
 use Rattle.cdb_setup.specs.Parts.{Parts}
 use Rattle.cdb_shared.specs.declared.session.End.{End}
-use Rattle.cdb_shared.specs.declared.session.End.TheVariants.{All, Done, Stopped, NoMemory as Short, JournalFull as Full}
+use Rattle.cdb_shared.specs.declared.session.End.TheVariants.{All, Done, Stopped, NoMemory as Short}
+use Rattle.cdb_shared.specs.declared.session.End.TheVariants.{JournalFull as Full}
 use Rattle.cdb_shared.specs.Seats.{SeatView}
 
 -- the seat's own calls in what it has seen
@@ -42,4 +43,5 @@ IsDriven Full count turns replies = (count < turns) × NoneDone replies
 -- the replies that led one seat to the other are those of a driven seat
 abbrev pub IsDrivenFrom : (Parts → Rules) → SeatView → SeatView → End → ℕ → ℕ → Type 0
 IsDrivenFrom rules before after end count turns =
-    (replies : List ToldReply) × (replies_to rules after ≡ replies_to rules before ++ replies) × IsDriven end count turns replies
+    (replies : List ToldReply) × (replies_to rules after ≡ replies_to rules before ++ replies)
+    × IsDriven end count turns replies

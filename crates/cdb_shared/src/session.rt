@@ -1,5 +1,6 @@
 //! Sessions: a seat's calls in order, each after its gate was asked.
-ghost use Rattle.std.specs.Prelude.{◌≡◌, ◌≢◌, ◌++◌, ◌≤◌, ◌↔◌, length, map, take, replicate, vec_len, List, Bool, true, false, Option, None, IsTrue};
+ghost use Rattle.std.specs.Prelude.{◌≡◌, ◌≢◌, ◌++◌, ◌≤◌, ◌↔◌, length, map, take, replicate, vec_len, List, Bool, true};
+ghost use Rattle.std.specs.Prelude.{false, Option, None, IsTrue};
 ghost use Rattle.cdb_base.specs.Memory.{no_memory};
 ghost use Rattle.cdb_commands.specs.ToldReply.{Refused, told};
 ghost use Rattle.cdb_shared.specs.Gates.{Heard, HearsAsked, HearsTold, Hears};

@@ -2,7 +2,8 @@
 ghost use Rattle.std.specs.Prelude.{◌≡◌, ◌<◌, ◌≤◌, ◌↔◌, [], length, vec_len, vec_capacity, All, IfOk, IfErr, OnErr};
 ghost use Rattle.cdb_commands.specs.ToldReply.{told};
 ghost use Rattle.cdb_control.specs.Journal.{Journaled, Begins};
-ghost use Rattle.cdb_shared.specs.Seats.{RestsAt, fresh_seats, IsLater, IsCall, IsKnownBy, SameCalls, SeesFull, SeesHeadline, HasHeadline};
+ghost use Rattle.cdb_shared.specs.Seats.{RestsAt, fresh_seats, IsLater, IsCall, IsKnownBy, SameCalls, SeesFull};
+ghost use Rattle.cdb_shared.specs.Seats.{SeesHeadline, HasHeadline};
 ghost use Rattle.cdb_shared.specs.Turn.{story, resting, known_seats_from, AllKnow};
 ghost use Rattle.crossbeam_queue.specs.Passes.{view, IsPassOf, ruled_capacity};
 
@@ -161,8 +162,8 @@ impl<T: Runs> Shared<T> {
         control
     }
 
-    /// Gives up what is shared, where its sessions came to nothing. Code above drops it by this call, since the proof of
-    /// what drops one goes through all its parts.
+    /// Gives up what is shared, where its sessions came to nothing. Code above drops it by this call, since the proof
+    /// of what drops one goes through all its parts.
     pub fn close(self) {}
 }
 

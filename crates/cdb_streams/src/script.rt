@@ -1,7 +1,7 @@
 //! The commands of a script.
 
 ghost use Rattle.std.specs.Prelude.{◌≡◌, ◌+◌, ◌*◌, ◌<◌, ◌≤◌, [], ◌∷◌, ◌++◌, length, Err, IfOk, IfErr, OnOk};
-ghost use Rattle.cdb_base.specs.declared.limits.TheConstants.{MAX_ENTRIES};
+ghost use Rattle.cdb_base.specs.Limits.{MAX_ENTRIES};
 ghost use Rattle.cdb_setup.specs.Format.{longest};
 ghost use Rattle.cdb_streams.specs.Faults.{IsFaultOfReading};
 ghost use Rattle.cdb_streams.specs.Lines.{lines_of};

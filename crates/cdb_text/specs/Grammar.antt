@@ -1,7 +1,7 @@
 -- The script grammar: which line is which command.
 use Rattle.std.specs.Prelude.{◌≡◌, ℕ, ◌≤◌, List, map, codes, decimal, nat_eq}
 use Rattle.std.specs.List.{AllByRecursion, join_with_byte, slice_split}
-use Rattle.cdb_base.specs.declared.limits.TheConstants.{MAX_PROCESSES}
+use Rattle.cdb_base.specs.Limits.{MAX_PROCESSES}
 use Rattle.cdb_base.specs.declared.register.Reg.TheVariants.{R, Dec}
 use Rattle.cdb_commands.specs.declared.command.Command.{Command}
 use Rattle.cdb_text.specs.Commands.{CommandPart, fixed, number, register, command_parts}

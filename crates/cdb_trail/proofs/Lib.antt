@@ -6,3 +6,5 @@ pub mod Numbers
 pub mod LeaderTrue
 pub mod AlphaTrue
 pub mod Promised
+pub mod WalkBack
+pub mod Playing

@@ -1,5 +1,5 @@
 -- Where the flows of a machine are true, a trail leads to each decision.
-use Rattle.std.proofs.Common.{◌≡◌, ℕ, zero, suc, ◌<◌, ◌≤◌, List, [], ◌∷◌, ◌++◌, length, take, Contains, Option, Some, IsSome, unwrap_or, option_and_then, slice_get, ◌⊎◌, inl, inr, refl, sym, ap, subst, ◌∙◌, arith}
+use Rattle.std.proofs.Common.{◌≡◌, ℕ, zero, suc, ◌<◌, ◌≤◌, List, [], ◌∷◌, ◌++◌, length, take, Contains, Option, Some, IsSome, unwrap_or, option_and_then, slice_get, ◌⊎◌, None, inl, inr, refl, sym, ap, subst, ◌∙◌, arith}
 use Rattle.std.proofs.lemmas.Bool.{cases_eq}
 use Rattle.std.proofs.lemmas.List.Elements.{Contains-push_cases}
 use Rattle.std.proofs.lemmas.Option.{none-some, same_Some}
@@ -13,7 +13,7 @@ use Rattle.cdb_rules.specs.State.{Machine, ProcessState, RunState, start}
 use Rattle.cdb_rules.specs.Step.{after, fold, IsValid}
 use Rattle.cdb_rules.proofs.Taken.{bound, some_of}
 use Rattle.cdb_trail.specs.Flow.{Spot, slot, message, register, Flow, Flows, value_at, flow_of, IsReached, FlowsAreTrue}
-use Rattle.cdb_trail.specs.Trails.{state_after, state_before, flow_in, flow_at, Takes, Sets, IsTrail, begins, goes_on, Carries, HasDecided, Decides}
+use Rattle.cdb_trail.specs.Trails.{state_after, state_before, flow_in, flow_at, Takes, Sets, IsTrail, begins, goes_on, TakesValue, Carries, HasDecided, Decides}
 
 -- ---- lists
 
@@ -293,21 +293,30 @@ module _ {L S : Type 0} (machine : Machine L) (flows : Flows L S) (inputs : List
   lead_to (suc most) i bounded low from v takes lies =
       led_by i low from v takes lies (λ by high source takes_there lies_there. lead_to most by (omega arith) (omega arith) source v takes_there lies_there) (find i (omega arith) from v lies)
 
+  -- a trail to each step that takes a value
+  pub led_to_value : (v j : ℕ) → TakesValue machine flows history v j → IsLed v j
+  led_to_value v zero it = absurd (none-some it.from it.takes)
+  led_to_value v (suc i) it = go (nth history (suc i)) refl it.takes
+    where
+      go : (o : Option Event) → nth history (suc i) ≡ o → (flow_in machine flows history (at i) o).takes ≡ Some it.from → IsLed v (suc i)
+      go None is takes = absurd (none-some it.from takes)
+      go (Some event) is takes = lead_to i i (omega arith) (within history i event is) it.from v it.takes it.taken
+
 -- ---- decisions
 
 module _ {L S : Type 0} (machine : Machine L) (flows : Flows L S) (decision : L → Option ℕ) (inputs : List ℕ) (true_flows : FlowsAreTrue machine flows inputs)
     (apart : (x y : S) → AreTold x y) (told : (local : L) → decision local ≡ flows.value local flows.decision) (history : List Event) (valid : IsValid machine history) where
   -- what a process has decided lies in its slot
-  lies_in_slot : (state : RunState L) (p v : ℕ) → HasDecided machine flows decision inputs state p v → value_at flows state (slot p flows.decision) ≡ Some v
+  lies_in_slot : (state : RunState L) (p v : ℕ) → HasDecided machine flows inputs decision state p v → value_at flows state (slot p flows.decision) ≡ Some v
   lies_in_slot state p v it =
       ap (λ o. option_and_then (λ (x : ProcessState L). flows.value x.progress.local flows.decision) o) it.1 ∙ sym (told it.0.progress.local) ∙ it.2
 
-  decided_in_slot : (state : RunState L) (p v : ℕ) → value_at flows state (slot p flows.decision) ≡ Some v → HasDecided machine flows decision inputs state p v
+  decided_in_slot : (state : RunState L) (p v : ℕ) → value_at flows state (slot p flows.decision) ≡ Some v → HasDecided machine flows inputs decision state p v
   decided_in_slot state p v lies =
       let it = bound (λ (x : ProcessState L). flows.value x.progress.local flows.decision) (nth state.processes p) v lies in
       (it.0, it.1, told it.0.progress.local ∙ it.2)
 
-  pub led_to_decision : (p v j : ℕ) → Decides machine flows decision inputs history p v j → IsLed machine flows inputs true_flows apart history valid v j
+  pub led_to_decision : (p v j : ℕ) → Decides machine flows inputs decision history p v j → IsLed machine flows inputs true_flows apart history valid v j
   led_to_decision p v zero decides = absurd (none-some decides.event decides.at)
   led_to_decision p v (suc i) decides = go (is_among apart (slot p flows.decision) (flow_at machine flows history (suc i)).sets)
     where

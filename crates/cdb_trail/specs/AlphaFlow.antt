@@ -9,16 +9,11 @@ use Rattle.cdb_alpha.specs.declared.place.Place.{Place}
 use Rattle.cdb_alpha.specs.declared.place.Place.TheVariants.{A0, A2, A3, A4, A5, A6, A7, A8}
 use Rattle.cdb_alpha.specs.LocalState.{LocalState}
 use Rattle.cdb_alpha.specs.Seen.{greatest_write, value_seen, is_overtaken}
-use Rattle.cdb_trail.specs.Flow.{slot, register, Flow, still, moves, Flows, number_of}
-
 -- the input of a process, the cell of register i that it saw, the value that it has settled in its round, the one in the cell that it
 -- wrote last, and its decision
-pub data Slot : Type 0 where
-  input : Slot
-  seen : (i : ℕ) → Slot
-  value : Slot
-  own : Slot
-  decision : Slot
+pub use Rattle.cdb_trail.specs.declared.alpha_flow.Slot.{Slot}
+pub use Rattle.cdb_trail.specs.declared.alpha_flow.Slot.TheVariants.{Input as input, Seen as seen, Value as value, Own as own, Decision as decision}
+use Rattle.cdb_trail.specs.Flow.{slot, register, Flow, still, moves, Flows, number_of}
 
 -- the process has settled the value of its round
 abbrev pub has_settled : Place → Bool

@@ -13,12 +13,9 @@ use Rattle.cdb_register.specs.Registers.{cell_of}
 use Rattle.cdb_rules.specs.Mail.{mail_of}
 use Rattle.cdb_rules.specs.State.{Machine, ProcessState, RunState, start}
 use Rattle.cdb_rules.specs.Step.{after, fold}
-
--- a slot of process p, of those that its machine has, the m-th message of process s, or a register
-pub data Spot (Slot : Type 0) : Type 0 where
-  slot : (p : ℕ) → Slot → Spot Slot
-  message : (s m : ℕ) → Spot Slot
-  register : Reg → Spot Slot
+-- a slot of a process, of those that its machine has, a message by its sender and number, or a register
+pub use Rattle.cdb_trail.specs.declared.flow.Spot.{Spot}
+pub use Rattle.cdb_trail.specs.declared.flow.Spot.TheVariants.{Slot as slot, Message as message, Register as register}
 
 -- what a step does with a value: the spot from which it takes one, if it takes one, and the spots that it sets
 pub record Flow (Slot : Type 0) : Type 0 where

@@ -13,14 +13,10 @@ use Rattle.cdb_leader.specs.declared.place.Place.TheVariants.{L1, L2, L3, L4, L5
 use Rattle.cdb_leader.specs.Inbox.{first_phase, second_phase, second_phase_from, as_decision, decision_from, if_from, agreed_leader}
 use Rattle.cdb_leader.specs.LocalState.{LocalState}
 use Rattle.cdb_leader.specs.Table.{heard_first_phase, is_lead}
-use Rattle.cdb_trail.specs.Flow.{slot, message, Flow, still, moves, Flows, number_of}
-
 -- the i-th message that a process received, its estimate, what came of the first phase, and its decision
-pub data Slot : Type 0 where
-  received : (i : ℕ) → Slot
-  estimate : Slot
-  aux : Slot
-  decision : Slot
+pub use Rattle.cdb_trail.specs.declared.leader_flow.Slot.{Slot}
+pub use Rattle.cdb_trail.specs.declared.leader_flow.Slot.TheVariants.{Received as received, Estimate as estimate, Aux as aux, Decision as decision}
+use Rattle.cdb_trail.specs.Flow.{slot, message, Flow, still, moves, Flows, number_of}
 
 abbrev pub slot_value : LocalState → Slot → Option ℕ
 slot_value s (received i) = option_and_then (λ it. payload_value it.payload) (nth s.inbox i)

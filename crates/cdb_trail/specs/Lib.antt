@@ -3,3 +3,6 @@ pub mod Flow
 pub mod LeaderFlow
 pub mod AlphaFlow
 pub mod Trails
+pub mod Trailed
+-- what the code keeps for itself
+pub mod Played

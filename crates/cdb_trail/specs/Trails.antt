@@ -51,6 +51,12 @@ module _ {L S : Type 0} (machine : Machine L) (flows : Flows L S) (history : Lis
     begins : {i : ℕ} → TakesInput q i → IsTrail q i (i ∷ [])
     goes_on : {i j : ℕ} {trail : List ℕ} → IsTrail q i trail → IsFed i j → IsTrail q j (trail ++ j ∷ [])
 
+  -- the step takes the value v
+  pub record TakesValue (v i : ℕ) : Type 0 where
+    pub from : Spot S
+    pub takes : Takes i from
+    pub taken : value_at flows (state_before i) from ≡ Some v
+
   -- the step moves the value v: it takes v, and each spot that it sets has v after it
   pub record Carries (v i : ℕ) : Type 0 where
     pub from : Spot S
@@ -58,34 +64,43 @@ module _ {L S : Type 0} (machine : Machine L) (flows : Flows L S) (history : Lis
     pub taken : value_at flows (state_before i) from ≡ Some v
     pub left : (spot : Spot S) → Sets i spot → value_at flows (state_after i) spot ≡ Some v
 
--- ---- the trail of a decision, where the function tells what a process has decided, and processes 1, 2 and so on have these inputs
+-- ---- the trail of a value, where processes 1, 2 and so on have these inputs
 
-module _ {L S : Type 0} (machine : Machine L) (flows : Flows L S) (decision : L → Option ℕ) (inputs : List ℕ) where
-  -- process p has decided v in that state
-  abbrev pub HasDecided : RunState L → ℕ → ℕ → Type 0
-  HasDecided state p v = (process : ProcessState L) × (nth state.processes p ≡ Some process) × (decision process.progress.local ≡ Some v)
-
-  -- process p decides v by the event at position j: it has decided v after it, and had not before it
-  pub record Decides (history : List Event) (p v j : ℕ) : Type 0 where
-    pub event : Event
-    pub at : nth history j ≡ Some event
-    pub now : HasDecided (state_after machine flows history j) p v
-    pub before : HasDecided (state_before machine flows history j) p v → ⊥
-
-  -- a trail leads from the input of a process to that event: this input is v, each step on the trail moves v, and has led to the event
-  pub record HasTrail (history : List Event) (v j : ℕ) : Type 0 where
-    pub proposer : ℕ
-    pub trail : List ℕ
+module _ {L S : Type 0} (machine : Machine L) (flows : Flows L S) (inputs : List ℕ) where
+  -- the trail leads from the input of a process to the event at position j: this input is v, each step on the trail moves v, and has led
+  -- to the event
+  pub record IsTrailOf (history : List Event) (proposer v j : ℕ) (trail : List ℕ) : Type 0 where
     pub is_trail : IsTrail machine flows history proposer j trail
     pub proposed : nth inputs proposer ≡ Some v
     pub carries : (i : ℕ) → Contains trail i → Carries machine flows history v i
     pub in_past : (i : ℕ) → Contains trail i → HasLedTo depends history j i
 
-  abbrev pub EachDecisionHasATrail : Type 0
-  EachDecisionHasATrail = (history : List Event) → IsValid machine history → (p v j : ℕ) → Decides history p v j → HasTrail history v j
+  abbrev pub HasTrail : List Event → ℕ → ℕ → Type 0
+  HasTrail history v j = (proposer : ℕ) × (trail : List ℕ) × IsTrailOf history proposer v j trail
+
+  -- to each step that takes a value a trail leads
+  abbrev pub EachValueHasATrail : Type 0
+  EachValueHasATrail = (history : List Event) → IsValid machine history → (v j : ℕ) → TakesValue machine flows history v j → HasTrail history v j
 
   -- and no other leads to it
   abbrev pub TrailsAreUnique : Type 0
   TrailsAreUnique =
       (history : List Event) (q r j : ℕ) (one other : List ℕ) → IsTrail machine flows history q j one → IsTrail machine flows history r j other
       → (q ≡ r) × (one ≡ other)
+
+  -- ---- where the function tells what a process has decided
+
+  module _ (decision : L → Option ℕ) where
+    -- process p has decided v in that state
+    abbrev pub HasDecided : RunState L → ℕ → ℕ → Type 0
+    HasDecided state p v = (process : ProcessState L) × (nth state.processes p ≡ Some process) × (decision process.progress.local ≡ Some v)
+
+    -- process p decides v by the event at position j: it has decided v after it, and had not before it
+    pub record Decides (history : List Event) (p v j : ℕ) : Type 0 where
+      pub event : Event
+      pub at : nth history j ≡ Some event
+      pub now : HasDecided (state_after machine flows history j) p v
+      pub before : HasDecided (state_before machine flows history j) p v → ⊥
+
+    abbrev pub EachDecisionHasATrail : Type 0
+    EachDecisionHasATrail = (history : List Event) → IsValid machine history → (p v j : ℕ) → Decides history p v j → HasTrail history v j

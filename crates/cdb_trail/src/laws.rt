@@ -21,15 +21,15 @@ pub fn flows_are_true()
 /// process, which is the decided value, and each step on it moves that value and has led to the decision.
 pub fn leader_decisions_have_trails()
     ensures has_one { (setup : Parts) →
-        EachDecisionHasATrail (leader_machine setup) leader_flows leader_table.decision setup.inputs }
+        EachDecisionHasATrail (leader_machine setup) leader_flows setup.inputs leader_table.decision }
     ensures no_other { (setup : Parts) →
-        TrailsAreUnique (leader_machine setup) leader_flows leader_table.decision setup.inputs }
+        TrailsAreUnique (leader_machine setup) leader_flows setup.inputs }
 {}
 
 /// To each decision of Alpha one trail leads, likewise.
 pub fn alpha_decisions_have_trails()
     ensures has_one { (setup : Parts) →
-        EachDecisionHasATrail (alpha_machine setup) alpha_flows alpha_table.decision setup.inputs }
+        EachDecisionHasATrail (alpha_machine setup) alpha_flows setup.inputs alpha_table.decision }
     ensures no_other { (setup : Parts) →
-        TrailsAreUnique (alpha_machine setup) alpha_flows alpha_table.decision setup.inputs }
+        TrailsAreUnique (alpha_machine setup) alpha_flows setup.inputs }
 {}

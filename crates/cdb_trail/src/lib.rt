@@ -6,4 +6,12 @@
 //! ```
 #![tactic(auto)]
 
+mod alpha_flow;
+mod flow;
+mod flowing;
 pub mod laws;
+mod leader_flow;
+mod payload;
+mod played;
+mod trail;
+mod walk;

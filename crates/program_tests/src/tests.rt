@@ -11,8 +11,8 @@ mod reading;
 mod several_seats;
 mod streams;
 
-use cdb_debug::Streams;
 use cdb_program::{MAX_TURNS, Outside, Request, perform};
+use cdb_session::Streams;
 use files::Folder;
 use std::process::Abort;
 use std::sync::Wait;
@@ -54,7 +54,7 @@ fn has_turns(request: Request<'_>) -> bool
 {
     match request {
         Request::Race { turns, .. } => turns <= MAX_TURNS,
-        Request::Hall { seats, .. } => !seats.is_empty(),
+        Request::DebugShared { seats, .. } => !seats.is_empty(),
         _ => true,
     }
 }

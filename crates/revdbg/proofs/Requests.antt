@@ -13,7 +13,7 @@ use Rattle.cdb_streams.specs.declared.fault.PlayFault.TheVariants as play
 use Rattle.cdb_program.specs.Known.{Seen}
 use Rattle.cdb_program.specs.declared.fault.Fault.TheVariants as fault
 use Rattle.cdb_program.specs.declared.request.Request.{Request}
-use Rattle.cdb_program.specs.declared.request.Request.TheVariants.{Script, Play, Race, Explain, Draw, Debug, Hall, Print, Refuse}
+use Rattle.cdb_program.specs.declared.request.Request.TheVariants.{Script, Play, Race, Explain, Draw, Debug, DebugShared, Print, Refuse}
 use Rattle.revdbg.specs.Requested.{IsAskedBy, IsDebugRequest, IsDrawRequest, IsExplainRequest, IsOutOfMemory, IsPlayRequest, IsRaceRequest, IsRequestOf, IsRefusal, IsUnread, OrOutOfMemory, PerformsOne}
 
 -- where nothing can be wrong with the arguments, an allocation failed
@@ -29,7 +29,7 @@ no_refusal (Race setup turns scripts) is = is
 no_refusal (Explain setup script p k) is = is
 no_refusal (Draw setup script step) is = is
 no_refusal (Debug setup prompt) is = is
-no_refusal (Hall setup seats) is = is
+no_refusal (DebugShared setup seats) is = is
 no_refusal (Refuse fault.NoStep) is = is
 
 pub only_memory : (request : Request) → OrOutOfMemory (IsRefusal []) request → IsOutOfMemory request

@@ -5,15 +5,15 @@ use Rattle.cdb_arguments.specs.Asking.{IsOfKinds}
 use Rattle.cdb_arguments.specs.declared.request.Asked.{Asked}
 use Rattle.cdb_program.specs.declared.request.Request.{Request}
 use Rattle.revdbg.specs.Requested.{IsRefusal, IsRequestOf, IsUnread, OrOutOfMemory}
-use Rattle.revdbg.specs.declared.requested.Unasked.{Unasked}
-use Rattle.revdbg.specs.declared.requested.Unasked.TheVariants.{Unread, Refused}
+use Rattle.revdbg.specs.declared.requested.ArgsError.{ArgsError}
+use Rattle.revdbg.specs.declared.requested.ArgsError.TheVariants.{Unread, Refused}
 
 -- a request for what the arguments ask for, or for why they ask for nothing
-abbrev pub IsRequestFor : Text → Result Asked Unasked → Request → Type 0
+abbrev pub IsRequestFor : Text → Result Asked ArgsError → Request → Type 0
 IsRequestFor prompt (Ok asked) request = IsRequestOf prompt asked request
 IsRequestFor prompt (Err (Unread reason)) request = IsUnread reason request
 IsRequestFor prompt (Err (Refused fault text)) request = (kinds : Kinds) → IsOfKinds kinds fault → OrOutOfMemory (IsRefusal kinds) request
 
 -- each request for what was found is one of this kind
-abbrev pub Makes : Result Asked Unasked → (Text → Request → Type 0) → Type 0
+abbrev pub Makes : Result Asked ArgsError → (Text → Request → Type 0) → Type 0
 Makes found IsIt = (prompt : Text) (request : Request) → IsRequestFor prompt found request → IsIt prompt request

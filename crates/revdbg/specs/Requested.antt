@@ -18,7 +18,7 @@ use Rattle.cdb_program.specs.Known.{Seen}
 use Rattle.cdb_program.specs.Requests.{Performs}
 use Rattle.cdb_program.specs.declared.fault.Fault.TheVariants as fault
 use Rattle.cdb_program.specs.declared.request.Request.{Request}
-use Rattle.cdb_program.specs.declared.request.Request.TheVariants.{Script, Play, Race, Explain, Draw, Debug, Hall, Print, Refuse}
+use Rattle.cdb_program.specs.declared.request.Request.TheVariants.{Script, Play, Race, Explain, Draw, Debug, DebugShared, Print, Refuse}
 
 -- a play of these two files
 abbrev pub IsPlayRequest : Text → Text → Request → Type 0
@@ -50,7 +50,7 @@ IsDrawRequest setup script p k request = ⊥
 -- a session on a run of this file, with this prompt; or sessions of these seats, where there are any
 abbrev pub IsDebugRequest : Text → Text → List Text → Request → Type 0
 IsDebugRequest prompt setup [] (Debug its_setup its_prompt) = (its_setup.now ≡ setup) × (its_prompt.now ≡ prompt)
-IsDebugRequest prompt setup (seat ∷ seats) (Hall its_setup its_seats) = (its_setup.now ≡ setup) × (texts its_seats.now ≡ seat ∷ seats)
+IsDebugRequest prompt setup (seat ∷ seats) (DebugShared its_setup its_seats) = (its_setup.now ≡ setup) × (texts its_seats.now ≡ seat ∷ seats)
 IsDebugRequest prompt setup seats request = ⊥
 
 -- the request for what was asked for, where sessions have this prompt

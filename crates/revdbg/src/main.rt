@@ -5,8 +5,8 @@ mod requested;
 mod run;
 mod system_files;
 
-use cdb_debug::Streams;
 use cdb_program::Outside;
+use cdb_session::Streams;
 use cdb_streams::{Input, Output};
 use run::begin;
 use std::io::IsTerminal;

@@ -9,8 +9,8 @@ ghost use Rattle.cdb_base.specs.Memory.{no_memory};
 ghost use Rattle.revdbg.specs.RequestFor.{IsRequestFor, Makes};
 ghost use Rattle.revdbg.specs.Requested.{IsAskedBy, IsOutOfMemory, IsRefusal, IsRequestOf, IsUnread, OrOutOfMemory, unread_of};
 
-use cdb_base::NoMemory;
 use cdb_arguments::{AskFault, Asked, ask_status, asked};
+use cdb_base::NoMemory;
 use cdb_draw::StepAsked;
 use cdb_program::{Fault, Request};
 use cdb_streams::PlayFault;
@@ -40,7 +40,7 @@ impl From<AllocError> for Unread {
 
 /// Why the arguments ask for nothing that could be performed.
 #[derive(Drop)]
-pub enum Unasked {
+pub enum ArgsError {
     /// They could not be read, for this reason; out of memory also where an allocation fails later.
     Unread(Unread),
     /// They are wrong, or ask for help or the version, as this text says.
@@ -95,7 +95,7 @@ fn request_of<'a>(asked: &'a Asked<'a>, prompt: &'a str) -> Request<'a>
             step: p.map(|p| StepAsked { p, k: *k }),
         },
         Asked::Debug { setup, seats } if seats.is_empty() => Request::Debug { setup, prompt },
-        Asked::Debug { setup, seats } => Request::Hall {
+        Asked::Debug { setup, seats } => Request::DebugShared {
             setup,
             seats: seats.as_slice(),
         },
@@ -116,7 +116,7 @@ fn refusal_of<'a>(fault: &AskFault, text: &'a str) -> Request<'a>
 }
 
 /// The request where the arguments could not be read, for this reason.
-fn unread(reason: Unread) -> Request<'static>
+fn report_unread(reason: Unread) -> Request<'static>
     ensures unread { IsUnread reason result }
     ensures turns { HasTurns result }
 {
@@ -127,7 +127,7 @@ fn unread(reason: Unread) -> Request<'static>
 }
 
 /// The request for what the arguments were found to ask for, where sessions have this prompt.
-pub fn request_for<'a>(asked: &'a Result<Asked<'a>, Unasked>, prompt: &'a str) -> Request<'a>
+pub fn request_for<'a>(asked: &'a Result<Asked<'a>, ArgsError>, prompt: &'a str) -> Request<'a>
     requires { IfOk asked.now
         (λ asked. (found : Option (Text × List Row)) × NamesAsked found asked) }
     ensures request { IsRequestFor prompt.now asked.now result }
@@ -135,8 +135,8 @@ pub fn request_for<'a>(asked: &'a Result<Asked<'a>, Unasked>, prompt: &'a str) -
 {
     match asked {
         Ok(asked) => request_of(asked, prompt),
-        Err(Unasked::Unread(reason)) => unread(*reason),
-        Err(Unasked::Refused(fault, text)) => refusal_of(fault, text.as_str()),
+        Err(ArgsError::Unread(reason)) => report_unread(*reason),
+        Err(ArgsError::Refused(fault, text)) => refusal_of(fault, text.as_str()),
     }
 }
 
@@ -184,13 +184,13 @@ pub fn texts_of<'a>(
 }
 
 /// Why arguments that are refused ask for nothing.
-fn refused(alloc: Global, fault: AskFault) -> Unasked
+fn refused(alloc: Global, fault: AskFault) -> ArgsError
     ensures { (kinds : Kinds) → IsOfKinds kinds fault →
         Makes (Err result) (λ _. OrOutOfMemory (IsRefusal kinds)) }
 {
     match format!(in alloc; "{fault}") {
-        Ok(text) => Unasked::Refused(fault, text),
-        Err(error) => Unasked::Unread(Unread::from(error)),
+        Ok(text) => ArgsError::Refused(fault, text),
+        Err(error) => ArgsError::Unread(Unread::from(error)),
     }
 }
 
@@ -202,18 +202,18 @@ fn refused(alloc: Global, fault: AskFault) -> Unasked
 pub fn asked_in<'a>(
     alloc: Global,
     read: &'a Result<Vec<&'a str>, Unread>,
-) -> Result<Asked<'a>, Unasked>
+) -> Result<Asked<'a>, ArgsError>
     ensures asked { IfOk read.entry.now (λ found. Makes result
         (λ prompt. IsAskedBy prompt (texts found.items))) }
     ensures named { IfOk result
         (λ asked. (found : Option (Text × List Row)) × NamesAsked found asked) }
-    ensures unread { IfErr read.entry.now (λ reason. result ≡ Err (Unasked.Unread reason)) }
+    ensures unread { IfErr read.entry.now (λ reason. result ≡ Err (ArgsError.Unread reason)) }
 {
     match read {
         Ok(texts) => match asked(alloc, texts.as_slice()) {
             Ok(asked) => Ok(asked),
             Err(fault) => Err(refused(alloc, fault)),
         },
-        Err(reason) => Err(Unasked::Unread(*reason)),
+        Err(reason) => Err(ArgsError::Unread(*reason)),
     }
 }

@@ -1,9 +1,9 @@
 //! The files of the system.
 
 use cdb_base::NoMemory;
-use cdb_debug::Streams;
-use cdb_hall::Station;
 use cdb_program::Files;
+use cdb_session::Streams;
+use cdb_shared_session::Endpoint;
 use cdb_streams::{Input, Output, ReadFault, read_up_to};
 use std::alloc::Global;
 use std::fs::File;
@@ -13,8 +13,8 @@ use std::io::{ErrorKind, IsTerminal};
 /// What a seat shows before each line, at a terminal.
 const PROMPT: &[u8] = b"> ";
 
-/// Whom the session of a seat talks with: what is read, and what is written to.
-type Talk = Streams<Input<File>, Output<File>>;
+/// What the session of a seat reads from and writes to.
+type SeatConsole = Streams<Input<File>, Output<File>>;
 
 /// The files of the system. Nothing is known of them but how many could not be read.
 #[derive(Drop)]
@@ -41,14 +41,14 @@ fn terminal(rt: &HostRuntime, name: &str) -> io::Result<(File, File)> {
 
 /// The seat of this name: a terminal device, or `IN:OUT`, a pair of files or pipes, cut at the first colon. Of a pair the
 /// file that is written to is made where it is not there, and emptied where it is.
-fn seat_of(rt: &HostRuntime, name: &str) -> io::Result<Station<Talk>> {
+fn seat_of(rt: &HostRuntime, name: &str) -> io::Result<Endpoint<SeatConsole>> {
     let (input, output) = match name.split_once(':') {
         Some((input, output)) => (File::open(rt, input)?, File::create(rt, output)?),
         None => terminal(rt, name)?,
     };
     let prompt = if input.is_terminal() { PROMPT } else { b"" };
-    let talk = Streams::new(Input::new(input), Output::new(output));
-    Ok(Station { talk, prompt })
+    let console = Streams::new(Input::new(input), Output::new(output));
+    Ok(Endpoint { console, prompt })
 }
 
 /// What could not be read or opened.
@@ -60,7 +60,7 @@ fn fault_of(error: &io::Error) -> ReadFault {
 }
 
 impl<'a> Files for SystemFiles<'a> {
-    type Seat = Talk;
+    type Seat = SeatConsole;
 
     ghost use Rattle.std.specs.Prelude.{[], None};
 
@@ -82,9 +82,13 @@ impl<'a> Files for SystemFiles<'a> {
         read
     }
 
-    fn open_seat(&mut self, _alloc: Global, name: &str) -> Result<Station<Talk>, ReadFault> {
+    fn open_seat(
+        &mut self,
+        _alloc: Global,
+        name: &str,
+    ) -> Result<Endpoint<SeatConsole>, ReadFault> {
         match seat_of(self.rt, name) {
-            Ok(station) => Ok(station),
+            Ok(endpoint) => Ok(endpoint),
             Err(error) => {
                 let fault = fault_of(&error);
                 if fault == ReadFault::Failed {

@@ -2,11 +2,12 @@
 
 ghost use Rattle.std.specs.Prelude.{◌≡◌, ◌+◌, ◌≤◌, [], ◌++◌, length, map};
 ghost use Rattle.std.specs.List.{flat_map};
-ghost use Rattle.cdb_base.specs.declared.limits.TheConstants.{MAX_SEATS};
+ghost use Rattle.cdb_base.specs.Limits.{MAX_SEATS};
 ghost use Rattle.cdb_commands.specs.ToldReply.{told};
 ghost use Rattle.cdb_race.specs.Races.{all_told};
 ghost use Rattle.cdb_text.specs.Texts.{text_of};
-ghost use Rattle.cdb_play.specs.Races.{seat_heading, seat_text, seats_text, end_text, verdict_text, have_one_value, text_with};
+ghost use Rattle.cdb_play.specs.Races.{seat_heading, seat_text, seats_text, end_text, verdict_text, have_one_value};
+ghost use Rattle.cdb_play.specs.Races.{text_with};
 ghost use Rattle.cdb_streams.specs.Putting.{Puts};
 ghost use Rattle.cdb_streams.specs.Endings.{pieces_ending};
 ghost use Rattle.cdb_streams.specs.Written.{IsWritten, Only};

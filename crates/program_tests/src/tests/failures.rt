@@ -242,11 +242,11 @@ fn each_read_of_input_fails_in_turn(rt: HostRuntime) {
 
 #[test]
 fn the_kth_session_is_that_of_the_kth_name(rt: HostRuntime) -> Result<(), Fail> {
-    let hall = Request::Hall {
+    let shared = Request::DebugShared {
         setup: "two.json",
         seats: &["decisions.txt", "redo.txt", "decisions.txt"],
     };
-    let ended = performed(&rt, hall, ALL_GOOD);
+    let ended = performed(&rt, shared, ALL_GOOD);
     let journal = str::from_utf8(ended.output.as_slice())?;
     // In which order the seats come is not known.
     for line in &["1 decisions\n", "2 redo\n", "3 decisions\n"] {

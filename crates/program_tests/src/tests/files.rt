@@ -1,8 +1,8 @@
 //! Files in memory.
 
 use super::streams::Visitor;
-use cdb_hall::Station;
 use cdb_program::Files;
+use cdb_shared_session::Endpoint;
 use cdb_streams::ReadFault;
 use std::alloc::{AllocError, Global};
 
@@ -87,7 +87,7 @@ impl Files for Folder {
     }
 
     /// A seat's input is the file of its name, and its output is lost.
-    fn open_seat(&mut self, alloc: Global, name: &str) -> Result<Station<Self::Seat>, ReadFault> {
+    fn open_seat(&mut self, alloc: Global, name: &str) -> Result<Endpoint<Self::Seat>, ReadFault> {
         let copy = Vec::from_slice(alloc, name.as_bytes())?;
         let content = content_of(name);
         let lines = Vec::from_slice(alloc, content.unwrap_or(b""))?;
@@ -96,7 +96,10 @@ impl Files for Folder {
             self.failures = self.failures.wrapping_add(1);
             return Err(ReadFault::Failed);
         }
-        let talk = Visitor::new(lines);
-        Ok(Station { talk, prompt: b"" })
+        let console = Visitor::new(lines);
+        Ok(Endpoint {
+            console,
+            prompt: b"",
+        })
     }
 }

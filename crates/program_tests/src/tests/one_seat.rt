@@ -1,8 +1,8 @@
 //! Sessions of one seat.
 
 use super::person::{Person, with_lines};
-use cdb_any_run::RunOfSetup;
-use cdb_debug::debug;
+use cdb_any_run::AnyRun;
+use cdb_session::debug;
 use cdb_setup::SetupFault;
 use cdb_streams::PlayFault;
 use std::alloc::Global;
@@ -31,16 +31,16 @@ line 7 fault 3 Number
 ];
 
 /// Holds a session at a prompt with someone.
-fn hold(alloc: Global, talk: &mut Person) -> Result<(), PlayFault> {
-    debug::<RunOfSetup, _>(alloc, ONE_PROCESS, b"> ", talk)
+fn hold(alloc: Global, console: &mut Person) -> Result<(), PlayFault> {
+    debug::<AnyRun, _>(alloc, ONE_PROCESS, b"> ", console)
 }
 
 /// Holds a session without a prompt, in which this many bytes come at a time.
 fn check_responses<R: Abort + AllocGlobal>(rt: &R, lines: &'static [u8], said: &str, most: usize) {
-    let mut talk = with_lines(rt.alloc(), lines, most);
-    let outcome = debug::<RunOfSetup, _>(rt.alloc(), ONE_PROCESS, b"", &mut talk);
+    let mut console = with_lines(rt.alloc(), lines, most);
+    let outcome = debug::<AnyRun, _>(rt.alloc(), ONE_PROCESS, b"", &mut console);
     assert_eq!(rt; outcome, Ok(()));
-    assert_eq!(rt; str::from_utf8(talk.said.as_slice()), Ok(said));
+    assert_eq!(rt; str::from_utf8(console.said.as_slice()), Ok(said));
 }
 
 #[test]
@@ -55,36 +55,36 @@ fn responses_are_the_same_however_few_bytes_come(rt: HostRuntime) {
 /// 7 bytes a time are one line each; the responses have 12, 13 and twice 20 bytes, and the prompt has 2.
 #[test]
 fn each_line_is_answered_before_more_is_asked_for(rt: HostRuntime) {
-    let mut talk = with_lines(rt.alloc(), b"auto 1\nauto 1\njump 1\nquit..\n", 7);
-    let outcome = hold(rt.alloc(), &mut talk);
+    let mut console = with_lines(rt.alloc(), b"auto 1\nauto 1\njump 1\nquit..\n", 7);
+    let outcome = hold(rt.alloc(), &mut console);
     assert_eq!(rt; outcome, Ok(()));
     assert_eq!(rt;
-        str::from_utf8(talk.said.as_slice()),
+        str::from_utf8(console.said.as_slice()),
         Ok("> 1.1 query 1\n> 1.2 send 1#1\n> line 3 fault 2 Word\n> line 4 fault 2 Word\n> ")
     );
-    assert_eq!(rt; talk.asked_at.as_slice(), [2, 16, 31, 53, 75].as_slice());
+    assert_eq!(rt; console.asked_at.as_slice(), [2, 16, 31, 53, 75].as_slice());
 }
 
 /// There are 12 bytes up to the end of the line `quit`.
 #[test]
 fn after_quit_no_more_is_asked_for(rt: HostRuntime) {
-    let mut talk = with_lines(rt.alloc(), b"auto 1\nquit\nauto 1\n", 1);
-    let outcome = hold(rt.alloc(), &mut talk);
+    let mut console = with_lines(rt.alloc(), b"auto 1\nquit\nauto 1\n", 1);
+    let outcome = hold(rt.alloc(), &mut console);
     assert_eq!(rt; outcome, Ok(()));
     assert_eq!(rt;
-        str::from_utf8(talk.said.as_slice()),
+        str::from_utf8(console.said.as_slice()),
         Ok("> 1.1 query 1\n> ")
     );
-    assert_eq!(rt; talk.asked_at.len(), 12);
-    assert_eq!(rt; talk.rest, b"auto 1\n".as_slice());
+    assert_eq!(rt; console.asked_at.len(), 12);
+    assert_eq!(rt; console.rest, b"auto 1\n".as_slice());
 }
 
 #[test]
 fn a_bad_setup_is_found_before_all_else(rt: HostRuntime) {
-    let mut talk = with_lines(rt.alloc(), b"auto 1\n", 7);
-    let outcome = debug::<RunOfSetup, _>(rt.alloc(), b"[]", b"> ", &mut talk);
+    let mut console = with_lines(rt.alloc(), b"auto 1\n", 7);
+    let outcome = debug::<AnyRun, _>(rt.alloc(), b"[]", b"> ", &mut console);
     assert_eq!(rt; outcome, Err(PlayFault::Setup(SetupFault::NotObject)));
-    assert_eq!(rt; (talk.said.len(), talk.asked_at.len()), (0, 0));
+    assert_eq!(rt; (console.said.len(), console.asked_at.len()), (0, 0));
 }
 
 const LINES: &[u8] = b"auto 1\njump 1\nauto 1\n";
@@ -92,19 +92,19 @@ const LINES: &[u8] = b"auto 1\njump 1\nauto 1\n";
 const RESPONSES: &[u8] = b"> 1.1 query 1\n> line 2 fault 2 Word\n> 1.2 send 1#1\n> ";
 
 /// Compares what was said with the beginning of the responses, of this length.
-fn has_said(rt: &impl Abort, talk: &Person, length: usize) {
-    assert_eq!(rt; talk.said.len(), length);
-    assert!(rt; RESPONSES.starts_with(talk.said.as_slice()));
+fn has_said(rt: &impl Abort, console: &Person, length: usize) {
+    assert_eq!(rt; console.said.len(), length);
+    assert!(rt; RESPONSES.starts_with(console.said.as_slice()));
 }
 
 /// Lines are read one at a time, of which the one behind this many good reads can't be.
 fn check_read<R: Abort + AllocGlobal>(rt: &R, good_reads: usize, length: usize) {
-    let mut talk = with_lines(rt.alloc(), LINES, 7);
-    talk.good_reads = good_reads;
-    let outcome = hold(rt.alloc(), &mut talk);
+    let mut console = with_lines(rt.alloc(), LINES, 7);
+    console.good_reads = good_reads;
+    let outcome = hold(rt.alloc(), &mut console);
     assert_eq!(rt; outcome, Err(PlayFault::Read));
-    has_said(rt, &talk, length);
-    assert_eq!(rt; talk.asked_at.len().checked_sub(1), Some(good_reads));
+    has_said(rt, &console, length);
+    assert_eq!(rt; console.asked_at.len().checked_sub(1), Some(good_reads));
 }
 
 /// Beside the number of good reads stands how many bytes of the responses are written then.
@@ -117,11 +117,11 @@ fn a_read_that_fails_ends_the_session(rt: HostRuntime) {
 
 /// Bytes are written one at a time, of which the one behind this many good writes can't be.
 fn check_write<R: Abort + AllocGlobal>(rt: &R, good_writes: usize) {
-    let mut talk = with_lines(rt.alloc(), LINES, 1);
-    talk.good_writes = good_writes;
-    let outcome = hold(rt.alloc(), &mut talk);
+    let mut console = with_lines(rt.alloc(), LINES, 1);
+    console.good_writes = good_writes;
+    let outcome = hold(rt.alloc(), &mut console);
     assert_eq!(rt; outcome, Err(PlayFault::Write));
-    has_said(rt, &talk, good_writes);
+    has_said(rt, &console, good_writes);
 }
 
 #[test]

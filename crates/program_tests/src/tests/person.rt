@@ -1,6 +1,6 @@
-//! Whom sessions talk with.
+//! Whom a session reads from and writes to.
 
-use cdb_debug::Talk;
+use cdb_session::Console;
 use cdb_streams::Failed;
 use std::alloc::Global;
 
@@ -18,7 +18,7 @@ pub struct Person {
     failed_writes: u64,
 }
 
-impl Talk for Person {
+impl Console for Person {
     ghost use Rattle.std.specs.Prelude.{None};
 
     ghost known = { λ person. record {

@@ -1,10 +1,12 @@
 //! Sessions of several seats at once, a thread each.
 
 use super::person::{Person, with_lines};
-use cdb_any_run::RunOfSetup;
+use cdb_any_run::AnyRun;
 use cdb_control::{Control, Entry};
-use cdb_hall::{Attended, Station, debug_seats, journal_text, status_after, write_failures};
 use cdb_setup::Setup;
+use cdb_shared_session::{
+    Endpoint, Finished, debug_seats, journal_text, status_after, write_failures,
+};
 use cdb_streams::{Output, PlayFault};
 use std::alloc::{AllocError, Global};
 use std::process::Abort;
@@ -16,24 +18,24 @@ const THREE: &[u8] =
 
 /// Each seat drives a process of its own, and nothing is sent, so that what it is answered depends on no other. The
 /// first can't be written to after its prompt, and the third can't be read from after its first line.
-fn three_seats(alloc: Global) -> Result<Vec<Station<Person>>, AllocError> {
+fn three_seats(alloc: Global) -> Result<Vec<Endpoint<Person>>, AllocError> {
     let seats: [(&[u8], usize, usize); 3] = [
         (b"auto 1\nauto 1\n", usize::MAX, 1),
         (b"auto 2\nwhy 2 1\n", usize::MAX, usize::MAX),
         (b"auto 3\nauto 3\n", 1, usize::MAX),
     ];
-    let mut stations = Vec::new(alloc);
+    let mut endpoints = Vec::new(alloc);
     for (lines, good_reads, good_writes) in seats {
-        let mut talk = with_lines(alloc, lines, 7);
-        talk.good_reads = good_reads;
-        talk.good_writes = good_writes;
+        let mut console = with_lines(alloc, lines, 7);
+        console.good_reads = good_reads;
+        console.good_writes = good_writes;
         let prompt = b"> ";
-        stations.push(Station { talk, prompt })?;
+        endpoints.push(Endpoint { console, prompt })?;
     }
-    Ok(stations)
+    Ok(endpoints)
 }
 
-fn check_ends<R: Abort>(rt: &R, seats: &[Attended<Person>]) {
+fn check_ends<R: Abort>(rt: &R, seats: &[Finished<Person>]) {
     let ends = [
         (Err(PlayFault::Write), "> "),
         (Ok(()), "> 2.1 query 1\n> 2.1 because none\n> "),
@@ -42,7 +44,7 @@ fn check_ends<R: Abort>(rt: &R, seats: &[Attended<Person>]) {
     assert!(rt; seats.len() == 3);
     for at in 0..3 {
         assert_eq!(rt; seats[at].outcome, ends[at].0);
-        assert!(rt; seats[at].talk.said.as_slice() == ends[at].1.as_bytes());
+        assert!(rt; seats[at].console.said.as_slice() == ends[at].1.as_bytes());
     }
 }
 
@@ -57,10 +59,10 @@ fn check_journal<R: Abort + AllocGlobal>(rt: &R, journal: &[Entry]) {
 }
 
 /// The status is that of the least seat that failed.
-fn check_report<R: Abort + AllocGlobal>(rt: &R, seats: &[Attended<Person>]) {
+fn check_report<R: Abort + AllocGlobal>(rt: &R, seats: &[Finished<Person>]) {
     assert!(rt; seats.len() == 3);
     let mut error = Output::new(Vec::new(rt.alloc()));
-    let written = write_failures(rt.alloc(), seats, &Ok(()), &mut error);
+    let written = write_failures(seats, &Ok(()), &mut error);
     assert_eq!(rt; written, Ok(()));
     let text = "seat 1: output failed\nseat 3: cannot read the input\n";
     assert!(rt; error.into_inner().as_slice() == text.as_bytes());
@@ -70,19 +72,19 @@ fn check_report<R: Abort + AllocGlobal>(rt: &R, seats: &[Attended<Person>]) {
 /// Sessions of one run with these, of whom there are three.
 fn hold<R: Threads + Wait + Sync + Abort + AllocGlobal>(
     rt: &R,
-    stations: Vec<Station<Person>>,
-) -> (Control<RunOfSetup>, Vec<Attended<Person>>) {
-    assert!(rt; stations.len() == 3);
+    endpoints: Vec<Endpoint<Person>>,
+) -> (Control<AnyRun>, Vec<Finished<Person>>) {
+    assert!(rt; endpoints.len() == 3);
     let setup = Setup::read(rt.alloc(), THREE).expect(rt, "a setup");
-    debug_seats::<RunOfSetup, _, _>(rt, rt.alloc(), setup, stations).expect(rt, "sessions")
+    debug_seats::<AnyRun, _, _>(rt, rt.alloc(), setup, endpoints).expect(rt, "sessions")
 }
 
 #[test]
 fn a_seat_that_fails_ends_alone(rt: HostRuntime) {
-    let stations = three_seats(rt.alloc()).expect(&rt, "seats");
-    let (control, attended) = hold(&rt, stations);
+    let endpoints = three_seats(rt.alloc()).expect(&rt, "seats");
+    let (control, finished) = hold(&rt, endpoints);
     check_journal(&rt, control.journal());
     control.close();
-    check_ends(&rt, attended.as_slice());
-    check_report(&rt, attended.as_slice());
+    check_ends(&rt, finished.as_slice());
+    check_report(&rt, finished.as_slice());
 }

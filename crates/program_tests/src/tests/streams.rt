@@ -1,6 +1,6 @@
 //! A reader and a writer over memory, which move few bytes a call, and fail once their good calls are over.
 
-use cdb_debug::Talk;
+use cdb_session::Console;
 use cdb_streams::{Failed, Sink, Source};
 use std::alloc::Global;
 
@@ -47,7 +47,7 @@ impl<'a> Source for Reader<'a> {
     }
 }
 
-/// Whom a seat talks with: the lines are given at once, and what is answered is lost.
+/// What a seat reads from and writes to: the lines are given at once, and what is answered is lost.
 #[derive(Drop)]
 pub struct Visitor {
     rest: Vec<u8>,
@@ -60,7 +60,7 @@ impl Visitor {
     }
 }
 
-impl Talk for Visitor {
+impl Console for Visitor {
     ghost use Rattle.std.specs.Prelude.{None};
 
     ghost known = { λ _. record {

@@ -15,10 +15,10 @@ pub returns-clause-no_process : goal.returns-clause-no_process
 returns-clause-no_process g c = absent_undone
 
 pub returns-clause-valid : goal.returns-clause-valid
-returns-clause-valid g c = λ machine n history name event left returned valid. (undone_back machine n history name event left returned valid).0
+returns-clause-valid g c = λ machine n history name event left returned valid. (undone_back machine n history name _ _ returned valid).0
 
 pub returns-clause-again : goal.returns-clause-again
-returns-clause-again g c = λ machine n history name event left returned valid. (undone_back machine n history name event left returned valid).1
+returns-clause-again g c = λ machine n history name event left returned valid. (undone_back machine n history name _ _ returned valid).1
 
 pub returns-clause-free : goal.returns-clause-free
 returns-clause-free g c = undone_free

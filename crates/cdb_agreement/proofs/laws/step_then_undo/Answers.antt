@@ -9,14 +9,13 @@ use Rattle.cdb_rules.proofs.Standing.{last_taken_free, last_undone, without_last
 use Rattle.cdb_agreement.proofs.laws.step_then_undo.Goals as goal
 
 pub returns-clause-free : goal.returns-clause-free
-returns-clause-free c = λ history event. subst (IsFree depends (history ++ event ∷ [])) (sym (add-one (length history))) (last_taken_free history event)
+returns-clause-free c = λ history event. subst (IsFree depends (history ++ event ∷ [])) (sym (add-one (length history))) (last_taken_free _ _)
 
 pub returns-clause-history : goal.returns-clause-history
-returns-clause-history c = λ history event. ap (without (history ++ event ∷ [])) (add-one (length history)) ∙ without_last history event
+returns-clause-history c = λ history event. ap (without (history ++ event ∷ [])) (add-one (length history)) ∙ without_last _ _
 
 pub returns-clause-undone : goal.returns-clause-undone
 returns-clause-undone c =
     λ n history name there new event its_name.
-    subst (λ (x : StepId). undo_of n (history ++ event ∷ []) x ≡ Ok (event, history)) its_name
-    (last_undone n history event
+    subst (λ (x : StepId). undo_of n (history ++ event ∷ []) x ≡ Ok (event, history)) its_name (last_undone n _ _
     (subst (λ (x : StepId). names_processes n x ≡ true) (sym its_name) there) (subst (IsNewName history) (sym its_name) new))

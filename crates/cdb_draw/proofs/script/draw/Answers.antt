@@ -11,7 +11,7 @@ returns-clause-wrote g c =
     let new = g.R.Source.stream c.run_left_by.new.script in
     let run : RunView = c.in_ok-run.run' in
     let left = c.in_ok-run.ensures.left.leaves in
-    written_as g.W.Sink.stream (draw_ending c.write_drawing.result) c.args.out.now c.write_drawing.new.out (IsPictureFor g.T.Runs.rules run c.args.step) (Draws g.T.Runs.rules c.args.setup.now c.args.step old new)
+    written_as g.W.Sink.stream (draw_ending c.write_drawing.result) c.args.out.now c.write_drawing.new.out (IsPictureFor g.T.Runs.rules run c.args.columns c.args.step) (Draws g.T.Runs.rules c.args.setup.now c.args.columns c.args.step old new)
     (λ text is. (run, left, is)) c.write_drawing.ensures.wrote
 
 pub returns-clause-fault : goal.returns-clause-fault

@@ -1,8 +1,5 @@
-use Rattle.std.proofs.Common.{refl, subst}
+use Rattle.std.proofs.Common.{refl}
 use Rattle.std.proofs.lemmas.Result.{err_from_is_err_and}
-use Rattle.cdb_setup.specs.Parts.{Parts}
-use Rattle.cdb_streams.specs.Putting.{Puts}
-use Rattle.cdb_play.specs.Transcripts.{transcript}
 use Rattle.cdb_streams.proofs.Putting.{puts_nothing}
 use Rattle.cdb_play.proofs.plays.perform_all.Goals as goal
 
@@ -16,6 +13,4 @@ perform_each-performed-requires-clause-new g c =
     record { of_setup = refl; one_seat = c.in_ok-control.ensures.new.one_seat; carried_out = c.in_ok-control.ensures.new.carried_out }
 
 pub returns : goal.returns
-returns g c =
-    subst (λ (setup : Parts). Puts g.W.Sink.stream c.perform_each-performed.result c.args.out.now c.args.buffer.now c.perform_each-performed.new.out c.perform_each-performed.new.buffer (transcript (g.T.Runs.rules setup) setup c.args.commands.now))
-    c.in_ok-control.ensures.new.of_setup c.perform_each-performed.ensures
+returns g c = rw c.in_ok-control.ensures.new.of_setup at c.perform_each-performed.ensures

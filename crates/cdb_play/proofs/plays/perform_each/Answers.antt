@@ -16,7 +16,7 @@ loop-command-init g c =
     let held = c.args.buffer.now in
     record {
       control = c.requires.new;
-      put = subst (IsPut g.W.Sink.stream out held out held) (sym (no_texts (g.T.Runs.rules c.args.control.now.setup) c.args.control.now.setup)) (put_nothing g.W.Sink.stream out held);
+      put = subst (IsPut g.W.Sink.stream out held out held) (sym (no_texts _ _)) (put_nothing _ _ _);
     }
 
 pub returns-in_err-perform : goal.returns-in_err-perform
@@ -29,9 +29,11 @@ returns-in_err-perform g c =
     let setup = c.args.control.now.setup in
     let so = c.loop-command.invariant in
     let whole : commands ≡ take i commands ++ command ∷ drop (i + 1) commands =
-    parted commands i command c.loop-command-test.true ∙ ap (λ other. take i commands ++ other ∷ drop (i + 1) commands) (sym c.command-item.is) in
+    parted _ i _ c.loop-command-test.true ∙ ap (λ other. take i commands ++ other ∷ drop (i + 1) commands) (sym c.command-item.is) in
     rw (p.1, p.2, whole)
-    (cut_short g.W.Sink.stream (Unit {0}) c.in_err-perform.field-0.0 _ _ _ _ _ _ (transcript (rules_of setup) setup (take i commands)) (reply_to rules_of c.loop-command.control command) (texts_behind (rules_of setup) setup (take i commands) command (drop (i + 1) commands)) _
+    (cut_short g.W.Sink.stream (Unit {0}) c.in_err-perform.field-0.0 _ _ _ _ _ _
+    (transcript (rules_of setup) setup (take i commands)) (reply_to rules_of c.loop-command.control command)
+    (texts_behind (rules_of setup) setup (take i commands) command (drop (i + 1) commands)) _
     so.put (parted_transcript rules_of setup (take i commands) command c.loop-command.control so.control (drop (i + 1) commands)) c.in_err-perform.ensures.put)
 
 pub loop-command-preserved : goal.loop-command-preserved
@@ -49,22 +51,17 @@ loop-command-preserved g c =
     let held = c.args.buffer.now in
     let left = c.perform.new.buffer in
     let more : done ++ command ∷ [] ≡ take (i + 1) commands =
-    ap (λ other. done ++ other ∷ []) c.command-item.is ∙ sym (take_more commands i command c.loop-command-test.true) in
+    ap (λ other. done ++ other ∷ []) c.command-item.is ∙ sym (take_more _ i _ c.loop-command-test.true) in
     record {
-      control = subst (λ carried. HasCarriedOut setup carried c.perform.new.control) more (one_command rules_of setup done command control so.control c.perform.new.control c.in_ok-perform.ensures.done);
+      control = subst (λ carried. HasCarriedOut setup carried c.perform.new.control) more
+          (one_command rules_of setup done command control so.control c.perform.new.control c.in_ok-perform.ensures.done);
       put =
-          subst (IsPut g.W.Sink.stream old held new left) (sym (one_reply rules_of setup done command control so.control) ∙ ap (transcript (rules_of setup) setup) more)
-          (put_more g.W.Sink.stream old c.loop-command.out new held c.loop-command.buffer left (transcript (rules_of setup) setup done) (reply_to rules_of control command) so.put c.in_ok-perform.ensures.put);
+          subst (IsPut g.W.Sink.stream old held new left)
+          (sym (one_reply rules_of setup done command control so.control) ∙ ap (transcript (rules_of setup) setup) more)
+          (put_more g.W.Sink.stream _ _ _ _ _ _ _ _ so.put c.in_ok-perform.ensures.put);
     }
 
 pub returns : goal.returns
 returns g c =
-    let commands = c.args.commands.now in
-    let i = c.loop-command.command-index in
-    let rules_of = g.T.Runs.rules in
-    let setup = c.args.control.now.setup in
-    let out = c.args.out.now in
-    let held = c.args.buffer.now in
-    let last = c.loop-command-test.false in
-    let whole : take i commands ≡ commands = take_all i commands (search (last, arith)) in
-    subst (λ done. IsPut g.W.Sink.stream out held c.loop-command.out c.loop-command.buffer (transcript (rules_of setup) setup done)) whole c.loop-command.invariant.put
+    let whole = take_all c.loop-command.command-index c.args.commands.now (search (c.loop-command-test.false, arith)) in
+    rw whole at c.loop-command.invariant.put

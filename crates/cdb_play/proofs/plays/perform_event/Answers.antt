@@ -8,4 +8,5 @@ use Rattle.cdb_play.proofs.plays.perform_event.Goals as goal
 pub returns-clause-put : goal.returns-clause-put
 returns-clause-put g c =
     let same : text_of (told (as_reply c.in-Ok.reply)) ≡ reply_to g.T.Runs.rules c.args.control.now c.args.command = ap text_of c.in-Ok.ensures.reply in
-    subst (λ (text : List ℕ). Puts g.W.Sink.stream c.put_event_reply.result c.args.out.now c.args.buffer.now c.put_event_reply.new.out c.put_event_reply.new.buffer text) same c.put_event_reply.ensures
+    subst (λ (text : List ℕ). Puts g.W.Sink.stream c.put_event_reply.result c.args.out.now c.args.buffer.now
+    c.put_event_reply.new.out c.put_event_reply.new.buffer text) same c.put_event_reply.ensures

@@ -12,12 +12,14 @@ returns-clause-wrote g c =
     let setup = c.in_ok-setup.setup in
     let commands = c.in_ok-commands.commands.items in
     let rules_of = g.T.Runs.rules in
-    let is : Plays rules_of c.args.setup.now (g.R.Source.stream c.args.script.now) (g.R.Source.stream c.read_commands.new.script) (transcript (rules_of setup) setup commands) = (
+    let is : Plays rules_of c.args.setup.now (g.R.Source.stream c.args.script.now) (g.R.Source.stream c.read_commands.new.script)
+    (transcript (rules_of setup) setup commands) = (
       given.0,
       given.1,
       record { setup = setup; commands = commands; encodes = c.in_ok-setup.ensures.found; short = given.2.0; lines = given.2.1; is = refl },
     ) in
-    only_as g.W.Sink.stream Complete c.args.out.now c.write_transcript.new.out (transcript (rules_of setup) setup commands) _ is (rw c.as_slice.ensures.value at c.in_ok-write_transcript.ensures)
+    only_as g.W.Sink.stream Complete c.args.out.now c.write_transcript.new.out (transcript (rules_of setup) setup commands) _ is
+    (rw c.as_slice.ensures.value at c.in_ok-write_transcript.ensures)
 
 pub returns-in_err-write_transcript-clause-wrote : goal.returns-in_err-write_transcript-clause-wrote
 returns-in_err-write_transcript-clause-wrote g c =
@@ -26,11 +28,13 @@ returns-in_err-write_transcript-clause-wrote g c =
     let setup = c.in_ok-setup.setup in
     let commands = c.in_ok-commands.commands.items in
     let rules_of = g.T.Runs.rules in
-    let is : Plays rules_of c.args.setup.now (g.R.Source.stream c.args.script.now) (g.R.Source.stream c.read_commands.new.script) (transcript (rules_of setup) setup commands) = (
+    let is : Plays rules_of c.args.setup.now (g.R.Source.stream c.args.script.now) (g.R.Source.stream c.read_commands.new.script)
+    (transcript (rules_of setup) setup commands) = (
       given.0,
       given.1,
       record { setup = setup; commands = commands; encodes = c.in_ok-setup.ensures.found; short = given.2.0; lines = given.2.1; is = refl },
     ) in
     rw (p.1, p.2)
-    (play_wrote g.W.Sink.stream (Unit {0}) _ c.in_err-write_transcript.field-0.0 c.args.out.now c.write_transcript.new.out (transcript (rules_of setup) setup commands) is
+    (play_wrote g.W.Sink.stream (Unit {0}) _ c.in_err-write_transcript.field-0.0 c.args.out.now c.write_transcript.new.out
+    (transcript (rules_of setup) setup commands) is
     (rw c.as_slice.ensures.value at c.in_err-write_transcript.ensures))

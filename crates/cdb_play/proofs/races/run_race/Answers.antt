@@ -17,73 +17,68 @@ use Rattle.cdb_play.proofs.Agreeing.{agrees, ends_in_agreement, proposes, ends_i
 use Rattle.cdb_play.proofs.races.run_race.Goals as goal
 
 pub returns-in-Err-clause-wrote : goal.returns-in-Err-clause-wrote
-returns-in-Err-clause-wrote g c = rw c.of_threads.ensures (race_unwritten_threads g.W.Sink.stream (Unit {0}) _ _ c.in-Err.fault)
+returns-in-Err-clause-wrote g c = rw c.of_threads.ensures (race_unwritten_threads _ (Unit {0}) _ _ _)
 
 pub returns-in-Err-clause-fault : goal.returns-in-Err-clause-fault
 returns-in-Err-clause-fault g c =
     let said = c.in-Err.ensures in
     rw c.of_threads.ensures
-    (of_threads g.row.T.Denot g.T.Runs.rules g.G.Gate.heard g.G.Gate.passes c.args.gates.items c.args.setup c.args.turns c.args.scripts.now c.in-Err.fault said.fault (λ is. said.most (ap (λ (f : ThreadFault). Err f) is)) said.told)
+    (of_threads _ _ _ _ _ _ _ _ _ said.fault (λ is. said.most (ap (λ (f : ThreadFault). Err f) is)) said.told)
 
-pub returns-in_err-written-clause-wrote : goal.returns-in_err-written-clause-wrote
-returns-in_err-written-clause-wrote g c =
+pub returns-in_err-written : goal.returns-in_err-written
+returns-in_err-written g c =
     let p = err_from_is_err_and c.from_residual-in_err-written.result c.from_residual-in_err-written.ensures.1 in
     let raced = c.in-Ok.raced in
     let same =
-    text_of_replies g.T.Runs.rules c.args.setup c.args.turns c.args.scripts.now raced.control raced.replies.items c.deref.result.now c.from-processes.result c.deref.ensures.value (c.from-processes.ensures ∙ c.n.ensures.value) c.in-Ok.ensures.raced in
-    rw (p.1, p.2)
-    (race_wrote g.W.Sink.stream (Unit {0}) (IsTextOfCommands g.T.Runs.rules c.args.setup c.args.turns c.args.scripts.now) c.in_err-written.field-0.0 c.args.out.now c.write_race-written.new.out _ (raced.control, all_told raced.replies.items, c.in-Ok.ensures.raced, same) (rw c.in_err-written.was at c.write_race-written.ensures))
-
-pub returns-in_err-written-clause-fault : goal.returns-in_err-written-clause-fault
-returns-in_err-written-clause-fault g c =
-    let p = err_from_is_err_and c.from_residual-in_err-written.result c.from_residual-in_err-written.ensures.1 in
-    rw (p.1, p.2) (of_writing (IsFaultBehind g.row.T.Denot g.T.Runs.rules g.G.Gate.heard g.G.Gate.passes c.args.gates.items) c.args.turns c.args.setup c.args.scripts.now c.in_err-written.field-0.0)
+    text_of_replies g.T.Runs.rules _ _ _ _ _ _ _ c.deref.ensures.value (c.from-processes.ensures ∙ c.n.ensures.value) c.in-Ok.ensures.raced in
+    rw (p.1, p.2) (record {
+      wrote = race_wrote g.W.Sink.stream (Unit {0}) (IsTextOfCommands g.T.Runs.rules c.args.setup c.args.turns c.args.scripts.now)
+          c.in_err-written.field-0.0 c.args.out.now c.write_race-written.new.out _
+          (raced.control, all_told raced.replies.items, c.in-Ok.ensures.raced, same) (rw c.in_err-written.was at c.write_race-written.ensures);
+      agree = λ majority. tt;
+      proposed = tt;
+      fault = of_writing (IsFaultBehind g.row.T.Denot g.T.Runs.rules g.G.Gate.heard g.G.Gate.passes c.args.gates.items)
+          c.args.turns c.args.setup c.args.scripts.now c.in_err-written.field-0.0;
+      passes = λ all. not_of_writing _;
+    })
 
 pub returns-clause-wrote : goal.returns-clause-wrote
 returns-clause-wrote g c =
     let raced = c.in-Ok.raced in
     let same =
-    text_of_replies g.T.Runs.rules c.args.setup c.args.turns c.args.scripts.now raced.control raced.replies.items c.deref.result.now c.from-processes.result c.deref.ensures.value (c.from-processes.ensures ∙ c.n.ensures.value) c.in-Ok.ensures.raced in
-    only_as g.W.Sink.stream Complete c.args.out.now c.write_race-written.new.out _ (IsTextOfCommands g.T.Runs.rules c.args.setup c.args.turns c.args.scripts.now) (raced.control, all_told raced.replies.items, c.in-Ok.ensures.raced, same) (rw c.in_ok-written.was at c.write_race-written.ensures)
+    text_of_replies g.T.Runs.rules c.args.setup c.args.turns c.args.scripts.now raced.control raced.replies.items
+    c.deref.result.now c.from-processes.result c.deref.ensures.value (c.from-processes.ensures ∙ c.n.ensures.value) c.in-Ok.ensures.raced in
+    only_as g.W.Sink.stream Complete c.args.out.now c.write_race-written.new.out _
+    (IsTextOfCommands g.T.Runs.rules c.args.setup c.args.turns c.args.scripts.now)
+    (raced.control, all_told raced.replies.items, c.in-Ok.ensures.raced, same) (rw c.in_ok-written.was at c.write_race-written.ensures)
 
 pub returns-clause-agree : goal.returns-clause-agree
 returns-clause-agree g c = λ majority.
     let raced = c.in-Ok.raced in
     let said = c.in-Ok.ensures in
     only_as g.W.Sink.stream Complete c.args.out.now c.write_race-written.new.out _ EndsInAgreement
-    (ends_in_agreement _ (last_decisions g.T.Runs.rules raced.control) (agrees g.T.Runs.rules g.T.Runs.same_state raced.control c.args.setup said.raced.setup_is said.headline majority)) (rw c.in_ok-written.was at c.write_race-written.ensures)
+    (ends_in_agreement _ (last_decisions g.T.Runs.rules raced.control)
+    (agrees g.T.Runs.rules g.T.Runs.same_state raced.control c.args.setup said.raced.setup_is said.headline majority))
+    (rw c.in_ok-written.was at c.write_race-written.ensures)
 
 pub returns-clause-proposed : goal.returns-clause-proposed
 returns-clause-proposed g c =
     let raced = c.in-Ok.raced in
     let said = c.in-Ok.ensures in
     only_as g.W.Sink.stream Complete c.args.out.now c.write_race-written.new.out _ (EndsInProposed c.args.setup)
-    (ends_in_proposed c.args.setup _ (last_decisions g.T.Runs.rules raced.control) (proposes g.T.Runs.rules g.T.Runs.same_state raced.control c.args.setup said.raced.setup_is said.headline)) (rw c.in_ok-written.was at c.write_race-written.ensures)
-
-pub returns-in_err-written-clause-proposed : goal.returns-in_err-written-clause-proposed
-returns-in_err-written-clause-proposed g c =
-    let p = err_from_is_err_and c.from_residual-in_err-written.result c.from_residual-in_err-written.ensures.1 in
-    rw p.1 tt
-
-pub returns-in_err-written-clause-agree : goal.returns-in_err-written-clause-agree
-returns-in_err-written-clause-agree g c = λ majority.
-    let p = err_from_is_err_and c.from_residual-in_err-written.result c.from_residual-in_err-written.ensures.1 in
-    rw p.1 tt
+    (ends_in_proposed c.args.setup _ (last_decisions g.T.Runs.rules raced.control)
+    (proposes g.T.Runs.rules g.T.Runs.same_state raced.control _ said.raced.setup_is said.headline)) (rw c.in_ok-written.was at c.write_race-written.ensures)
 
 pub returns-in-Err-clause-passes : goal.returns-in-Err-clause-passes
-returns-in-Err-clause-passes g c = λ all. rw c.of_threads.ensures (not_of_threads c.in-Err.fault (c.in-Err.ensures.passes all))
-
-pub returns-in_err-written-clause-passes : goal.returns-in_err-written-clause-passes
-returns-in_err-written-clause-passes g c = λ all.
-    let p = err_from_is_err_and c.from_residual-in_err-written.result c.from_residual-in_err-written.ensures.1 in
-    rw (p.1, p.2) (not_of_writing c.in_err-written.field-0.0)
+returns-in-Err-clause-passes g c = λ all. rw c.of_threads.ensures (not_of_threads _ (c.in-Err.ensures.passes all))
 
 -- how many lists of replies there are
 pub slice_bounds-write_race-count : goal.slice_bounds-write_race-count
 slice_bounds-write_race-count g c =
     let replies = c.in-Ok.raced.replies.items in
     let processes = c.from-processes.ensures ∙ c.n.ensures.value in
-    let long = ap length c.deref.ensures.value ∙ sym (length-map replies (λ list. map told list.items)) ∙ c.in-Ok.ensures.raced.many ∙ c.in-Ok.ensures.raced.seats_are in
+    let long = ap length c.deref.ensures.value ∙ sym (length-map replies (λ list. map told list.items))
+    ∙ c.in-Ok.ensures.raced.many ∙ c.in-Ok.ensures.raced.seats_are in
     omega (arith, processes, long)
 
 pub slice_bounds-write_race-start : goal.slice_bounds-write_race-start
@@ -93,7 +88,8 @@ pub write_race-written-requires-clause-seats : goal.write_race-written-requires-
 write_race-written-requires-clause-seats g c =
     let replies = c.in-Ok.raced.replies.items in
     let processes = c.from-processes.ensures ∙ c.n.ensures.value in
-    let long = ap length c.deref.ensures.value ∙ sym (length-map replies (λ list. map told list.items)) ∙ c.in-Ok.ensures.raced.many ∙ c.in-Ok.ensures.raced.seats_are in
+    let long = ap length c.deref.ensures.value ∙ sym (length-map replies (λ list. map told list.items))
+    ∙ c.in-Ok.ensures.raced.many ∙ c.in-Ok.ensures.raced.seats_are in
     let same = ap (λ (s : Parts). s.processes) c.in-Ok.ensures.raced.setup_is in
     let all = c.deref.result.now in
     let first = c.from-processes.result in

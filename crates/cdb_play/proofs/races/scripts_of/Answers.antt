@@ -1,4 +1,4 @@
-use Rattle.std.proofs.Common.{◌≡◌, ◌+◌, [], ◌∷◌, ◌++◌, length, take, drop, rules, arith}
+use Rattle.std.proofs.Common.{◌≡◌, ◌+◌, [], ◌∷◌, ◌++◌, length, take, rules, arith}
 use Rattle.cdb_play.specs.Races.{bytes_of}
 use Rattle.cdb_streams.specs.Scripts.{IsScript}
 use Rattle.cdb_play.proofs.ScriptsRead.{bad_script, first_so_far, one_script, script_at, one_more_taken, so_many}
@@ -12,31 +12,30 @@ returns-in-Err-clause-fault c =
     let so = c.loop-script.invariant in
     let said = c.in-Err.ensures in
     let before = bytes_of (take i scripts) in
-    let position : c.len.result + 1 ≡ length before + 1 = omega (arith, c.len.ensures, c.loop-script.read.ok.0, so.count, so_many scripts i script c.script-item.is c.loop-script-test.true) in
+    let position : c.len.result + 1 ≡ length before + 1 =
+    omega (arith, c.len.ensures, c.loop-script.read.ok.0, so.count, so_many scripts i script c.script-item.is c.loop-script-test.true) in
     rw c.fault_of_script.ensures
-    (bad_script c.loop-script.read.items before script.items (bytes_of (drop (i + 1) scripts)) (bytes_of scripts) (c.len.result + 1) (script_at scripts i script c.script-item.is c.loop-script-test.true) position so.read c.in-Err.fault
+    (bad_script c.loop-script.read.items before script.items _ _ _ (script_at _ i _ c.script-item.is c.loop-script-test.true) position so.read _
     (rw c.as_slice.ensures.value at said.fault))
 
 pub loop-script-preserved : goal.loop-script-preserved
 loop-script-preserved c =
-    let scripts = c.args.scripts.now in
     let i = c.loop-script.script-index in
     let script = c.script-item.result in
     let so = c.loop-script.invariant in
     let said = c.in-Ok.ensures in
-    let is_script : IsScript c.in-Ok.commands.items script.items = (rw c.as_slice.ensures.value at said.short, (rw c.as_slice.ensures.value at said.commands)) in
+    let is_script : IsScript c.in-Ok.commands.items script.items =
+    (rw c.as_slice.ensures.value at said.short, (rw c.as_slice.ensures.value at said.commands)) in
     let items : c.push.new.self.items ≡ c.loop-script.read.items ++ c.new.result ∷ [] = search rules in
     record {
       read =
-          rw (items, c.new.ensures, one_more_taken scripts i script c.script-item.is c.loop-script-test.true)
-          (one_script c.loop-script.read.items (bytes_of (take i scripts)) c.in-Ok.commands.items script.items so.read is_script);
+          rw (items, c.new.ensures, one_more_taken _ i _ c.script-item.is c.loop-script-test.true)
+          (one_script _ _ _ _ so.read is_script);
       count = let more = c.push.ensures.len in grind (arith, more, so.count);
     }
 
 pub returns-in-Err-push-clause-fault : goal.returns-in-Err-push-clause-fault
 returns-in-Err-push-clause-fault c =
-    let scripts = c.args.scripts.now in
     let i = c.loop-script.script-index in
-    let script = c.script-item.result in
-    rw (script_at scripts i script c.script-item.is c.loop-script-test.true)
-    (first_so_far c.loop-script.read.items (bytes_of (take i scripts)) script.items (bytes_of (drop (i + 1) scripts)) c.loop-script.invariant.read (rw c.as_slice.ensures.value at c.in-Ok.ensures.short))
+    rw (script_at _ i _ c.script-item.is c.loop-script-test.true)
+    (first_so_far _ _ _ _ c.loop-script.invariant.read (rw c.as_slice.ensures.value at c.in-Ok.ensures.short))

@@ -3,31 +3,31 @@ use Rattle.std.proofs.lemmas.List.{take_all}
 use Rattle.std.proofs.lemmas.Result.{err_from_is_err_and}
 use Rattle.cdb_program.specs.Known.{after_opening}
 use Rattle.cdb_program.specs.Reading.{file_names}
-use Rattle.cdb_program.specs.Seating.{AreStationsOf}
+use Rattle.cdb_program.specs.Seating.{AreEndpointsOf}
 use Rattle.cdb_program.proofs.Opening.{read_none, taken_and_left}
-use Rattle.cdb_program.proofs.Seated.{seat_fails, seat_opened, seat_stationd}
+use Rattle.cdb_program.proofs.Seated.{seat_fails, seat_opened, seat_endpoints}
 use Rattle.cdb_program.proofs.seats.open_each.Goals as goal
 
 pub loop-name-init : goal.loop-name-init
-loop-name-init g c = record { opened = (read_none _).0; seats = rw c.new-stations.ensures.items tt; count = omega (arith, c.new-stations.ensures.len) }
+loop-name-init g c = record { opened = (read_none _).0; seats = rw c.new-endpoints.ensures.items tt; count = omega (arith, c.new-endpoints.ensures.len) }
 
-pub returns-in_err-station-clause-fault : goal.returns-in_err-station-clause-fault
-returns-in_err-station-clause-fault g c =
+pub returns-in_err-endpoint-clause-fault : goal.returns-in_err-endpoint-clause-fault
+returns-in_err-endpoint-clause-fault g c =
     let p = err_from_is_err_and c.from_residual.result c.from_residual.ensures.1 in
-    rw (p.1, p.2) (seat_fails _ _ _ c.args.names.now c.loop-name.name-index _ c.in_err-station.field-0.0 c.loop-name-test.true c.loop-name.invariant.opened c.in_err-station.ensures.fault)
+    rw (p.1, p.2) (seat_fails _ _ _ c.args.names.now c.loop-name.name-index _ c.in_err-endpoint.field-0.0 c.loop-name-test.true c.loop-name.invariant.opened c.in_err-endpoint.ensures.fault)
 
 pub returns-in-Err-clause-fault : goal.returns-in-Err-clause-fault
 returns-in-Err-clause-fault g c =
     let names = c.args.names.now in
     let i = c.loop-name.name-index in
-    (file_names (take (i + 1) names), file_names (drop (i + 1) names), taken_and_left names (i + 1), seat_opened _ _ _ names i _ c.loop-name-test.true c.loop-name.invariant.opened c.in_ok-station.ensures.opened)
+    (file_names (take (i + 1) names), file_names (drop (i + 1) names), taken_and_left names (i + 1), seat_opened _ _ _ names i _ c.loop-name-test.true c.loop-name.invariant.opened c.in_ok-endpoint.ensures.opened)
 
 pub loop-name-preserved : goal.loop-name-preserved
 loop-name-preserved g c = record {
-  opened = seat_opened _ _ _ c.args.names.now c.loop-name.name-index _ c.loop-name-test.true c.loop-name.invariant.opened c.in_ok-station.ensures.opened;
+  opened = seat_opened _ _ _ c.args.names.now c.loop-name.name-index _ c.loop-name-test.true c.loop-name.invariant.opened c.in_ok-endpoint.ensures.opened;
   seats =
-      let items : c.push.new.self.items ≡ c.loop-name.stations.items ++ c.in_ok-station.station ∷ [] = search rules in
-      rw items (seat_stationd g.F.Seat.Talk.known _ _ c.args.names.now c.loop-name.name-index _ c.loop-name.stations.items c.in_ok-station.station c.loop-name-test.true c.loop-name.invariant.opened c.loop-name.invariant.seats c.in_ok-station.ensures.seat);
+      let items : c.push.new.self.items ≡ c.loop-name.endpoints.items ++ c.in_ok-endpoint.endpoint ∷ [] = search rules in
+      rw items (seat_endpoints g.F.Seat.Console.known _ _ c.args.names.now c.loop-name.name-index _ c.loop-name.endpoints.items c.in_ok-endpoint.endpoint c.loop-name-test.true c.loop-name.invariant.opened c.loop-name.invariant.seats c.in_ok-endpoint.ensures.seat);
   count = let more = c.push.ensures.len in grind (arith, more, c.loop-name.invariant.count);
 }
 
@@ -37,4 +37,4 @@ returns-clause-opened g c =
 
 pub returns-clause-seats : goal.returns-clause-seats
 returns-clause-seats g c =
-    subst (λ (names : List (Bor (List ℕ))). AreStationsOf g.F.Seat.Talk.known (g.F.Files.seen c.args.files.now) (file_names names) c.loop-name.stations.items) (take_all c.loop-name.name-index c.args.names.now c.loop-name-test.false) c.loop-name.invariant.seats
+    subst (λ (names : List (Bor (List ℕ))). AreEndpointsOf g.F.Seat.Console.known (g.F.Files.seen c.args.files.now) (file_names names) c.loop-name.endpoints.items) (take_all c.loop-name.name-index c.args.names.now c.loop-name-test.false) c.loop-name.invariant.seats

@@ -7,13 +7,18 @@ use Rattle.cdb_setup.proofs.answers.all_answers.Goals as goal
 
 pub returns-in-None-clause-fault : goal.returns-in-None-clause-fault
 returns-in-None-clause-fault c = λ _.
-    let there = reads_value view c.args.values.now c.loop-i.i c.index-values-i.result c.loop-i-test.true c.index-values-i.is in
-    (c.loop-i.i, refl, stops_at 1 c.args.count (map view c.args.values.now) c.loop-i.answers.items c.loop-i.i (view c.index-values-i.result) there c.in-None.ensures c.loop-i.invariant.read c.loop-i.invariant.within)
+    let there = reads_value view c.args.values.now c.loop-i.i c.index-values-i.result c.loop-i-test.true c.index-values-i.is in (
+      c.loop-i.i,
+      refl,
+      stops_at 1 c.args.count (map view c.args.values.now) c.loop-i.answers.items c.loop-i.i
+          (view c.index-values-i.result) there c.in-None.ensures c.loop-i.invariant.read c.loop-i.invariant.within,
+    )
 
 pub loop-i-preserved : goal.loop-i-preserved
 loop-i-preserved c =
     let there = reads_value view c.args.values.now c.loop-i.i c.index-values-i.result c.loop-i-test.true c.index-values-i.is in
     rw c.in_ok-push-in-Some.ensures.items (record {
-      read = push_read whole (map view c.args.values.now) c.loop-i.answers.items c.loop-i.i c.in-Some.answer (rw (← c.in-Some.ensures.0) there) c.loop-i.invariant.read;
+      read = push_read whole (map view c.args.values.now) c.loop-i.answers.items c.loop-i.i c.in-Some.answer
+          (rw (← c.in-Some.ensures.0) there) c.loop-i.invariant.read;
       within = push_all (IsWithin 1 c.args.count) c.loop-i.answers.items c.in-Some.answer c.loop-i.invariant.within c.in-Some.ensures.1;
     })

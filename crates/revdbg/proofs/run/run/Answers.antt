@@ -1,7 +1,7 @@
 use Rattle.std.proofs.Common.{Result, subst}
 use Rattle.cdb_arguments.specs.declared.request.Asked.{Asked}
 use Rattle.revdbg.specs.RequestFor.{IsRequestFor}
-use Rattle.revdbg.specs.declared.requested.Unasked.{Unasked}
+use Rattle.revdbg.specs.declared.requested.ArgsError.{ArgsError}
 use Rattle.revdbg.proofs.Requests.{err_then, ok_then}
 use Rattle.revdbg.proofs.run.run.Goals as goal
 
@@ -14,5 +14,5 @@ returns-clause-asked g c =
 pub returns-clause-unread : goal.returns-clause-unread
 returns-clause-unread g c =
     let request = c.request_for in
-    err_then _ _ c.args.read.now (λ kind is. (request.result, subst (λ (it : Result Asked Unasked). IsRequestFor c.args.prompt.now it request.result) is request.ensures.request, c.perform.ensures))
+    err_then _ _ c.args.read.now (λ kind is. (request.result, subst (λ (it : Result Asked ArgsError). IsRequestFor c.args.prompt.now it request.result) is request.ensures.request, c.perform.ensures))
     c.asked_in-asked.ensures.unread

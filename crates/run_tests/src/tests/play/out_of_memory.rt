@@ -9,7 +9,7 @@ use super::pair::{OPEN, Pair, say};
 use super::plays::play_to;
 use super::sessions::ends_so;
 use super::{MAJORITY, Memory, ONE_PROCESS};
-use cdb_any_run::RunOfSetup;
+use cdb_any_run::AnyRun;
 use cdb_control::{Command, Reply};
 use cdb_play::race;
 use cdb_setup::{Setup, SetupFault};
@@ -121,7 +121,7 @@ fn race_once<R: Threads + Wait + Sync + AllocGlobal>(
     if !fits(&parts, scripts.len()) {
         return Ok(());
     }
-    race::<RunOfSetup, _, _>(rt, rt.alloc(), setup, 0, scripts, out)
+    race::<AnyRun, _, _>(rt, rt.alloc(), setup, 0, scripts, out)
 }
 
 /// Runs the race, and once more where memory was out or a thread was not started, which has written nothing.

@@ -4,7 +4,7 @@
 ghost use Rattle.std.specs.Prelude.{◌≡◌, ◌<◌, ◌≤◌, [], All, IfOk, vec_len, vec_capacity};
 ghost use Rattle.cdb_shared.specs.Seats.{RestsAt};
 
-use cdb_any_run::RunOfSetup;
+use cdb_any_run::AnyRun;
 use cdb_control::{CallFault, Command, Control, Entry, Reply};
 use cdb_rules::Runs;
 use cdb_setup::Setup;
@@ -40,13 +40,13 @@ pub fn try_setup(alloc: Global) -> Option<Setup> {
 }
 
 /// A control of one process in which nothing has happened, for two seats.
-fn try_control(alloc: Global) -> Option<Control<RunOfSetup>> {
+fn try_control(alloc: Global) -> Option<Control<AnyRun>> {
     let setup = try_setup(alloc)?;
     Control::open(alloc, setup, 2).ok()
 }
 
 /// Gives this many commands that change nothing.
-fn fill(alloc: Global, control: &mut Control<RunOfSetup>, count: u32) -> Result<(), CallFault> {
+fn fill(alloc: Global, control: &mut Control<AnyRun>, count: u32) -> Result<(), CallFault> {
     for _ in 0..count {
         // For its clause: there is a first seat.
         control.seats();
@@ -56,7 +56,7 @@ fn fill(alloc: Global, control: &mut Control<RunOfSetup>, count: u32) -> Result<
 }
 
 /// The same, at the second try where an allocation failed.
-fn control_at_last<R: Abort + AllocGlobal>(rt: &R) -> Control<RunOfSetup> {
+fn control_at_last<R: Abort + AllocGlobal>(rt: &R) -> Control<AnyRun> {
     match try_control(rt.alloc()) {
         Some(control) => control,
         None => try_control(rt.alloc()).expect(rt, "a control"),
@@ -64,7 +64,7 @@ fn control_at_last<R: Abort + AllocGlobal>(rt: &R) -> Control<RunOfSetup> {
 }
 
 /// A control of one process, after this many commands of the first seat that change nothing.
-fn filled<R: Abort + AllocGlobal>(rt: &R, forgets: u32) -> Control<RunOfSetup> {
+fn filled<R: Abort + AllocGlobal>(rt: &R, forgets: u32) -> Control<AnyRun> {
     let mut control = control_at_last(rt);
     assert!(rt; fill(rt.alloc(), &mut control, forgets).is_ok());
     control
@@ -73,8 +73,8 @@ fn filled<R: Abort + AllocGlobal>(rt: &R, forgets: u32) -> Control<RunOfSetup> {
 /// The control as one that is shared, with its seats, or the control handed back.
 fn try_share<R: Wait + AllocGlobal>(
     rt: &R,
-    control: Control<RunOfSetup>,
-) -> Result<(Shared<RunOfSetup>, Vec<Seat<RunOfSetup>>), Control<RunOfSetup>>
+    control: Control<AnyRun>,
+) -> Result<(Shared<AnyRun>, Vec<Seat<AnyRun>>), Control<AnyRun>>
     ensures { IfOk result (λ r. All (λ seat. RestsAt r.0 seat) r.1.items) }
 {
     match Shared::open(rt, rt.alloc(), control) {
@@ -86,8 +86,8 @@ fn try_share<R: Wait + AllocGlobal>(
 /// The control as one that is shared, with its seats.
 fn share<R: Wait + Abort + AllocGlobal>(
     rt: &R,
-    control: Control<RunOfSetup>,
-) -> (Shared<RunOfSetup>, Vec<Seat<RunOfSetup>>)
+    control: Control<AnyRun>,
+) -> (Shared<AnyRun>, Vec<Seat<AnyRun>>)
     ensures { All (λ seat. RestsAt result.0 seat) result.1.items }
 {
     match try_share(rt, control) {
@@ -100,7 +100,7 @@ fn share<R: Wait + Abort + AllocGlobal>(
 }
 
 /// Room for both seats.
-fn room_for_two<R: Abort + AllocGlobal>(rt: &R) -> Vec<Seat<RunOfSetup>>
+fn room_for_two<R: Abort + AllocGlobal>(rt: &R) -> Vec<Seat<AnyRun>>
     ensures empty { result.items ≡ [] }
     ensures room { 2 ≤ vec_capacity result }
 {
@@ -119,9 +119,9 @@ fn close_all(replies: Vec<Reply>) {
 
 /// A shared control and its two seats, which rest.
 pub struct Pair {
-    shared: Shared<RunOfSetup>,
-    first: Seat<RunOfSetup>,
-    second: Seat<RunOfSetup>,
+    shared: Shared<AnyRun>,
+    first: Seat<AnyRun>,
+    second: Seat<AnyRun>,
 }
 
 impl Model for Pair {
@@ -221,7 +221,7 @@ impl Pair {
     }
 
     /// Ends the sharing, and gives the control.
-    pub fn finish<R: Wait + Abort + AllocGlobal>(self, rt: &R) -> Control<RunOfSetup> {
+    pub fn finish<R: Wait + Abort + AllocGlobal>(self, rt: &R) -> Control<AnyRun> {
         let room = room_for_two(rt);
         let Pair {
             shared,
@@ -234,7 +234,7 @@ impl Pair {
 }
 
 /// The pair of a shared control and its seats, which are two.
-fn seated<R: Abort>(rt: &R, shared: Shared<RunOfSetup>, mut seats: Vec<Seat<RunOfSetup>>) -> Pair
+fn seated<R: Abort>(rt: &R, shared: Shared<AnyRun>, mut seats: Vec<Seat<AnyRun>>) -> Pair
     requires { All (λ seat. RestsAt shared seat) seats.items }
 {
     let second = seats.pop().expect(rt, "a seat");
@@ -248,11 +248,11 @@ fn seated<R: Abort>(rt: &R, shared: Shared<RunOfSetup>, mut seats: Vec<Seat<RunO
 
 /// Both seats, which rest.
 fn gathered(
-    shared: &Shared<RunOfSetup>,
-    first: Seat<RunOfSetup>,
-    second: Seat<RunOfSetup>,
-    room: Vec<Seat<RunOfSetup>>,
-) -> Vec<Seat<RunOfSetup>>
+    shared: &Shared<AnyRun>,
+    first: Seat<AnyRun>,
+    second: Seat<AnyRun>,
+    room: Vec<Seat<AnyRun>>,
+) -> Vec<Seat<AnyRun>>
     requires first { RestsAt shared.now first }
     requires second { RestsAt shared.now second }
     requires room { (room.items ≡ []) × (2 ≤ vec_capacity room) }

@@ -1,7 +1,7 @@
 //! Plays whose readers and writers fail, and the greatest script.
 
 use super::{Halting, MAJORITY, Memory, ONE_PROCESS, writer};
-use cdb_any_run::RunOfSetup;
+use cdb_any_run::AnyRun;
 use cdb_base::limits::MAX_BYTES;
 use cdb_play::play;
 use cdb_streams::{Bytes, Input, Output, PlayFault, Source};
@@ -136,7 +136,7 @@ pub fn play_to(
     source: &mut impl Source,
     out: &mut Memory,
 ) -> Result<(), PlayFault> {
-    play::<RunOfSetup, _, _>(alloc, setup.as_bytes(), source, out)
+    play::<AnyRun, _, _>(alloc, setup.as_bytes(), source, out)
 }
 
 /// A reader of two lines that fails after this many good calls.
@@ -213,7 +213,7 @@ fn a_writer_may_take_few_bytes_a_call(rt: HostRuntime) {
 fn a_play_over_a_reader_and_a_writer_of_std(rt: HostRuntime) {
     let mut source = Input::new(SCRIPT.as_bytes());
     let mut out = Output::new(Vec::new(rt.alloc()));
-    let played = play::<RunOfSetup, _, _>(rt.alloc(), MAJORITY.as_bytes(), &mut source, &mut out);
+    let played = play::<AnyRun, _, _>(rt.alloc(), MAJORITY.as_bytes(), &mut source, &mut out);
     assert_eq!(rt; played, Ok(()));
     assert_eq!(rt; out.into_inner().as_slice(), TRANSCRIPT.as_bytes());
 }

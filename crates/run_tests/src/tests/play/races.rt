@@ -4,7 +4,7 @@ ghost use Rattle.std.specs.Prelude.{◌≡◌, ◌≤◌, IfOk, vec_len};
 
 use super::plays::{SCRIPT, TRANSCRIPT, is_beginning};
 use super::{MAJORITY, Memory, writer};
-use cdb_any_run::RunOfSetup;
+use cdb_any_run::AnyRun;
 use cdb_play::{race_on, race_with};
 use cdb_rules::Runs;
 use cdb_setup::Setup;
@@ -36,7 +36,7 @@ fn race_of_one_script<R: Abort + Threads + Wait + Sync + AllocGlobal>(
     let scripts = scripts(rt.alloc(), script, 1).expect(rt, "scripts");
     let setup = Setup::read(rt.alloc(), MAJORITY.as_bytes()).expect(rt, "a setup");
     assert!(rt; fits(&setup, scripts.len()));
-    race_on::<RunOfSetup, _, _>(rt, rt.alloc(), setup, turns, &scripts, out)
+    race_on::<AnyRun, _, _>(rt, rt.alloc(), setup, turns, &scripts, out)
 }
 
 /// Runs a race that is written to a writer that fails after this many good calls of seven bytes.
@@ -149,7 +149,7 @@ fn do_cross<R: Threads + Wait + Sync + AllocGlobal>(
     if !fits(&parts, scripts.len()) || gates.len() != usize::from(parts.n()) + scripts.len() {
         return Err(Fail::from("it has no seats enough"));
     }
-    race_with::<RunOfSetup, _, _, _>(rt, alloc, setup, turns, scripts.as_slice(), gates, &mut out)?;
+    race_with::<AnyRun, _, _, _>(rt, alloc, setup, turns, scripts.as_slice(), gates, &mut out)?;
     Ok(out.held)
 }
 

@@ -1,7 +1,7 @@
 //! Sessions of two seats, how they end, and a race of a process and a script.
 
 use super::pair::{Before, OPEN, Pair, ends_with_seats, say, try_setup};
-use cdb_any_run::RunOfSetup;
+use cdb_any_run::AnyRun;
 use cdb_control::{Act, Command};
 use cdb_race::{RaceFault, Raced, Script, race};
 use cdb_setup::Setup;
@@ -30,7 +30,7 @@ pub fn ends_so<R: Wait + Abort + AllocGlobal>(
     let control = pair.finish(rt);
     assert_eq!(rt; control.journal().len(), entries);
     assert!(rt; ends_with_seats(control.journal(), seats));
-    assert_eq!(rt; control.run().any().history().len(), events);
+    assert_eq!(rt; control.run().history().len(), events);
     control.close();
 }
 
@@ -99,12 +99,12 @@ fn a_session_ends_where_the_journal_is_full(rt: HostRuntime) {
 }
 
 /// How many entries the journal of a race has, how many events stand, and how many replies there are to scripts.
-fn counts(raced: &Raced<RunOfSetup>) -> (usize, usize, usize) {
+fn counts(raced: &Raced<AnyRun>) -> (usize, usize, usize) {
     let mut replies = 0usize;
     for of_seat in raced.replies.as_slice() {
         replies = replies.saturating_add(of_seat.len());
     }
-    let events = raced.control.run().any().history().len();
+    let events = raced.control.run().history().len();
     (raced.control.journal().len(), events, replies)
 }
 
@@ -116,7 +116,7 @@ fn raced<R: Threads + Wait + Sync + Abort + AllocGlobal>(
     gates: Vec<Before>,
 ) -> Result<(usize, usize, usize), RaceFault> {
     assert!(rt; setup.n() == 1 && gates.len() == 2);
-    let raced = race::<RunOfSetup, _, _>(rt, rt.alloc(), setup, 8, &[script], gates)?;
+    let raced = race::<AnyRun, _, _>(rt, rt.alloc(), setup, 8, &[script], gates)?;
     let found = counts(&raced);
     raced.close();
     Ok(found)

@@ -1,29 +1,24 @@
 //! Calls that no command makes, each once where it succeeds.
 
 ghost use Rattle.std.specs.Prelude.{◌≤◌};
-ghost use Rattle.cdb_any_run.specs.Any.{IsTrueToSetup};
 
 use super::example::{after, read};
 use super::scripts::{RACE, TWELVE_STEPS};
 use super::setups::{ALPHA_PAIR, LOSSY};
 use cdb_agreement::{agreement, laws};
-use cdb_any_run::AnyRun;
+use cdb_any_run::{AnyRun, Runs};
 use cdb_base::{Act, CopyName, MsgName, Proc, Reg, StepId, StepName};
 use cdb_leader::{Back, Leader};
+use cdb_past::Chronicled;
 use std::process::Abort;
 
 /// Takes a step of process 1.
-fn step<R: Abort + AllocGlobal>(rt: &R, run: &mut AnyRun, act: Act)
-    requires { IsTrueToSetup run.old }
-    ensures { IsTrueToSetup run.new }
-{
+fn step<R: Abort + AllocGlobal>(rt: &R, run: &mut AnyRun, act: Act) {
     assert!(rt; matches!(run.step(rt.alloc(), 1, act), Ok(Ok(_))));
 }
 
 /// A run in which process 1 has asked and sent, and its copy for process 2 is lost.
-fn begun<R: Abort + AllocGlobal>(rt: &R) -> AnyRun
-    ensures { IsTrueToSetup result }
-{
+fn begun<R: Abort + AllocGlobal>(rt: &R) -> AnyRun {
     let setup = read(rt.alloc(), LOSSY).ok().expect(rt, "a setup");
     let mut run = AnyRun::start(rt.alloc(), setup).expect(rt, "a run");
     step(rt, &mut run, Act::Query(None));
@@ -33,10 +28,8 @@ fn begun<R: Abort + AllocGlobal>(rt: &R) -> AnyRun
 }
 
 /// Gives a run up.
-fn end(run: AnyRun)
-    requires { IsTrueToSetup run }
-{
-    run.into_parts();
+fn end(run: AnyRun) {
+    run.into_chronicle();
 }
 
 /// The copy of the first message of process 1 for a process from 1 to 9.

@@ -4,7 +4,7 @@
 ghost use Rattle.std.specs.Prelude.{◌≡◌, IsTrue};
 ghost use Rattle.cdb_rules.specs.Refusals.{IsOfRun};
 
-use cdb_any_run::RunOfSetup;
+use cdb_any_run::AnyRun;
 use cdb_base::{Event, Kind, MsgName, NoMemory, Proc, Refusal, Reg};
 use cdb_control::Command;
 use cdb_history::History;
@@ -45,36 +45,25 @@ pub fn read(alloc: Global, setup: &str) -> Result<Setup, SetupFault> {
 }
 
 /// The run of a setup in which nothing has happened, or none where an allocation failed.
-fn run_of(alloc: Global, setup: &str) -> Option<RunOfSetup> {
+fn run_of(alloc: Global, setup: &str) -> Option<AnyRun> {
     let setup = read(alloc, setup).ok()?;
-    RunOfSetup::start(alloc, setup).ok()
+    AnyRun::start(alloc, setup).ok()
 }
 
 /// The least copy that process `p` can still receive.
-fn next_copy(run: &RunOfSetup, p: u32) -> Option<MsgName> {
-    let run = run.any();
+fn next_copy(run: &AnyRun, p: u32) -> Option<MsgName> {
     run.pending(run.process(p)?, None)
 }
 
-/// How many writes of the register stand, where the run has it.
-fn writes(run: &RunOfSetup, register: Reg) -> Option<u32> {
-    let again = register;
-    let run = run.any();
-    if !run.has(again) {
-        return None;
-    }
-    Some(run.writes(register))
-}
-
 /// Whether process `p` and its register show the same in both runs.
-fn is_as_far(one: &RunOfSetup, other: &RunOfSetup, p: u32) -> bool {
+fn is_as_far(one: &AnyRun, other: &AnyRun, p: u32) -> bool {
     one.view(p) == other.view(p) && next_copy(one, p) == next_copy(other, p)
 }
 
 /// Whether the register shows the same in both runs.
-fn is_same_register(one: &RunOfSetup, other: &RunOfSetup, register: Reg) -> bool {
+fn is_same_register(one: &AnyRun, other: &AnyRun, register: Reg) -> bool {
     let (again, once_more, last) = (register, register, register);
-    one.cell(register) == other.cell(again) && writes(one, once_more) == writes(other, last)
+    one.cell(register) == other.cell(again) && one.writes(once_more) == other.writes(last)
 }
 
 /// Whether the same events stand in both, in the same order.
@@ -92,7 +81,7 @@ fn has_same_events(one: &History, other: &History) -> bool {
 
 /// The run of an example.
 pub struct Example {
-    run: RunOfSetup,
+    run: AnyRun,
 }
 
 impl Model for Example {
@@ -122,14 +111,14 @@ impl Example {
         match *command {
             Command::Step(p, act) => self.run.step(rt.alloc(), p, act),
             Command::Auto(p) => {
-                if self.run.any().process(p).is_none() {
+                if self.run.process(p).is_none() {
                     return Ok(Err(Refusal::NoProcess));
                 }
                 self.run.step_first(rt.alloc(), p)
             }
             Command::Lose(s, m, p) => self.run.lose(rt.alloc(), s, m, p),
-            Command::Undo(p, k) => Ok(self.run.undo(EventRef::Step(p, k))),
-            Command::UndoLost(s, m, p) => Ok(self.run.undo(EventRef::Lost(s, m, p))),
+            Command::Undo(p, k) => Ok(self.run.undo(p, k)),
+            Command::UndoLost(s, m, p) => Ok(self.run.undo_lost(s, m, p)),
             _ => panic!(rt; "a step, a loss or an undo"),
         }
     }
@@ -143,7 +132,7 @@ impl Example {
 
     /// Undoes an event.
     pub fn undo(&mut self, event: EventRef) -> Result<Event, Refusal> {
-        self.run.undo(event)
+        self.run.undo_event(event)
     }
 
     /// Takes an event again, which has to be one that a run of the setup can have.
@@ -163,24 +152,24 @@ impl Example {
         event: EventRef,
         undone: &mut Vec<Event>,
     ) -> Result<Result<u32, Refusal>, NoMemory> {
-        assert!(rt; self.run.any().history().len() <= 999_999);
-        self.run.rollback(rt.alloc(), event, undone)
+        assert!(rt; self.run.history().len() <= 999_999);
+        Runs::rollback(&mut self.run, rt.alloc(), event, undone)
     }
 
     /// The standing events.
     pub fn history(&self) -> &History {
-        self.run.any().history()
+        self.run.history()
     }
 
     /// How many writes of the register stand, where the run has it.
     pub fn writes(&self, register: Reg) -> Option<u32> {
-        writes(&self.run, register)
+        self.run.writes(register)
     }
 
     /// Whether two runs of one setup are in the same state.
     pub fn is_same<R: Abort>(&self, rt: &R, other: &Example) -> bool {
         assert!(rt; is_equal(self.run.setup(), other.run.setup()));
-        self.run.any().same_run(other.run.any())
+        self.run.same_run(&other.run)
     }
 
     /// Whether both show the same of all processes and registers, and of what has happened.

@@ -5,7 +5,7 @@ ghost use Rattle.cdb_base.specs.declared.refusal.Refusal.TheVariants.{NothingToR
 ghost use Rattle.cdb_commands.specs.ToldReply.{Undone, Redone, RolledBack, History, Decisions, Refused};
 ghost use Rattle.run_tests.specs.WorkedJournals.{replies, query, send, plain_step, needed_by, undone_and_redone, rolled_back_and_redone};
 
-use cdb_any_run::RunOfSetup;
+use cdb_any_run::AnyRun;
 use cdb_control::laws;
 use cdb_text::laws as lines;
 
@@ -28,10 +28,11 @@ fn worked_journals()
 fn laws_of_commands_and_lines() {
     laws::refused_changes_nothing();
     laws::other_lists_stay();
-    laws::numbers_rise();
+    laws::numbers_are_used_once();
+    laws::looks_leave_the_run();
     laws::own_command_adds_its_reply();
     laws::others_add_no_reply();
-    laws::headline::<RunOfSetup>();
+    laws::headline::<AnyRun>();
     worked_journals();
     lines::each_command_has_one_line();
 }

@@ -1,6 +1,6 @@
 //! A control whose calls are given the lines of scripts.
 
-use cdb_any_run::RunOfSetup;
+use cdb_any_run::AnyRun;
 use cdb_base::NoMemory;
 use cdb_control::{CallFault, Control, Reply};
 use cdb_setup::Setup;
@@ -17,7 +17,7 @@ fn setup_of(alloc: Global, setup: &str) -> Option<Setup> {
 /// A control with two seats. What its calls answer is seen when the tests run: their contracts say nothing of it, so
 /// that the proof of a test does not read what a control is.
 pub struct Session {
-    pub control: Control<RunOfSetup>,
+    pub control: Control<AnyRun>,
 }
 
 impl Model for Session {
@@ -97,16 +97,13 @@ impl Session {
 
     /// How many entries the journal has, and how many events stand.
     pub fn lengths(&self) -> (usize, usize) {
-        let history = self.control.run().any().history();
+        let history = self.control.run().history();
         (self.control.journal().len(), history.len())
     }
 
     /// Whether the same events stand in both, and both have the same journal.
     pub fn shows_same(&self, other: &Session) -> bool {
-        let (one, two) = (
-            self.control.run().any().history(),
-            other.control.run().any().history(),
-        );
+        let (one, two) = (self.control.run().history(), other.control.run().history());
         if one.len() != two.len() || self.control.journal() != other.control.journal() {
             return false;
         }

@@ -1,15 +1,22 @@
 use Rattle.std.proofs.Common.{◌≡◌, IfOk, IsOk, OnErr}
-use Rattle.cdb_any_run.proofs.Forwarding.{in_leader, in_alpha}
+use Rattle.cdb_rules.specs.Rules.{Rules}
+use Rattle.cdb_rules.specs.RunView.{RunView}
+use Rattle.cdb_any_run.proofs.Named.{in_leader, in_alpha}
 use Rattle.cdb_any_run.proofs.any.AnyRun.step.Goals as goal
+use Rattle.cdb_any_run.proofs.any.AnyRun.step.Goals.{in-Leader, in-Alpha}
 
-pub returns-in-Leader-clause-returns : goal.returns-in-Leader-clause-returns
-returns-in-Leader-clause-returns c = in_leader (λ rules history. IfOk c.step.result (λ returned. returned ≡ rules.step history c.args.p c.args.act)) c.requires c.in-Leader.is c.step.ensures.returns
+pub returns-clause-returns : goal.returns-clause-returns
+returns-clause-returns c =
+    let Holds = λ (rules : Rules) (run : RunView). IfOk c.match-self.result (λ r. r ≡ rules.step run.history c.args.p c.args.act) in
+    elim c.match-self.branch [
+      | in-Leader w ↦ in_leader Holds c.self.invariant c.self.view_is w.in-Leader.is (rw w.result-is w.step.ensures.returns)
+      | in-Alpha w ↦ in_alpha Holds c.self.invariant c.self.view_is w.in-Alpha.is (rw w.result-is w.step-in-Alpha.ensures.returns)
+    ]
 
-pub returns-in-Alpha-clause-returns : goal.returns-in-Alpha-clause-returns
-returns-in-Alpha-clause-returns c = in_alpha (λ rules history. IfOk c.step-in-Alpha.result (λ returned. returned ≡ rules.step history c.args.p c.args.act)) c.requires c.in-Alpha.is c.step-in-Alpha.ensures.returns
-
-pub returns-in-Leader-clause-memory : goal.returns-in-Leader-clause-memory
-returns-in-Leader-clause-memory c = in_leader (λ rules history. OnErr c.step.result (IsOk (rules.step history c.args.p c.args.act))) c.requires c.in-Leader.is c.step.ensures.memory
-
-pub returns-in-Alpha-clause-memory : goal.returns-in-Alpha-clause-memory
-returns-in-Alpha-clause-memory c = in_alpha (λ rules history. OnErr c.step-in-Alpha.result (IsOk (rules.step history c.args.p c.args.act))) c.requires c.in-Alpha.is c.step-in-Alpha.ensures.memory
+pub returns-clause-memory : goal.returns-clause-memory
+returns-clause-memory c =
+    let Holds = λ (rules : Rules) (run : RunView). OnErr c.match-self.result (IsOk (rules.step run.history c.args.p c.args.act)) in
+    elim c.match-self.branch [
+      | in-Leader w ↦ in_leader Holds c.self.invariant c.self.view_is w.in-Leader.is (rw w.result-is w.step.ensures.memory)
+      | in-Alpha w ↦ in_alpha Holds c.self.invariant c.self.view_is w.in-Alpha.is (rw w.result-is w.step-in-Alpha.ensures.memory)
+    ]

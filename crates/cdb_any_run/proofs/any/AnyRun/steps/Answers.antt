@@ -1,13 +1,6 @@
-use Rattle.std.proofs.Common.{◌≡◌, Some, option_map, refl}
-use Rattle.cdb_any_run.proofs.Forwarding.{in_leader, in_alpha, leader_shown, alpha_shown, as_shown}
+use Rattle.std.proofs.Common.{refl}
+use Rattle.cdb_any_run.proofs.Views.{of_view}
 use Rattle.cdb_any_run.proofs.any.AnyRun.steps.Goals as goal
 
-pub returns-in-Leader : goal.returns-in-Leader
-returns-in-Leader c =
-    in_leader (λ rules history. option_map (λ shown. shown.steps) (rules.process history c.args.p) ≡ Some c.steps.result) c.requires.true_to_setup c.in-Leader.is
-    (as_shown (λ process. process.progress.steps) leader_shown (λ shown. shown.steps) (λ steps. steps) (λ process. refl) _ _ _ c.steps.ensures refl)
-
-pub returns-in-Alpha : goal.returns-in-Alpha
-returns-in-Alpha c =
-    in_alpha (λ rules history. option_map (λ shown. shown.steps) (rules.process history c.args.p) ≡ Some c.steps-in-Alpha.result) c.requires.true_to_setup c.in-Alpha.is
-    (as_shown (λ process. process.progress.steps) alpha_shown (λ shown. shown.steps) (λ steps. steps) (λ process. refl) _ _ _ c.steps-in-Alpha.ensures refl)
+pub returns : goal.returns
+returns c = of_view c.args.self.now.setup c.args.p (λ it. it.steps) (λ view. view.steps) (λ it. refl) _ c.view_of.ensures

@@ -10,10 +10,10 @@ returns-then-known_propose c =
     c.all_propose.ensures
     ∙ ap (is_only_proposal c.args.round c.args.value) c.later.ensures
     ∙ ap (λ b. b && is_only_proposal c.args.round c.args.value (later c.args.self.now)) (sym c.if-known_propose.true ∙ c.known_propose.ensures)
-    ∙ only_parts c.args.round c.args.value c.args.self.now
+    ∙ only_parts _ _ _
 
 pub returns-else-known_propose : goal.returns-else-known_propose
 returns-else-known_propose c =
     c.if-known_propose.false
     ∙ ap (λ b. b && is_only_proposal c.args.round c.args.value (later c.args.self.now)) (sym c.if-known_propose.false ∙ c.known_propose.ensures)
-    ∙ only_parts c.args.round c.args.value c.args.self.now
+    ∙ only_parts _ _ _

@@ -1,5 +1,4 @@
 use Rattle.std.proofs.Common.{rules, ◌≡◌, length, sym, ◌∙◌}
-use Rattle.cdb_leader.specs.Inbox.{second_phase}
 use Rattle.cdb_leader.proofs.Known.{is_nil, count_all_kept}
 use Rattle.cdb_leader.proofs.inbox.Inbox.count_second_phase.Goals as goal
 
@@ -7,5 +6,4 @@ pub returns-then-is_empty : goal.returns-then-is_empty
 returns-then-is_empty c =
     let none : length c.later.result.now ≡ 0 = search rules in
     c.count.ensures
-    ∙ count_all_kept (second_phase c.args.round) c.second_phase_positions.result c.args.self.now c.second_phase_positions.ensures
-    (sym c.later.ensures ∙ is_nil c.later.result.now none)
+    ∙ count_all_kept _ _ _ c.second_phase_positions.ensures (sym c.later.ensures ∙ is_nil _ none)

@@ -8,4 +8,4 @@ returns c =
     let estimate : c.map.result ≡ option_map (λ own. own.estimate) c.find_agreed.result = search rules in
     estimate
     ∙ ap (option_map (λ own. own.estimate)) c.find_agreed.ensures
-    ∙ estimate_same c.args.quorum c.args.round c.first_phases-said.result c.args.self.now c.first_phases-said.ensures
+    ∙ estimate_same _ _ _ _ c.first_phases-said.ensures

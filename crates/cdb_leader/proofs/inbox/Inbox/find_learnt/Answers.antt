@@ -8,4 +8,4 @@ pub returns-then-is_empty : goal.returns-then-is_empty
 returns-then-is_empty c =
     let h : AreFirsts as_decision c.self.inside.index.decisions (known c.args.self.now) = rw (← c.self.view_is) c.self.invariant.decisions in
     let none : length c.later.result.now ≡ 0 = search rules in
-    no_decision c.self.inside.index.decisions c.args.self.now h (sym c.has_no_decision.ensures ∙ c.if-has_no_decision.true) (sym c.later.ensures ∙ is_nil c.later.result.now none)
+    no_decision _ _ h (sym c.has_no_decision.ensures ∙ c.if-has_no_decision.true) (sym c.later.ensures ∙ is_nil _ none)

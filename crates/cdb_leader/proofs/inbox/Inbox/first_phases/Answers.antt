@@ -5,6 +5,7 @@ use Rattle.cdb_leader.proofs.inbox.Inbox.first_phases.Goals as goal
 
 pub returns : goal.returns
 returns c = λ k d below.
-    said_is c.map.result (λ s. first_phase_from c.args.round s c.args.self.now) c.map.ensures.items.long
-    (λ j under. rw (← c.all.ensures) (maps_each _ _ (λ s. first_phase_from c.args.round s c.args.self.now) (λ x y q call. search rules) 9 c.all.result c.map.result c.map.ensures.items.each j under 0 None))
+    said_is _ (λ s. first_phase_from c.args.round s c.args.self.now) c.map.ensures.items.long
+    (λ j under. rw (← c.all.ensures) (maps_each _ _ (λ s. first_phase_from c.args.round s c.args.self.now)
+    (λ x y q call. search rules) 9 _ c.map.result c.map.ensures.items.each j under 0 None))
     k d (nine k below)

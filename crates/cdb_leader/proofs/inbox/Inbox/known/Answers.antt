@@ -6,4 +6,4 @@ use Rattle.cdb_leader.proofs.inbox.Inbox.known.Goals as goal
 pub returns : goal.returns
 returns c =
     let long : c.len.result ≡ length c.deref.result.now = c.len.ensures ∙ sym c.deref.ensures.len in
-    known_is c.deref.result.now c.len.result c.min.result long c.min.ensures ∙ ap known (c.deref.ensures.value ∙ c.self.view_is)
+    known_is _ _ _ long c.min.ensures ∙ ap known (c.deref.ensures.value ∙ c.self.view_is)

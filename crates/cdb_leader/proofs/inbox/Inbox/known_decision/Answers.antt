@@ -10,12 +10,12 @@ returns-in_err-message_at c =
     let h : AreFirsts as_decision c.self.inside.index.decisions (known c.args.self.now) = rw (← c.self.view_is) c.self.invariant.decisions in
     let none : c.from_residual.result ≡ None = search rules in
     none
-    ∙ read_none as_decision c.self.inside.index.decisions (known c.args.self.now) c.args.sender h c.decision.result c.decision.ensures c.known.result.now c.known.ensures
-    (option_copied c.message_at.result) c.message_at.ensures (ap option_copied c.in_err-message_at.was)
+    ∙ read_none _ _ _ _ h _ c.decision.ensures _ c.known.ensures
+    _ c.message_at.ensures (ap option_copied c.in_err-message_at.was)
 
 pub returns : goal.returns
 returns c =
     let h : AreFirsts as_decision c.self.inside.index.decisions (known c.args.self.now) = rw (← c.self.view_is) c.self.invariant.decisions in
     c.decision-2.ensures
-    ∙ read_some as_decision c.self.inside.index.decisions (known c.args.self.now) c.args.sender h c.decision.result c.decision.ensures c.known.result.now c.known.ensures
-    (option_copied c.message_at.result) c.message_at.ensures c.in_ok-message_at.field-0.now (ap option_copied c.in_ok-message_at.was)
+    ∙ read_some _ _ _ _ h _ c.decision.ensures _ c.known.ensures
+    _ c.message_at.ensures _ (ap option_copied c.in_ok-message_at.was)

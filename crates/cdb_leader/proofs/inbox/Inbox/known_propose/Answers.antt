@@ -10,9 +10,8 @@ returns-then-eq c =
     let row_is : IsRowOf c.args.round c.row-row.result c.known.result.now = rw c.known.ensures c.row-row.ensures in
     let found : vote_in c.args.round c.known.result.now ≡ Some c.in-Some.aux = sym (c.find_vote.ensures row_is) ∙ c.in-Some.is in
     let carried : carries c.args.value (Some c.in-Some.aux) ≡ true = search rules in
-    rw (← c.known.ensures)
-    (ap not c.has_other_vote.ensures
-    ∙ sym (only_alike c.args.round c.args.value c.row-row.result c.known.result.now row_is c.in-Some.aux found
+    rw (← c.known.ensures) (ap not c.has_other_vote.ensures
+    ∙ sym (only_alike c.args.round _ c.row-row.result c.known.result.now row_is _ found
     ∙ ap (λ b. b && not (is_some c.row-row.result.other_vote)) carried))
 
 pub returns-else-eq : goal.returns-else-eq
@@ -20,9 +19,8 @@ returns-else-eq c =
     let row_is : IsRowOf c.args.round c.row-row.result c.known.result.now = rw c.known.ensures c.row-row.ensures in
     let found : vote_in c.args.round c.known.result.now ≡ Some c.in-Some.aux = sym (c.find_vote.ensures row_is) ∙ c.in-Some.is in
     let carried : carries c.args.value (Some c.in-Some.aux) ≡ false = search rules in
-    rw (← c.known.ensures)
-    (c.if-eq.false
-    ∙ sym (only_alike c.args.round c.args.value c.row-row.result c.known.result.now row_is c.in-Some.aux found
+    rw (← c.known.ensures) (c.if-eq.false
+    ∙ sym (only_alike c.args.round _ c.row-row.result c.known.result.now row_is _ found
     ∙ ap (λ b. b && not (is_some c.row-row.result.other_vote)) carried))
 
 pub returns-in-None : goal.returns-in-None

@@ -6,4 +6,4 @@ use Rattle.cdb_leader.proofs.inbox.Inbox.later.Goals as goal
 pub returns : goal.returns
 returns c =
     let long : c.len.result ≡ length c.deref.result.now = c.len.ensures ∙ sym c.deref.ensures.len in
-    later_is c.deref.result.now c.len.result c.min.result long c.min.ensures ∙ ap later (c.deref.ensures.value ∙ c.self.view_is)
+    later_is _ _ _ long c.min.ensures ∙ ap later (c.deref.ensures.value ∙ c.self.view_is)

@@ -1,13 +1,14 @@
 use Rattle.std.proofs.Common.{rules, ◌≡◌, ap, ◌∙◌}
 use Rattle.std.specs.Option.{option_or}
-use Rattle.cdb_leader.specs.Inbox.{second_phase, second_phase_from}
+use Rattle.cdb_leader.specs.Inbox.{second_phase_from}
 use Rattle.cdb_leader.specs.Index.{later}
 use Rattle.cdb_leader.proofs.Known.{first_from_parts}
 use Rattle.cdb_leader.proofs.inbox.Inbox.second_phase_at.Goals as goal
 
 pub returns : goal.returns
 returns c = λ h.
-    let either : c.or_else.result ≡ option_or c.known_second_phase.result (second_phase_from c.args.round c.args.sender (later c.args.self.now)) = search rules in
+    let either : c.or_else.result ≡ option_or c.known_second_phase.result
+    (second_phase_from c.args.round c.args.sender (later c.args.self.now)) = search rules in
     either
     ∙ ap (λ said. option_or said (second_phase_from c.args.round c.args.sender (later c.args.self.now))) (c.known_second_phase.ensures h)
-    ∙ first_from_parts (second_phase c.args.round) c.args.self.now c.args.sender
+    ∙ first_from_parts _ _ _

@@ -5,9 +5,9 @@ use Rattle.cdb_leader.proofs.index.Index.forget.Goals as goal
 
 pub returns-then-messages-lt-KNOWN : goal.returns-then-messages-lt-KNOWN
 returns-then-messages-lt-KNOWN c = λ h.
-    subst (IsIndexOf c.forget_known.new.self) (sym (known_all c.args.messages.now c.if-messages-lt-KNOWN.true))
-    (c.forget_known.ensures (subst (IsIndexOf c.args.self.now) (known_short c.args.messages.now c.args.message.now c.if-messages-lt-KNOWN.true) h))
+    subst (IsIndexOf c.forget_known.new.self) (sym (known_all _ c.if-messages-lt-KNOWN.true))
+    (c.forget_known.ensures (subst (IsIndexOf c.args.self.now) (known_short _ _ c.if-messages-lt-KNOWN.true) h))
 
 pub returns-else-messages-lt-KNOWN : goal.returns-else-messages-lt-KNOWN
 returns-else-messages-lt-KNOWN c = λ h.
-    subst (IsIndexOf c.args.self.now) (known_long c.args.messages.now c.args.message.now c.if-messages-lt-KNOWN.false) h
+    subst (IsIndexOf c.args.self.now) (known_long _ _ c.if-messages-lt-KNOWN.false) h

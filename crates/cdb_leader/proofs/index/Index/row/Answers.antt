@@ -4,4 +4,4 @@ use Rattle.cdb_leader.proofs.index.Index.row.Goals as goal
 
 pub returns-in-None : goal.returns-in-None
 returns-in-None c = λ inbox h.
-    row_of_none c.args.round inbox _ (sym c.in-None.ensures.value) (h.rounds c.args.round) c.new.result c.new.ensures
+    row_of_none _ _ _ (sym c.in-None.ensures.value) (h.rounds c.args.round) _ c.new.ensures

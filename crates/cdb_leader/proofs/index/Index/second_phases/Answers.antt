@@ -4,4 +4,4 @@ use Rattle.cdb_leader.proofs.index.Index.second_phases.Goals as goal
 
 pub returns-in-None : goal.returns-in-None
 returns-in-None c = λ inbox h.
-    second_of_none c.args.round inbox _ (sym c.in-None.ensures.value) (h.rounds c.args.round) c.new.result c.new.ensures
+    second_of_none _ _ _ (sym c.in-None.ensures.value) (h.rounds c.args.round) _ c.new.ensures

@@ -6,9 +6,9 @@ use Rattle.cdb_leader.proofs.row.Row.find_vote.Goals as goal
 pub returns-in_err-message_at : goal.returns-in_err-message_at
 returns-in_err-message_at c = λ h.
     let none : c.from_residual.result ≡ None = search rules in
-    none ∙ vote_none c.args.round c.args.self.now c.args.messages.now h (option_copied c.message_at.result) c.message_at.ensures (ap option_copied c.in_err-message_at.was)
+    none ∙ vote_none _ _ _ h _ c.message_at.ensures (ap option_copied c.in_err-message_at.was)
 
 pub returns : goal.returns
 returns c = λ h.
     c.vote.ensures
-    ∙ vote_some c.args.round c.args.self.now c.args.messages.now h (option_copied c.message_at.result) c.message_at.ensures c.in_ok-message_at.field-0.now (ap option_copied c.in_ok-message_at.was)
+    ∙ vote_some _ _ _ h _ c.message_at.ensures _ (ap option_copied c.in_ok-message_at.was)

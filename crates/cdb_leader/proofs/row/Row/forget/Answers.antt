@@ -5,13 +5,10 @@ use Rattle.cdb_leader.proofs.row.Row.forget.Goals as goal
 
 pub returns-in-P1 : goal.returns-in-P1
 returns-in-P1 c = λ at h.
-    IsRowOf-forget_first c.args.round c.args.messages.now c.args.message.now _ c.args.self.now _
-    (first_of c.args.message.now.payload c.args.round c.in-P1.round c.in-P1.est c.in-P1.lead c.in-P1.is at)
+    IsRowOf-forget_first _ _ _ _ _ _ (first_of _ _ _ _ _ c.in-P1.is at)
     (ap (second_phase c.args.round) c.in-P1.is) h c.forget.ensures refl refl refl
 
 pub returns-in-P2 : goal.returns-in-P2
 returns-in-P2 c = λ at h.
-    IsRowOf-forget_vote c.args.round c.args.messages.now c.args.message.now c.in-P2.aux c.args.self.now c.forget_vote.new.self
-    (ap (first_phase c.args.round) c.in-P2.is)
-    (second_of c.args.message.now.payload c.args.round c.in-P2.round c.in-P2.aux c.in-P2.is at)
+    IsRowOf-forget_vote _ _ _ _ _ _ (ap (first_phase c.args.round) c.in-P2.is) (second_of _ _ _ _ c.in-P2.is at)
     h c.forget_vote.ensures.first_phases c.forget_vote.ensures.second_phases c.forget_vote.ensures.vote c.forget_vote.ensures.other_vote

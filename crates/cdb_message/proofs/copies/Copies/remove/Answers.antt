@@ -6,4 +6,5 @@ use Rattle.cdb_message.proofs.copies.Copies.remove.Goals as goal
 pub returns : goal.returns
 returns c =
     rw (← c.self.view_is, with_items_is c.self.inside.flags c.clear.new.flags (omega arith))
-    (key_removed copy_table-IsTable c.self.inside.flags.items c.clear.new.flags c.args.copy c.cell_of.ensures.named (rw (c.cell_of.ensures.value, c.deref_mut.ensures.value) at c.clear.ensures))
+    (key_removed copy_table-IsTable c.self.inside.flags.items c.clear.new.flags c.args.copy c.cell_of.ensures.named
+    (rw (c.cell_of.ensures.value, c.deref_mut.ensures.value) at c.clear.ensures))

@@ -19,5 +19,6 @@ invariant_of-self-2 c =
     let kept = c.self.invariant in
     let mail : MailState = record { sent = c.self.inside.sent.items; received = c.self.inside.received.items; lost = c.self.inside.lost } in
     let within = rw (← c.self.view_is) at c.requires.among in
-    let set_by = changed_at c.self.inside.received.items finite.empty c.index.result c.index.ensures.value within c.index_mut-names.ensures.value (λ s. finite.insert s c.args.name) c.in_ok-insert.ensures.ok in
+    let set_by = changed_at c.self.inside.received.items finite.empty c.index.result c.index.ensures.value within
+    c.index_mut-names.ensures.value (λ s. finite.insert s c.args.name) c.in_ok-insert.ensures.ok in
     (kept.0 ∙ sym (length-set _ _ _), kept.1, rw set_by (closed-add_receive c.self.inside.passed mail kept.2 c.args.p c.args.name))

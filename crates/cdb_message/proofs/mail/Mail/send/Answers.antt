@@ -26,4 +26,8 @@ returns-clause-name c =
 pub returns-clause-ok : goal.returns-clause-ok
 returns-clause-ok c =
     let within = rw (← c.self.view_is) at c.requires.among in
-    rw (← c.self.view_is, changed_at c.self.inside.sent.items [] c.index.result c.index.ensures.value within c.index_mut-outbox.ensures.value (λ l. l ++ c.args.payload ∷ []) c.in_ok-push.ensures.ok) refl
+    rw (
+      ← c.self.view_is,
+      changed_at c.self.inside.sent.items [] c.index.result c.index.ensures.value within
+          c.index_mut-outbox.ensures.value (λ l. l ++ c.args.payload ∷ []) c.in_ok-push.ensures.ok,
+    ) refl

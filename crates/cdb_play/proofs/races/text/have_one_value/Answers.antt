@@ -7,4 +7,5 @@ use Rattle.cdb_play.proofs.races.text.have_one_value.Goals as goal
 pub returns-in-Some : goal.returns-in-Some
 returns-in-Some c =
     let whole : c.args.decisions.now ≡ c.in-Some.first.now ∷ c.in-Some.others.now = c.in-Some.ensures.cases.0 in
-    all_from_yields_List (λ other. other.1 == c.in-Some.first.now.1) _ _ c.all.result c.all.ensures.ran (YieldsList-from_slice c.in-Some.others.now cc) (λ x b q k. search (rules, tests)) ∙ ap have_one_value (sym whole)
+    all_from_yields_List (λ other. other.1 == c.in-Some.first.now.1) _ _ _ c.all.ensures.ran (YieldsList-from_slice _ cc)
+    (λ x b q k. search (rules, tests)) ∙ ap have_one_value (sym whole)

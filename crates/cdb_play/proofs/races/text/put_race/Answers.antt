@@ -1,8 +1,6 @@
-use Rattle.std.proofs.Common.{◌≡◌, ◌∙◌, ◌+◌, ap, subst, refl}
+use Rattle.std.proofs.Common.{◌≡◌, ◌∙◌, ◌+◌, ap, refl}
 use Rattle.std.proofs.lemmas.Result.{err_from_is_err_and}
 use Rattle.cdb_race.specs.Races.{all_told}
-use Rattle.cdb_streams.specs.Buffers.{IsPut}
-use Rattle.cdb_streams.specs.Putting.{Puts}
 use Rattle.cdb_play.specs.Races.{seats_text, end_text, last_decisions}
 use Rattle.cdb_streams.proofs.Putting.{put_nothing, cut_short, put_last}
 use Rattle.cdb_play.proofs.races.text.put_race.Goals as goal
@@ -13,22 +11,16 @@ returns-in_err-put_seats g c =
     let control = c.args.control.now in
     let first : c.from.result ≡ control.setup.processes = c.from.ensures ∙ c.processes.ensures ∙ ap (λ s. s.processes) c.run-run.ensures.setup in
     rw (p.1, p.2)
-    (cut_short g.W.Sink.stream (Unit {0}) c.in_err-put_seats.field-0.0 _ _ _ _ _ _ _ (seats_text (control.setup.processes + 1) (all_told c.args.replies.now)) (end_text (last_decisions g.T.Runs.rules control)) _ (put_nothing g.W.Sink.stream _ _) refl (rw first at c.in_err-put_seats.ensures))
+    (cut_short g.W.Sink.stream (Unit {0}) c.in_err-put_seats.field-0.0 _ _ _ _ _ _ _
+    (seats_text (control.setup.processes + 1) (all_told c.args.replies.now)) (end_text (last_decisions g.T.Runs.rules control))
+    _ (put_nothing g.W.Sink.stream _ _) refl (rw first at c.in_err-put_seats.ensures))
 
 pub returns : goal.returns
 returns g c =
-    let stream = g.W.Sink.stream in
-    let out = c.args.out.now in
-    let held = c.args.buffer.now in
     let control = c.args.control.now in
     let run = g.T.Runs.run c.run-run.result.now in
-    let now = c.put_seats.new.out in
-    let middle = c.put_seats.new.buffer in
-    let new = c.put_end.new.out in
-    let left = c.put_end.new.buffer in
     let first : c.from.result ≡ control.setup.processes = c.from.ensures ∙ c.processes.ensures ∙ ap (λ s. s.processes) c.run-run.ensures.setup in
-    let seats = subst (λ n. IsPut stream out held now middle (seats_text (n + 1) (all_told c.args.replies.now))) first c.in_ok-put_seats.ensures in
     let decisions : c.in_ok-decisions.decisions.items ≡ last_decisions g.T.Runs.rules control =
-    c.in_ok-decisions.ensures ∙ ap (λ s. (g.T.Runs.rules s).decisions run.history) c.run-run.ensures.setup ∙ ap (λ events. (g.T.Runs.rules control.setup).decisions events) c.run-run.ensures.history in
-    let end = subst (λ pairs. Puts stream c.put_end.result now middle new left (end_text pairs)) decisions c.put_end.ensures in
-    put_last stream c.put_end.result out now new held middle left (seats_text (control.setup.processes + 1) (all_told c.args.replies.now)) (end_text (last_decisions g.T.Runs.rules control)) _ seats refl end
+    c.in_ok-decisions.ensures ∙ ap (λ s. (g.T.Runs.rules s).decisions run.history) c.run-run.ensures.setup
+    ∙ ap (λ events. (g.T.Runs.rules control.setup).decisions events) c.run-run.ensures.history in
+    put_last _ _ _ _ _ _ _ _ _ _ _ (rw first at c.in_ok-put_seats.ensures) refl (rw decisions at c.put_end.ensures)

@@ -1,16 +1,14 @@
-use Rattle.std.proofs.Common.{◌≡◌, List, subst, sym, take, drop, ◌+◌, arith}
+use Rattle.std.proofs.Common.{take, drop, ◌+◌, arith}
 use Rattle.std.proofs.lemmas.List.{take_all}
 use Rattle.std.proofs.lemmas.Result.{err_from_is_err_and}
 use Rattle.cdb_commands.specs.ToldReply.{told}
-use Rattle.cdb_commands.specs.declared.reply.Reply.{Reply}
 use Rattle.cdb_text.specs.Texts.{text_of}
-use Rattle.cdb_streams.specs.Buffers.{IsPut}
 use Rattle.cdb_streams.proofs.Putting.{put_nothing, put_more, cut_short}
 use Rattle.cdb_play.proofs.RaceGrowth.{texts, one_reply, parted_replies}
 use Rattle.cdb_play.proofs.races.text.put_replies.Goals as goal
 
 pub loop-reply-init : goal.loop-reply-init
-loop-reply-init g c = put_nothing g.W.Sink.stream _ _
+loop-reply-init g c = put_nothing _ _ _
 
 pub returns-in_err-put_reply : goal.returns-in_err-put_reply
 returns-in_err-put_reply g c =
@@ -19,20 +17,16 @@ returns-in_err-put_reply g c =
     let i = c.loop-reply.reply-index in
     let reply = c.reply-item.result in
     rw (p.1, p.2)
-    (cut_short g.W.Sink.stream (Unit {0}) c.in_err-put_reply.field-0.0 _ _ _ _ _ _ (texts (take i replies)) (text_of (told reply)) (texts (drop (i + 1) replies)) (texts replies) c.loop-reply.invariant (parted_replies replies i reply c.reply-item.is c.loop-reply-test.true) c.in_err-put_reply.ensures)
+    (cut_short g.W.Sink.stream (Unit {0}) c.in_err-put_reply.field-0.0 _ _ _ _ _ _ (texts (take i replies)) (text_of (told reply))
+    (texts (drop (i + 1) replies)) (texts replies) c.loop-reply.invariant
+    (parted_replies replies i reply c.reply-item.is c.loop-reply-test.true) c.in_err-put_reply.ensures)
 
 pub loop-reply-preserved : goal.loop-reply-preserved
 loop-reply-preserved g c =
-    let replies = c.args.replies.now in
-    let i = c.loop-reply.reply-index in
-    let reply = c.reply-item.result in
-    subst (IsPut g.W.Sink.stream c.args.out.now c.args.buffer.now c.put_reply.new.out c.put_reply.new.buffer) (sym (one_reply replies i reply c.reply-item.is c.loop-reply-test.true))
-    (put_more g.W.Sink.stream _ _ _ _ _ _ (texts (take i replies)) (text_of (told reply)) c.loop-reply.invariant c.in_ok-put_reply.ensures)
+    rw (one_reply _ _ _ c.reply-item.is c.loop-reply-test.true)
+    (put_more _ _ _ _ _ _ _ _ _ c.loop-reply.invariant c.in_ok-put_reply.ensures)
 
 pub returns : goal.returns
 returns g c =
-    let replies = c.args.replies.now in
-    let i = c.loop-reply.reply-index in
-    let last = c.loop-reply-test.false in
-    let whole : take i replies ≡ replies = take_all i replies (search (last, arith)) in
-    subst (λ (done : List Reply). IsPut g.W.Sink.stream c.args.out.now c.args.buffer.now c.loop-reply.out c.loop-reply.buffer (texts done)) whole c.loop-reply.invariant
+    let whole = take_all c.loop-reply.reply-index c.args.replies.now (search (c.loop-reply-test.false, arith)) in
+    rw whole at c.loop-reply.invariant

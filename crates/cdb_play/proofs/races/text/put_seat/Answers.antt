@@ -9,7 +9,8 @@ pub returns-in_err-put_line : goal.returns-in_err-put_line
 returns-in_err-put_line g c =
     let p = err_from_is_err_and c.from_residual.result c.from_residual.ensures.1 in
     rw (p.1, p.2)
-    (cut_short g.W.Sink.stream (Unit {0}) c.in_err-put_line.field-0.0 _ _ _ _ _ _ _ (seat_heading c.args.seat) (texts c.args.replies.now) _ (put_nothing g.W.Sink.stream _ _) refl c.in_err-put_line.ensures)
+    (cut_short g.W.Sink.stream (Unit {0}) c.in_err-put_line.field-0.0 _ _ _ _ _ _ _ (seat_heading c.args.seat)
+    (texts c.args.replies.now) _ (put_nothing g.W.Sink.stream _ _) refl c.in_err-put_line.ensures)
 
 pub returns : goal.returns
-returns g c = put_last g.W.Sink.stream c.put_replies.result _ _ _ _ _ _ (seat_heading c.args.seat) (texts c.args.replies.now) _ c.in_ok-put_line.ensures refl c.put_replies.ensures
+returns g c = put_last _ _ _ _ _ _ _ _ _ _ _ c.in_ok-put_line.ensures refl c.put_replies.ensures

@@ -8,22 +8,25 @@ use Rattle.cdb_shared.proofs.Calls.{rests_of, met_pass, met_known, met_one, met_
 use Rattle.cdb_shared.proofs.shared.Shared.meet.Goals as goal
 
 pub absorb-requires-clause-rule : goal.absorb-requires-clause-rule
-absorb-requires-clause-rule g c = merges _ _ _ _ (rests_of _ (view c.b.inside.pass) _ _ c.b.view_is c.requires.b.1) (rests_of _ (view c.a.inside.pass) _ _ c.a.view_is c.requires.a.1)
+absorb-requires-clause-rule g c =
+    merges (rests_of _ (view c.b.inside.pass) _ c.b.view_is c.requires.b.1) (rests_of _ (view c.a.inside.pass) _ c.a.view_is c.requires.a.1)
 
 pub another-alone-requires-clause-rule : goal.another-alone-requires-clause-rule
 another-alone-requires-clause-rule g c = forks _ _ (ap (λ (v : Knowledge). v.stage) c.give.ensures.given)
 
 pub invariant_of-result-3 : goal.invariant_of-result-3
 invariant_of-result-3 g c =
-    let after = met_pass (view c.a.inside.pass) (view c.b.inside.pass) _ _ _ c.take-control.result c.a.inside.one c.b.inside.one c.absorb.ensures.rule c.take-control.ensures.taken c.give.ensures.given in
-    (met_one _ _ (c.another-alone.ensures.rule.0 ∙ ap without_first after), tt)
+    let after = met_pass (view c.a.inside.pass) (view c.b.inside.pass) _ c.take-control.result c.a.inside.one c.b.inside.one
+    c.absorb.ensures.rule c.take-control.ensures.taken c.give.ensures.given in
+    (met_one _ (c.another-alone.ensures.rule.0 ∙ ap without_first after), tt)
 
 pub invariant_of-result-4 : goal.invariant_of-result-4
 invariant_of-result-4 g c =
-    let after = met_pass (view c.a.inside.pass) (view c.b.inside.pass) _ _ _ c.take-control.result c.a.inside.one c.b.inside.one c.absorb.ensures.rule c.take-control.ensures.taken c.give.ensures.given in
+    let after = met_pass (view c.a.inside.pass) (view c.b.inside.pass) _ c.take-control.result c.a.inside.one c.b.inside.one
+    c.absorb.ensures.rule c.take-control.ensures.taken c.give.ensures.given in
     let cut = c.another-alone.ensures in (
       cut.queue.0.2 ∙ c.give.ensures.queue.2 ∙ c.take-control.ensures.queue.2 ∙ c.absorb.ensures.queue.2 ∙ c.b.invariant.0,
-      met_numbered _ (story c.take-control.result) _ _ _ c.b.invariant.1 (cut.rule.0 ∙ ap without_first after),
+      met_numbered (story c.take-control.result) _ c.b.invariant.1 (cut.rule.0 ∙ ap without_first after),
     )
 
 pub returns-clause-a : goal.returns-clause-a
@@ -33,10 +36,10 @@ returns-clause-a g c =
     let control = c.take-control.result in
     let taken = c.take-control.ensures.taken in
     let cut = c.another-alone.ensures in
-    let after = met_pass u v _ _ _ control c.a.inside.one c.b.inside.one c.absorb.ensures.rule taken c.give.ensures.given in
-    let known = met_known u v _ _ control c.a.inside.one c.b.inside.one c.absorb.ensures.rule taken in
+    let after = met_pass u v _ control _ c.b.inside.one c.absorb.ensures.rule taken c.give.ensures.given in
+    let known = met_known u v _ control _ c.b.inside.one c.absorb.ensures.rule taken in
     let home = cut.queue.1.0 ∙ c.self.view_is ∙ sym c.requires.a.0 ∙ sym (ap (λ (s : SeatView). s.home) c.a.view_is) in
-    met_later _ _ u _ control _ c.a.inside.one _ c.a.view_is home known.0 (cut.rule.1 ∙ ap first_alone after)
+    met_later u control _ _ c.a.view_is home known.0 (cut.rule.1 ∙ ap first_alone after)
 
 pub returns-clause-b : goal.returns-clause-b
 returns-clause-b g c =
@@ -45,9 +48,10 @@ returns-clause-b g c =
     let control = c.take-control.result in
     let taken = c.take-control.ensures.taken in
     let cut = c.another-alone.ensures in
-    let after = met_pass u v _ _ _ control c.a.inside.one c.b.inside.one c.absorb.ensures.rule taken c.give.ensures.given in
-    let known = met_known u v _ _ control c.a.inside.one c.b.inside.one c.absorb.ensures.rule taken in
-    met_later _ _ v _ control _ c.b.inside.one _ c.b.view_is (cut.queue.0.0 ∙ c.give.ensures.queue.0 ∙ c.take-control.ensures.queue.0 ∙ c.absorb.ensures.queue.0) known.1 (cut.rule.0 ∙ ap without_first after)
+    let after = met_pass u v _ control c.a.inside.one _ c.absorb.ensures.rule taken c.give.ensures.given in
+    let known = met_known u v _ control c.a.inside.one _ c.absorb.ensures.rule taken in
+    met_later v control _ _ c.b.view_is (cut.queue.0.0 ∙ c.give.ensures.queue.0 ∙ c.take-control.ensures.queue.0
+    ∙ c.absorb.ensures.queue.0) known.1 (cut.rule.0 ∙ ap without_first after)
 
 pub returns-clause-met : goal.returns-clause-met
 returns-clause-met g c =
@@ -56,6 +60,6 @@ returns-clause-met g c =
     let control = c.take-control.result in
     let taken = c.take-control.ensures.taken in
     let cut = c.another-alone.ensures in
-    let after = met_pass u v _ _ _ control c.a.inside.one c.b.inside.one c.absorb.ensures.rule taken c.give.ensures.given in
-    let known = met_known u v _ _ control c.a.inside.one c.b.inside.one c.absorb.ensures.rule taken in
-    met_begins _ u v _ _ control _ c.a.inside.one c.b.inside.one _ _ c.a.view_is known.0 (cut.rule.1 ∙ ap first_alone after) (cut.rule.0 ∙ ap without_first after)
+    let after = met_pass u v _ control _ c.b.inside.one c.absorb.ensures.rule taken c.give.ensures.given in
+    let known = met_known u v _ control _ c.b.inside.one c.absorb.ensures.rule taken in
+    met_begins _ u v control _ _ _ _ c.a.view_is known.0 (cut.rule.1 ∙ ap first_alone after) (cut.rule.0 ∙ ap without_first after)

@@ -1,6 +1,5 @@
 use Rattle.std.proofs.Common.{refl, ◌∙◌}
 use Rattle.crossbeam_queue.specs.Passes.{view}
-use Rattle.cdb_shared.specs.Turn.{story}
 use Rattle.cdb_shared.proofs.Calls.{knows_one, still_one, same_calls, later}
 use Rattle.cdb_shared.proofs.shared.Shared.no_room.Goals as goal
 
@@ -12,9 +11,8 @@ pub returns-clause-seat : goal.returns-clause-seat
 returns-clause-seat g c =
     let v = view c.seat.inside.pass in
     let control = c.take-held.result in
-    let one = c.seat.inside.one in
     let taken = c.take-held.ensures.taken in
-    let known = knows_one v (story control) one taken.1 in (
-      later _ _ v _ _ control control _ one _ c.seat.view_is (c.give.ensures.queue.0 ∙ c.take-held.ensures.queue.0) taken c.give.ensures.given known.begins,
-      same_calls _ v _ _ control control _ one _ c.seat.view_is taken c.give.ensures.given refl,
+    let known = knows_one v _ _ taken.1 in (
+      later v _ _ control control _ _ c.seat.view_is (c.give.ensures.queue.0 ∙ c.take-held.ensures.queue.0) taken c.give.ensures.given known.begins,
+      same_calls _ v _ _ control _ _ _ _ c.seat.view_is taken c.give.ensures.given refl,
     )

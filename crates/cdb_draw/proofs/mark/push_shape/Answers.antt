@@ -1,8 +1,0 @@
-use Rattle.std.proofs.Common.{append_assoc}
-use Rattle.std.proofs.lemmas.Result.{IfOk-equal}
-use Rattle.cdb_draw.specs.EventMarks.{shape_text}
-use Rattle.cdb_draw.proofs.mark.push_shape.Goals as goal
-
-pub returns : goal.returns
-unfolding shape_text
-returns c = IfOk-equal c.push-3.result _ _ _ c.push-3.ensures (simp (c.in_ok-push-2.ensures, c.in_ok-push.ensures, append_assoc))

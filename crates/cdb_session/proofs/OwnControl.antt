@@ -1,0 +1,42 @@
+-- What one call adds to the journal of a control of one's own.
+use Rattle.std.proofs.Common.{◌≡◌, ◌↔◌, ℕ, ◌≤◌, List, [], ◌∷◌, ◌++◌, length, refl, sym, ap, subst, ◌∙◌}
+use Rattle.std.specs.Prelude.{Result, Ok, Err, IfOk, OnErr}
+use Rattle.cdb_base.specs.Limits.{MAX_ENTRIES}
+use Rattle.cdb_commands.specs.ToldReply.{ToldReply, told}
+use Rattle.cdb_commands.specs.declared.command.Command.{Command}
+use Rattle.cdb_commands.specs.declared.reply.Reply.{Reply}
+use Rattle.cdb_control.specs.Commands.{reply_of, obey}
+use Rattle.cdb_control.specs.Journal.{Journaled, entry, extended, reply_in, replay_from, replay}
+use Rattle.cdb_control.specs.State.{State, first_control_state}
+use Rattle.cdb_control.specs.declared.control.CallFault.{CallFault}
+use Rattle.cdb_control.specs.declared.control.CallFault.TheVariants.{JournalFull, NoMemory}
+use Rattle.cdb_control.specs.declared.control.Entry.{Entry}
+use Rattle.cdb_rules.specs.Rules.{Rules}
+use Rattle.cdb_setup.specs.Parts.{Parts}
+use Rattle.cdb_session.specs.Alone.{all_replies_from, whole_part, IsLaterControl}
+use Rattle.cdb_session.specs.Styles.{Onward, stays, goes, IsCalled, MakesNone, Calls}
+
+all_replies-push : (rules : Rules) (t : State) (es : List Entry) (e : Entry) → all_replies_from rules t (es ++ e ∷ []) ≡ all_replies_from rules t es ++ reply_of rules (replay_from rules t es) e.seat e.command ∷ []
+all_replies-push rules t [] e = refl
+all_replies-push rules t (first ∷ es) e = ap (λ (more : List ToldReply). reply_of rules t first.seat first.command ∷ more) (all_replies-push rules (obey rules t first.seat first.command) es e)
+
+none_made : (rules : Parts → Rules) (old new : Journaled) → new ≡ old → MakesNone (whole_part rules old) (whole_part rules new)
+none_made rules old new same = subst (λ (c : Journaled). MakesNone (whole_part rules old) (whole_part rules c)) (sym same) (record { calls = refl; replies = refl; full = λ full. full })
+
+pub calls_made : (rules : Parts → Rules) (old new : Journaled) (seat : ℕ) (command : Command) (r : Result Reply CallFault) → IfOk r (λ reply. told reply ≡ reply_in rules old seat command) → IfOk r (λ reply. new ≡ extended rules old seat command) → OnErr r (new ≡ old)
+    → ((r ≡ Err JournalFull) ↔ (length old.journal ≡ MAX_ENTRIES)) → Calls (whole_part rules old) (entry seat command) r (whole_part rules new)
+unfolding replay
+calls_made rules old new seat command (Ok reply) is made same full =
+    let more = extended rules old seat command in
+    let one : IsCalled (whole_part rules old) (entry seat command) (told reply) (whole_part rules more) = record {
+      calls = refl;
+      replies = all_replies-push (rules old.setup) (first_control_state old.setup old.seats) old.journal (entry seat command) ∙ ap (λ (last : ToldReply). all_replies_from (rules old.setup) (first_control_state old.setup old.seats) old.journal ++ last ∷ []) (sym is);
+      room = λ none. (let e : Ok reply ≡ Err JournalFull = full.1 none in cc);
+    } in
+    subst (λ (c : Journaled). IsCalled (whole_part rules old) (entry seat command) (told reply) (whole_part rules c)) (sym made) one
+calls_made rules old new seat command (Err JournalFull) is made same full = (none_made rules old new same, ap (λ (c : Journaled). length c.journal) same ∙ full.0 refl)
+calls_made rules old new seat command (Err (NoMemory refused)) is made same full = none_made rules old new same
+
+pub later_control : (first now : Journaled) → length first.journal ≤ MAX_ENTRIES → Onward IsLaterControl first now → IsLaterControl first now
+later_control first _ few stays = (refl, refl, few)
+later_control first now few (goes middle _ before later) = let b = later_control first middle few before in (later.0 ∙ b.0, later.1 ∙ b.1, later.2)

@@ -1,0 +1,99 @@
+use Rattle.std.proofs.Common.{◌≡◌, take, ◌+◌, ◌∷◌, ◌++◌, [], List, ℕ, sym, ap, ◌∙◌, append-nil, arith, length, length-append}
+use Rattle.std.proofs.lemmas.List.{length-take}
+use Rattle.std.proofs.lemmas.Result.{err_from_is_err_and}
+use Rattle.cdb_setup.specs.Format.{longest}
+use Rattle.cdb_session.specs.Lines.{seen_by}
+use Rattle.cdb_session.specs.Styles.{stays}
+use Rattle.cdb_session.proofs.CallChain.{Onward-trans}
+use Rattle.cdb_session.proofs.FedBytes.{starts, no_memory, holds, responds, quits, fails}
+use Rattle.cdb_session.proofs.feed.feed.Goals as goal
+
+pub loop-line-init : goal.loop-line-init
+loop-line-init g c = record {
+  few = c.requires.unfinished;
+  lines = omega arith;
+  sits = c.requires.sits;
+  later = stays;
+  goes = starts c.args.style.now _ _ _ _;
+}
+
+pub returns-in_err-hold-clause-feeds : goal.returns-in_err-hold-clause-feeds
+returns-in_err-hold-clause-feeds g c =
+    let p = err_from_is_err_and c.from_residual.result c.from_residual.ensures.1 in
+    rw (p.1, p.2) (no_memory c.args.style.now (g.T.Console.known c.args.console.now) (seen_by g.C.Caller.part c.args.session.now) c.args.unfinished.now.items c.args.bytes.now _ (seen_by g.C.Caller.part c.loop-line.session) c.loop-line.unfinished.items c.loop-line.rest.now c.loop-line.invariant.goes c.hold.new.unfinished.items)
+
+pub returns-in_err-respond_to_line-clause-feeds : goal.returns-in_err-respond_to_line-clause-feeds
+returns-in_err-respond_to_line-clause-feeds g c =
+    let p = err_from_is_err_and c.from_residual-in_err-respond_to_line.result c.from_residual-in_err-respond_to_line.ensures.1 in
+    let before = g.T.Console.known c.args.console.now in
+    let now = g.T.Console.known c.loop-line.console in
+    let goes = holds c.args.style.now before (seen_by g.C.Caller.part c.args.session.now) c.args.unfinished.now.items c.args.bytes.now now (seen_by g.C.Caller.part c.loop-line.session) c.loop-line.unfinished.items c.loop-line.rest.now c.loop-line.invariant.goes c.in-Some.line.now (10 ∷ c.in-Some.behind.now) c.hold.new.unfinished.items c.in-Some.ensures.some.1 c.in-Some.ensures.some.0 c.in_ok-hold.ensures in
+    rw (p.1, p.2) (fails c.args.style.now before (seen_by g.C.Caller.part c.args.session.now) c.args.unfinished.now.items c.args.bytes.now now (seen_by g.C.Caller.part c.loop-line.session) c.hold.new.unfinished.items c.in-Some.behind.now goes (g.T.Console.known c.respond_to_line.new.console) (seen_by g.C.Caller.part c.respond_to_line.new.session) c.respond_to_line.new.unfinished.items c.in_err-respond_to_line.field-0.0 c.in_err-respond_to_line.ensures.unfinished)
+
+pub returns-in_err-respond_to_line-clause-later : goal.returns-in_err-respond_to_line-clause-later
+returns-in_err-respond_to_line-clause-later g c = Onward-trans g.C.Caller.later _ _ _ c.loop-line.invariant.later c.respond_to_line.ensures.later
+
+pub returns-then-branch-clause-feeds : goal.returns-then-branch-clause-feeds
+returns-then-branch-clause-feeds g c =
+    let before = g.T.Console.known c.args.console.now in
+    let now = g.T.Console.known c.loop-line.console in
+    let goes = holds c.args.style.now before (seen_by g.C.Caller.part c.args.session.now) c.args.unfinished.now.items c.args.bytes.now now (seen_by g.C.Caller.part c.loop-line.session) c.loop-line.unfinished.items c.loop-line.rest.now c.loop-line.invariant.goes c.in-Some.line.now (10 ∷ c.in-Some.behind.now) c.hold.new.unfinished.items c.in-Some.ensures.some.1 c.in-Some.ensures.some.0 c.in_ok-hold.ensures in
+    quits c.args.style.now before (seen_by g.C.Caller.part c.args.session.now) c.args.unfinished.now.items c.args.bytes.now now (seen_by g.C.Caller.part c.loop-line.session) c.hold.new.unfinished.items c.in-Some.behind.now goes (g.T.Console.known c.respond_to_line.new.console) (seen_by g.C.Caller.part c.respond_to_line.new.session) c.respond_to_line.new.unfinished.items c.in_ok-respond_to_line.field-0 c.in_ok-respond_to_line.ensures.unfinished c.if-branch.true
+
+pub returns-then-branch-clause-later : goal.returns-then-branch-clause-later
+returns-then-branch-clause-later g c = Onward-trans g.C.Caller.later _ _ _ c.loop-line.invariant.later c.respond_to_line.ensures.later
+
+pub loop-line-preserved : goal.loop-line-preserved
+loop-line-preserved g c =
+    let before = g.T.Console.known c.args.console.now in
+    let now = g.T.Console.known c.loop-line.console in
+    let goes = holds c.args.style.now before (seen_by g.C.Caller.part c.args.session.now) c.args.unfinished.now.items c.args.bytes.now now (seen_by g.C.Caller.part c.loop-line.session) c.loop-line.unfinished.items c.loop-line.rest.now c.loop-line.invariant.goes c.in-Some.line.now (10 ∷ c.in-Some.behind.now) c.hold.new.unfinished.items c.in-Some.ensures.some.1 c.in-Some.ensures.some.0 c.in_ok-hold.ensures in
+    let done = c.in_ok-respond_to_line.ensures.unfinished.2 in
+    let cut = ap length c.in-Some.ensures.some.1 in
+    let parts = length-append c.in-Some.line.now (10 ∷ c.in-Some.behind.now) in
+    record {
+      few = omega (arith, ap length done.emptied);
+      lines = omega (arith, c.loop-line.invariant.lines, done.lines, cut, parts);
+      sits = c.respond_to_line.ensures.sits;
+      later = Onward-trans g.C.Caller.later _ _ _ c.loop-line.invariant.later c.respond_to_line.ensures.later;
+      goes = responds c.args.style.now before (seen_by g.C.Caller.part c.args.session.now) c.args.unfinished.now.items c.args.bytes.now now (seen_by g.C.Caller.part c.loop-line.session) c.hold.new.unfinished.items c.in-Some.behind.now goes (g.T.Console.known c.respond_to_line.new.console) (seen_by g.C.Caller.part c.respond_to_line.new.session) c.respond_to_line.new.unfinished.items c.in_ok-respond_to_line.field-0 c.in_ok-respond_to_line.ensures.unfinished c.if-branch.false;
+    }
+
+pub returns-in_err-hold-2-clause-feeds : goal.returns-in_err-hold-2-clause-feeds
+returns-in_err-hold-2-clause-feeds g c =
+    let p = err_from_is_err_and c.from_residual-in_err-hold-2.result c.from_residual-in_err-hold-2.ensures.1 in
+    rw (p.1, p.2) (no_memory c.args.style.now (g.T.Console.known c.args.console.now) (seen_by g.C.Caller.part c.args.session.now) c.args.unfinished.now.items c.args.bytes.now _ (seen_by g.C.Caller.part c.loop-line.session) c.loop-line.unfinished.items c.loop-line.rest.now c.loop-line.invariant.goes c.hold-2.new.unfinished.items)
+
+pub returns-clause-feeds : goal.returns-clause-feeds
+returns-clause-feeds g c =
+    let before = g.T.Console.known c.args.console.now in
+    let now = g.T.Console.known c.loop-line.console in
+    holds c.args.style.now before (seen_by g.C.Caller.part c.args.session.now) c.args.unfinished.now.items c.args.bytes.now now (seen_by g.C.Caller.part c.loop-line.session) c.loop-line.unfinished.items c.loop-line.rest.now c.loop-line.invariant.goes c.loop-line.rest.now [] c.hold-2.new.unfinished.items (sym (append-nil c.loop-line.rest.now)) c.in_default.ensures.none c.in_ok-hold-2.ensures
+
+pub returns-clause-unfinished : goal.returns-clause-unfinished
+returns-clause-unfinished g c =
+    let more : List ℕ = c.loop-line.unfinished.items ++ c.loop-line.rest.now in
+    let held : c.hold-2.new.unfinished.items ≡ take (longest + 1) more = c.in_ok-hold-2.ensures in
+    omega (arith, ap length held, length-take (longest + 1) more)
+
+pub returns-then-branch-clause-lines : goal.returns-then-branch-clause-lines
+returns-then-branch-clause-lines g c =
+    let one_line = c.in_ok-respond_to_line.ensures.unfinished.2.lines in
+    let cut = ap length c.in-Some.ensures.some.1 in
+    let parts = length-append c.in-Some.line.now (10 ∷ c.in-Some.behind.now) in
+    omega (arith, c.loop-line.invariant.lines, one_line, cut, parts)
+
+pub respond_to_line-requires-clause-lines : goal.respond_to_line-requires-clause-lines
+respond_to_line-requires-clause-lines g c =
+    let cut = ap length c.in-Some.ensures.some.1 in
+    let parts = length-append c.in-Some.line.now (10 ∷ c.in-Some.behind.now) in
+    omega (arith, c.requires.lines, c.loop-line.invariant.lines, cut, parts)
+
+pub loop-line-smaller : goal.loop-line-smaller
+loop-line-smaller g c =
+    let cut = ap length c.in-Some.ensures.some.1 in
+    let parts = length-append c.in-Some.line.now (10 ∷ c.in-Some.behind.now) in
+    omega (arith, cut, parts)
+
+pub returns-clause-lines : goal.returns-clause-lines
+returns-clause-lines g c = omega (arith, c.loop-line.invariant.lines)

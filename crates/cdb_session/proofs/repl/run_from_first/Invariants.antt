@@ -1,0 +1,19 @@
+use Rattle.std.proofs.Common.{◌+◌, ◌-◌, ◌≤◌, length}
+use Rattle.cdb_setup.specs.Format.{longest}
+use Rattle.cdb_session.specs.Lines.{seen_by}
+use Rattle.cdb_session.specs.Styles.{MaySit, Onward}
+use Rattle.cdb_session.proofs.WholeSession.{Arrives}
+use Rattle.cdb_session.proofs.repl.run_from_first.Given as goal
+
+abbrev pub invariant-loop-read : goal.invariant-loop-read
+invariant-loop-read g l = record {
+  few : length l.unfinished.items ≤ longest + 1;
+  bound : l.read ≤ 9223372036854779904;
+  lines : l.session.lines ≤ l.read;
+  sits : MaySit l.style (g.C.Caller.seats l.session.caller) l.session.seat;
+  later : Onward g.C.Caller.later l.fn.session.caller l.session.caller;
+  arrives : Arrives l.style (g.T.Console.known l.fn.console) (g.T.Console.known l.console) (seen_by g.C.Caller.part l.session) l.unfinished.items l.read;
+}
+
+abbrev pub decreases-loop-read : goal.decreases-loop-read
+decreases-loop-read g l = 9223372036854775808 - l.read

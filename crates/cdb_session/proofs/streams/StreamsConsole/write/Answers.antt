@@ -1,0 +1,13 @@
+use Rattle.std.proofs.Common.{rules}
+use Rattle.cdb_session.proofs.InputEnd.{write_is_no_end}
+use Rattle.cdb_session.proofs.streams.StreamsConsole.write.Goals as goal
+
+pub returns-clause-moves : goal.returns-clause-moves
+returns-clause-moves g c = record {
+  moves = tt;
+  left = search rules;
+  all = write_is_no_end _ _ c.write.result c.args.piece.now;
+  held = search rules;
+  failed_reads = search rules;
+  failed_writes = search rules;
+}

@@ -1,0 +1,14 @@
+-- The journal of a session.
+use Rattle.std.specs.Prelude.{◌≡◌, true, List, take}
+use Rattle.cdb_base.specs.Limits.{MAX_ENTRIES}
+use Rattle.cdb_rules.specs.Rules.{Rules}
+use Rattle.cdb_setup.specs.Parts.{Parts}
+use Rattle.cdb_session.specs.Parts.{all_asked}
+use Rattle.cdb_session.specs.Table.{begun, session_after}
+use Rattle.cdb_session.specs.declared.request.Request.{Request}
+
+-- the journal has the commands, in order and each once, as many as it has room for
+abbrev pub JournalHasTheCommands : Type 0
+JournalHasTheCommands =
+    (rules : Parts → Rules) (setup : Parts) (requests : List Request)
+    → (session_after (begun rules setup) requests).control.journal ≡ take MAX_ENTRIES (all_asked true 1 requests)

@@ -1,0 +1,16 @@
+-- ---- what the public contracts name
+pub mod Moves
+pub mod Requests
+pub mod Styles
+pub mod Dialogues
+pub mod Parts
+pub mod Replies
+pub mod Table
+pub mod Sessions
+pub mod Served
+pub mod Debugs
+pub mod Laws
+-- ---- what the code keeps for itself
+pub mod Alone
+pub mod Lines
+pub mod Unfinished

@@ -1,0 +1,50 @@
+-- The entries that the lines of a session ask for.
+use Rattle.std.specs.Prelude.{◌≡◌, ◌⊎◌, ℕ, Bool, List, [], ◌∷◌, ◌++◌, fold, if◌then◌else◌}
+use Rattle.cdb_control.specs.Journal.{entry}
+use Rattle.cdb_control.specs.declared.control.Entry.{Entry}
+use Rattle.cdb_session.specs.Requests.{AreAsked}
+use Rattle.cdb_session.specs.declared.request.Request.{Request}
+use Rattle.cdb_session.specs.declared.request.Request.TheVariants.{Call, Seat, Help, Quit, Fault, TooLong}
+use Rattle.cdb_session.specs.Styles.{StyleView, Part, IsFull}
+
+-- the entry that a line of this seat asks for, if it asks for one
+abbrev pub asked_of : ℕ → Request → List Entry
+asked_of seat (Call command) = entry seat command ∷ []
+asked_of seat (Seat chosen) = []
+asked_of seat Help = []
+asked_of seat Quit = []
+asked_of seat (Fault fault) = []
+asked_of seat TooLong = []
+
+-- the seat of the next line
+abbrev pub seat_next : Bool → ℕ → Request → ℕ
+seat_next chooses seat (Call command) = seat
+seat_next chooses seat (Seat chosen) = if chooses then chosen else seat
+seat_next chooses seat Help = seat
+seat_next chooses seat Quit = seat
+seat_next chooses seat (Fault fault) = seat
+seat_next chooses seat TooLong = seat
+
+-- the seat after these lines
+abbrev pub seat_behind : Bool → ℕ → List Request → ℕ
+seat_behind chooses seat requests = fold (seat_next chooses) seat requests
+
+-- what the lines ask for, each of the seat that was chosen last
+abbrev pub all_asked : Bool → ℕ → List Request → List Entry
+all_asked chooses seat [] = []
+all_asked chooses seat (request ∷ requests) = asked_of seat request
+    ++ all_asked chooses (seat_next chooses seat request) requests
+
+module _ (style : StyleView) where
+  abbrev pub all_of : List Request → List Entry
+  all_of requests = all_asked style.chooses style.first requests
+
+  -- The journal has these entries, in order and each once; or it has the first of them, and is full.
+  abbrev pub HasCommands : Part → List Request → Type 0
+  HasCommands part requests =
+      (part.calls ≡ all_of requests)
+      ⊎ (IsFull part × (missing : List Entry) × (all_of requests ≡ part.calls ++ missing))
+
+  -- and of these lines, up to `quit`
+  abbrev pub HasCommandsOf : Part → List (List ℕ) → Type 0
+  HasCommandsOf part lines = (requests : List Request) × AreAsked requests lines × HasCommands part requests

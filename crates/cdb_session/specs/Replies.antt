@@ -1,0 +1,86 @@
+-- The responses of a session by the replies to its commands, whatever else its journal has.
+use Rattle.std.specs.Prelude.{◌≡◌, ℕ, ◌+◌, List, [], ◌∷◌, ◌++◌, codes, fold, if◌then◌else◌}
+use Rattle.cdb_commands.specs.ToldReply.{ToldReply}
+use Rattle.cdb_text.specs.Texts.{text_of}
+use Rattle.cdb_text.specs.declared.fault.LineFault.TheVariants.{Word}
+use Rattle.cdb_session.specs.Dialogues.{full_text, faulty_line_text, long_line_text, help_text, shown_by, shown_from_by}
+use Rattle.cdb_session.specs.Dialogues.{dialogue_by}
+use Rattle.cdb_session.specs.Parts.{seat_next}
+use Rattle.cdb_session.specs.Requests.{seat_line}
+use Rattle.cdb_session.specs.Styles.{StyleView}
+use Rattle.cdb_session.specs.declared.request.Request.{Request}
+use Rattle.cdb_session.specs.declared.request.Request.TheVariants.{Call, Seat, Help, Quit, Fault, TooLong}
+
+-- A session between two lines: its seat, the replies to the commands that follow, and how many lines there were.
+pub record Along : Type 0 where
+  pub seat : ℕ
+  pub replies : List ToldReply
+  pub lines : ℕ
+
+-- A command has the text of its reply. Where the replies have ended, the journal is full.
+abbrev pub reply_text : List ToldReply → List ℕ
+reply_text [] = full_text
+reply_text (reply ∷ replies) = text_of reply
+
+-- the replies to the commands after it
+abbrev pub next_replies : List ToldReply → List ToldReply
+next_replies [] = []
+next_replies (reply ∷ replies) = replies
+
+-- the replies that are left then
+abbrev pub replies_after : List ToldReply → Request → List ToldReply
+replies_after replies (Call command) = next_replies replies
+replies_after replies (Seat seat) = replies
+replies_after replies Help = replies
+replies_after replies Quit = replies
+replies_after replies (Fault fault) = replies
+replies_after replies TooLong = replies
+
+module _ (style : StyleView) where
+  -- before the first line of a session whose commands get these replies
+  abbrev pub begun_along : List ToldReply → Along
+  begun_along replies = record { seat = style.first; replies = replies; lines = 0 }
+
+  -- the response to a line that asks for no command, after this many lines
+  abbrev pub own_response : ℕ → Request → List ℕ
+  own_response lines (Call command) = []
+  own_response lines (Seat seat) =
+      if style.chooses then (seat_line seat ++ codes "\n") else faulty_line_text (lines + 1) Word
+  own_response lines Help = help_text style.chooses
+  own_response lines Quit = []
+  own_response lines (Fault fault) = faulty_line_text (lines + 1) fault
+  own_response lines TooLong = long_line_text (lines + 1)
+
+  -- The response to what a line asks for. Where no line chooses a seat, one that does has a wrong word.
+  abbrev pub response : Along → Request → List ℕ
+  response s (Call command) = reply_text s.replies
+  response s (Seat seat) = own_response s.lines (Seat seat)
+  response s Help = own_response s.lines Help
+  response s Quit = []
+  response s (Fault fault) = own_response s.lines (Fault fault)
+  response s TooLong = own_response s.lines TooLong
+
+  -- the session after a line that asks for this
+  abbrev pub next_along : Along → Request → Along
+  next_along s request =
+      record {
+        seat = seat_next style.chooses s.seat request;
+        replies = replies_after s.replies request;
+        lines = s.lines + 1;
+      }
+
+  -- ---- all lines
+
+  abbrev pub shown : Along → Request → List ℕ
+  shown s request = shown_by response next_along style.prompt s request
+
+  abbrev pub shown_from : Along → List Request → List ℕ
+  shown_from s requests = shown_from_by response next_along style.prompt s requests
+
+  -- all that is shown in a session whose commands get these replies, and whose lines ask for this
+  abbrev pub dialogue : List ToldReply → List Request → List ℕ
+  dialogue replies requests = dialogue_by response next_along style.prompt (begun_along replies) requests
+
+  -- the session after these requests
+  abbrev pub along_after : Along → List Request → Along
+  along_after s requests = fold next_along s requests

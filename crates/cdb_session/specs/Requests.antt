@@ -1,0 +1,72 @@
+-- What the lines of a session ask for.
+use Rattle.std.specs.Prelude.{◌≡◌, ◌⊎◌, ℕ, ◌<◌, ◌≤◌, List, [], ◌∷◌, ◌++◌, length, codes, decimal, if◌then◌else◌, false}
+use Rattle.std.specs.List.{AllZip, slice_split, All}
+use Rattle.std.specs.Str.{bytes_eq}
+use Rattle.std.specs.Prelude.{nat_eq}
+use Rattle.cdb_base.specs.Positions.{without_last}
+use Rattle.cdb_setup.specs.Format.{longest}
+use Rattle.cdb_setup.specs.Parts.{IsWithin}
+use Rattle.cdb_text.specs.Faults.{IsFaultOf}
+use Rattle.cdb_text.specs.Grammar.{IsLineOf}
+use Rattle.cdb_session.specs.declared.request.Request.{Request}
+use Rattle.cdb_session.specs.declared.request.Request.TheVariants.{Call, Seat, Help, Quit, Fault, TooLong}
+
+-- how many seats a session has, numbered from 1
+abbrev pub most_seats : ℕ
+most_seats = 9
+
+-- ---- lines
+
+-- the lines of an input that have ended: each ends with byte 10
+unfoldable pub ended_lines : List ℕ → List (List ℕ)
+ended_lines bytes = without_last (slice_split (λ byte. nat_eq byte 10) bytes)
+
+-- ---- the lines that a session takes beside commands
+
+abbrev pub help_line : List ℕ
+help_line = codes "help"
+
+abbrev pub quit_line : List ℕ
+quit_line = codes "quit"
+
+-- `seat S`
+abbrev pub seat_line : ℕ → List ℕ
+seat_line seat = codes "seat " ++ decimal seat
+
+-- the line is one of these
+abbrev pub IsOwn : List ℕ → Type 0
+IsOwn line =
+    (line ≡ help_line) ⊎ ((line ≡ quit_line) ⊎ ((seat : ℕ) × IsWithin 1 most_seats seat × (line ≡ seat_line seat)))
+
+-- ---- what a line asks for
+
+-- What a line that is not too long asks for: one of these, a command, or nothing, and then it has a fault.
+abbrev pub Means : Request → List ℕ → Type 0
+Means (Call command) line = (¬ IsOwn line) × IsLineOf command line
+Means (Seat seat) line = IsWithin 1 most_seats seat × (line ≡ seat_line seat)
+Means Help line = line ≡ help_line
+Means Quit line = line ≡ quit_line
+Means (Fault fault) line = (¬ IsOwn line) × IsFaultOf fault line
+Means TooLong line = ⊥
+
+-- A line that is longer than a script can be is too long, whatever it is.
+abbrev pub Asks : Request → List ℕ → Type 0
+Asks TooLong line = longest < length line
+Asks request line = (length line ≤ longest) × Means request line
+
+-- the lines up to `quit`, with it
+abbrev pub up_to_quit : List (List ℕ) → List (List ℕ)
+up_to_quit [] = []
+up_to_quit (line ∷ lines) = if bytes_eq line quit_line then (line ∷ []) else (line ∷ up_to_quit lines)
+
+-- one of the lines is `quit`
+abbrev pub HaveQuit : List (List ℕ) → Type 0
+HaveQuit lines = (before others : List (List ℕ)) × (lines ≡ before ++ quit_line ∷ others)
+
+-- what the lines up to `quit` ask for, one after the other
+abbrev pub AreAsked : List Request → List (List ℕ) → Type 0
+AreAsked requests lines = AllZip Asks requests (up_to_quit lines)
+
+-- no byte ends a line
+abbrev pub HasNoEnd : List ℕ → Type 0
+HasNoEnd bytes = All (λ byte. nat_eq byte 10 ≡ false) bytes

@@ -1,0 +1,62 @@
+-- What a session shows beside its responses, and what calls do to the part of a journal that is its own.
+use Rattle.std.specs.Prelude.{◌≡◌, ℕ, ◌≤◌, Bool, true, List, [], ◌∷◌, ◌++◌, Result, Ok, Err}
+use Rattle.cdb_base.specs.Limits.{MAX_ENTRIES}
+use Rattle.cdb_commands.specs.ToldReply.{ToldReply, told}
+use Rattle.cdb_commands.specs.declared.reply.Reply.{Reply}
+use Rattle.cdb_control.specs.declared.control.CallFault.{CallFault}
+use Rattle.cdb_control.specs.declared.control.CallFault.TheVariants.{JournalFull, NoMemory}
+use Rattle.cdb_control.specs.declared.control.Entry.{Entry}
+use Rattle.cdb_session.specs.Requests.{most_seats}
+use Rattle.cdb_setup.specs.Parts.{IsWithin}
+
+-- What is shown before each line, the seat of the first lines, and whether a line may choose another.
+pub record StyleView : Type 0 where
+  pub prompt : List ℕ
+  pub first : ℕ
+  pub chooses : Bool
+
+-- What a journal has of a session: its entries, in order; the replies to them, each at its position in the journal; and
+-- how many entries the journal has in all.
+pub record Part : Type 0 where
+  pub calls : List Entry
+  pub replies : List ToldReply
+  pub entries : ℕ
+
+abbrev pub IsFull : Part → Type 0
+IsFull part = part.entries ≡ MAX_ENTRIES
+
+-- the session made this entry, and got this reply
+pub record IsCalled (old : Part) (one : Entry) (reply : ToldReply) (new : Part) : Type 0 where
+  pub calls : new.calls ≡ old.calls ++ one ∷ []
+  pub replies : new.replies ≡ old.replies ++ reply ∷ []
+  pub room : ¬ IsFull old
+
+-- the session made no entry
+pub record MakesNone (old new : Part) : Type 0 where
+  pub calls : new.calls ≡ old.calls
+  pub replies : new.replies ≡ old.replies
+  pub full : IsFull old → IsFull new
+
+-- a call, by what it returned
+abbrev pub Calls : Part → Entry → Result Reply CallFault → Part → Type 0
+Calls old one (Ok reply) new = IsCalled old one (told reply) new
+Calls old one (Err JournalFull) new = MakesNone old new × IsFull new
+Calls old one (Err (NoMemory refused)) new = MakesNone old new
+
+-- ---- the seats that calls may be of
+
+pub record Seats : Type 0 where
+  pub lowest : ℕ
+  pub highest : ℕ
+
+-- a session in this style may be at this seat
+pub record MaySit (style : StyleView) (seats : Seats) (seat : ℕ) : Type 0 where
+  pub sits : IsWithin seats.lowest seats.highest seat
+  pub chooses : style.chooses ≡ true → (seats.lowest ≤ 1) × (most_seats ≤ seats.highest)
+
+-- ---- one call after the other
+
+-- such calls led from the one to the other
+pub data Onward {C : Type 0} (Later : C → C → Type 0) (first : C) : C → Type 0 where
+  stays : Onward Later first first
+  goes : (now next : C) → Onward Later first now → Later now next → Onward Later first next

@@ -1,0 +1,73 @@
+-- The table of a session with nine seats: the response to each line, by the control that the lines before have led to.
+use Rattle.std.specs.Prelude.{◌≡◌, ℕ, ◌+◌, ◌==◌, true, List, [], ◌++◌, length, fold, codes, if◌then◌else◌}
+use Rattle.cdb_base.specs.Limits.{MAX_ENTRIES}
+use Rattle.cdb_control.specs.Journal.{Journaled, opened, extended, reply_in}
+use Rattle.cdb_rules.specs.Rules.{Rules}
+use Rattle.cdb_setup.specs.Parts.{Parts}
+use Rattle.cdb_text.specs.Texts.{text_of}
+use Rattle.cdb_session.specs.Dialogues.{full_text, faulty_line_text, long_line_text, help_text, dialogue_by}
+use Rattle.cdb_session.specs.Dialogues.{IsDialogueBy}
+use Rattle.cdb_session.specs.Parts.{seat_next}
+use Rattle.cdb_session.specs.Requests.{most_seats, seat_line}
+use Rattle.cdb_session.specs.declared.request.Request.{Request}
+use Rattle.cdb_session.specs.declared.request.Request.TheVariants.{Call, Seat, Help, Quit, Fault, TooLong}
+
+-- A session between two lines: the rules of its run, its control, whose state is the replay of its journal, the seat
+-- that the next command is of, and how many lines there were.
+pub record Session : Type 0 where
+  pub rules : Parts → Rules
+  pub control : Journaled
+  pub seat : ℕ
+  pub lines : ℕ
+
+-- before the first line
+abbrev pub begun : (Parts → Rules) → Parts → Session
+begun rules setup = record { rules = rules; control = opened setup most_seats; seat = 1; lines = 0 }
+
+-- ---- one line
+
+-- The response to what a line asks for. A command has the text of its reply, unless the journal is full.
+abbrev pub response_to : Session → Request → List ℕ
+response_to s (Call command) =
+    if length s.control.journal == MAX_ENTRIES then full_text else text_of (reply_in s.rules s.control s.seat command)
+response_to s (Seat seat) = seat_line seat ++ codes "\n"
+response_to s Help = help_text true
+response_to s Quit = []
+response_to s (Fault fault) = faulty_line_text (s.lines + 1) fault
+response_to s TooLong = long_line_text (s.lines + 1)
+
+-- the control after it: a command has an entry, unless the journal is full
+abbrev pub control_after : Session → Request → Journaled
+control_after s (Call command) =
+    if length s.control.journal == MAX_ENTRIES then s.control
+    else extended s.rules s.control s.seat command
+control_after s (Seat seat) = s.control
+control_after s Help = s.control
+control_after s Quit = s.control
+control_after s (Fault fault) = s.control
+control_after s TooLong = s.control
+
+-- the session after a line that asks for this
+abbrev pub after_request : Session → Request → Session
+after_request s request =
+    record {
+      rules = s.rules;
+      control = control_after s request;
+      seat = seat_next true s.seat request;
+      lines = s.lines + 1;
+    }
+
+-- ---- all lines
+
+module _ (prompt : List ℕ) where
+  -- all that is shown in a session from this start whose lines ask for this
+  abbrev pub dialogue : Session → List Request → List ℕ
+  dialogue start requests = dialogue_by response_to after_request prompt start requests
+
+  -- the text is that of a session from this start with these lines, of which it responds to those up to `quit`
+  abbrev pub IsDialogue : Session → List (List ℕ) → List ℕ → Type 0
+  IsDialogue start lines text = IsDialogueBy response_to after_request prompt start lines text
+
+-- the session after these requests
+abbrev pub session_after : Session → List Request → Session
+session_after s requests = fold after_request s requests

@@ -1,0 +1,74 @@
+//! A session over a control of its own, at a prompt or behind a pipe.
+
+ghost use Rattle.std.specs.Prelude.{◌≡◌, IfOk};
+ghost use Rattle.cdb_control.specs.Journal.{opened};
+ghost use Rattle.cdb_session.specs.Debugs.{Debugs};
+ghost use Rattle.cdb_session.specs.Requests.{most_seats};
+
+use crate::caller::Caller;
+use crate::console::Console;
+use crate::repl::run;
+use crate::session::Session;
+use crate::style::Style;
+use cdb_base::NoMemory;
+use cdb_control::{CallFault, Command, Control, OpenFault, Reply};
+use cdb_rules::Runs;
+use cdb_setup::Setup;
+use cdb_streams::PlayFault;
+use std::alloc::Global;
+
+/// How many seats a session has.
+const SEATS: u8 = 9;
+
+impl<R: Runs> Caller for Control<R> {
+    ghost use Rattle.cdb_session.specs.Alone.{whole_part, all_seats, IsLaterControl};
+
+    ghost part = { λ c. whole_part R.rules c };
+
+    ghost seats = { all_seats };
+
+    ghost later = { IsLaterControl };
+
+    fn call(&mut self, alloc: Global, seat: u8, command: Command) -> Result<Reply, CallFault> {
+        self.execute(alloc, seat, command)
+    }
+}
+
+/// A control of a setup in which nothing has happened, with nine seats.
+fn open<R: Runs>(alloc: Global, setup: Setup) -> Result<Control<R>, NoMemory>
+    ensures { IfOk result (λ control. control ≡ opened setup most_seats) }
+{
+    match Control::open(alloc, setup, SEATS) {
+        Ok(control) => Ok(control),
+        Err(OpenFault::NoMemory(refused)) => Err(refused),
+        Err(OpenFault::Seats) => unreachable!(),
+    }
+}
+
+/// A session on a run of the setup, in which each line has its response before more input is asked for: a command of
+/// the seat that the session is at, `help`, `seat S`, or `quit`, which ends it; a line that is none of these has its
+/// fault. The prompt is shown before each line. The end of the input, which is asked for once, ends the session too,
+/// and so do 2^63 bytes.
+///
+/// # Errors
+/// `Setup` with the setup's first fault, before any input is asked for. `Read` where the reading failed: each line is
+/// responded to. `Write` where the writing failed: what was written is a beginning of the responses. `NoMemory` where
+/// an allocation fails: what was written are the responses to a beginning of the lines.
+pub fn debug<R: Runs, T: Console>(
+    alloc: Global,
+    setup: &[u8],
+    prompt: &[u8],
+    console: &mut T,
+) -> Result<(), PlayFault>
+    ensures { Debugs R.rules prompt.now setup.now result (T.known console.old) (T.known console.new) }
+{
+    let setup = Setup::read(alloc, setup)?;
+    let control = open::<R>(alloc, setup)?;
+    let style = Style {
+        prompt,
+        first: 1,
+        chooses: true,
+    };
+    let mut session = Session::new(control, &style);
+    run(alloc, &style, &mut session, console)
+}

@@ -1,0 +1,33 @@
+//! Sessions at a prompt or behind a pipe: each line has its response before the next is read. A session goes on over
+//! whatever carries its commands out, a control of its own or one that is shared.
+//!
+//! ```text
+//! let mut console = Streams::new(Input::new(rt.reader()), Output::new(io::writer(rt)));
+//! let outcome = debug::<R, _>(rt.alloc(), setup, b"> ", &mut console);
+//! ```
+#![tactic(auto)]
+
+mod alone;
+mod caller;
+mod console;
+mod feed;
+mod help;
+pub mod laws;
+mod repl;
+mod request;
+mod response;
+mod session;
+mod streams;
+mod style;
+mod unfinished;
+
+pub use alone::debug;
+pub use caller::Caller;
+pub use console::{Console, write_all};
+pub use help::{COMMANDS, OTHERS, SEATS};
+pub use repl::run;
+pub use request::{Request, request_of};
+pub use session::Session;
+pub use streams::Streams;
+pub use style::Style;
+pub use unfinished::{cut, hold};

@@ -1,0 +1,69 @@
+//! What a line of a session asks for.
+
+ghost use Rattle.std.specs.Prelude.{◌≡◌, ℕ, IfSome, IfNone};
+ghost use Rattle.cdb_setup.specs.Parts.{IsWithin};
+ghost use Rattle.cdb_session.specs.declared.request.Request.{Request as RequestName};
+ghost use Rattle.cdb_session.specs.Requests.{Asks, help_line, quit_line, seat_line, most_seats};
+
+use cdb_base::limits::MAX_BYTES;
+use cdb_control::Command;
+use cdb_text::{LineFault, parse_line};
+
+/// What a line asks for.
+#[derive(Clone, Copy, PartialEq, Eq)]
+pub enum Request {
+    /// The command, by the seat that the session is at.
+    Call(Command),
+    /// The lines that follow are this seat's, from 1 to 9.
+    Seat(u8),
+    Help,
+    Quit,
+    /// The line is no command, and this is its first fault.
+    Fault(LineFault),
+    /// The line has more than 1,048,576 bytes.
+    TooLong,
+}
+
+/// How many bytes a line has that chooses a seat.
+const SEAT_LINE: usize = 6;
+
+/// The seat that a line chooses.
+fn seat_of(line: &[u8]) -> Option<u8>
+    ensures some { IfSome result
+        (λ seat. IsWithin 1 most_seats seat × (line.now ≡ seat_line seat)) }
+    ensures none { IfNone result
+        ((seat : ℕ) → IsWithin 1 most_seats seat → ¬ (line.now ≡ seat_line seat)) }
+{
+    if line.len() != SEAT_LINE {
+        return None;
+    }
+    let (word, digit) = (&line[..SEAT_LINE - 1], line[SEAT_LINE - 1]);
+    if word == b"seat ".as_slice() && b'1' <= digit && digit <= b'9' {
+        Some(digit - b'0')
+    } else {
+        None
+    }
+}
+
+/// What a line asks for, which is given without the byte 10 at its end. It allocates nothing.
+pub fn request_of(line: &[u8]) -> Request
+    ensures asks { Asks result line.now }
+    ensures only { (other : RequestName) → Asks other line.now → other ≡ result }
+{
+    if line.len() > MAX_BYTES {
+        return Request::TooLong;
+    }
+    if line == b"help".as_slice() {
+        return Request::Help;
+    }
+    if line == b"quit".as_slice() {
+        return Request::Quit;
+    }
+    if let Some(seat) = seat_of(line) {
+        return Request::Seat(seat);
+    }
+    match parse_line(line) {
+        Ok(command) => Request::Call(command),
+        Err(fault) => Request::Fault(fault),
+    }
+}

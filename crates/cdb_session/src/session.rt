@@ -1,0 +1,205 @@
+//! A session: what its lines have led to.
+
+ghost use Rattle.std.specs.Prelude.{◌≡◌, ◌+◌, ◌-◌, ◌<◌, ◌≤◌, ◌^◌, ◌++◌, ℕ, codes, true, IfOk, OnOk};
+ghost use Rattle.cdb_commands.specs.ToldReply.{told};
+ghost use Rattle.cdb_text.specs.Pushes.{Pushes};
+ghost use Rattle.cdb_text.specs.Texts.{text_of};
+ghost use Rattle.cdb_session.specs.Dialogues.{full_text, prompt_after};
+ghost use Rattle.cdb_session.specs.Requests.{most_seats, seat_line};
+ghost use Rattle.cdb_setup.specs.Parts.{IsWithin};
+ghost use Rattle.cdb_session.specs.Replies.{own_response};
+ghost use Rattle.cdb_session.specs.Lines.{Responds, Shows, seen_by};
+ghost use Rattle.cdb_session.specs.Parts.{seat_next};
+ghost use Rattle.cdb_session.specs.Styles.{MaySit, Onward};
+
+use crate::caller::Caller;
+use crate::help::push_help;
+use crate::request::Request;
+use crate::response::{push_fault, push_seat, push_too_long};
+use crate::style::Style;
+use cdb_base::NoMemory;
+use cdb_control::{CallFault, Command, Reply};
+use cdb_text::{LineFault, reply_text};
+use std::alloc::{AllocError, Global};
+
+/// A session between two lines: who carries its commands out, the seat of the next one, and how many lines there were.
+#[derive(Drop)]
+pub struct Session<C> {
+    pub caller: C,
+    pub seat: u8,
+    pub lines: u64,
+}
+
+impl<C: Caller> Session<C> {
+    /// A session before its first line.
+    pub fn new(caller: C, style: &Style<'_>) -> Self
+        ensures { result ≡ record { caller = caller; seat = style.now.first; lines = 0 } }
+    {
+        Session {
+            caller,
+            seat: style.first,
+            lines: 0,
+        }
+    }
+
+    /// Carries a command out, and returns the text of the reply.
+    fn call(
+        &mut self,
+        alloc: Global,
+        style: &Style<'_>,
+        command: Command,
+    ) -> Result<Vec<u8>, NoMemory>
+        requires { MaySit style.now (C.seats self.old.caller) self.old.seat }
+        ensures responds { Responds style.now result (seen_by C.part self.old)
+            (Request.Call command) (seen_by C.part self.new) }
+        ensures seat { self.new.seat ≡ self.old.seat }
+        ensures lines { self.new.lines ≡ self.old.lines }
+        ensures seats { C.seats self.new.caller ≡ C.seats self.old.caller }
+        ensures later { C.later self.old.caller self.new.caller }
+    {
+        match self.caller.call(alloc, self.seat, command) {
+            Ok(reply) => text_of(alloc, reply),
+            Err(CallFault::JournalFull) => text_of_full(alloc),
+            Err(CallFault::NoMemory(refused)) => Err(refused),
+        }
+    }
+
+    /// Does what a line asks for that asks for no command, and returns the response.
+    fn respond_itself(
+        &mut self,
+        alloc: Global,
+        style: &Style<'_>,
+        request: Request,
+    ) -> Result<Vec<u8>, NoMemory>
+        requires { self.old.lines < 2 ^ 64 - 1 }
+        ensures text { IfOk result
+            (λ text. text.items ≡ own_response style.now self.old.lines request) }
+        ensures after { self.new ≡ record self.old { seat = seat_next style.now.chooses self.old.seat request } }
+    {
+        if let Request::Seat(seat) = request {
+            if style.chooses {
+                self.seat = seat;
+            }
+        }
+        own_response(alloc, style, self.lines, request)
+    }
+
+    /// Does what a line asks for, and returns the response. After an error the session is not to go on.
+    fn respond(
+        &mut self,
+        alloc: Global,
+        style: &Style<'_>,
+        request: Request,
+    ) -> Result<Vec<u8>, NoMemory>
+        requires sits { MaySit style.now (C.seats self.old.caller) self.old.seat }
+        requires chosen { (k : ℕ) → request ≡ Request.Seat k → IsWithin 1 most_seats k }
+        requires lines { self.old.lines < 2 ^ 64 - 1 }
+        ensures responds { Responds style.now result (seen_by C.part self.old)
+            request (seen_by C.part self.new) }
+        ensures seat { self.new.seat ≡ seat_next style.now.chooses self.old.seat request }
+        ensures lines { self.new.lines ≡ self.old.lines }
+        ensures seats { C.seats self.new.caller ≡ C.seats self.old.caller }
+        ensures later { Onward C.later self.old.caller self.new.caller }
+    {
+        match request {
+            Request::Call(command) => self.call(alloc, style, command),
+            _ => self.respond_itself(alloc, style, request),
+        }
+    }
+
+    /// Does what a line asks for, and returns what is shown then: the response, and the prompt unless the line was
+    /// `quit`. After an error the session is not to go on.
+    pub(crate) fn show(
+        &mut self,
+        alloc: Global,
+        style: &Style<'_>,
+        request: Request,
+    ) -> Result<Vec<u8>, NoMemory>
+        requires sits { MaySit style.now (C.seats self.old.caller) self.old.seat }
+        requires chosen { (k : ℕ) → request ≡ Request.Seat k → IsWithin 1 most_seats k }
+        requires lines { self.old.lines < 2 ^ 64 - 1 }
+        ensures shows { Shows style.now result (seen_by C.part self.old)
+            request (seen_by C.part self.new) }
+        ensures seat { self.new.seat ≡ seat_next style.now.chooses self.old.seat request }
+        ensures lines { OnOk result (self.new.lines ≡ self.old.lines + 1) }
+        ensures seats { C.seats self.new.caller ≡ C.seats self.old.caller }
+        ensures later { Onward C.later self.old.caller self.new.caller }
+    {
+        let again = request;
+        let mut text = self.respond(alloc, style, request)?;
+        push_prompt(&mut text, style, again)?;
+        self.lines += 1;
+        Ok(text)
+    }
+}
+
+/// The response to a command for which the journal has no room.
+fn text_of_full(alloc: Global) -> Result<Vec<u8>, NoMemory>
+    ensures { IfOk result (λ text. text.items ≡ full_text) }
+{
+    Ok(b"journal full\n".to_vec(alloc)?)
+}
+
+/// The text of a reply, which is given up.
+fn text_of(alloc: Global, reply: Reply) -> Result<Vec<u8>, NoMemory>
+    ensures { IfOk result (λ text. text.items ≡ text_of (told reply)) }
+{
+    let text = reply_text(alloc, &reply);
+    reply.close();
+    text
+}
+
+/// The response to a line that asks for no command, after this many lines.
+fn own_response(
+    alloc: Global,
+    style: &Style<'_>,
+    lines: u64,
+    request: Request,
+) -> Result<Vec<u8>, NoMemory>
+    requires { lines < 2 ^ 64 - 1 }
+    ensures { IfOk result (λ text. text.items ≡ own_response style.now lines request) }
+{
+    let mut text = String::new(alloc);
+    push_own_response(&mut text, style, lines, request)?;
+    Ok(text.into_bytes())
+}
+
+fn push_own_response(
+    text: &mut String,
+    style: &Style<'_>,
+    lines: u64,
+    request: Request,
+) -> Result<(), AllocError>
+    requires { lines < 2 ^ 64 - 1 }
+    ensures { Pushes result text.old text.new (own_response style.now lines request) }
+{
+    match request {
+        Request::Seat(seat) => push_chosen(text, style, lines + 1, seat),
+        Request::Help => push_help(text, style.chooses),
+        Request::Quit | Request::Call(_) => Ok(()),
+        Request::Fault(fault) => push_fault(text, lines + 1, fault),
+        Request::TooLong => push_too_long(text, lines + 1),
+    }
+}
+
+/// The response to a line of this number that chooses a seat.
+fn push_chosen(text: &mut String, style: &Style<'_>, line: u64, seat: u8) -> Result<(), AllocError>
+    requires { 1 ≤ line }
+    ensures { Pushes result text.old text.new (own_response style.now (line - 1) (Request.Seat seat)) }
+{
+    if style.chooses {
+        return push_seat(text, seat);
+    }
+    push_fault(text, line, LineFault::Word)
+}
+
+/// Adds the prompt, which stands before each further line, and nothing after `quit`.
+fn push_prompt(text: &mut Vec<u8>, style: &Style<'_>, request: Request) -> Result<(), AllocError>
+    ensures { OnOk result
+        (text.new.items ≡ text.old.items ++ prompt_after style.now.prompt request) }
+{
+    match request {
+        Request::Quit => Ok(()),
+        _ => text.extend_from_slice(style.prompt),
+    }
+}

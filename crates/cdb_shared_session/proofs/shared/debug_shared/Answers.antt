@@ -1,0 +1,36 @@
+use Rattle.std.proofs.Common.{sym, ap, subst, ◌∙◌, arith, length, List}
+use Rattle.cdb_control.specs.declared.control.Entry.{Entry}
+use Rattle.cdb_streams.specs.Endings.{whole_ending}
+use Rattle.cdb_streams.specs.Streams.{Writes}
+use Rattle.cdb_streams.specs.Written.{IsWritten, Only}
+use Rattle.cdb_shared_session.specs.SharedSessions.{journal_text}
+use Rattle.cdb_shared_session.specs.Reported.{IsFaultOfSessions}
+use Rattle.cdb_shared_session.specs.Reports.{outcomes, failures_text, status_of}
+use Rattle.cdb_shared_session.specs.declared.endpoint.Finished.{Finished}
+use Rattle.cdb_shared_session.proofs.SetupFaults.{setup_failed, threads_failed}
+use Rattle.cdb_shared_session.proofs.shared.debug_shared.Goals as goal
+
+pub returns-in-Err-clause-fault : goal.returns-in-Err-clause-fault
+returns-in-Err-clause-fault g c = subst (IsFaultOfSessions c.args.setup.now) (sym c.from.ensures) (setup_failed c.args.setup.now c.in-Err.fault c.in-Err.ensures.fault (λ long. cc (c.in-Err.ensures.too_long long)))
+
+pub returns-in-Err-debug_seats-clause-fault : goal.returns-in-Err-debug_seats-clause-fault
+returns-in-Err-debug_seats-clause-fault g c = subst (IsFaultOfSessions c.args.setup.now) (sym c.of_sessions.ensures) (threads_failed c.args.setup.now c.in-Ok.setup _ c.in-Ok.ensures.found)
+
+pub write_failures-requires : goal.write_failures-requires
+write_failures-requires g c = omega (arith, c.requires.fits, ap length c.as_slice.ensures.value, c.in-Ok-debug_seats.ensures.sessions.many, c.args.endpoints.ok.0)
+
+pub returns-clause-sessions : goal.returns-clause-sessions
+returns-clause-sessions g c =
+    let written = c.write_journal-written.result in
+    record {
+      setup = c.in-Ok.setup;
+      encodes = c.in-Ok.ensures.found;
+      control = c.in-Ok-debug_seats.sessions.0;
+      finished = c.in-Ok-debug_seats.sessions.1.items;
+      sessions = c.in-Ok-debug_seats.ensures.sessions;
+      written = written;
+      journal = subst (λ (es : List Entry). IsWritten g.O.Sink.stream (whole_ending written) c.args.output.now c.write_journal-written.new.out (Only (journal_text es))) c.journal.ensures.entries c.write_journal-written.ensures;
+      reported = c.write_failures.result;
+      lines = subst (λ (l : List (Finished g.row.T.Denot)). Writes g.E.Sink.stream c.write_failures.result c.args.error.now c.write_failures.new.out (failures_text written (outcomes l))) c.as_slice.ensures.value c.write_failures.ensures;
+      status_is = c.status_after.ensures ∙ ap (λ (l : List (Finished g.row.T.Denot)). status_of written (outcomes l)) c.as_slice-2.ensures.value;
+    }

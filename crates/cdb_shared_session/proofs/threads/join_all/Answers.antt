@@ -1,0 +1,27 @@
+use Rattle.std.proofs.Common.{◌≡◌, ℕ, ◌-◌, get_or, vec_len, length, subst, arith}
+use Rattle.std.specs.declared.thread.PromisedHandle.{PromisedHandle}
+use Rattle.cdb_shared.specs.Seats.{SeatView}
+use Rattle.cdb_shared_session.specs.Promises.{IsSeatPromise}
+use Rattle.cdb_shared_session.specs.declared.endpoint.Endpoint.{Endpoint}
+use Rattle.cdb_shared_session.proofs.Kept.{kept, some_of}
+use Rattle.cdb_shared_session.proofs.threads.join_all.Goals as goal
+
+pub returns : goal.returns
+returns g c =
+    let before = c.args.seats in
+    let endpoints = c.args.endpoints in
+    let handles = c.in_ok-handles.handles in
+    let seats = c.join_each.result.0 in
+    let joined = c.join_each.ensures in
+    let started = c.in_ok-handles.ensures in
+    record {
+      count = (omega (arith, joined.count.0, started.count), omega (arith, joined.count.1, started.count));
+      each = λ k seat its low first endpoint.
+          let j = length handles.items - 1 - k in
+          let handle = some_of handles.items (omega (arith, low, joined.count.0, seats.ok.0, handles.ok.0)) in
+          let promise = started.each j first endpoint handle (omega (arith, low, joined.count.0, started.count, seats.ok.0, handles.ok.0)) in
+          let seat_at : vec_len before - 1 - j ≡ k = omega (arith, low, joined.count.0, started.count, seats.ok.0, handles.ok.0) in
+          let endpoint_at : vec_len endpoints - 1 - j ≡ k = omega (arith, low, joined.count.0, started.count, seats.ok.0, handles.ok.0, c.requires.endpoints) in
+          let its_promise = subst (λ (x : ℕ × ℕ). IsSeatPromise (get_or before.items x.0 first) (get_or endpoints.items x.1 endpoint) (get_or handles.items j handle).promise) (λ i. (seat_at i, endpoint_at i)) promise in
+          kept _ _ _ its_promise g.R.Runs.rules g.T.Console.known _ _ (joined.each k seat its low handle);
+    }

@@ -1,0 +1,65 @@
+use Rattle.std.proofs.Common.{◌≡◌, ℕ, ◌-◌, ◌∙◌, sym, ap, subst, arith, [], ◌∷◌, ◌++◌, get_or, append_assoc, append-nil, vec_len, length}
+use Rattle.std.specs.declared.thread.PromisedHandle.{PromisedHandle}
+use Rattle.cdb_shared_session.specs.Promises.{IsUnused, IsSeatPromise}
+use Rattle.cdb_shared_session.specs.declared.endpoint.Endpoint.{Endpoint}
+use Rattle.cdb_shared_session.specs.declared.seat.SeatResult.{SeatResult}
+use Rattle.cdb_shared_session.specs.declared.seat.SeatPromise.{SeatPromise}
+use Rattle.cdb_shared.specs.Seats.{SeatView}
+use Rattle.cdb_shared.proofs.Ends.{each_front, each_push, get_or-middle}
+use Rattle.cdb_shared_session.proofs.threads.start_all.Goals as goal
+
+pub loop-seat-init : goal.loop-seat-init
+loop-seat-init g c = record {
+  ready = c.requires.ready;
+  endpoints = c.requires.endpoints;
+  left_endpoints = ([], sym (append-nil c.args.endpoints.items));
+  left = ([], sym (append-nil c.args.seats.items));
+  count = omega (arith, c.in-Ok.ensures.len);
+  room = omega (arith, c.in-Ok.ensures.capacity, c.len.ensures);
+  many_endpoints = c.requires.endpoints;
+  each = λ k before endpoint handle low. absurd (omega (arith, low, c.in-Ok.ensures.len));
+}
+
+pub start_one-requires-after_bounds : goal.start_one-requires-after_bounds
+start_one-requires-after_bounds g c κs within = (each_front (λ (k : ℕ) (s : SeatView). IsUnused c.args.shared.now s) _ _ _ c.in-Some.ensures.items c.loop-seat.invariant.ready).1
+
+pub loop-seat-preserved : goal.loop-seat-preserved
+loop-seat-preserved g c =
+    let was = c.loop-seat.invariant in
+    let all = c.args.seats.items in
+    let front = c.pop.new.self.items in
+    let seat = c.in-Some.seat in
+    let popped = c.in-Some.ensures.items in
+    let seats = c.in-Some.ensures.cases in
+    let endpoints = c.in-Some-pop.ensures.cases in
+    let handles = c.loop-seat.handles.ok.0 in
+    let whole : all ≡ front ++ (seat ∷ was.left.0) = was.left.1 ∙ ap (λ l. l ++ was.left.0) {y = front ++ (seat ∷ [])} popped ∙ append_assoc front (seat ∷ []) was.left.0 in
+    let its = c.in-Some-pop.endpoint in
+    let few = c.in-Some-pop.ensures.items in
+    let all_endpoints : c.args.endpoints.items ≡ c.pop-in-Some.new.self.items ++ (its ∷ was.left_endpoints.0) = was.left_endpoints.1 ∙ ap (λ l. l ++ was.left_endpoints.0) {y = c.pop-in-Some.new.self.items ++ (its ∷ [])} few ∙ append_assoc c.pop-in-Some.new.self.items (its ∷ []) was.left_endpoints.0 in
+    let at_endpoint : vec_len c.args.endpoints - 1 - length c.loop-seat.handles.items ≡ length c.pop-in-Some.new.self.items = omega (arith, endpoints, seats, c.pop-in-Some.new.self.ok.0, handles, was.count, was.endpoints, was.many_endpoints) in
+    let at : vec_len c.args.seats - 1 - length c.loop-seat.handles.items ≡ length front = omega (arith, seats, c.pop.new.self.ok.0, handles, was.count) in
+    record {
+      ready = (each_front (λ (k : ℕ) (s : SeatView). IsUnused c.args.shared.now s) _ _ _ popped was.ready).0;
+      endpoints = omega (arith, seats, endpoints);
+      left = (seat ∷ was.left.0, whole);
+      left_endpoints = (its ∷ was.left_endpoints.0, all_endpoints);
+      many_endpoints = was.many_endpoints;
+      count = omega (arith, seats);
+      room = omega arith;
+      each = λ k before endpoint handle low.
+          let here : seat ≡ get_or all (vec_len c.args.seats - 1 - length c.loop-seat.handles.items) before = sym (get_or-middle front was.left.0 all seat before _ whole at) in
+          let there : its ≡ get_or c.args.endpoints.items (vec_len c.args.endpoints - 1 - length c.loop-seat.handles.items) endpoint = sym (get_or-middle c.pop-in-Some.new.self.items was.left_endpoints.0 c.args.endpoints.items its endpoint _ all_endpoints at_endpoint) in
+          let one = subst (λ (x : SeatView × Endpoint g.row.T.Denot). IsSeatPromise x.0 x.1 c.in_ok-handle.handle.promise) (λ i. (here i, there i)) c.in_ok-handle.ensures in
+          each_push (λ (i : ℕ) (h : PromisedHandle (SeatResult g.row.R.Denot g.row.T.Denot) (SeatPromise g.row.R.Denot g.row.T.Denot)). IsSeatPromise (get_or all (vec_len c.args.seats - 1 - i) before) (get_or c.args.endpoints.items (vec_len c.args.endpoints - 1 - i) endpoint) h.promise) c.loop-seat.handles.items c.push_reserved.new.self.items c.in_ok-handle.handle
+          c.push_reserved.ensures.items (λ i h below. was.each i before endpoint h (omega (arith, handles))) one k handle (omega (arith, c.push_reserved.new.self.ok.0));
+    }
+
+pub returns-clause-each : goal.returns-clause-each
+returns-clause-each g c = λ k before endpoint handle low. c.loop-seat.invariant.each k before endpoint handle (omega (arith, c.in_default.ensures.cases.0, c.loop-seat.invariant.count))
+
+pub returns-clause-count : goal.returns-clause-count
+returns-clause-count g c = omega (arith, c.in_default.ensures.cases.0, c.loop-seat.invariant.count)
+
+pub loop-seat-smaller : goal.loop-seat-smaller
+loop-seat-smaller g c = omega (arith, c.in-Some.ensures.cases)

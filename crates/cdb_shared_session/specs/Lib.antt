@@ -1,0 +1,8 @@
+-- ---- what the public contracts name
+pub mod SeatParts
+pub mod SharedSessions
+pub mod Reports
+pub mod Reported
+pub mod Faults
+-- ---- what the code keeps for itself
+pub mod Promises

@@ -1,0 +1,43 @@
+-- Sessions of several seats on a setup in JSON, and what is written once they have ended.
+use Rattle.std.specs.Prelude.{◌≡◌, ℕ, ◌≤◌, List, length, Result}
+use Rattle.cdb_control.specs.Journal.{Journaled}
+use Rattle.cdb_session.specs.Moves.{Known}
+use Rattle.cdb_streams.specs.Endings.{whole_ending}
+use Rattle.cdb_streams.specs.Streams.{Stream, Writes}
+use Rattle.cdb_streams.specs.Written.{IsWritten, Only}
+use Rattle.cdb_streams.specs.declared.buffer.OutputFault.{OutputFault}
+use Rattle.cdb_streams.specs.declared.sink.Failed.{Failed}
+use Rattle.cdb_streams.specs.declared.fault.RaceFault.{RaceFault}
+use Rattle.cdb_streams.specs.declared.fault.RaceFault.TheVariants as fault
+use Rattle.cdb_rules.specs.Rules.{Rules}
+use Rattle.cdb_setup.specs.Format.{Encodes, longest}
+use Rattle.cdb_setup.specs.Order.{IsFirstFault}
+use Rattle.cdb_setup.specs.Parts.{Parts}
+use Rattle.cdb_shared_session.specs.SharedSessions.{AreSessions, journal_text}
+use Rattle.cdb_shared_session.specs.Reports.{outcomes, failures_text, status_of}
+use Rattle.cdb_shared_session.specs.declared.endpoint.Endpoint.{Endpoint}
+use Rattle.cdb_shared_session.specs.declared.endpoint.Finished.{Finished}
+
+-- the sessions have ended, the journal was written and what failed was reported, as far as that went, and this is the
+-- status
+pub record RunsSessions {T O E : Type 0} (rules : Parts → Rules) (known : T → Known)
+    (output_stream : O → Stream) (error_stream : E → Stream) (json : List ℕ) (endpoints : List (Endpoint T))
+    (output output_after : O) (error error_after : E) (status : ℕ) : Type 0 where
+  pub setup : Parts
+  pub encodes : Encodes json setup
+  pub control : Journaled
+  pub finished : List (Finished T)
+  pub sessions : AreSessions rules known setup endpoints control finished
+  pub written : Result (Unit {0}) OutputFault
+  pub journal : IsWritten output_stream (whole_ending written) output output_after (Only (journal_text control.journal))
+  pub reported : Result (Unit {0}) Failed
+  pub lines : Writes error_stream reported error error_after (failures_text written (outcomes finished))
+  pub status_is : status ≡ status_of written (outcomes finished)
+
+-- The setup's first fault, or memory or a thread is not there; a setup that is too long is told so, and no thread is
+-- started for one with a fault.
+abbrev pub IsFaultOfSessions : List ℕ → RaceFault → Type 0
+IsFaultOfSessions json (fault.Setup why) = IsFirstFault why json
+IsFaultOfSessions json (fault.NoMemory refused) = length json ≤ longest
+IsFaultOfSessions json (fault.Spawn refused) = (setup : Parts) × Encodes json setup
+IsFaultOfSessions json other = ⊥

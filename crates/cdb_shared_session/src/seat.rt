@@ -1,0 +1,119 @@
+//! What one thread does with its seat.
+
+ghost use Rattle.std.specs.Prelude.{◌≡◌, false};
+ghost use Rattle.cdb_shared.specs.Seats.{IsLater};
+ghost use Rattle.cdb_shared_session.specs.Promises.{IsUnused, RunsSeat, HasRun};
+
+use crate::endpoint::{Endpoint, Finished};
+use cdb_control::{CallFault, Command, Reply};
+use cdb_rules::Runs;
+use cdb_session::{Caller, Console, Session, Style, run};
+use cdb_shared::{Seat, Shared};
+use cdb_streams::PlayFault;
+use std::alloc::Global;
+use std::marker::Model;
+use std::snapshot::Snapshot;
+use std::sync::Wait;
+use std::thread::Promise;
+
+/// Carries the commands of one seat out, in the turns that it shares with others.
+#[derive(Drop)]
+pub(crate) struct SeatCaller<'a, R: Runs, Rt> {
+    shared: &'a Shared<R>,
+    rt: &'a Rt,
+    seat: Seat<R>,
+}
+
+impl<'a, R: Runs, Rt> Model for SeatCaller<'a, R, Rt> {
+    ghost use Rattle.cdb_shared.specs.Seats.{SeatView, RestsAt};
+
+    ghost Value = { SeatView };
+
+    ghost view = { λ s. s.seat };
+
+    ghost invariant = { λ s. RestsAt s.shared.now s.seat };
+}
+
+impl<'a, R: Runs, Rt: Wait> Caller for SeatCaller<'a, R, Rt> {
+    ghost use Rattle.cdb_shared.specs.Seats.{IsLater};
+    ghost use Rattle.cdb_shared_session.specs.SeatParts.{part_seen, own_seat};
+
+    ghost part = { λ seat. part_seen R.rules seat };
+
+    ghost seats = { own_seat };
+
+    ghost later = { IsLater };
+
+    fn call(&mut self, alloc: Global, _seat: u8, command: Command) -> Result<Reply, CallFault> {
+        self.shared.call(self.rt, alloc, &mut self.seat, command)
+    }
+}
+
+/// A seat whose thread has ended.
+#[derive(Drop)]
+pub(crate) struct SeatResult<R: Runs, T> {
+    pub(crate) seat: Seat<R>,
+    pub(crate) finished: Finished<T>,
+}
+
+/// What the thread of a seat promises.
+#[derive(Drop)]
+pub(crate) struct SeatPromise<R: Runs, T> {
+    pub(crate) seat: Snapshot<Seat<R>>,
+    pub(crate) endpoint: Snapshot<Endpoint<T>>,
+}
+
+impl<R: Runs, T: Console> Promise<SeatResult<R, T>> for SeatPromise<R, T> {
+    ghost use Rattle.cdb_shared_session.specs.Promises.{HasRun};
+
+    ghost kept_by = { λ p r. HasRun R.rules T.known p.seat.value p.endpoint.value r.seat r.finished };
+}
+
+/// A seat's session in a style by which no line chooses a seat, from its first line to its last. Hands the seat back.
+fn run_styled<R: Runs, T: Console, Rt: Wait>(
+    shared: &Shared<R>,
+    rt: &Rt,
+    alloc: Global,
+    style: &Style<'_>,
+    seat: Seat<R>,
+    console: &mut T,
+) -> (Seat<R>, Result<(), PlayFault>)
+    requires unused { IsUnused shared.now seat }
+    requires first { style.now.first ≡ seat.number }
+    requires chooses { style.now.chooses ≡ false }
+    ensures later { IsLater seat result.0 }
+    ensures session { RunsSeat R.rules style.now result.0 result.1 (T.known console.old) (T.known console.new) }
+{
+    let mut session = Session::new(SeatCaller { shared, rt, seat }, style);
+    let outcome = run(alloc, style, &mut session, console);
+    let Session { caller, .. } = session;
+    let SeatCaller { seat, .. } = caller;
+    (seat, outcome)
+}
+
+/// A seat's session at its endpoint.
+pub(crate) fn run_seat<R: Runs, T: Console + Drop, Rt: Wait>(
+    shared: &Shared<R>,
+    rt: &Rt,
+    alloc: Global,
+    seat: Seat<R>,
+    endpoint: Endpoint<T>,
+) -> SeatResult<R, T>
+    requires { IsUnused shared.now seat }
+    ensures { HasRun R.rules T.known seat endpoint result.seat result.finished }
+{
+    let Endpoint {
+        mut console,
+        prompt,
+    } = endpoint;
+    let style = Style {
+        prompt,
+        first: seat.number(),
+        chooses: false,
+    };
+    let (seat, outcome) = run_styled(shared, rt, alloc, &style, seat, &mut console);
+    SeatResult {
+        seat,
+        finished: Finished { console, outcome },
+    }
+}

@@ -1,0 +1,71 @@
+//! Sessions of several seats, from the text of their setup to what is written once they have ended.
+
+ghost use Rattle.std.specs.Prelude.{◌≡◌, ◌≤◌, vec_len, IfOk, IfErr, OnErr};
+ghost use Rattle.cdb_shared_session.specs.Faults.{of_sessions};
+ghost use Rattle.cdb_shared_session.specs.Reported.{RunsSessions, IsFaultOfSessions};
+
+use crate::endpoint::Endpoint;
+use crate::reports::{status_after, write_failures, write_journal};
+use crate::threads::{SessionsFault, debug_seats};
+use cdb_base::limits::MAX_SEATS;
+use cdb_rules::Runs;
+use cdb_session::Console;
+use cdb_setup::Setup;
+use cdb_streams::{RaceFault, Sink};
+use std::alloc::Global;
+use std::sync::Wait;
+use std::thread::Threads;
+
+/// The fault of sessions that did not begin.
+fn of_sessions(fault: SessionsFault) -> RaceFault
+    ensures { result ≡ of_sessions fault }
+{
+    match fault {
+        SessionsFault::NoMemory(refused) => RaceFault::NoMemory(refused),
+        SessionsFault::Spawn(refused) => RaceFault::Spawn(refused),
+    }
+}
+
+/// Holds sessions of as many seats as there are endpoints, from 1 to 64, over one run of the setup, until all have
+/// ended. Then the journal is written to the output, a line for each entry, and to the other output a line for each
+/// seat that failed, and one where the journal could not be written; these lines take no memory. Returned is the
+/// status: 6 or 7 where the journal could not be written, else that of the least seat that failed, and 0 where none
+/// did.
+///
+/// # Errors
+/// `Setup` with the setup's first fault, and then no session was begun; `Spawn` where a thread can't be started, and
+/// `NoMemory` where an allocation fails before the sessions have ended. Nothing was written to either output.
+pub fn debug_shared<
+    R: Runs + Send,
+    T: Console + Drop + Send,
+    Rt: Threads + Wait + Sync,
+    O: Sink,
+    E: Sink,
+>(
+    rt: &Rt,
+    alloc: Global,
+    setup: &[u8],
+    endpoints: Vec<Endpoint<T>>,
+    output: &mut O,
+    error: &mut E,
+) -> Result<u8, RaceFault>
+    requires some { 1 ≤ vec_len endpoints }
+    requires fits { vec_len endpoints ≤ MAX_SEATS }
+    ensures sessions { IfOk result (RunsSessions R.rules T.known O.stream E.stream
+        setup.now endpoints.items output.old output.new error.old error.new) }
+    ensures fault { IfErr result (IsFaultOfSessions setup.now) }
+    ensures unwritten { OnErr result ((output.new ≡ output.old) × (error.new ≡ error.old)) }
+{
+    let setup = match Setup::read(alloc, setup) {
+        Ok(setup) => setup,
+        Err(fault) => return Err(RaceFault::from(fault)),
+    };
+    let (control, finished) = match debug_seats::<R, T, Rt>(rt, alloc, setup, endpoints) {
+        Ok(sessions) => sessions,
+        Err(fault) => return Err(of_sessions(fault)),
+    };
+    let written = write_journal(alloc, control.journal(), output);
+    control.close();
+    let _ = write_failures(finished.as_slice(), &written, error);
+    Ok(status_after(finished.as_slice(), &written))
+}

@@ -1,0 +1,32 @@
+use Rattle.std.proofs.Common.{◌≡◌, ℕ, ◌+◌, List, length, take, Some, slice_get, sym, ap, ◌∙◌, subst, arith, rules}
+use Rattle.cdb_base.specs.declared.event.Event.{Event}
+use Rattle.cdb_rules.specs.Runs.{with_history}
+use Rattle.cdb_trail.specs.Played.{AreFirstFlows}
+use Rattle.cdb_trail.proofs.Playing.{next_valid, next_along, flow_is, one_flow_more}
+use Rattle.cdb_trail.proofs.played.play_before.Goals as goal
+
+pub take_next-requires : goal.take_next-requires
+take_next-requires g c =
+    let event : Event = c.event-event.result.now in
+    let at : slice_get c.args.run.now.history c.loop-i.i ≡ Some event = subst (λ (h : List Event). slice_get h c.loop-i.i ≡ Some event) c.history-history.ensures c.event-event.ensures in
+    next_valid g.P.Process.table g.P.Flowing.flows c.args.run.now c.requires.valid c.loop-i.i event at c.loop-i.again c.loop-i.invariant.again
+
+pub loop-i-preserved : goal.loop-i-preserved
+loop-i-preserved g c =
+    let table = g.P.Process.table in
+    let flows = g.P.Flowing.flows in
+    let event : Event = c.event-event.result.now in
+    let at : slice_get c.args.run.now.history c.loop-i.i ≡ Some event = subst (λ (h : List Event). slice_get h c.loop-i.i ≡ Some event) c.history-history.ensures c.event-event.ensures in
+    let along = c.loop-i.invariant.again in
+    let is = flow_is table flows c.args.run.now c.loop-i.i event at c.loop-i.again along c.flow_of.result c.flow_of.ensures in
+    record {
+      again = next_along table flows c.args.run.now c.loop-i.i event at c.loop-i.again c.take_next.new.again along c.in_ok-take_next.ensures;
+      number = search rules;
+      flows = subst (λ found. AreFirstFlows table flows c.args.run.now found) (sym c.in_ok-push.ensures.items)
+          (one_flow_more table flows c.args.run.now c.loop-i.flows.items c.loop-i.i c.flow_of.result c.loop-i.invariant.number is c.loop-i.invariant.flows);
+    }
+
+pub returns-clause-before : goal.returns-clause-before
+returns-clause-before g c =
+    let end : c.loop-i.i ≡ c.args.count = omega arith in
+    c.loop-i.invariant.again ∙ ap (λ n. with_history c.args.run.now (take n c.args.run.now.history)) end

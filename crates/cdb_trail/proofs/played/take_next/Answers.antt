@@ -1,0 +1,38 @@
+use Rattle.std.proofs.Common.{◌≡◌, sym, ap, ◌∙◌, subst, is_ok, true≢false}
+use Rattle.cdb_agreement.proofs.KeptHistories.{last_enabled, next_of_run, taken_again}
+use Rattle.cdb_setup.specs.Parts.{AreInRange}
+use Rattle.cdb_rules.proofs.Granted.{IsLawful}
+use Rattle.cdb_rules.specs.Machines.{machine_of}
+use Rattle.cdb_rules.specs.Runs.{with_result}
+use Rattle.cdb_trail.proofs.played.take_next.Goals as goal
+
+pub again-requires : goal.again-requires
+again-requires g c =
+    let table = g.P.Process.table in
+    let setup = c.args.again.now.setup in
+    let range : AreInRange setup = subst AreInRange c.setup.ensures c.n-ranges.ensures.ranges in
+    let laws = g.met.P.Process in
+    let lawful : IsLawful (machine_of table setup) = record { query = laws.query_by_state; recv = laws.recv_by_state; send = laws.wish_send; write = laws.wish_write } in
+    next_of_run table setup range lawful c.args.again.now.history c.args.event.now c.requires
+
+pub unreachable-requires : goal.unreachable-requires
+unreachable-requires g c =
+    let table = g.P.Process.table in
+    let setup = c.args.again.now.setup in
+    let range : AreInRange setup = subst AreInRange c.setup.ensures c.n-ranges.ensures.ranges in
+    let laws = g.met.P.Process in
+    let lawful : IsLawful (machine_of table setup) = record { query = laws.query_by_state; recv = laws.recv_by_state; send = laws.wish_send; write = laws.wish_write } in
+    let enabled = last_enabled table setup range lawful c.args.again.now.history c.args.event.now c.requires in
+    let is = taken_again table setup range lawful c.args.again.now.history c.args.event.now enabled in
+    true≢false (ap is_ok (sym is ∙ sym c.in_ok-again.ensures.returns ∙ c.in-Err.is))
+
+pub returns : goal.returns
+returns g c =
+    let table = g.P.Process.table in
+    let setup = c.args.again.now.setup in
+    let range : AreInRange setup = subst AreInRange c.setup.ensures c.n-ranges.ensures.ranges in
+    let laws = g.met.P.Process in
+    let lawful : IsLawful (machine_of table setup) = record { query = laws.query_by_state; recv = laws.recv_by_state; send = laws.wish_send; write = laws.wish_write } in
+    let enabled = last_enabled table setup range lawful c.args.again.now.history c.args.event.now c.requires in
+    let is = taken_again table setup range lawful c.args.again.now.history c.args.event.now enabled in
+    c.in_ok-again.ensures.after ∙ ap (with_result c.args.again.now) (c.in_ok-again.ensures.returns ∙ is)

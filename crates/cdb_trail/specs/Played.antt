@@ -1,0 +1,21 @@
+-- What the code keeps for itself: the flows of the events of a run, and the walk back from a step.
+use Rattle.std.specs.Prelude.{◌≡◌, ℕ, suc, ◌<◌, List, length, Some, slice_get}
+use Rattle.cdb_process.specs.Table.{Table}
+use Rattle.cdb_rules.specs.RunView.{RunView}
+use Rattle.cdb_rules.specs.Runs.{machine_in}
+use Rattle.cdb_trail.specs.Flow.{Spot, Flow, Flows}
+use Rattle.cdb_trail.specs.Trails.{Takes, IsTrail, flow_at}
+
+module _ {L S : Type 0} (table : Table L) (flows : Flows L S) (run : RunView) where
+  -- the flows are those of the first events, in order
+  abbrev pub AreFirstFlows : List (Flow S) → Type 0
+  AreFirstFlows found =
+      (i : ℕ) → i < length found → slice_get found i ≡ Some (flow_at (machine_in table run) flows run.history (suc i))
+
+  -- the step at that position takes its value from the spot
+  abbrev pub TakesFrom : ℕ → Spot S → Type 0
+  TakesFrom position spot = Takes (machine_in table run) flows run.history position spot
+
+  -- a trail leads from the input of process q to the step at that position
+  abbrev pub IsTrailTo : ℕ → ℕ → List ℕ → Type 0
+  IsTrailTo q position trail = IsTrail (machine_in table run) flows run.history q position trail
