@@ -70,7 +70,7 @@ fn each_write_of_output_fails_in_turn(rt: HostRuntime) {
         (PLAY, 107),
         (RACE, 90),
         (EXPLAIN, 82),
-        (DRAW, 3_819),
+        (DRAW, 4_114),
         (Request::Print("help\n"), 5),
     ];
     for (request, length) in &requests {
