@@ -24,7 +24,7 @@ abbrev pub IsWayOff : ℕ → Point → List (List Point) → Type 0
 IsWayOff far mark [] = Unit {0}
 IsWayOff far mark (stroke ∷ strokes) = IsStrokeOff far mark stroke × IsWayOff far mark strokes
 
--- the number is that of one of so many
+-- the number is from 1 to n
 abbrev pub IsOneOf : ℕ → ℕ → Type 0
 IsOneOf n p = (1 ≤ p) × (p ≤ n)
 

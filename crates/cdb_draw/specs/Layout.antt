@@ -1,5 +1,5 @@
 -- Where things stand in a picture, in quarters of a millimetre: x from the left, y from the top. Events stand in
--- columns, each 13 mm after the one before it, so many to a row; each row has all lanes.
+-- columns, each 13 mm after the one before it, a fixed number of them to a row; each row has all lanes.
 use Rattle.std.specs.Prelude.{ℕ, ◌+◌, ◌-◌, ◌*◌, ◌/◌, ◌%◌, ◌≤◌, ◌||◌, max, nat_eq, nat_le, if◌then◌else◌}
 use Rattle.cdb_base.specs.Limits.{MAX_ENTRIES}
 use Rattle.cdb_setup.specs.Parts.{Parts}

@@ -57,7 +57,7 @@ abbrev pub AreInFull : Option ℕ → List Event → List Bool → Type 0
 AreInFull None history flags = flags ≡ replicate (length history) true
 AreInFull (Some position) history flags = FlagsPast history position flags
 
--- the text is the picture of the run, so many columns to a row; with a position, that of what led to the event there
+-- the text is the picture of the run, with that number of columns to a row; with a position, of what led to the event there
 abbrev pub IsPicture : (Parts → Rules) → RunView → ℕ → Option ℕ → List ℕ → Type 0
 IsPicture rules run columns position text =
     (flags : List Bool) × AreInFull position run.history flags

@@ -28,7 +28,7 @@ pub struct Point {
     pub y: usize,
 }
 
-/// How many columns a row has, if so many were asked for.
+/// How many columns a row has, where this number was asked for.
 fn columns_for(asked: usize, count: usize) -> usize
     requires { count ≤ MAX_ENTRIES }
     ensures value { result ≡ columns_for asked count }
@@ -42,7 +42,7 @@ fn columns_for(asked: usize, count: usize) -> usize
     }
 }
 
-/// The grid of that number of events, with so many columns to a row; with 0 all are in one row.
+/// The grid of that number of events, with this number of columns to a row; with 0 all are in one row.
 pub(crate) fn grid_of(setup: &Setup, asked: usize, count: usize) -> Grid
     requires { count ≤ MAX_ENTRIES }
     ensures value { result ≡ grid_of setup.now asked count }

@@ -60,8 +60,8 @@ fn write_drawing<T: Runs, W: Sink>(
     Ok(())
 }
 
-/// Draws the run that a script leaves, and writes the picture as SVG, so many columns to a row; with 0 all are in one
-/// row. With a step what led to it is drawn in full and the rest pale; without one everything is in full.
+/// Draws the run that a script leaves, and writes the picture as SVG, with `columns` columns to a row; with 0 all are in
+/// one row. With a step what led to it is drawn in full and the rest pale; without one everything is in full.
 ///
 /// The setup is read first, then the whole script, then all its lines, and the step is looked for before anything is
 /// written. So after `Write` what was written is a beginning of the picture; after `NoMemory` nothing was, or whole
