@@ -182,7 +182,7 @@ fn run_all<R: Runs + Send, T: Console + Drop + Send, Rt: Threads + Wait + Sync>(
     )
 }
 
-/// An empty list with room for so many.
+/// An empty list with this capacity.
 fn reserve<X: Drop>(alloc: Global, count: usize) -> Result<Vec<X>, SessionsFault>
     ensures { IfOk result (λ list. (vec_len list ≡ 0) × (count ≤ vec_capacity list)) }
 {

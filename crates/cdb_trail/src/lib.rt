@@ -1,5 +1,5 @@
 //! The trail of a decision: the steps along which the value that a process decides went, from the input of a
-//! process to the decision. Each function does nothing: its contract is the law.
+//! process to the decision. The functions of `laws` do nothing: the contract of each is the law.
 //!
 //! ```text
 //! laws::leader_decisions_have_trails();
