@@ -1,5 +1,5 @@
 -- Which fault a race returns.
-use Rattle.std.specs.Prelude.{◌≡◌, ◌≢◌, ◌⊎◌, ℕ, ◌≤◌, Bool, List, All, Contains, length, Option, Some, None, Vec, vec_len}
+use Rattle.std.specs.Prelude.{◌≡◌, ◌≢◌, ◌⊎◌, ℕ, ◌≤◌, Bool, List, All, Contains, length, Option, Some, None, Vec, vec_len, vec_capacity}
 use Rattle.std.specs.Global.{Global}
 use Rattle.atomic_table.specs.Seated.{TableId}
 use Rattle.cdb_commands.specs.declared.command.Command.{Command}
@@ -38,6 +38,11 @@ abbrev pub HaveFinished : {T : Type 0} → (Parts → Rules) → Vec (Ran T) Glo
 HaveFinished rules rans seats replies =
     (plan : Plan) (before : List SeatView) → length before ≡ vec_len rans → AllRan rules plan before rans.items → AreWell rans.items
     → AllFinished rules plan before seats.items (all_told replies.items)
+
+-- there is room for so many seats and their replies
+abbrev pub IsRoomFor : ℕ → Vec SeatView Global → Vec (Vec Reply Global) Global → Type 0
+IsRoomFor count seats replies =
+    (vec_len seats ≡ 0) × (vec_len replies ≡ 0) × (count ≤ vec_capacity seats) × (count ≤ vec_capacity replies)
 
 -- a seat that ran has this fault, and each that ran and has a fault has no lesser number
 pub record IsOfLeastSeat {T : Type 0} (fault : RaceFault) (rans : List (Ran T)) : Type 0 where

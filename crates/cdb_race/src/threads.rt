@@ -2,7 +2,7 @@
 ghost use Rattle.std.specs.Prelude.{◌≡◌, ◌+◌, ◌<◌, ◌≤◌, length, vec_len, All, IfOk, IfErr, MatchOption, Err};
 ghost use Rattle.cdb_base.specs.Memory.{no_memory};
 ghost use Rattle.cdb_base.specs.Limits.{MAX_SEATS};
-ghost use Rattle.cdb_race.specs.Faults.{fault_in, AreWell, HaveFinished, IsAmongSeats, IsFaultOfThreads, IsNotStopped, IsTold};
+ghost use Rattle.cdb_race.specs.Faults.{fault_in, AreWell, HaveFinished, IsAmongSeats, IsFaultOfThreads, IsNotStopped, IsRoomFor, IsTold};
 ghost use Rattle.cdb_race.specs.LastFault.{IsLastFault};
 ghost use Rattle.cdb_race.specs.Promises.{IsReady, ArePromises, IsPromise, HasRan, HasEndedAtGate};
 ghost use Rattle.cdb_race.specs.Races.{AllRan, AllEnded, AllPass, AreSeatsOf, FillsJournal, HasRaced, MayFill};
@@ -176,25 +176,36 @@ fn first_fault<T: Runs>(rans: &[Ran<T>]) -> Option<RaceFault>
     None
 }
 
-/// The seats and their replies, the first seat's first.
-fn collect<T: Runs>(
+/// Room for this many seats and their replies.
+fn room_for<T: Runs>(
     alloc: Global,
-    mut rans: Vec<Ran<T>>,
+    count: usize,
 ) -> Result<(Vec<Seat<T>>, Vec<Vec<Reply>>), RaceFault>
     ensures fault { IfErr result (λ fault. fault ≡ RaceFault.NoMemory no_memory) }
-    ensures count { IfOk result
-        (λ r. (vec_len r.0 ≡ vec_len rans) × (vec_len r.1 ≡ vec_len rans)) }
-    ensures seats { IfOk result (λ r. AreSeatsOf r.0.items rans.items) }
-    ensures each { IfOk result (λ r. HaveFinished T.rules rans r.0 r.1) }
+    ensures room { IfOk result (λ room. IsRoomFor count room.0 room.1) }
 {
-    let mut seats = match Vec::with_capacity(alloc, rans.len()) {
+    let seats = match Vec::with_capacity(alloc, count) {
         Ok(seats) => seats,
         Err(error) => return Err(RaceFault::NoMemory(NoMemory::from(error))),
     };
-    let mut replied = match Vec::with_capacity(alloc, rans.len()) {
+    let replied = match Vec::with_capacity(alloc, count) {
         Ok(replied) => replied,
         Err(error) => return Err(RaceFault::NoMemory(NoMemory::from(error))),
     };
+    Ok((seats, replied))
+}
+
+/// The seats and their replies, the first seat's first, where there is room for them. It takes no memory.
+fn collect<T: Runs>(
+    mut rans: Vec<Ran<T>>,
+    mut seats: Vec<Seat<T>>,
+    mut replied: Vec<Vec<Reply>>,
+) -> (Vec<Seat<T>>, Vec<Vec<Reply>>)
+    requires room { IsRoomFor (vec_len rans) seats replied }
+    ensures count { (vec_len result.0 ≡ vec_len rans) × (vec_len result.1 ≡ vec_len rans) }
+    ensures seats { AreSeatsOf result.0.items rans.items }
+    ensures each { HaveFinished T.rules rans result.0 result.1 }
+{
     while let Some(ran) = rans.pop() {
         let Ran {
             seat,
@@ -204,7 +215,7 @@ fn collect<T: Runs>(
         seats.push_reserved(seat);
         replied.push_reserved(replies);
     }
-    Ok((seats, replied))
+    (seats, replied)
 }
 
 /// The final control, and for each seat the replies to its script, none where it drove a process.
@@ -249,8 +260,8 @@ fn open_shared<T: Runs, R: Wait>(
 
 /// Drives each process by this many turns and serves each script, each in a thread of its own, and joins
 /// them all. The seats and the gates of the processes come first, and then those of the scripts; there
-/// are at most 64. Of several faults of sessions the one of the least seat is returned, and the race leaves nothing
-/// then. `Stopped` comes only from a gate that did not let a call go on, and `JournalFull` only where these processes
+/// are at most 64. All memory for what it hands back is taken before the threads start. Of several faults of sessions
+/// the one of the least seat is returned, and the race leaves nothing then. `Stopped` comes only from a gate that did not let a call go on, and `JournalFull` only where these processes
 /// and scripts make as many calls as a journal has entries at most.
 pub fn race<T: Runs + Send, G: Gate + Drop + Send, R: Threads + Wait + Sync>(
     rt: &R,
@@ -278,6 +289,7 @@ pub fn race<T: Runs + Send, G: Gate + Drop + Send, R: Threads + Wait + Sync>(
         scripts,
     };
     let count = processes + scripts.len() as u8;
+    let (room, reply_room) = room_for(alloc, usize::from(count))?;
     let (shared, seats) = open_shared(rt, alloc, setup, count)?;
     let rans = match run_all(rt, alloc, &shared, plan, seats, gates) {
         Ok(rans) => rans,
@@ -287,13 +299,7 @@ pub fn race<T: Runs + Send, G: Gate + Drop + Send, R: Threads + Wait + Sync>(
         }
     };
     let fault = first_fault(rans.as_slice());
-    let (seats, replies) = match collect(alloc, rans) {
-        Ok(collected) => collected,
-        Err(fault) => {
-            shared.close();
-            return Err(fault);
-        }
-    };
+    let (seats, replies) = collect(rans, room, reply_room);
     let control = shared.finish(rt, seats);
     // Its clauses say that each entry is of a seat, and how many there are at most.
     control.journal();

@@ -13,16 +13,18 @@ use Rattle.cdb_race.proofs.Finishes.{ends_well, finished}
 use Rattle.cdb_race.proofs.threads.collect.Goals as goal
 
 pub loop-ran-init : goal.loop-ran-init
-loop-ran-init g c = record {
-  rans = λ plan seats same all. all;
-  clean = λ none. none;
-  left = ([], sym (append-nil c.args.rans.items));
-  count = omega (arith, c.in-Ok.ensures.len);
-  replied = omega (arith, c.in-Ok.ensures.len, c.in-Ok-with_capacity.ensures.len);
-  room = (omega (arith, c.in-Ok.ensures.capacity, c.len.ensures), omega (arith, c.in-Ok-with_capacity.ensures.capacity, c.len-2.ensures));
-  gathered = λ k seat ran low. absurd (omega (arith, c.in-Ok.ensures.len, c.in-Ok.seats.ok.0));
-  each = λ plan seats same all none k seat list low. absurd (omega (arith, c.in-Ok.ensures.len, c.in-Ok.seats.ok.0));
-}
+loop-ran-init g c =
+    let room = c.requires.room in
+    record {
+      rans = λ plan seats same all. all;
+      clean = λ none. none;
+      left = ([], sym (append-nil c.args.rans.items));
+      count = omega (arith, room.0);
+      replied = omega (arith, room.0, room.1.0);
+      room = (room.1.1.0, room.1.1.1);
+      gathered = λ k seat ran low. absurd (omega (arith, room.0, c.args.seats.ok.0));
+      each = λ plan seats same all none k seat list low. absurd (omega (arith, room.0, c.args.seats.ok.0));
+    }
 
 pub loop-ran-preserved : goal.loop-ran-preserved
 loop-ran-preserved g c =
