@@ -24,7 +24,7 @@ use Rattle.cdb_register.specs.declared.RegisterState.{RegisterState}
 use Rattle.cdb_alpha.specs.LocalState.{LocalState, first_state}
 use Rattle.cdb_alpha.specs.Place.{place_number}
 use Rattle.cdb_alpha.specs.Table as table
-use Rattle.cdb_alpha.specs.Steps.{Traced, Step, stay, traced_of, ReadsRegisters, TableStep}
+use Rattle.cdb_alpha.specs.Steps.{Traced, Step, stay, traced_of, decided, ReadsRegisters, TableStep}
 use Rattle.cdb_alpha.proofs.Promised.{each_input_is_a_step}
 use Rattle.cdb_setup.specs.Parts.{Parts, AreInRange}
 use Rattle.cdb_rules.specs.Agreement.{AllAgree}
@@ -53,7 +53,7 @@ pub record Lawful (n : ℕ) (t : RunState LocalState) : Type 0 where
   pub tied : (p : ℕ) (x : ProcessState LocalState) → nth t.processes p ≡ Some x
       → run.traced p ≡ traced_of x.progress.local (run.traced p).own_writes (run.traced p).carried
   pub holds : (p : ℕ) (r : RegisterState) → nth t.registers.of_processes p ≡ Some r → r.cell ≡ (run.traced p).own
-  pub dec : (r : RegisterState) → t.registers.of_decision ≡ Some r → r.cell.val ≡ run.dec
+  pub dec : (r : RegisterState) → t.registers.of_decision ≡ Some r → r.cell ≡ decided run.dec
 
 pub nth_low : {A : Type 0} (xs : List A) (i : ℕ) (x : A) → nth xs i ≡ Some x → 1 ≤ i
 nth_low xs i x h1 = grind (arith, common_steps, gets)
@@ -82,7 +82,7 @@ module _ (setup : Parts) where
     among = λ p x is. ap (λ (y : ProcessState LocalState). y.progress.local.processes) (first_process p x is);
     tied = λ p x is. sym (ap (λ (y : ProcessState LocalState). traced_of y.progress.local [] []) (first_process p x is));
     holds = λ p r is. ap (λ (y : RegisterState). y.cell) (first_cells cells p r is);
-    dec = λ r is. ap (λ (y : RegisterState). y.cell.val) (first_decision cells r is);
+    dec = λ r is. ap (λ (y : RegisterState). y.cell) (first_decision cells r is);
   }
 
 -- ---- an event
@@ -107,7 +107,7 @@ pub record Kinded (n : ℕ) (t : RunState LocalState) (run : Run) (x : ProcessSt
   pub same_processes : s.processes ≡ x.progress.local.processes
   pub own_cell : (r : RegisterState) → nth left.of_processes x.progress.local.me ≡ Some r → r.cell ≡ s.own
   pub other_cells : (p : ℕ) (r : RegisterState) → (p ≡ x.progress.local.me → ⊥) → nth left.of_processes p ≡ Some r → r.cell ≡ (run.traced p).own
-  pub dec : (r : RegisterState) → left.of_decision ≡ Some r → r.cell.val ≡ published
+  pub dec : (r : RegisterState) → left.of_decision ≡ Some r → r.cell ≡ decided published
 
 module _ (n : ℕ) (setup : Parts) (t : RunState LocalState) (lawful : Lawful n t) where
   -- process x stands at its place
@@ -161,7 +161,7 @@ module _ (n : ℕ) (setup : Parts) (t : RunState LocalState) (lawful : Lawful n 
       same_processes = it.same_processes;
       own_cell = λ r is. lawful.holds local.me r is ∙ (own_is ∙ sym kept.0);
       other_cells = λ p r other is. lawful.holds p r is;
-      dec = λ r is. lawful.dec r is ∙ sym kept.1;
+      dec = λ r is. lawful.dec r is ∙ ap decided (sym kept.1);
     }
 
     abbrev left_by : Reg → Option Cell → RegisterStates
@@ -183,13 +183,13 @@ module _ (n : ℕ) (setup : Parts) (t : RunState LocalState) (lawful : Lawful n 
               sym (ap (λ (y : RegisterState). y.cell) was.2);
           other_cells = λ p r other is.
               lawful.holds p r (sym (nth-update_nth_other _ _ j p (λ same. other (sym same ∙ it.leaves.0))) ∙ is);
-          dec = λ r is. lawful.dec r is ∙ sym it.leaves.2;
+          dec = λ r is. lawful.dec r is ∙ ap decided (sym it.leaves.2);
         })
 
     -- the register of the decision is written
     writes_dec : (it : IsTaken (input.Write Dec)) → Leaving (left_by Dec (wished_cell (table.wish_of local)))
     writes_dec it =
-        subst (λ cell. Leaving (left_by Dec cell)) (sym it.leaves.2) (record {
+        subst (λ cell. Leaving (left_by Dec cell)) (sym it.leaves.1) (record {
           own_writes_after = it.own_writes_after;
           carried_after = it.carried_after;
           published = it.published;
@@ -200,7 +200,7 @@ module _ (n : ℕ) (setup : Parts) (t : RunState LocalState) (lawful : Lawful n 
           other_cells = λ p r other is. lawful.holds p r is;
           dec = λ r is.
               let was = mapped _ _ r is in
-              sym (ap (λ (y : RegisterState). y.cell.val) was.2) ∙ sym it.leaves.3;
+              sym (ap (λ (y : RegisterState). y.cell) was.2);
         })
 
     kind_step : (p : ℕ) (kind : Kind) → meets kind (sight_in t p kind) ≡ true

@@ -190,6 +190,7 @@ alpha_rounds setup ranges history t is =
     record {
       writer = λ p k i next taken. alpha.writes_alone n setup t lawful p k i next taken;
       shown = λ i process register at is. shows n t lawful i process at register is;
+      no_round = λ register is. (ap (λ (c : Cell). c.lre) (lawful.dec register is), ap (λ (c : Cell). c.lrww) (lawful.dec register is));
       rising = λ event next taken i before later at there. alpha.rises n setup t lawful event next taken i before later at there;
       own_round = λ p process at. own_round n t lawful p process at;
       pass = λ p process at. passed n t lawful p process at;

@@ -161,7 +161,7 @@ module _ (own : ℕ → Cell) (dec : Option ℕ) (s : LocalState) (own_writes : 
   row_taken : (p : Place) (i : Input) (t : LocalState) → s.place ≡ p → (place_number s.place ≡ 4 → 1 ≤ length s.seen) → ReadsRegisters own dec i → Leads (row_at p s) i t → Is i t
   row_taken A0 i t here passed holds h =
       let is : i ≡ input.Read Dec h.1 = h.3 ∙ ap (λ y. input.Read y h.1) (sym (same_Some Dec h.0 h.2)) in
-      by_row_of i (input.Read Dec h.1) t t is refl (looks h.1 t h.1.val here (subst (ReadsRegisters own dec) is holds) refl h.4)
+      by_row_of i (input.Read Dec h.1) t t is refl (looks h.1 t h.1.val here (ap (λ (d : Cell). d.val) (subst (ReadsRegisters own dec) is holds)) refl h.4)
   row_taken A1 i t here passed holds h = by_row_of i (input.Query h.0) t t h.1 refl (asks_who h.0 t (h.0 == s.me) here h.2)
   row_taken A2 i t here passed holds h =
       by_row_of i (input.Write (R s.me)) t (begin_pass A3 s (entered s)) h.0 (same_Some _ t h.1)
@@ -213,7 +213,7 @@ module _ (own : ℕ → Cell) (dec : Option ℕ) (s : LocalState) (own_writes : 
         same_me = refl;
         same_processes = refl;
         step = record { row = publish (ap place_number here); is = refl; same = refl };
-        leaves = (refl, decision_cell s, wishes, refl);
+        leaves = (refl, wishes);
       }))
     where
       wishes : wished_cell (wish_of s) ≡ Some (decision_cell s)

@@ -99,13 +99,17 @@ traced_of s own_writes carried = record {
 -- what a read gives is what the register holds
 abbrev pub ReadsRegisters : (ℕ → Cell) → Option ℕ → Input → Type 0
 ReadsRegisters own dec (input.Read (R j) c) = c ≡ own j
-ReadsRegisters own dec (input.Read Dec c) = c.val ≡ dec
+ReadsRegisters own dec (input.Read Dec c) = c ≡ decided dec
 ReadsRegisters own dec i = Unit {0}
+
+-- what the register of the decision holds, which is of no round
+abbrev pub decided : Option ℕ → Cell
+decided value = record { lre = 0; lrww = 0; val = value }
 
 -- what an input leaves in the registers
 abbrev pub LeavesRegisters : Option ℕ → LocalState → LocalState → Option ℕ → Input → Type 0
 LeavesRegisters dec s t published (input.Write (R j)) = (j ≡ s.me) × (wished_cell (wish_of s) ≡ Some t.own) × (published ≡ dec)
-LeavesRegisters dec s t published (input.Write Dec) = (t.own ≡ s.own) × (c : Cell) × (wished_cell (wish_of s) ≡ Some c) × (published ≡ c.val)
+LeavesRegisters dec s t published (input.Write Dec) = (t.own ≡ s.own) × (wished_cell (wish_of s) ≡ Some (decided published))
 LeavesRegisters dec s t published i = (t.own ≡ s.own) × (published ≡ dec)
 
 -- the step that an input is, with the trace and the register of the decision that it leaves

@@ -3,19 +3,18 @@
 
 mod requested;
 mod run;
+mod seats;
 mod system_files;
 
 use cdb_program::Outside;
 use cdb_session::Streams;
 use cdb_streams::{Input, Output};
 use run::begin;
+use seats::prompt_at;
 use std::io::IsTerminal;
 use std::process::ExitCode;
 use std::{env, io};
 use system_files::SystemFiles;
-
-/// What a session shows before each line, at a terminal.
-const PROMPT: &str = "> ";
 
 /// The arguments of the command line, the program's name first.
 fn words_of(rt: &HostRuntime) -> io::Result<Vec<String>> {
@@ -29,7 +28,7 @@ fn main(rt: HostRuntime) -> ExitCode {
         streams: Streams::new(Input::new(rt.reader()), Output::new(io::writer(&rt))),
         error: Output::new(rt.stderr()),
     };
-    let prompt = if rt.stdin().is_terminal() { PROMPT } else { "" };
+    let prompt = prompt_at(rt.stdin().is_terminal());
     let status = begin(&rt, rt.alloc(), prompt, words_of(&rt), &mut outside);
     ExitCode::from(status)
 }

@@ -1,5 +1,10 @@
 //! The files of the system.
 
+ghost use Rattle.std.specs.Prelude.{◌≡◌};
+ghost use Rattle.std.specs.IoError.{error_kind};
+ghost use Rattle.revdbg.specs.System.{read_fault_of};
+
+use crate::seats::{pair_of, prompt_at};
 use cdb_base::NoMemory;
 use cdb_program::Files;
 use cdb_session::Streams;
@@ -9,9 +14,6 @@ use std::alloc::Global;
 use std::fs::File;
 use std::io;
 use std::io::{ErrorKind, IsTerminal};
-
-/// What a seat shows before each line, at a terminal.
-const PROMPT: &[u8] = b"> ";
 
 /// What the session of a seat reads from and writes to.
 type SeatConsole = Streams<Input<File>, Output<File>>;
@@ -39,20 +41,22 @@ fn terminal(rt: &HostRuntime, name: &str) -> io::Result<(File, File)> {
     Ok((input, File::options().write(true).open(rt, name)?))
 }
 
-/// The seat of this name: a terminal device, or `IN:OUT`, a pair of files or pipes, cut at the first colon. Of a pair the
-/// file that is written to is made where it is not there, and emptied where it is.
+/// The seat of this name: a terminal device, or `IN:OUT`, a pair of files or pipes. The file that is written to is made where
+/// it is not there, and emptied where it is.
 fn seat_of(rt: &HostRuntime, name: &str) -> io::Result<Endpoint<SeatConsole>> {
-    let (input, output) = match name.split_once(':') {
+    let (input, output) = match pair_of(name) {
         Some((input, output)) => (File::open(rt, input)?, File::create(rt, output)?),
         None => terminal(rt, name)?,
     };
-    let prompt = if input.is_terminal() { PROMPT } else { b"" };
+    let prompt = prompt_at(input.is_terminal()).as_bytes();
     let console = Streams::new(Input::new(input), Output::new(output));
     Ok(Endpoint { console, prompt })
 }
 
-/// What could not be read or opened.
-fn fault_of(error: &io::Error) -> ReadFault {
+/// The fault of a file that could not be opened, where this is the system's error.
+fn fault_of(error: &io::Error) -> ReadFault
+    ensures { result ≡ read_fault_of (error_kind error.now) }
+{
     match NoMemory::of(error) {
         Some(refused) => ReadFault::NoMemory(refused),
         None => ReadFault::Failed,

@@ -1,0 +1,23 @@
+-- The edge to the system: what its errors tell, and the names of seats.
+use Rattle.std.specs.Prelude.{◌≡◌, ◌==◌, ℕ, Bool, List}
+use Rattle.std.specs.List.{after_first, before_first}
+use Rattle.std.specs.declared.io.ErrorKind.{ErrorKind}
+use Rattle.std.specs.declared.io.ErrorKind.TheVariants as kind
+use Rattle.cdb_base.specs.Memory.{no_memory}
+use Rattle.cdb_streams.specs.declared.source.ReadFault.{ReadFault}
+use Rattle.cdb_streams.specs.declared.source.ReadFault.TheVariants.{Failed, NoMemory}
+
+-- the fault of a file that could not be opened for an error of this kind
+abbrev pub read_fault_of : ErrorKind → ReadFault
+read_fault_of kind.OutOfMemory = NoMemory no_memory
+read_fault_of its = Failed
+
+abbrev pub is_colon : ℕ → Bool
+is_colon byte = byte == 58
+
+abbrev pub HasNoColon : List ℕ → Type 0
+HasNoColon name = before_first is_colon name ≡ name
+
+-- the name of a seat in two: what it reads, before the first colon, and what it writes, behind that
+abbrev pub IsPair : List ℕ → List ℕ → List ℕ → Type 0
+IsPair name input output = (input ≡ before_first is_colon name) × (output ≡ after_first is_colon name)
