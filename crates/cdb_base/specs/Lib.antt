@@ -1,4 +1,4 @@
--- what a reader of the contracts believes: names of events, lists that count from 1, registers, results, and the refusals
+-- what a reader of the contracts believes: names of events, lists that count from 1, registers, results, and the refusals of commands, of memory and of a thread
 pub mod Event
 pub mod Limits
 pub mod NameTexts
@@ -8,3 +8,4 @@ pub mod Refusal
 pub mod Registers
 pub mod Results
 pub mod Memory
+pub mod Start

@@ -1,4 +1,4 @@
-//! Names, values, events and refusals of the debugger: plain types with their ranges.
+//! Names, values, events and refusals of the debugger: plain types with their ranges; and the start of a thread.
 //!
 //! ```text
 //! let process = Proc::new(2);
@@ -16,6 +16,7 @@ pub mod payload;
 pub mod proc_view;
 pub mod refusal;
 pub mod register;
+pub mod start;
 pub mod value;
 
 pub use act::Act;

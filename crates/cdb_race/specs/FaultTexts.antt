@@ -1,6 +1,6 @@
 -- The texts of faults of a race.
 use Rattle.std.specs.Prelude.{ℕ, List, codes}
-use Rattle.cdb_start.specs.FaultTexts.{refused_start_text}
+use Rattle.cdb_base.specs.Start.{refused_start_text}
 use Rattle.cdb_race.specs.declared.threads.RaceFault.{RaceFault}
 use Rattle.cdb_race.specs.declared.threads.RaceFault.TheVariants as fault
 

@@ -1,7 +1,7 @@
 -- The texts of faults, and the lines that report them.
 use Rattle.std.specs.Prelude.{ℕ, List, ◌++◌, codes, decimal}
 use Rattle.cdb_setup.specs.Numbers.{setup_fault_text}
-use Rattle.cdb_start.specs.FaultTexts.{refused_start_text}
+use Rattle.cdb_base.specs.Start.{refused_start_text}
 use Rattle.cdb_text.specs.LineFaults.{line_fault_text}
 use Rattle.cdb_text.specs.declared.fault.LineFault.{LineFault}
 use Rattle.cdb_streams.specs.declared.fault.PlayFault.{PlayFault}

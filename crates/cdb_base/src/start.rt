@@ -16,7 +16,7 @@ pub struct RefusedStart {
 /// The text that the program reports, without the end of the line.
 impl fmt::Display for RefusedStart {
     ghost use Rattle.std.specs.Prelude.{Some};
-    ghost use Rattle.cdb_start.specs.FaultTexts.{refused_start_text};
+    ghost use Rattle.cdb_base.specs.Start.{refused_start_text};
 
     ghost output = { λ _. Some refused_start_text };
 
