@@ -85,8 +85,12 @@ impl Proc {
 
 /// The first process, for lists that have something in every cell.
 impl Default for Proc {
+    ghost use Rattle.std.specs.Prelude.{◌≡◌};
+
+    ghost is_default = { λ p. p ≡ 1 };
+
     fn default() -> Self {
-        Proc(1)
+        Self(1)
     }
 }
 
@@ -161,6 +165,11 @@ impl fmt::Display for StepId {
 
 /// A name, for lists that have something in every cell.
 impl Default for StepId {
+    ghost use Rattle.std.specs.Prelude.{◌≡◌};
+    ghost use Rattle.cdb_base.specs.declared.name.StepId.TheVariants.{Step};
+
+    ghost is_default = { λ name. name ≡ Step (record { p = 1; k = 0 }) };
+
     fn default() -> Self {
         StepId::Step(StepName::default())
     }
