@@ -96,15 +96,15 @@ traced_of s own_writes carried = record {
   carried = carried;
 }
 
+-- what the register of the decision holds, which is of no round
+abbrev pub decided : Option ℕ → Cell
+decided value = record { lre = 0; lrww = 0; val = value }
+
 -- what a read gives is what the register holds
 abbrev pub ReadsRegisters : (ℕ → Cell) → Option ℕ → Input → Type 0
 ReadsRegisters own dec (input.Read (R j) c) = c ≡ own j
 ReadsRegisters own dec (input.Read Dec c) = c ≡ decided dec
 ReadsRegisters own dec i = Unit {0}
-
--- what the register of the decision holds, which is of no round
-abbrev pub decided : Option ℕ → Cell
-decided value = record { lre = 0; lrww = 0; val = value }
 
 -- what an input leaves in the registers
 abbrev pub LeavesRegisters : Option ℕ → LocalState → LocalState → Option ℕ → Input → Type 0

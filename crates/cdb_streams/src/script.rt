@@ -1,6 +1,6 @@
 //! The commands of a script.
 
-ghost use Rattle.std.specs.Prelude.{◌≡◌, ◌+◌, ◌*◌, ◌<◌, ◌≤◌, [], ◌∷◌, ◌++◌, length, Err, IfOk, IfErr, OnOk};
+ghost use Rattle.std.specs.Prelude.{◌≡◌, ◌+◌, ◌*◌, ◌/◌, ◌<◌, ◌≤◌, [], ◌∷◌, ◌++◌, length, Err, IfOk, IfErr, OnOk};
 ghost use Rattle.cdb_base.specs.Limits.{MAX_ENTRIES};
 ghost use Rattle.cdb_setup.specs.Format.{longest};
 ghost use Rattle.cdb_streams.specs.Faults.{IsFaultOfReading};
@@ -73,7 +73,9 @@ fn push_command(commands: &mut Vec<Command>, command: Command) -> Result<(), All
 }
 
 /// How many commands a script of this many bytes has at most.
-fn most_commands(bytes: usize) -> usize {
+fn most_commands(bytes: usize) -> usize
+    ensures { result ≡ 1 + bytes / 5 }
+{
     1 + bytes / SHORTEST_LINE
 }
 
