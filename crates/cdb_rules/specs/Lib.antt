@@ -20,4 +20,3 @@ pub mod Agreement
 -- what the code keeps for itself: a step as it is taken, how runs are compared, and events by their positions
 pub mod Taking
 pub mod Comparing
-pub mod AtPositions
