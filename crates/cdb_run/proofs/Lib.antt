@@ -15,6 +15,5 @@ pub mod Restoring
 pub mod RollingBack
 pub mod Causes
 -- whether two runs are in one state
-pub mod Counting
-pub mod Compared
+pub mod OwnSteps
 pub mod SameRuns

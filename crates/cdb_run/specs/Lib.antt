@@ -4,7 +4,7 @@ pub mod Recorded
 -- what the code keeps for itself: the plan of a step, what it does to the registers, and what restores the state before it
 pub mod Plans
 pub mod Registers
-pub mod WriteCounts
+pub mod Comparing
 pub mod Restored
 pub mod Stepped
 pub mod Current
