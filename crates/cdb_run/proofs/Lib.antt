@@ -15,8 +15,6 @@ pub mod Coming
 pub mod Causes
 pub mod Found
 pub mod RollingBack
-
 -- whether two runs are in one state
-pub mod Counting
-pub mod Compared
+pub mod OwnSteps
 pub mod SameRuns
