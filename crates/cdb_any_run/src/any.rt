@@ -23,10 +23,10 @@ use cdb_alpha::Alpha;
 use cdb_base::{
     Act, CopyName, Event, MsgName, NoMemory, Proc, ProcView, Refusal, Reg, StepId, Val,
 };
-use cdb_history::History;
 use cdb_leader::Leader;
 use cdb_rules::{EventRef, Runs};
 use cdb_run::Run;
+use cdb_standing::History;
 use smallvec::SmallVec;
 use std::alloc::Global;
 use std::marker::Model;

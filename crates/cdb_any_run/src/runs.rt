@@ -13,10 +13,11 @@ use crate::shown::cell_of;
 use cdb_base::{
     Act, Cell, Event, MsgName, NoMemory, Payload, Proc, ProcView, Refusal, Reg, StepId, Val,
 };
-use cdb_past::{Chronicle, Chronicled};
+use cdb_past::Chronicled;
 use cdb_rules::{EventRef, Runs};
 use cdb_run::Run;
 use cdb_setup::{Algorithm, Setup};
+use cdb_standing::History;
 use smallvec::SmallVec;
 use std::alloc::Global;
 
@@ -196,8 +197,7 @@ impl Runs for AnyRun {
 }
 
 impl Chronicled for AnyRun {
-    fn into_chronicle(self) -> Chronicle {
-        let (setup, history) = by_machine!(self.run, run => run.into_parts());
-        Chronicle::new(setup, history)
+    fn into_parts(self) -> (Setup, History) {
+        by_machine!(self.run, run => run.into_parts())
     }
 }

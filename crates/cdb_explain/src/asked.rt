@@ -4,7 +4,6 @@ ghost use Rattle.std.specs.Prelude.{◌≡◌, MatchOption};
 ghost use Rattle.cdb_explain.specs.Asked.{is_asked, IsStepAsked, StandsNoStep};
 
 use cdb_base::Event;
-use cdb_history::History;
 
 /// Whether the event is a step of process `p`, the `k`-th where a number is given.
 fn is_asked(event: &Event, p: u32, k: Option<u32>) -> bool
@@ -22,13 +21,12 @@ fn is_asked(event: &Event, p: u32, k: Option<u32>) -> bool
 
 /// The position, from 1, of the `k`-th standing step of process `p`; without `k` that of its last
 /// standing step. Nothing where no such step stands.
-pub fn position_of_step(history: &History, p: u32, k: Option<u32>) -> Option<usize>
-    ensures { MatchOption result (StandsNoStep history.now p k)
-        (λ position. IsStepAsked history.now p k position) }
+pub fn position_of_step(events: &[Event], p: u32, k: Option<u32>) -> Option<usize>
+    ensures { MatchOption result (StandsNoStep events.now p k)
+        (λ position. IsStepAsked events.now p k position) }
 {
-    for i in (0..history.len()).rev() {
-        let event = history.event(i);
-        if is_asked(event, p, k) {
+    for i in (0..events.len()).rev() {
+        if is_asked(&events[i], p, k) {
             return Some(i + 1);
         }
     }

@@ -3,18 +3,23 @@
 ghost use Rattle.cdb_control.specs.Headline.{Headline};
 ghost use Rattle.cdb_explain.specs.Left.{run_of};
 ghost use Rattle.cdb_rules.specs.ByRules.{IsInOrder};
-ghost use Rattle.std.specs.Prelude.{◌≡◌, ◌≤◌, length};
+ghost use Rattle.std.specs.Prelude.{◌≡◌, ◌≤◌, length, IfOk};
 
+use cdb_base::NoMemory;
 use cdb_base::limits::MAX_ENTRIES;
 use cdb_control::Control;
 use cdb_past::{Chronicle, Chronicled};
+use std::alloc::Global;
 
 /// What stands in the run of a control: no more events than the journal has entries. All else of the control is
 /// given up.
-pub(crate) fn chronicle_of<T: Chronicled>(control: Control<T>) -> Chronicle
-    ensures is { result ≡ run_of T.rules control }
-    ensures valid { IsInOrder T.rules result }
-    ensures few { length result.history ≤ MAX_ENTRIES }
+pub(crate) fn chronicle_of<T: Chronicled>(
+    alloc: Global,
+    control: Control<T>,
+) -> Result<Chronicle, NoMemory>
+    ensures is { IfOk result (λ run. run ≡ run_of T.rules control) }
+    ensures valid { IfOk result (IsInOrder T.rules) }
+    ensures few { IfOk result (λ run. length run.history ≤ MAX_ENTRIES) }
     ensures headline { Headline T.rules T.same_state control.setup control.seats control.journal }
 {
     // Its clauses say that each entry is of one of the seats, how many there are, and that the headline holds of them.
@@ -22,5 +27,6 @@ pub(crate) fn chronicle_of<T: Chronicled>(control: Control<T>) -> Chronicle
     let run = control.into_run();
     // Its clause says that the parts of the setup are in range.
     let _ranges = run.setup().n();
-    run.into_chronicle()
+    let (setup, history) = run.into_parts();
+    Chronicle::new(alloc, setup, history)
 }

@@ -99,6 +99,6 @@ pub fn run_left_by<T: Chronicled, R: Source>(
     let setup = Setup::read(alloc, setup)?;
     let commands = read_commands(alloc, script)?;
     let control = control_after::<T>(alloc, setup, commands.as_slice())?;
-    let run = chronicle_of(control);
+    let run = chronicle_of(alloc, control)?;
     Ok(run)
 }

@@ -14,7 +14,6 @@ mod fault;
 mod left;
 mod line;
 mod lines;
-mod past;
 mod replay;
 mod step;
 
@@ -24,6 +23,5 @@ pub use fault::ExplainFault;
 pub use left::run_left_by;
 pub use line::{decision_by, push_whole};
 pub use lines::explanation;
-pub use past::past_of;
 pub use replay::{fresh, take_next};
 pub use step::explain_step;

@@ -8,7 +8,6 @@ ghost use Rattle.std.specs.List.{flat_map};
 ghost use Rattle.std.specs.Prelude.{◌≡◌, ◌≤◌, length, IfOk};
 
 use crate::line::push_line;
-use crate::past::past_of;
 use crate::replay::{fresh, take_next};
 use cdb_base::NoMemory;
 use cdb_past::Chronicle;
@@ -33,10 +32,10 @@ fn push_lines<T: Runs>(
     let mut again = fresh::<T>(alloc, run)?;
     // Its clause says that the parts of the setup are in range.
     let _ranges = run.setup().n();
-    let history = run.history();
+    let events = run.events();
     let mut count = 0;
-    for i in 0..history.len() {
-        let event = history.event(i);
+    for i in 0..events.len() {
+        let event = &events[i];
         take_next(alloc, &mut again, event)?;
         if flags[i] {
             push_line(alloc, text, &again, event)?;
@@ -68,8 +67,7 @@ fn push_all<T: Runs>(
     ensures { Pushes result text.old text.new (lines_text T.rules run.now flags.now) }
 {
     let count = push_lines::<T>(alloc, text, run, flags)?;
-    let history = run.history();
-    push_count(text, count, history.len())?;
+    push_count(text, count, run.events().len())?;
     Ok(())
 }
 
@@ -100,7 +98,7 @@ pub fn explanation<T: Runs>(
     requires to_len { position ≤ length run.now.history }
     ensures { IfOk result (λ text. IsExplanation T.rules run.now position text.items) }
 {
-    let flags = past_of(alloc, run.history(), position)?;
+    let flags = run.flag_past(alloc, position)?;
     let text = text_of_flagged::<T>(alloc, run, flags.as_slice())?;
     Ok(text)
 }

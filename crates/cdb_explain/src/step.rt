@@ -23,7 +23,7 @@ pub fn explain_step<T: Runs>(
     requires { IsInOrder T.rules run.now }
     ensures { IfOk result (IsExplainedIfStanding T.rules run.now p k) }
 {
-    let Some(position) = position_of_step(run.history(), p, k) else {
+    let Some(position) = position_of_step(run.events(), p, k) else {
         return Ok(None);
     };
     let text = explanation::<T>(alloc, run, position)?;

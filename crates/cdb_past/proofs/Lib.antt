@@ -1,2 +1,2 @@
-pub mod Pairing
-pub mod Walk
+pub mod Beginnings
+pub mod Flagged

@@ -11,4 +11,5 @@ IsFlagged flags at = nth flags at ≡ Some true
 
 -- the positions are flagged that have led to the event at one of them, and no others
 abbrev pub FlagsPast : List Event → ℕ → List Bool → Type 0
-FlagsPast history at flags = (length flags ≡ length history) × ((other : ℕ) → IsFlagged flags other ↔ HasLedTo depends history at other)
+FlagsPast history at flags =
+    (length flags ≡ length history) × ((other : ℕ) → IsFlagged flags other ↔ HasLedTo depends history at other)

@@ -1,11 +1,15 @@
-//! What stands in a run, and the trait of a run that can be turned into it.
+//! What stands in a run, and the trait of a run that can be given up for it.
 
-ghost use Rattle.std.specs.Prelude.{◌≡◌};
+ghost use Rattle.std.specs.Prelude.{◌≡◌, ◌≤◌, length, IfOk};
+ghost use Rattle.cdb_past.specs.Flags.{FlagsPast};
 ghost use Rattle.cdb_rules.specs.ByRules.{IsInOrder};
 
-use cdb_history::History;
+use crate::past::is_up_to;
+use cdb_base::{Event, NoMemory};
 use cdb_rules::Runs;
 use cdb_setup::Setup;
+use cdb_standing::History;
+use std::alloc::Global;
 use std::marker::Model;
 
 /// The setup of a run and its standing events, without what they have come to and what takes them back.
@@ -13,22 +17,32 @@ use std::marker::Model;
 pub struct Chronicle {
     setup: Setup,
     history: History,
+    /// The events of the history, in order.
+    events: Vec<Event>,
 }
 
 impl Model for Chronicle {
+    ghost use Rattle.std.specs.Prelude.{◌≡◌};
     ghost use Rattle.cdb_rules.specs.RunView.{RunView};
 
     ghost Value = { RunView };
 
     ghost view = { λ fields. record { setup = fields.setup; history = fields.history } };
+
+    ghost invariant = { λ fields. fields.events.items ≡ fields.history };
 }
 
 impl Chronicle {
     /// A setup with events that stand.
-    pub fn new(setup: Setup, history: History) -> Self
-        ensures { result ≡ record { setup = setup; history = history } }
+    pub fn new(alloc: Global, setup: Setup, history: History) -> Result<Self, NoMemory>
+        ensures { IfOk result (λ run. run ≡ record { setup = setup; history = history }) }
     {
-        Chronicle { setup, history }
+        let events = history.to_vec(alloc)?;
+        Ok(Chronicle {
+            setup,
+            history,
+            events,
+        })
     }
 
     /// The setup.
@@ -39,17 +53,34 @@ impl Chronicle {
     }
 
     /// The standing events, in the order in which they were taken.
-    pub fn history(&self) -> &History
+    pub fn events(&self) -> &[Event]
         ensures { result.now ≡ self.now.history }
     {
-        &self.history
+        self.events.as_slice()
+    }
+
+    /// Flags what led to the event at a position, from 1 to the number of events: the event itself, and each
+    /// from which a chain of dependences leads to it. It can fail only out of memory.
+    pub fn flag_past(&self, alloc: Global, at: usize) -> Result<Vec<bool>, NoMemory>
+        requires from_one { 1 ≤ at }
+        requires to_len { at ≤ length self.now.history }
+        ensures { IfOk result (λ flags. FlagsPast self.now.history at flags.items) }
+    {
+        let events = self.events();
+        let last = &events[at - 1];
+        let numbers = self.history.past(last.name());
+        let mut flags = Vec::with_capacity(alloc, events.len())?;
+        for event in events {
+            flags.push(is_up_to(&numbers, last, event))?;
+        }
+        Ok(flags)
     }
 }
 
-/// A run that can be turned into what stands in it.
+/// A run that can be given up for what stands in it.
 pub trait Chronicled: Runs {
-    /// What stands in the run: each event was enabled in its turn. All else of the run is given up.
-    fn into_chronicle(self) -> Chronicle
-        ensures run { result ≡ Self.run self }
+    /// The setup of the run and its standing events, each of which was enabled in its turn. All else is given up.
+    fn into_parts(self) -> (Setup, History)
+        ensures run { Self.run self ≡ record { setup = result.0; history = result.1 } }
         ensures valid { IsInOrder Self.rules (Self.run self) };
 }

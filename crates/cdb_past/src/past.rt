@@ -1,29 +1,17 @@
-//! The past of an event, by flags that are set from the event back to the start of the history.
+//! The past of an event, by numbers: of each process the steps up to one.
 
-ghost use Rattle.std.specs.Prelude.{◌≡◌, ◌≤◌, length, IfOk};
-ghost use Rattle.cdb_past.specs.Flags.{FlagsPast};
+ghost use Rattle.std.specs.Prelude.{◌↔◌, IsTrue};
+ghost use Rattle.cdb_base.specs.Event.{event_name};
+ghost use Rattle.cdb_standing.specs.LedTo.{IsUpTo};
 
-use crate::pairs::pairs_of_first;
-use cdb_base::NoMemory;
-use cdb_history::History;
-use std::alloc::Global;
+use cdb_base::Event;
 
-/// Flags what led to the event at a position, from 1 to the number of events: the event itself, and each
-/// from which a chain of dependences leads to it. It looks for the direct causes of the events up to
-/// that position, and goes over them once, from the last back. It can fail only out of memory.
-pub fn flag_past(alloc: Global, history: &History, at: usize) -> Result<Vec<bool>, NoMemory>
-    requires from_one { 1 ≤ at }
-    requires to_len { at ≤ length history.now }
-    ensures { IfOk result (λ flags. FlagsPast history.now at flags.items) }
+/// Whether the event is one of the steps up to the numbers, or the last event itself.
+pub(crate) fn is_up_to(numbers: &[usize; 9], last: &Event, event: &Event) -> bool
+    ensures { IsTrue result ↔ IsUpTo numbers.now (event_name last.now) event.now }
 {
-    let pairs = pairs_of_first(alloc, history, at)?;
-    let mut flags = Vec::from_elem(alloc, false, history.len())?;
-    flags[at - 1] = true;
-    for i in (0..pairs.len()).rev() {
-        let pair = pairs[i];
-        if flags[pair.effect] {
-            flags[pair.cause] = true;
-        }
+    match event {
+        Event::Step { p, k, .. } => usize::from(*k) <= numbers[p.index()],
+        Event::Lost(_) => event.name() == last.name(),
     }
-    Ok(flags)
 }

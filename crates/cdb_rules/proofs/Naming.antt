@@ -171,7 +171,7 @@ module _ {L : Type 0} (machine : Machine L) where
         unlinked (Lost other) linked before = true≢false (sym linked)
 
   -- the send of a message that is sent behind a list, and was not before it, is in the list
-  sent_by_step : (state next : RunState L) (event : Event) (name : MsgName) → after machine state event ≡ Some next → is_sent (mail_of next) name ≡ true → (is_sent (mail_of state) name ≡ true) ⊎ ((k : ℕ) × (event ≡ Step name.s k (Send name.m)))
+  pub sent_by_step : (state next : RunState L) (event : Event) (name : MsgName) → after machine state event ≡ Some next → is_sent (mail_of next) name ≡ true → (is_sent (mail_of state) name ≡ true) ⊎ ((k : ℕ) × (event ≡ Step name.s k (Send name.m)))
   sent_by_step state next (Step p k kind) name one sent =
       elim (sends name.s name.m p kind) as (λ b. sends name.s name.m p kind ≡ b → (is_sent (mail_of state) name ≡ true) ⊎ ((l : ℕ) × (Step p k kind ≡ Step name.s l (Send name.m)))) [
         | true ↦ λ e. let s = sends_it name.s name.m p kind e in inr (k, ap (λ q. Step q k kind) s.0 ∙ ap (Step name.s k) s.1)
@@ -202,7 +202,7 @@ module _ {L : Type 0} (machine : Machine L) where
   unsent_by None fresh = refl
   unsent_by (Some process) fresh = fresh process refl
 
-  start_unsent : (name : MsgName) → is_sent (mail_of (start machine)) name ≡ true → ⊥
+  pub start_unsent : (name : MsgName) → is_sent (mail_of (start machine)) name ≡ true → ⊥
   start_unsent name h =
       let payload = some_of (payload_of (mail_of (start machine)) name) h in
       nothing_at name.m payload.0

@@ -17,7 +17,5 @@ pub mod Views
 -- the laws: what the rules keep, agreement and validity
 pub mod Lawful
 pub mod Agreement
--- what the code keeps for itself: a step as it is taken, how runs are compared, and events by their positions
+-- what the code keeps for itself: a step as it is taken
 pub mod Taking
-pub mod Comparing
-pub mod AtPositions

@@ -8,7 +8,6 @@ use Rattle.cdb_base.specs.Positions.{nth}
 use Rattle.cdb_base.specs.Processes.{all_processes}
 use Rattle.cdb_base.specs.declared.event.Event.{Event}
 use Rattle.cdb_base.specs.declared.event.Event.TheVariants.{Step, Lost}
-use Rattle.cdb_base.specs.declared.name.CopyName.{CopyName}
 use Rattle.cdb_base.specs.declared.name.StepId.{StepId}
 use Rattle.cdb_base.specs.declared.name.StepId.TheVariants as named
 use Rattle.cdb_causal.specs.Dependence.{depends}
@@ -17,19 +16,18 @@ use Rattle.cdb_causal.proofs.Effects.{by_effect}
 use Rattle.cdb_causal.specs.DirectCauses.{ComesBefore}
 use Rattle.cdb_causal.specs.DirectDependents.{is_direct}
 use Rattle.cdb_causal.specs.Exchange.{IsIn, here, there}
-use Rattle.cdb_causal.specs.FromZero.{IsLink, IsDirectCause, AreDirectCauses, NamesDirectCause, IsStanding}
+use Rattle.cdb_causal.specs.FromZero.{IsLink, IsDirectCause, AreDirectCauses, NamesDirectCause}
 use Rattle.cdb_causal.specs.DirectCauses as from_one
 use Rattle.cdb_causal.specs.Rollback.{events_before}
 use Rattle.cdb_causal.proofs.DirectByList.{direct_between}
-use Rattle.cdb_causal.proofs.FromOne.{standing_down, direct_causes_down}
-use Rattle.cdb_history.proofs.SlotsOfCauses.{lost_received}
+use Rattle.cdb_causal.proofs.FromOne.{link_up, direct_causes_down}
 use Rattle.cdb_rules.specs.State.{Machine}
 use Rattle.cdb_rules.specs.Step.{IsValid}
 use Rattle.cdb_rules.specs.Undo.{direct_among}
 use Rattle.cdb_rules.proofs.Kept.{is_false}
 use Rattle.cdb_rules.proofs.ListMembers.{nothing_in, position_in, in_filter, from_filter, filter_none, any_none, get-take, get_up_to, length_up_to, in_map, from_map, in_flat, from_flat}
 use Rattle.cdb_rules.proofs.Mails.{not_true}
-use Rattle.cdb_rules.proofs.Naming.{in_cases, in_position, lost_unreceived, valid_standing}
+use Rattle.cdb_rules.proofs.Naming.{in_cases, in_position, of_processes, loss_free}
 use Rattle.cdb_rules.proofs.Taken.{both}
 
 -- Two rows of names with the same members, both in order, are one.
@@ -231,24 +229,15 @@ direct_along one other j agree i d =
 -- In a valid history a loss causes nothing.
 
 module _ {L : Type 0} (machine : Machine L) (history : List Event) (valid : IsValid machine history) (few : length machine.firsts ≤ 9) where
-  standing : IsStanding history
-  standing = standing_down history (valid_standing machine history valid few)
-
-  no_loss : (i j : ℕ) (l : IsLink depends history i j) (copy : CopyName) → l.cause ≡ Lost copy → ⊥
-  no_loss i j l copy is =
-      let received = lost_received history standing j i l copy is in
-      lost_unreceived machine history valid copy received.k
-      (in_position history i (Lost copy) (l.at_cause ∙ ap Some is))
-      (in_position history j _ (l.at_effect ∙ ap Some received.is))
-
   process_of_cause : (i j : ℕ) (l : IsLink depends history i j) (event : Event) → l.cause ≡ event → (p : ℕ) × IsIn p all_processes × (is_step_of p event ≡ true)
   process_of_cause i j l (Step p k kind) is =
-      let range = standing.processes i p k kind (l.at_cause ∙ ap Some is) in
-      (p, is_process p range.0 range.1, itself p)
+      let range = of_processes machine history valid p k kind (in_position history i (Step p k kind) (l.at_cause ∙ ap Some is)) in
+      (p, is_process p range.0 (let last = range.1 in omega (arith, last, few)), itself p)
     where
       itself : (p : ℕ) → (p == p) ≡ true
       itself p = grind (arith, nat_tests)
-  process_of_cause i j l (Lost copy) is = absurd (no_loss i j l copy is)
+  process_of_cause i j l (Lost copy) is =
+      absurd (loss_free machine history valid (suc i) copy (l.at_cause ∙ ap Some is) (suc j) (link_up depends history i j l))
 
   module _ (j : ℕ) (event : Event) (at : slice_get history j ≡ Some event) where
     abbrev earlier : List Event

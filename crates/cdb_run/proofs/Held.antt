@@ -2,7 +2,6 @@
 use Rattle.std.proofs.Common.{◌≡◌, ℕ, zero, suc, ◌+◌, ◌<◌, ◌≤◌, true, false, not, ◌&&◌, if◌then◌else◌, List, [], ◌∷◌, ◌++◌, length, map, Option, Some, None, IsSome, option_and_then, option_map, unwrap_or, get_or, refl, sym, ap, ap₂, ◌∙◌, subst, true≢false, arith}
 use Rattle.std.proofs.lemmas.List.{length-map}
 use Rattle.std.proofs.lemmas.Option.{same_Some, slice_get_read}
-use Rattle.std.proofs.lemmas.List.{map-append}
 use Rattle.std.specs.Option.{ForSome}
 use Rattle.std.proofs.lemmas.Bool.Decides.{nat_tests}
 use Rattle.cdb_base.specs.Positions.{nth, set_nth}
@@ -16,9 +15,9 @@ use Rattle.cdb_causal.proofs.Paths.{path_push}
 use Rattle.std.specs.FinSet as set
 use Rattle.cdb_base.specs.declared.name.CopyName.{CopyName}
 use Rattle.cdb_message.specs.Mail.{MailState, is_sent, is_received, is_lost, add_loss}
-use Rattle.cdb_record.specs.Recorded.{events_of, recorded_of}
-use Rattle.cdb_record.specs.declared.recorded.Recorded.{Recorded}
-use Rattle.cdb_record.specs.declared.recorded.Left.{Left}
+use Rattle.cdb_standing.specs.Recorded.{events_of, nothing, recorded_of}
+use Rattle.cdb_standing.specs.declared.recorded.Recorded.{Recorded}
+use Rattle.cdb_standing.specs.declared.recorded.Left.{Left}
 use Rattle.cdb_register.specs.Registers.{RegisterStates, register_of}
 use Rattle.cdb_register.specs.declared.RegisterState.{RegisterState}
 use Rattle.cdb_run.specs.Back.{put_back, overwritten_cell}
@@ -45,11 +44,12 @@ writable_by machine process mail registers p (Write register) due met few = (met
     limit o few = λ stands at. few stands at
 writable_by machine process mail registers p _ due met few = tt
 
-there : {A : Type 0} (xs : List A) (p : ℕ) → 1 ≤ p → p ≤ length xs → (x : A) × (nth xs p ≡ Some x)
-there xs zero first last = absurd (omega (arith, first))
-there [] (suc i) first last = absurd (omega (arith, last))
-there (x ∷ xs) (suc zero) first last = (x, refl)
-there (x ∷ xs) (suc (suc i)) first last = there xs (suc i) (omega arith) (omega (arith, last))
+-- something stands at each position
+pub stands_at : {A : Type 0} (xs : List A) (p : ℕ) → 1 ≤ p → p ≤ length xs → (x : A) × (nth xs p ≡ Some x)
+stands_at xs zero first last = absurd (omega (arith, first))
+stands_at [] (suc i) first last = absurd (omega (arith, last))
+stands_at (x ∷ xs) (suc zero) first last = (x, refl)
+stands_at (x ∷ xs) (suc (suc i)) first last = stands_at xs (suc i) (omega arith) (omega (arith, last))
 
 absent : {A : Type 0} (xs : List A) (p : ℕ) → is_among (length xs) p ≡ false → nth xs p ≡ None
 absent xs zero none = refl
@@ -79,11 +79,11 @@ path_sound machine before state to (entry ∷ entries) p sound =
     path_sound machine before p.0 to entries p.2 (event_sound machine state p.0 entry.event p.1.leads sound)
 
 module _ {L B : Type 0} {machine : Machine L} {before : L → B → L} where
-  module _ {processes : List (Progress L)} {mail : MailState} {registers : RegisterStates} {history : List Event} {entries : List (Recorded B)} (current : IsCurrent machine before processes mail registers history entries) where
-    pub valid : fold machine history ≡ Some current.state
-    valid = ap (fold machine) current.history_is ∙ led_reached machine before (start machine) current.state entries current.led
+  module _ {processes : List (Progress L)} {mail : MailState} {registers : RegisterStates} {entries : List (Recorded B)} (current : IsCurrent machine before processes mail registers entries) where
+    pub valid : fold machine (events_of entries) ≡ Some current.state
+    valid = led_reached machine before (start machine) current.state entries current.led
 
-    pub state_is : state_of machine history ≡ current.state
+    pub state_is : state_of machine (events_of entries) ≡ current.state
     state_is = ap (λ o. unwrap_or o (start machine)) valid
 
     pub sound : IsSound machine current.state
@@ -98,12 +98,12 @@ module _ {L B : Type 0} {machine : Machine L} {before : L → B → L} where
     count_is = ap length current.processes_are ∙ length-map current.state.processes (λ (x : ProcessState L). x.progress) ∙ sound.count
 
     pub process_there : (p : ℕ) → 1 ≤ p → p ≤ length machine.firsts → (process : ProcessState L) × (nth current.state.processes p ≡ Some process)
-    process_there p first last = there current.state.processes p first (subst (λ n. p ≤ n) (sym sound.count) last)
+    process_there p first last = stands_at current.state.processes p first (subst (λ n. p ≤ n) (sym sound.count) last)
 
     pub process_absent : (p : ℕ) → is_among (length machine.firsts) p ≡ false → nth current.state.processes p ≡ None
     process_absent p none = absent current.state.processes p (subst (λ n. is_among n p ≡ false) (sym sound.count) none)
 
-    module _ (p k : ℕ) (kind : Kind) (enabled : IsSome (after machine (state_of machine history) (Step p k kind))) where
+    module _ (p k : ℕ) (kind : Kind) (enabled : IsSome (after machine (state_of machine (events_of entries)) (Step p k kind))) where
       reached_to : (to : RunState L) × (after machine current.state (Step p k kind) ≡ Some to)
       reached_to = some_of (after machine current.state (Step p k kind)) (subst (λ state. IsSome (after machine state (Step p k kind))) state_is enabled)
 
@@ -166,7 +166,7 @@ module _ {L B : Type 0} {machine : Machine L} {before : L → B → L} where
             (writable_by machine taken.process (mail_of current.state) current.state.registers p kind a.due a.met (writes_below machine current.state sound few)))
 
         -- what is held after the step
-        pub current_stepped : (left_progress : Progress L) (kept : Left B) {left_processes : List (Progress L)} {left_mail : MailState} {left_registers : RegisterStates} {left_history : List Event} {left_entries : List (Recorded B)}
+        pub current_stepped : (left_progress : Progress L) (kept : Left B) {left_processes : List (Progress L)} {left_mail : MailState} {left_registers : RegisterStates} {left_entries : List (Recorded B)}
             → left_processes ≡ set_nth processes p left_progress
             → taken_local machine.next progress.local (input_of kind (sight mail registers p kind)) ≡ Some left_progress.local
             → left_progress ≡ progress_after progress kind left_progress.local
@@ -174,10 +174,9 @@ module _ {L B : Type 0} {machine : Machine L} {before : L → B → L} where
             → left_registers ≡ registers_after registers kind (wished_cell (machine.wish progress.local))
             → put_back before left_progress.local kept.back ≡ progress.local
             → kept.overwritten ≡ overwritten_cell registers kind
-            → left_history ≡ history ++ Step p k kind ∷ []
             → left_entries ≡ entries ++ recorded_of (Step p k kind) kept ∷ []
-            → IsCurrent machine before left_processes left_mail left_registers left_history left_entries
-        current_stepped left_progress kept {left_entries = left_entries} processes_left next counted mail_left_is registers_left_is back_is overwritten_is history_left entries_left =
+            → IsCurrent machine before left_processes left_mail left_registers left_entries
+        current_stepped left_progress kept {left_entries = left_entries} processes_left next counted mail_left_is registers_left_is back_is overwritten_is entries_left =
             let event : Event = Step p k kind in
             let entry : Recorded B = recorded_of event kept in
             let process = taken.process in
@@ -214,12 +213,9 @@ module _ {L B : Type 0} {machine : Machine L} {before : L → B → L} where
                   registers_left_is
                   ∙ ap₂ (λ r (x : Progress L). registers_after r kind (wished_cell (machine.wish x.local))) current.registers_are is
                   ∙ ap (λ (x : RunState L). x.registers) taken.leads_to;
-              history_is =
-                  history_left ∙ ap (λ h. h ++ event ∷ []) current.history_is
-                  ∙ sym (ap events_of entries_left ∙ map-append (λ (e : Recorded B). e.event) entries (entry ∷ []));
             }
 
-    module _ (copy : CopyName) (enabled : IsSome (after machine (state_of machine history) (Lost copy))) where
+    module _ (copy : CopyName) (enabled : IsSome (after machine (state_of machine (events_of entries)) (Lost copy))) where
       reached_by_loss : (to : RunState L) × (after machine current.state (Lost copy) ≡ Some to)
       reached_by_loss = some_of (after machine current.state (Lost copy)) (subst (λ state. IsSome (after machine state (Lost copy))) state_is enabled)
 
@@ -256,12 +252,12 @@ module _ {L B : Type 0} {machine : Machine L} {before : L → B → L} where
           omega (arith, last, count)
 
       -- what is held after the loss
-      pub current_lost : {left_mail : MailState} {left_history : List Event} {left_entries : List (Recorded B)}
-          → left_mail ≡ add_loss mail copy → left_history ≡ history ++ Lost copy ∷ [] → left_entries ≡ entries ++ record { event = Lost copy; back = None; overwritten = None } ∷ []
-          → IsCurrent machine before processes left_mail registers left_history left_entries
-      current_lost {left_entries = left_entries} mail_left history_left entries_left =
+      pub current_lost : {left_mail : MailState} {left_entries : List (Recorded B)}
+          → left_mail ≡ add_loss mail copy → left_entries ≡ entries ++ recorded_of (Lost copy) nothing ∷ []
+          → IsCurrent machine before processes left_mail registers left_entries
+      current_lost {left_entries = left_entries} mail_left entries_left =
           let event : Event = Lost copy in
-          let entry : Recorded B = record { event = event; back = None; overwritten = None } in
+          let entry : Recorded B = recorded_of event nothing in
           let to : RunState L = record current.state { lost = set.insert current.state.lost copy } in
           let leads : after machine current.state event ≡ Some to =
           ap (λ b. if b then Some (record current.state { lost = set.insert current.state.lost copy }) else None) (ap (λ m. may_lose machine m copy) (sym current.mail_is) ∙ may_be_lost) in
@@ -271,7 +267,4 @@ module _ {L B : Type 0} {machine : Machine L} {before : L → B → L} where
             processes_are = current.processes_are;
             mail_is = mail_left ∙ ap (λ m. add_loss m copy) current.mail_is;
             registers_are = current.registers_are;
-            history_is =
-                history_left ∙ ap (λ h. h ++ event ∷ []) current.history_is
-                ∙ sym (ap events_of entries_left ∙ map-append (λ (e : Recorded B). e.event) entries (entry ∷ []));
           }

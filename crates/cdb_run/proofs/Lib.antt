@@ -5,16 +5,16 @@ pub mod Deciding
 pub mod Held
 pub mod Stepping
 pub mod Planned
-pub mod Admitting
 pub mod Views
 -- an event is taken back by its record, whatever came later
 pub mod Records
 pub mod SentFirst
 pub mod Restoring
--- a rollback, and the direct causes
-pub mod RollingBack
+-- which events may come, and which are found
+pub mod Coming
 pub mod Causes
+pub mod Found
+pub mod RollingBack
 -- whether two runs are in one state
-pub mod Counting
-pub mod Compared
+pub mod OwnSteps
 pub mod SameRuns

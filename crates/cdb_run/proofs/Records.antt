@@ -1,12 +1,14 @@
 -- Recorded events that do not depend on each other may be exchanged with the records that they have, so that a free one
 -- may be taken last.
-use Rattle.std.proofs.Common.{◌≡◌, ℕ, zero, suc, Bool, false, List, [], ◌∷◌, Option, Some, slice_get, option_map, refl, sym, ap, ◌∙◌, subst}
-use Rattle.std.proofs.lemmas.Option.{none-some}
+use Rattle.std.proofs.Common.{◌≡◌, ℕ, zero, suc, Bool, false, List, ◌++◌, take, drop, Option, Some, slice_get, option_map, refl, sym, ap, ap₂, ◌∙◌, subst}
+use Rattle.std.proofs.lemmas.List.{map-append, take-map, drop-map}
+use Rattle.std.proofs.lemmas.Option.{none-some, slice_get-map}
 use Rattle.cdb_base.specs.Positions.{nth}
 use Rattle.cdb_base.specs.declared.event.Event.{Event}
 use Rattle.cdb_base.specs.declared.event.Event.TheVariants.{Step, Lost}
 use Rattle.cdb_base.specs.declared.event.Kind.{Kind}
 use Rattle.cdb_base.specs.declared.event.Kind.TheVariants.{Write}
+use Rattle.cdb_base.specs.declared.name.StepId.{StepId}
 use Rattle.cdb_causal.specs.Dependence.{depends}
 use Rattle.cdb_causal.specs.Effects.{kind_affects}
 use Rattle.cdb_causal.specs.FromZero.{IsFree, without}
@@ -18,8 +20,9 @@ use Rattle.cdb_causal.proofs.FromOne.{free_down, without_is}
 use Rattle.cdb_causal.proofs.Paths.{free_last}
 use Rattle.cdb_causal.proofs.Reaches.{two_parts, two_taken}
 use Rattle.cdb_causal.proofs.Symmetry.{depends-symmetric, other_process, unaffected}
-use Rattle.cdb_record.specs.Recorded.{events_of}
-use Rattle.cdb_record.specs.declared.recorded.Recorded.{Recorded}
+use Rattle.cdb_standing.specs.Moves.{IsTakenOut}
+use Rattle.cdb_standing.specs.Recorded.{events_of, IsRecordTakenOut}
+use Rattle.cdb_standing.specs.declared.recorded.Recorded.{Recorded}
 use Rattle.cdb_register.specs.declared.RegisterState.{RegisterState}
 use Rattle.cdb_run.specs.Back.{overwritten_cell}
 use Rattle.cdb_run.specs.Recorded.{IsRecorded, PutsBack, overwritten_by}
@@ -28,6 +31,26 @@ use Rattle.cdb_rules.specs.Step.{after}
 use Rattle.cdb_rules.proofs.Commutes.{after_commutes, lost_from}
 use Rattle.cdb_rules.proofs.Kept.{nat_eq-ne, affects_read, process_kept, register_kept}
 use Rattle.cdb_rules.proofs.Taken.{IsTaken, taken_from}
+
+-- the events of a list of records, and of one without a record
+module _ {B : Type 0} (entries : List (Recorded B)) where
+  get-events : (i : ℕ) (entry : Recorded B) → slice_get entries i ≡ Some entry → slice_get (events_of entries) i ≡ Some entry.event
+  get-events i entry at = slice_get-map (λ (x : Recorded B). x.event) entries i ∙ ap (option_map (λ (x : Recorded B). x.event)) at
+
+  pub nth_events : (at : ℕ) (entry : Recorded B) → nth entries at ≡ Some entry → nth (events_of entries) at ≡ Some entry.event
+  nth_events zero entry stands = absurd (none-some entry stands)
+  nth_events (suc i) entry stands = get-events i entry stands
+
+  pub events_without : (at : ℕ) → events_of (from_one_lists.without entries at) ≡ from_one_lists.without (events_of entries) at
+  events_without zero = refl
+  events_without (suc i) =
+      map-append (λ (x : Recorded B). x.event) (take i entries) (drop (suc i) entries)
+      ∙ ap₂ (λ front rest. front ++ rest) (sym (take-map (λ (x : Recorded B). x.event) i entries)) (sym (drop-map (λ (x : Recorded B). x.event) (suc i) entries))
+
+-- what is taken out of the records is taken out of the events
+pub taken_out : {B : Type 0} (old new : List (Recorded B)) (name : StepId) (recorded : Recorded B) → IsRecordTakenOut old name recorded new → IsTakenOut (events_of old) name recorded.event (events_of new)
+taken_out old new name recorded taken at named =
+    let t = taken at named in (nth_events old at recorded t.0, ap events_of t.1 ∙ events_without old at)
 
 abbrev pub entries_depend : {B : Type 0} → Recorded B → Recorded B → Bool
 entries_depend first second = depends first.event second.event
@@ -91,18 +114,13 @@ module _ {L : Type 0} (machine : Machine L) where
               swapped.2 one,
         )
 
-    pub get-events : (entries : List (Recorded B)) (i : ℕ) (entry : Recorded B) → slice_get entries i ≡ Some entry → slice_get (events_of entries) i ≡ Some entry.event
-    get-events [] i entry at = absurd (none-some entry at)
-    get-events (x ∷ xs) zero entry at = ap (option_map (λ (e : Recorded B). e.event)) at
-    get-events (x ∷ xs) (suc i) entry at = get-events xs i entry at
-
     -- an event that is free in the history is free among the recorded events
     free_recorded : (entries : List (Recorded B)) (i : ℕ) → IsFree depends (events_of entries) i → IsFree entries_depend entries i
     free_recorded entries i free j l =
         free j (record { cause = l.cause.event; effect = l.effect.event; later = l.later; at_cause = get-events entries i l.cause l.at_cause; at_effect = get-events entries j l.effect l.at_effect; linked = l.linked })
 
     -- the others lead to a state from which the free one, with its record, leads to the state that was reached
-    pub free_recorded_last : (state to : RunState L) (entries : List (Recorded B)) (i : ℕ) (entry : Recorded B) → slice_get entries i ≡ Some entry → IsFree depends (events_of entries) i → IsPath (IsRecorded machine before) state entries to → (last : RunState L) × IsPath (IsRecorded machine before) state (without entries i) last × IsRecorded machine before last entry to
+    free_recorded_last : (state to : RunState L) (entries : List (Recorded B)) (i : ℕ) (entry : Recorded B) → slice_get entries i ≡ Some entry → IsFree depends (events_of entries) i → IsPath (IsRecorded machine before) state entries to → (last : RunState L) × IsPath (IsRecorded machine before) state (without entries i) last × IsRecorded machine before last entry to
     free_recorded_last state to entries i entry at free led =
         free_last (IsRecorded machine before) entries_depend recorded_exchange state to entries i entry at (free_recorded entries i free) led
 

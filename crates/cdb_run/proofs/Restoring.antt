@@ -1,11 +1,10 @@
 -- The last event of a run is taken back: what its record restores is the state that the other events reach.
-use Rattle.std.proofs.Common.{◌==◌, option_to_list, ◌≡◌, ℕ, zero, suc, ◌+◌, ◌-◌, ◌<◌, ◌≤◌, Bool, true, false, ◌&&◌, List, [], ◌∷◌, ◌++◌, length, map, take, Option, Some, IsSome, is_some, option_map, unwrap_or, slice_get, nat_eq, refl, sym, ap, ap₂, ◌∙◌, subst, arith}
+use Rattle.std.proofs.Common.{◌==◌, option_to_list, ◌≡◌, ℕ, zero, suc, ◌+◌, ◌-◌, ◌<◌, ◌≤◌, Bool, true, false, ◌&&◌, List, [], ◌∷◌, ◌++◌, length, map, take, Option, Some, IsSome, is_some, option_map, unwrap_or, nat_eq, refl, sym, ap, ap₂, ◌∙◌, subst, arith}
 use Rattle.std.proofs.Math.Seq.{take-append_seam}
 use Rattle.std.proofs.lemmas.List.{length_push}
 use Rattle.std.proofs.lemmas.Option.{same_Some}
 use Rattle.std.specs.FinSet as set
 use Rattle.cdb_base.specs.Positions.{nth, set_nth}
-use Rattle.cdb_base.specs.declared.event.Event.{Event}
 use Rattle.cdb_base.specs.declared.event.Event.TheVariants.{Step, Lost}
 use Rattle.cdb_base.specs.declared.event.Kind.{Kind}
 use Rattle.cdb_base.specs.declared.event.Kind.TheVariants.{Query, Send, Recv, Write}
@@ -15,13 +14,14 @@ use Rattle.cdb_base.specs.declared.register.Cell.{Cell}
 use Rattle.cdb_base.specs.declared.register.Reg.{Reg}
 use Rattle.cdb_base.specs.declared.register.Reg.TheVariants.{R, Dec}
 use Rattle.cdb_causal.specs.Dependence.{receives, depends}
-use Rattle.cdb_causal.specs.FromZero.{IsFree, without}
+use Rattle.cdb_causal.specs.Causality.{IsFree}
 use Rattle.cdb_causal.specs.Paths.{IsPath}
+use Rattle.cdb_causal.specs.Rollback.{without}
 use Rattle.cdb_message.specs.Mail.{MailState, message_name, copy_name, sent_by, is_sent, is_received, is_lost, add_send, remove_send, remove_loss}
 use Rattle.cdb_message.specs.Names.{NameSet}
 use Rattle.cdb_message.proofs.TakenBack.{remove_receive-add_receive, remove_loss-add_loss}
-use Rattle.cdb_record.specs.Recorded.{events_of}
-use Rattle.cdb_record.specs.declared.recorded.Recorded.{Recorded}
+use Rattle.cdb_standing.specs.Recorded.{events_of}
+use Rattle.cdb_standing.specs.declared.recorded.Recorded.{Recorded}
 use Rattle.cdb_register.proofs.Changes.{with_register-back}
 use Rattle.cdb_register.specs.Registers.{RegisterStates, register_of, with_register, put_cell}
 use Rattle.cdb_register.specs.declared.RegisterState.{RegisterState}
@@ -43,7 +43,7 @@ use Rattle.cdb_rules.proofs.Mails.{sent_is, mail_left}
 use Rattle.cdb_rules.proofs.Members.{now_lost, losable}
 use Rattle.cdb_rules.proofs.Numbers.{sends_of, send_number, received_first, received_now}
 use Rattle.cdb_rules.proofs.Positions.{nth-map, nth-update_nth_same, map-set_nth, set_nth_same, nth-set_nth_same, nth_within}
-use Rattle.cdb_run.proofs.Records.{free_recorded_last}
+use Rattle.cdb_run.proofs.Records.{free_recorded_at}
 use Rattle.cdb_run.proofs.SentFirst.{IsSentFirst, sent_first}
 use Rattle.cdb_rules.proofs.Taken.{IsTaken, IsAccepted, taken_from, parts, some_of, both}
 
@@ -54,11 +54,6 @@ set_nth-set_nth_same xs zero x y = refl
 set_nth-set_nth_same [] (suc i) x y = refl
 set_nth-set_nth_same (z ∷ zs) (suc zero) x y = refl
 set_nth-set_nth_same (z ∷ zs) (suc (suc i)) x y = ap (λ l. z ∷ l) (set_nth-set_nth_same zs (suc i) x y)
-
-events-without : {B : Type 0} (entries : List (Recorded B)) (i : ℕ) → without (events_of entries) i ≡ events_of (without entries i)
-events-without [] i = refl
-events-without (x ∷ xs) zero = refl
-events-without (x ∷ xs) (suc i) = ap (λ l. x.event ∷ l) (events-without xs i)
 
 take_but_last : {A : Type 0} (xs : List A) (x : A) → take (length (xs ++ x ∷ []) - 1) (xs ++ x ∷ []) ≡ xs
 take_but_last xs x =
@@ -157,9 +152,9 @@ module _ {L : Type 0} (machine : Machine L) (last to : RunState L) (p k : ℕ) (
   left_there = at_left machine last to p k kind t
 
   -- the step's message, which it sent last
-  module _ (m : ℕ) (is_send : kind ≡ Send m) (first : IsSentFirst last) where
-    count_sent : sends_of to p ≡ m
-    count_sent =
+  module _ (m : ℕ) (is_send : kind ≡ Send m) where
+    pub sends_after : sends_of to p ≡ m
+    sends_after =
         let number = send_number machine last to p k kind t m is_send in
         let was = ap length (sent_is last p t.process t.at_process) in
         let is = ap length (sent_is to p left_process left_there) in
@@ -174,23 +169,23 @@ module _ {L : Type 0} (machine : Machine L) (last to : RunState L) (p k : ℕ) (
         let there = some_of (nth (sent_by (mail_of last) p) (sends_of to p)) sent_before in
         let low = nth_within (sent_by (mail_of last) p) (sends_of to p) there.0 there.1 in
         let number = send_number machine last to p k kind t m is_send in
-        let count = count_sent in
+        let count = sends_after in
         omega (arith, low, number, count)
 
-    nobody_received : (q : ℕ) → is_received (mail_of to) q (message_name p (sends_of to p)) ≡ false
-    nobody_received q =
+    nobody_received : IsSentFirst last → (q : ℕ) → is_received (mail_of to) q (message_name p (sends_of to p)) ≡ false
+    nobody_received first q =
         is_false (is_received (mail_of to) q (message_name p (sends_of to p)))
         (λ h. not_yet_sent
         (first.received q (message_name p (sends_of to p))
         (sym (received_kept machine last to p k kind t q (message_name p (sends_of to p)) (ap (λ x. nat_eq p q && receives p (sends_of to p) x) is_send ∙ and_false (nat_eq p q))) ∙ h)))
 
-    no_copy_lost : (q : ℕ) → is_lost (mail_of to) (copy_name (message_name p (sends_of to p)) q) ≡ false
-    no_copy_lost q =
+    no_copy_lost : IsSentFirst last → (q : ℕ) → is_lost (mail_of to) (copy_name (message_name p (sends_of to p)) q) ≡ false
+    no_copy_lost first q =
         is_false (is_lost (mail_of to) (copy_name (message_name p (sends_of to p)) q))
         (λ h. not_yet_sent (first.lost (copy_name (message_name p (sends_of to p)) q) (sym (ap (λ lost. set.contains lost (copy_name (message_name p (sends_of to p)) q)) (lost_kept machine last to p k kind t)) ∙ h)))
 
     some_sent : 0 < sends_of to p
-    some_sent = let number = send_number machine last to p k kind t m is_send in let count = count_sent in omega (arith, number, count)
+    some_sent = let number = send_number machine last to p k kind t m is_send in let count = sends_after in omega (arith, number, count)
 
   sent_within : p ≤ length (mail_of to).sent
   sent_within = nth_within (map sent to.processes) p left_process.sent (nth-map sent to.processes p ∙ ap (option_map sent) left_there)
@@ -199,7 +194,7 @@ module _ {L : Type 0} (machine : Machine L) (last to : RunState L) (p k : ℕ) (
   received_within = nth_within (map received to.processes) p left_process.received (nth-map received to.processes p ∙ ap (option_map received) left_there)
 
   unpostable_by : (x : Kind) → kind ≡ x → IsSentFirst last → IsUnpostable (mail_of to) p x
-  unpostable_by (Send m) is first = (sent_within, some_sent m is first, nobody_received m is first, no_copy_lost m is first)
+  unpostable_by (Send m) is first = (sent_within, some_sent m is, nobody_received m is first, no_copy_lost m is first)
   unpostable_by (Recv s m) is first = (received_within, received_now machine last to p k kind t s m is)
   unpostable_by _ is first = tt
 
@@ -241,33 +236,32 @@ module _ {L : Type 0} (machine : Machine L) (last to : RunState L) (p k : ℕ) (
         ∙ ap (set_nth (map progress last.processes) p) progress_restored
         ∙ set_nth_same (map progress last.processes) p t.process.progress (nth-map progress last.processes p ∙ ap (option_map progress) t.at_process)
 
-module _ {L B : Type 0} {machine : Machine L} {before : L → B → L} {processes : List (Progress L)} {mail : MailState} {registers : RegisterStates} {history : List Event} {entries : List (Recorded B)} (current : IsCurrent machine before processes mail registers history entries) (i : ℕ) (entry : Recorded B) (at : slice_get entries i ≡ Some entry) (free : IsFree depends history i) where
+module _ {L B : Type 0} {machine : Machine L} {before : L → B → L} {processes : List (Progress L)} {mail : MailState} {registers : RegisterStates} {entries : List (Recorded B)} (current : IsCurrent machine before processes mail registers entries) (at : ℕ) (entry : Recorded B) (stands : nth entries at ≡ Some entry) (free : IsFree depends (events_of entries) at) where
   -- the state before the free event, which the others reach
-  earlier : (last : RunState L) × IsPath (IsRecorded machine before) (start machine) (without entries i) last × IsRecorded machine before last entry current.state
-  earlier = free_recorded_last machine before (start machine) current.state entries i entry at (subst (λ h. IsFree depends h i) current.history_is free) current.led
+  earlier : (last : RunState L) × IsPath (IsRecorded machine before) (start machine) (without entries at) last × IsRecorded machine before last entry current.state
+  earlier = free_recorded_at machine before (start machine) current.state entries at entry stands free current.led
 
   abbrev last : RunState L
   last = earlier.0
 
   -- what is held where that state is
-  abbrev current_left : {left_processes : List (Progress L)} {left_mail : MailState} {left_registers : RegisterStates} {left_history : List Event} {left_entries : List (Recorded B)}
-      → left_processes ≡ map (λ process. process.progress) last.processes → left_mail ≡ mail_of last → left_registers ≡ last.registers → left_history ≡ without history i → left_entries ≡ without entries i
-      → IsCurrent machine before left_processes left_mail left_registers left_history left_entries
-  current_left processes_left mail_left registers_left history_left entries_left =
+  abbrev current_left : {left_processes : List (Progress L)} {left_mail : MailState} {left_registers : RegisterStates} {left_entries : List (Recorded B)}
+      → left_processes ≡ map (λ process. process.progress) last.processes → left_mail ≡ mail_of last → left_registers ≡ last.registers → left_entries ≡ without entries at
+      → IsCurrent machine before left_processes left_mail left_registers left_entries
+  current_left processes_left mail_left registers_left entries_left =
       record {
         state = last;
         led = subst (λ l. IsPath (IsRecorded machine before) (start machine) l last) (sym entries_left) earlier.1;
         processes_are = processes_left;
         mail_is = mail_left;
         registers_are = registers_left;
-        history_is = history_left ∙ ap (λ h. without h i) current.history_is ∙ events-without entries i ∙ ap events_of (sym entries_left);
       }
 
   -- what the others received or lost was sent
   earlier_sent_first : IsSentFirst last
   earlier_sent_first =
-      let state_before : IsCurrent machine before (map (λ process. process.progress) last.processes) (mail_of last) last.registers (without history i) (without entries i) = current_left refl refl refl refl refl in
-      sent_first machine (without history i) last (valid state_before)
+      let state_before : IsCurrent machine before (map (λ process. process.progress) last.processes) (mail_of last) last.registers (without entries at) = current_left refl refl refl refl in
+      sent_first machine (events_of (without entries at)) last (valid state_before)
 
   -- a step
   module _ (p k : ℕ) (kind : Kind) (is : entry.event ≡ Step p k kind) where
@@ -313,21 +307,19 @@ module _ {L B : Type 0} {machine : Machine L} {before : L → B → L} {processe
       may_count_back = subst (λ (x : Progress L). IsCountable x kind) (sym progress_is) (progress_countable machine last current.state p k kind step_taken)
 
       -- what is held once the step is taken back
-      pub current_undone : {left_processes : List (Progress L)} {left_mail : MailState} {left_registers : RegisterStates} {left_history : List Event} {left_entries : List (Recorded B)}
+      pub current_undone : {left_processes : List (Progress L)} {left_mail : MailState} {left_registers : RegisterStates} {left_entries : List (Recorded B)}
           → left_processes ≡ set_nth processes p (progress_before before progress kind entry.back)
           → left_mail ≡ mail_before mail p kind
           → left_registers ≡ registers_before registers kind entry.overwritten
-          → left_history ≡ without history i
-          → left_entries ≡ without entries i
-          → IsCurrent machine before left_processes left_mail left_registers left_history left_entries
-      current_undone processes_left mail_left registers_left history_left entries_left =
+          → left_entries ≡ without entries at
+          → IsCurrent machine before left_processes left_mail left_registers left_entries
+      current_undone processes_left mail_left registers_left entries_left =
           current_left
           (processes_left
           ∙ ap₂ (λ l (x : Progress L). set_nth l p (progress_before before x kind entry.back)) current.processes_are progress_is
           ∙ processes_restored machine last current.state p k kind step_taken before entry.back step_leads_back)
           (mail_left ∙ ap (λ m. mail_before m p kind) current.mail_is ∙ mail_restored machine last current.state p k kind step_taken)
           (registers_left ∙ ap₂ (λ r o. registers_before r kind o) current.registers_are cell_is ∙ registers_restored machine last current.state p k kind step_taken)
-          history_left
           entries_left
 
   -- a loss
@@ -342,15 +334,13 @@ module _ {L B : Type 0} {machine : Machine L} {before : L → B → L} {processe
     is_lost_now = ap (λ m. is_lost m copy) current.mail_is ∙ now_lost machine last current.state copy loss_led
 
     -- what is held once the loss is taken back
-    pub current_found : {left_mail : MailState} {left_history : List Event} {left_entries : List (Recorded B)}
-        → left_mail ≡ remove_loss mail copy → left_history ≡ without history i → left_entries ≡ without entries i
-        → IsCurrent machine before processes left_mail registers left_history left_entries
-    current_found mail_left history_left entries_left =
+    pub current_found : {left_mail : MailState} {left_entries : List (Recorded B)}
+        → left_mail ≡ remove_loss mail copy → left_entries ≡ without entries at → IsCurrent machine before processes left_mail registers left_entries
+    current_found mail_left entries_left =
         current_left
         (current.processes_are ∙ ap (λ (x : RunState L). map (λ (process : ProcessState L). process.progress) x.processes) (sym with_loss_is))
         (mail_left
         ∙ ap (λ m. remove_loss m copy) (current.mail_is ∙ ap mail_of (sym with_loss_is))
         ∙ remove_loss-add_loss (mail_of last) copy (losable machine last current.state copy loss_led).fresh)
         (current.registers_are ∙ ap (λ (x : RunState L). x.registers) (sym with_loss_is))
-        history_left
         entries_left

@@ -1,40 +1,41 @@
 -- Two runs are in the same state where their histories say the same of each process and of what is lost.
-use Rattle.std.proofs.Common.{◌≡◌, ℕ, zero, suc, ◌-◌, ◌<◌, ◌≤◌, ◌↔◌, ◌&&◌, Bool, true, false, List, [], ◌∷◌, length, Option, Some, None, IsTrue, option_and_then, option_map, unwrap_or, slice_index_or, refl, sym, ap, ◌∙◌, subst, ◌⊎◌, ⊎_elim, arith}
+use Rattle.std.proofs.Common.{◌≡◌, ℕ, zero, suc, ◌-◌, ◌<◌, ◌≤◌, ◌↔◌, Bool, true, false, List, [], ◌∷◌, length, Option, Some, None, IsTrue, option_and_then, option_map, unwrap_or, slice_get, slice_index_or, refl, sym, ap, ◌∙◌, subst, ◌⊎◌, ⊎_elim, arith}
 use Rattle.std.proofs.lemmas.List.{length-map}
-use Rattle.std.proofs.lemmas.Option.{same_Some}
-use Rattle.std.specs.List.{list_all}
+use Rattle.std.proofs.lemmas.Option.{none-some, same_Some}
 use Rattle.cdb_base.specs.Positions.{nth}
 use Rattle.cdb_base.specs.Processes.{all_processes}
 use Rattle.cdb_base.specs.declared.event.Event.{Event}
-use Rattle.cdb_base.specs.declared.event.Event.TheVariants.{Step, Lost}
+use Rattle.cdb_base.specs.declared.event.Event.TheVariants.{Lost}
 use Rattle.cdb_base.specs.declared.name.CopyName.{CopyName}
 use Rattle.cdb_causal.specs.Dependence.{depends}
 use Rattle.cdb_causal.specs.Exchange.{IsExchanged, IsIn, here, there}
-use Rattle.cdb_message.specs.Mail.{MailState, is_lost}
+use Rattle.cdb_message.specs.Mail.{is_lost}
 use Rattle.cdb_rules.specs.Mail.{mail_of}
 use Rattle.cdb_rules.specs.OwnSteps.{own_steps, own_of}
-use Rattle.cdb_rules.specs.Comparing.{is_lost_too, AreAlike}
+use Rattle.cdb_run.specs.Comparing.{AreAlike}
+use Rattle.cdb_standing.specs.Moves.{StandsIn}
 use Rattle.cdb_rules.specs.State.{Machine, ProcessState, RunState, fresh_process, start}
-use Rattle.cdb_rules.specs.Step.{after, fold, IsValid, state_of}
+use Rattle.cdb_rules.specs.Step.{after, fold, IsValid}
 use Rattle.cdb_rules.proofs.FoldKeeps.{reached_keeps}
 use Rattle.cdb_rules.proofs.Histories.{fold_exchanged}
 use Rattle.cdb_rules.proofs.Members.{member, lost_comes, start_counted, start_unlost}
-use Rattle.cdb_rules.proofs.Naming.{count_kept}
+use Rattle.cdb_rules.proofs.Naming.{count_kept, in_position}
 use Rattle.cdb_rules.proofs.Numbers.{own_at}
 use Rattle.cdb_rules.proofs.OwnOfState.{own_of_history}
 use Rattle.cdb_rules.proofs.SameState.{ShowTheSame, shown_exchanged}
-use Rattle.cdb_rules.proofs.Taken.{both, some_of}
+use Rattle.cdb_rules.proofs.Taken.{some_of}
 
--- tests that all of a list pass
+stands : (events : List Event) (event : Event) → IsIn event events → StandsIn events event
+stands events event i = let found = at events i in (suc found.0, found.1)
+  where
+    at : (events : List Event) → IsIn event events → (j : ℕ) × (slice_get events j ≡ Some event)
+    at [] i = elim i [ ]
+    at (x ∷ xs) here = (0, refl)
+    at (x ∷ xs) (there i) = let found = at xs i in (suc found.0, found.1)
 
-all_in : {X : Type 0} (test : X → Bool) (xs : List X) → list_all test xs ≡ true → (x : X) → IsIn x xs → test x ≡ true
-all_in test [] all x i = elim i [ ]
-all_in test (y ∷ ys) all x here = (both (test x) (list_all test ys) all).0
-all_in test (y ∷ ys) all x (there i) = all_in test ys (both (test y) (list_all test ys) all).1 x i
-
-all_from : {X : Type 0} (test : X → Bool) (xs : List X) → ((x : X) → IsIn x xs → test x ≡ true) → list_all test xs ≡ true
-all_from test [] each = refl
-all_from test (y ∷ ys) each = ap (λ b. b && list_all test ys) (each y here) ∙ all_from test ys (λ x i. each x (there i))
+is_in : (events : List Event) (event : Event) → StandsIn events event → IsIn event events
+is_in events event (zero, at) = absurd (none-some event at)
+is_in events event (suc j, at) = in_position events j event at
 
 same_bool : (a b : Bool) → (a ≡ true → b ≡ true) → (b ≡ true → a ≡ true) → a ≡ b
 same_bool true b h g = sym (h refl)
@@ -72,12 +73,9 @@ module _ {L : Type 0} (machine : Machine L) where
   lost_in : (history : List Event) (to : RunState L) → fold machine history ≡ Some to → (copy : CopyName) → is_lost (mail_of to) copy ≡ true → IsIn (Lost copy) history
   lost_in history to h copy is = ⊎_elim (λ old. absurd (start_unlost machine copy old)) (λ i. i) (lost_comes machine history (start machine) to h copy is)
 
-  losses_stand : (history : List Event) (to : RunState L) → fold machine history ≡ Some to → list_all (is_lost_too (mail_of to)) history ≡ true
-  losses_stand history to h = all_from (is_lost_too (mail_of to)) history each
-    where
-      each : (event : Event) → IsIn event history → is_lost_too (mail_of to) event ≡ true
-      each (Step p k kind) i = refl
-      each (Lost copy) i = (member machine history (start machine) to (start_counted machine) h (Lost copy) i).stands
+  -- and what was lost there the mail has lost
+  loses : (history : List Event) (to : RunState L) → fold machine history ≡ Some to → (copy : CopyName) → IsIn (Lost copy) history → is_lost (mail_of to) copy ≡ true
+  loses history to h copy i = (member machine history (start machine) to (start_counted machine) h (Lost copy) i).stands
 
   count_is : (history : List Event) (to : RunState L) → fold machine history ≡ Some to → length to.processes ≡ length machine.firsts
   count_is history to h =
@@ -89,7 +87,7 @@ module _ {L : Type 0} (machine : Machine L) where
     none_beyond : (state : RunState L) → length state.processes ≤ 9 → (p : ℕ) → 9 < p → own_of state p ≡ []
     none_beyond state within p beyond = ap (λ o. unwrap_or (option_map (λ (process : ProcessState L). process.own) o) []) (nothing_at state.processes p (omega (arith, within, beyond)))
 
-    same_own : AreAlike history (mail_of to) others (mail_of other) → (p : ℕ) → own_of to p ≡ own_of other p
+    same_own : AreAlike history others → (p : ℕ) → own_of to p ≡ own_of other p
     same_own alike zero = refl
     same_own alike (suc i) =
         ⊎_elim
@@ -100,58 +98,47 @@ module _ {L : Type 0} (machine : Machine L) where
         (λ beyond. none_beyond to (let count = count_is history to h in omega (arith, count, few)) (suc i) beyond ∙ sym (none_beyond other (let count = count_is others other g in omega (arith, count, few)) (suc i) beyond))
         (within_or_beyond (suc i))
 
-    shown : AreAlike history (mail_of to) others (mail_of other) → ShowTheSame machine to other
+    shown : AreAlike history others → ShowTheSame machine to other
     shown alike =
         record {
           own = λ p k. own_at-own_of to p k ∙ ap (λ l. nth l k) (same_own alike p) ∙ sym (own_at-own_of other p k);
           lost = λ copy.
               same_bool (is_lost (mail_of to) copy) (is_lost (mail_of other) copy)
-              (λ is. all_in (is_lost_too (mail_of other)) history alike.2 (Lost copy) (lost_in history to h copy is))
-              (λ is. all_in (is_lost_too (mail_of to)) others alike.1 (Lost copy) (lost_in others other g copy is));
+              (λ is. loses others other g copy (is_in others (Lost copy) ((alike.1 copy).0 (stands history (Lost copy) (lost_in history to h copy is)))))
+              (λ is. loses history to h copy (is_in history (Lost copy) ((alike.1 copy).1 (stands others (Lost copy) (lost_in others other g copy is)))));
         }
 
-    pub alike_exchanged : AreAlike history (mail_of to) others (mail_of other) → IsExchanged depends history others
+    pub alike_exchanged : AreAlike history others → IsExchanged depends history others
     alike_exchanged alike = shown_exchanged machine history others to other (shown alike) h g
 
     -- where the histories reach the same state, they tell the same
-    told_alike : to ≡ other → AreAlike history (mail_of to) others (mail_of other)
+    told_alike : to ≡ other → AreAlike history others
     told_alike same = (
       λ k p within. let q = slice_index_or all_processes k p in sym (own_of_history machine history to h q) ∙ ap (λ state. own_of state q) same ∙ own_of_history machine others other g q,
-      subst (λ (state : RunState L). list_all (is_lost_too (mail_of state)) others ≡ true) (sym same) (losses_stand others other g),
-      subst (λ (state : RunState L). list_all (is_lost_too (mail_of state)) history ≡ true) same (losses_stand history to h),
+      λ copy.
+          let one = ap (λ (state : RunState L). is_lost (mail_of state) copy) same in (
+            λ lost. stands others (Lost copy) (lost_in others other g copy (sym one ∙ loses history to h copy (is_in history (Lost copy) lost))),
+            λ lost. stands history (Lost copy) (lost_in history to h copy (one ∙ loses others other g copy (is_in others (Lost copy) lost))),
+          ),
     )
 
-    alike_folds : AreAlike history (mail_of to) others (mail_of other) ↔ (fold machine history ≡ fold machine others)
+    alike_folds : AreAlike history others ↔ (fold machine history ≡ fold machine others)
     alike_folds = (
       λ alike. fold_exchanged machine history others (alike_exchanged alike),
       λ same. told_alike (same_Some to other (sym h ∙ same ∙ g)),
     )
 
-    alike_exchanges : AreAlike history (mail_of to) others (mail_of other) ↔ IsExchanged depends history others
+    alike_exchanges : AreAlike history others ↔ IsExchanged depends history others
     alike_exchanges = (alike_exchanged, λ exchanged. alike_folds.1 (fold_exchanged machine history others exchanged))
 
-  -- what a call says of two valid histories with the mail that they lead to
-  module _ (few : length machine.firsts ≤ 9) (history others : List Event) (valid : IsValid machine history) (other_valid : IsValid machine others) (returned : Bool) (history' : List Event) (mail : MailState) (others' : List Event) (other_mail : MailState)
-      (history_is : history' ≡ history) (mail_is : mail ≡ mail_of (state_of machine history)) (others_are : others' ≡ others) (other_mail_is : other_mail ≡ mail_of (state_of machine others)) (told : IsTrue returned ↔ AreAlike history' mail others' other_mail) where
-    to : (state : RunState L) × (fold machine history ≡ Some state)
-    to = some_of (fold machine history) valid
-
-    other : (state : RunState L) × (fold machine others ≡ Some state)
-    other = some_of (fold machine others) other_valid
-
-    told_of_states : IsTrue returned ↔ AreAlike history (mail_of to.0) others (mail_of other.0)
-    told_of_states =
-        let its = mail_is ∙ ap (λ o. mail_of (unwrap_or o (start machine))) to.1 in
-        let others_own = other_mail_is ∙ ap (λ o. mail_of (unwrap_or o (start machine))) other.1 in
-        subst (λ h. IsTrue returned ↔ AreAlike h (mail_of to.0) others (mail_of other.0)) history_is
-        (subst (λ m. IsTrue returned ↔ AreAlike history' m others (mail_of other.0)) its
-        (subst (λ h. IsTrue returned ↔ AreAlike history' mail h (mail_of other.0)) others_are
-        (subst (λ m. IsTrue returned ↔ AreAlike history' mail others' m) others_own told)))
-
+  -- what a call says of two valid histories
+  module _ (few : length machine.firsts ≤ 9) (history others : List Event) (valid : IsValid machine history) (other_valid : IsValid machine others) (returned : Bool) (told : IsTrue returned ↔ AreAlike history others) where
     pub answered : (IsTrue returned ↔ (fold machine history ≡ fold machine others)) × (IsTrue returned ↔ IsExchanged depends history others)
     answered =
+        let to = some_of (fold machine history) valid in
+        let other = some_of (fold machine others) other_valid in
         let folds = alike_folds few history others to.0 other.0 to.1 other.1 in
         let exchanges = alike_exchanges few history others to.0 other.0 to.1 other.1 in (
-          (λ yes. folds.0 (told_of_states.0 yes), λ same. told_of_states.1 (folds.1 same)),
-          (λ yes. exchanges.0 (told_of_states.0 yes), λ exchanged. told_of_states.1 (exchanges.1 exchanged)),
+          (λ yes. folds.0 (told.0 yes), λ same. told.1 (folds.1 same)),
+          (λ yes. exchanges.0 (told.0 yes), λ exchanged. told.1 (exchanges.1 exchanged)),
         )

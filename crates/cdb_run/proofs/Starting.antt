@@ -1,19 +1,20 @@
 -- What is held of a run in which nothing has happened.
-use Rattle.std.proofs.Common.{◌≡◌, ℕ, zero, suc, ◌+◌, List, [], ◌∷◌, ◌++◌, length, map, replicate, drop, Some, slice_get, if◌then◌else◌, refl, sym, ap, ap₂, ◌∙◌, subst, add-one, append_assoc}
+use Rattle.std.proofs.Common.{◌≡◌, ℕ, zero, suc, ◌+◌, ◌≤◌, List, [], ◌∷◌, ◌++◌, length, map, replicate, drop, Some, slice_get, if◌then◌else◌, refl, sym, ap, ap₂, ◌∙◌, subst, add-one, append_assoc, arith}
 use Rattle.std.proofs.lemmas.Option.{none-some, same_Some}
 use Rattle.std.specs.FinSet as set
 use Rattle.cdb_base.specs.Positions.{nth}
-use Rattle.cdb_base.specs.declared.event.Event.{Event}
 use Rattle.cdb_causal.specs.Paths.{IsPath}
 use Rattle.cdb_message.specs.Mail.{MailState, first_mail}
-use Rattle.cdb_record.specs.Recorded.{events_of}
-use Rattle.cdb_record.specs.declared.recorded.Recorded.{Recorded}
+use Rattle.cdb_standing.specs.declared.recorded.Recorded.{Recorded}
 use Rattle.cdb_register.specs.Registers.{RegisterStates, fresh_registers}
+use Rattle.cdb_process.specs.Table.{Table}
 use Rattle.cdb_run.specs.Current.{IsCurrent}
-use Rattle.cdb_rules.specs.Machines.{first_states}
+use Rattle.cdb_rules.specs.Machines.{first_states, machine_of}
 use Rattle.cdb_run.specs.Recorded.{IsRecorded}
 use Rattle.cdb_rules.specs.State.{Machine, start, fresh_process, fresh_progress}
 use Rattle.cdb_rules.specs.declared.progress.Progress.{Progress}
+use Rattle.cdb_rules.proofs.FirstStates.{length-first_states}
+use Rattle.cdb_setup.specs.Parts.{Parts, AreInRange}
 
 drop_at : (xs : List ℕ) (i value : ℕ) → slice_get xs i ≡ Some value → drop i xs ≡ value ∷ drop (suc i) xs
 drop_at [] i value at = absurd (none-some value at)
@@ -47,11 +48,11 @@ all_fresh : {L : Type 0} (firsts : List L) → map fresh_progress firsts ≡ map
 all_fresh [] = refl
 all_fresh (x ∷ xs) = ap (λ l. fresh_progress x ∷ l) (all_fresh xs)
 
-pub current_at_start : {L B : Type 0} (machine : Machine L) (before : L → B → L) (n : ℕ) (processes : List (Progress L)) (mail : MailState) (registers : RegisterStates) (history : List Event) (entries : List (Recorded B))
+pub current_at_start : {L B : Type 0} (machine : Machine L) (before : L → B → L) (n : ℕ) (processes : List (Progress L)) (mail : MailState) (registers : RegisterStates) (entries : List (Recorded B))
     → length machine.firsts ≡ n → processes ≡ map fresh_progress machine.firsts → mail ≡ first_mail n
-    → registers ≡ fresh_registers (if machine.has_registers then n else 0) → history ≡ [] → entries ≡ []
-    → IsCurrent machine before processes mail registers history entries
-current_at_start machine before n processes mail registers history entries number processes_are mail_is registers_are no_history no_entries =
+    → registers ≡ fresh_registers (if machine.has_registers then n else 0) → entries ≡ []
+    → IsCurrent machine before processes mail registers entries
+current_at_start machine before n processes mail registers entries number processes_are mail_is registers_are no_entries =
     record {
       state = start machine;
       led = subst (λ l. IsPath (IsRecorded machine before) (start machine) l (start machine)) (sym no_entries) refl;
@@ -60,5 +61,12 @@ current_at_start machine before n processes mail registers history entries numbe
           mail_is ∙ ap first_mail (sym number)
           ∙ ap₂ (λ s r. let m : MailState = record { sent = s; received = r; lost = set.empty } in m) (none_sent machine.firsts) (none_received machine.firsts);
       registers_are = registers_are ∙ ap (λ k. fresh_registers (if machine.has_registers then k else 0)) (sym number);
-      history_is = no_history ∙ ap events_of (sym no_entries);
     }
+
+-- each process of the setup has its machine
+module _ {L : Type 0} (table : Table L) (setup : Parts) (ranges : AreInRange setup) where
+  pub machine_each : length (machine_of table setup).firsts ≡ setup.processes
+  machine_each = length-first_states table.first 1 setup.processes setup.quorum setup.inputs ∙ ranges.an_input_each
+
+  pub at_most_nine : length (machine_of table setup).firsts ≤ 9
+  at_most_nine = let count = machine_each in let most = ranges.processes.1 in omega (arith, count, most)

@@ -14,7 +14,8 @@ use Rattle.cdb_base.specs.declared.name.MsgName.{MsgName}
 use Rattle.cdb_base.specs.declared.refusal.Refusal.{Refusal}
 use Rattle.cdb_base.specs.declared.refusal.Refusal.TheVariants.{NoProcess}
 use Rattle.cdb_message.specs.Mail.{MailState, copy_name}
-use Rattle.cdb_record.specs.declared.recorded.Recorded.{Recorded}
+use Rattle.cdb_standing.specs.Recorded.{events_of}
+use Rattle.cdb_standing.specs.declared.recorded.Recorded.{Recorded}
 use Rattle.cdb_register.specs.Registers.{RegisterStates}
 use Rattle.cdb_run.specs.Current.{IsCurrent}
 use Rattle.cdb_rules.specs.Mail.{mail_of}
@@ -30,7 +31,7 @@ use Rattle.cdb_rules.proofs.Planned.{planned_enabled}
 use Rattle.cdb_setup.proofs.InRange.{answer_in_range}
 use Rattle.cdb_setup.specs.Parts.{Parts, IsWithin, AreInRange, answer_of}
 
-module _ {L B : Type 0} {machine : Machine L} {before : L → B → L} {processes : List (Progress L)} {mail : MailState} {registers : RegisterStates} {history : List Event} {entries : List (Recorded B)} (current : IsCurrent machine before processes mail registers history entries) (n : ℕ) (number : length machine.firsts ≡ n) where
+module _ {L B : Type 0} {machine : Machine L} {before : L → B → L} {processes : List (Progress L)} {mail : MailState} {registers : RegisterStates} {entries : List (Recorded B)} (current : IsCurrent machine before processes mail registers entries) (n : ℕ) (number : length machine.firsts ≡ n) where
   pub index_below : (i p : ℕ) → i + 1 ≡ p → p ≤ n → i < length processes
   index_below i p position last = let count = count_is current in omega (arith, position, last, count, number)
 
@@ -44,7 +45,7 @@ module _ {L B : Type 0} {machine : Machine L} {before : L → B → L} {processe
     is : progress ≡ process_here.0.progress
     is = progress_at current p process_here.0 progress process_here.1 held
 
-    pub progress_shown : option_map (λ process. process.progress) (nth (state_of machine history).processes p) ≡ Some progress
+    pub progress_shown : option_map (λ process. process.progress) (nth (state_of machine (events_of entries)).processes p) ≡ Some progress
     progress_shown =
         ap (λ (state : RunState L). option_map (λ (x : ProcessState L). x.progress) (nth state.processes p)) (state_is current)
         ∙ ap (option_map (λ (x : ProcessState L). x.progress)) process_here.1
@@ -64,7 +65,7 @@ module _ {L B : Type 0} {machine : Machine L} {before : L → B → L} {processe
         let count = ap (λ (m : MailState). length m.received) current.mail_is ∙ length-map current.state.processes (λ (x : ProcessState L). x.received) ∙ (sound current).count in
         omega (arith, count, number, last)
 
-    pub plan_shown : (setup : Parts) (act : Act) (answer : Result Event Refusal) → answer ≡ planned machine setup mail registers progress p act → answer ≡ step_result machine setup (state_of machine history) p act
+    pub plan_shown : (setup : Parts) (act : Act) (answer : Result Event Refusal) → answer ≡ planned machine setup mail registers progress p act → answer ≡ step_result machine setup (state_of machine (events_of entries)) p act
     plan_shown setup act answer planned_is =
         planned_is
         ∙ ap (λ m. planned machine setup m registers progress p act) current.mail_is
@@ -72,7 +73,7 @@ module _ {L B : Type 0} {machine : Machine L} {before : L → B → L} {processe
         ∙ sym (ap (λ o. option_map_or (λ (x : ProcessState L). planned machine setup (mail_of current.state) current.state.registers x.progress p act) o (Err NoProcess)) process_here.1)
         ∙ ap (λ (state : RunState L). step_result machine setup state p act) (sym (state_is current))
 
-    pub again_shown : (setup : Parts) (k : ℕ) (kind : Kind) (answer : Result Event Refusal) → answer ≡ unless_refused (first_refusal (again_checks machine mail registers progress p k kind)) (Some (Step p k kind)) → answer ≡ again_result machine setup (state_of machine history) (Step p k kind)
+    pub again_shown : (setup : Parts) (k : ℕ) (kind : Kind) (answer : Result Event Refusal) → answer ≡ unless_refused (first_refusal (again_checks machine mail registers progress p k kind)) (Some (Step p k kind)) → answer ≡ again_result machine setup (state_of machine (events_of entries)) (Step p k kind)
     again_shown setup k kind answer planned_is =
         planned_is
         ∙ ap (λ m. unless_refused (first_refusal (again_checks machine m registers progress p k kind)) (Some (Step p k kind))) current.mail_is
@@ -80,11 +81,11 @@ module _ {L B : Type 0} {machine : Machine L} {before : L → B → L} {processe
         ∙ sym (ap (λ o. option_map_or (λ (x : ProcessState L). unless_refused (first_refusal (again_checks machine (mail_of current.state) current.state.registers x.progress p k kind)) (Some (Step p k kind))) o (Err NoProcess)) process_here.1)
         ∙ ap (λ (state : RunState L). again_result machine setup state (Step p k kind)) (sym (state_is current))
 
-  pub process_none : (p : ℕ) → is_among n p ≡ false → nth (state_of machine history).processes p ≡ None
+  pub process_none : (p : ℕ) → is_among n p ≡ false → nth (state_of machine (events_of entries)).processes p ≡ None
   process_none p none =
       ap (λ (state : RunState L). nth state.processes p) (state_is current) ∙ process_absent current p (subst (λ m. is_among m p ≡ false) (sym number) none)
 
-  pub plan_absent : (p : ℕ) (setup : Parts) (act : Act) → is_among n p ≡ false → Err NoProcess ≡ step_result machine setup (state_of machine history) p act
+  pub plan_absent : (p : ℕ) (setup : Parts) (act : Act) → is_among n p ≡ false → Err NoProcess ≡ step_result machine setup (state_of machine (events_of entries)) p act
   plan_absent p setup act none =
       sym (ap (λ o. option_map_or (λ (x : ProcessState L). planned machine setup (mail_of current.state) current.state.registers x.progress p act) o (Err NoProcess)) (process_absent current p (subst (λ m. is_among m p ≡ false) (sym number) none)))
       ∙ ap (λ (state : RunState L). step_result machine setup state p act) (sym (state_is current))
@@ -100,24 +101,24 @@ within_among n (Some found) within leader answered = subst (λ l. is_among n l �
     tests : (n l : ℕ) → 1 ≤ l → l ≤ n → is_among n l ≡ true
     tests n l first last = grind (arith, nat_tests)
 
-module _ {L B : Type 0} {machine : Machine L} {before : L → B → L} {processes : List (Progress L)} {mail : MailState} {registers : RegisterStates} {history : List Event} {entries : List (Recorded B)} (current : IsCurrent machine before processes mail registers history entries) where
-  pub loss_shown : (setup : Parts) (name : MsgName) (p : ℕ) (answer : Result Event Refusal) → answer ≡ unless_refused (first_refusal (lose_checks setup mail name p)) (Some (Lost (copy_name name p))) → answer ≡ loss_result setup (state_of machine history) name p
+module _ {L B : Type 0} {machine : Machine L} {before : L → B → L} {processes : List (Progress L)} {mail : MailState} {registers : RegisterStates} {entries : List (Recorded B)} (current : IsCurrent machine before processes mail registers entries) where
+  pub loss_shown : (setup : Parts) (name : MsgName) (p : ℕ) (answer : Result Event Refusal) → answer ≡ unless_refused (first_refusal (lose_checks setup mail name p)) (Some (Lost (copy_name name p))) → answer ≡ loss_result setup (state_of machine (events_of entries)) name p
   loss_shown setup name p answer planned_is =
       planned_is
       ∙ ap (λ m. unless_refused (first_refusal (lose_checks setup m name p)) (Some (Lost (copy_name name p)))) current.mail_is
       ∙ ap (λ (state : RunState L). loss_result setup state name p) (sym (state_is current))
 
-  pub mail_shown : mail ≡ mail_of (state_of machine history)
+  pub mail_shown : mail ≡ mail_of (state_of machine (events_of entries))
   mail_shown = current.mail_is ∙ ap mail_of (sym (state_is current))
 
-  pub registers_shown : registers ≡ (state_of machine history).registers
+  pub registers_shown : registers ≡ (state_of machine (events_of entries)).registers
   registers_shown = current.registers_are ∙ ap (λ (state : RunState L). state.registers) (sym (state_is current))
 
-  pub history_valid : IsSome (fold machine history)
+  pub history_valid : IsSome (fold machine (events_of entries))
   history_valid = subst IsSome (sym (valid current)) refl
 
   -- what each process has come to
-  pub progresses_shown : map (λ (progress : Progress L). progress.local) processes ≡ map (λ (process : ProcessState L). process.progress.local) (state_of machine history).processes
+  pub progresses_shown : map (λ (progress : Progress L). progress.local) processes ≡ map (λ (process : ProcessState L). process.progress.local) (state_of machine (events_of entries)).processes
   progresses_shown =
       ap (map (λ (progress : Progress L). progress.local)) current.processes_are
       ∙ map-map (λ (progress : Progress L). progress.local) (λ (process : ProcessState L). process.progress) current.state.processes
@@ -126,9 +127,9 @@ module _ {L B : Type 0} {machine : Machine L} {before : L → B → L} {processe
   pub receivers_shown : length mail.received ≡ length machine.firsts
   receivers_shown = ap (λ (m : MailState). length m.received) current.mail_is ∙ length-map current.state.processes (λ (x : ProcessState L). x.received) ∙ (sound current).count
 
-module _ {L B : Type 0} {machine : Machine L} {before : L → B → L} {processes : List (Progress L)} {mail : MailState} {registers : RegisterStates} {history : List Event} {entries : List (Recorded B)} (current : IsCurrent machine before processes mail registers history entries) (setup : Parts) (number : length machine.firsts ≡ setup.processes) (ranges : AreInRange setup) (lawful : IsLawful machine) where
+module _ {L B : Type 0} {machine : Machine L} {before : L → B → L} {processes : List (Progress L)} {mail : MailState} {registers : RegisterStates} {entries : List (Recorded B)} (current : IsCurrent machine before processes mail registers entries) (setup : Parts) (number : length machine.firsts ≡ setup.processes) (ranges : AreInRange setup) (lawful : IsLawful machine) where
   -- a step that is not refused is enabled
-  pub result_enabled : (p : ℕ) (act : Act) (event : Event) → step_result machine setup (state_of machine history) p act ≡ Ok event → IsSome (after machine (state_of machine history) event)
+  pub result_enabled : (p : ℕ) (act : Act) (event : Event) → step_result machine setup (state_of machine (events_of entries)) p act ≡ Ok event → IsSome (after machine (state_of machine (events_of entries)) event)
   result_enabled p act event answered =
       subst (λ (state : RunState L). IsSome (after machine state event)) (sym (state_is current))
       (go (nth current.state.processes p) refl (sym (ap (λ (state : RunState L). step_result machine setup state p act) (state_is current)) ∙ answered))

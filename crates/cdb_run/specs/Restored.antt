@@ -9,7 +9,7 @@ use Rattle.cdb_register.specs.Registers.{RegisterStates, register_of, with_regis
 use Rattle.cdb_run.specs.Back.{put_back}
 use Rattle.cdb_rules.specs.declared.progress.Progress.{Progress}
 use Rattle.cdb_base.specs.Positions.{nth, set_nth}
-use Rattle.cdb_record.specs.declared.recorded.Left.{Left}
+use Rattle.cdb_standing.specs.declared.recorded.Left.{Left}
 use Rattle.cdb_run.specs.declared.state.State.{State}
 
 abbrev pub queries_before : ℕ → Kind → ℕ

@@ -4,7 +4,7 @@ use Rattle.cdb_base.specs.Limits.{MAX_STEPS}
 use Rattle.cdb_base.specs.Positions.{nth, set_nth}
 use Rattle.cdb_base.specs.declared.event.Kind.{Kind}
 use Rattle.cdb_process.specs.Table.{Table}
-use Rattle.cdb_record.specs.declared.recorded.Left.{Left}
+use Rattle.cdb_standing.specs.declared.recorded.Left.{Left}
 use Rattle.cdb_rules.specs.Taking.{mail_after, IsPostable, progress_after, registers_after}
 use Rattle.cdb_rules.specs.declared.progress.Progress.{Progress}
 use Rattle.cdb_run.specs.Back.{put_back, overwritten_cell}

@@ -14,9 +14,9 @@ use crate::progress::{count, give_back, take_input};
 use cdb_base::{Cell, Kind, MsgName, NoMemory, Payload, Proc};
 use cdb_message::mail::Mail;
 use cdb_process::{Input, Process, Wish};
-use cdb_record::Left;
 use cdb_register::Registers;
 use cdb_rules::Progress;
+use cdb_standing::Left;
 use std::alloc::Global;
 
 /// The payload of that message, where it was sent and its copy for process `p` is not lost.

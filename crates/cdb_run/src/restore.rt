@@ -7,9 +7,9 @@ use crate::progress::give_back;
 use cdb_base::{Cell, Kind, MsgName, Proc};
 use cdb_message::mail::Mail;
 use cdb_process::Process;
-use cdb_record::Left;
 use cdb_register::Registers;
 use cdb_rules::Progress;
+use cdb_standing::Left;
 
 /// Takes a step of that kind out of the counts of its process, and gives back what its input left.
 fn count_back<P: Process>(progress: &mut Progress<P>, kind: &Kind, back: Option<P::Back>)

@@ -17,13 +17,12 @@ use crate::state::State;
 use cdb_base::{
     Act, Cell, CopyName, Event, Kind, MsgName, NoMemory, Payload, Proc, Refusal, Reg, Val,
 };
-use cdb_history::History;
 use cdb_message::mail::Mail;
 use cdb_process::{Input, Process, accepts_receive};
-use cdb_record::Records;
 use cdb_register::Registers;
 use cdb_rules::Progress;
 use cdb_setup::Setup;
+use cdb_standing::{History, Records};
 use std::alloc::Global;
 use std::marker::Model;
 
@@ -41,7 +40,7 @@ pub struct Run<P: Process> {
 }
 
 impl<P: Process> Model for Run<P> {
-    ghost use Rattle.cdb_record.specs.Recorded.{events_of};
+    ghost use Rattle.cdb_standing.specs.Recorded.{events_of};
     ghost use Rattle.cdb_rules.specs.Machines.{machine_of};
     ghost use Rattle.cdb_rules.specs.RunView.{RunView};
     ghost use Rattle.cdb_run.specs.Current.{IsCurrent};
@@ -51,8 +50,7 @@ impl<P: Process> Model for Run<P> {
     ghost view = { λ run. record { setup = run.setup; history = events_of run.records } };
 
     ghost invariant = { λ run. IsCurrent (machine_of P.table run.setup) P.before
-        run.state.processes.items run.state.mail run.state.registers
-        (events_of run.records) run.records };
+        run.state.processes.items run.state.mail run.state.registers run.records };
 }
 
 impl<P: Process> Run<P> {
@@ -62,10 +60,11 @@ impl<P: Process> Run<P> {
     {
         let _ranges = setup.n();
         let state = State::first(alloc, &setup)?;
+        let records = Records::new(alloc)?;
         Ok(Run {
             setup,
             state,
-            records: Records::new(alloc),
+            records,
         })
     }
 

@@ -6,10 +6,10 @@ use crate::restore::restore_change;
 use cdb_base::{Kind, NoMemory, Proc};
 use cdb_message::mail::Mail;
 use cdb_process::Process;
-use cdb_record::Left;
 use cdb_register::Registers;
 use cdb_rules::Progress;
 use cdb_setup::Setup;
+use cdb_standing::Left;
 use std::alloc::Global;
 
 /// The state of a run.

@@ -76,7 +76,7 @@ module _ (next : ℕ) (steps : List (List Entry)) (sent : List (List Sent)) (sou
   losses_of_kind p k a Learn x at h = absurd h
   losses_of_kind p k a Crash x at h = absurd h
 
-  loss_event : (p : ℕ) (kind : Kind) (x : Marked) → Has (losses_of sent p kind) x → (c : CopyName) × (x.event ≡ event.Lost c)
+  pub loss_event : (p : ℕ) (kind : Kind) (x : Marked) → Has (losses_of sent p kind) x → (c : CopyName) × (x.event ≡ event.Lost c)
   loss_event p (Send m) x h = by (nth (row_of sent p) m) h
     where
       of : (to : ℕ) (copied : Copied) → Has (loss_at p m to copied) x → (c : CopyName) × (x.event ≡ event.Lost c)

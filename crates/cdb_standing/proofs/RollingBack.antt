@@ -121,13 +121,14 @@ module _ (next : ℕ) (steps : List (List Entry)) (sent : List (List Sent)) (sou
   of_all x h = all_only next steps sent sound cuts x ((ordered.same x).0 h)
 
   -- where nothing is below the numbers, that is the whole history
-  pub all_in_order : ((q : ℕ) → cut_of cuts q ≡ 0) → events ≡ history_of steps sent
-  all_in_order none =
-      ordered.are
-      ∙ ap events_of
-      (same_list ordered.marked (standing steps sent) ordered.rising (standing_rising steps sent)
+  pub all_marked : ((q : ℕ) → cut_of cuts q ≡ 0) → ordered.marked ≡ standing steps sent
+  all_marked none =
+      same_list ordered.marked (standing steps sent) ordered.rising (standing_rising steps sent)
       (λ x h. standing_has steps sent sound.single x.mark x.event (of_stands next steps sent sound (of_all x h).3))
-      (λ x h. let of = origin x.mark x.event (standing_only steps sent x h) in let zero_is = none of.0 in in_all x of (omega arith)))
+      (λ x h. let of = origin x.mark x.event (standing_only steps sent x h) in let zero_is = none of.0 in in_all x of (omega arith))
+
+  pub all_in_order : ((q : ℕ) → cut_of cuts q ≡ 0) → events ≡ history_of steps sent
+  all_in_order none = ordered.are ∙ ap events_of (all_marked none)
 
   -- ---- a step with its consequences
 

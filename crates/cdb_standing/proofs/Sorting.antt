@@ -1,5 +1,5 @@
 -- Lists of events with marks of their own, put in order.
-use Rattle.std.proofs.Common.{◌≡◌, ◌≢◌, ℕ, suc, ◌+◌, ◌<◌, ◌≤◌, Bool, true, false, cond, nat_eq, eqb-true, eq-eqb, List, [], ◌∷◌, ◌++◌, slice_get, Some, ◌⊎◌, inl, inr, ⊎_elim, refl, sym, ap, ◌∙◌, subst, arith}
+use Rattle.std.proofs.Common.{◌≡◌, ◌≢◌, ℕ, suc, ◌+◌, ◌<◌, ◌≤◌, Bool, true, false, cond, nat_eq, nat_lt, ltb-false, eqb-true, eq-eqb, List, [], ◌∷◌, ◌++◌, slice_get, Some, ◌⊎◌, inl, inr, ⊎_elim, refl, sym, ap, ◌∙◌, subst, arith}
 use Rattle.std.specs.List.{sum_by}
 use Rattle.std.specs.Prelude.{IsPermutation}
 use Rattle.std.specs.List.Sorted.{IsNonDecreasingBy}
@@ -7,8 +7,8 @@ use Rattle.std.proofs.lemmas.List.Sums.{sum_by-cons, sum_by-append}
 use Rattle.std.proofs.lemmas.List.Sorted.{Contains-permutation, IsPermutation-sym, sum_by-IsPermutation}
 use Rattle.std.proofs.lemmas.Option.{slice_get_within, get_or_from_slice_get, slice_get-get_or}
 use Rattle.cdb_base.specs.Positions.{nth}
-use Rattle.cdb_standing.specs.InOrder.{Marked, Has, IsRising, each_from}
-use Rattle.cdb_standing.proofs.Ordered.{has_at, at_has, each_only}
+use Rattle.cdb_standing.specs.InOrder.{Marked, Has, IsRising, put, in_order, each_from}
+use Rattle.cdb_standing.proofs.Ordered.{has_at, at_has, each_only, in_order_only}
 
 -- ---- how many have a mark
 
@@ -110,6 +110,30 @@ once_each_one f xs once apart =
   where
     next : (i : ℕ) → suc i ≡ 1 + i
     next i = omega arith
+
+-- ---- put in order, they weigh as much
+
+sum_put : (w : Marked → ℕ) (one : Marked) (xs : List Marked) → ((x : Marked) → Has xs x → x.mark ≢ one.mark) → sum_by w (put one xs) ≡ w one + sum_by w xs
+sum_put w one [] other = sum_by-cons w one []
+sum_put w one (z ∷ xs) other = by (nat_lt one.mark z.mark) (nat_lt z.mark one.mark) (ltb-false one.mark z.mark) (ltb-false z.mark one.mark) (sum_put w one xs (λ x h. other x (inr h)))
+  where
+    by : (a b : Bool) → (a ≡ false → z.mark ≤ one.mark) → (b ≡ false → one.mark ≤ z.mark) → sum_by w (put one xs) ≡ w one + sum_by w xs
+        → sum_by w (cond a (one ∷ z ∷ xs) (cond b (z ∷ put one xs) (z ∷ xs))) ≡ w one + sum_by w (z ∷ xs)
+    by true b low high again = sum_by-cons w one (z ∷ xs)
+    by false true low high again = let new = sum_by-cons w z (put one xs) in let old = sum_by-cons w z xs in omega arith
+    by false false low high again = let l = low refl in let h = high refl in absurd (other z (inl refl) (omega arith))
+
+pub sum_in_order : (w : Marked → ℕ) (xs : List Marked) → IsOnce xs → sum_by w (in_order xs) ≡ sum_by w xs
+sum_in_order w [] once = refl
+sum_in_order w (x ∷ xs) once =
+    let more = sum_put w x (in_order xs)
+    (λ y h same. let all = once x.mark in
+    let one = is_at_same x.mark x refl in
+    let two = some_at_mark x.mark xs y (in_order_only xs y h) same in
+    let both = sum_by-cons (is_at x.mark) x xs in absurd (omega arith)) in
+    let again = sum_in_order w xs (λ m. let both = sum_by-cons (is_at m) x xs in let all = once m in omega arith) in
+    let both = sum_by-cons w x xs in
+    omega arith
 
 -- ---- sorted, they rise
 

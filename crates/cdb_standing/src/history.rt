@@ -1,6 +1,6 @@
 //! The standing events.
 
-ghost use Rattle.std.specs.Prelude.{◌≡◌, ℕ, ◌+◌, ◌-◌, ◌<◌, ◌≤◌, [], ◌∷◌, ◌++◌, Ok, IfOk, IfErr, OnOk, OnErr, MatchOption, length};
+ghost use Rattle.std.specs.Prelude.{◌≡◌, ℕ, ◌+◌, ◌-◌, ◌<◌, ◌≤◌, [], ◌∷◌, ◌++◌, Ok, IfOk, IfErr, OnOk, OnErr, IsTrue, MatchOption, length, ◌↔◌};
 ghost use Rattle.std.specs.Fn.{FnOnceReturnsAtMut, FnOnceTakesAtMut};
 ghost use Rattle.cdb_base.specs.declared.event.Event.TheVariants.{Step, Lost};
 ghost use Rattle.cdb_causal.specs.Changing.{HasFailed};
@@ -9,21 +9,24 @@ ghost use Rattle.cdb_causal.specs.DirectCauses.{AreDirectCauses};
 ghost use Rattle.cdb_causal.specs.Names.{IsNamedAt, IsNewName, IsFirstDependentOrFree};
 ghost use Rattle.cdb_causal.specs.Dependence.{depends as depends_of};
 ghost use Rattle.cdb_causal.specs.Rollback.{rolled_back};
+ghost use Rattle.cdb_standing.specs.Comparing.{steps_by, AreNumbered, AreWritesBefore, LoseSame};
 ghost use Rattle.cdb_standing.specs.LedTo.{IsPastOfName};
 ghost use Rattle.cdb_standing.specs.Moves.{IsNextStep, MayDo, IsPending, MayCome, IsEndOf, IsStandingName, IsFreeAlone, IsNamed, IsTakenOut};
 
+use crate::accesses::number_of;
 use crate::add::{add_loss, add_step, reserve_mark, reserve_step};
 use crate::causes::causes_in;
+use crate::compare::{have_same_losses, writes_before};
 use crate::copies::{has_copies, has_copy};
 use crate::cuts::cuts_at;
 use crate::dependents::first_of_step;
 use crate::find::find_in;
 use crate::order::{in_order, one_event};
 use crate::past::past_in;
-use crate::table::empty_rows;
+use crate::table::{empty_rows, item};
 use crate::tables::Tables;
 use crate::take::{take_loss, take_step};
-use cdb_base::{CopyName, Event, Kind, NoMemory, Proc, StepId};
+use cdb_base::{CopyName, Event, Kind, NoMemory, Proc, Reg, StepId};
 use smallvec::SmallVec;
 use std::alloc::Global;
 use std::marker::Model;
@@ -177,6 +180,32 @@ impl History {
         ensures { MatchOption result (IsNewName self.now name) (IsNamed self.now name) }
     {
         find_in(&self.tables, &name)
+    }
+
+    /// How many steps of a process stand: those of the numbers from 1 to that one.
+    pub fn steps_of(&self, p: Proc) -> u16
+        ensures count { result ≡ length (steps_by p self.now) }
+        ensures numbered { AreNumbered p self.now }
+    {
+        self.tables.steps[p.index()].len() as u16
+    }
+
+    /// How many writes of a register stand before the `k`-th step of process `p`, which stands.
+    pub fn writes_before(&self, register: Reg, p: Proc, k: u16) -> usize
+        requires { IsStandingName self.now (named.Step (record { p = p; k = k })) }
+        ensures { AreWritesBefore self.now register (named.Step (record { p = p; k = k })) result }
+    {
+        match item(&self.tables.steps, p.index(), k) {
+            Some(entry) => writes_before(&self.tables, number_of(&register), entry.mark),
+            None => 0,
+        }
+    }
+
+    /// Whether the same copies are lost in both.
+    pub fn has_same_losses(&self, other: &History) -> bool
+        ensures { IsTrue result ↔ LoseSame self.now other.now }
+    {
+        have_same_losses(&self.tables.sent, &other.tables.sent)
     }
 
     /// Takes out the last step of a process, on which nothing depends, and returns what it did. It takes no memory.

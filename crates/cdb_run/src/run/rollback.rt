@@ -1,16 +1,16 @@
 //! Steps and losses of a run, removed with their consequences, and why they cannot be removed
 //! alone.
 
-ghost use Rattle.std.specs.Prelude.{◌≡◌, ℕ, ◌+◌, ◌<◌, ◌≤◌, [], ◌∷◌, ◌++◌, length, reverse, vec_len, vec_capacity, IfOk, IsOk, OnOk, OnErr};
+ghost use Rattle.std.specs.Prelude.{◌≡◌, ◌+◌, ◌<◌, ◌≤◌, [], ◌∷◌, ◌++◌, reverse, vec_len, vec_capacity, Ok, IfOk, IsOk, OnOk, OnErr};
 ghost use Rattle.std.specs.Vec.{vec_items};
 ghost use Rattle.cdb_base.specs.Results.{Tells};
 ghost use Rattle.cdb_rules.specs.EventRefs.{name_given};
 ghost use Rattle.cdb_rules.specs.Runs.{step_name, loss_name, AllLeadTo, RollsBackOnto, result_of_rollback, causes_in, after_rollback, RollbackLeadsBack, IsExactRollback, AreCausesOf};
-ghost use Rattle.cdb_rules.specs.AtPositions.{rolled_back_at, after_rollback_at};
+ghost use Rattle.cdb_rules.specs.Undo.{number_removed, with_removed};
+ghost use Rattle.cdb_standing.specs.Moves.{IsStandingName};
 
 use crate::run::Run;
 use cdb_base::{Event, Kind, NoMemory, Refusal, Reg, StepId};
-use cdb_history::{consequences, direct_causes};
 use cdb_process::Process;
 use cdb_rules::EventRef;
 use smallvec::SmallVec;
@@ -29,34 +29,32 @@ fn push_reserved(events: &mut Vec<Event>, event: &Event)
 }
 
 impl<P: Process> Run<P> {
-    /// Removes the event at a position, from 1, with its consequences, from the last of them back, and
-    /// adds each to the end of a list. Returns how many events that are.
+    /// Removes the event of that name, which stands, with its consequences, the last first, and adds each to the end
+    /// of a list. Returns how many events that are.
     fn roll_back(
         &mut self,
         alloc: Global,
-        at: usize,
+        name: StepId,
         removed: &mut Vec<Event>,
     ) -> Result<usize, NoMemory>
-        requires from_one { 1 ≤ at }
-        requires to_len { at ≤ length self.old.history }
-        ensures number { IfOk result (λ n. n ≡ length (rolled_back_at self.old at)) }
-        ensures after { OnOk result (self.new ≡ after_rollback_at self.old at) }
-        ensures list { OnOk result
-            (removed.new.items ≡ removed.old.items ++ reverse (rolled_back_at self.old at)) }
+        requires { IsStandingName self.old.history name }
+        ensures number { IfOk result (λ n. Ok n ≡ number_removed (result_of_rollback self.old name)) }
+        ensures after { OnOk result (self.new ≡ after_rollback self.old name) }
+        ensures list { OnOk result (removed.new.items
+            ≡ with_removed removed.old.items (result_of_rollback self.old name)) }
         ensures err { OnErr result (self.new ≡ self.old) }
         ensures list_err { OnErr result (removed.new.items ≡ removed.old.items) }
+        ensures memory { OnErr result (IsOk (result_of_rollback self.old name)) }
         ensures capacity { vec_capacity removed.old ≤ vec_capacity removed.new }
     {
-        let _standing = self.history().len();
-        let mut positions = consequences(alloc, self.history(), at)?;
-        let number = positions.len() + 1;
+        let _ranges = self.setup().n();
+        let mut events = self.history().rolled_back(alloc, name)?;
+        let number = events.len();
         removed.reserve(number)?;
-        while let Some(position) = positions.pop() {
-            let event = self.restore_at(position);
+        while let Some(event) = events.pop() {
+            self.restore(event.name());
             push_reserved(removed, &event);
         }
-        let event = self.restore_at(at);
-        push_reserved(removed, &event);
         Ok(number)
     }
 
@@ -101,7 +99,7 @@ impl<P: Process> Run<P> {
         let _ranges = self.setup().n();
         let _valid = self.history();
         match self.find(event) {
-            Ok(at) => Ok(Ok(self.roll_back(alloc, at, removed)?)),
+            Ok(name) => Ok(Ok(self.roll_back(alloc, name, removed)?)),
             Err(refusal) => Ok(Err(refusal)),
         }
     }
@@ -157,8 +155,8 @@ impl<P: Process> Run<P> {
             (λ causes. AreCausesOf self.now (name_given event) causes.items) }
     {
         let _ranges = self.setup.n();
-        let at = self.find(event)?;
-        Ok(direct_causes(alloc, self.history(), at))
+        let name = self.find(event)?;
+        Ok(self.history().direct_causes(alloc, name))
     }
 
     /// The direct causes of the `k`-th step of process `p`, as `causes_of` returns them.

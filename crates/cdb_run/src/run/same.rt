@@ -1,20 +1,18 @@
 //! Whether two runs are in the same state.
 
 ghost use Rattle.std.specs.Prelude.{◌≡◌, ◌↔◌, All, IsTrue};
-ghost use Rattle.std.specs.List.{list_all};
 ghost use Rattle.cdb_base.specs.Processes.{all_processes};
 ghost use Rattle.cdb_causal.specs.Dependence.{depends};
 ghost use Rattle.cdb_causal.specs.Exchange.{IsExchanged};
 ghost use Rattle.cdb_rules.specs.OwnSteps.{own_steps};
-ghost use Rattle.cdb_rules.specs.Comparing.{is_lost_too as is_lost_too_of, AreAlike};
 ghost use Rattle.cdb_rules.specs.Runs.{AreInSameState};
+ghost use Rattle.cdb_run.specs.Comparing.{AreAlike};
 
 use crate::own_steps::same_steps;
 use crate::run::Run;
-use cdb_base::{Event, Proc};
-use cdb_history::History;
-use cdb_message::mail::Mail;
+use cdb_base::Proc;
 use cdb_process::Process;
+use cdb_standing::History;
 
 /// Whether each process takes the same steps in both histories.
 fn same_steps_of_each(history: &History, other: &History) -> bool
@@ -24,37 +22,11 @@ fn same_steps_of_each(history: &History, other: &History) -> bool
     Proc::all().iter().all(|p| same_steps(*p, history, other))
 }
 
-/// Whether the copy is lost in the mail, where the event is a loss.
-fn is_lost_too(mail: &Mail, event: &Event) -> bool
-    ensures { result ≡ is_lost_too_of mail.now event.now }
+/// Whether two histories say the same of each process and of what is lost.
+fn are_alike(history: &History, other: &History) -> bool
+    ensures { IsTrue result ↔ AreAlike history.now other.now }
 {
-    match event {
-        Event::Step { .. } => true,
-        Event::Lost(copy) => mail.lost(copy.to, copy.msg),
-    }
-}
-
-/// Whether each copy whose loss stands in the history is lost in the mail.
-fn losses_are_lost(mail: &Mail, history: &History) -> bool
-    ensures { result ≡ list_all (is_lost_too_of mail.now) history.now }
-{
-    for i in 0..history.len() {
-        let event = history.event(i);
-        if !is_lost_too(mail, event) {
-            return false;
-        }
-    }
-    true
-}
-
-/// Whether two histories, each with the mail that it leads to, say the same of each process and of
-/// what is lost.
-fn are_alike(history: &History, mail: &Mail, other: &History, other_mail: &Mail) -> bool
-    ensures { IsTrue result ↔ AreAlike history.now mail.now other.now other_mail.now }
-{
-    same_steps_of_each(history, other)
-        && losses_are_lost(mail, other)
-        && losses_are_lost(other_mail, history)
+    same_steps_of_each(history, other) && history.has_same_losses(other)
 }
 
 impl<P: Process> Run<P> {
@@ -68,6 +40,6 @@ impl<P: Process> Run<P> {
             ↔ IsExchanged depends self.now.history other.now.history }
     {
         let _ranges = self.setup().n();
-        are_alike(self.history(), self.mail(), other.history(), other.mail())
+        are_alike(self.history(), other.history())
     }
 }

@@ -1,9 +1,12 @@
-use Rattle.std.proofs.Common.{◌≤◌, ◌∙◌, List, length, ap, sym, subst, arith}
-use Rattle.cdb_base.specs.declared.event.Event.{Event}
+use Rattle.std.proofs.Common.{◌≤◌, ◌∙◌, length, Result, Ok, Err, IfOk, ap, subst, arith}
 use Rattle.cdb_rules.specs.RunView.{RunView}
 use Rattle.cdb_setup.specs.Parts.{AreInRange}
 use Rattle.cdb_explain.proofs.Bounded.{few_events}
 use Rattle.cdb_explain.proofs.chronicle.chronicle_of.Goals as goal
+
+kept_as : {A E : Type 0} {P Q : A → Type 0} (result : Result A E) → ((value : A) → P value → Q value) → IfOk result P → IfOk result Q
+kept_as (Ok value) so is = so value is
+kept_as (Err why) so is = tt
 
 pub returns-clause-few : goal.returns-clause-few
 returns-clause-few g c =
@@ -11,4 +14,6 @@ returns-clause-few g c =
     let range : AreInRange control.setup = subst AreInRange (c.setup.ensures ∙ c.into_run-run.ensures.setup) c.n-ranges.ensures.ranges in
     let few = few_events g.T.Runs.rules g.met.T.Runs.lawful control range c.journal-journal.ensures.seats in
     let limit : length control.journal ≤ 999999 = c.journal-journal.ensures.limit in
-    subst (λ (h : List Event). length h ≤ 999999) (sym (ap (λ (run : RunView). run.history) c.into_chronicle.ensures.run ∙ c.into_run-run.ensures.history)) (omega (arith, few, limit))
+    let within : length c.into_parts-setup.result.1 ≤ 999999 =
+    (let same = ap (λ (run : RunView). length run.history) c.into_parts-setup.ensures.run in let events = ap length c.into_run-run.ensures.history in omega arith) in
+    kept_as c.new.result (λ run is. rw is within) c.new.ensures

@@ -24,10 +24,10 @@ returns-clause-left g c =
           encodes = c.in_ok-setup.ensures.found;
           short = given.2.0;
           lines = given.2.1;
-          is = c.chronicle_of-run.ensures.is ∙ run_left rules setup commands control along;
+          is = c.in_ok-run.ensures.is ∙ run_left rules setup commands control along;
         },
       );
-      headline = headline_left rules setup commands control along g.T.Runs.same_state c.chronicle_of-run.ensures.headline;
+      headline = headline_left rules setup commands control along g.T.Runs.same_state c.chronicle_of.ensures.headline;
     }
 
 pub returns-in_err-setup-clause-written : goal.returns-in_err-setup-clause-written

@@ -10,10 +10,9 @@ returns g c =
     let run : RunView = c.args.run.now in
     let positions = flagged_of_first (length run.history) c.args.flags.now in
     let lines = flat_map (line_at g.T.Runs.rules run) positions in
-    let all : ℕ = c.len.result in
-    let same = c.history-history.ensures in
+    let all : ℕ = length c.events.result.now in
     c.in_ok-push_count.ensures
     ∙ ap (λ (t : List ℕ). t ++ count_text c.in_ok-count.count all) c.in_ok-count.ensures.lines
     ∙ append_assoc (string_bytes c.args.text.now) lines (count_text c.in_ok-count.count all)
     ∙ ap (λ (t : List ℕ). string_bytes c.args.text.now ++ (lines ++ t))
-    (ap (λ (n : ℕ). count_text n all) c.in_ok-count.ensures.count ∙ ap (λ (n : ℕ). count_text (length positions) n) (c.len.ensures.count ∙ ap length same))
+    (ap (λ (n : ℕ). count_text n all) c.in_ok-count.ensures.count ∙ ap (λ (n : ℕ). count_text (length positions) n) (ap length c.events.ensures))

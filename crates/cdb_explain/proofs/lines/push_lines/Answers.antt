@@ -1,6 +1,6 @@
-use Rattle.std.proofs.Common.{◌≡◌, ℕ, ◌+◌, ◌<◌, List, length, Some, slice_get, string_bytes, true, false, sym, ap, ◌∙◌, subst, arith}
+use Rattle.std.proofs.Common.{ℕ, ◌+◌, ◌<◌, length, string_bytes, true, false, sym, ap, ◌∙◌, arith}
 use Rattle.cdb_base.specs.declared.event.Event.{Event}
-use Rattle.cdb_causal.specs.Standing.{IsStanding}
+use Rattle.cdb_past.proofs.Flagged.{item_at}
 use Rattle.cdb_rules.specs.RunView.{RunView}
 use Rattle.cdb_setup.specs.Parts.{AreInRange}
 use Rattle.cdb_explain.specs.Explanations.{line_at, line_text}
@@ -12,36 +12,28 @@ use Rattle.cdb_explain.proofs.lines.push_lines.Goals.{then-flags-i+in_ok-push_li
 pub take_next-requires : goal.take_next-requires
 take_next-requires g c =
     let run : RunView = c.args.run.now in
-    let history : List Event = c.history-history.result.now in
     let i : ℕ = c.loop-i.i in
-    let event : Event = c.event-event.result.now in
-    let same : history ≡ run.history = c.history-history.ensures in
-    let at : slice_get run.history i ≡ Some event = subst (λ (h : List Event). slice_get h i ≡ Some event) same c.event-event.ensures in
-    let range : AreInRange run.setup = subst AreInRange c.setup.ensures c.n-ranges.ensures.ranges in
-    next_valid g.T.Runs.rules g.T.Runs.same_state g.met.T.Runs.histories run i event at (g.T.Runs.run c.loop-i.again) c.loop-i.invariant.again range c.requires.valid
+    let event : Event = c.index-events-i.result in
+    let at = rw c.events-events.ensures at (item_at c.events-events.result.now i event (omega arith) c.index-events-i.is) in
+    let range : AreInRange run.setup = rw c.setup.ensures at c.n-ranges.ensures.ranges in
+    next_valid g.T.Runs.rules g.T.Runs.same_state g.met.T.Runs.histories run i event at _ c.loop-i.invariant.again range c.requires.valid
 
 pub loop-i-preserved : goal.loop-i-preserved
 loop-i-preserved g c =
     let run : RunView = c.args.run.now in
-    let history : List Event = c.history-history.result.now in
     let flags = c.args.flags.now in
     let i : ℕ = c.loop-i.i in
-    let event : Event = c.event-event.result.now in
+    let event : Event = c.index-events-i.result in
     let so = c.loop-i.invariant in
     let later = g.T.Runs.run c.take_next.new.again in
-    let same : history ≡ run.history = c.history-history.ensures in
-    let read = c.event-event.ensures in
-    let at : slice_get run.history i ≡ Some event = subst (λ (h : List Event). slice_get h i ≡ Some event) same read in
-    let test = c.loop-i-test.true in
-    let counted_all = c.len-i-end.ensures.count in
-    let sizes = ap length same in
-    let number = c.requires.a_flag_each in
-    let within : i < length flags = omega (arith, test, counted_all, sizes, number) in
-    let standing = subst IsStanding same c.len-i-end.ensures.standing in
-    let along = next_along g.T.Runs.rules g.T.Runs.same_state g.met.T.Runs.histories run i event at (g.T.Runs.run c.loop-i.again) so.again later c.in_ok-take_next.ensures in
+    let at = rw c.events-events.ensures at (item_at c.events-events.result.now i event (omega arith) c.index-events-i.is) in
+    let within : i < length flags = omega (arith, ap length c.events-events.ensures) in
+    let range : AreInRange run.setup = rw c.setup.ensures at c.n-ranges.ensures.ranges in
+    let standing = (g.met.T.Runs.histories run.setup range).standing run.history c.requires.valid in
+    let along = next_along g.T.Runs.rules g.T.Runs.same_state g.met.T.Runs.histories run i event at _ so.again later c.in_ok-take_next.ensures in
     elim c.if-flags-i.branch [
       | then-flags-i+in_ok-push_line w ↦
-          let line = its_line g.T.Runs.rules g.T.Runs.same_state g.met.T.Runs.histories run i event at (g.T.Runs.run c.loop-i.again) so.again standing later c.in_ok-take_next.ensures in
+          let line = its_line g.T.Runs.rules g.T.Runs.same_state g.met.T.Runs.histories run i event at _ so.again standing later c.in_ok-take_next.ensures in
           let is = flag_read flags i _ true within w.if-flags-i.true in
           let counted = w.count-is in
           let few = so.few in

@@ -1,22 +1,45 @@
-use Rattle.std.proofs.Common.{◌≡◌, true, rules, arith}
+use Rattle.std.proofs.Common.{◌≡◌, ◌+◌, suc, Bool, true, false, not, length, Option, Some, None, refl, sym, ap, ◌∙◌, true≢false, below_more, arith}
 use Rattle.std.proofs.lemmas.Grind.{common_steps}
-use Rattle.std.proofs.lemmas.Iterator.Consumers.{YieldsList-from_filter, YieldsList-from_first}
-use Rattle.cdb_base.specs.Event.{is_step_of}
-use Rattle.cdb_rules.specs.OwnSteps.{as_own_events, no_writes}
+use Rattle.std.specs.Option.{option_eq}
+use Rattle.cdb_base.specs.Positions.{nth}
+use Rattle.cdb_rules.specs.OwnSteps.{own_steps}
 use Rattle.cdb_rules.specs.contracts.own_event.OwnEventPartialEq.TheImpl as compared
 use Rattle.cdb_rules.specs.declared.own_event.OwnEvent.{OwnEvent}
-use Rattle.cdb_run.proofs.Compared.{compared_eq}
+use Rattle.cdb_run.proofs.OwnSteps.{own_length, same_lists}
 use Rattle.cdb_run.proofs.own_steps.same_steps.Goals as goal
 
 sound : (a b : OwnEvent) → compared.ghosts.eq a b ≡ true → a ≡ b
 sound a b h = grind (arith, common_steps)
 
-complete : (a : OwnEvent) → compared.ghosts.eq a a ≡ true
-complete a = search rules
+same_option : (a b : Option OwnEvent) → false ≡ not (option_eq compared.ghosts.eq a b) → a ≡ b
+same_option None None e = refl
+same_option None (Some b) e = absurd (true≢false (sym e))
+same_option (Some a) None e = absurd (true≢false (sym e))
+same_option (Some a) (Some b) e = ap Some (sound a b (by (compared.ghosts.eq a b) e))
+  where
+    by : (x : Bool) → false ≡ not x → x ≡ true
+    by true e = refl
+    by false e = absurd (true≢false (sym e))
+
+pub returns-then-steps_of-count : goal.returns-then-steps_of-count
+returns-then-steps_of-count c =
+    let one = own_length c.args.p c.args.history.now in
+    let other = own_length c.args.p c.args.other.now in
+    let count = c.steps_of-count.ensures.count in
+    let other_count = c.steps_of.ensures.count in
+    ((λ e. absurd (true≢false (sym e))), (λ same. let e = ap length same in absurd (omega arith)))
+
+pub loop-i-preserved : goal.loop-i-preserved
+loop-i-preserved c =
+    let one : suc c.loop-i.i ≡ c.loop-i.i + 1 = omega arith in
+    below_more _ _ c.loop-i.invariant
+    (ap (nth (own_steps c.args.p c.args.history.now)) one ∙ sym c.own_step.ensures ∙ same_option c.own_step.result c.own_step-in-loop-i.result (c.if-ne.ensures) ∙ c.own_step-in-loop-i.ensures
+    ∙ ap (nth (own_steps c.args.p c.args.other.now)) (sym one))
 
 pub returns : goal.returns
 returns c =
-    compared_eq _ sound complete _ _ c.filter.result c.filter-theirs.result _ _ c.eq.result
-    (YieldsList-from_filter _ (λ own. is_step_of c.args.p own.event) (YieldsList-from_first (λ x. x) (λ left. left) (as_own_events no_writes c.args.history.now) (cc)) c.filter.ensures.closure (λ x r q k. search rules))
-    (YieldsList-from_filter _ (λ own. is_step_of c.args.p own.event) (YieldsList-from_first (λ x. x) (λ left. left) (as_own_events no_writes c.args.other.now) (cc)) c.filter-theirs.ensures.closure (λ x r q k. search rules))
-    c.eq.ensures.ran
+    let one = own_length c.args.p c.args.history.now in
+    let other = own_length c.args.p c.args.other.now in
+    let count = c.steps_of-count.ensures.count in
+    let other_count = c.steps_of.ensures.count in
+    ((λ e. same_lists (own_steps c.args.p c.args.history.now) (own_steps c.args.p c.args.other.now) (omega arith) (λ i less. c.loop-i.invariant i (omega arith))), (λ same. refl))

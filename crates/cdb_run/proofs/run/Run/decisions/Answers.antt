@@ -1,21 +1,19 @@
-use Rattle.std.proofs.Common.{◌≡◌, ◌≤◌, List, length, map, IfOk, ap, ◌∙◌, subst, arith}
+use Rattle.std.proofs.Common.{◌≡◌, List, length, map, IfOk, ap, ◌∙◌, subst, arith}
 use Rattle.cdb_rules.specs.RunView.{RunView}
 use Rattle.cdb_rules.specs.Runs.{decisions_in}
 use Rattle.cdb_rules.specs.Decisions.{decided_from}
 use Rattle.cdb_run.proofs.Held.{count_is}
-use Rattle.cdb_rules.proofs.FirstStates.{length-first_states}
+use Rattle.cdb_run.proofs.Starting.{at_most_nine}
 use Rattle.cdb_run.proofs.Views.{progresses_shown}
 use Rattle.cdb_run.proofs.run.Run.decisions.Goals as goal
 
 pub decided-requires : goal.decided-requires
 decided-requires g c =
     let setup = c.self.inside.setup in
-    let inputs : length setup.inputs ≡ setup.processes = c.n-ranges.ensures.ranges.an_input_each in
-    let few : setup.processes ≤ 9 = c.n-ranges.ensures.ranges.processes.1 in
+    let few = at_most_nine g.P.Process.table setup c.n-ranges.ensures.ranges in
     let same = ap length c.deref.ensures.value in
     let count = count_is c.self.invariant in
-    let number = length-first_states g.P.Process.table.first 1 setup.processes setup.quorum setup.inputs in
-    omega (arith, inputs, few, same, count, number)
+    omega (arith, few, same, count)
 
 pub returns : goal.returns
 returns g c =

@@ -1,7 +1,7 @@
-use Rattle.std.proofs.Common.{◌≡◌, length, ap, ◌∙◌}
+use Rattle.std.proofs.Common.{ap, ◌∙◌}
 use Rattle.cdb_rules.specs.RunView.{RunView}
 use Rattle.cdb_rules.specs.Runs.{mail_in}
-use Rattle.cdb_rules.proofs.FirstStates.{length-first_states}
+use Rattle.cdb_run.proofs.Starting.{machine_each}
 use Rattle.cdb_run.proofs.Views.{mail_shown, receivers_shown}
 use Rattle.cdb_run.proofs.run.Run.mail.Goals as goal
 
@@ -14,6 +14,5 @@ returns-clause-mail g c =
 pub returns-clause-receivers : goal.returns-clause-receivers
 returns-clause-receivers g c =
     let setup = c.self.inside.setup in
-    let inputs : length setup.inputs ≡ setup.processes = c.n-ranges.ensures.ranges.an_input_each in
-    receivers_shown c.self.invariant ∙ length-first_states g.P.Process.table.first 1 setup.processes setup.quorum setup.inputs ∙ inputs
+    receivers_shown c.self.invariant ∙ machine_each g.P.Process.table setup c.n-ranges.ensures.ranges
     ∙ ap (λ (s : RunView). s.setup.processes) c.self.view_is

@@ -5,7 +5,7 @@ use Rattle.cdb_rules.specs.Runs.{IsNext, result_of_step}
 use Rattle.cdb_rules.specs.Machines.{machine_of}
 use Rattle.cdb_rules.specs.Step.{is_among}
 use Rattle.cdb_rules.proofs.Granted.{IsLawful}
-use Rattle.cdb_rules.proofs.FirstStates.{length-first_states}
+use Rattle.cdb_run.proofs.Starting.{machine_each}
 use Rattle.cdb_run.proofs.Views.{index_below, receives_shown, queries_shown, plan_shown, plan_absent, result_enabled}
 use Rattle.cdb_run.proofs.run.Run.plan.Goals as goal
 
@@ -13,8 +13,7 @@ pub returns-in_default-clause-returns : goal.returns-in_default-clause-returns
 returns-in_default-clause-returns g c =
     let process = g.P.Process in
     let setup = c.self.inside.setup in
-    let inputs : length setup.inputs ≡ setup.processes = c.n-ranges.ensures.ranges.an_input_each in
-    let number = length-first_states process.table.first 1 setup.processes setup.quorum setup.inputs ∙ inputs in
+    let number = machine_each process.table setup c.n-ranges.ensures.ranges in
     let none = subst (λ (s : RunView). is_among s.setup.processes c.args.p ≡ false) (sym c.self.view_is) c.in_default.ensures.number in
     plan_absent c.self.invariant setup.processes number c.args.p setup c.args.act none
     ∙ ap (λ (s : RunView). result_of_step process.table s c.args.p c.args.act) c.self.view_is
@@ -23,8 +22,7 @@ pub index-progress-requires : goal.index-progress-requires
 index-progress-requires g c =
     let process = g.P.Process in
     let setup = c.self.inside.setup in
-    let inputs : length setup.inputs ≡ setup.processes = c.n-ranges.ensures.ranges.an_input_each in
-    let number = length-first_states process.table.first 1 setup.processes setup.quorum setup.inputs ∙ inputs in
+    let number = machine_each process.table setup c.n-ranges.ensures.ranges in
     let last : c.in-Some.process ≤ setup.processes = (
     let shown : c.args.p ≤ setup.processes = subst (λ (s : RunView). c.args.p ≤ s.setup.processes) (sym c.self.view_is) c.in-Some.ensures.number.1 in
     subst (λ q. q ≤ setup.processes) (sym c.in-Some.ensures.number.0) shown) in
@@ -35,8 +33,7 @@ pub plan-requires-clause-among : goal.plan-requires-clause-among
 plan-requires-clause-among g c =
     let process = g.P.Process in
     let setup = c.self.inside.setup in
-    let inputs : length setup.inputs ≡ setup.processes = c.n-ranges.ensures.ranges.an_input_each in
-    let number = length-first_states process.table.first 1 setup.processes setup.quorum setup.inputs ∙ inputs in
+    let number = machine_each process.table setup c.n-ranges.ensures.ranges in
     let last : c.in-Some.process ≤ setup.processes = (
     let shown : c.args.p ≤ setup.processes = subst (λ (s : RunView). c.args.p ≤ s.setup.processes) (sym c.self.view_is) c.in-Some.ensures.number.1 in
     subst (λ q. q ≤ setup.processes) (sym c.in-Some.ensures.number.0) shown) in
@@ -46,8 +43,7 @@ pub plan-requires-clause-queries : goal.plan-requires-clause-queries
 plan-requires-clause-queries g c =
     let process = g.P.Process in
     let setup = c.self.inside.setup in
-    let inputs : length setup.inputs ≡ setup.processes = c.n-ranges.ensures.ranges.an_input_each in
-    let number = length-first_states process.table.first 1 setup.processes setup.quorum setup.inputs ∙ inputs in
+    let number = machine_each process.table setup c.n-ranges.ensures.ranges in
     let last : c.in-Some.process ≤ setup.processes = (
     let shown : c.args.p ≤ setup.processes = subst (λ (s : RunView). c.args.p ≤ s.setup.processes) (sym c.self.view_is) c.in-Some.ensures.number.1 in
     subst (λ q. q ≤ setup.processes) (sym c.in-Some.ensures.number.0) shown) in
@@ -57,8 +53,7 @@ pub returns-clause-returns : goal.returns-clause-returns
 returns-clause-returns g c =
     let process = g.P.Process in
     let setup = c.self.inside.setup in
-    let inputs : length setup.inputs ≡ setup.processes = c.n-ranges.ensures.ranges.an_input_each in
-    let number = length-first_states process.table.first 1 setup.processes setup.quorum setup.inputs ∙ inputs in
+    let number = machine_each process.table setup c.n-ranges.ensures.ranges in
     let last : c.in-Some.process ≤ setup.processes = (
     let shown : c.args.p ≤ setup.processes = subst (λ (s : RunView). c.args.p ≤ s.setup.processes) (sym c.self.view_is) c.in-Some.ensures.number.1 in
     subst (λ q. q ≤ setup.processes) (sym c.in-Some.ensures.number.0) shown) in
@@ -74,8 +69,7 @@ pub returns-clause-enabled : goal.returns-clause-enabled
 returns-clause-enabled g c =
     let process = g.P.Process in
     let setup = c.self.inside.setup in
-    let inputs : length setup.inputs ≡ setup.processes = c.n-ranges.ensures.ranges.an_input_each in
-    let number = length-first_states process.table.first 1 setup.processes setup.quorum setup.inputs ∙ inputs in
+    let number = machine_each process.table setup c.n-ranges.ensures.ranges in
     let laws = g.met.P.Process in
     let lawful : IsLawful (machine_of process.table setup) = record { query = laws.query_by_state; recv = laws.recv_by_state; send = laws.wish_send; write = laws.wish_write } in
     let answered = returns-clause-returns g c in

@@ -1,7 +1,7 @@
 use Rattle.std.proofs.Common.{rules, ◌≡◌, ◌<◌, ◌↔◌, length, IsOk, IfOk, IsSome, ap, ◌∙◌, sym, subst, refl, arith}
 use Rattle.std.proofs.lemmas.Grind.{common_steps}
 use Rattle.cdb_base.specs.declared.event.Event.TheVariants.{Step, Lost}
-use Rattle.cdb_record.specs.Recorded.{events_of}
+use Rattle.cdb_standing.specs.Recorded.{events_of}
 use Rattle.cdb_rules.specs.RunView.{RunView}
 use Rattle.cdb_rules.specs.Runs.{result_of_again}
 use Rattle.cdb_rules.specs.Machines.{machine_of}
@@ -9,7 +9,7 @@ use Rattle.cdb_rules.specs.Refusals.{IsOfRun}
 use Rattle.cdb_rules.specs.Step.{after, state_of}
 use Rattle.cdb_rules.proofs.Again.{again_exact, again_same}
 use Rattle.cdb_rules.proofs.Granted.{IsLawful}
-use Rattle.cdb_rules.proofs.FirstStates.{length-first_states}
+use Rattle.cdb_run.proofs.Starting.{machine_each}
 use Rattle.cdb_run.proofs.Views.{index_below, receives_shown, steps_shown, again_shown, loss_shown, receivers_shown}
 use Rattle.cdb_run.proofs.run.Run.plan_again.Goals as goal
 
@@ -17,8 +17,7 @@ pub index-progress-requires : goal.index-progress-requires
 index-progress-requires g c =
     let process = g.P.Process in
     let setup = c.self.inside.setup in
-    let inputs : length setup.inputs ≡ setup.processes = c.n-ranges.ensures.ranges.an_input_each in
-    let number = length-first_states process.table.first 1 setup.processes setup.quorum setup.inputs ∙ inputs in
+    let number = machine_each process.table setup c.n-ranges.ensures.ranges in
     let of_run = subst (λ (s : RunView). IsOfRun s.setup c.args.event.now) (sym c.self.view_is) c.requires in
     let p = c.in-Step.p in
     let last = (subst (IsOfRun setup) c.in-Step.is of_run).0 in
@@ -29,8 +28,7 @@ pub plan_again-requires-clause-among : goal.plan_again-requires-clause-among
 plan_again-requires-clause-among g c =
     let process = g.P.Process in
     let setup = c.self.inside.setup in
-    let inputs : length setup.inputs ≡ setup.processes = c.n-ranges.ensures.ranges.an_input_each in
-    let number = length-first_states process.table.first 1 setup.processes setup.quorum setup.inputs ∙ inputs in
+    let number = machine_each process.table setup c.n-ranges.ensures.ranges in
     let of_run = subst (λ (s : RunView). IsOfRun s.setup c.args.event.now) (sym c.self.view_is) c.requires in
     let p = c.in-Step.p in
     let last = (subst (IsOfRun setup) c.in-Step.is of_run).0 in
@@ -40,8 +38,7 @@ pub plan_again-requires-clause-steps : goal.plan_again-requires-clause-steps
 plan_again-requires-clause-steps g c =
     let process = g.P.Process in
     let setup = c.self.inside.setup in
-    let inputs : length setup.inputs ≡ setup.processes = c.n-ranges.ensures.ranges.an_input_each in
-    let number = length-first_states process.table.first 1 setup.processes setup.quorum setup.inputs ∙ inputs in
+    let number = machine_each process.table setup c.n-ranges.ensures.ranges in
     let of_run = subst (λ (s : RunView). IsOfRun s.setup c.args.event.now) (sym c.self.view_is) c.requires in
     let p = c.in-Step.p in
     let last = (subst (IsOfRun setup) c.in-Step.is of_run).0 in
@@ -51,8 +48,7 @@ pub plan_loss_again-requires-clause-loses : goal.plan_loss_again-requires-clause
 plan_loss_again-requires-clause-loses g c =
     let process = g.P.Process in
     let setup = c.self.inside.setup in
-    let inputs : length setup.inputs ≡ setup.processes = c.n-ranges.ensures.ranges.an_input_each in
-    let number = length-first_states process.table.first 1 setup.processes setup.quorum setup.inputs ∙ inputs in
+    let number = machine_each process.table setup c.n-ranges.ensures.ranges in
     let of_run = subst (λ (s : RunView). IsOfRun s.setup c.args.event.now) (sym c.self.view_is) c.requires in
     (subst (IsOfRun setup) c.in-Lost.is of_run).0
 
@@ -60,8 +56,7 @@ pub plan_loss_again-requires-clause-among : goal.plan_loss_again-requires-clause
 plan_loss_again-requires-clause-among g c =
     let process = g.P.Process in
     let setup = c.self.inside.setup in
-    let inputs : length setup.inputs ≡ setup.processes = c.n-ranges.ensures.ranges.an_input_each in
-    let number = length-first_states process.table.first 1 setup.processes setup.quorum setup.inputs ∙ inputs in
+    let number = machine_each process.table setup c.n-ranges.ensures.ranges in
     let of_run = subst (λ (s : RunView). IsOfRun s.setup c.args.event.now) (sym c.self.view_is) c.requires in
     (subst (IsOfRun setup) c.in-Lost.is of_run).1
 
@@ -69,16 +64,14 @@ pub plan_loss_again-requires-clause-receivers : goal.plan_loss_again-requires-cl
 plan_loss_again-requires-clause-receivers g c =
     let process = g.P.Process in
     let setup = c.self.inside.setup in
-    let inputs : length setup.inputs ≡ setup.processes = c.n-ranges.ensures.ranges.an_input_each in
-    let number = length-first_states process.table.first 1 setup.processes setup.quorum setup.inputs ∙ inputs in
+    let number = machine_each process.table setup c.n-ranges.ensures.ranges in
     receivers_shown c.self.invariant ∙ number
 
 pub returns-in-Step-clause-returns : goal.returns-in-Step-clause-returns
 returns-in-Step-clause-returns g c =
     let process = g.P.Process in
     let setup = c.self.inside.setup in
-    let inputs : length setup.inputs ≡ setup.processes = c.n-ranges.ensures.ranges.an_input_each in
-    let number = length-first_states process.table.first 1 setup.processes setup.quorum setup.inputs ∙ inputs in
+    let number = machine_each process.table setup c.n-ranges.ensures.ranges in
     let of_run = subst (λ (s : RunView). IsOfRun s.setup c.args.event.now) (sym c.self.view_is) c.requires in
     let p = c.in-Step.p in
     let last = (subst (IsOfRun setup) c.in-Step.is of_run).0 in
@@ -90,8 +83,7 @@ pub returns-in-Lost-clause-returns : goal.returns-in-Lost-clause-returns
 returns-in-Lost-clause-returns g c =
     let process = g.P.Process in
     let setup = c.self.inside.setup in
-    let inputs : length setup.inputs ≡ setup.processes = c.n-ranges.ensures.ranges.an_input_each in
-    let number = length-first_states process.table.first 1 setup.processes setup.quorum setup.inputs ∙ inputs in
+    let number = machine_each process.table setup c.n-ranges.ensures.ranges in
     let copy = c.in-Lost.copy in
     loss_shown c.self.invariant setup copy.msg copy.to c.plan_loss_again.result c.plan_loss_again.ensures
     ∙ ap (λ (s : RunView). result_of_again process.table s (Lost copy)) c.self.view_is
@@ -101,8 +93,7 @@ pub returns-in-Step-clause-taken : goal.returns-in-Step-clause-taken
 returns-in-Step-clause-taken g c =
     let process = g.P.Process in
     let setup = c.self.inside.setup in
-    let inputs : length setup.inputs ≡ setup.processes = c.n-ranges.ensures.ranges.an_input_each in
-    let number = length-first_states process.table.first 1 setup.processes setup.quorum setup.inputs ∙ inputs in
+    let number = machine_each process.table setup c.n-ranges.ensures.ranges in
     let of_run = subst (λ (s : RunView). IsOfRun s.setup c.args.event.now) (sym c.self.view_is) c.requires in
     let laws = g.met.P.Process in
     let machine = machine_of process.table setup in
@@ -123,8 +114,7 @@ pub returns-in-Lost-clause-taken : goal.returns-in-Lost-clause-taken
 returns-in-Lost-clause-taken g c =
     let process = g.P.Process in
     let setup = c.self.inside.setup in
-    let inputs : length setup.inputs ≡ setup.processes = c.n-ranges.ensures.ranges.an_input_each in
-    let number = length-first_states process.table.first 1 setup.processes setup.quorum setup.inputs ∙ inputs in
+    let number = machine_each process.table setup c.n-ranges.ensures.ranges in
     let of_run = subst (λ (s : RunView). IsOfRun s.setup c.args.event.now) (sym c.self.view_is) c.requires in
     let laws = g.met.P.Process in
     let machine = machine_of process.table setup in

@@ -1,12 +1,12 @@
-use Rattle.std.proofs.Common.{◌≡◌, length, IfOk, IsSome, ap, ◌∙◌, sym, subst, refl}
+use Rattle.std.proofs.Common.{IfOk, IsSome, ap, ◌∙◌, sym, subst, refl}
 use Rattle.cdb_message.specs.Mail.{message_name}
-use Rattle.cdb_record.specs.Recorded.{events_of}
+use Rattle.cdb_standing.specs.Recorded.{events_of}
 use Rattle.cdb_rules.specs.RunView.{RunView}
 use Rattle.cdb_rules.specs.Machines.{machine_of}
 use Rattle.cdb_rules.specs.Refusals.{loss_result}
 use Rattle.cdb_rules.specs.Step.{after, state_of}
 use Rattle.cdb_rules.proofs.Again.{lose_enabled}
-use Rattle.cdb_rules.proofs.FirstStates.{length-first_states}
+use Rattle.cdb_run.proofs.Starting.{machine_each}
 use Rattle.cdb_run.proofs.Views.{loss_shown, receivers_shown}
 use Rattle.cdb_run.proofs.run.Run.plan_loss.Goals as goal
 
@@ -14,8 +14,7 @@ pub plan_loss-requires : goal.plan_loss-requires
 plan_loss-requires g c =
     let process = g.P.Process in
     let setup = c.self.inside.setup in
-    let inputs : length setup.inputs ≡ setup.processes = c.n-ranges.ensures.ranges.an_input_each in
-    receivers_shown c.self.invariant ∙ length-first_states process.table.first 1 setup.processes setup.quorum setup.inputs ∙ inputs
+    receivers_shown c.self.invariant ∙ machine_each process.table setup c.n-ranges.ensures.ranges
 
 pub returns-clause-returns : goal.returns-clause-returns
 returns-clause-returns g c =
@@ -27,8 +26,7 @@ pub returns-clause-enabled : goal.returns-clause-enabled
 returns-clause-enabled g c =
     let process = g.P.Process in
     let setup = c.self.inside.setup in
-    let inputs : length setup.inputs ≡ setup.processes = c.n-ranges.ensures.ranges.an_input_each in
-    let number = length-first_states process.table.first 1 setup.processes setup.quorum setup.inputs ∙ inputs in
+    let number = machine_each process.table setup c.n-ranges.ensures.ranges in
     let machine = machine_of process.table setup in
     subst (λ (s : RunView). let machine = machine_of process.table s.setup in IfOk c.plan_loss.result (λ event. IsSome (after machine (state_of machine s.history) event))) c.self.view_is
     (subst (λ returned. IfOk returned (λ event. IsSome (after machine (state_of machine (events_of c.self.inside.records)) event)))

@@ -1,9 +1,9 @@
-use Rattle.std.proofs.Common.{◌≡◌, ◌≤◌, length, None, false, MatchOption, ◌∙◌, ap, subst}
+use Rattle.std.proofs.Common.{◌≡◌, ◌≤◌, None, false, MatchOption, ◌∙◌, ap, subst}
 use Rattle.cdb_rules.specs.RunView.{RunView}
 use Rattle.cdb_rules.specs.Runs.{process_in}
 use Rattle.cdb_rules.specs.Step.{is_among}
 use Rattle.cdb_rules.proofs.Finding.{among_some, among_none}
-use Rattle.cdb_rules.proofs.FirstStates.{length-first_states}
+use Rattle.cdb_run.proofs.Starting.{machine_each}
 use Rattle.cdb_run.proofs.Views.{process_none}
 use Rattle.cdb_run.proofs.run.Run.process.Goals as goal
 
@@ -17,8 +17,7 @@ pub returns-clause-none : goal.returns-clause-none
 returns-clause-none g c =
     let process = g.P.Process in
     let setup = c.self.inside.setup in
-    let inputs : length setup.inputs ≡ setup.processes = c.n.ensures.ranges.an_input_each in
-    let number = length-first_states process.table.first 1 setup.processes setup.quorum setup.inputs ∙ inputs in
+    let number = machine_each process.table setup c.n.ensures.ranges in
     among_none c.n.result c.args.p c.process_among.result c.process_among.ensures
     (λ absent. subst (λ (s : RunView). process_in process.table s c.args.p ≡ None) c.self.view_is
     (process_none c.self.invariant setup.processes number c.args.p (subst (λ m. is_among m c.args.p ≡ false) c.n.ensures.value absent)))

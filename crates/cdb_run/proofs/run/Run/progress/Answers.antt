@@ -1,16 +1,15 @@
-use Rattle.std.proofs.Common.{rules, ◌≡◌, ◌<◌, ◌≤◌, length, Some, ◌∙◌, sym, subst, arith}
+use Rattle.std.proofs.Common.{rules, ◌≡◌, ◌<◌, ◌≤◌, length, Some, sym, subst, arith}
 use Rattle.std.proofs.lemmas.Grind.{common_steps}
 use Rattle.cdb_rules.specs.RunView.{RunView}
 use Rattle.cdb_rules.specs.Runs.{progress_in}
-use Rattle.cdb_rules.proofs.FirstStates.{length-first_states}
+use Rattle.cdb_run.proofs.Starting.{machine_each}
 use Rattle.cdb_run.proofs.Views.{index_below, progress_shown}
 use Rattle.cdb_run.proofs.run.Run.progress.Goals as goal
 
 pub index-requires-2 : goal.index-requires-2
 index-requires-2 g c =
     let setup = c.self.inside.setup in
-    let inputs : length setup.inputs ≡ setup.processes = c.n-ranges.ensures.ranges.an_input_each in
-    let number = length-first_states g.P.Process.table.first 1 setup.processes setup.quorum setup.inputs ∙ inputs in
+    let number = machine_each g.P.Process.table setup c.n-ranges.ensures.ranges in
     let last = subst (λ (s : RunView). c.args.p ≤ s.setup.processes) (sym c.self.view_is) c.requires in
     let below : c.index.result < length c.self.inside.state.processes.items = index_below c.self.invariant setup.processes number c.index.result c.args.p c.index.ensures.value last in
     first_of (search (rules, below), grind (arith, below, common_steps))
@@ -19,8 +18,7 @@ pub returns : goal.returns
 returns g c =
     let process = g.P.Process in
     let setup = c.self.inside.setup in
-    let inputs : length setup.inputs ≡ setup.processes = c.n-ranges.ensures.ranges.an_input_each in
-    let number = length-first_states process.table.first 1 setup.processes setup.quorum setup.inputs ∙ inputs in
+    let number = machine_each process.table setup c.n-ranges.ensures.ranges in
     let last = subst (λ (s : RunView). c.args.p ≤ s.setup.processes) (sym c.self.view_is) c.requires in
     subst (λ (s : RunView). progress_in process.table s c.args.p ≡ Some c.index-2.result.now) c.self.view_is
     (progress_shown c.self.invariant setup.processes number c.index.result c.args.p c.index-2.result.now c.index.ensures.value last c.index-2.ensures)

@@ -1,39 +1,20 @@
-use Rattle.std.proofs.Common.{rules, ◌≤◌, inl, inr, length, refl, sym, subst, arith}
+use Rattle.std.proofs.Common.{rules, ◌≤◌, inl, inr, length, refl, sym, subst}
 use Rattle.cdb_base.specs.declared.event.Event.TheVariants.{Step}
-use Rattle.cdb_record.specs.Recorded.{events_of}
 use Rattle.cdb_rules.specs.RunView.{RunView}
 use Rattle.cdb_rules.specs.Runs.{IsNext}
-use Rattle.cdb_rules.proofs.FirstStates.{length-first_states}
 use Rattle.cdb_run.specs.Stepped.{MayStep, HasStepped, IsSameState}
 use Rattle.cdb_run.specs.declared.state.State.{State}
-use Rattle.cdb_run.proofs.Admitting.{enabled_standing, new_name, no_lost_copy}
+use Rattle.cdb_run.proofs.Coming.{enabled_may_come}
 use Rattle.cdb_run.proofs.Held.{within}
+use Rattle.cdb_run.proofs.Starting.{at_most_nine}
 use Rattle.cdb_run.proofs.Stepping.{may_step, current_after, current_same}
 use Rattle.cdb_run.proofs.run.Run.take_step.Goals as goal
 
-pub push_with-requires-clause-new_name : goal.push_with-requires-clause-new_name
-push_with-requires-clause-new_name g c =
+pub push_with-requires-clause-may : goal.push_with-requires-clause-may
+push_with-requires-clause-may g c =
     let process = g.P.Process in
     let event = Step c.args.p c.args.k c.args.kind.now in
-    let enabled = subst (λ (s : RunView). IsNext process.table s event) (sym c.self.view_is) c.requires in
-    let setup = c.self.inside.setup in
-    let ranges = c.n-ranges.ensures.ranges in
-    let number = length-first_states process.table.first 1 setup.processes setup.quorum setup.inputs in
-    let inputs = ranges.an_input_each in
-    let few = ranges.processes.1 in
-    new_name (events_of c.self.inside.records) event (enabled_standing c.self.invariant event enabled (omega (arith, number, inputs, few)))
-
-pub push_with-requires-clause-not_lost : goal.push_with-requires-clause-not_lost
-push_with-requires-clause-not_lost g c =
-    let process = g.P.Process in
-    let event = Step c.args.p c.args.k c.args.kind.now in
-    let enabled = subst (λ (s : RunView). IsNext process.table s event) (sym c.self.view_is) c.requires in
-    let setup = c.self.inside.setup in
-    let ranges = c.n-ranges.ensures.ranges in
-    let number = length-first_states process.table.first 1 setup.processes setup.quorum setup.inputs in
-    let inputs = ranges.an_input_each in
-    let few = ranges.processes.1 in
-    no_lost_copy (events_of c.self.inside.records) event (enabled_standing c.self.invariant event enabled (omega (arith, number, inputs, few)))
+    enabled_may_come c.self.invariant event (subst (λ (s : RunView). IsNext process.table s event) (sym c.self.view_is) c.requires)
 
 pub push_with-requires-clause-callable : goal.push_with-requires-clause-callable
 push_with-requires-clause-callable g c = λ state is a1 a2 a3 a4 a5 a6 a7 a8 a9 a10.
@@ -43,12 +24,9 @@ push_with-requires-clause-callable g c = λ state is a1 a2 a3 a4 a5 a6 a7 a8 a9 
     let kind = c.args.kind.now in
     let enabled = subst (λ (s : RunView). IsNext process.table s (Step p k kind)) (sym c.self.view_is) c.requires in
     let setup = c.self.inside.setup in
-    let ranges = c.n-ranges.ensures.ranges in
-    let number = length-first_states process.table.first 1 setup.processes setup.quorum setup.inputs in
-    let inputs = ranges.an_input_each in
-    let few = ranges.processes.1 in
+    let few = at_most_nine process.table setup c.n-ranges.ensures.ranges in
     subst (λ (s : State _). (p ≤ length s.processes.items) × MayStep process.table s p kind) (sym is)
-    (within c.self.invariant p k kind enabled, may_step setup c.self.invariant p k kind enabled (omega (arith, number, inputs, few)))
+    (within c.self.invariant p k kind enabled, may_step setup c.self.invariant p k kind enabled few)
 
 pub invariant_of-self : goal.invariant_of-self
 invariant_of-self g c =

@@ -1,0 +1,120 @@
+-- The steps of a process in the history, and their numbers.
+use Rattle.std.proofs.Common.{◌≡◌, ℕ, zero, suc, ◌+◌, ◌<◌, Bool, true, false, cond, List, [], ◌∷◌, length, slice_get, Some, filter, inl, inr, refl, sym, ap, ◌∙◌, subst, true≢false, eqb-true, eq-eqb, arith}
+use Rattle.std.proofs.lemmas.Option.{none-some, same_Some}
+use Rattle.cdb_base.specs.Event.{event_name, is_step_of}
+use Rattle.cdb_base.specs.Positions.{nth}
+use Rattle.cdb_base.specs.declared.event.Event.{Event}
+use Rattle.cdb_base.specs.declared.event.Event.TheVariants as event
+use Rattle.cdb_base.specs.declared.name.StepId.TheVariants as named
+use Rattle.cdb_standing.specs.Comparing.{steps_by, AreNumbered}
+use Rattle.cdb_standing.specs.InOrder.{Marked, Has, IsRising, each_from, events_of}
+use Rattle.cdb_standing.specs.Tables.{row_of, step_at, history_of, standing, IsSound, Stands}
+use Rattle.cdb_standing.specs.declared.tables.Entry.{Entry}
+use Rattle.cdb_standing.specs.declared.tables.Sent.{Sent}
+use Rattle.cdb_standing.proofs.Adding.{marked}
+use Rattle.cdb_standing.proofs.Finding.{row_rising}
+use Rattle.cdb_standing.proofs.Listed.{standing_rising, standing_only, standing_has}
+use Rattle.cdb_standing.proofs.Ordered.{each_only, same_list}
+use Rattle.cdb_standing.proofs.Rows.{each_one_only, each_one_has}
+
+module _ (p : ℕ) where
+  abbrev is_its : Marked → Bool
+  is_its x = is_step_of p x.event
+
+  its_only : (xs : List Marked) (x : Marked) → Has (filter is_its xs) x → Has xs x × (is_its x ≡ true)
+  its_only [] x h = absurd h
+  its_only (z ∷ xs) x h = by (is_its z) refl h (its_only xs x)
+    where
+      by : (b : Bool) → is_its z ≡ b → Has (cond b (z ∷ filter is_its xs) (filter is_its xs)) x → (Has (filter is_its xs) x → Has xs x × (is_its x ≡ true)) → Has (z ∷ xs) x × (is_its x ≡ true)
+      by true e (inl same) again = (inl same, ap is_its (sym same) ∙ e)
+      by true e (inr h) again = let found = again h in (inr found.0, found.1)
+      by false e h again = let found = again h in (inr found.0, found.1)
+
+  its_has : (xs : List Marked) (x : Marked) → Has xs x → is_its x ≡ true → Has (filter is_its xs) x
+  its_has [] x h is = absurd h
+  its_has (z ∷ xs) x h is = by (is_its z) refl h (λ q. its_has xs x q is)
+    where
+      by : (b : Bool) → is_its z ≡ b → Has (z ∷ xs) x → (Has xs x → Has (filter is_its xs) x) → Has (cond b (z ∷ filter is_its xs) (filter is_its xs)) x
+      by true e (inl same) again = inl same
+      by true e (inr h) again = inr (again h)
+      by false e (inl same) again = absurd (true≢false (sym is ∙ ap is_its (sym same) ∙ e))
+      by false e (inr h) again = again h
+
+  its_rising : (xs : List Marked) → IsRising xs → IsRising (filter is_its xs)
+  its_rising [] rising = tt
+  its_rising (z ∷ xs) rising = by (is_its z) (its_rising xs rising.1)
+    where
+      by : (b : Bool) → IsRising (filter is_its xs) → IsRising (cond b (z ∷ filter is_its xs) (filter is_its xs))
+      by true again = ((λ x h. rising.0 x (its_only xs x h).0), again)
+      by false again = again
+
+  its_events : (xs : List Marked) → steps_by p (events_of xs) ≡ events_of (filter is_its xs)
+  its_events [] = refl
+  its_events (z ∷ xs) = by (is_its z) (its_events xs)
+    where
+      by : (b : Bool) → steps_by p (events_of xs) ≡ events_of (filter is_its xs) → cond b (z.event ∷ steps_by p (events_of xs)) (steps_by p (events_of xs)) ≡ events_of (cond b (z ∷ filter is_its xs) (filter is_its xs))
+      by true again = ap (λ l. z.event ∷ l) again
+      by false again = again
+
+  -- the steps of a row
+
+  row_length : (n : ℕ) (row : List Entry) → length (events_of (each_from (step_at p) n row)) ≡ length row
+  row_length n [] = refl
+  row_length n (x ∷ xs) = ap suc (row_length (suc n) xs)
+
+  row_named : (n : ℕ) (row : List Entry) (i : ℕ) (it : Event) → slice_get (events_of (each_from (step_at p) n row)) i ≡ Some it → event_name it ≡ named.Step (record { p = p; k = n + i })
+  row_named n [] i it at = absurd (none-some it at)
+  row_named n (x ∷ xs) zero it at = let e : n ≡ n + 0 = omega arith in ap event_name (sym (same_Some (event.Step p n x.kind) it at)) ∙ ap (λ k. named.Step (record { p = p; k = k })) e
+  row_named n (x ∷ xs) (suc i) it at = let e : suc n + i ≡ n + suc i = omega arith in row_named (suc n) xs i it at ∙ ap (λ k. named.Step (record { p = p; k = k })) e
+
+  rows_rise : (n : ℕ) (row : List Entry) → ((i j : ℕ) (one other : Entry) → slice_get row i ≡ Some one → slice_get row j ≡ Some other → i < j → one.mark < other.mark) → IsRising (each_from (step_at p) n row)
+  rows_rise n [] rises = tt
+  rows_rise n (x ∷ xs) rises = (after, rows_rise (suc n) xs (λ i j one other at_i at_j less. rises (suc i) (suc j) one other at_i at_j (omega arith)))
+    where
+      after : (y : Marked) → Has (each_from (step_at p) (suc n) xs) y → x.mark < y.mark
+      after y h =
+          let found = each_only (step_at p) (suc n) xs y h in
+          let up = rises 0 (suc found.0) x found.1 refl found.2 (omega arith) in
+          by found.1 up found.3
+        where
+          by : (entry : Entry) → x.mark < entry.mark → {k : ℕ} → Has (step_at p k entry) y → x.mark < y.mark
+          by entry up (inl e) = subst (λ (z : Marked). x.mark < z.mark) e up
+          by entry up (inr h) = absurd h
+
+module _ (next : ℕ) (steps : List (List Entry)) (sent : List (List Sent)) (sound : IsSound next steps sent) (p : ℕ) where
+  abbrev row : List Entry
+  row = row_of steps p
+
+  in_row : (x : Marked) → Stands steps sent x.mark x.event → is_step_of p x.event ≡ true → Has (each_from (step_at p) 1 row) x
+  in_row x at is = by x.event refl at is
+    where
+      by : (it : Event) → x.event ≡ it → Stands steps sent x.mark it → is_step_of p it ≡ true → Has (each_from (step_at p) 1 row) x
+      by (event.Step q k kind) e at is =
+          let same : q ≡ p = eqb-true q p is in
+          each_one_has (step_at p) row x k (record { mark = x.mark; kind = kind }) (rw same at at)
+          (inl (ap (λ r. marked x.mark (event.Step r k kind)) (sym same) ∙ ap (λ it. marked x.mark it) (sym e)))
+      by (event.Lost copy) e at is = absurd (true≢false (sym is))
+
+  of_row : (x : Marked) → Has (each_from (step_at p) 1 row) x → Stands steps sent x.mark x.event × (is_step_of p x.event ≡ true)
+  of_row x h = let found = each_one_only (step_at p) row x h in by found.0 found.1 found.2 found.3
+    where
+      by : (k : ℕ) (entry : Entry) → nth row k ≡ Some entry → Has (step_at p k entry) x → Stands steps sent x.mark x.event × (is_step_of p x.event ≡ true)
+      by k entry at (inl e) = subst (λ (y : Marked). Stands steps sent y.mark y.event × (is_step_of p y.event ≡ true)) e (at, eq-eqb p p refl)
+      by k entry at (inr h) = absurd h
+
+  steps_are : steps_by p (history_of steps sent) ≡ events_of (each_from (step_at p) 1 row)
+  steps_are =
+      its_events p (standing steps sent)
+      ∙ ap events_of
+      (same_list (filter (is_its p) (standing steps sent)) (each_from (step_at p) 1 row) (its_rising p (standing steps sent) (standing_rising steps sent)) (rows_rise p 1 row (row_rising next steps sent sound p))
+      (λ x h. let of = its_only p (standing steps sent) x h in in_row x (standing_only steps sent x of.0) of.1)
+      (λ x h. let of = of_row x h in its_has p (standing steps sent) x (standing_has steps sent sound.single x.mark x.event of.0) of.1))
+
+  pub steps_counted : length row ≡ length (steps_by p (history_of steps sent))
+  steps_counted = sym (ap length steps_are ∙ row_length p 1 row)
+
+  pub are_numbered : AreNumbered p (history_of steps sent)
+  are_numbered zero it at = absurd (none-some it at)
+  are_numbered (suc i) it at =
+      let e : 1 + i ≡ suc i = omega arith in
+      row_named p 1 row i it (sym (ap (λ l. slice_get l i) steps_are) ∙ at) ∙ ap (λ k. named.Step (record { p = p; k = k })) e

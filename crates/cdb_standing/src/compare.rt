@@ -1,0 +1,82 @@
+//! What two histories are compared by, in the tables: the writes before a mark, and the losses.
+
+ghost use Rattle.std.specs.Prelude.{◌≡◌, ◌↔◌, ◌+◌, ◌<◌, ℕ, length, IsTrue};
+ghost use Rattle.std.specs.List.{count_by};
+ghost use Rattle.cdb_standing.specs.Accesses.{cell, IsRisingBy};
+ghost use Rattle.cdb_standing.specs.Counts.{is_before, is_write_before, HasLost, LoseSameOf, LoseSameIn};
+ghost use Rattle.cdb_standing.specs.Kept.{AreKept};
+ghost use Rattle.cdb_standing.specs.Tables.{rows_in, row_of, standing};
+
+use crate::tables::{Access, Copied, Sent, Tables};
+
+/// How many accesses of a list have lower marks.
+fn count_before(accesses: &[Access], mark: u64) -> usize
+    requires { IsRisingBy accesses.now }
+    ensures { result ≡ count_by (is_before mark) accesses.now }
+{
+    accesses.partition_point(|access| access.mark < mark)
+}
+
+/// How many writes of the register of that number have lower marks.
+pub(crate) fn writes_before(tables: &Tables, n: usize, mark: u64) -> usize
+    requires kept { AreKept tables.now }
+    requires few { n < 11 }
+    ensures { result ≡ count_by (is_write_before n mark)
+        (standing (rows_in tables.now.steps.items) (rows_in tables.now.sent.items)) }
+{
+    let mut count = 0;
+    for i in 0..9 {
+        count += count_before(&tables.writes[i * 11 + n], mark);
+    }
+    count
+}
+
+/// Whether a copy of the message at that index of a row is lost.
+fn has_lost(row: &[Sent], j: usize, to: usize) -> bool
+    requires { to < 9 }
+    ensures { IsTrue result ↔ HasLost row.now (j + 1) (to + 1) }
+{
+    match row.get(j) {
+        Some(it) => matches!(it.copies[to], Copied::Lost(_)),
+        None => false,
+    }
+}
+
+/// Whether of the messages at that index of two rows the same copies are lost.
+fn lose_same_copies(row: &[Sent], other: &[Sent], j: usize) -> bool
+    ensures { IsTrue result ↔ LoseSameOf row.now other.now (j + 1) }
+{
+    for to in 0..9 {
+        if has_lost(row, j, to) != has_lost(other, j, to) {
+            return false;
+        }
+    }
+    true
+}
+
+/// Whether of the messages of two rows the same copies are lost.
+fn lose_same(row: &[Sent], other: &[Sent]) -> bool
+    ensures { IsTrue result ↔ LoseSameIn row.now other.now }
+{
+    for j in 0..row.len().max(other.len()) {
+        if !lose_same_copies(row, other, j) {
+            return false;
+        }
+    }
+    true
+}
+
+/// Whether in both tables the same copies are lost.
+pub(crate) fn have_same_losses(sent: &Vec<Vec<Sent>>, other: &Vec<Vec<Sent>>) -> bool
+    requires nine { length sent.now.items ≡ 9 }
+    requires other_nine { length other.now.items ≡ 9 }
+    ensures { IsTrue result
+        ↔ ((s : ℕ) → LoseSameIn (row_of (rows_in sent.now.items) s) (row_of (rows_in other.now.items) s)) }
+{
+    for i in 0..9 {
+        if !lose_same(&sent[i], &other[i]) {
+            return false;
+        }
+    }
+    true
+}
