@@ -1,3 +1,2 @@
--- what a reader of the contracts believes: a reply as a contract sees it, and which commands are of one event
+-- what a reader of the contracts believes: a reply as a contract sees it
 pub mod ToldReply
-pub mod OneEvent

@@ -7,8 +7,6 @@ use Rattle.cdb_base.specs.declared.payload.Payload.{Payload}
 use Rattle.cdb_base.specs.declared.refusal.Refusal.{Refusal}
 use Rattle.cdb_base.specs.declared.register.Cell.{Cell}
 use Rattle.cdb_base.specs.declared.proc_view.ProcView.{ProcView}
-use Rattle.cdb_commands.specs.declared.reply.EventReply.{EventReply}
-use Rattle.cdb_commands.specs.declared.reply.EventReply.TheVariants as of_event
 use Rattle.cdb_commands.specs.declared.reply.Reply.{Reply}
 use Rattle.cdb_commands.specs.declared.reply.Reply.TheVariants as reply
 
@@ -50,14 +48,3 @@ told (reply.Mail copies) = Mail copies.items
 told (reply.History events) = History events.items
 told (reply.Decisions pairs) = Decisions pairs.items
 told (reply.Refused refusal) = Refused refusal
-
--- the reply to a command of one event, as one of any command
-abbrev pub as_reply : EventReply → Reply
-as_reply (of_event.Stepped event decides paused) = reply.Stepped event decides paused
-as_reply (of_event.Undone event) = reply.Undone event
-as_reply (of_event.Redone event decides) = reply.Redone event decides
-as_reply (of_event.Refused refusal) = reply.Refused refusal
-
--- what is said of a reply holds of it
-abbrev pub AsReply : (Reply → Type 0) → EventReply → Type 0
-AsReply Says given = Says (as_reply given)

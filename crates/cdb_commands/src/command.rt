@@ -1,8 +1,5 @@
 //! What a session can ask for.
 
-ghost use Rattle.std.specs.Prelude.{◌≡◌};
-ghost use Rattle.cdb_commands.specs.OneEvent.{is_of_one_event};
-
 use cdb_base::{Act, Reg};
 
 /// What a breakpoint waits for. It looks at the steps that `step` and `auto` take.
@@ -47,21 +44,4 @@ pub enum Command {
     Resume,
     Show(View),
     Decisions,
-}
-
-impl Command {
-    /// Whether the command takes one event, undoes one or takes one again.
-    pub fn is_of_one_event(&self) -> bool
-        ensures { result ≡ is_of_one_event self.now }
-    {
-        matches!(
-            self,
-            Command::Step(_, _)
-                | Command::Auto(_)
-                | Command::Lose(_, _, _)
-                | Command::Undo(_, _)
-                | Command::UndoLost(_, _, _)
-                | Command::Redo
-        )
-    }
 }

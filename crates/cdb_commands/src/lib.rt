@@ -3,8 +3,7 @@
 //!
 //! ```text
 //! let command = Command::Step(1, Act::Go);
-//! let by_itself = command.is_of_one_event();
-//! let reply = Reply::from(EventReply::Undone(event));
+//! let reply = Reply::Undone(event);
 //! ```
 #![tactic(auto)]
 
@@ -12,4 +11,4 @@ mod command;
 mod reply;
 
 pub use command::{Command, Stop, View};
-pub use reply::{EventReply, Reply};
+pub use reply::Reply;

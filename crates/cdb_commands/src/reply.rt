@@ -3,48 +3,6 @@
 use cdb_base::{Cell, Event, MsgName, Payload, Proc, ProcView, Refusal, StepId, Val};
 use smallvec::SmallVec;
 
-/// The reply to a command of one event: a step, a loss, an undo or a redo. It has the cases of `Reply` that such
-/// commands have, and is a quarter of its size.
-#[derive(Clone, Copy)]
-pub enum EventReply {
-    Stepped {
-        event: Event,
-        decides: Option<Val>,
-        paused: Option<u32>,
-    },
-    Undone(Event),
-    Redone {
-        event: Event,
-        decides: Option<Val>,
-    },
-    Refused(Refusal),
-}
-
-impl From<EventReply> for Reply {
-    ghost use Rattle.std.specs.Prelude.{◌≡◌};
-    ghost use Rattle.cdb_commands.specs.ToldReply.{as_reply};
-
-    ghost from_gives = { λ reply made. made ≡ as_reply reply };
-
-    #[inline(always)]
-    fn from(reply: EventReply) -> Self {
-        match reply {
-            EventReply::Stepped {
-                event,
-                decides,
-                paused,
-            } => Reply::Stepped {
-                event,
-                decides,
-                paused,
-            },
-            EventReply::Undone(event) => Reply::Undone(event),
-            EventReply::Redone { event, decides } => Reply::Redone { event, decides },
-            EventReply::Refused(refusal) => Reply::Refused(refusal),
-        }
-    }
-}
-
 /// The reply to a command.
 #[derive(Drop)]
 pub enum Reply {

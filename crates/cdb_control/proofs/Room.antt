@@ -9,7 +9,7 @@ use Rattle.cdb_base.specs.declared.name.StepId.{StepId}
 use Rattle.cdb_base.specs.declared.refusal.Refusal.{Refusal}
 use Rattle.cdb_base.specs.declared.refusal.Refusal.TheVariants.{NoProcess, NothingToRedo, NoBreak, BreakLimit}
 use Rattle.cdb_base.specs.Limits.{MAX_BREAKPOINTS}
-use Rattle.cdb_commands.specs.ToldReply.{told, as_reply}
+use Rattle.cdb_commands.specs.ToldReply.{told}
 use Rattle.cdb_control.specs.Auto.{choice}
 use Rattle.cdb_control.specs.Commands.{Outcome, unless, granted, found, unpaused, step_done, step, lost, undo, rollback, why, redone, show, outcome}
 use Rattle.cdb_control.specs.Done.{NoneShrinks}
@@ -22,8 +22,6 @@ use Rattle.cdb_control.specs.Stops.{names_none_of}
 use Rattle.cdb_commands.specs.declared.command.Command.{Command}
 use Rattle.cdb_commands.specs.declared.command.Command.TheVariants.{Step, Auto, Lose, Undo, UndoLost, Redo, Forget, Rollback, RollbackLost, Why, WhyLost, Break, Unbreak, Resume, Show, Decisions}
 use Rattle.cdb_commands.specs.declared.command.View.{View}
-use Rattle.cdb_commands.specs.declared.reply.EventReply.{EventReply}
-use Rattle.cdb_commands.specs.declared.reply.EventReply.TheVariants as of_event
 use Rattle.cdb_commands.specs.declared.command.View.TheVariants as view
 use Rattle.cdb_rules.specs.declared.event_ref.EventRef.TheVariants as named
 use Rattle.cdb_message.specs.Mail.{message_name}
@@ -107,13 +105,6 @@ pub no-rooms : (seats i : ℕ) → get_or (rooms_at 0 (replicate seats 0)) i 0 �
 no-rooms zero i = refl
 no-rooms (suc n) zero = refl
 no-rooms (suc n) (suc i) = no-rooms n i
-
--- a command of one event takes one of its seat's room
-pub cost-one : (given : EventReply) → cost (told (as_reply given)) ≡ 1
-cost-one (of_event.Stepped event decides paused) = refl
-cost-one (of_event.Undone event) = refl
-cost-one (of_event.Redone event decides) = refl
-cost-one (of_event.Refused refusal) = refl
 
 -- ---- how much longer a command makes the redo lists
 

@@ -9,7 +9,7 @@ use Rattle.cdb_base.specs.declared.no_memory.NoMemory.{NoMemory}
 use Rattle.cdb_base.specs.declared.event.Event.{Event}
 use Rattle.cdb_base.specs.declared.refusal.Refusal.{Refusal}
 use Rattle.cdb_base.specs.declared.refusal.Refusal.TheVariants.{NothingToRedo}
-use Rattle.cdb_commands.specs.ToldReply.{is_refused, AsReply}
+use Rattle.cdb_commands.specs.ToldReply.{is_refused}
 use Rattle.cdb_commands.specs.ToldReply as reply
 use Rattle.cdb_control.specs.Auto.{choice}
 use Rattle.cdb_control.specs.Commands.{Outcome, granted, found, unpaused, undone_by, redone, decides, step, step_done, undo, rollback, why, reply_of, outcome}
@@ -19,7 +19,6 @@ use Rattle.cdb_control.specs.State.{State, redo_of, last_of}
 use Rattle.cdb_control.specs.Done.{CameOutAs, IsNoRefusal, IsCarriedOut, IsCarriedOutForAny, IsGranted, IsGrantedFromAny, NoneShrinks}
 use Rattle.cdb_commands.specs.declared.command.Command.{Command}
 use Rattle.cdb_commands.specs.declared.command.Command.TheVariants as command
-use Rattle.cdb_commands.specs.declared.reply.EventReply.{EventReply}
 use Rattle.cdb_commands.specs.declared.reply.Reply.{Reply}
 use Rattle.cdb_rules.specs.declared.event_ref.EventRef.TheVariants.{Step, Lost}
 use Rattle.cdb_rules.specs.Refusals.{with_taken}
@@ -27,15 +26,15 @@ use Rattle.cdb_rules.specs.Rules.{Rules}
 use Rattle.cdb_setup.specs.Parts.{Parts}
 use Rattle.cdb_rules.specs.Undo.{result_alone, left_by, number_removed, with_removed}
 
-pub undo_ok : (rules : Rules) (t u : State) (seat p k : ℕ) (it : Command) (r : Result EventReply NoMemory) → it ≡ command.Undo p k
-    → IfOk r (AsReply (CameOutAs (undo t seat (name_given (Step p k))) u)) → IfOk r (AsReply (CameOutAs (outcome rules t seat it) u))
+pub undo_ok : (rules : Rules) (t u : State) (seat p k : ℕ) (it : Command) (r : Result Reply NoMemory) → it ≡ command.Undo p k
+    → IfOk r (CameOutAs (undo t seat (name_given (Step p k))) u) → IfOk r (CameOutAs (outcome rules t seat it) u)
 unfolding outcome
-undo_ok rules t u seat p k it r is ok = subst (λ (c : Command). IfOk r (AsReply (CameOutAs (outcome rules t seat c) u))) (sym is) ok
+undo_ok rules t u seat p k it r is ok = subst (λ (c : Command). IfOk r (CameOutAs (outcome rules t seat c) u)) (sym is) ok
 
-pub undo_lost_ok : (rules : Rules) (t u : State) (seat s m p : ℕ) (it : Command) (r : Result EventReply NoMemory) → it ≡ command.UndoLost s m p
-    → IfOk r (AsReply (CameOutAs (undo t seat (name_given (Lost s m p))) u)) → IfOk r (AsReply (CameOutAs (outcome rules t seat it) u))
+pub undo_lost_ok : (rules : Rules) (t u : State) (seat s m p : ℕ) (it : Command) (r : Result Reply NoMemory) → it ≡ command.UndoLost s m p
+    → IfOk r (CameOutAs (undo t seat (name_given (Lost s m p))) u) → IfOk r (CameOutAs (outcome rules t seat it) u)
 unfolding outcome
-undo_lost_ok rules t u seat s m p it r is ok = subst (λ (c : Command). IfOk r (AsReply (CameOutAs (outcome rules t seat c) u))) (sym is) ok
+undo_lost_ok rules t u seat s m p it r is ok = subst (λ (c : Command). IfOk r (CameOutAs (outcome rules t seat c) u)) (sym is) ok
 
 pub rollback_ok : (rules : Rules) (t u : State) (seat p k : ℕ) (it : Command) (r : Result Reply NoMemory) → it ≡ command.Rollback p k
     → IfOk r (CameOutAs (rollback t seat (name_given (Step p k))) u) → IfOk r (CameOutAs (outcome rules t seat it) u)
@@ -59,20 +58,20 @@ why_lost_ok rules t seat s m p it r is ok = subst (λ (c : Command). CameOutAs (
 
 -- ---- commands that are carried out by a method of their own: what it does is done by the command, for its seat or for any
 
-module _ (rules : Parts → Rules) (t u : State) (seat : ℕ) (one it : Command) (is : it ≡ one) {A : Type 0} (reply : A → Reply) where
-  pub same_ok : (r : Result A NoMemory) → IfOk r (λ a. IsCarriedOut rules t seat one u (reply a)) → IfOk r (λ a. IsCarriedOut rules t seat it u (reply a))
-  same_ok (Ok a) ok = subst (λ (c : Command). IsCarriedOut rules t seat c u (reply a)) (sym is) ok
+module _ (rules : Parts → Rules) (t u : State) (seat : ℕ) (one it : Command) (is : it ≡ one) where
+  pub same_ok : (r : Result Reply NoMemory) → IfOk r (IsCarriedOut rules t seat one u) → IfOk r (IsCarriedOut rules t seat it u)
+  same_ok (Ok reply) ok = subst (λ (c : Command). IsCarriedOut rules t seat c u reply) (sym is) ok
   same_ok (Err fault) ok = ok
 
-  pub any_ok : (r : Result A NoMemory) → IfOk r (λ a. IsCarriedOutForAny rules t one u (reply a)) → IfOk r (λ a. IsCarriedOut rules t seat it u (reply a))
-  any_ok (Ok a) ok = same_ok (Ok a) (ok seat)
+  pub any_ok : (r : Result Reply NoMemory) → IfOk r (IsCarriedOutForAny rules t one u) → IfOk r (IsCarriedOut rules t seat it u)
+  any_ok (Ok reply) ok = same_ok (Ok reply) (ok seat)
   any_ok (Err fault) ok = ok
 
-  pub same_granted : (r : Result A NoMemory) → OnErr r (IsGranted rules t seat one) → OnErr r (IsGranted rules t seat it)
+  pub same_granted : (r : Result Reply NoMemory) → OnErr r (IsGranted rules t seat one) → OnErr r (IsGranted rules t seat it)
   same_granted (Ok a) granted = granted
   same_granted (Err fault) granted = subst (λ (c : Command). IsGranted rules t seat c) (sym is) granted
 
-  pub any_granted : (r : Result A NoMemory) → OnErr r (IsGrantedFromAny rules t one) → OnErr r (IsGranted rules t seat it)
+  pub any_granted : (r : Result Reply NoMemory) → OnErr r (IsGrantedFromAny rules t one) → OnErr r (IsGranted rules t seat it)
   any_granted (Ok a) granted = granted
   any_granted (Err fault) granted = same_granted (Err fault) (granted seat)
 
@@ -82,12 +81,12 @@ as_many old new same = subst (λ (l : List ℕ). NoneShrinks old l) (sym same) (
 
 -- ---- commands that are not refused
 
-pub undo_granted : (rules : Rules) (t : State) (seat p k : ℕ) (it : Command) (r : Result EventReply NoMemory) → it ≡ command.Undo p k
+pub undo_granted : (rules : Rules) (t : State) (seat p k : ℕ) (it : Command) (r : Result Reply NoMemory) → it ≡ command.Undo p k
     → OnErr r (IsNoRefusal (undo t seat (name_given (Step p k)))) → OnErr r (IsNoRefusal (outcome rules t seat it))
 unfolding outcome
 undo_granted rules t seat p k it r is memory = subst (λ (c : Command). OnErr r (IsNoRefusal (outcome rules t seat c))) (sym is) memory
 
-pub undo_lost_granted : (rules : Rules) (t : State) (seat s m p : ℕ) (it : Command) (r : Result EventReply NoMemory) → it ≡ command.UndoLost s m p
+pub undo_lost_granted : (rules : Rules) (t : State) (seat s m p : ℕ) (it : Command) (r : Result Reply NoMemory) → it ≡ command.UndoLost s m p
     → OnErr r (IsNoRefusal (undo t seat (name_given (Lost s m p)))) → OnErr r (IsNoRefusal (outcome rules t seat it))
 unfolding outcome
 undo_lost_granted rules t seat s m p it r is memory = subst (λ (c : Command). OnErr r (IsNoRefusal (outcome rules t seat c))) (sym is) memory

@@ -1,8 +1,7 @@
 //! The control: the control state, and the journal that led to it.
 ghost use Rattle.std.specs.Prelude.{◌≡◌, ◌≢◌, true, false, ◌+◌, ◌-◌, ◌<◌, ◌≤◌, ◌↔◌, ◌⊎◌, max, Err, IfOk, OnOk, OnErr, length, replicate, vec_len, vec_capacity, ◌++◌, ◌∷◌, []};
 ghost use Rattle.std.specs.Result.{result_ok};
-ghost use Rattle.cdb_commands.specs.OneEvent.{is_of_one_event};
-ghost use Rattle.cdb_commands.specs.ToldReply.{told, as_reply};
+ghost use Rattle.cdb_commands.specs.ToldReply.{told};
 ghost use Rattle.cdb_control.specs.Auto.{choice};
 ghost use Rattle.cdb_control.specs.Headline.{Headline};
 ghost use Rattle.cdb_control.specs.Journal.{entry, opened, extended, reply_in, control_state, AreOfSeats, NeedsNoMemory};
@@ -12,7 +11,7 @@ ghost use Rattle.cdb_control.specs.Room.{cost, room_of, with_room, raised};
 use crate::state::ControlState;
 use cdb_base::limits::{MAX_ENTRIES, MAX_SEATS};
 use cdb_base::{Act, NoMemory, Reg};
-use cdb_commands::{Command, EventReply, Reply, Stop, View};
+use cdb_commands::{Command, Reply, Stop, View};
 use cdb_rules::Runs;
 use cdb_setup::Setup;
 use std::alloc::Global;
@@ -157,73 +156,9 @@ impl<R: Runs> Control<R> {
         ensures spared { NeedsNoMemory R.rules self.old seat command →
             (refused : NoMemory) → result ≢ Err (CallFault.NoMemory refused) }
     {
-        if command.is_of_one_event() {
-            let reply = self.execute_event(alloc, seat, command)?;
-            return Ok(Reply::from(reply));
-        }
-        self.execute_other(alloc, seat, command)
-    }
-
-    /// Carries a command of one event out, as `execute` does. Its reply is small, so that what is carried out most
-    /// costs less.
-    pub fn execute_event(
-        &mut self,
-        alloc: Global,
-        seat: u8,
-        command: Command,
-    ) -> Result<EventReply, CallFault>
-        requires of_event { is_of_one_event command ≡ true }
-        requires from_one { 1 ≤ seat }
-        requires to_last { seat ≤ self.old.seats }
-        ensures reply { IfOk result (λ r. told (as_reply r) ≡ reply_in R.rules self.old seat command) }
-        ensures journal { IfOk result
-            (λ _. self.new ≡ extended R.rules self.old seat command) }
-        ensures fault { OnErr result (self.new ≡ self.old) }
-        ensures full { (result ≡ Err CallFault.JournalFull)
-            ↔ (length self.old.journal ≡ MAX_ENTRIES) }
-        ensures limit { length self.new.journal ≤ MAX_ENTRIES }
-        ensures headline { Headline R.rules R.same_state
-            self.new.setup self.new.seats self.new.journal }
-        ensures spared { NeedsNoMemory R.rules self.old seat command →
-            (refused : NoMemory) → result ≢ Err (CallFault.NoMemory refused) }
-    {
-        let journal = &mut self.journal;
-        make_room(journal)?;
-        let again = command;
-        let reply = match self.state.perform_event(alloc, seat, again) {
-            Ok(reply) => reply,
-            Err(refused) => return Err(CallFault::NoMemory(refused)),
-        };
-        push_entry(&mut self.journal, seat, command);
-        Ok(reply)
-    }
-
-    /// Carries a command out that is not of one event.
-    #[inline(never)]
-    fn execute_other(
-        &mut self,
-        alloc: Global,
-        seat: u8,
-        command: Command,
-    ) -> Result<Reply, CallFault>
-        requires other { is_of_one_event command ≡ false }
-        requires from_one { 1 ≤ seat }
-        requires to_last { seat ≤ self.old.seats }
-        ensures reply { IfOk result (λ r. told r ≡ reply_in R.rules self.old seat command) }
-        ensures journal { IfOk result
-            (λ _. self.new ≡ extended R.rules self.old seat command) }
-        ensures fault { OnErr result (self.new ≡ self.old) }
-        ensures full { (result ≡ Err CallFault.JournalFull)
-            ↔ (length self.old.journal ≡ MAX_ENTRIES) }
-        ensures limit { length self.new.journal ≤ MAX_ENTRIES }
-        ensures headline { Headline R.rules R.same_state
-            self.new.setup self.new.seats self.new.journal }
-        ensures spared { NeedsNoMemory R.rules self.old seat command →
-            (refused : NoMemory) → result ≢ Err (CallFault.NoMemory refused) }
-    {
         make_room(&mut self.journal)?;
         let again = command;
-        let reply = match self.state.perform_other(alloc, seat, again) {
+        let reply = match self.state.perform(alloc, seat, again) {
             Ok(reply) => reply,
             Err(refused) => return Err(CallFault::NoMemory(refused)),
         };

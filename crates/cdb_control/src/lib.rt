@@ -16,7 +16,7 @@ mod state;
 mod stops;
 
 pub use cdb_base::{Act, ProcView};
-pub use cdb_commands::{Command, EventReply, Reply, Stop, View};
+pub use cdb_commands::{Command, Reply, Stop, View};
 pub use cdb_rules::{EventRef, Runs};
 pub use control::{CallFault, Control, Entry, OpenFault};
 pub use one_seat::open_for;

@@ -3,7 +3,6 @@ ghost use Rattle.std.specs.Prelude.{◌≡◌, ◌+◌, ◌≤◌, [], true, fal
 ghost use Rattle.std.specs.Option.{option_or};
 ghost use Rattle.cdb_base.specs.Limits.{MAX_ENTRIES};
 ghost use Rattle.cdb_control.specs.Done.{came_out, CameOutAs, IsCarriedOut, IsCarriedOutForAny, IsNoRefusal, IsGranted, IsGrantedFromAny, NoneShrinks};
-ghost use Rattle.cdb_commands.specs.ToldReply.{as_reply, AsReply};
 ghost use Rattle.cdb_control.specs.Auto.{choice};
 ghost use Rattle.cdb_rules.specs.Auto.{first_act_of};
 ghost use Rattle.cdb_control.specs.Commands.{undo, rollback, why, show, decides, newly_fired, last_step, step_told};
@@ -11,7 +10,6 @@ ghost use Rattle.cdb_rules.specs.EventRefs.{name_given};
 ghost use Rattle.cdb_rules.specs.Runs.{with_result};
 ghost use Rattle.cdb_rules.specs.Step.{is_among};
 ghost use Rattle.cdb_control.specs.Trying.{IsFreeForAuto, IsRefusedForAuto};
-ghost use Rattle.cdb_commands.specs.OneEvent.{is_of_one_event};
 ghost use Rattle.cdb_control.specs.Room.{is_spared};
 ghost use Rattle.cdb_control.specs.Kept.{capacity_of, HasSpace, events_kept, AreOfRun};
 ghost use Rattle.cdb_control.specs.State.{first_control_state, redo_of};
@@ -22,7 +20,7 @@ use crate::redo::RedoList;
 use crate::stops::{Breakpoints, TakenStep, names_none_of};
 use cdb_base::limits::{MAX_BREAKPOINTS, MAX_STEPS};
 use cdb_base::{Act, Event, NoMemory, Refusal, Val};
-use cdb_commands::{Command, EventReply, Reply, Stop, View};
+use cdb_commands::{Command, Reply, Stop, View};
 use cdb_rules::{EventRef, Runs};
 use cdb_setup::Setup;
 use std::alloc::Global;
@@ -74,14 +72,6 @@ fn refused(refusal: Refusal) -> Result<Reply, NoMemory>
     ensures { result ≡ Ok (Reply.Refused refusal) }
 {
     Ok(Reply::Refused(refusal))
-}
-
-/// The same of a command of one event.
-#[inline(always)]
-fn refused_event(refusal: Refusal) -> Result<EventReply, NoMemory>
-    ensures { result ≡ Ok (EventReply.Refused refusal) }
-{
-    Ok(EventReply::Refused(refusal))
 }
 
 /// The first act of those that `auto` tries which the run does not refuse.
@@ -221,11 +211,11 @@ impl<R: Runs> ControlState<R> {
     /// Undoes an event on which no standing event depends, and puts it at the end of the seat's
     /// redo list. It needs no memory where there is room for the event.
     #[inline(never)]
-    pub fn undo(&mut self, seat: u8, event: EventRef) -> Result<EventReply, NoMemory>
+    pub fn undo(&mut self, seat: u8, event: EventRef) -> Result<Reply, NoMemory>
         requires from_one { 1 ≤ seat }
         requires to_last { seat ≤ length self.old.state.redo }
-        ensures ok { IfOk result (AsReply
-            (CameOutAs (undo self.old.state seat (name_given event)) self.new.state)) }
+        ensures ok { IfOk result
+            (CameOutAs (undo self.old.state seat (name_given event)) self.new.state) }
         ensures err { OnErr result (self.new.state ≡ self.old.state) }
         ensures memory { OnErr result
             (IsNoRefusal (undo self.old.state seat (name_given event))) }
@@ -234,8 +224,8 @@ impl<R: Runs> ControlState<R> {
     {
         let list = &mut self.redo[seat as usize - 1];
         match list.undo(&mut self.run, event)? {
-            Ok(event) => Ok(EventReply::Undone(event)),
-            Err(refusal) => refused_event(refusal),
+            Ok(event) => Ok(Reply::Undone(event)),
+            Err(refusal) => refused(refusal),
         }
     }
 
@@ -262,26 +252,26 @@ impl<R: Runs> ControlState<R> {
     /// Takes the seat's last undone event again, and off its redo list.
     #[inline(never)]
     #[tactic(auto, unfolding(crate::specs::Commands::outcome))]
-    pub fn redo(&mut self, alloc: Global, seat: u8) -> Result<EventReply, NoMemory>
+    pub fn redo(&mut self, alloc: Global, seat: u8) -> Result<Reply, NoMemory>
         requires from_one { 1 ≤ seat }
         requires to_last { seat ≤ length self.old.state.redo }
         requires of_run { AreOfRun self.old.state }
-        ensures ok { IfOk result (AsReply
-            (IsCarriedOut R.rules self.old.state seat Command.Redo self.new.state)) }
+        ensures ok { IfOk result
+            (IsCarriedOut R.rules self.old.state seat Command.Redo self.new.state) }
         ensures err { OnErr result (self.new.state ≡ self.old.state) }
         ensures memory { OnErr result (IsGranted R.rules self.old.state seat Command.Redo) }
         ensures capacities { NoneShrinks self.old.capacities self.new.capacities }
     {
         let Some(undone) = self.redo[seat as usize - 1].last() else {
-            return refused_event(Refusal::NothingToRedo);
+            return refused(Refusal::NothingToRedo);
         };
         match self.run.again(alloc, &undone)? {
             Ok(event) => {
                 self.redo[seat as usize - 1].drop_last();
                 let decides = self.decides(&event);
-                Ok(EventReply::Redone { event, decides })
+                Ok(Reply::Redone { event, decides })
             }
-            Err(refusal) => refused_event(refusal),
+            Err(refusal) => refused(refusal),
         }
     }
 
@@ -354,12 +344,12 @@ impl<R: Runs> ControlState<R> {
 
     /// The reply to a step that stands last. Sets the pause, where a breakpoint fires.
     #[inline(always)]
-    fn tell_step(&mut self, taken: TakenStep) -> EventReply
-        ensures told { came_out (as_reply result) self.new.state ≡ step_told self.old.state taken }
+    fn tell_step(&mut self, taken: TakenStep) -> Reply
+        ensures told { came_out result self.new.state ≡ step_told self.old.state taken }
         ensures kept { self.new.capacities ≡ self.old.capacities }
     {
         let paused = self.fire(&taken);
-        EventReply::Stepped {
+        Reply::Stepped {
             event: taken.event,
             decides: taken.decides,
             paused,
@@ -369,9 +359,9 @@ impl<R: Runs> ControlState<R> {
     /// Takes a step.
     #[inline(never)]
     #[tactic(auto, unfolding(crate::specs::Commands::outcome))]
-    pub fn step(&mut self, alloc: Global, p: u32, act: Act) -> Result<EventReply, NoMemory>
-        ensures ok { IfOk result (AsReply
-            (IsCarriedOutForAny R.rules self.old.state (Command.Step p act) self.new.state)) }
+    pub fn step(&mut self, alloc: Global, p: u32, act: Act) -> Result<Reply, NoMemory>
+        ensures ok { IfOk result
+            (IsCarriedOutForAny R.rules self.old.state (Command.Step p act) self.new.state) }
         ensures err { OnErr result (self.new.state ≡ self.old.state) }
         ensures memory { OnErr result
             (IsGrantedFromAny R.rules self.old.state (Command.Step p act)) }
@@ -383,28 +373,28 @@ impl<R: Runs> ControlState<R> {
                 let taken = self.last_step(event, p, round_before);
                 Ok(self.tell_step(taken))
             }
-            Err(refusal) => refused_event(refusal),
+            Err(refusal) => refused(refusal),
         }
     }
 
     /// Loses the copy of the `m`-th message of process `s` for process `p`. No breakpoint looks at it.
     #[inline(never)]
     #[tactic(auto, unfolding(crate::specs::Commands::outcome))]
-    pub fn lose(&mut self, alloc: Global, s: u32, m: u32, p: u32) -> Result<EventReply, NoMemory>
-        ensures ok { IfOk result (AsReply
-            (IsCarriedOutForAny R.rules self.old.state (Command.Lose s m p) self.new.state)) }
+    pub fn lose(&mut self, alloc: Global, s: u32, m: u32, p: u32) -> Result<Reply, NoMemory>
+        ensures ok { IfOk result
+            (IsCarriedOutForAny R.rules self.old.state (Command.Lose s m p) self.new.state) }
         ensures err { OnErr result (self.new.state ≡ self.old.state) }
         ensures memory { OnErr result
             (IsGrantedFromAny R.rules self.old.state (Command.Lose s m p)) }
         ensures kept { self.new.capacities ≡ self.old.capacities }
     {
         match self.run.lose(alloc, s, m, p)? {
-            Ok(event) => Ok(EventReply::Stepped {
+            Ok(event) => Ok(Reply::Stepped {
                 event,
                 decides: None,
                 paused: None,
             }),
-            Err(refusal) => refused_event(refusal),
+            Err(refusal) => refused(refusal),
         }
     }
 
@@ -446,10 +436,10 @@ impl<R: Runs> ControlState<R> {
     /// Takes the first step that is possible for a process.
     #[inline(never)]
     #[tactic(auto, unfolding(crate::specs::Commands::outcome))]
-    pub fn auto(&mut self, alloc: Global, p: u32) -> Result<EventReply, NoMemory>
+    pub fn auto(&mut self, alloc: Global, p: u32) -> Result<Reply, NoMemory>
         requires { AreInRange self.old.state.setup }
-        ensures ok { IfOk result (AsReply
-            (IsCarriedOutForAny R.rules self.old.state (Command.Auto p) self.new.state)) }
+        ensures ok { IfOk result
+            (IsCarriedOutForAny R.rules self.old.state (Command.Auto p) self.new.state) }
         ensures err { OnErr result (self.new.state ≡ self.old.state) }
         ensures memory { OnErr result
             (IsGrantedFromAny R.rules self.old.state (Command.Auto p)) }
@@ -457,18 +447,18 @@ impl<R: Runs> ControlState<R> {
     {
         if let Some(number) = self.pause {
             let refusal = self.choose(p).err().unwrap_or(Refusal::Paused(number));
-            return refused_event(refusal);
+            return refused(refusal);
         }
         let round_before = match self.round_for_auto(p) {
             Ok(round) => round,
-            Err(refusal) => return refused_event(refusal),
+            Err(refusal) => return refused(refusal),
         };
         match self.run.step_first(alloc, p)? {
             Ok(event) => {
                 let taken = self.last_step(event, p, round_before);
                 Ok(self.tell_step(taken))
             }
-            Err(refusal) => refused_event(refusal),
+            Err(refusal) => refused(refusal),
         }
     }
 
@@ -522,15 +512,14 @@ impl<R: Runs> ControlState<R> {
         Ok(Reply::Decisions(self.run.decisions(alloc)?))
     }
 
-    /// Carries a command out that is not of one event. It is inlined, so that a `Reply` is handed on once less.
+    /// Carries a command out, of a seat.
     #[inline(always)]
-    pub fn perform_other(
+    pub fn perform(
         &mut self,
         alloc: Global,
         seat: u8,
         command: Command,
     ) -> Result<Reply, NoMemory>
-        requires other { is_of_one_event command ≡ false }
         requires from_one { 1 ≤ seat }
         requires to_last { seat ≤ length self.old.state.redo }
         requires few { events_kept self.old.state ≤ MAX_ENTRIES }
@@ -545,6 +534,12 @@ impl<R: Runs> ControlState<R> {
         ensures spared { is_spared command ≡ true → HasSpace self.old seat → IsOk result }
     {
         match command {
+            Command::Step(p, act) => self.step(alloc, p, act),
+            Command::Auto(p) => self.auto(alloc, p),
+            Command::Lose(s, m, p) => self.lose(alloc, s, m, p),
+            Command::Undo(p, k) => self.undo(seat, EventRef::Step(p, k)),
+            Command::UndoLost(s, m, p) => self.undo(seat, EventRef::Lost(s, m, p)),
+            Command::Redo => self.redo(alloc, seat),
             Command::Forget => Ok(self.forget(seat)),
             Command::Rollback(p, k) => self.rollback(alloc, seat, EventRef::Step(p, k)),
             Command::RollbackLost(s, m, p) => self.rollback(alloc, seat, EventRef::Lost(s, m, p)),
@@ -555,37 +550,6 @@ impl<R: Runs> ControlState<R> {
             Command::Resume => Ok(self.resume()),
             Command::Show(view) => self.show(alloc, view),
             Command::Decisions => self.decisions(alloc),
-            _ => unreachable!(),
-        }
-    }
-
-    /// Carries a command of one event out, of a seat.
-    pub fn perform_event(
-        &mut self,
-        alloc: Global,
-        seat: u8,
-        command: Command,
-    ) -> Result<EventReply, NoMemory>
-        requires of_event { is_of_one_event command ≡ true }
-        requires from_one { 1 ≤ seat }
-        requires to_last { seat ≤ length self.old.state.redo }
-        requires of_run { AreOfRun self.old.state }
-        requires in_range { AreInRange self.old.state.setup }
-        ensures ok { IfOk result (AsReply
-            (IsCarriedOut R.rules self.old.state seat command self.new.state)) }
-        ensures err { OnErr result (self.new.state ≡ self.old.state) }
-        ensures memory { OnErr result (IsGranted R.rules self.old.state seat command) }
-        ensures capacities { NoneShrinks self.old.capacities self.new.capacities }
-        ensures spared { is_spared command ≡ true → HasSpace self.old seat → IsOk result }
-    {
-        match command {
-            Command::Step(p, act) => self.step(alloc, p, act),
-            Command::Auto(p) => self.auto(alloc, p),
-            Command::Lose(s, m, p) => self.lose(alloc, s, m, p),
-            Command::Undo(p, k) => self.undo(seat, EventRef::Step(p, k)),
-            Command::UndoLost(s, m, p) => self.undo(seat, EventRef::Lost(s, m, p)),
-            Command::Redo => self.redo(alloc, seat),
-            _ => unreachable!(),
         }
     }
 }

@@ -3,7 +3,6 @@
 ghost use Rattle.std.specs.Prelude.{◌≡◌, true, ◌<◌, [], length, Err, IfErr, OnOk};
 ghost use Rattle.cdb_base.specs.Limits.{MAX_ENTRIES};
 ghost use Rattle.cdb_control.specs.Journal.{extended};
-ghost use Rattle.cdb_commands.specs.OneEvent.{is_of_one_event};
 ghost use Rattle.cdb_setup.specs.declared.fault.SetupFault.{SetupFault as SetupFaultName};
 ghost use Rattle.cdb_control.specs.OneSeat.{HasCarriedOut};
 ghost use Rattle.cdb_streams.specs.Putting.{Puts};
@@ -16,37 +15,12 @@ ghost use Rattle.cdb_streams.specs.Written.{IsWritten, Only};
 use cdb_control::{CallFault, Command, Control, Runs, laws, open_for};
 use cdb_setup::Setup;
 use cdb_streams::{
-    Buffer, OutputFault, PlayFault, Sink, Source, put_event_reply, put_reply, read_commands,
+    Buffer, OutputFault, PlayFault, Sink, Source, put_reply, read_commands,
 };
 use std::alloc::Global;
 
-/// Carries a command of one event out for the only seat, and puts the text of the reply, which is made in `text`.
-fn perform_event<T: Runs, W: Sink>(
-    alloc: Global,
-    control: &mut Control<T>,
-    command: Command,
-    text: &mut String,
-    buffer: &mut Buffer,
-    out: &mut W,
-) -> Result<(), OutputFault>
-    requires of_event { is_of_one_event command ≡ true }
-    requires seats { control.old.seats ≡ 1 }
-    requires room { length control.old.journal < MAX_ENTRIES }
-    ensures done { OnOk result (control.new ≡ extended T.rules control.old 1 command) }
-    ensures put { Puts W.stream result out.old buffer.old out.new buffer.new
-        (reply_to T.rules control.old command) }
-{
-    let reply = match control.execute_event(alloc, 1, command) {
-        Ok(reply) => reply,
-        Err(CallFault::JournalFull) => unreachable!(),
-        Err(CallFault::NoMemory(refused)) => return Err(OutputFault::NoMemory(refused)),
-    };
-    put_event_reply(&reply, text, buffer, out)
-}
-
-/// Carries a command out as `perform` does.
-#[inline(never)]
-fn perform_any<T: Runs, W: Sink>(
+/// Carries a command out for the only seat, and puts the text of the reply, which is made in `text`.
+fn perform<T: Runs, W: Sink>(
     alloc: Global,
     control: &mut Control<T>,
     command: Command,
@@ -66,27 +40,6 @@ fn perform_any<T: Runs, W: Sink>(
         Err(CallFault::NoMemory(refused)) => return Err(OutputFault::NoMemory(refused)),
     };
     put_reply(&reply, text, buffer, out)
-}
-
-/// Carries a command out for the only seat, and puts the text of the reply, which is made in `text`.
-fn perform<T: Runs, W: Sink>(
-    alloc: Global,
-    control: &mut Control<T>,
-    command: Command,
-    text: &mut String,
-    buffer: &mut Buffer,
-    out: &mut W,
-) -> Result<(), OutputFault>
-    requires seats { control.old.seats ≡ 1 }
-    requires room { length control.old.journal < MAX_ENTRIES }
-    ensures done { OnOk result (control.new ≡ extended T.rules control.old 1 command) }
-    ensures put { Puts W.stream result out.old buffer.old out.new buffer.new
-        (reply_to T.rules control.old command) }
-{
-    if command.is_of_one_event() {
-        return perform_event(alloc, control, command, text, buffer, out);
-    }
-    perform_any(alloc, control, command, text, buffer, out)
 }
 
 /// Carries the commands out, one after the other, for the only seat of a control in which nothing has happened, and

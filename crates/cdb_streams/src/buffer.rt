@@ -2,7 +2,7 @@
 
 ghost use Rattle.std.specs.Prelude.{◌≡◌, ◌↔◌, ℕ, ◌+◌, ◌<◌, ◌≤◌, List, [], ◌++◌, take, length, IsTrue, MatchBool, IfOk, OnOk, OnErr};
 ghost use Rattle.std.specs.List.{flat_map};
-ghost use Rattle.cdb_commands.specs.ToldReply.{told, as_reply};
+ghost use Rattle.cdb_commands.specs.ToldReply.{told};
 ghost use Rattle.cdb_text.specs.Texts.{text_of};
 ghost use Rattle.cdb_text.specs.declared.text.short_report.TheConstants.{MOST_LINE};
 ghost use Rattle.cdb_streams.specs.Endings.{whole_ending};
@@ -11,10 +11,10 @@ ghost use Rattle.cdb_streams.specs.Written.{IsWritten, Only};
 use crate::fault::PlayFault;
 use crate::sink::{Failed, Sink, write_all};
 use cdb_base::NoMemory;
-use cdb_commands::{EventReply, Reply};
+use cdb_commands::Reply;
 use cdb_text::{
     Line, MOST_BYTES, MOST_CAUSES, MOST_ITEMS, MOST_LINE, MOST_REPORT, write_because,
-    write_decisions, write_event_reply, write_registers, write_view,
+    write_decisions, write_short_reply, write_registers, write_view,
 };
 use std::alloc::{AllocError, Global};
 use std::error::Error;
@@ -143,17 +143,22 @@ impl Buffer {
         count
     }
 
-    /// Holds the text of the reply to a command of one event too, which is written where it is held, unless there may be no
-    /// room: then nothing is changed.
-    pub(crate) fn put_short(&mut self, reply: &EventReply) -> bool
+    /// Holds the text of the reply to a step, a loss, an undo, a redo or what was refused too, which is written where it is held,
+    /// unless there may be no room, or the reply is another: then nothing is changed.
+    pub(crate) fn put_short(&mut self, reply: &Reply) -> bool
         ensures { MatchBool result
-            (self.new ≡ self.old ++ text_of (told (as_reply reply.now))) (self.new ≡ self.old) }
+            (self.new ≡ self.old ++ text_of (told reply.now)) (self.new ≡ self.old) }
     {
         if PIECE - self.count < MOST_BYTES {
             return false;
         }
-        self.count = write_event_reply(self.bytes.as_mut_slice(), self.count, reply);
-        true
+        match write_short_reply(self.bytes.as_mut_slice(), self.count, reply) {
+            Some(end) => {
+                self.count = end;
+                true
+            }
+            None => false,
+        }
     }
 
     /// Holds the text of a reply too, which is written where it is held, unless it may be long or there may be no room:

@@ -1,13 +1,13 @@
 //! The text of a reply is put into a buffer.
 
-ghost use Rattle.cdb_commands.specs.ToldReply.{told, as_reply};
+ghost use Rattle.cdb_commands.specs.ToldReply.{told};
 ghost use Rattle.cdb_text.specs.Texts.{text_of};
 ghost use Rattle.cdb_streams.specs.Putting.{Puts};
 
 use crate::buffer::{Buffer, OutputFault};
 use crate::sink::Sink;
-use cdb_commands::{EventReply, Reply};
-use cdb_text::{push_event_reply, push_reply};
+use cdb_commands::Reply;
+use cdb_text::push_reply;
 
 /// Puts the text of a reply. It is made in `text`, in place of what stood there, so that all replies use one memory.
 #[inline(never)]
@@ -37,6 +37,9 @@ pub fn put_reply<W: Sink>(
     ensures { Puts W.stream result out.old buffer.old out.new buffer.new
         (text_of (told reply.now)) }
 {
+    if buffer.put_short(reply) {
+        return Ok(());
+    }
     if buffer.put_report(reply) {
         return Ok(());
     }
@@ -45,24 +48,4 @@ pub fn put_reply<W: Sink>(
         Reply::History(events) if !events.is_empty() => buffer.put_lines(out, events.as_slice()),
         _ => put_made(reply, text, buffer, out),
     }
-}
-
-/// Puts the text of the reply to a command of one event. Mostly it is written in the buffer itself; else it is made in
-/// `text`, as that of any reply.
-pub fn put_event_reply<W: Sink>(
-    reply: &EventReply,
-    text: &mut String,
-    buffer: &mut Buffer,
-    out: &mut W,
-) -> Result<(), OutputFault>
-    ensures { Puts W.stream result out.old buffer.old out.new buffer.new
-        (text_of (told (as_reply reply.now))) }
-{
-    if buffer.put_short(reply) {
-        return Ok(());
-    }
-    text.clear();
-    push_event_reply(text, reply)?;
-    buffer.put(out, text.as_bytes())?;
-    Ok(())
 }

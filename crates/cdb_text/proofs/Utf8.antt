@@ -22,14 +22,11 @@ use Rattle.cdb_base.specs.declared.register.Reg.{Reg}
 use Rattle.cdb_base.specs.declared.register.Reg.TheVariants.{R, Dec}
 use Rattle.cdb_base.specs.NameTexts.{step_text, message_text, loss_text, name_text, register_text}
 use Rattle.cdb_base.specs.Refusal.{refusal_name, refusal_number, refusal_detail, refusal_text}
-use Rattle.cdb_commands.specs.declared.reply.EventReply.{EventReply}
-use Rattle.cdb_commands.specs.declared.reply.EventReply.TheVariants as reply
-use Rattle.cdb_commands.specs.ToldReply.{told, as_reply}
 use Rattle.cdb_base.specs.declared.proc_view.ProcView.{ProcView}
 use Rattle.cdb_text.specs.Pushes.{Writes}
 use Rattle.cdb_text.specs.Events.{event_text, kind_text}
 use Rattle.cdb_text.specs.Reports.{value_text, payload_text, machine_letter, life_word, process_text, event_line, copy_line, decision_text, decision_line}
-use Rattle.cdb_text.specs.Texts.{break_text, decides_text, text_of}
+use Rattle.cdb_text.specs.Texts.{break_text, decides_text}
 
 -- one text behind another
 infixl 10 ◌then◌
@@ -130,11 +127,17 @@ detail other = IsUtf8-nil
 refusal : (r : Refusal) → IsUtf8 (refusal_text r)
 refusal r = fixed (codes "refused ") refl then number (refusal_number r) then space then word_of r then detail r
 
-pub event_reply : (given : EventReply) → IsUtf8 (text_of (told (as_reply given)))
-event_reply (reply.Stepped given decision paused) = event given then decides decision then break paused then line_end
-event_reply (reply.Undone given) = fixed (codes "undone ") refl then event given then line_end
-event_reply (reply.Redone given decision) = fixed (codes "redone ") refl then event given then decides decision then line_end
-event_reply (reply.Refused r) = refusal r then line_end
+pub stepped : (given : Event) (decision paused : Option ℕ) → IsUtf8 (event_text given ++ decides_text decision ++ break_text paused ++ codes "\n")
+stepped given decision paused = event given then decides decision then break paused then line_end
+
+pub undone : (given : Event) → IsUtf8 (codes "undone " ++ event_text given ++ codes "\n")
+undone given = fixed (codes "undone ") refl then event given then line_end
+
+pub redone : (given : Event) (decision : Option ℕ) → IsUtf8 (codes "redone " ++ event_text given ++ decides_text decision ++ codes "\n")
+redone given decision = fixed (codes "redone ") refl then event given then decides decision then line_end
+
+pub refused : (r : Refusal) → IsUtf8 (refusal_text r ++ codes "\n")
+refused r = refusal r then line_end
 
 pub value : (v : Option ℕ) → IsUtf8 (value_text v)
 value None = fixed (codes "none") refl

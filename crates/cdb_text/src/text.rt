@@ -2,10 +2,12 @@
 
 ghost use Rattle.std.specs.Prelude.{◌≡◌, ◌++◌, IfOk, codes, decimal};
 ghost use Rattle.cdb_text.specs.Pushes.{Pushes};
-ghost use Rattle.cdb_commands.specs.ToldReply.{told, as_reply};
+ghost use Rattle.cdb_commands.specs.ToldReply.{told};
 ghost use Rattle.cdb_base.specs.NameTexts.{name_text};
+ghost use Rattle.cdb_base.specs.Refusal.{refusal_text};
+ghost use Rattle.cdb_text.specs.Events.{event_text};
 ghost use Rattle.cdb_text.specs.Reports.{causes_text};
-ghost use Rattle.cdb_text.specs.Texts.{decides_text, text_of};
+ghost use Rattle.cdb_text.specs.Texts.{break_text, decides_text, text_of};
 
 mod bytes;
 mod command;
@@ -16,16 +18,16 @@ mod short;
 mod short_report;
 
 use bytes::push_bytes;
-use cdb_base::{NoMemory, StepId, Val};
-use cdb_commands::{EventReply, Reply};
+use cdb_base::{Event, NoMemory, Refusal, StepId, Val};
+use cdb_commands::Reply;
 pub use command::push_command;
 pub use event::push_event;
 use event::push_name;
 pub use number::push_number;
 pub use report::{push_causes, push_payload, push_value};
 use report::{push_decisions, push_history, push_mail, push_process, push_registers};
-use short::write_decides;
-pub use short::{MOST_BYTES, MOST_CAUSES, MOST_REPORT, write_because, write_event_reply};
+use short::{write_decides, write_redone, write_refused, write_stepped, write_undone};
+pub use short::{MOST_BYTES, MOST_CAUSES, MOST_REPORT, write_because, write_short_reply};
 pub use short_report::{Line, MOST_ITEMS, MOST_LINE, write_decisions, write_registers, write_view};
 use std::alloc::{AllocError, Global};
 
@@ -61,13 +63,47 @@ fn push_counted(text: &mut String, words: &str, number: u32) -> Result<(), Alloc
     text.push('\n')
 }
 
-/// Adds the text of the reply to a command of one event at the end of a text: its line, which ends with byte 10. Only
-/// out of memory is an error.
-pub fn push_event_reply(text: &mut String, reply: &EventReply) -> Result<(), AllocError>
-    ensures { Pushes result text.old text.new (text_of (told (as_reply reply.now))) }
+/// A step or a loss that was taken, in a line.
+fn push_stepped(
+    text: &mut String,
+    event: &Event,
+    decides: Option<Val>,
+    paused: Option<u32>,
+) -> Result<(), AllocError>
+    ensures { Pushes result text.old text.new
+        (event_text event.now ++ decides_text decides ++ break_text paused ++ codes "\n") }
 {
     let mut bytes = [0; MOST_BYTES];
-    let end = write_event_reply(&mut bytes, 0, reply);
+    let end = write_stepped(&mut bytes, 0, event, decides, paused);
+    push_bytes(text, &bytes[..end])
+}
+
+/// An event that was undone, in a line.
+fn push_undone(text: &mut String, event: &Event) -> Result<(), AllocError>
+    ensures { Pushes result text.old text.new
+        (codes "undone " ++ event_text event.now ++ codes "\n") }
+{
+    let mut bytes = [0; MOST_BYTES];
+    let end = write_undone(&mut bytes, 0, event);
+    push_bytes(text, &bytes[..end])
+}
+
+/// An event that was taken again, in a line.
+fn push_redone(text: &mut String, event: &Event, decides: Option<Val>) -> Result<(), AllocError>
+    ensures { Pushes result text.old text.new
+        (codes "redone " ++ event_text event.now ++ decides_text decides ++ codes "\n") }
+{
+    let mut bytes = [0; MOST_BYTES];
+    let end = write_redone(&mut bytes, 0, event, decides);
+    push_bytes(text, &bytes[..end])
+}
+
+/// A refusal, in a line.
+fn push_refused(text: &mut String, refusal: &Refusal) -> Result<(), AllocError>
+    ensures { Pushes result text.old text.new (refusal_text refusal.now ++ codes "\n") }
+{
+    let mut bytes = [0; MOST_BYTES];
+    let end = write_refused(&mut bytes, 0, refusal);
     push_bytes(text, &bytes[..end])
 }
 
@@ -81,22 +117,9 @@ pub fn push_reply(text: &mut String, reply: &Reply) -> Result<(), AllocError>
             event,
             decides,
             paused,
-        } => push_event_reply(
-            text,
-            &EventReply::Stepped {
-                event: *event,
-                decides: *decides,
-                paused: *paused,
-            },
-        ),
-        Reply::Undone(event) => push_event_reply(text, &EventReply::Undone(*event)),
-        Reply::Redone { event, decides } => push_event_reply(
-            text,
-            &EventReply::Redone {
-                event: *event,
-                decides: *decides,
-            },
-        ),
+        } => push_stepped(text, event, *decides, *paused),
+        Reply::Undone(event) => push_undone(text, event),
+        Reply::Redone { event, decides } => push_redone(text, event, *decides),
         Reply::RolledBack(count) => push_counted(text, "rolled back ", *count),
         Reply::Because(name, causes) => {
             push_because(text, *name, causes.as_slice())?;
@@ -111,7 +134,7 @@ pub fn push_reply(text: &mut String, reply: &Reply) -> Result<(), AllocError>
         Reply::Mail(copies) => push_mail(text, copies.as_slice()),
         Reply::History(events) => push_history(text, events.as_slice()),
         Reply::Decisions(decisions) => push_decisions(text, decisions.as_slice()),
-        Reply::Refused(refusal) => push_event_reply(text, &EventReply::Refused(*refusal)),
+        Reply::Refused(refusal) => push_refused(text, refusal),
     }
 }
 

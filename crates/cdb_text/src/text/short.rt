@@ -1,10 +1,10 @@
-//! Short texts: of numbers, names and events, and of the replies to commands of one event. Each is written in bytes that
+//! Short texts: of numbers, names and events, and of the replies to most commands. Each is written in bytes that
 //! are there, from some byte on, and takes no memory. So the most replies of a run are written where they are held.
 
-ghost use Rattle.std.specs.Prelude.{◌≡◌, ◌+◌, ◌/◌, ◌%◌, ◌<◌, ◌≤◌, ◌∷◌, [], ◌++◌, codes, decimal, length};
+ghost use Rattle.std.specs.Prelude.{◌≡◌, ◌+◌, ◌/◌, ◌%◌, ◌<◌, ◌≤◌, ◌∷◌, [], ◌++◌, codes, decimal, length, MatchOption};
 ghost use Rattle.cdb_base.specs.NameTexts.{name_text, step_text, message_text, loss_text, register_text};
 ghost use Rattle.cdb_base.specs.Refusal.{refusal_name, refusal_detail, refusal_text};
-ghost use Rattle.cdb_commands.specs.ToldReply.{told, as_reply};
+ghost use Rattle.cdb_commands.specs.ToldReply.{told};
 ghost use Rattle.cdb_text.specs.Events.{event_text, kind_text};
 ghost use Rattle.cdb_text.specs.Pushes.{Writes};
 ghost use Rattle.cdb_text.specs.Texts.{break_text, decides_text, text_of};
@@ -14,7 +14,7 @@ ghost use Rattle.std.specs.List.{flat_map};
 ghost use Rattle.std.specs.Prelude.{◌*◌};
 
 use cdb_base::{CopyName, Event, Kind, MsgName, Proc, Refusal, Reg, StepId, StepName, Val};
-use cdb_commands::EventReply;
+use cdb_commands::Reply;
 use itoa::Buffer;
 
 /// As many bytes as a short text has at most.
@@ -264,7 +264,7 @@ fn write_taken(bytes: &mut [u8], from: usize, event: &Event, decides: Option<Val
 }
 
 /// The reply to a step that was taken.
-fn write_stepped(
+pub(super) fn write_stepped(
     bytes: &mut [u8],
     from: usize,
     event: &Event,
@@ -280,7 +280,7 @@ fn write_stepped(
     write_byte(bytes, next, b'\n')
 }
 
-fn write_undone(bytes: &mut [u8], from: usize, event: &Event) -> usize
+pub(super) fn write_undone(bytes: &mut [u8], from: usize, event: &Event) -> usize
     requires { from + 38 ≤ length bytes.old }
     ensures { Writes from result bytes.old bytes.new
         (codes "undone " ++ event_text event.now ++ codes "\n") }
@@ -290,7 +290,7 @@ fn write_undone(bytes: &mut [u8], from: usize, event: &Event) -> usize
     write_byte(bytes, next, b'\n')
 }
 
-fn write_redone(bytes: &mut [u8], from: usize, event: &Event, decides: Option<Val>) -> usize
+pub(super) fn write_redone(bytes: &mut [u8], from: usize, event: &Event, decides: Option<Val>) -> usize
     requires { from + 57 ≤ length bytes.old }
     ensures { Writes from result bytes.old bytes.new
         (codes "redone " ++ event_text event.now ++ decides_text decides ++ codes "\n") }
@@ -339,7 +339,7 @@ fn write_refusal_name(bytes: &mut [u8], from: usize, refusal: &Refusal) -> usize
     write_word(bytes, from, refusal.name())
 }
 
-fn write_refused(bytes: &mut [u8], from: usize, refusal: &Refusal) -> usize
+pub(super) fn write_refused(bytes: &mut [u8], from: usize, refusal: &Refusal) -> usize
     requires { from + 56 ≤ length bytes.old }
     ensures { Writes from result bytes.old bytes.new (refusal_text refusal.now ++ codes "\n") }
 {
@@ -351,22 +351,25 @@ fn write_refused(bytes: &mut [u8], from: usize, refusal: &Refusal) -> usize
     write_byte(bytes, next, b'\n')
 }
 
-/// Writes the text of the reply to a command of one event from this byte on, where there must be room for `MOST_BYTES`,
-/// and returns where the text ends.
-pub fn write_event_reply(bytes: &mut [u8], from: usize, reply: &EventReply) -> usize
+/// Writes the text of the reply to a step, a loss, an undo, a redo or what was refused from this byte on, where there must be
+/// room for `MOST_BYTES`, and returns where the text ends; none of another reply, and then nothing is written.
+pub fn write_short_reply(bytes: &mut [u8], from: usize, reply: &Reply) -> Option<usize>
     requires { from + MOST_BYTES ≤ length bytes.old }
-    ensures { Writes from result bytes.old bytes.new (text_of (told (as_reply reply.now))) }
+    ensures { MatchOption result (bytes.new ≡ bytes.old)
+        (λ end. Writes from end bytes.old bytes.new (text_of (told reply.now))) }
 {
-    match reply {
-        EventReply::Stepped {
+    let end = match reply {
+        Reply::Stepped {
             event,
             decides,
             paused,
         } => write_stepped(bytes, from, event, *decides, *paused),
-        EventReply::Undone(event) => write_undone(bytes, from, event),
-        EventReply::Redone { event, decides } => write_redone(bytes, from, event, *decides),
-        EventReply::Refused(refusal) => write_refused(bytes, from, refusal),
-    }
+        Reply::Undone(event) => write_undone(bytes, from, event),
+        Reply::Redone { event, decides } => write_redone(bytes, from, event, *decides),
+        Reply::Refused(refusal) => write_refused(bytes, from, refusal),
+        _ => return None,
+    };
+    Some(end)
 }
 
 /// As many bytes as the text of a cause has at most.

@@ -20,8 +20,8 @@ loop-ran-init g c =
       clean = λ none. none;
       left = ([], sym (append-nil c.args.rans.items));
       count = omega (arith, room.0);
-      replied = omega (arith, room.0, room.1.0);
-      room = (room.1.1.0, room.1.1.1);
+      replied = omega (arith, room.0, room.1);
+      room = (room.2, room.3);
       gathered = λ k seat ran low. absurd (omega (arith, room.0, c.args.seats.ok.0));
       each = λ plan seats same all none k seat list low. absurd (omega (arith, room.0, c.args.seats.ok.0));
     }

@@ -26,22 +26,32 @@ run_all-requires-clause-gates g c κs within =
     let new = fresh_of c.in_ok-shared.shared c.args.setup (seats_of plan) _ _ (omega arith) c.in_ok-shared.ensures.seats in
     omega (arith, new.many, c.in_ok-shared.seats.ok.0, c.requires.gates, c.n-processes.ensures.value)
 
+pub collect-seats-requires : goal.collect-seats-requires
+collect-seats-requires g c =
+    let plan : Plan = record { processes = c.n-processes.result; turns = c.args.turns; scripts = c.args.scripts } in
+    let new = fresh_of c.in_ok-shared.shared c.args.setup (seats_of plan) _ _ (omega arith) c.in_ok-shared.ensures.seats in
+    let room = c.in_ok-room.ensures.room in
+    let seats = c.in_ok-shared.seats.ok.0 in
+    let count = c.in-Ok.ensures.count in
+    let many = new.many in
+    record { room = (room.0, room.1, omega (arith, many, seats, count, room.2), omega (arith, many, seats, count, room.3)) }
+
 pub finish-control-requires-clause-some : goal.finish-control-requires-clause-some
 finish-control-requires-clause-some g c =
     let plan : Plan = record { processes = c.n-processes.result; turns = c.args.turns; scripts = c.args.scripts } in
     let new = fresh_of c.in_ok-shared.shared c.args.setup (seats_of plan) _ _ (omega arith) c.in_ok-shared.ensures.seats in
-    omega (arith, new.many, c.in_ok-shared.seats.ok.0, c.n-processes.ensures.value, c.n-processes.ensures.ranges.processes.0, c.in-Ok.ensures.count, c.collect.ensures.count.0)
+    omega (arith, new.many, c.in_ok-shared.seats.ok.0, c.n-processes.ensures.value, c.n-processes.ensures.ranges.processes.0, c.in-Ok.ensures.count, c.collect-seats.ensures.count.0)
 
 pub finish-control-requires-clause-rest : goal.finish-control-requires-clause-rest
 finish-control-requires-clause-rest g c =
     let plan : Plan = record { processes = c.n-processes.result; turns = c.args.turns; scripts = c.args.scripts } in
     let new = fresh_of c.in_ok-shared.shared c.args.setup (seats_of plan) _ _ (omega arith) c.in_ok-shared.ensures.seats in
     let rans = c.in-Ok.rans in
-    let seats = c.collect.result.0 in
+    let seats = c.collect-seats.result.0 in
     let before = c.in_ok-shared.seats in
-    let long : length seats.items ≡ length rans.items = omega (arith, c.collect.ensures.count.0, seats.ok.0, rans.ok.0) in
+    let long : length seats.items ≡ length rans.items = omega (arith, c.collect-seats.ensures.count.0, seats.ok.0, rans.ok.0) in
     let many : length rans.items ≡ seats_of plan = omega (arith, c.in-Ok.ensures.count, new.many, rans.ok.0, before.ok.0) in
-    all_rest g.T.Runs.rules c.in_ok-shared.shared plan c.args.setup before.items seats.items rans.items new many long c.in-Ok.ensures.each c.collect.ensures.seats
+    all_rest g.T.Runs.rules c.in_ok-shared.shared plan c.args.setup before.items seats.items rans.items new many long c.in-Ok.ensures.each c.collect-seats.ensures.seats
 
 pub returns-in-None-clause-raced : goal.returns-in-None-clause-raced
 returns-in-None-clause-raced g c =
@@ -49,9 +59,9 @@ returns-in-None-clause-raced g c =
     let new = fresh_of c.in_ok-shared.shared c.args.setup (seats_of plan) _ _ (omega arith) c.in_ok-shared.ensures.seats in
     let rans = c.in-Ok.rans in
     let before = c.in_ok-shared.seats in
-    let seats = c.collect.result.0 in
-    let got = c.collect.ensures in
-    let replies = c.collect.result.1 in
+    let seats = c.collect-seats.result.0 in
+    let got = c.collect-seats.ensures in
+    let replies = c.collect-seats.result.1 in
     let clean : All (λ ran. fault_in ran ≡ None) rans.items = subst (λ (l : List (Ran g.row.T.Denot)). All (λ ran. fault_in ran ≡ None) l) c.as_slice.ensures.value c.in-None.ensures in
     let finished = got.each plan before.items (omega (arith, c.in-Ok.ensures.count, before.ok.0)) c.in-Ok.ensures.each clean in
     let many : length seats.items ≡ length before.items = omega (arith, got.count.0, c.in-Ok.ensures.count, seats.ok.0, before.ok.0) in
@@ -76,8 +86,8 @@ returns-in-Some-clause-full g c = λ full.
     let new = fresh_of c.in_ok-shared.shared c.args.setup (seats_of plan) _ _ (omega arith) c.in_ok-shared.ensures.seats in
     let rans = c.in-Ok.rans in
     let before = c.in_ok-shared.seats in
-    let seats = c.collect.result.0 in
-    let got = c.collect.ensures in
+    let seats = c.collect-seats.result.0 in
+    let got = c.collect-seats.ensures in
     let why = c.in-Some.fault in
     let last : IsLastFault why rans.items = subst (IsLastFault why) c.as_slice.ensures.value c.in-Some.ensures in
     let many : length rans.items ≡ seats_of plan = omega (arith, c.in-Ok.ensures.count, new.many, rans.ok.0, before.ok.0) in

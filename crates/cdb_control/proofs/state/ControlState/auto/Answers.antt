@@ -18,4 +18,4 @@ returns-in-Err-2-clause-ok g c =
     let after =
     (λ j. let u : State = record { setup = (did.after j).setup; history = (did.after j).history; stops = c.self.inside.breakpoints.stops; next = c.self.inside.breakpoints.next; pause = c.self.inside.pause; redo = map (λ (l : StoredList). l.events) c.self.inside.redo.items } in u)
     ∙ ap (λ (v : StoredState). taken_in v.state r) c.self.view_is in
-    rw c.refused_event-in-Err-2.ensures (λ seat. auto_refused-as rules now.state _ seat p first r c.in-Err-2.refusal (c.in-Ok.ensures.free first) open_now returned after c.in-Err-2.is)
+    rw c.refused-in-Err-2.ensures (λ seat. auto_refused-as rules now.state _ seat p first r c.in-Err-2.refusal (c.in-Ok.ensures.free first) open_now returned after c.in-Err-2.is)

@@ -52,7 +52,7 @@ pub returns-in_default-clause-ok : goal.returns-in_default-clause-ok
 returns-in_default-clause-ok g c =
     let now = c.args.self.now in
     let w = swap now c.self.inside.redo.items c.args.seat c.index.result.now c.index.result.now (ap (λ (v : StoredState). v.state.redo) c.self.view_is) (ap (λ (v : StoredState). v.capacities) c.self.view_is) c.requires.from_one c.requires.to_last c.index.ensures in
-    rw c.refused_event.ensures (redo_none (g.R.Runs.rules now.state.setup) now.state c.args.seat (c.in_default.ensures ∙ ap last_of (sym w.at)))
+    rw c.refused.ensures (redo_none (g.R.Runs.rules now.state.setup) now.state c.args.seat (c.in_default.ensures ∙ ap last_of (sym w.at)))
 
 pub returns-in-Err-clause-ok : goal.returns-in-Err-clause-ok
 returns-in-Err-clause-ok g c =
@@ -65,4 +65,4 @@ returns-in-Err-clause-ok g c =
     let after =
     (λ j. let u : State = record { setup = (did.after j).setup; history = (did.after j).history; stops = c.self.inside.breakpoints.stops; next = c.self.inside.breakpoints.next; pause = c.self.inside.pause; redo = map (λ (l : StoredList). l.events) c.self.inside.redo.items } in u)
     ∙ ap (λ (v : StoredState). taken_in v.state r) c.self.view_is in
-    rw c.refused_event-in-Err.ensures (redo_refused-as (g.R.Runs.rules now.state.setup) now.state _ c.args.seat c.in-Some.undone r c.in-Err.refusal last returned after c.in-Err.is)
+    rw c.refused-in-Err.ensures (redo_refused-as (g.R.Runs.rules now.state.setup) now.state _ c.args.seat c.in-Some.undone r c.in-Err.refusal last returned after c.in-Err.is)

@@ -29,7 +29,7 @@ returns-clause-ok g c =
     ∙ ap (λ (v : StoredState). let u : State = record v.state { history = left_by v.state.history (undo_of v.state.setup.processes v.state.history name); redo = set now.state.redo (c.args.seat - 1) (with_taken (redo_of now.state c.args.seat) r) } in u) c.self.view_is in
     elim c.match-branch-2.branch [
       | in-Ok w ↦ rw w.result-is (undone-as now.state _ c.args.seat x r w.in-Ok.event returned after w.in-Ok.is)
-      | in-Err w ↦ rw w.result-is (rw w.refused_event.ensures (undo_refused-as now.state _ c.args.seat x r w.in-Err.refusal _ returned after w.in-Err.is))
+      | in-Err w ↦ rw w.result-is (rw w.refused.ensures (undo_refused-as now.state _ c.args.seat x r w.in-Err.refusal _ returned after w.in-Err.is))
     ]
 
 pub returns-clause-capacities : goal.returns-clause-capacities
@@ -42,7 +42,7 @@ pub returns-clause-spared : goal.returns-clause-spared
 returns-clause-spared g c =
     elim c.match-branch-2.branch [
       | in-Ok w ↦ rw w.result-is (λ more. refl)
-      | in-Err w ↦ rw w.result-is (rw w.refused_event.ensures (λ more. refl))
+      | in-Err w ↦ rw w.result-is (rw w.refused.ensures (λ more. refl))
     ]
 
 pub returns-in_err-event-clause-spared : goal.returns-in_err-event-clause-spared

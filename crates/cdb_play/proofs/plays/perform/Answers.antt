@@ -3,7 +3,7 @@ use Rattle.cdb_commands.specs.ToldReply.{told}
 use Rattle.cdb_text.specs.Texts.{text_of}
 use Rattle.cdb_streams.specs.Putting.{Puts}
 use Rattle.cdb_play.specs.Transcripts.{reply_to}
-use Rattle.cdb_play.proofs.plays.perform_any.Goals as goal
+use Rattle.cdb_play.proofs.plays.perform.Goals as goal
 
 pub returns-clause-put : goal.returns-clause-put
 returns-clause-put g c =
