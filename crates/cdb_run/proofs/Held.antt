@@ -120,12 +120,6 @@ module _ {L B : Type 0} {machine : Machine L} {before : L → B → L} where
       pub within : p ≤ length processes
       within = nth_within processes p taken.process.progress held_at
 
-      -- what stands at the position i from 0
-      pub held_there : (i : ℕ) (progress : Progress L) → i + 1 ≡ p → progress ≡ get_or processes i progress → nth processes p ≡ Some progress
-      held_there i progress position read =
-          let below : i < length processes = (let w = within in omega (arith, position, w)) in
-          sym (get_at processes i p position) ∙ slice_get_read processes (length processes) i progress refl below read
-
       module _ (progress : Progress L) (held : nth processes p ≡ Some progress) where
         is : progress ≡ taken.process.progress
         is = same_Some progress taken.process.progress (sym held ∙ held_at)
