@@ -185,6 +185,7 @@ impl History {
     /// How many steps of a process stand: those of the numbers from 1 to that one.
     pub fn steps_of(&self, p: Proc) -> u16
         ensures count { result ≡ length (steps_by p self.now) }
+        ensures end { IsEndOf self.now p result }
         ensures numbered { AreNumbered p self.now }
     {
         self.tables.steps[p.index()].len() as u16
