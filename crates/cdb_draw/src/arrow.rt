@@ -1,7 +1,8 @@
 //! The arrows of a picture.
 
 ghost use Rattle.std.specs.Prelude.{◌≡◌, ◌≤◌, length};
-ghost use Rattle.cdb_draw.specs.Arrows.{arrow_at, arrow_text, copy_arrow, event_arrow, register_lane, step_arrow, upright, weight_text};
+ghost use Rattle.cdb_draw.specs.Arrows.{arrow_at, arrow_text, copy_arrow, event_arrow, register_lane, step_arrow};
+ghost use Rattle.cdb_draw.specs.Arrows.{upright, weight_text};
 ghost use Rattle.cdb_draw.specs.Layout.{end_x, IsGrid, IsOnPage};
 ghost use Rattle.cdb_draw.specs.Pieces.{pieces_text};
 ghost use Rattle.cdb_draw.specs.Sends.{AreSendsOf};

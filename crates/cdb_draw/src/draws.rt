@@ -27,9 +27,9 @@ fn flags_of(alloc: Global, run: &Chronicle, position: Option<usize>) -> Result<V
     }
 }
 
-/// Writes the picture of a run of at most 999,999 events, with `columns` columns to a row; with 0 all are in one row. With
-/// a position of its history, from 1, what led to the event there is drawn in full and the rest pale; without one
-/// everything is in full.
+/// Writes the picture of a run of at most 999,999 events, with `columns` columns to a row; with 0 all are in one row.
+/// With a position of its history, from 1, what led to the event there is drawn in full and the rest pale; without
+/// one everything is in full.
 ///
 /// After `Write` what was written is a beginning of the picture, and after `NoMemory` nothing, or one of whole
 /// pieces of 65,536 bytes.

@@ -1,7 +1,8 @@
 //! The lanes of a picture.
 
 ghost use Rattle.std.specs.Prelude.{◌≡◌, ◌+◌, ◌*◌, ◌≤◌, length};
-ghost use Rattle.cdb_draw.specs.Lanes.{end_after, lane_at, lane_end, lane_of_row, lane_text, lanes_by, lanes_text, process_lane, register_lane_text, register_name};
+ghost use Rattle.cdb_draw.specs.Lanes.{end_after, lane_at, lane_end, lane_of_row, lane_text, lanes_by, lanes_text};
+ghost use Rattle.cdb_draw.specs.Lanes.{process_lane, register_lane_text, register_name};
 ghost use Rattle.cdb_draw.specs.Layout.{grid_of, IsGrid};
 ghost use Rattle.cdb_draw.specs.Pieces.{piece_text, pieces_text};
 ghost use Rattle.cdb_streams.specs.Putting.{Puts};

@@ -10,7 +10,8 @@ use Rattle.cdb_draw.specs.Arrows.{arrow_at, event_arrow}
 use Rattle.cdb_draw.proofs.picture.put_arrow_at.Goals as goal
 
 -- what is drawn of an event at its position
-drawn : (grid : Grid) (history : List Event) (flags : List Bool) (position : ℕ) (event : Event) (full : Bool) → nth history position ≡ Some event → is_flagged flags position ≡ full
+drawn : (grid : Grid) (history : List Event) (flags : List Bool) (position : ℕ) (event : Event) (full : Bool)
+    → nth history position ≡ Some event → is_flagged flags position ≡ full
     → event_arrow grid history full position event ≡ arrow_at grid history flags position
 drawn grid history flags position event full stands is = rw (stands, is) refl
 
@@ -22,6 +23,7 @@ returns g c =
     let event = c.index-events-position.result in
     let full = get_or flags i false in
     let within : i < length flags = omega arith in
-    let stands = rw c.events-events.ensures at (item_one c.events-events.result.now c.args.position event c.requires.from_one (omega (arith, ap length c.events-events.ensures)) c.index-events-position.is) in
-    let flagged = by_next (λ n. is_flagged flags n ≡ full) c.args.position c.requires.from_one (flag_read flags i false full within refl) in
+    let stands = item_one c.events-events.ensures c.args.position event c.requires.from_one c.requires.to_len c.index-events-position.is in
+    let flagged = by_next (λ n. is_flagged flags n ≡ full) c.args.position c.requires.from_one
+    (flag_read flags i false full within refl) in
     rw (← drawn c.args.grid run.history flags c.args.position event full stands flagged, ← c.events-events.ensures) c.put_arrow.ensures

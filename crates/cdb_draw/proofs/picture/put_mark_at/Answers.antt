@@ -19,7 +19,9 @@ returns g c =
     let rules = g.T.Runs.rules in
     let after = g.T.Runs.run c.args.after.now in
     let within : i < length flags = omega arith in
-    let at = rw c.events-events.ensures at (item_at c.events-events.result.now i event (omega (arith, ap length c.events-events.ensures)) c.index-events-position.is) in
-    let flagged = by_next (λ n. is_flagged flags n ≡ full) c.args.position c.requires.from_one (flag_read flags i false full within refl) in
-    rw (by_next (λ n. after ≡ run_after run n → is_flagged flags n ≡ full → mark_text rules grid after after full n event ≡ mark_at rules grid run flags n) c.args.position c.requires.from_one
+    let at = item_at c.events-events.ensures i event (omega (arith, ap length c.events-events.ensures)) c.index-events-position.is in
+    let flagged = by_next (λ n. is_flagged flags n ≡ full) c.args.position c.requires.from_one
+    (flag_read flags i false full within refl) in
+    rw (by_next
+    (λ n. after ≡ run_after run n → is_flagged flags n ≡ full → mark_text rules grid after after full n event ≡ mark_at rules grid run flags n) c.args.position c.requires.from_one
     (λ is marked. mark_of_last rules grid g.T.Runs.same_state g.met.T.Runs.histories run flags i event c.requires.standing at after is full marked) c.requires.after flagged) at c.put_mark.ensures

@@ -16,5 +16,6 @@ returns-in_err-draw_run-clause-wrote g c =
     let at = rw c.events.ensures at c.in_ok-position.ensures.position in
     let why = c.in_err-draw_run.field-0.0 in
     rw (p.1, p.2, draw_ends (Unit {0}) why)
-    (written_as g.W.Sink.stream (pieces_ending {A = Unit {0}} (Err why)) c.args.out.now c.draw_run.new.out (IsPicture g.T.Runs.rules run c.args.columns position) (IsPictureFor g.T.Runs.rules run c.args.columns c.args.step)
+    (written_as g.W.Sink.stream (pieces_ending {A = Unit {0}} (Err why)) c.args.out.now c.draw_run.new.out
+    (IsPicture g.T.Runs.rules run c.args.columns position) (IsPictureFor g.T.Runs.rules run c.args.columns c.args.step)
     (λ text picture. (position, at, picture)) c.in_err-draw_run.ensures)

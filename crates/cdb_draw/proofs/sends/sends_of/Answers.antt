@@ -1,4 +1,4 @@
-use Rattle.std.proofs.Common.{take, arith}
+use Rattle.std.proofs.Common.{take, refl, arith}
 use Rattle.std.proofs.lemmas.List.{length-take-le}
 use Rattle.cdb_past.proofs.Beginnings.{one_more}
 use Rattle.cdb_past.proofs.Flagged.{item_at}
@@ -9,6 +9,6 @@ loop-i-preserved c =
     let events = c.args.events.now in
     let i = c.loop-i.i in
     let event = c.index-events-i.result in
-    let at = item_at events i event (omega arith) c.index-events-i.is in
+    let at = item_at refl i event (omega arith) c.index-events-i.is in
     let count = length-take-le i events (omega arith) in
     rw (one_more events i event at) at (c.in_ok-note_event.ensures (take i events) (omega (arith, count)) c.loop-i.invariant)
