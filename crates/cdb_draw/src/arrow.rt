@@ -1,7 +1,8 @@
 //! The arrows of a picture.
 
 ghost use Rattle.std.specs.Prelude.{◌≡◌, ◌≤◌, length};
-ghost use Rattle.cdb_draw.specs.Arrows.{arrow_at, arrow_text, copy_arrow, event_arrow, register_lane, step_arrow, upright, weight_text};
+ghost use Rattle.cdb_draw.specs.Arrows.{arrow_at, arrow_text, copy_arrow, event_arrow, register_lane, step_arrow};
+ghost use Rattle.cdb_draw.specs.Arrows.{upright, weight_text};
 ghost use Rattle.cdb_draw.specs.Layout.{end_x, IsGrid, IsOnPage};
 ghost use Rattle.cdb_draw.specs.Pieces.{pieces_text};
 ghost use Rattle.cdb_draw.specs.Sends.{AreSendsOf};
@@ -15,7 +16,6 @@ use crate::sends::{Sends, position_of_send};
 use crate::way::{Side, coming, leaving, passing, side_of};
 use cdb_base::limits::MAX_ENTRIES;
 use cdb_base::{Event, Kind, MsgName, Proc, Reg};
-use cdb_history::History;
 use cdb_streams::{Buffer, OutputFault, Sink};
 
 /// How what is flagged is drawn, and the rest.
@@ -160,7 +160,7 @@ fn put_way<W: Sink>(
 /// Puts the arrow of a copy to an event at a position, from where its message was sent.
 fn put_copy<W: Sink>(
     grid: Grid,
-    history: &History,
+    events: &[Event],
     sends: &Sends,
     class: &'static str,
     full: bool,
@@ -171,11 +171,11 @@ fn put_copy<W: Sink>(
     out: &mut W,
 ) -> Result<(), OutputFault>
     requires grid { IsGrid grid }
-    requires few { length history.now ≤ MAX_ENTRIES }
+    requires few { length events.now ≤ MAX_ENTRIES }
     requires position { position ≤ MAX_ENTRIES }
-    requires sends { AreSendsOf sends.now history.now }
+    requires sends { AreSendsOf sends.now events.now }
     ensures { Puts W.stream result out.old buffer.old out.new buffer.new
-        (copy_arrow grid history.now class.now full name position p) }
+        (copy_arrow grid events.now class.now full name position p) }
 {
     let sender = name.s;
     match position_of_send(sends, name) {
@@ -199,7 +199,7 @@ fn register_lane(grid: Grid, register: Reg) -> usize
 /// Puts the arrow of a step of that kind at a position.
 fn put_step<W: Sink>(
     grid: Grid,
-    history: &History,
+    events: &[Event],
     sends: &Sends,
     full: bool,
     position: usize,
@@ -209,18 +209,18 @@ fn put_step<W: Sink>(
     out: &mut W,
 ) -> Result<(), OutputFault>
     requires grid { IsGrid grid }
-    requires few { length history.now ≤ MAX_ENTRIES }
+    requires few { length events.now ≤ MAX_ENTRIES }
     requires position { position ≤ MAX_ENTRIES }
-    requires sends { AreSendsOf sends.now history.now }
+    requires sends { AreSendsOf sends.now events.now }
     ensures { Puts W.stream result out.old buffer.old out.new buffer.new
-        (step_arrow grid history.now full position p kind) }
+        (step_arrow grid events.now full position p kind) }
 {
     let row = row_of(grid, position);
     match kind {
         Kind::Recv(s, m) => {
             let name = MsgName { s, m };
             put_copy(
-                grid, history, sends, "copy", full, name, position, p, buffer, out,
+                grid, events, sends, "copy", full, name, position, p, buffer, out,
             )
         }
         Kind::Read(register) => {
@@ -242,7 +242,7 @@ fn put_step<W: Sink>(
 /// Puts the arrow of the event at a position, from 1, where it has one.
 pub(crate) fn put_arrow<W: Sink>(
     grid: Grid,
-    history: &History,
+    events: &[Event],
     sends: &Sends,
     full: bool,
     position: usize,
@@ -251,20 +251,20 @@ pub(crate) fn put_arrow<W: Sink>(
     out: &mut W,
 ) -> Result<(), OutputFault>
     requires grid { IsGrid grid }
-    requires few { length history.now ≤ MAX_ENTRIES }
+    requires few { length events.now ≤ MAX_ENTRIES }
     requires position { position ≤ MAX_ENTRIES }
-    requires sends { AreSendsOf sends.now history.now }
+    requires sends { AreSendsOf sends.now events.now }
     ensures { Puts W.stream result out.old buffer.old out.new buffer.new
-        (event_arrow grid history.now full position event.now) }
+        (event_arrow grid events.now full position event.now) }
 {
     match *event {
         Event::Step { p, kind, .. } => {
-            put_step(grid, history, sends, full, position, p, kind, buffer, out)
+            put_step(grid, events, sends, full, position, p, kind, buffer, out)
         }
         Event::Lost(copy) => {
             let (name, to) = (copy.msg, copy.to);
             put_copy(
-                grid, history, sends, "lost", full, name, position, to, buffer, out,
+                grid, events, sends, "lost", full, name, position, to, buffer, out,
             )
         }
     }

@@ -10,7 +10,6 @@ use crate::layout::grid_of;
 use crate::picture::write_picture;
 use cdb_base::NoMemory;
 use cdb_base::limits::MAX_ENTRIES;
-use cdb_explain::past_of;
 use cdb_past::Chronicle;
 use cdb_rules::Runs;
 use cdb_streams::{OutputFault, Sink};
@@ -23,14 +22,14 @@ fn flags_of(alloc: Global, run: &Chronicle, position: Option<usize>) -> Result<V
     ensures each { IfOk result (λ flags. length flags.items ≡ length run.now.history) }
 {
     match position {
-        Some(position) => past_of(alloc, run.history(), position),
-        None => Ok(Vec::from_elem(alloc, true, run.history().len())?),
+        Some(position) => run.flag_past(alloc, position),
+        None => Ok(Vec::from_elem(alloc, true, run.events().len())?),
     }
 }
 
-/// Writes the picture of a run of at most 999,999 events, with `columns` columns to a row; with 0 all are in one row. With
-/// a position of its history, from 1, what led to the event there is drawn in full and the rest pale; without one
-/// everything is in full.
+/// Writes the picture of a run of at most 999,999 events, with `columns` columns to a row; with 0 all are in one row.
+/// With a position of its history, from 1, what led to the event there is drawn in full and the rest pale; without
+/// one everything is in full.
 ///
 /// After `Write` what was written is a beginning of the picture, and after `NoMemory` nothing, or one of whole
 /// pieces of 65,536 bytes.
@@ -48,8 +47,7 @@ pub fn draw_run<T: Runs, W: Sink>(
         (IsPicture T.rules run.now columns position) }
 {
     let flags = flags_of(alloc, run, position)?;
-    let history = run.history();
-    let grid = grid_of(run.setup(), columns as usize, history.len());
+    let grid = grid_of(run.setup(), columns as usize, run.events().len());
     write_picture::<T, W>(alloc, grid, run, flags.as_slice(), out)?;
     Ok(())
 }

@@ -1,7 +1,8 @@
 //! The lanes of a picture.
 
 ghost use Rattle.std.specs.Prelude.{◌≡◌, ◌+◌, ◌*◌, ◌≤◌, length};
-ghost use Rattle.cdb_draw.specs.Lanes.{end_after, lane_at, lane_end, lane_of_row, lane_text, lanes_by, lanes_text, process_lane, register_lane_text, register_name};
+ghost use Rattle.cdb_draw.specs.Lanes.{end_after, lane_at, lane_end, lane_of_row, lane_text, lanes_by, lanes_text};
+ghost use Rattle.cdb_draw.specs.Lanes.{process_lane, register_lane_text, register_name};
 ghost use Rattle.cdb_draw.specs.Layout.{grid_of, IsGrid};
 ghost use Rattle.cdb_draw.specs.Pieces.{piece_text, pieces_text};
 ghost use Rattle.cdb_streams.specs.Putting.{Puts};
@@ -10,9 +11,8 @@ use crate::layout::{Grid, end_x, lane_y, register_y, row_of, rows_of, x_of};
 use crate::piece::Piece::{After, Number, Text};
 use crate::piece::{Piece, put_each};
 use crate::sends::crashed_at;
-use cdb_base::Proc;
 use cdb_base::limits::MAX_ENTRIES;
-use cdb_history::History;
+use cdb_base::{Event, Proc};
 use cdb_past::Chronicle;
 use cdb_setup::Algorithm;
 use cdb_streams::{Buffer, OutputFault, Sink};
@@ -61,12 +61,12 @@ fn end_after(grid: Grid, row: usize, crash: usize) -> usize
 }
 
 /// Where the lane of a process ends in a row.
-fn lane_end(grid: Grid, history: &History, row: usize, p: Proc) -> usize
+fn lane_end(grid: Grid, events: &[Event], row: usize, p: Proc) -> usize
     requires grid { IsGrid grid }
-    requires few { length history.now ≤ MAX_ENTRIES }
-    ensures { result ≡ lane_end grid history.now row p }
+    requires few { length events.now ≤ MAX_ENTRIES }
+    ensures { result ≡ lane_end grid events.now row p }
 {
-    match crashed_at(history, p) {
+    match crashed_at(events, p) {
         Some(crash) => end_after(grid, row, crash),
         None => end_x(grid),
     }
@@ -80,7 +80,7 @@ fn process_lane(grid: Grid, run: &Chronicle, row: usize, p: Proc) -> [Piece<'sta
     requires among { p ≤ run.now.setup.processes }
     ensures { pieces_text result ≡ process_lane grid run.now row p }
 {
-    let end = lane_end(grid, run.history(), row, p);
+    let end = lane_end(grid, run.events(), row, p);
     let setup = run.setup();
     let input = setup.input(p).number() as usize;
     let number = usize::from(p.number());
@@ -159,8 +159,7 @@ pub(crate) fn put_lanes<W: Sink>(
         (lanes_text grid run.now) }
 {
     let lanes = lanes_by(run.setup().algorithm(), grid.processes);
-    let history = run.history();
-    let rows = rows_of(grid, history.len());
+    let rows = rows_of(grid, run.events().len());
     for i in 0..rows * lanes {
         put_each(
             &lane_of_row(grid, run, i / lanes, i % lanes + 1),

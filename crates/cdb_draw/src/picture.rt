@@ -1,6 +1,7 @@
 //! The picture of a run: lanes, the arrows of all events, and then their marks.
 
 ghost use Rattle.std.specs.Prelude.{◌≡◌, [], ◌≤◌, length};
+ghost use Rattle.cdb_causal.specs.Standing.{IsStanding};
 ghost use Rattle.cdb_draw.specs.Arrows.{arrow_at};
 ghost use Rattle.cdb_draw.specs.EventMarks.{mark_at};
 ghost use Rattle.cdb_draw.specs.Layout.{IsGrid};
@@ -74,10 +75,9 @@ fn put_head<W: Sink>(
     ensures { Puts W.stream result out.old buffer.old out.new buffer.new
         (head_text grid run.now) }
 {
-    let history = run.history();
     let setup = run.setup();
     let heading = heading(setup.algorithm(), usize::from(setup.q()));
-    let pieces = document(width(grid), height(grid, history.len()), heading);
+    let pieces = document(width(grid), height(grid, run.events().len()), heading);
     put_each(&pieces, buffer, out)
 }
 
@@ -100,10 +100,10 @@ fn put_arrow_at<W: Sink>(
     ensures { Puts W.stream result out.old buffer.old out.new buffer.new
         (arrow_at grid run.now.history flags.now position) }
 {
-    let history = run.history();
-    let event = history.event(position - 1);
+    let events = run.events();
+    let event = &events[position - 1];
     let full = flags[position - 1];
-    put_arrow(grid, history, sends, full, position, event, buffer, out)
+    put_arrow(grid, events, sends, full, position, event, buffer, out)
 }
 
 /// Puts the arrows of all events.
@@ -121,9 +121,9 @@ fn put_arrows<W: Sink>(
     ensures { Puts W.stream result out.old buffer.old out.new buffer.new
         (arrows_text grid run.now flags.now) }
 {
-    let history = run.history();
-    let sends = sends_of(alloc, history)?;
-    for i in 0..history.len() {
+    let events = run.events();
+    let sends = sends_of(alloc, events)?;
+    for i in 0..events.len() {
         put_arrow_at(grid, run, &sends, flags, i + 1, buffer, out)?;
     }
     Ok(())
@@ -146,13 +146,13 @@ fn put_mark_at<T: Runs, W: Sink>(
     requires a_flag_each { length flags.now ≡ length run.now.history }
     requires from_one { 1 ≤ position }
     requires to_len { position ≤ length run.now.history }
+    requires standing { IsStanding run.now.history }
     requires after { T.run after.now ≡ run_after run.now position }
     ensures { Puts W.stream result out.old buffer.old out.new buffer.new
         (mark_at T.rules grid run.now flags.now position) }
 {
-    let history = run.history();
-    let _standing = history.len();
-    let event = history.event(position - 1);
+    let events = run.events();
+    let event = &events[position - 1];
     let full = flags[position - 1];
     put_mark(
         alloc, grid, after, full, position, event, whole, buffer, out,
@@ -180,10 +180,9 @@ fn put_marks<T: Runs, W: Sink>(
     let mut again = fresh::<T>(alloc, run)?;
     // Its clause says that the parts of the setup are in range.
     let _ranges = run.setup().n();
-    let history = run.history();
-    for i in 0..history.len() {
-        let event = history.event(i);
-        take_next(alloc, &mut again, event)?;
+    let events = run.events();
+    for i in 0..events.len() {
+        take_next(alloc, &mut again, &events[i])?;
         put_mark_at(
             alloc,
             grid,

@@ -11,9 +11,9 @@ ghost use Rattle.cdb_rules.specs.ByRules.{IsInOrder};
 ghost use Rattle.cdb_setup.specs.declared.fault.SetupFault.{SetupFault as SetupFaultName};
 
 use crate::draws::draw_run;
+use cdb_base::Event;
 use cdb_base::limits::MAX_ENTRIES;
 use cdb_explain::{ExplainFault, position_of_step, run_left_by};
-use cdb_history::History;
 use cdb_past::{Chronicle, Chronicled};
 use cdb_rules::Runs;
 use cdb_streams::{Sink, Source};
@@ -27,15 +27,16 @@ pub struct StepAsked {
 }
 
 /// The position, from 1, of the step that is asked for, if one is. `NoStep` where none such stands.
-fn position_for(history: &History, step: Option<StepAsked>) -> Result<Option<usize>, ExplainFault>
-    ensures position { IfOk result (IsPositionFor history.now step) }
-    ensures within { IfOk result (λ position. IfSome position (λ at. (1 ≤ at) × (at ≤ length history.now))) }
-    ensures missing { IfErr result (λ fault. (fault ≡ no_step) × IsMissing history.now step) }
+fn position_for(events: &[Event], step: Option<StepAsked>) -> Result<Option<usize>, ExplainFault>
+    ensures position { IfOk result (IsPositionFor events.now step) }
+    ensures within { IfOk result
+        (λ position. IfSome position (λ at. (1 ≤ at) × (at ≤ length events.now))) }
+    ensures missing { IfErr result (λ fault. (fault ≡ no_step) × IsMissing events.now step) }
 {
     let Some(step) = step else {
         return Ok(None);
     };
-    match position_of_step(history, step.p, step.k) {
+    match position_of_step(events, step.p, step.k) {
         Some(position) => Ok(Some(position)),
         None => Err(ExplainFault::NoStep),
     }
@@ -55,7 +56,7 @@ fn write_drawing<T: Runs, W: Sink>(
         (IsPictureFor T.rules run.now columns step) }
     ensures fault { IfErr result (IsFaultOfStep (IsMissing run.now.history step)) }
 {
-    let position = position_for(run.history(), step)?;
+    let position = position_for(run.events(), step)?;
     draw_run::<T, W>(alloc, run, columns, position, out)?;
     Ok(())
 }

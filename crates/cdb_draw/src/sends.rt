@@ -7,7 +7,6 @@ ghost use Rattle.cdb_draw.specs.Positions.{crashed_at, is_crash_of, sent_at};
 ghost use Rattle.cdb_draw.specs.Sends.{AreSendsOf, HasNoted, kept_or_noted, message_code, message_of};
 
 use cdb_base::{Event, Kind, MsgName, NoMemory, Proc};
-use cdb_history::History;
 use std::alloc::Global;
 use std::collections::HashMap;
 
@@ -56,13 +55,12 @@ fn note_event(sends: &mut Sends, event: &Event, position: usize) -> Result<(), N
 }
 
 /// The positions of all sends of a history.
-pub(crate) fn sends_of(alloc: Global, history: &History) -> Result<Sends, NoMemory>
-    ensures { IfOk result (λ sends. AreSendsOf sends history.now) }
+pub(crate) fn sends_of(alloc: Global, events: &[Event]) -> Result<Sends, NoMemory>
+    ensures { IfOk result (λ sends. AreSendsOf sends events.now) }
 {
     let mut sends = HashMap::new(alloc);
-    for i in 0..history.len() {
-        let event = history.event(i);
-        note_event(&mut sends, event, i + 1)?;
+    for i in 0..events.len() {
+        note_event(&mut sends, &events[i], i + 1)?;
     }
     Ok(sends)
 }
@@ -90,14 +88,9 @@ fn is_crash_of(event: &Event, p: Proc) -> bool
 }
 
 /// The position at which a process crashed, from 1.
-pub(crate) fn crashed_at(history: &History, p: Proc) -> Option<usize>
-    ensures { result ≡ crashed_at history.now p }
+pub(crate) fn crashed_at(events: &[Event], p: Proc) -> Option<usize>
+    ensures { result ≡ crashed_at events.now p }
 {
-    for i in 0..history.len() {
-        let event = history.event(i);
-        if is_crash_of(event, p) {
-            return Some(i + 1);
-        }
-    }
-    None
+    let crash = events.iter().position(|event| is_crash_of(event, p))?;
+    Some(crash + 1)
 }

@@ -16,7 +16,8 @@ none_wait zero = refl
 none_wait (suc n) = omega (arith, none_wait n)
 
 -- each entry adds one event at most
-held_after : (rules : Rules) (journal : List Entry) (t : State) (seats : ℕ) → AreLawful rules t.setup → length t.redo ≡ seats → AreOfSeats seats journal → events_kept (replay_from rules t journal) ≤ events_kept t + length journal
+held_after : (rules : Rules) (journal : List Entry) (t : State) (seats : ℕ) → AreLawful rules t.setup → length t.redo ≡ seats → AreOfSeats seats journal
+    → events_kept (replay_from rules t journal) ≤ events_kept t + length journal
 held_after rules [] t seats lawful lists of_seats = omega arith
 held_after rules (e ∷ journal) t seats lawful lists of_seats =
     let adds = obey-adds rules t lawful e.seat e.command of_seats.0.0 (omega (arith, of_seats.0.1, lists)) in
@@ -24,7 +25,8 @@ held_after rules (e ∷ journal) t seats lawful lists of_seats =
     let more = held_after rules journal u seats (subst (AreLawful rules) (sym adds.setup) lawful) (adds.lists ∙ lists) of_seats.1 in
     omega (arith, more, adds.events)
 
-pub few_events : (rules : Parts → Rules) → ((setup : Parts) → AreInRange setup → AreLawful (rules setup) setup) → (control : Journaled) → AreInRange control.setup → AreOfSeats control.seats control.journal → length (control_state rules control).history ≤ length control.journal
+pub few_events : (rules : Parts → Rules) → ((setup : Parts) → AreInRange setup → AreLawful (rules setup) setup) → (control : Journaled) → AreInRange control.setup
+    → AreOfSeats control.seats control.journal → length (control_state rules control).history ≤ length control.journal
 unfolding replay
 few_events rules lawful control in_range of_seats =
     let t = first_control_state control.setup control.seats in

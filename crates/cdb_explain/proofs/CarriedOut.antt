@@ -15,5 +15,6 @@ module _ (rules : Parts → Rules) (setup : Parts) (commands : List Command) (co
   run_left = rw (along.of_setup, along.one_seat, along.carried_out) refl
 
   -- the headline holds of the journal of its commands
-  pub headline_left : (SameState : Parts → List Event → List Event → Type 0) → Headline rules SameState control.setup control.seats control.journal → Headline rules SameState setup 1 (journal_of commands)
+  pub headline_left : (SameState : Parts → List Event → List Event → Type 0) → Headline rules SameState control.setup control.seats control.journal
+      → Headline rules SameState setup 1 (journal_of commands)
   headline_left SameState holds = rw (along.of_setup, along.one_seat, along.carried_out) at holds

@@ -1,5 +1,6 @@
 -- The direct causes of an event are the same in the run once it had come to that event.
-use Rattle.std.proofs.Common.{◌≡◌, ℕ, zero, suc, true, false, List, [], ◌∷◌, Some, Ok, Err, map, filter, take, slice_get, if◌then◌else◌, refl, sym, ap, ◌∙◌, arith}
+use Rattle.std.proofs.Common.{◌≡◌, ℕ, zero, suc, true, false, Bool, List, [], ◌∷◌, Some, Result, Ok, Err, map, filter, take, slice_get, refl, sym, ap, ◌∙◌, arith}
+use Rattle.std.proofs.Common.{if◌then◌else◌}
 use Rattle.std.specs.List.{flat_map}
 use Rattle.cdb_base.specs.Event.{event_name, is_step_of}
 use Rattle.std.proofs.lemmas.Option.{none-some}
@@ -7,8 +8,9 @@ use Rattle.cdb_base.specs.Positions.{nth}
 use Rattle.cdb_base.specs.Processes.{all_processes}
 use Rattle.cdb_base.specs.declared.event.Event.{Event}
 use Rattle.cdb_base.specs.declared.name.StepId.{StepId}
+use Rattle.cdb_base.specs.declared.refusal.Refusal.{Refusal}
 use Rattle.cdb_base.specs.declared.refusal.Refusal.TheVariants as refusal
-use Rattle.cdb_causal.specs.Names.{IsNamedAt}
+use Rattle.cdb_causal.specs.Names.{IsNamedAt, IsPositionOf}
 use Rattle.cdb_causal.specs.Rollback.{events_before}
 use Rattle.cdb_causal.specs.Standing.{IsStanding}
 use Rattle.cdb_past.proofs.Beginnings.{taken}
@@ -21,19 +23,27 @@ use Rattle.cdb_rules.proofs.ListMembers.{get-take}
 abbrev names_of : List Event → Event → List StepId
 names_of earlier event = map event_name (flat_map (λ p. filter (is_step_of p) (direct_among earlier event)) all_processes)
 
-module _ (n : ℕ) (history : List Event) (at : ℕ) (event : Event) (stands : nth history at ≡ Some event) (only : (other : ℕ) → IsNamedAt history other (event_name event) → other ≡ at) where
+-- or the refusal, where it names no process of the run
+abbrev causes_among : Bool → List Event → Event → Result (List StepId) Refusal
+causes_among names earlier event = if names then Ok (names_of earlier event) else Err refusal.NoProcess
+
+module _ (n : ℕ) (history : List Event) (at : ℕ) (event : Event) (stands : nth history at ≡ Some event)
+    (only : (other : ℕ) → IsNamedAt history other (event_name event) → other ≡ at) where
   -- of the event at a position, by what stands before it
-  causes_at : causes_of n history (event_name event) ≡ (if names_processes n (event_name event) then Ok (names_of (events_before history at) event) else Err refusal.NoProcess)
+  causes_at : causes_of n history (event_name event) ≡ causes_among (names_processes n (event_name event)) (events_before history at) event
   causes_at =
-      elim (names_processes n name) as (λ b. names_processes n name ≡ b → causes_of n history name ≡ (if b then Ok (names_of (events_before history at) event) else Err refusal.NoProcess)) [
+      elim (names_processes n name) as (λ b. names_processes n name ≡ b → causes_of n history name ≡ causes_among b (events_before history at) event) [
         | true ↦ λ there.
             ap (λ f. for_standing f (λ found. Ok (names_of found.earlier found.event)))
-            (stands_named history name n at there (record { from_one = stands_from_one history at event stands; named = (event, stands, refl); only = only }) ∙ found_is history at event stands)
+            (stands_named history name n at there is_position ∙ found_is history at event stands)
         | false ↦ λ absent. ap (λ f. for_standing f (λ found. Ok (names_of found.earlier found.event))) (no_process_named history name n absent)
       ] refl
     where
       name : StepId
       name = event_name event
+
+      is_position : IsPositionOf history name at
+      is_position = record { from_one = stands_from_one history at event stands; named = (event, stands, refl); only = only }
 
 first_of_first : {A : Type 0} (xs : List A) (i : ℕ) → take i (take (suc i) xs) ≡ take i xs
 first_of_first xs zero = refl
@@ -45,7 +55,7 @@ pub same_causes : (n : ℕ) (history : List Event) → IsStanding history → (i
     → causes_of n (take (suc i) history) (event_name event) ≡ causes_of n history (event_name event)
 same_causes n history standing i event at =
     causes_at n (take (suc i) history) (suc i) event (get-take history (suc i) i (omega arith) ∙ at) only_first
-    ∙ ap (λ earlier. if names_processes n (event_name event) then Ok (names_of earlier event) else Err refusal.NoProcess) (first_of_first history i)
+    ∙ ap (λ earlier. causes_among (names_processes n (event_name event)) earlier event) (first_of_first history i)
     ∙ sym (causes_at n history (suc i) event at only)
   where
     only : (k : ℕ) → IsNamedAt history k (event_name event) → k ≡ suc i

@@ -1,5 +1,6 @@
 -- The flagged positions grow by one position after the other.
-use Rattle.std.proofs.Common.{◌≡◌, ℕ, zero, suc, ◌+◌, Bool, true, false, List, [], ◌∷◌, ◌++◌, filter, length, if◌then◌else◌, sym, ap, ◌∙◌, append-nil, append_assoc, length-append, arith, ◌<◌, get_or, unwrap_or}
+use Rattle.std.proofs.Common.{◌≡◌, ℕ, zero, suc, ◌+◌, ◌<◌, Bool, true, false, List, [], ◌∷◌, ◌++◌, filter, length, get_or, unwrap_or, if◌then◌else◌}
+use Rattle.std.proofs.Common.{sym, ap, ◌∙◌, append-nil, append_assoc, length-append, arith}
 use Rattle.std.specs.List.{flat_map, range_with_len}
 use Rattle.std.proofs.lemmas.Grind.{flat_map-append}
 use Rattle.std.proofs.lemmas.List.Elements.{filter-append}
@@ -34,7 +35,8 @@ unflagged_more flags i is =
     one_more flags i ∙ ap (λ (xs : List ℕ). flagged_of_first i flags ++ xs) (single_out (is_flagged flags) (suc i) is) ∙ append-nil (flagged_of_first i flags)
 
 -- a text for each flagged position grows by that of one more
-pub lines_more : (line : ℕ → List ℕ) (flags : List Bool) (i : ℕ) → is_flagged flags (suc i) ≡ true → flat_map line (flagged_of_first (i + 1) flags) ≡ flat_map line (flagged_of_first i flags) ++ line (suc i)
+pub lines_more : (line : ℕ → List ℕ) (flags : List Bool) (i : ℕ) → is_flagged flags (suc i) ≡ true
+    → flat_map line (flagged_of_first (i + 1) flags) ≡ flat_map line (flagged_of_first i flags) ++ line (suc i)
 lines_more line flags i is =
     ap (flat_map line) (flagged_more flags i is) ∙ flat_map-append line (flagged_of_first i flags) (suc i ∷ [])
     ∙ ap (λ (t : List ℕ). flat_map line (flagged_of_first i flags) ++ t) (append-nil (line (suc i)))
@@ -47,7 +49,8 @@ pub flag_read : (flags : List Bool) (i : ℕ) (d b : Bool) → i < length flags 
 flag_read flags i d b within is = ap (λ o. unwrap_or o false) (slice_get-get_or flags i d within) ∙ is
 
 -- the text that was there, the lines so far, and that of one flagged position more
-pub text_more : (line : ℕ → List ℕ) (flags : List Bool) (i : ℕ) (start now later one : List ℕ) → now ≡ start ++ flat_map line (flagged_of_first i flags) → later ≡ now ++ one → line (suc i) ≡ one → is_flagged flags (suc i) ≡ true
+pub text_more : (line : ℕ → List ℕ) (flags : List Bool) (i : ℕ) (start now later one : List ℕ) → now ≡ start ++ flat_map line (flagged_of_first i flags)
+    → later ≡ now ++ one → line (suc i) ≡ one → is_flagged flags (suc i) ≡ true
     → later ≡ start ++ flat_map line (flagged_of_first (i + 1) flags)
 text_more line flags i start now later one now_is later_is line_is is =
     let so_far = flat_map line (flagged_of_first i flags) in
@@ -55,6 +58,6 @@ text_more line flags i start now later one now_is later_is line_is is =
     ∙ ap (λ (t : List ℕ). start ++ t) (ap (λ (t : List ℕ). so_far ++ t) (sym line_is) ∙ sym (lines_more line flags i is))
 
 -- an unflagged position adds nothing
-pub text_same : (line : ℕ → List ℕ) (flags : List Bool) (i : ℕ) (start now : List ℕ) → now ≡ start ++ flat_map line (flagged_of_first i flags) → is_flagged flags (suc i) ≡ false
-    → now ≡ start ++ flat_map line (flagged_of_first (i + 1) flags)
+pub text_same : (line : ℕ → List ℕ) (flags : List Bool) (i : ℕ) (start now : List ℕ) → now ≡ start ++ flat_map line (flagged_of_first i flags)
+    → is_flagged flags (suc i) ≡ false → now ≡ start ++ flat_map line (flagged_of_first (i + 1) flags)
 text_same line flags i start now now_is is = now_is ∙ ap (λ (xs : List ℕ). start ++ flat_map line xs) (sym (unflagged_more flags i is))

@@ -31,6 +31,7 @@ abbrev pub Leaves : (Parts → Rules) → List ℕ → Stream → Stream → Run
 Leaves rules json old new run = (script : List ℕ) × IsReadToEnd old script new × IsRunLeft rules json script run
 
 -- the same, and the headline holds of the journal of the script's commands
-pub record LeavesOnHeadline (rules : Parts → Rules) (SameState : Parts → List Event → List Event → Type 0) (json : List ℕ) (old new : Stream) (run : RunView) : Type 0 where
+pub record LeavesOnHeadline (rules : Parts → Rules) (SameState : Parts → List Event → List Event → Type 0)
+    (json : List ℕ) (old new : Stream) (run : RunView) : Type 0 where
   pub leaves : Leaves rules json old new run
   pub headline : Headline rules SameState leaves.2.setup 1 (journal_of leaves.2.commands)

@@ -20,8 +20,8 @@ use cdb_rules::Runs;
 use cdb_streams::{Sink, Source, write_text};
 use std::alloc::Global;
 
-/// Writes the explanation of a step of this run, which is whole before any of it is written. `NoStep` where no such step
-/// stands.
+/// Writes the explanation of a step of this run, which is whole before any of it is written. `NoStep` where no such
+/// step stands.
 fn write_explanation<T: Runs, W: Sink>(
     alloc: Global,
     run: &Chronicle,

@@ -74,8 +74,8 @@ fn control_after<T: Runs>(
     }
 }
 
-/// What stands in the run that a script leaves: its commands were carried out by seat 1 of one seat, as `play` does, and
-/// no reply was written.
+/// What stands in the run that a script leaves: its commands were carried out by seat 1 of one seat, as `play` does,
+/// and no reply was written.
 ///
 /// The setup is read first, then the whole script, then all its lines. The faults are those of a play, without
 /// `Write`; after `Setup` the script is not read, and `Read` comes only where the reader failed in this call.

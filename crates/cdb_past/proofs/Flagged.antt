@@ -19,13 +19,14 @@ pub record IsFlagging (numbers : List ℕ) (name : StepId) (events : List Event)
   pub number : length flags ≡ n
   pub each : (at : ℕ) (event : Event) → at ≤ n → nth events at ≡ Some event → IsFlagged flags at ↔ IsUpTo numbers name event
 
--- what is read at a position stands there
-pub item_at : {A : Type 0} (xs : List A) (i : ℕ) (x : A) → i < length xs → x ≡ get_or xs i x → slice_get xs i ≡ Some x
-item_at xs i x within is = slice_get-get_or xs i x within ∙ ap Some (sym is)
+-- what is read at a position of a list stands there, from 0 and from 1
+module _ {A : Type 0} {xs ys : List A} (same : xs ≡ ys) where
+  pub item_at : (i : ℕ) (x : A) → i < length xs → x ≡ get_or xs i x → slice_get ys i ≡ Some x
+  item_at i x within is = rw same at (slice_get-get_or xs i x within ∙ ap Some (sym is))
 
--- of a position from 1
-pub item_one : {A : Type 0} (xs : List A) (at : ℕ) (x : A) → 1 ≤ at → at ≤ length xs → x ≡ get_or xs (at - 1) x → nth xs at ≡ Some x
-item_one xs at x from_one to_len is = by_next (λ n. nth xs n ≡ Some x) at from_one (item_at xs (at - 1) x (omega arith) is)
+  pub item_one : (at : ℕ) (x : A) → 1 ≤ at → at ≤ length ys → x ≡ get_or xs (at - 1) x → nth ys at ≡ Some x
+  item_one at x from_one to_len is =
+      by_next (λ n. nth ys n ≡ Some x) at from_one (item_at (at - 1) x (omega (arith, ap length same)) is)
 
 at_end : (at n : ℕ) → at ≤ n + 1 → (at ≤ n) ⊎ (at ≡ suc n)
 at_end at n most = grind arith

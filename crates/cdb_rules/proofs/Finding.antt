@@ -1,11 +1,10 @@
 -- A process is found by its number, and an event by its name.
 use Rattle.std.proofs.lemmas.Grind.{common_steps}
 use Rattle.std.proofs.lemmas.Option.{gets, none-some, same_Some}
-use Rattle.std.proofs.Common.{◌≡◌, ℕ, zero, suc, ◌+◌, ◌-◌, ◌<◌, ◌≤◌, Bool, true, false, not, ◌&&◌, ◌==◌, List, [], ◌∷◌, length, Option, Some, None, option_map, Err, MatchOption, MatchResult, IfOk, IfNone, cond, nat_lt, slice_get, if◌then◌else◌, refl, sym, ap, ap₂, ◌∙◌, subst, arith}
+use Rattle.std.proofs.Common.{◌≡◌, ℕ, zero, suc, ◌+◌, ◌<◌, ◌≤◌, Bool, true, false, not, ◌&&◌, ◌==◌, List, [], ◌∷◌, length, Option, Some, None, option_map, Err, MatchOption, IfNone, cond, nat_lt, slice_get, if◌then◌else◌, refl, sym, ap, ap₂, ◌∙◌, subst, arith}
 use Rattle.std.proofs.lemmas.Bool.Decides.{nat_tests}
 use Rattle.std.specs.List.{position, position_or_len}
 use Rattle.std.specs.Option.{option_map_or}
-use Rattle.std.specs.Prelude.{ok_or}
 use Rattle.cdb_base.specs.Event.{event_name}
 use Rattle.cdb_base.specs.Positions.{nth}
 use Rattle.cdb_base.specs.declared.event.Event.{Event}
@@ -20,7 +19,6 @@ use Rattle.cdb_rules.specs.Undo.{is_named, names_processes, position_of, found_a
 use Rattle.cdb_rules.proofs.Kept.{is_false}
 use Rattle.cdb_rules.proofs.Limits.{step_within, loss_within}
 use Rattle.cdb_rules.proofs.Naming.{in_position}
-use Rattle.cdb_rules.proofs.Positions.{get_at, nth_within}
 
 module _ {E : Type 0} (test : E → Bool) where
   found_or_len : (xs : List E) (i : ℕ) (x : E) → slice_get xs i ≡ Some x → test x ≡ true → ((k : ℕ) (y : E) → k < i → slice_get xs k ≡ Some y → test y ≡ false) → (position_or_len test xs ≡ i) × (i < length xs)
@@ -103,9 +101,6 @@ pub stands_from_one : {A : Type 0} (xs : List A) (at : ℕ) (x : A) → nth xs a
 stands_from_one xs zero x stands = absurd (none-some x stands)
 stands_from_one xs (suc i) x stands = omega arith
 
-pub position_within : (history : List Event) (name : StepId) (at : ℕ) → IsPositionOf history name at → at ≤ length history
-position_within history name at position = nth_within history at position.named.0 position.named.1
-
 -- In a valid history no event has a greater number.
 
 abbrev pub number_of : StepId → ℕ
@@ -133,12 +128,6 @@ module _ (n p : ℕ) where
   pub among_is : 1 ≤ p → p ≤ n → is_among n p ≡ true
   among_is first last = grind (arith, nat_tests)
 
-  among_first : is_among n p ≡ true → 1 ≤ p
-  among_first h = grind (arith, nat_tests)
-
-  among_last : is_among n p ≡ true → p ≤ n
-  among_last h = grind (arith, nat_tests)
-
   module _ (found : Option ℕ) (is : found ≡ (if is_among n p then Some p else None)) where
     pub among_some : MatchOption found (is_among n p ≡ false) (λ q. (q ≡ p) × (p ≤ n) × (1 ≤ p))
     among_some = grind (arith, common_steps, gets)
@@ -147,23 +136,6 @@ module _ (n p : ℕ) where
     among_none {P = P} none =
         subst (λ o. IfNone o P) (sym is)
         (elim (is_among n p) as (λ b. is_among n p ≡ b → IfNone (if b then Some p else None) P) [ true ↦ λ e. tt | false ↦ none ] refl)
-
--- What is found, as it is answered.
-
-module _ (history : List Event) (name : StepId) (at : Option ℕ) (is : MatchOption at (IsNewName history name) (IsPositionOf history name)) where
-  pub found_result : (n : ℕ) → names_processes n name ≡ true → MatchResult (ok_or at refusal.NoStep) (λ position. event_named n history name ≡ found_at history position) (λ why. event_named n history name ≡ Err why)
-  found_result n there = by at is
-    where
-      by : (o : Option ℕ) → MatchOption o (IsNewName history name) (IsPositionOf history name) → MatchResult (ok_or o refusal.NoStep) (λ position. event_named n history name ≡ found_at history position) (λ why. event_named n history name ≡ Err why)
-      by None new = none_named history name n there new
-      by (Some position) stands = stands_named history name n position there stands
-
-  pub found_within : IfOk (ok_or at refusal.NoStep) (λ position. (1 ≤ position) × (position ≤ length history))
-  found_within = grind (arith, common_steps, gets)
-
--- what stands at a position from 1 stands, counted from 0, at the one before
-pub position_before : {A : Type 0} (xs : List A) (at : ℕ) (x : A) → 1 ≤ at → nth xs at ≡ Some x → slice_get xs (at - 1) ≡ Some x
-position_before xs at x first stands = let same : (at - 1) + 1 ≡ at = omega (arith, first) in get_at xs (at - 1) at same ∙ stands
 
 -- what does not fit in 16 bits is greater than each number of a step or a message
 pub beyond : (k : ℕ) → (k < 65536 → ⊥) → 9999 < k

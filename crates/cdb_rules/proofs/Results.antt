@@ -1,9 +1,8 @@
 -- What an undo is answered, by what is found.
 use Rattle.std.proofs.lemmas.Grind.{common_steps}
-use Rattle.std.proofs.lemmas.Option.{gets, none-some, same_Some, slice_get_cases}
-use Rattle.std.proofs.Common.{◌≡◌, ℕ, zero, suc, ◌+◌, ◌<◌, ◌≤◌, Bool, true, false, List, [], ◌∷◌, Some, None, Ok, Err, find, drop, length, ◌-◌, ⊎_elim, slice_get, refl, sym, ap, ap₂, ◌∙◌, arith, cond}
+use Rattle.std.proofs.lemmas.Option.{gets, none-some, same_Some}
+use Rattle.std.proofs.Common.{◌≡◌, ℕ, zero, suc, ◌+◌, ◌<◌, Bool, true, false, List, [], ◌∷◌, Some, None, Ok, Err, find, drop, ◌-◌, slice_get, refl, sym, ap, ap₂, ◌∙◌, arith, cond}
 use Rattle.std.specs.Option.{option_map_or}
-use Rattle.std.specs.Result.{result_err}
 use Rattle.cdb_base.specs.Event.{event_name}
 use Rattle.cdb_base.specs.Positions.{nth}
 use Rattle.cdb_base.specs.declared.event.Event.{Event}
@@ -13,8 +12,7 @@ use Rattle.cdb_causal.specs.Causality.{IsFree}
 use Rattle.cdb_causal.specs.Dependence.{depends}
 use Rattle.cdb_causal.specs.Names.{IsFirstDependent}
 use Rattle.cdb_causal.specs.Rollback.{events_before, events_behind, without}
-use Rattle.cdb_causal.proofs.FromOne.{next_is}
-use Rattle.cdb_rules.specs.Undo.{result_alone, found_at, for_standing, undo_found}
+use Rattle.cdb_rules.specs.Undo.{found_at, for_standing, undo_found}
 use Rattle.cdb_rules.proofs.Kept.{is_false}
 
 module _ {E : Type 0} (test : E → Bool) where
@@ -72,16 +70,3 @@ module _ (history : List Event) (at : ℕ) where
         ap (λ f. for_standing f (undo_found history)) found_is
         ∙ ap (λ o. option_map_or (λ dependent. Err (refusal.NeededBy (event_name dependent))) o (Ok (event, without history at))) (first_needs name first)
         ∙ ap (λ n. Err (refusal.NeededBy n)) first.named.2
-
--- what an undo of the event at a position is refused with, by the first event that needs it
-module _ (history : List Event) (at : ℕ) (from_one : 1 ≤ at) (within : at ≤ length history) where
-  at_position : (event : Event) × (nth history at ≡ Some event)
-  at_position =
-      ⊎_elim (λ there. (there.0, ap (nth history) (sym (next_is at from_one)) ∙ there.2)) (λ past. absurd (let end = past.0 in omega (arith, end, within, from_one)))
-      (slice_get_cases history (at - 1)).1
-
-  pub free_unrefused : IsFree depends history at → None ≡ result_err (result_alone (for_standing (found_at history at) (undo_found history)))
-  free_unrefused free = sym (ap (λ a. result_err (result_alone a)) (free_result history at at_position.0 at_position.1 free))
-
-  pub needed_refused : (name : StepId) → IsFirstDependent history at name → Some (refusal.NeededBy name) ≡ result_err (result_alone (for_standing (found_at history at) (undo_found history)))
-  needed_refused name first = sym (ap (λ a. result_err (result_alone a)) (needed_result history at at_position.0 at_position.1 name first))

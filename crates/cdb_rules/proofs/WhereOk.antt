@@ -13,13 +13,11 @@ use Rattle.cdb_base.specs.declared.refusal.Refusal.{Refusal}
 use Rattle.cdb_base.specs.declared.refusal.Refusal.TheVariants as refusal
 use Rattle.cdb_causal.specs.Causality.{IsFree}
 use Rattle.cdb_causal.specs.Dependence.{depends}
-use Rattle.cdb_causal.specs.Names.{IsNamedAt}
 use Rattle.cdb_causal.specs.Rollback.{events_before, events_behind, without, remaining, rolled_back}
 use Rattle.cdb_rules.specs.Undo.{Found, position_of, found_at, event_named, for_standing, undo_found, undo_of, rollback_of, names_processes, is_named}
 use Rattle.cdb_rules.specs.State.{Machine}
 use Rattle.cdb_rules.specs.Step.{IsValid, after, fold, state_of}
-use Rattle.cdb_rules.proofs.Results.{get-drop, found_is}
-use Rattle.cdb_rules.proofs.Finding.{has_name_is}
+use Rattle.cdb_rules.proofs.Results.{get-drop}
 use Rattle.cdb_rules.proofs.Histories.{undo_valid, undo_again, rollback_valid, rollback_redo}
 
 -- where none is found, the test holds of none
@@ -67,13 +65,6 @@ module _ {A : Type 0} (history : List Event) (name : StepId) (returned : Found �
 
   stands_where_ok : (n : ℕ) → for_standing (event_named n history name) returned ≡ Ok done → StandsWhereOk
   stands_where_ok n h = by_names (names_processes n name) h
-
--- the event that is found by a name has it
-pub found_named : (n : ℕ) (history : List Event) (name : StepId) (at : ℕ) (event : Event) → nth history at ≡ Some event → event_named n history name ≡ found_at history at → IsNamedAt history at name
-found_named n history name at event stands is =
-    let s = stands_where_ok history name (λ standing. Ok standing) (found history at event) n (ap (λ (f : Result Found Refusal). for_standing f (λ standing. Ok standing)) (is ∙ found_is history at event stands)) in
-    let same : s.0 ≡ at = ap (λ (f : Found). f.position) (same_Ok (found history s.0 s.1) (found history at event) s.4) in
-    subst (λ (j : ℕ). IsNamedAt history j name) same (s.1, s.3, has_name_is name s.1 s.2)
 
 module _ (history : List Event) (at : ℕ) (event : Event) (stands : nth history at ≡ Some event) where
   free_if : find (depends event) (drop at history) ≡ None → IsFree depends history at

@@ -39,22 +39,30 @@ module _ {L : Type 0} (machine : Machine L) where
   abbrev steps : ProcessState L → ℕ
   steps process = process.progress.steps
 
-  -- what an event brings about, and each event keeps, holds behind a list with the event
-  brought : (Holds : RunState L → Type 0) → ((state next : RunState L) (event : Event) → after machine state event ≡ Some next → Holds state → Holds next)
-      → (one : Event) → ((state next : RunState L) → after machine state one ≡ Some next → Holds next)
+  -- each event keeps it, and the one brings it about
+  abbrev IsKept : (RunState L → Type 0) → Type 0
+  IsKept Holds = (state next : RunState L) (event : Event) → after machine state event ≡ Some next → Holds state → Holds next
+
+  abbrev IsBrought : (RunState L → Type 0) → Event → Type 0
+  IsBrought Holds one = (state next : RunState L) → after machine state one ≡ Some next → Holds next
+
+  -- then it holds behind a list with that event
+  brought : (Holds : RunState L → Type 0) → IsKept Holds → (one : Event) → IsBrought Holds one
       → (events : List Event) (state to : RunState L) → Reaches machine state events to → IsIn one events → Holds to
   brought Holds keeps one brings [] state to h i = elim i [ ]
   brought Holds keeps one brings (event ∷ events) state to h i =
       let s = first_step machine state to event events h in
+      let kept = reached_keeps (after machine) Holds (λ x other y held taken. keeps x y other taken held) s.0 events to in
       ⊎_elim
-      (λ e. reached_keeps (after machine) Holds (λ x other y held taken. keeps x y other taken held) s.0 events to (brings state s.0 (subst (λ x. after machine state x ≡ Some s.0) (sym e) s.1)) s.2)
+      (λ e. kept (brings state s.0 (subst (λ x. after machine state x ≡ Some s.0) (sym e) s.1)) s.2)
       (λ later. brought Holds keeps one brings events s.0 to s.2 later)
       (in_cases one event events i)
 
   -- what holds behind a list held before it, or an event of the list brought it about
   came : (Holds : RunState L → Type 0) (Brings : Event → Type 0)
       → ((state next : RunState L) (event : Event) → after machine state event ≡ Some next → Holds next → Holds state ⊎ Brings event)
-      → (events : List Event) (state to : RunState L) → Reaches machine state events to → Holds to → Holds state ⊎ ((event : Event) × IsIn event events × Brings event)
+      → (events : List Event) (state to : RunState L) → Reaches machine state events to → Holds to
+      → Holds state ⊎ ((event : Event) × IsIn event events × Brings event)
   came Holds Brings cases [] state to h held = inl (subst Holds (sym (same_Some state to h)) held)
   came Holds Brings cases (event ∷ events) state to h held =
       let s = first_step machine state to event events h in
@@ -64,13 +72,15 @@ module _ {L : Type 0} (machine : Machine L) where
       (came Holds Brings cases events s.0 to s.2 held)
 
   -- a step is the one of its number, or that number was counted before it
-  step_comes : (p k : ℕ) (state next : RunState L) (event : Event) → after machine state event ≡ Some next → k ≤ steps_of next p → (k ≤ steps_of state p) ⊎ ((kind : Kind) × (event ≡ Step p k kind))
+  step_comes : (p k : ℕ) (state next : RunState L) (event : Event) → after machine state event ≡ Some next → k ≤ steps_of next p
+      → (k ≤ steps_of state p) ⊎ ((kind : Kind) × (event ≡ Step p k kind))
   step_comes p k state next (Step q l kind) one few =
       let t = taken_from machine state next q l kind one in
       elim (nat_eq q p) as (λ b. nat_eq q p ≡ b → (k ≤ steps_of state p) ⊎ ((other : Kind) × (Step q l kind ≡ Step p k other))) [
         | true ↦ λ e.
             let same : q ≡ p = nat_eq-is q p e in
-            let at_last : k ≤ l = subst (λ n. k ≤ n) (sym (number_after machine state next q l kind t)) (subst (λ r. k ≤ steps_of next r) (sym same) few) in
+            let at_last : k ≤ l =
+            subst (λ n. k ≤ n) (sym (number_after machine state next q l kind t)) (subst (λ r. k ≤ steps_of next r) (sym same) few) in
             ⊎_elim
             (λ before. inl (subst (λ r. k ≤ steps_of state r) same before))
             (λ is. inr (kind, ap (λ r. Step r l kind) same ∙ ap (λ n. Step p n kind) (sym is)))
@@ -80,7 +90,8 @@ module _ {L : Type 0} (machine : Machine L) where
     where
       last_or_before : (count l : ℕ) → l ≡ count + 1 → k ≤ l → (k ≤ count) ⊎ (k ≡ l)
       last_or_before count l is le = grind arith
-  step_comes p k state next (Lost copy) one few = inl (subst (λ (x : RunState L). k ≤ steps_of x p) (sym (lost_from machine state next copy one).1) few)
+  step_comes p k state next (Lost copy) one few =
+      inl (subst (λ (x : RunState L). k ≤ steps_of x p) (sym (lost_from machine state next copy one).1) few)
 
   none_counted : (o : Option (ProcessState L)) → ((process : ProcessState L) → o ≡ Some process → process.progress.steps ≡ 0) → of_process steps o ≡ 0
   none_counted None fresh = refl
@@ -99,16 +110,17 @@ module _ {L : Type 0} (machine : Machine L) where
     in_stands : (event : Event) → IsIn event history → StandsIn history event
     in_stands event i = let found = position_in event history i in (suc found.0, found.1)
 
-    has_brought : (Holds : RunState L → Type 0) → ((state next : RunState L) (event : Event) → after machine state event ≡ Some next → Holds state → Holds next)
-        → (one : Event) → ((state next : RunState L) → after machine state one ≡ Some next → Holds next) → StandsIn history one → Holds to
+    has_brought : (Holds : RunState L → Type 0) → IsKept Holds → (one : Event) → IsBrought Holds one → StandsIn history one → Holds to
     has_brought Holds keeps one brings stands = brought Holds keeps one brings history (start machine) to reaches (in_history one stands)
 
     -- exactly the steps up to the number of steps stand
 
     step_counted : (p k : ℕ) → HasStep history p k → k ≤ steps_of to p
     step_counted p k has =
-        has_brought (λ state. k ≤ steps_of state p) (λ state next event one few. le_trans few (steps_grow machine state next event one p)) (Step p k has.0)
-        (λ state next one. let is = number_after machine state next p k has.0 (taken_from machine state next p k has.0 one) in omega (arith, is))
+        let kind = has.0 in
+        has_brought (λ state. k ≤ steps_of state p) (λ state next event one few. le_trans few (steps_grow machine state next event one p))
+        (Step p k kind)
+        (λ state next one. let is = number_after machine state next p k kind (taken_from machine state next p k kind one) in omega (arith, is))
         has.1
 
     counted_step : (p k : ℕ) → 1 ≤ k → k ≤ steps_of to p → HasStep history p k
@@ -116,14 +128,19 @@ module _ {L : Type 0} (machine : Machine L) where
         ⊎_elim
         (λ before. let none = start_counts_none p in absurd (omega (arith, first, before, none)))
         (λ found. (found.2.0, subst (StandsIn history) found.2.1 (in_stands found.0 found.1)))
-        (came (λ state. k ≤ steps_of state p) (λ event. (kind : Kind) × (event ≡ Step p k kind)) (step_comes p k) history (start machine) to reaches few)
+        (came (λ state. k ≤ steps_of state p) (λ event. (kind : Kind) × (event ≡ Step p k kind)) (step_comes p k)
+        history (start machine) to reaches few)
 
     -- and exactly the messages up to the number of sends were sent
 
     send_counted : (s m : ℕ) → HasSend history s m → m ≤ sends_of to s
     send_counted s m has =
-        has_brought (λ state. m ≤ sends_of state s) (λ state next event one few. le_trans few (sends_grow machine state next event one s)) (Step s has.0 (Send m))
-        (λ state next one. let is = sends_after machine state next s has.0 (Send m) (taken_from machine state next s has.0 (Send m) one) m refl in omega (arith, is))
+        let k = has.0 in
+        has_brought (λ state. m ≤ sends_of state s) (λ state next event one few. le_trans few (sends_grow machine state next event one s))
+        (Step s k (Send m))
+        (λ state next one.
+        let is = sends_after machine state next s k (Send m) (taken_from machine state next s k (Send m) one) m refl in
+        omega (arith, is))
         has.1
 
     sent_has : (name : MsgName) → is_sent (mail_of to) name ≡ true → HasSend history name.s name.m
@@ -131,29 +148,38 @@ module _ {L : Type 0} (machine : Machine L) where
         ⊎_elim
         (λ before. absurd (start_unsent machine name before))
         (λ found. (found.2.0, subst (StandsIn history) found.2.1 (in_stands found.0 found.1)))
-        (came (λ state. is_sent (mail_of state) name ≡ true) (λ event. (k : ℕ) × (event ≡ Step name.s k (Send name.m))) (λ state next event. sent_by_step machine state next event name)
+        (came (λ state. is_sent (mail_of state) name ≡ true) (λ event. (k : ℕ) × (event ≡ Step name.s k (Send name.m)))
+        (λ state next event. sent_by_step machine state next event name)
         history (start machine) to reaches sent)
 
     counted_send : (s m : ℕ) → 1 ≤ m → m ≤ sends_of to s → HasSend history s m
     counted_send s m first few =
         let payload = stands_at (sent_by (mail_of to) s) m first few in sent_has (message_name s m) (subst IsSome (sym payload.1) refl)
 
-    -- a copy that was sent, and neither received nor lost, is pending
-    pending : (copy : CopyName) → is_sent (mail_of to) copy.msg ≡ true → is_received (mail_of to) copy.to copy.msg ≡ false → is_lost (mail_of to) copy ≡ false → IsPending history copy.to copy.msg.s copy.msg.m
+    -- a copy that was received or lost is so in the state, and one that was sent and is neither is pending
+
+    received_shown : (copy : CopyName) (k : ℕ) → StandsIn history (Step copy.to k (Recv copy.msg.s copy.msg.m))
+        → is_received (mail_of to) copy.to copy.msg ≡ true
+    received_shown copy k =
+        let kind : Kind = Recv copy.msg.s copy.msg.m in
+        has_brought (λ state. is_received (mail_of state) copy.to copy.msg ≡ true)
+        (λ state next event one. received_stays machine state next event one copy.to copy.msg)
+        (Step copy.to k kind)
+        (λ state next one. received_now machine state next copy.to k kind (taken_from machine state next copy.to k kind one) copy.msg.s copy.msg.m refl)
+
+    lost_shown : (copy : CopyName) → StandsIn history (Lost copy) → is_lost (mail_of to) copy ≡ true
+    lost_shown copy =
+        has_brought (λ state. is_lost (mail_of state) copy ≡ true) (λ state next event one. lost_stays machine state next event one copy)
+        (Lost copy)
+        (λ state next. now_lost machine state next copy)
+
+    pending : (copy : CopyName) → is_sent (mail_of to) copy.msg ≡ true → is_received (mail_of to) copy.to copy.msg ≡ false → is_lost (mail_of to) copy ≡ false
+        → IsPending history copy.to copy.msg.s copy.msg.m
     pending copy sent unreceived unlost =
         record {
           sent = sent_has copy.msg sent;
-          not_received = λ k received.
-              true≢false
-              (sym (has_brought (λ state. is_received (mail_of state) copy.to copy.msg ≡ true) (λ state next event one. received_stays machine state next event one copy.to copy.msg)
-              (Step copy.to k (Recv copy.msg.s copy.msg.m))
-              (λ state next one. received_now machine state next copy.to k (Recv copy.msg.s copy.msg.m) (taken_from machine state next copy.to k (Recv copy.msg.s copy.msg.m) one) copy.msg.s copy.msg.m refl)
-              received)
-              ∙ unreceived);
-          not_lost = λ lost.
-              true≢false
-              (sym (has_brought (λ state. is_lost (mail_of state) copy ≡ true) (λ state next event one. lost_stays machine state next event one copy) (Lost copy) (λ state next. now_lost machine state next copy) lost)
-              ∙ unlost);
+          not_received = λ k received. true≢false (sym (received_shown copy k received) ∙ unreceived);
+          not_lost = λ lost. true≢false (sym (lost_shown copy lost) ∙ unlost);
         }
 
     module _ (next : RunState L) where
@@ -188,8 +214,9 @@ module _ {L : Type 0} (machine : Machine L) where
       may_come (Lost copy) one = let may = losable machine to next copy one in pending copy may.sent may.unreceived may.fresh
 
 -- an enabled event may come
-pub enabled_may_come : {L B : Type 0} {machine : Machine L} {before : L → B → L} {processes : List (Progress L)} {mail : MailState} {registers : RegisterStates} {entries : List (Recorded B)} (current : IsCurrent machine before processes mail registers entries) (event : Event)
-    → IsSome (after machine (state_of machine (events_of entries)) event) → MayCome (events_of entries) event
-enabled_may_come {machine = machine} {entries = entries} current event enabled =
-    let next = some_of (after machine current.state event) (subst (λ state. IsSome (after machine state event)) (state_is current) enabled) in
-    may_come machine (events_of entries) current.state (valid current) next.0 event next.1
+module _ {L B : Type 0} {machine : Machine L} {before : L → B → L} {processes : List (Progress L)} {mail : MailState} {registers : RegisterStates} where
+  pub enabled_may_come : {entries : List (Recorded B)} (current : IsCurrent machine before processes mail registers entries) (event : Event)
+      → IsSome (after machine (state_of machine (events_of entries)) event) → MayCome (events_of entries) event
+  enabled_may_come {entries = entries} current event enabled =
+      let next = some_of (after machine current.state event) (subst (λ state. IsSome (after machine state event)) (state_is current) enabled) in
+      may_come machine (events_of entries) current.state (valid current) next.0 event next.1

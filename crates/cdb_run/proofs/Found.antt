@@ -1,11 +1,10 @@
 -- What an undo, a rollback and a question for causes are answered, by the event that is found under the name.
-use Rattle.std.proofs.Common.{◌≡◌, ℕ, List, ◌++◌, length, Result, Ok, Err, IsOk, reverse, map, filter, None, Some, true≢false, refl, ap, ap₂, sym, ◌∙◌, subst}
+use Rattle.std.proofs.Common.{◌≡◌, ℕ, List, ◌++◌, length, Result, Ok, Err, IsOk, reverse, map, filter, None, refl, ap, ap₂, sym, ◌∙◌, subst}
 use Rattle.std.proofs.lemmas.List.{length-reverse}
 use Rattle.std.proofs.lemmas.Option.{same_Some}
 use Rattle.std.specs.List.{flat_map}
 use Rattle.std.specs.Result.{result_err}
 use Rattle.cdb_base.specs.Event.{event_name, is_step_of}
-use Rattle.cdb_base.specs.Positions.{nth}
 use Rattle.cdb_base.specs.Processes.{all_processes}
 use Rattle.cdb_base.specs.declared.event.Event.{Event}
 use Rattle.cdb_base.specs.declared.name.StepId.{StepId}
@@ -19,16 +18,18 @@ use Rattle.cdb_causal.specs.Rollback.{without, rolled_back, remaining}
 use Rattle.cdb_process.specs.Table.{Table}
 use Rattle.cdb_rules.specs.Machines.{machine_of}
 use Rattle.cdb_rules.specs.RunView.{RunView}
-use Rattle.cdb_rules.specs.Runs.{IsInOrder, CanUndo, with_left, undo_in, result_of_undo, after_undo, rollback_in, result_of_rollback, after_rollback, IsExactRollback, RollbackLeadsBack, causes_in}
+use Rattle.cdb_rules.specs.Runs.{IsInOrder, with_left, undo_in, result_of_undo, after_undo, rollback_in, result_of_rollback, after_rollback, IsExactRollback, RollbackLeadsBack, causes_in}
+use Rattle.cdb_rules.specs.State.{Machine}
 use Rattle.cdb_rules.specs.Undo.{Found, IsEventNamed, for_standing, undo_found, result_alone, number_removed, with_removed, direct_among}
 use Rattle.cdb_rules.proofs.Finding.{stands_named}
 use Rattle.cdb_rules.proofs.Results.{found_is}
 use Rattle.cdb_rules.proofs.Standing.{valid_named, free_undone, needed_refused, standing_rolled_back}
-use Rattle.cdb_rules.proofs.TakenBack.{undo_ok_free, exact_rollback, rollback_leads_back}
+use Rattle.cdb_rules.proofs.TakenBack.{exact_rollback, rollback_leads_back}
 use Rattle.cdb_run.specs.Found.{IsNotFound}
 use Rattle.cdb_run.proofs.Causes.{causes_at}
 use Rattle.cdb_run.proofs.Starting.{machine_each, at_most_nine}
 use Rattle.cdb_setup.specs.Parts.{AreInRange}
+use Rattle.cdb_standing.specs.Moves.{IsTakenOut}
 
 -- where none is found
 module _ (run : RunView) (name : StepId) (why : Refusal) (none : IsNotFound run name why) where
@@ -37,62 +38,78 @@ module _ (run : RunView) (name : StepId) (why : Refusal) (none : IsNotFound run 
 
   pub not_rolled_back : rollback_in run name ≡ Err why
   not_rolled_back =
-      ap (λ (f : Result Found Refusal). for_standing f (λ found. Ok (reverse (rolled_back depends run.history found.position), remaining depends run.history found.position))) none
+      ap
+      (λ (f : Result Found Refusal).
+      for_standing f (λ found. Ok (reverse (rolled_back depends run.history found.position), remaining depends run.history found.position)))
+      none
 
--- where one can be undone
-pub unrefused : {L : Type 0} (table : Table L) (run : RunView) → AreInRange run.setup → IsInOrder table run → (name : StepId) → CanUndo run name → None ≡ result_err (result_of_undo run name)
-unrefused table run ranges valid name free =
-    by (result_of_undo run name) ((undo_ok_free (machine_of table run.setup) run.setup.processes (machine_each table run.setup ranges) run.history valid name (result_of_undo run name) refl).1 free)
-  where
-    by : (r : Result Event Refusal) → IsOk r → None ≡ result_err r
-    by (Ok event) ok = refl
-    by (Err why) ok = absurd (true≢false (sym ok))
+module _ {L : Type 0} (table : Table L) (run : RunView) (ranges : AreInRange run.setup) (valid : IsInOrder table run) where
+  abbrev machine : Machine L
+  machine = machine_of table run.setup
 
--- where one stands
-module _ {L : Type 0} (table : Table L) (run : RunView) (ranges : AreInRange run.setup) (valid : IsInOrder table run) (name : StepId) (at : ℕ) (named : IsNamedAt run.history at name) where
-  its_event : IsEventNamed run.setup.processes run.history name at named.0
-  its_event =
-      subst (λ it. IsEventNamed run.setup.processes run.history it at named.0) named.2
-      (subst (λ n. IsEventNamed n run.history (event_name named.0) at named.0) (machine_each table run.setup ranges) (valid_named (machine_of table run.setup) run.history valid at named.0 named.1))
+  abbrev history : List Event
+  history = run.history
 
-  -- the event is taken out, and no other depends on it
-  module _ (event : Event) (left : RunView) (same : left.setup ≡ run.setup) (taken : (nth run.history at ≡ Some event) × (left.history ≡ without run.history at)) (free : IsFree depends run.history at) where
-    undone : undo_in run name ≡ Ok (event, left.history)
-    undone =
-        free_undone run.setup.processes run.history name at named.0 its_event free
-        ∙ ap₂ (λ e l. Ok (e, l)) (same_Some named.0 event (sym named.1 ∙ taken.0)) (sym taken.1)
+  abbrev n : ℕ
+  n = run.setup.processes
 
-    pub undo_result : Ok event ≡ result_of_undo run name
-    undo_result = sym (ap result_alone undone)
+  -- where one stands
+  module _ (name : StepId) (at : ℕ) (named : IsNamedAt history at name) where
+    its_event : IsEventNamed n history name at named.0
+    its_event =
+        subst (λ it. IsEventNamed n history it at named.0) named.2
+        (subst (λ m. IsEventNamed m history (event_name named.0) at named.0) (machine_each table run.setup ranges)
+        (valid_named machine history valid at named.0 named.1))
 
-    pub undo_leaves : left ≡ after_undo run name
-    undo_leaves = (λ j. record { setup = same j; history = left.history }) ∙ sym (ap (with_left run) undone)
+    undone : IsFree depends history at → undo_in run name ≡ Ok (named.0, without history at)
+    undone free = free_undone n history name at named.0 its_event free
 
-  pub needed_result : (dependent : StepId) → IsFirstDependent run.history at dependent → undo_in run name ≡ Err (refusal.NeededBy dependent)
-  needed_result dependent first = needed_refused run.setup.processes run.history name at named.0 its_event dependent first
+    pub unrefused : IsFree depends history at → None ≡ result_err (result_of_undo run name)
+    unrefused free = sym (ap (λ a. result_err (result_alone a)) (undone free))
 
-  rolled_result : rollback_in run name ≡ Ok (reverse (rolled_back depends run.history at), remaining depends run.history at)
-  rolled_result = standing_rolled_back run.setup.processes run.history name at named.0 its_event
+    -- the event is taken out, and no other depends on it
+    module _ (event : Event) (left : RunView) (same : left.setup ≡ run.setup) (taken : IsTakenOut history name event left.history) (free : IsFree depends history at) where
+      leaves : undo_in run name ≡ Ok (event, left.history)
+      leaves =
+          let out = taken at named in
+          undone free ∙ ap₂ (λ e l. Ok (e, l)) (same_Some named.0 event (sym named.1 ∙ out.0)) (sym out.1)
 
-  pub rollback_granted : IsOk (result_of_rollback run name)
-  rollback_granted = rw rolled_result refl
+      pub undo_result : Ok event ≡ result_of_undo run name
+      undo_result = sym (ap result_alone leaves)
 
-  pub number_result : (number : ℕ) → number ≡ length (rolled_back depends run.history at) → Ok number ≡ number_removed (result_of_rollback run name)
-  number_result number is = ap Ok (is ∙ sym (length-reverse (rolled_back depends run.history at))) ∙ sym (ap (λ a. number_removed (result_alone a)) rolled_result)
+      pub undo_leaves : left ≡ after_undo run name
+      undo_leaves = (λ j. record { setup = same j; history = left.history }) ∙ sym (ap (with_left run) leaves)
 
-  pub list_result : (onto list : List Event) → list ≡ onto ++ reverse (rolled_back depends run.history at) → list ≡ with_removed onto (result_of_rollback run name)
-  list_result onto list is = is ∙ sym (ap (λ a. with_removed onto (result_alone a)) rolled_result)
+    pub needed_result : (dependent : StepId) → IsFirstDependent history at dependent → undo_in run name ≡ Err (refusal.NeededBy dependent)
+    needed_result dependent first = needed_refused n history name at named.0 its_event dependent first
 
-  pub after_result : (left : RunView) → left.setup ≡ run.setup → left.history ≡ remaining depends run.history at → left ≡ after_rollback run name
-  after_result left same is = (λ j. record { setup = same j; history = is j }) ∙ sym (ap (with_left run) rolled_result)
+    rolled_result : rollback_in run name ≡ Ok (reverse (rolled_back depends history at), remaining depends history at)
+    rolled_result = standing_rolled_back n history name at named.0 its_event
 
-  pub causes_result : (names : List StepId) → AreDirectCauses run.history at names → causes_in run name ≡ Ok names
-  causes_result names are =
-      ap (λ f. for_standing f (λ found. Ok (map event_name (flat_map (λ p. filter (is_step_of p) (direct_among found.earlier found.event)) all_processes))))
-      (stands_named run.history name run.setup.processes at its_event.among its_event.its_position ∙ found_is run.history at named.0 named.1)
-      ∙ ap Ok (sym (causes_at (machine_of table run.setup) run.history valid (at_most_nine table run.setup ranges) at named.0 named.1 names are))
+    pub rollback_granted : IsOk (result_of_rollback run name)
+    rollback_granted = rw rolled_result refl
 
--- what a rollback leaves, if it was granted or not, is left by exactly the event and its consequences, and these lead back
+    pub number_result : (number : ℕ) → number ≡ length (rolled_back depends history at) → Ok number ≡ number_removed (result_of_rollback run name)
+    number_result number is =
+        ap Ok (is ∙ sym (length-reverse (rolled_back depends history at))) ∙ sym (ap (λ a. number_removed (result_alone a)) rolled_result)
+
+    pub list_result : (onto list : List Event) → list ≡ onto ++ reverse (rolled_back depends history at)
+        → list ≡ with_removed onto (result_of_rollback run name)
+    list_result onto list is = is ∙ sym (ap (λ a. with_removed onto (result_alone a)) rolled_result)
+
+    pub after_result : (left : RunView) → left.setup ≡ run.setup → left.history ≡ remaining depends history at → left ≡ after_rollback run name
+    after_result left same is = (λ j. record { setup = same j; history = is j }) ∙ sym (ap (with_left run) rolled_result)
+
+    pub causes_result : (names : List StepId) → AreDirectCauses history at names → causes_in run name ≡ Ok names
+    causes_result names are =
+        ap
+        (λ f.
+        for_standing f
+        (λ found. Ok (map event_name (flat_map (λ p. filter (is_step_of p) (direct_among found.earlier found.event)) all_processes))))
+        (stands_named history name n at its_event.among its_event.its_position ∙ found_is history at named.0 named.1)
+        ∙ ap Ok (sym (causes_at machine history valid (at_most_nine table run.setup ranges) at named.0 named.1 names are))
+
+-- what a rollback leaves, granted or not, is left by exactly the event and its consequences, and these lead back
 module _ (run left : RunView) (name : StepId) (after : left ≡ after_rollback run name) where
   pub left_exact : IsExactRollback run name left
   left_exact = subst (λ v. IsExactRollback run name v) (sym after) (exact_rollback run name)

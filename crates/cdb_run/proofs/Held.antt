@@ -1,7 +1,7 @@
 -- What is held of a run, before and after an event.
-use Rattle.std.proofs.Common.{◌≡◌, ℕ, zero, suc, ◌+◌, ◌<◌, ◌≤◌, true, false, not, ◌&&◌, if◌then◌else◌, List, [], ◌∷◌, ◌++◌, length, map, Option, Some, None, IsSome, option_and_then, option_map, unwrap_or, get_or, refl, sym, ap, ap₂, ◌∙◌, subst, true≢false, arith}
+use Rattle.std.proofs.Common.{◌≡◌, ℕ, zero, suc, ◌<◌, ◌≤◌, true, false, not, ◌&&◌, if◌then◌else◌, List, [], ◌∷◌, ◌++◌, length, map, Option, Some, None, IsSome, option_and_then, option_map, unwrap_or, refl, sym, ap, ap₂, ◌∙◌, subst, true≢false, arith}
 use Rattle.std.proofs.lemmas.List.{length-map}
-use Rattle.std.proofs.lemmas.Option.{same_Some, slice_get_read}
+use Rattle.std.proofs.lemmas.Option.{same_Some}
 use Rattle.std.specs.Option.{ForSome}
 use Rattle.std.proofs.lemmas.Bool.Decides.{nat_tests}
 use Rattle.cdb_base.specs.Positions.{nth, set_nth}
@@ -33,7 +33,7 @@ use Rattle.cdb_rules.proofs.Stages.{sight_in, meets, is_due, process_after}
 use Rattle.cdb_rules.specs.declared.progress.Progress.{Progress}
 use Rattle.cdb_rules.proofs.Bounds.{IsSound, event_sound, start_sound, writes_below}
 use Rattle.cdb_rules.proofs.Mails.{mail_left, postable, not_true}
-use Rattle.cdb_rules.proofs.Positions.{nth-map, map-set_nth, get_at, nth-set_nth_same, nth_within}
+use Rattle.cdb_rules.proofs.Positions.{nth-map, map-set_nth, nth-set_nth_same, nth_within}
 use Rattle.cdb_rules.proofs.Taken.{IsTaken, taken_from, parts, some_of, both, where_true}
 
 -- a write finds its register
@@ -119,12 +119,6 @@ module _ {L B : Type 0} {machine : Machine L} {before : L → B → L} where
 
       pub within : p ≤ length processes
       within = nth_within processes p taken.process.progress held_at
-
-      -- what stands at the position i from 0
-      pub held_there : (i : ℕ) (progress : Progress L) → i + 1 ≡ p → progress ≡ get_or processes i progress → nth processes p ≡ Some progress
-      held_there i progress position read =
-          let below : i < length processes = (let w = within in omega (arith, position, w)) in
-          sym (get_at processes i p position) ∙ slice_get_read processes (length processes) i progress refl below read
 
       module _ (progress : Progress L) (held : nth processes p ≡ Some progress) where
         is : progress ≡ taken.process.progress

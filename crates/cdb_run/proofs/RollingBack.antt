@@ -38,13 +38,15 @@ module _ (before : List Event) (at : ℕ) (into : List Event) (first : Event) (s
       subst (λ l. AreLeft before at into before l into) (sym (are ∙ split))
       (record { still = (split, refl); went = ap (λ l. into ++ reverse l) (sym split) })
 
-  pub next_free : {history removed : List Event} (rest : List Event) (event : Event) → AreLeft before at into history (rest ++ event ∷ []) removed → IsNextFree before at into history rest event removed
+  pub next_free : {history removed : List Event} (rest : List Event) (event : Event) → AreLeft before at into history (rest ++ event ∷ []) removed
+      → IsNextFree before at into history rest event removed
   next_free {history = history} {removed = removed} rest event left = by rest left.still went
     where
       went : (removed ++ event ∷ []) ++ reverse rest ≡ into ++ reverse (rolled_back depends before at)
       went = append_assoc removed (event ∷ []) (reverse rest) ∙ ap (λ l. removed ++ l) (sym (reverse-append rest (event ∷ []))) ∙ left.went
 
-      by : (rest : List Event) → AreStillIn before at history (rest ++ event ∷ []) → (removed ++ event ∷ []) ++ reverse rest ≡ into ++ reverse (rolled_back depends before at) → IsNextFree before at into history rest event removed
+      by : (rest : List Event) → AreStillIn before at history (rest ++ event ∷ [])
+          → (removed ++ event ∷ []) ++ reverse rest ≡ into ++ reverse (rolled_back depends before at) → IsNextFree before at into history rest event removed
       by [] still went =
           let alone = rolled_back_alone depends history at from_one event still.0 in
           record { position = at; stands = alone.0; free = alone.1; then = record { still = alone.2 ∙ still.1; went = went } }
@@ -54,7 +56,8 @@ module _ (before : List Event) (at : ℕ) (into : List Event) (first : Event) (s
 
 -- once none is left
 module _ {before : List Event} {at : ℕ} {into history removed : List Event} where
-  all_back : (events : List Event) {len : ℕ} → len ≡ length events → len ≡ 0 → AreLeft before at into history events removed → AreLeft before at into history [] removed
+  all_back : (events : List Event) {len : ℕ} → len ≡ length events → len ≡ 0 → AreLeft before at into history events removed
+      → AreLeft before at into history [] removed
   all_back [] long none left = left
   all_back (event ∷ events) long none left = absurd (omega (arith, long, none))
 

@@ -23,7 +23,7 @@ use Rattle.cdb_standing.proofs.Ordered.{has_left, has_right, has_cases, each_onl
 use Rattle.cdb_standing.proofs.Rows.{same_at, row_is, is_row, each_one_only, each_one_has}
 use Rattle.cdb_standing.proofs.Sorting.{IsOnce, once_none, once_one, once_append, once_each, once_each_one, sorted_rises, moved_has, moved_only, moved_once}
 
-drop_get : {A : Type 0} (n : ℕ) (xs : List A) (i : ℕ) → slice_get (drop n xs) i ≡ slice_get xs (n + i)
+pub drop_get : {A : Type 0} (n : ℕ) (xs : List A) (i : ℕ) → slice_get (drop n xs) i ≡ slice_get xs (n + i)
 drop_get zero xs i = let e : i ≡ 0 + i = omega arith in ap (slice_get xs) e
 drop_get (suc n) [] i = refl
 drop_get (suc n) (x ∷ xs) i = let e : suc (n + i) ≡ suc n + i = omega arith in drop_get n xs i ∙ ap (slice_get (x ∷ xs)) e

@@ -1,51 +1,58 @@
 -- The steps of a process in the history, and their numbers.
-use Rattle.std.proofs.Common.{◌≡◌, ℕ, zero, suc, ◌+◌, ◌<◌, Bool, true, false, cond, List, [], ◌∷◌, length, slice_get, Some, filter, inl, inr, refl, sym, ap, ◌∙◌, subst, true≢false, eqb-true, eq-eqb, arith}
+use Rattle.std.proofs.Common.{◌≡◌, ℕ, zero, suc, ◌+◌, ◌<◌, ◌≤◌, Bool, true, false, cond, List, [], ◌∷◌, length, slice_get, Some, filter, inl, inr, refl, sym, ap, ◌∙◌, subst, true≢false, eqb-true, eq-eqb, arith}
 use Rattle.std.proofs.lemmas.Option.{none-some, same_Some}
 use Rattle.cdb_base.specs.Event.{event_name, is_step_of}
 use Rattle.cdb_base.specs.Positions.{nth}
 use Rattle.cdb_base.specs.declared.event.Event.{Event}
 use Rattle.cdb_base.specs.declared.event.Event.TheVariants as event
+use Rattle.cdb_base.specs.declared.name.StepId.{StepId}
 use Rattle.cdb_base.specs.declared.name.StepId.TheVariants as named
+use Rattle.cdb_base.specs.declared.name.StepName.{StepName}
 use Rattle.cdb_standing.specs.Comparing.{steps_by, AreNumbered}
 use Rattle.cdb_standing.specs.InOrder.{Marked, Has, IsRising, each_from, events_of}
+use Rattle.cdb_standing.specs.Moves.{HasStep, IsEndOf, IsStandingName}
 use Rattle.cdb_standing.specs.Tables.{row_of, step_at, history_of, standing, IsSound, Stands}
 use Rattle.cdb_standing.specs.declared.tables.Entry.{Entry}
 use Rattle.cdb_standing.specs.declared.tables.Sent.{Sent}
 use Rattle.cdb_standing.proofs.Adding.{marked}
 use Rattle.cdb_standing.proofs.Finding.{row_rising}
 use Rattle.cdb_standing.proofs.Listed.{standing_rising, standing_only, standing_has}
-use Rattle.cdb_standing.proofs.Ordered.{each_only, same_list}
-use Rattle.cdb_standing.proofs.Rows.{each_one_only, each_one_has}
+use Rattle.cdb_standing.proofs.Ordered.{has_at, at_has, each_only, same_list}
+use Rattle.cdb_standing.proofs.Rows.{nth_some, each_one_only, each_one_has}
+use Rattle.cdb_standing.proofs.Places.{step_named}
+
+-- what passes a test
+
+module _ {A : Type 0} (test : A → Bool) where
+  pub passing_only : (xs : List A) (x : A) → Has (filter test xs) x → Has xs x × (test x ≡ true)
+  passing_only [] x h = absurd h
+  passing_only (z ∷ xs) x h = by (test z) refl h (passing_only xs x)
+    where
+      by : (b : Bool) → test z ≡ b → Has (cond b (z ∷ filter test xs) (filter test xs)) x → (Has (filter test xs) x → Has xs x × (test x ≡ true)) → Has (z ∷ xs) x × (test x ≡ true)
+      by true e (inl same) again = (inl same, ap test (sym same) ∙ e)
+      by true e (inr h) again = let found = again h in (inr found.0, found.1)
+      by false e h again = let found = again h in (inr found.0, found.1)
+
+  pub passing_has : (xs : List A) (x : A) → Has xs x → test x ≡ true → Has (filter test xs) x
+  passing_has [] x h is = absurd h
+  passing_has (z ∷ xs) x h is = by (test z) refl h (λ q. passing_has xs x q is)
+    where
+      by : (b : Bool) → test z ≡ b → Has (z ∷ xs) x → (Has xs x → Has (filter test xs) x) → Has (cond b (z ∷ filter test xs) (filter test xs)) x
+      by true e (inl same) again = inl same
+      by true e (inr h) again = inr (again h)
+      by false e (inl same) again = absurd (true≢false (sym is ∙ ap test (sym same) ∙ e))
+      by false e (inr h) again = again h
 
 module _ (p : ℕ) where
   abbrev is_its : Marked → Bool
   is_its x = is_step_of p x.event
-
-  its_only : (xs : List Marked) (x : Marked) → Has (filter is_its xs) x → Has xs x × (is_its x ≡ true)
-  its_only [] x h = absurd h
-  its_only (z ∷ xs) x h = by (is_its z) refl h (its_only xs x)
-    where
-      by : (b : Bool) → is_its z ≡ b → Has (cond b (z ∷ filter is_its xs) (filter is_its xs)) x → (Has (filter is_its xs) x → Has xs x × (is_its x ≡ true)) → Has (z ∷ xs) x × (is_its x ≡ true)
-      by true e (inl same) again = (inl same, ap is_its (sym same) ∙ e)
-      by true e (inr h) again = let found = again h in (inr found.0, found.1)
-      by false e h again = let found = again h in (inr found.0, found.1)
-
-  its_has : (xs : List Marked) (x : Marked) → Has xs x → is_its x ≡ true → Has (filter is_its xs) x
-  its_has [] x h is = absurd h
-  its_has (z ∷ xs) x h is = by (is_its z) refl h (λ q. its_has xs x q is)
-    where
-      by : (b : Bool) → is_its z ≡ b → Has (z ∷ xs) x → (Has xs x → Has (filter is_its xs) x) → Has (cond b (z ∷ filter is_its xs) (filter is_its xs)) x
-      by true e (inl same) again = inl same
-      by true e (inr h) again = inr (again h)
-      by false e (inl same) again = absurd (true≢false (sym is ∙ ap is_its (sym same) ∙ e))
-      by false e (inr h) again = again h
 
   its_rising : (xs : List Marked) → IsRising xs → IsRising (filter is_its xs)
   its_rising [] rising = tt
   its_rising (z ∷ xs) rising = by (is_its z) (its_rising xs rising.1)
     where
       by : (b : Bool) → IsRising (filter is_its xs) → IsRising (cond b (z ∷ filter is_its xs) (filter is_its xs))
-      by true again = ((λ x h. rising.0 x (its_only xs x h).0), again)
+      by true again = ((λ x h. rising.0 x (passing_only is_its xs x h).0), again)
       by false again = again
 
   its_events : (xs : List Marked) → steps_by p (events_of xs) ≡ events_of (filter is_its xs)
@@ -107,8 +114,8 @@ module _ (next : ℕ) (steps : List (List Entry)) (sent : List (List Sent)) (sou
       its_events p (standing steps sent)
       ∙ ap events_of
       (same_list (filter (is_its p) (standing steps sent)) (each_from (step_at p) 1 row) (its_rising p (standing steps sent) (standing_rising steps sent)) (rows_rise p 1 row (row_rising next steps sent sound p))
-      (λ x h. let of = its_only p (standing steps sent) x h in in_row x (standing_only steps sent x of.0) of.1)
-      (λ x h. let of = of_row x h in its_has p (standing steps sent) x (standing_has steps sent sound.single x.mark x.event of.0) of.1))
+      (λ x h. let of = passing_only (is_its p) (standing steps sent) x h in in_row x (standing_only steps sent x of.0) of.1)
+      (λ x h. let of = of_row x h in passing_has (is_its p) (standing steps sent) x (standing_has steps sent sound.single x.mark x.event of.0) of.1))
 
   pub steps_counted : length row ≡ length (steps_by p (history_of steps sent))
   steps_counted = sym (ap length steps_are ∙ row_length p 1 row)
@@ -118,3 +125,32 @@ module _ (next : ℕ) (steps : List (List Entry)) (sent : List (List Sent)) (sou
   are_numbered (suc i) it at =
       let e : 1 + i ≡ suc i = omega arith in
       row_named p 1 row i it (sym (ap (λ l. slice_get l i) steps_are) ∙ at) ∙ ap (λ k. named.Step (record { p = p; k = k })) e
+
+-- each number up to the count is that of a step
+module _ (p : ℕ) (history : List Event) where
+  pub step_there : AreNumbered p history → (k : ℕ) → 1 ≤ k → k ≤ length (steps_by p history) → IsStandingName history (named.Step (record { p = p; k = k }))
+  step_there numbered zero one few = absurd (omega arith)
+  step_there numbered (suc i) one few =
+      let found = nth_some (steps_by p history) (suc i) one few in
+      let there = has_at history found.0 (passing_only (is_step_of p) history found.0 (at_has (steps_by p history) i found.0 found.1)).0 in
+      (suc there.0, (found.0, there.1, numbered (suc i) found.0 found.1))
+
+  has : (k : ℕ) → IsStandingName history (named.Step (record { p = p; k = k })) → HasStep history p k
+  has k h = by h.1.0 h.1.1 h.1.2
+    where
+      by : (it : Event) → nth history h.0 ≡ Some it → event_name it ≡ named.Step (record { p = p; k = k }) → HasStep history p k
+      by (event.Step q l kind) there name =
+          let same : step_named q l ≡ step_named p k = cc in
+          (kind, (h.0, there ∙ ap (λ (x : StepName). Some (event.Step x.p x.k kind)) same))
+      by (event.Lost copy) there name = absurd (cc)
+
+  -- so the last step is that of the count
+  pub last_number : (k l : ℕ) → AreNumbered p history → k ≡ length (steps_by p history) → IsEndOf history p k → IsEndOf history p l → IsStandingName history (named.Step (record { p = p; k = l })) → l ≡ k
+  last_number zero l numbered count end other_end other = let low = end l (has l other) in omega arith
+  last_number (suc i) l numbered count end other_end other =
+      let high = other_end (suc i) (has (suc i) (step_there numbered (suc i) (omega arith) (omega arith))) in let low = end l (has l other) in omega arith
+
+  pub last_named : (k : ℕ) (name : StepId) → AreNumbered p history → k ≡ length (steps_by p history) → IsEndOf history p k → (l : ℕ) → name ≡ named.Step (record { p = p; k = l }) → IsEndOf history p l → IsStandingName history name
+      → named.Step (record { p = p; k = k }) ≡ name
+  last_named k name numbered count end l is other_end standing =
+      ap (λ n. named.Step (record { p = p; k = n })) (sym (last_number k l numbered count end other_end (subst (IsStandingName history) is standing))) ∙ sym is

@@ -21,6 +21,7 @@ use crate::copies::{has_copies, has_copy};
 use crate::cuts::cuts_at;
 use crate::dependents::first_of_step;
 use crate::find::find_in;
+use crate::may::{is_next_step, is_pending, may_do};
 use crate::order::{in_order, one_event};
 use crate::past::past_in;
 use crate::table::{empty_rows, item};
@@ -175,6 +176,19 @@ impl History {
         }
     }
 
+    /// Whether an event may be added at the end: the next step of its process, which sends that process's next message, or
+    /// receives a copy that was neither received nor lost, or does neither; or the loss of such a copy.
+    pub fn may_come(&self, event: &Event) -> bool
+        ensures { IsTrue result ↔ MayCome self.now event.now }
+    {
+        match event {
+            Event::Step { p, k, kind } => {
+                is_next_step(&self.tables, *p, *k) && may_do(&self.tables, *p, kind)
+            }
+            Event::Lost(copy) => is_pending(&self.tables, copy),
+        }
+    }
+
     /// The event of that name, if it stands.
     pub fn find(&self, name: StepId) -> Option<Event>
         ensures { MatchOption result (IsNewName self.now name) (IsNamed self.now name) }
@@ -185,6 +199,7 @@ impl History {
     /// How many steps of a process stand: those of the numbers from 1 to that one.
     pub fn steps_of(&self, p: Proc) -> u16
         ensures count { result ≡ length (steps_by p self.now) }
+        ensures end { IsEndOf self.now p result }
         ensures numbered { AreNumbered p self.now }
     {
         self.tables.steps[p.index()].len() as u16

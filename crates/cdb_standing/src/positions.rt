@@ -7,12 +7,14 @@ ghost use Rattle.cdb_base.specs.Positions.{nth};
 ghost use Rattle.cdb_causal.specs.Causality.{IsFree};
 ghost use Rattle.cdb_causal.specs.Dependence.{depends as depends_of};
 ghost use Rattle.cdb_causal.specs.DirectCauses.{AreDirectCauses};
+ghost use Rattle.cdb_causal.specs.DirectDependents.{is_direct as is_direct_of, CountsDirectDependents};
 ghost use Rattle.cdb_causal.specs.Names.{IsNamedAt, IsNewName, IsPositionOf, IsFirstDependentOrFree};
 ghost use Rattle.cdb_causal.specs.Rollback.{without, consequences as consequences_of};
 ghost use Rattle.cdb_standing.specs.Moves.{IsFreeAlone};
 
 use crate::history::History;
 use cdb_base::{Event, Kind, NoMemory, Reg, StepId};
+use cdb_causal::depends;
 use smallvec::SmallVec;
 use std::alloc::Global;
 
@@ -26,6 +28,33 @@ fn place_of(events: &[Event], name: StepId) -> Option<usize>
         }
     }
     None
+}
+
+/// Whether an event depends on a cause directly: on none of those between that depends on the cause.
+fn is_direct(cause: &Event, between: &[Event], event: &Event) -> bool
+    ensures { result ≡ is_direct_of depends_of cause.now between.now event.now }
+{
+    for other in between {
+        if depends(cause, other) && depends(other, event) {
+            return false;
+        }
+    }
+    depends(cause, event)
+}
+
+/// How many events of a list depend directly on the one at a position.
+pub(crate) fn count_direct(events: &[Event], at: usize) -> usize
+    requires from_one { 1 ≤ at }
+    requires to_len { at ≤ length events.now }
+    ensures { CountsDirectDependents depends_of events.now at result }
+{
+    let mut count = 0;
+    for j in at..events.len() {
+        if is_direct(&events[at - 1], &events[at..j], &events[j]) {
+            count += 1;
+        }
+    }
+    count
 }
 
 impl History {

@@ -1,19 +1,35 @@
 //! The standing events with what restores the state before each.
 
-ghost use Rattle.std.specs.Prelude.{◌≡◌, [], ◌∷◌, ◌++◌, Ok, IfErr, IfOk, OnOk, OnErr};
+ghost use Rattle.std.specs.Prelude.{◌≡◌, [], ◌∷◌, ◌++◌, Ok, IsTrue, IfErr, IfOk, OnOk, OnErr, ◌↔◌};
 ghost use Rattle.std.specs.Fn.{FnOnceReturnsAtMut, FnOnceTakesAtMut};
 ghost use Rattle.cdb_base.specs.declared.event.Event.TheVariants.{Step, Lost};
 ghost use Rattle.cdb_base.specs.declared.name.StepId.TheVariants as named;
 ghost use Rattle.cdb_causal.specs.Changing.{HasFailed};
+ghost use Rattle.cdb_causal.specs.Names.{IsNewName};
 ghost use Rattle.cdb_standing.specs.Moves.{MayCome, IsFreeAlone};
-ghost use Rattle.cdb_standing.specs.Recorded.{events_of, nothing, recorded_of, IsAddedBy, IsRecordTakenOut};
+ghost use Rattle.cdb_standing.specs.Recorded.{events_of, nothing, recorded_of, IsAddedBy, IsRecordTakenOut, IsLastOf, TakesFree, IsCountOf, IsZeroWhereFree};
 
 use crate::history::History;
-use crate::recorded::Left;
+use crate::positions::count_direct;
+use crate::recorded::{Left, Recorded};
 use crate::table::{empty_rows, put_on, reserve_in, take_last};
-use cdb_base::{CopyName, Kind, NoMemory, Proc};
+use cdb_base::{CopyName, Event, Kind, NoMemory, Proc, StepId, StepName};
 use std::alloc::Global;
 use std::marker::Model;
+
+/// Whether the event of that name stands, and none depends on it.
+fn is_free(history: &History, name: StepId) -> bool
+    ensures { IsTrue result ↔ IsFreeAlone history.now name }
+{
+    let again = name;
+    if history.find(again).is_none() {
+        return false;
+    }
+    match history.first_dependent(name) {
+        Some(_) => false,
+        None => true,
+    }
+}
 
 /// The standing events, each with what restores the state before it. A contract sees the list of recorded events, in
 /// the order in which they were taken.
@@ -107,6 +123,39 @@ impl<B: Drop> Records<B> {
         Ok(())
     }
 
+    /// Adds the `k`-th step of process `p`, which is its next, at the end, with what it left. After `NoMemory` nothing is
+    /// added, and what it left is given up.
+    pub fn push(&mut self, p: Proc, k: u16, kind: Kind, left: Left<B>) -> Result<(), NoMemory>
+        requires { MayCome (events_of self.old) (Step p k kind) }
+        ensures ok { OnOk result (self.new ≡ self.old ++ recorded_of (Step p k kind) left ∷ []) }
+        ensures err { OnErr result (self.new ≡ self.old) }
+    {
+        self.push_with(p, k, kind, &mut (), |_| Ok(left))
+    }
+
+    /// Adds the loss of a copy at the end, which was neither received nor lost; it leaves nothing. After `NoMemory`
+    /// nothing is added.
+    pub fn push_loss(&mut self, copy: CopyName) -> Result<(), NoMemory>
+        requires { MayCome (events_of self.old) (Lost copy) }
+        ensures ok { OnOk result (self.new ≡ self.old ++ recorded_of (Lost copy) nothing ∷ []) }
+        ensures err { OnErr result (self.new ≡ self.old) }
+    {
+        self.push_loss_with(copy, &mut (), |_| Ok(()))
+    }
+
+    /// How many standing events have the event of that name as a direct cause: 0 exactly where none depends on it, and 0
+    /// where no event has the name. The history is listed for it, which takes memory.
+    pub fn count_of(&self, alloc: Global, name: StepId) -> Result<usize, NoMemory>
+        ensures count { IfOk result (IsCountOf (events_of self.now) name) }
+        ensures free { IfOk result (IsZeroWhereFree (events_of self.now) name) }
+        ensures none { IfOk result (λ count. IsNewName (events_of self.now) name → count ≡ 0) }
+    {
+        match self.history.position(alloc, name)? {
+            Some(at) => Ok(count_direct(&self.history.to_vec(alloc)?, at)),
+            None => Ok(0),
+        }
+    }
+
     /// Takes out the last step of a process, on which nothing depends, and returns what it did and what it left. It takes
     /// no memory.
     pub fn take_step(&mut self, p: Proc, k: u16) -> (Kind, Left<B>)
@@ -125,5 +174,40 @@ impl<B: Drop> Records<B> {
         ensures { IsRecordTakenOut self.old (named.Lost copy) (recorded_of (Lost copy) nothing) self.new }
     {
         self.history.take_loss(copy);
+    }
+
+    /// Takes the last step of a process out, where one stands and nothing depends on it; else nothing changes. It takes no
+    /// memory.
+    pub fn take_last_of(&mut self, p: Proc) -> Option<Recorded<B>>
+        ensures { TakesFree (IsLastOf (events_of self.old) p) result self.old self.new }
+    {
+        let k = self.history.steps_of(p);
+        if !is_free(&self.history, StepId::Step(StepName { p, k })) {
+            return None;
+        }
+        let (kind, left) = self.take_step(p, k);
+        let Left { back, overwritten } = left;
+        Some(Recorded {
+            event: Event::Step { p, k, kind },
+            back,
+            overwritten,
+        })
+    }
+
+    /// Takes the loss of a copy out, where it stands; else nothing changes. It takes no memory.
+    pub fn take_lost(&mut self, copy: CopyName) -> Option<Recorded<B>>
+        ensures { TakesFree (λ name. name ≡ named.Lost copy) result self.old self.new }
+    {
+        let again = copy;
+        let event = Event::Lost(copy);
+        if !is_free(&self.history, event.name()) {
+            return None;
+        }
+        self.take_loss(again);
+        Some(Recorded {
+            event,
+            back: None,
+            overwritten: None,
+        })
     }
 }

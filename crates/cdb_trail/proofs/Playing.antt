@@ -1,20 +1,20 @@
 -- A run that is played again up to a step.
-use Rattle.std.proofs.Common.{length-append, ◌≡◌, ℕ, suc, ◌+◌, ◌<◌, ◌≤◌, ◌⊎◌, inl, inr, List, [], ◌∷◌, ◌++◌, length, take, drop, Option, Some, None, IsSome, get_or, slice_get, sym, ap, subst, ◌∙◌, arith}
+use Rattle.std.proofs.Common.{length-append, ◌≡◌, ℕ, suc, ◌+◌, ◌<◌, ◌⊎◌, inl, inr, List, [], ◌∷◌, ◌++◌, length, take, drop, Some, None, IsSome, get_or, slice_get, sym, ap, subst, ◌∙◌, arith}
 use Rattle.std.proofs.lemmas.Bool.{cases_eq}
 use Rattle.std.proofs.lemmas.List.{take-append-drop}
 use Rattle.std.proofs.lemmas.Option.{none-some, same_Some, slice_get-get_or}
 use Rattle.cdb_base.specs.declared.event.Event.{Event}
 use Rattle.cdb_causal.proofs.Lists.{push_back, push_front}
 use Rattle.cdb_causal.proofs.Reaches.{reached_front_some}
-use Rattle.cdb_past.proofs.Pairing.{one_more}
+use Rattle.cdb_past.proofs.Beginnings.{one_more}
 use Rattle.cdb_process.specs.Table.{Table}
 use Rattle.cdb_rules.specs.RunView.{RunView}
 use Rattle.cdb_rules.specs.Runs.{IsInOrder, machine_in, state_in, with_event, with_history}
-use Rattle.cdb_rules.specs.State.{Machine, RunState, start}
-use Rattle.cdb_rules.specs.Step.{after, fold, IsValid, state_of}
+use Rattle.cdb_rules.specs.State.{start}
+use Rattle.cdb_rules.specs.Step.{after, fold}
 use Rattle.cdb_trail.specs.Flow.{Spot, Flow, Flows, flow_of, value_at}
 use Rattle.cdb_trail.specs.Played.{AreFirstFlows}
-use Rattle.cdb_trail.specs.Trails.{flow_at, flow_in, state_before, Takes, Sets, TakesValue}
+use Rattle.cdb_trail.specs.Trails.{flow_at, flow_in, state_before, Takes, TakesValue}
 
 -- what is read at a position is what stands there
 pub read_is : {A : Type 0} (xs : List A) (i : ℕ) (x y : A) → i < length xs → x ≡ get_or xs i x → slice_get xs i ≡ Some y → x ≡ y

@@ -82,9 +82,9 @@ pub(crate) fn play_before<P: Flowing>(
 {
     let mut again = Run::start(alloc, run.setup().copy(alloc)?)?;
     let mut flows = Vec::new(alloc);
-    let history = run.history();
+    let events = run.events();
     for i in 0..count {
-        let event = history.event(i);
+        let event = &events[i];
         flows.push(flow_of(&again, event))?;
         take_next(alloc, &mut again, event)?;
     }

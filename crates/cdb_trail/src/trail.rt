@@ -41,8 +41,8 @@ fn trail_by<P: Flowing>(
 {
     let count = position - 1;
     let (before, flows) = play_before::<P>(alloc, run, count)?;
-    let history = run.history();
-    let flow = flow_of(&before, history.event(count));
+    let events = run.events();
+    let flow = flow_of(&before, &events[count]);
     match flow.takes() {
         Some(from) => match value_at(&before, &from) {
             Some(value) => {

@@ -56,8 +56,7 @@ pub(crate) fn walk_back<P: Flowing>(
         × IsTrailTo P.table P.flows run.now found.0 (length flows.now + 1) trail
         × FlagsTrail (length run.now.history) trail found.1.items) }
 {
-    let history = run.history();
-    let mut flags = Vec::from_elem(alloc, false, history.len())?;
+    let mut flags = Vec::from_elem(alloc, false, run.events().len())?;
     flags[flows.len()] = true;
     let mut wanted = from;
     for i in (0..flows.len()).rev() {

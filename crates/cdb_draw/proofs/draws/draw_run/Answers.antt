@@ -12,10 +12,12 @@ returns-in_err-flags g c =
 pub returns-in_err-write_picture : goal.returns-in_err-write_picture
 returns-in_err-write_picture g c =
     let p = err_from_is_err_and c.from_residual-in_err-write_picture.result c.from_residual-in_err-write_picture.ensures.1 in
-    let wrote = rw (c.as_slice.ensures.value, c.grid_of-grid.ensures.value, c.setup.ensures, c.len.ensures.count, c.history-history.ensures) at c.in_err-write_picture.ensures in
-    rw (p.1, p.2) (only_as g.W.Sink.stream (pieces_ending {A = Unit {0}} (Err c.in_err-write_picture.field-0.0)) _ _ _ _ (c.in_ok-flags.flags.items, c.in_ok-flags.ensures.full, refl) wrote)
+    let wrote = rw (c.as_slice.ensures.value, c.grid_of-grid.ensures.value, c.setup.ensures, c.events.ensures) at c.in_err-write_picture.ensures in
+    rw (p.1, p.2)
+    (only_as g.W.Sink.stream (pieces_ending {A = Unit {0}} (Err c.in_err-write_picture.field-0.0)) _ _ _ _
+    (c.in_ok-flags.flags.items, c.in_ok-flags.ensures.full, refl) wrote)
 
 pub returns : goal.returns
 returns g c =
-    let wrote = rw (c.as_slice.ensures.value, c.grid_of-grid.ensures.value, c.setup.ensures, c.len.ensures.count, c.history-history.ensures) at c.in_ok-write_picture.ensures in
+    let wrote = rw (c.as_slice.ensures.value, c.grid_of-grid.ensures.value, c.setup.ensures, c.events.ensures) at c.in_ok-write_picture.ensures in
     only_as g.W.Sink.stream Complete _ _ _ _ (c.in_ok-flags.flags.items, c.in_ok-flags.ensures.full, refl) wrote

@@ -1,5 +1,6 @@
-use Rattle.std.proofs.Common.{◌≡◌, ◌<◌, ◌-◌, false, get_or, length, refl, arith}
+use Rattle.std.proofs.Common.{◌≡◌, ◌<◌, ◌-◌, false, get_or, length, refl, ap, arith}
 use Rattle.cdb_causal.proofs.FromOne.{by_next}
+use Rattle.cdb_past.proofs.Flagged.{item_at}
 use Rattle.cdb_explain.proofs.Flagging.{flag_read}
 use Rattle.cdb_explain.specs.Explanations.{run_after}
 use Rattle.cdb_explain.specs.Flagged.{is_flagged}
@@ -13,13 +14,14 @@ returns g c =
     let grid = c.args.grid in
     let flags = c.args.flags.now in
     let i = c.args.position - 1 in
-    let event = c.event-event.result.now in
+    let event = c.index-events-position.result in
     let full = get_or flags i false in
     let rules = g.T.Runs.rules in
     let after = g.T.Runs.run c.args.after.now in
     let within : i < length flags = omega arith in
-    let at = rw c.history-history.ensures at c.event-event.ensures in
-    let standing = rw c.history-history.ensures at c.len-standing.ensures.standing in
-    let flagged = by_next (λ n. is_flagged flags n ≡ full) c.args.position c.requires.from_one (flag_read flags i false full within refl) in
-    rw (by_next (λ n. after ≡ run_after run n → is_flagged flags n ≡ full → mark_text rules grid after after full n event ≡ mark_at rules grid run flags n) c.args.position c.requires.from_one
-    (λ is marked. mark_of_last rules grid g.T.Runs.same_state g.met.T.Runs.histories run flags i event standing at after is full marked) c.requires.after flagged) at c.put_mark.ensures
+    let at = item_at c.events-events.ensures i event (omega (arith, ap length c.events-events.ensures)) c.index-events-position.is in
+    let flagged = by_next (λ n. is_flagged flags n ≡ full) c.args.position c.requires.from_one
+    (flag_read flags i false full within refl) in
+    rw (by_next
+    (λ n. after ≡ run_after run n → is_flagged flags n ≡ full → mark_text rules grid after after full n event ≡ mark_at rules grid run flags n) c.args.position c.requires.from_one
+    (λ is marked. mark_of_last rules grid g.T.Runs.same_state g.met.T.Runs.histories run flags i event c.requires.standing at after is full marked) c.requires.after flagged) at c.put_mark.ensures

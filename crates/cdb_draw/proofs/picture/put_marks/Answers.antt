@@ -2,6 +2,7 @@ use Rattle.cdb_base.specs.Memory.{no_memory}
 use Rattle.std.proofs.Common.{rules, ◌+◌, ◌<◌, ◌≡◌, length, ap, arith}
 use Rattle.std.proofs.lemmas.Result.{err_from_is_err_and}
 use Rattle.cdb_draw.specs.EventMarks.{mark_at}
+use Rattle.cdb_past.proofs.Flagged.{item_at}
 use Rattle.cdb_explain.proofs.Along.{next_along, next_valid}
 use Rattle.cdb_streams.specs.declared.buffer.OutputFault.TheVariants.{NoMemory}
 use Rattle.cdb_streams.proofs.Putting.{put_nothing, puts_nothing}
@@ -13,14 +14,19 @@ returns-in_err-again g c = search (rules, puts_nothing)
 
 pub take_next-requires : goal.take_next-requires
 take_next-requires g c =
-    let at = rw c.history-history.ensures at c.event-event.ensures in
+    let at = item_at c.events-events.ensures c.loop-i.i c.index-events-i.result (omega arith) c.index-events-i.is in
     let range = rw c.setup.ensures at c.n-ranges.ensures.ranges in
-    next_valid g.T.Runs.rules g.T.Runs.same_state g.met.T.Runs.histories c.args.run.now c.loop-i.i c.event-event.result.now at _ c.loop-i.invariant.again range c.requires.valid
+    next_valid g.T.Runs.rules g.T.Runs.same_state g.met.T.Runs.histories c.args.run.now c.loop-i.i c.index-events-i.result at _ c.loop-i.invariant.again range c.requires.valid
+
+pub put_mark_at-requires-clause-standing : goal.put_mark_at-requires-clause-standing
+put_mark_at-requires-clause-standing g c =
+    let range = rw c.setup.ensures at c.n-ranges.ensures.ranges in
+    (g.met.T.Runs.histories c.args.run.now.setup range).standing c.args.run.now.history c.requires.valid
 
 pub put_mark_at-requires-clause-after : goal.put_mark_at-requires-clause-after
 put_mark_at-requires-clause-after g c =
-    let at = rw c.history-history.ensures at c.event-event.ensures in
-    next_along g.T.Runs.rules g.T.Runs.same_state g.met.T.Runs.histories c.args.run.now c.loop-i.i c.event-event.result.now at _ c.loop-i.invariant.again _ c.in_ok-take_next.ensures
+    let at = item_at c.events-events.ensures c.loop-i.i c.index-events-i.result (omega arith) c.index-events-i.is in
+    next_along g.T.Runs.rules g.T.Runs.same_state g.met.T.Runs.histories c.args.run.now c.loop-i.i c.index-events-i.result at _ c.loop-i.invariant.again _ c.in_ok-take_next.ensures
 
 pub loop-i-init : goal.loop-i-init
 loop-i-init g c = record { again = c.in_ok-again.ensures; put = put_nothing g.W.Sink.stream _ _ }
@@ -28,24 +34,33 @@ loop-i-init g c = record { again = c.in_ok-again.ensures; put = put_nothing g.W.
 pub loop-i-preserved : goal.loop-i-preserved
 loop-i-preserved g c = record {
   again =
-      next_along g.T.Runs.rules g.T.Runs.same_state g.met.T.Runs.histories c.args.run.now c.loop-i.i c.event-event.result.now
-      (rw c.history-history.ensures at c.event-event.ensures) _ c.loop-i.invariant.again _ c.in_ok-take_next.ensures;
-  put = put_one g.W.Sink.stream (mark_at g.T.Runs.rules c.args.grid c.args.run.now c.args.flags.now) 1 c.loop-i.i (omega arith) c.loop-i.invariant.put c.in_ok-put_mark_at.ensures;
+      next_along g.T.Runs.rules g.T.Runs.same_state g.met.T.Runs.histories c.args.run.now c.loop-i.i c.index-events-i.result
+      (item_at c.events-events.ensures c.loop-i.i c.index-events-i.result (omega arith) c.index-events-i.is) _ c.loop-i.invariant.again _
+      c.in_ok-take_next.ensures;
+  put =
+      put_one g.W.Sink.stream (mark_at g.T.Runs.rules c.args.grid c.args.run.now c.args.flags.now) 1 c.loop-i.i (omega arith)
+      c.loop-i.invariant.put c.in_ok-put_mark_at.ensures;
 }
 
 pub returns-in_err-take_next : goal.returns-in_err-take_next
 returns-in_err-take_next g c =
     let p = err_from_is_err_and c.from_residual-in_err-take_next.result c.from_residual-in_err-take_next.ensures.1 in
-    let below : c.loop-i.i < length c.args.run.now.history = omega (arith, ap length c.history-history.ensures) in
-    rw (p.1, p.2) (cut_one g.W.Sink.stream (Unit {0}) (NoMemory no_memory) (mark_at g.T.Runs.rules c.args.grid c.args.run.now c.args.flags.now) _ _ 1 _ c.loop-i.i {k = c.loop-i.i + 1} (omega arith) below c.loop-i.invariant.put (puts_nothing g.W.Sink.stream _ _ _))
+    let below : c.loop-i.i < length c.args.run.now.history = omega (arith, ap length c.events-events.ensures) in
+    rw (p.1, p.2)
+    (cut_one g.W.Sink.stream (Unit {0}) (NoMemory no_memory)
+    (mark_at g.T.Runs.rules c.args.grid c.args.run.now c.args.flags.now) _ _ 1 _ c.loop-i.i {k = c.loop-i.i + 1}
+    (omega arith) below c.loop-i.invariant.put (puts_nothing g.W.Sink.stream _ _ _))
 
 pub returns-in_err-put_mark_at : goal.returns-in_err-put_mark_at
 returns-in_err-put_mark_at g c =
     let p = err_from_is_err_and c.from_residual-in_err-put_mark_at.result c.from_residual-in_err-put_mark_at.ensures.1 in
-    let below : c.loop-i.i < length c.args.run.now.history = omega (arith, ap length c.history-history.ensures) in
-    rw (p.1, p.2) (cut_one g.W.Sink.stream (Unit {0}) _ (mark_at g.T.Runs.rules c.args.grid c.args.run.now c.args.flags.now) _ _ 1 _ c.loop-i.i (omega arith) below c.loop-i.invariant.put c.in_err-put_mark_at.ensures)
+    let below : c.loop-i.i < length c.args.run.now.history = omega (arith, ap length c.events-events.ensures) in
+    rw (p.1, p.2)
+    (cut_one g.W.Sink.stream (Unit {0}) _
+    (mark_at g.T.Runs.rules c.args.grid c.args.run.now c.args.flags.now) _ _ 1 _ c.loop-i.i
+    (omega arith) below c.loop-i.invariant.put c.in_err-put_mark_at.ensures)
 
 pub returns : goal.returns
 returns g c =
-    let all : c.loop-i.i ≡ length c.args.run.now.history = omega (arith, ap length c.history-history.ensures) in
+    let all : c.loop-i.i ≡ length c.args.run.now.history = omega (arith, ap length c.events-events.ensures) in
     rw all at c.loop-i.invariant.put

@@ -3,4 +3,4 @@ use Rattle.cdb_draw.specs.Sends.{AreSendsOf}
 use Rattle.cdb_draw.proofs.sends.sends_of.Given as goal
 
 abbrev pub invariant-loop-i : goal.invariant-loop-i
-invariant-loop-i l = AreSendsOf l.sends (take l.i l.history)
+invariant-loop-i l = AreSendsOf l.sends (take l.i l.events)

@@ -1,4 +1,4 @@
-use Rattle.std.proofs.Common.{◌≡◌, ℕ, zero, suc, ◌+◌, ◌-◌, ◌<◌, ◌≤◌, false, List, Option, Some, slice_get, sym, ◌∙◌, arith}
+use Rattle.std.proofs.Common.{◌≡◌, ℕ, zero, suc, ◌+◌, ◌-◌, ◌<◌, ◌≤◌, false, List, Option, Some, slice_get, refl, sym, ◌∙◌, arith}
 use Rattle.std.proofs.lemmas.Option.{none-some}
 use Rattle.cdb_base.specs.Positions.{nth}
 use Rattle.cdb_base.specs.declared.event.Event.{Event}
@@ -24,7 +24,7 @@ returns-then-is_asked c =
     let event = c.index-events-i.result in
     record {
       event = event;
-      stands = rw (let next : i + 1 ≡ suc i = omega arith in next) (item_at c.args.events.now i event (omega arith) c.index-events-i.is);
+      stands = rw (let next : i + 1 ≡ suc i = omega arith in next) (item_at refl i event (omega arith) c.index-events-i.is);
       asked = sym c.is_asked.ensures ∙ c.if-is_asked.true;
       last = none_behind _ _ _ _ c.loop-i.invariant _ (omega arith);
     }

@@ -14,6 +14,7 @@ returns-clause-few g c =
     let range : AreInRange control.setup = subst AreInRange (c.setup.ensures ∙ c.into_run-run.ensures.setup) c.n-ranges.ensures.ranges in
     let few = few_events g.T.Runs.rules g.met.T.Runs.lawful control range c.journal-journal.ensures.seats in
     let limit : length control.journal ≤ 999999 = c.journal-journal.ensures.limit in
-    let within : length c.into_parts-setup.result.1 ≤ 999999 =
-    (let same = ap (λ (run : RunView). length run.history) c.into_parts-setup.ensures.run in let events = ap length c.into_run-run.ensures.history in omega arith) in
+    let same = ap (λ (run : RunView). length run.history) c.into_parts-setup.ensures.run in
+    let events = ap length c.into_run-run.ensures.history in
+    let within : length c.into_parts-setup.result.1 ≤ 999999 = omega arith in
     kept_as c.new.result (λ run is. rw is within) c.new.ensures

@@ -14,7 +14,7 @@ take_next-requires g c =
     let run : RunView = c.args.run.now in
     let i : ℕ = c.loop-i.i in
     let event : Event = c.index-events-i.result in
-    let at = rw c.events-events.ensures at (item_at c.events-events.result.now i event (omega arith) c.index-events-i.is) in
+    let at = item_at c.events-events.ensures i event (omega arith) c.index-events-i.is in
     let range : AreInRange run.setup = rw c.setup.ensures at c.n-ranges.ensures.ranges in
     next_valid g.T.Runs.rules g.T.Runs.same_state g.met.T.Runs.histories run i event at _ c.loop-i.invariant.again range c.requires.valid
 
@@ -26,7 +26,7 @@ loop-i-preserved g c =
     let event : Event = c.index-events-i.result in
     let so = c.loop-i.invariant in
     let later = g.T.Runs.run c.take_next.new.again in
-    let at = rw c.events-events.ensures at (item_at c.events-events.result.now i event (omega arith) c.index-events-i.is) in
+    let at = item_at c.events-events.ensures i event (omega arith) c.index-events-i.is in
     let within : i < length flags = omega (arith, ap length c.events-events.ensures) in
     let range : AreInRange run.setup = rw c.setup.ensures at c.n-ranges.ensures.ranges in
     let standing = (g.met.T.Runs.histories run.setup range).standing run.history c.requires.valid in

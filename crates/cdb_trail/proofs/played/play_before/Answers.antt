@@ -1,5 +1,6 @@
-use Rattle.std.proofs.Common.{◌≡◌, ℕ, ◌+◌, List, length, take, Some, slice_get, sym, ap, ◌∙◌, subst, arith, rules}
+use Rattle.std.proofs.Common.{◌≡◌, length, take, Some, slice_get, sym, ap, ◌∙◌, subst, arith, rules}
 use Rattle.cdb_base.specs.declared.event.Event.{Event}
+use Rattle.cdb_past.proofs.Flagged.{item_at}
 use Rattle.cdb_rules.specs.Runs.{with_history}
 use Rattle.cdb_trail.specs.Played.{AreFirstFlows}
 use Rattle.cdb_trail.proofs.Playing.{next_valid, next_along, flow_is, one_flow_more}
@@ -7,16 +8,18 @@ use Rattle.cdb_trail.proofs.played.play_before.Goals as goal
 
 pub take_next-requires : goal.take_next-requires
 take_next-requires g c =
-    let event : Event = c.event-event.result.now in
-    let at : slice_get c.args.run.now.history c.loop-i.i ≡ Some event = subst (λ (h : List Event). slice_get h c.loop-i.i ≡ Some event) c.history-history.ensures c.event-event.ensures in
+    let event : Event = c.index-events-i.result in
+    let within = ap length c.events-events.ensures in
+    let at = item_at c.events-events.ensures c.loop-i.i event (omega (arith, c.requires.within)) c.index-events-i.is in
     next_valid g.P.Process.table g.P.Flowing.flows c.args.run.now c.requires.valid c.loop-i.i event at c.loop-i.again c.loop-i.invariant.again
 
 pub loop-i-preserved : goal.loop-i-preserved
 loop-i-preserved g c =
     let table = g.P.Process.table in
     let flows = g.P.Flowing.flows in
-    let event : Event = c.event-event.result.now in
-    let at : slice_get c.args.run.now.history c.loop-i.i ≡ Some event = subst (λ (h : List Event). slice_get h c.loop-i.i ≡ Some event) c.history-history.ensures c.event-event.ensures in
+    let event : Event = c.index-events-i.result in
+    let within = ap length c.events-events.ensures in
+    let at = item_at c.events-events.ensures c.loop-i.i event (omega (arith, c.requires.within)) c.index-events-i.is in
     let along = c.loop-i.invariant.again in
     let is = flow_is table flows c.args.run.now c.loop-i.i event at c.loop-i.again along c.flow_of.result c.flow_of.ensures in
     record {

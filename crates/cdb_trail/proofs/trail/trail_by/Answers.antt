@@ -1,5 +1,6 @@
-use Rattle.std.proofs.Common.{◌≡◌, ℕ, suc, ◌+◌, ◌-◌, ◌≤◌, List, length, Some, None, slice_get, sym, ap, ◌∙◌, subst, arith}
+use Rattle.std.proofs.Common.{◌≡◌, ℕ, suc, ◌+◌, ◌-◌, List, length, Some, slice_get, sym, ap, ◌∙◌, subst, arith}
 use Rattle.cdb_base.specs.declared.event.Event.{Event}
+use Rattle.cdb_past.proofs.Flagged.{item_at}
 use Rattle.cdb_rules.specs.RunView.{RunView}
 use Rattle.cdb_rules.specs.Runs.{machine_in}
 use Rattle.cdb_trail.specs.Flow.{Flow}
@@ -16,8 +17,9 @@ returns g c =
     let i : ℕ = c.args.position - 1 in
     let first = c.requires.from_one in
     let e : suc i ≡ c.args.position = omega (arith, first) in
-    let event : Event = c.event.result.now in
-    let at : slice_get run.history i ≡ Some event = subst (λ (h : List Event). slice_get h i ≡ Some event) c.history-history.ensures c.event.ensures in
+    let event : Event = c.index-events-count.result in
+    let within = ap length c.events-events.ensures in
+    let at = item_at c.events-events.ensures i event (omega (arith, c.requires.to_len)) c.index-events-count.is in
     let along = c.in_ok-before.ensures.before in
     let is = flow_is table flows run i event at c.in_ok-before.before along c.flow_of-flow.result c.flow_of-flow.ensures in
     subst (λ n. (v : ℕ) → TakesValue (machine_in table run) flows run.history v n → ⊥) e
@@ -31,8 +33,9 @@ returns-in-Some g c =
     let i : ℕ = c.args.position - 1 in
     let first = c.requires.from_one in
     let e : suc i ≡ c.args.position = omega (arith, first) in
-    let event : Event = c.event.result.now in
-    let at : slice_get run.history i ≡ Some event = subst (λ (h : List Event). slice_get h i ≡ Some event) c.history-history.ensures c.event.ensures in
+    let event : Event = c.index-events-count.result in
+    let within = ap length c.events-events.ensures in
+    let at = item_at c.events-events.ensures i event (omega (arith, c.requires.to_len)) c.index-events-count.is in
     let along = c.in_ok-before.ensures.before in
     let is = flow_is table flows run i event at c.in_ok-before.before along c.flow_of-flow.result c.flow_of-flow.ensures in
     let takes = ap (λ (f : Flow g.row.P-Slot.Denot). f.takes) (sym is) ∙ sym c.takes.ensures ∙ c.in-Some.is in
@@ -47,8 +50,9 @@ walk_back-requires-clause-takes g c =
     let i : ℕ = c.args.position - 1 in
     let first = c.requires.from_one in
     let e : suc i ≡ c.args.position = omega (arith, first) in
-    let event : Event = c.event.result.now in
-    let at : slice_get run.history i ≡ Some event = subst (λ (h : List Event). slice_get h i ≡ Some event) c.history-history.ensures c.event.ensures in
+    let event : Event = c.index-events-count.result in
+    let within = ap length c.events-events.ensures in
+    let at = item_at c.events-events.ensures i event (omega (arith, c.requires.to_len)) c.index-events-count.is in
     let along = c.in_ok-before.ensures.before in
     let is = flow_is table flows run i event at c.in_ok-before.before along c.flow_of-flow.result c.flow_of-flow.ensures in
     let takes = ap (λ (f : Flow g.row.P-Slot.Denot). f.takes) (sym is) ∙ sym c.takes.ensures ∙ c.in-Some.is in
@@ -65,8 +69,9 @@ walk_back-requires-clause-has_trail g c =
     let i : ℕ = c.args.position - 1 in
     let first = c.requires.from_one in
     let e : suc i ≡ c.args.position = omega (arith, first) in
-    let event : Event = c.event.result.now in
-    let at : slice_get run.history i ≡ Some event = subst (λ (h : List Event). slice_get h i ≡ Some event) c.history-history.ensures c.event.ensures in
+    let event : Event = c.index-events-count.result in
+    let within = ap length c.events-events.ensures in
+    let at = item_at c.events-events.ensures i event (omega (arith, c.requires.to_len)) c.index-events-count.is in
     let along = c.in_ok-before.ensures.before in
     let is = flow_is table flows run i event at c.in_ok-before.before along c.flow_of-flow.result c.flow_of-flow.ensures in
     let takes = ap (λ (f : Flow g.row.P-Slot.Denot). f.takes) (sym is) ∙ sym c.takes.ensures ∙ c.in-Some.is in
@@ -83,8 +88,9 @@ returns-in-Some-value_at g c =
     let i : ℕ = c.args.position - 1 in
     let first = c.requires.from_one in
     let e : suc i ≡ c.args.position = omega (arith, first) in
-    let event : Event = c.event.result.now in
-    let at : slice_get run.history i ≡ Some event = subst (λ (h : List Event). slice_get h i ≡ Some event) c.history-history.ensures c.event.ensures in
+    let event : Event = c.index-events-count.result in
+    let within = ap length c.events-events.ensures in
+    let at = item_at c.events-events.ensures i event (omega (arith, c.requires.to_len)) c.index-events-count.is in
     let along = c.in_ok-before.ensures.before in
     let is = flow_is table flows run i event at c.in_ok-before.before along c.flow_of-flow.result c.flow_of-flow.ensures in
     let takes = ap (λ (f : Flow g.row.P-Slot.Denot). f.takes) (sym is) ∙ sym c.takes.ensures ∙ c.in-Some.is in

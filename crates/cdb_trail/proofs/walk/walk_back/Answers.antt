@@ -1,4 +1,4 @@
-use Rattle.std.proofs.Common.{◌≡◌, ℕ, suc, ◌+◌, ◌-◌, ◌<◌, List, Bool, true, false, Contains, Some, None, length, replicate, slice_set, rules, refl, sym, ap, ◌∙◌, subst, true≢false, arith}
+use Rattle.std.proofs.Common.{◌≡◌, ℕ, suc, ◌+◌, ◌-◌, ◌<◌, List, Bool, true, false, Contains, length, replicate, slice_set, rules, sym, ap, ◌∙◌, subst, true≢false, arith}
 use Rattle.std.proofs.lemmas.Option.{none-some}
 use Rattle.cdb_base.specs.declared.event.Event.{Event}
 use Rattle.cdb_rules.specs.Runs.{machine_in}
@@ -14,8 +14,8 @@ loop-i-init g c =
     let machine = machine_in g.P.Process.table c.args.run.now in
     let flows = g.P.Flowing.flows in
     let history : List Event = c.args.run.now.history in
-    let filled : c.in_ok-flags.flags.items ≡ replicate c.len.result false = search rules in
-    let number : c.len.result ≡ length history = c.len.ensures.count ∙ ap length c.history-history.ensures in
+    let filled : c.in_ok-flags.flags.items ≡ replicate (length c.events.result.now) false = search rules in
+    let number : length c.events.result.now ≡ length history = ap length c.events.ensures in
     let next : length c.args.flows.now + 1 ≡ suc (length c.args.flows.now) = omega arith in
     let has = c.requires.has_trail in
     subst (λ (f : List Bool). IsWalked machine flows history (length c.args.flows.now + 1) (length c.args.flows.now) c.args.from (slice_set f (length c.args.flows.now) true))

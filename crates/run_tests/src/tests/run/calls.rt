@@ -29,7 +29,7 @@ fn begun<R: Abort + AllocGlobal>(rt: &R) -> AnyRun {
 
 /// Gives a run up.
 fn end(run: AnyRun) {
-    run.into_chronicle();
+    run.into_parts();
 }
 
 /// The copy of the first message of process 1 for a process from 1 to 9.
@@ -62,7 +62,7 @@ fn events_are_rolled_back_by_plain_numbers(rt: HostRuntime) {
     assert!(&rt; matches!(run.rollback_lost(rt.alloc(), 1, 1, 2), Ok(Ok(_))));
     assert_eq!(&rt; run.history().len(), 2);
     assert!(&rt; matches!(run.rollback(rt.alloc(), 1, 1), Ok(Ok(_))));
-    assert!(&rt; run.history().is_empty());
+    assert_eq!(&rt; run.history().len(), 0);
     end(run);
 }
 

@@ -268,7 +268,7 @@ fn lead<R: Abort + AllocGlobal>(
     match session.try_line(rt, 1, line) {
         Ok(reply) => reply,
         Err(_) => {
-            assert!(rt; session.shows_same(other), "{line}");
+            assert!(rt; session.shows_same(rt, other), "{line}");
             session.try_line(rt, 1, line).expect(rt, line)
         }
     }
@@ -304,7 +304,7 @@ fn give_to_both<R: Abort + AllocGlobal>(
     assert!(rt; has_lines(text_of(rt, reply).as_slice(), lines), "{row}");
     let reply = behind.give(rt, 1, line);
     assert!(rt; has_lines(text_of(rt, reply).as_slice(), lines), "{row}");
-    assert!(rt; ahead.shows_same(behind), "{row}");
+    assert!(rt; ahead.shows_same(rt, behind), "{row}");
 }
 
 /// Gives each line to two sessions of a setup, one always a line behind the other.

@@ -7,7 +7,6 @@ ghost use Rattle.cdb_rules.specs.Refusals.{IsOfRun};
 use cdb_any_run::AnyRun;
 use cdb_base::{Event, Kind, MsgName, NoMemory, Proc, Refusal, Reg};
 use cdb_control::Command;
-use cdb_history::History;
 use cdb_past::Chronicled;
 use cdb_rules::{EventRef, Runs};
 use cdb_setup::{Setup, SetupFault};
@@ -66,17 +65,17 @@ fn is_same_register(one: &AnyRun, other: &AnyRun, register: Reg) -> bool {
     one.cell(register) == other.cell(again) && one.writes(once_more) == other.writes(last)
 }
 
+/// The standing events, at the second try where an allocation failed.
+pub fn events_of<R: Abort + AllocGlobal>(rt: &R, run: &AnyRun) -> Vec<Event> {
+    match run.events(rt.alloc()) {
+        Ok(events) => events,
+        Err(_) => run.events(rt.alloc()).expect(rt, "the events"),
+    }
+}
+
 /// Whether the same events stand in both, in the same order.
-fn has_same_events(one: &History, other: &History) -> bool {
-    if one.len() != other.len() {
-        return false;
-    }
-    for i in 0..one.len() {
-        if one.event(i) != other.event(i) {
-            return false;
-        }
-    }
-    true
+pub fn has_same_events<R: Abort + AllocGlobal>(rt: &R, one: &AnyRun, other: &AnyRun) -> bool {
+    events_of(rt, one).as_slice() == events_of(rt, other).as_slice()
 }
 
 /// The run of an example.
@@ -127,7 +126,7 @@ impl Example {
     /// its parts.
     pub fn end(self) {
         let Example { run } = self;
-        run.into_chronicle();
+        run.into_parts();
     }
 
     /// Undoes an event.
@@ -157,8 +156,8 @@ impl Example {
     }
 
     /// The standing events.
-    pub fn history(&self) -> &History {
-        self.run.history()
+    pub fn events<R: Abort + AllocGlobal>(&self, rt: &R) -> Vec<Event> {
+        events_of(rt, &self.run)
     }
 
     /// How many writes of the register stand, where the run has it.
@@ -173,7 +172,7 @@ impl Example {
     }
 
     /// Whether both show the same of all processes and registers, and of what has happened.
-    pub fn looks_as(&self, other: &Example) -> bool {
+    pub fn looks_as<R: Abort + AllocGlobal>(&self, rt: &R, other: &Example) -> bool {
         for p in &Proc::all() {
             if !is_as_far(&self.run, &other.run, u32::from(p.number())) {
                 return false;
@@ -183,7 +182,7 @@ impl Example {
             }
         }
         is_same_register(&self.run, &other.run, Reg::Dec)
-            && has_same_events(self.history(), other.history())
+            && has_same_events(rt, &self.run, &other.run)
     }
 }
 

@@ -6,7 +6,6 @@ use super::scripts::{TWELVE_STEPS, WITH_LOSSES};
 use super::setups::{ALPHA_PAIR, LOSSY};
 use cdb_base::Event;
 use cdb_control::Command;
-use cdb_history::History;
 use cdb_rules::EventRef;
 use std::process::Abort;
 
@@ -33,8 +32,8 @@ impl Pair {
     }
 
     /// Whether both show the same.
-    fn is_alike(&self) -> bool {
-        self.run.looks_as(&self.behind)
+    fn is_alike<R: Abort + AllocGlobal>(&self, rt: &R) -> bool {
+        self.run.looks_as(rt, &self.behind)
     }
 }
 
@@ -60,7 +59,7 @@ fn lead<R: Abort + AllocGlobal>(rt: &R, pair: &mut Pair, command: &Command) -> u
     if let Some(number) = give_once(rt, &mut pair.run, command) {
         return number;
     }
-    assert!(rt; pair.is_alike());
+    assert!(rt; pair.is_alike(rt));
     give_at_last(rt, &mut pair.run, command)
 }
 
@@ -75,7 +74,7 @@ fn led<R: Abort + AllocGlobal>(rt: &R, setup: &str, script: &str) -> Pair {
     let mut pair = Pair::start(rt, setup);
     for line in script.lines() {
         give(rt, &mut pair, &command_of(rt, line));
-        assert!(rt; pair.is_alike());
+        assert!(rt; pair.is_alike(rt));
     }
     pair
 }
@@ -95,18 +94,18 @@ fn take_at_last<R: Abort + AllocGlobal>(rt: &R, run: &mut Example, event: &Event
 /// Takes an event again in both runs.
 fn take_again<R: Abort + AllocGlobal>(rt: &R, pair: &mut Pair, event: &Event) {
     if !take(rt, &mut pair.run, event) {
-        assert!(rt; pair.is_alike());
+        assert!(rt; pair.is_alike(rt));
         take_at_last(rt, &mut pair.run, event);
     }
     take_at_last(rt, &mut pair.behind, event);
-    assert!(rt; pair.is_alike());
+    assert!(rt; pair.is_alike(rt));
 }
 
-/// Two runs in which the events of a history were taken again.
-fn taken_again<R: Abort + AllocGlobal>(rt: &R, setup: &str, history: &History) -> Pair {
+/// Two runs in which the events were taken again.
+fn taken_again<R: Abort + AllocGlobal>(rt: &R, setup: &str, events: &[Event]) -> Pair {
     let mut pair = Pair::start(rt, setup);
-    for i in 0..history.len() {
-        take_again(rt, &mut pair, history.event(i));
+    for event in events {
+        take_again(rt, &mut pair, event);
     }
     pair
 }
@@ -133,7 +132,7 @@ fn roll_back<R: Abort + AllocGlobal>(
     let before = undone.len();
     if !roll_back_once(rt, &mut pair.run, p, k, undone) {
         assert_eq!(rt; undone.len(), before);
-        assert!(rt; pair.is_alike());
+        assert!(rt; pair.is_alike(rt));
         assert!(rt; roll_back_once(rt, &mut pair.run, p, k, undone));
     }
     assert!(rt; undone.len() > before);
@@ -159,9 +158,10 @@ fn roll_back_and_redo<R: Abort + AllocGlobal>(rt: &R, pair: &mut Pair, last: u32
 /// stand, the last of process 1 its step `last`.
 fn check<R: Abort + AllocGlobal>(rt: &R, setup: &str, script: &str, standing: usize, last: u32) {
     let mut pair = led(rt, setup, script);
-    assert_eq!(rt; pair.run.history().len(), standing);
-    let again = taken_again(rt, setup, pair.run.history());
-    assert!(rt; again.run.looks_as(&pair.run));
+    let events = pair.run.events(rt);
+    assert_eq!(rt; events.len(), standing);
+    let again = taken_again(rt, setup, events.as_slice());
+    assert!(rt; again.run.looks_as(rt, &pair.run));
     roll_back_and_redo(rt, &mut pair, last);
     assert!(rt; pair.run.is_same(rt, &again.run));
     pair.end();

@@ -1,5 +1,6 @@
 //! A control whose calls are given the lines of scripts.
 
+use super::example::has_same_events;
 use cdb_any_run::AnyRun;
 use cdb_base::NoMemory;
 use cdb_control::{CallFault, Control, Reply};
@@ -102,17 +103,9 @@ impl Session {
     }
 
     /// Whether the same events stand in both, and both have the same journal.
-    pub fn shows_same(&self, other: &Session) -> bool {
-        let (one, two) = (self.control.run().history(), other.control.run().history());
-        if one.len() != two.len() || self.control.journal() != other.control.journal() {
-            return false;
-        }
-        for at in 0..one.len() {
-            if one.event(at) != two.event(at) {
-                return false;
-            }
-        }
-        true
+    pub fn shows_same<R: Abort + AllocGlobal>(&self, rt: &R, other: &Session) -> bool {
+        self.control.journal() == other.control.journal()
+            && has_same_events(rt, self.control.run(), other.control.run())
     }
 }
 

@@ -1,4 +1,6 @@
-use Rattle.std.proofs.Common.{ℕ, subst}
+use Rattle.std.proofs.Common.{List, ℕ, subst}
+use Rattle.cdb_base.specs.declared.event.Event.{Event}
+use Rattle.cdb_base.specs.declared.name.StepId.{StepId}
 use Rattle.cdb_causal.specs.Names.{IsNamedAt, IsFirstDependentOrFree}
 use Rattle.cdb_rules.specs.EventRefs.{name_given}
 use Rattle.cdb_setup.specs.Parts.{AreInRange}
@@ -10,10 +12,10 @@ returns-in-Some g c =
     let run = c.args.self.now in
     let found = c.in_ok-name.ensures in
     let stands = found.1 in
-    let first =
-    subst (λ name. (at : ℕ) → IsNamedAt run.history at name → IsFirstDependentOrFree run.history at c.first_dependent.result) found.0
-    (subst (λ h. (at : ℕ) → IsNamedAt h at c.in_ok-name.name → IsFirstDependentOrFree h at c.first_dependent.result) c.history.ensures.events c.first_dependent.ensures) in
-    needed_result g.P.Process.table run (subst AreInRange c.setup.ensures c.n-ranges.ensures.ranges) c.history.ensures.valid (name_given c.args.event) stands.0 stands.1 c.in-Some.dependent
+    let tells = λ (h : List Event) (name : StepId). (at : ℕ) → IsNamedAt h at name → IsFirstDependentOrFree h at c.first_dependent.result in
+    let first = subst (tells run.history) found.0 (subst (λ h. tells h c.in_ok-name.name) c.history.ensures.events c.first_dependent.ensures) in
+    let ranges = subst AreInRange c.setup.ensures c.n-ranges.ensures.ranges in
+    needed_result g.P.Process.table run ranges c.history.ensures.valid (name_given c.args.event) stands.0 stands.1 c.in-Some.dependent
     (subst (IsFirstDependentOrFree run.history stands.0) c.in-Some.is (first stands.0 stands.1))
 
 pub returns-in-None : goal.returns-in-None
@@ -21,7 +23,6 @@ returns-in-None g c =
     let run = c.args.self.now in
     let found = c.in_ok-name.ensures in
     let stands = found.1 in
-    let first =
-    subst (λ name. (at : ℕ) → IsNamedAt run.history at name → IsFirstDependentOrFree run.history at c.first_dependent.result) found.0
-    (subst (λ h. (at : ℕ) → IsNamedAt h at c.in_ok-name.name → IsFirstDependentOrFree h at c.first_dependent.result) c.history.ensures.events c.first_dependent.ensures) in
+    let tells = λ (h : List Event) (name : StepId). (at : ℕ) → IsNamedAt h at name → IsFirstDependentOrFree h at c.first_dependent.result in
+    let first = subst (tells run.history) found.0 (subst (λ h. tells h c.in_ok-name.name) c.history.ensures.events c.first_dependent.ensures) in
     (found.0, (stands.0, stands.1, subst (IsFirstDependentOrFree run.history stands.0) c.in-None.is (first stands.0 stands.1)))

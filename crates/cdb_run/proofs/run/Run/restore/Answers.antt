@@ -11,14 +11,16 @@ use Rattle.cdb_run.proofs.Restoring.{stepped_within, may_unpost, may_restore, ma
 use Rattle.cdb_run.proofs.run.Run.restore.Goals as goal
 
 pub take_step-kind-requires : goal.take_step-kind-requires
-take_step-kind-requires g c = subst (λ (s : RunView). CanUndo s (step_name c.in-Step.step.p c.in-Step.step.k)) (sym c.self.view_is) (subst (CanUndo c.args.self.now) c.in-Step.is c.requires)
+take_step-kind-requires g c =
+    subst (λ (s : RunView). CanUndo s (named.Step c.in-Step.step)) (sym c.self.view_is) (subst (CanUndo c.args.self.now) c.in-Step.is c.requires)
 
 pub take_back-requires-clause-process : goal.take_back-requires-clause-process
 take_back-requires-clause-process g c =
     let p = c.in-Step.step.p in
     let k = c.in-Step.step.k in
     let kind = c.take_step-kind.result.0 in
-    let free = subst (λ (s : RunView). CanUndo s (step_name c.in-Step.step.p c.in-Step.step.k)) (sym c.self.view_is) (subst (CanUndo c.args.self.now) c.in-Step.is c.requires) in
+    let free =
+    subst (λ (s : RunView). CanUndo s (named.Step c.in-Step.step)) (sym c.self.view_is) (subst (CanUndo c.args.self.now) c.in-Step.is c.requires) in
     let taken = c.take_step-kind.ensures free.0 free.1 in
     stepped_within c.self.invariant free.0 (recorded_of (Step p k kind) c.take_step-kind.result.1) taken.0 free.2 p k kind refl
 
@@ -28,7 +30,8 @@ take_back-requires-clause-may_take_back g c =
     let k = c.in-Step.step.k in
     let kind = c.take_step-kind.result.0 in
     let entry = recorded_of (Step p k kind) c.take_step-kind.result.1 in
-    let free = subst (λ (s : RunView). CanUndo s (step_name c.in-Step.step.p c.in-Step.step.k)) (sym c.self.view_is) (subst (CanUndo c.args.self.now) c.in-Step.is c.requires) in
+    let free =
+    subst (λ (s : RunView). CanUndo s (named.Step c.in-Step.step)) (sym c.self.view_is) (subst (CanUndo c.args.self.now) c.in-Step.is c.requires) in
     let taken = c.take_step-kind.ensures free.0 free.1 in
     record {
       countable = may_count_back c.self.invariant free.0 entry taken.0 free.2 p k kind refl;
@@ -41,13 +44,16 @@ invariant_of-self g c =
     let p = c.in-Step.step.p in
     let k = c.in-Step.step.k in
     let kind = c.take_step-kind.result.0 in
-    let free = subst (λ (s : RunView). CanUndo s (step_name c.in-Step.step.p c.in-Step.step.k)) (sym c.self.view_is) (subst (CanUndo c.args.self.now) c.in-Step.is c.requires) in
+    let free =
+    subst (λ (s : RunView). CanUndo s (named.Step c.in-Step.step)) (sym c.self.view_is) (subst (CanUndo c.args.self.now) c.in-Step.is c.requires) in
     let taken = c.take_step-kind.ensures free.0 free.1 in
     let did = c.take_back.ensures in
-    current_undone c.self.invariant free.0 (recorded_of (Step p k kind) c.take_step-kind.result.1) taken.0 free.2 p k kind refl did.progress did.stood did.processes did.mail did.registers taken.1
+    current_undone c.self.invariant free.0 (recorded_of (Step p k kind) c.take_step-kind.result.1) taken.0 free.2 p k kind refl
+    did.progress did.stood did.processes did.mail did.registers taken.1
 
 pub take_loss-requires : goal.take_loss-requires
-take_loss-requires g c = subst (λ (s : RunView). CanUndo s (named.Lost c.in-Lost.copy)) (sym c.self.view_is) (subst (CanUndo c.args.self.now) c.in-Lost.is c.requires)
+take_loss-requires g c =
+    subst (λ (s : RunView). CanUndo s (named.Lost c.in-Lost.copy)) (sym c.self.view_is) (subst (CanUndo c.args.self.now) c.in-Lost.is c.requires)
 
 pub take_back_lose-requires : goal.take_back_lose-requires
 take_back_lose-requires g c =

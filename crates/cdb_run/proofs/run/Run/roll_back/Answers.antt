@@ -21,17 +21,22 @@ loop-event-init g c =
     let enough = made.ok in
     record {
       setup = refl;
-      left = λ at named. subst (λ (removed : List Event). AreLeft history at into history found removed) (sym made.items) (all_left history at into named.0 named.1 found (are at named));
+      left = λ at named.
+          subst (λ (removed : List Event). AreLeft history at into history found removed) (sym made.items)
+          (all_left history at into named.0 named.1 found (are at named));
       kept = made.capacity;
       room = omega (arith, enough, number, long);
     }
 
 pub restore-requires : goal.restore-requires
 restore-requires g c =
+    let history = c.args.self.now.history in
+    let into = c.args.removed.now.items in
     let at = c.requires.0 in
     let named = c.requires.1 in
-    let left = subst (λ (events : List Event). AreLeft c.args.self.now.history at c.args.removed.now.items c.loop-event.self.history events c.loop-event.removed.items) c.in-Some.ensures.items (c.loop-event.invariant.left at named) in
-    let next = next_free c.args.self.now.history at c.args.removed.now.items named.0 named.1 c.pop.new.self.items c.in-Some.event left in
+    let are = λ (events : List Event). AreLeft history at into c.loop-event.self.history events c.loop-event.removed.items in
+    let left = subst are c.in-Some.ensures.items (c.loop-event.invariant.left at named) in
+    let next = next_free history at into named.0 named.1 c.pop.new.self.items c.in-Some.event left in
     (next.position, (c.in-Some.event, next.stands, sym c.name.ensures), next.free)
 
 pub loop-event-preserved : goal.loop-event-preserved
@@ -49,7 +54,8 @@ loop-event-preserved g c =
     record {
       setup = c.restore.ensures.setup ∙ c.loop-event.invariant.setup;
       left = λ at named.
-          let left = subst (λ (events : List Event). AreLeft history at into c.loop-event.self.history events c.loop-event.removed.items) c.in-Some.ensures.items (c.loop-event.invariant.left at named) in
+          let are = λ (events : List Event). AreLeft history at into c.loop-event.self.history events c.loop-event.removed.items in
+          let left = subst are c.in-Some.ensures.items (c.loop-event.invariant.left at named) in
           let next = next_free history at into named.0 named.1 rest event left in
           let gone = c.restore.ensures.event next.position (event, next.stands, sym c.name.ensures) in
           subst (λ (h : List Event). AreLeft history at into h rest c.push_reserved.new.events.items) (sym gone.1)
@@ -73,20 +79,23 @@ returns-clause-number g c =
     let all = ap length (are stands.0 stands.1) in
     let number = c.len-number.ensures in
     let long = c.in_ok-events.events.ok.0 in
-    number_result g.P.Process.table run (subst AreInRange c.setup.ensures c.n-ranges.ensures.ranges) c.history.ensures.valid c.args.name stands.0 stands.1 c.len-number.result
+    let ranges = subst AreInRange c.setup.ensures c.n-ranges.ensures.ranges in
+    number_result g.P.Process.table run ranges c.history.ensures.valid c.args.name stands.0 stands.1 c.len-number.result
     (omega (arith, number, long, all))
 
 pub returns-clause-after : goal.returns-clause-after
 returns-clause-after g c =
     let stands = c.requires in
-    after_result g.P.Process.table c.args.self.now (subst AreInRange c.setup.ensures c.n-ranges.ensures.ranges) c.history.ensures.valid c.args.name stands.0 stands.1 c.loop-event.self
+    let ranges = subst AreInRange c.setup.ensures c.n-ranges.ensures.ranges in
+    after_result g.P.Process.table c.args.self.now ranges c.history.ensures.valid c.args.name stands.0 stands.1 c.loop-event.self
     c.loop-event.invariant.setup
     (none_left c.loop-event.events.items c.loop-event.events.ok.0 c.in_default.ensures.cases.0 (c.loop-event.invariant.left stands.0 stands.1))
 
 pub returns-clause-list : goal.returns-clause-list
 returns-clause-list g c =
     let stands = c.requires in
-    list_result g.P.Process.table c.args.self.now (subst AreInRange c.setup.ensures c.n-ranges.ensures.ranges) c.history.ensures.valid c.args.name stands.0 stands.1 c.args.removed.now.items
+    let ranges = subst AreInRange c.setup.ensures c.n-ranges.ensures.ranges in
+    list_result g.P.Process.table c.args.self.now ranges c.history.ensures.valid c.args.name stands.0 stands.1 c.args.removed.now.items
     c.loop-event.removed.items
     (all_went c.loop-event.events.items c.loop-event.events.ok.0 c.in_default.ensures.cases.0 (c.loop-event.invariant.left stands.0 stands.1))
 
@@ -95,10 +104,12 @@ returns-clause-capacity g c = c.loop-event.invariant.kept
 
 pub returns-in_err-events-clause-memory : goal.returns-in_err-events-clause-memory
 returns-in_err-events-clause-memory g c =
+    let ranges = subst AreInRange c.setup.ensures c.n-ranges.ensures.ranges in
     rw (err_from_is_err_and c.from_residual.result c.from_residual.ensures.1).1
-    (rollback_granted g.P.Process.table c.args.self.now (subst AreInRange c.setup.ensures c.n-ranges.ensures.ranges) c.history.ensures.valid c.args.name c.requires.0 c.requires.1)
+    (rollback_granted g.P.Process.table c.args.self.now ranges c.history.ensures.valid c.args.name c.requires.0 c.requires.1)
 
 pub returns-in_err-reserve-clause-memory : goal.returns-in_err-reserve-clause-memory
 returns-in_err-reserve-clause-memory g c =
+    let ranges = subst AreInRange c.setup.ensures c.n-ranges.ensures.ranges in
     rw (err_from_is_err_and c.from_residual-in_err-reserve.result c.from_residual-in_err-reserve.ensures.1).1
-    (rollback_granted g.P.Process.table c.args.self.now (subst AreInRange c.setup.ensures c.n-ranges.ensures.ranges) c.history.ensures.valid c.args.name c.requires.0 c.requires.1)
+    (rollback_granted g.P.Process.table c.args.self.now ranges c.history.ensures.valid c.args.name c.requires.0 c.requires.1)

@@ -7,7 +7,9 @@ abbrev pub invariant-loop-event : goal.invariant-loop-event
 invariant-loop-event g l =
     record {
       setup : l.self.setup ≡ l.fn.self.setup;
-      left : (at : ℕ) → IsNamedAt l.fn.self.history at l.fn.name → AreLeft l.fn.self.history at l.fn.removed.items l.self.history l.events.items l.removed.items;
+      left :
+          (at : ℕ) → IsNamedAt l.fn.self.history at l.fn.name
+          → AreLeft l.fn.self.history at l.fn.removed.items l.self.history l.events.items l.removed.items;
       kept : vec_capacity l.fn.removed ≤ vec_capacity l.removed;
       room : vec_len l.removed + length l.events.items ≤ vec_capacity l.removed;
     }

@@ -41,7 +41,8 @@ returns-in_ok-roll_back-in-Ok-clause-rolled_back g c =
     }
 
 pub returns-in_ok-roll_back-in-Ok-clause-exact : goal.returns-in_ok-roll_back-in-Ok-clause-exact
-returns-in_ok-roll_back-in-Ok-clause-exact g c = left_exact c.args.self.now _ (name_given c.args.event) (returns-in_ok-roll_back-in-Ok-clause-rolled_back g c).after
+returns-in_ok-roll_back-in-Ok-clause-exact g c =
+    left_exact c.args.self.now _ (name_given c.args.event) (returns-in_ok-roll_back-in-Ok-clause-rolled_back g c).after
 
 pub returns-in_ok-roll_back-in-Ok-clause-again : goal.returns-in_ok-roll_back-in-Ok-clause-again
 returns-in_ok-roll_back-in-Ok-clause-again g c =

@@ -17,30 +17,34 @@ returns-in_err-name-clause-free g c =
     let run = c.args.self.now in
     let ranges = subst AreInRange c.setup.ensures c.n-ranges.ensures.ranges in
     let is : c.from_residual.result ≡ result_of_undo run (name_given c.args.event) = search rules in
-    undo_ok_free (machine_of table run.setup) run.setup.processes (machine_each table run.setup ranges) run.history c.history-valid.ensures.valid (name_given c.args.event) c.from_residual.result is
+    undo_ok_free (machine_of table run.setup) run.setup.processes (machine_each table run.setup ranges) run.history c.history-valid.ensures.valid
+    (name_given c.args.event) c.from_residual.result is
 
 pub returns-clause-returns : goal.returns-clause-returns
 returns-clause-returns g c =
     let found = c.in_ok-name.ensures in
     let free = found.1 in
     let taken = subst (λ name. IsTakenOut c.args.self.now.history name c.restore.result c.restore.new.self.history) found.0 c.restore.ensures.event in
-    undo_result g.P.Process.table c.args.self.now (subst AreInRange c.setup.ensures c.n-ranges.ensures.ranges) c.history-valid.ensures.valid (name_given c.args.event) free.0 free.1
-    c.restore.result c.restore.new.self c.restore.ensures.setup (taken free.0 free.1) free.2
+    let ranges = subst AreInRange c.setup.ensures c.n-ranges.ensures.ranges in
+    undo_result g.P.Process.table c.args.self.now ranges c.history-valid.ensures.valid (name_given c.args.event) free.0 free.1 c.restore.result
+    c.restore.new.self c.restore.ensures.setup taken free.2
 
 pub returns-clause-after : goal.returns-clause-after
 returns-clause-after g c =
     let found = c.in_ok-name.ensures in
     let free = found.1 in
     let taken = subst (λ name. IsTakenOut c.args.self.now.history name c.restore.result c.restore.new.self.history) found.0 c.restore.ensures.event in
-    undo_leaves g.P.Process.table c.args.self.now (subst AreInRange c.setup.ensures c.n-ranges.ensures.ranges) c.history-valid.ensures.valid (name_given c.args.event) free.0 free.1
-    c.restore.result c.restore.new.self c.restore.ensures.setup (taken free.0 free.1) free.2
+    let ranges = subst AreInRange c.setup.ensures c.n-ranges.ensures.ranges in
+    undo_leaves g.P.Process.table c.args.self.now ranges c.history-valid.ensures.valid (name_given c.args.event) free.0 free.1 c.restore.result
+    c.restore.new.self c.restore.ensures.setup taken free.2
 
 pub returns-clause-free : goal.returns-clause-free
 returns-clause-free g c =
     let table = g.P.Process.table in
     let run = c.args.self.now in
     let ranges = subst AreInRange c.setup.ensures c.n-ranges.ensures.ranges in
-    undo_ok_free (machine_of table run.setup) run.setup.processes (machine_each table run.setup ranges) run.history c.history-valid.ensures.valid (name_given c.args.event) (Ok c.restore.result) (returns-clause-returns g c)
+    undo_ok_free (machine_of table run.setup) run.setup.processes (machine_each table run.setup ranges) run.history c.history-valid.ensures.valid
+    (name_given c.args.event) (Ok c.restore.result) (returns-clause-returns g c)
 
 pub returns-clause-back : goal.returns-clause-back
 returns-clause-back g c =
@@ -48,4 +52,5 @@ returns-clause-back g c =
     let run = c.args.self.now in
     let ranges = subst AreInRange c.setup.ensures c.n-ranges.ensures.ranges in
     subst (λ (v : RunView). IfOk {E = Refusal} (Ok c.restore.result) (λ event. LeadsTo table v event run)) (sym (returns-clause-after g c))
-    (undo_leads_back (machine_of table run.setup) run.setup.processes (machine_each table run.setup ranges) run.history c.history-valid.ensures.valid (name_given c.args.event) (Ok c.restore.result) (returns-clause-returns g c))
+    (undo_leads_back (machine_of table run.setup) run.setup.processes (machine_each table run.setup ranges) run.history c.history-valid.ensures.valid
+    (name_given c.args.event) (Ok c.restore.result) (returns-clause-returns g c))
