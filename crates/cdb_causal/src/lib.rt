@@ -1,5 +1,5 @@
 //! Dependence of events: which events depend on which, directly or through others, and what holds of lists of
-//! events under it. The histories that are held and searched are those of `cdb_history`.
+//! events under it. The histories that are held and searched are those of `cdb_standing`.
 //!
 //! ```text
 //! let linked = depends(&first, &second);

@@ -1,5 +1,0 @@
-pub mod Free
-pub mod Pieces
-pub mod Seams
-pub mod Stacks
-pub mod Lefts
