@@ -13,7 +13,6 @@ use crate::shown::cell_of;
 use cdb_base::{
     Act, Cell, Event, MsgName, NoMemory, Payload, Proc, ProcView, Refusal, Reg, StepId, Val,
 };
-use cdb_past::Chronicled;
 use cdb_rules::{EventRef, Runs};
 use cdb_run::Run;
 use cdb_setup::{Algorithm, Setup};
@@ -191,13 +190,11 @@ impl Runs for AnyRun {
         AnyRun::decisions(self, alloc)
     }
 
-    ghost lawful = { rules_are_lawful };
-
-    ghost histories = { rules_keep_histories };
-}
-
-impl Chronicled for AnyRun {
     fn into_parts(self) -> (Setup, History) {
         by_machine!(self.run, run => run.into_parts())
     }
+
+    ghost lawful = { rules_are_lawful };
+
+    ghost histories = { rules_keep_histories };
 }

@@ -3,7 +3,7 @@
 use Rattle.std.specs.Prelude.{◌≡◌, ℕ, ◌*◌, Bool, true, List, [], ◌∷◌, ◌++◌, codes, decimal, length, replicate, Option, None, Some}
 use Rattle.std.specs.List.{concat, flat_map, range_with_len}
 use Rattle.cdb_base.specs.declared.event.Event.{Event}
-use Rattle.cdb_past.specs.Flags.{FlagsPast}
+use Rattle.cdb_rules.specs.Flags.{FlagsPast}
 use Rattle.cdb_rules.specs.RunView.{RunView}
 use Rattle.cdb_rules.specs.Rules.{Rules}
 use Rattle.cdb_setup.specs.Parts.{Parts}

@@ -10,13 +10,12 @@ use crate::layout::grid_of;
 use crate::picture::write_picture;
 use cdb_base::NoMemory;
 use cdb_base::limits::MAX_ENTRIES;
-use cdb_past::Chronicle;
-use cdb_rules::Runs;
+use cdb_rules::{Runs, Trace};
 use cdb_streams::{OutputFault, Sink};
 use std::alloc::Global;
 
 /// Marks what is drawn in full: everything, or what led to the event at a position.
-fn flags_of(alloc: Global, run: &Chronicle, position: Option<usize>) -> Result<Vec<bool>, NoMemory>
+fn flags_of(alloc: Global, run: &Trace, position: Option<usize>) -> Result<Vec<bool>, NoMemory>
     requires { IfSome position (λ at. (1 ≤ at) × (at ≤ length run.now.history)) }
     ensures full { IfOk result (λ flags. AreInFull position run.now.history flags.items) }
     ensures each { IfOk result (λ flags. length flags.items ≡ length run.now.history) }
@@ -35,7 +34,7 @@ fn flags_of(alloc: Global, run: &Chronicle, position: Option<usize>) -> Result<V
 /// pieces of 65,536 bytes.
 pub fn draw_run<T: Runs, W: Sink>(
     alloc: Global,
-    run: &Chronicle,
+    run: &Trace,
     columns: u32,
     position: Option<usize>,
     out: &mut W,

@@ -13,7 +13,7 @@ use crate::piece::{Piece, put_each};
 use crate::sends::crashed_at;
 use cdb_base::limits::MAX_ENTRIES;
 use cdb_base::{Event, Proc};
-use cdb_past::Chronicle;
+use cdb_rules::Trace;
 use cdb_setup::Algorithm;
 use cdb_streams::{Buffer, OutputFault, Sink};
 
@@ -73,7 +73,7 @@ fn lane_end(grid: Grid, events: &[Event], row: usize, p: Proc) -> usize
 }
 
 /// The lane of a process in a row.
-fn process_lane(grid: Grid, run: &Chronicle, row: usize, p: Proc) -> [Piece<'static>; 11]
+fn process_lane(grid: Grid, run: &Trace, row: usize, p: Proc) -> [Piece<'static>; 11]
     requires grid { IsGrid grid }
     requires few { length run.now.history ≤ MAX_ENTRIES }
     requires row { row ≤ MAX_ENTRIES }
@@ -115,7 +115,7 @@ fn register_lane(grid: Grid, row: usize, k: usize) -> [Piece<'static>; 11]
 }
 
 /// The `k`-th lane of a row.
-fn lane_of_row(grid: Grid, run: &Chronicle, row: usize, k: usize) -> [Piece<'static>; 11]
+fn lane_of_row(grid: Grid, run: &Trace, row: usize, k: usize) -> [Piece<'static>; 11]
     requires grid { IsGrid grid }
     requires processes { grid.processes ≡ run.now.setup.processes }
     requires few { length run.now.history ≤ MAX_ENTRIES }
@@ -148,7 +148,7 @@ fn lanes_by(algorithm: Algorithm, processes: usize) -> usize
 /// Puts the lanes of all rows.
 pub(crate) fn put_lanes<W: Sink>(
     grid: Grid,
-    run: &Chronicle,
+    run: &Trace,
     buffer: &mut Buffer,
     out: &mut W,
 ) -> Result<(), OutputFault>

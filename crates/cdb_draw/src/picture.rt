@@ -24,8 +24,7 @@ use crate::sends::{Sends, sends_of};
 use crate::style::{NAMESPACE, SHAPES, STYLE};
 use cdb_base::limits::MAX_ENTRIES;
 use cdb_explain::{fresh, take_next};
-use cdb_past::Chronicle;
-use cdb_rules::Runs;
+use cdb_rules::{Runs, Trace};
 use cdb_setup::Algorithm;
 use cdb_streams::{Buffer, OutputFault, Sink};
 use std::alloc::Global;
@@ -66,7 +65,7 @@ fn document(w: usize, h: usize, heading: Piece<'static>) -> [Piece<'static>; 13]
 /// Puts what comes before the lanes.
 fn put_head<W: Sink>(
     grid: Grid,
-    run: &Chronicle,
+    run: &Trace,
     buffer: &mut Buffer,
     out: &mut W,
 ) -> Result<(), OutputFault>
@@ -84,7 +83,7 @@ fn put_head<W: Sink>(
 /// Puts the arrow of the event at a position, from 1.
 fn put_arrow_at<W: Sink>(
     grid: Grid,
-    run: &Chronicle,
+    run: &Trace,
     sends: &Sends,
     flags: &[bool],
     position: usize,
@@ -110,7 +109,7 @@ fn put_arrow_at<W: Sink>(
 fn put_arrows<W: Sink>(
     alloc: Global,
     grid: Grid,
-    run: &Chronicle,
+    run: &Trace,
     flags: &[bool],
     buffer: &mut Buffer,
     out: &mut W,
@@ -133,7 +132,7 @@ fn put_arrows<W: Sink>(
 fn put_mark_at<T: Runs, W: Sink>(
     alloc: Global,
     grid: Grid,
-    run: &Chronicle,
+    run: &Trace,
     after: &T,
     flags: &[bool],
     position: usize,
@@ -164,7 +163,7 @@ fn put_mark_at<T: Runs, W: Sink>(
 fn put_marks<T: Runs, W: Sink>(
     alloc: Global,
     grid: Grid,
-    run: &Chronicle,
+    run: &Trace,
     flags: &[bool],
     buffer: &mut Buffer,
     out: &mut W,
@@ -202,7 +201,7 @@ fn put_marks<T: Runs, W: Sink>(
 fn put_picture<T: Runs, W: Sink>(
     alloc: Global,
     grid: Grid,
-    run: &Chronicle,
+    run: &Trace,
     flags: &[bool],
     buffer: &mut Buffer,
     out: &mut W,
@@ -226,7 +225,7 @@ fn put_picture<T: Runs, W: Sink>(
 fn write_pieces<T: Runs, W: Sink>(
     alloc: Global,
     grid: Grid,
-    run: &Chronicle,
+    run: &Trace,
     flags: &[bool],
     buffer: &mut Buffer,
     out: &mut W,
@@ -250,7 +249,7 @@ fn write_pieces<T: Runs, W: Sink>(
 pub(crate) fn write_picture<T: Runs, W: Sink>(
     alloc: Global,
     grid: Grid,
-    run: &Chronicle,
+    run: &Trace,
     flags: &[bool],
     out: &mut W,
 ) -> Result<(), OutputFault>

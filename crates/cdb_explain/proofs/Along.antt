@@ -4,7 +4,7 @@ use Rattle.std.proofs.lemmas.List.{take-append-drop}
 use Rattle.cdb_base.specs.declared.event.Event.{Event}
 use Rattle.cdb_causal.specs.Standing.{IsStanding}
 use Rattle.cdb_control.specs.Commands.{decides}
-use Rattle.cdb_past.proofs.Beginnings.{one_more}
+use Rattle.cdb_rules.proofs.Beginnings.{one_more}
 use Rattle.cdb_rules.specs.Lawful.{KeepHistories}
 use Rattle.cdb_rules.specs.Rules.{Rules}
 use Rattle.cdb_rules.specs.RunView.{RunView}

@@ -13,7 +13,7 @@ use Rattle.cdb_base.specs.declared.refusal.Refusal.TheVariants as refusal
 use Rattle.cdb_causal.specs.Names.{IsNamedAt, IsPositionOf}
 use Rattle.cdb_causal.specs.Rollback.{events_before}
 use Rattle.cdb_causal.specs.Standing.{IsStanding}
-use Rattle.cdb_past.proofs.Beginnings.{taken}
+use Rattle.cdb_rules.proofs.Beginnings.{taken}
 use Rattle.cdb_rules.specs.Undo.{causes_of, direct_among, for_standing, names_processes}
 use Rattle.cdb_rules.proofs.Results.{found_is}
 use Rattle.cdb_rules.proofs.Finding.{no_process_named, stands_from_one, stands_named}

@@ -19,7 +19,7 @@ use Rattle.cdb_control.specs.Commands.{decides}
 use Rattle.cdb_explain.specs.Asked.{IsStepAsked, StandsNoStep}
 use Rattle.cdb_explain.specs.Flagged.{flagged_of_first}
 use Rattle.cdb_message.specs.Mail.{message_name, payload_of}
-use Rattle.cdb_past.specs.Flags.{FlagsPast}
+use Rattle.cdb_rules.specs.Flags.{FlagsPast}
 use Rattle.cdb_rules.specs.ByRules.{cell_in, mail_in}
 use Rattle.cdb_rules.specs.RunView.{RunView}
 use Rattle.cdb_rules.specs.Rules.{Rules}

@@ -15,8 +15,7 @@ ghost use Rattle.cdb_setup.specs.declared.fault.SetupFault.{SetupFault as SetupF
 use crate::fault::ExplainFault;
 use crate::left::run_left_by;
 use crate::step::explain_step;
-use cdb_past::{Chronicle, Chronicled};
-use cdb_rules::Runs;
+use cdb_rules::{Runs, Trace};
 use cdb_streams::{Sink, Source, write_text};
 use std::alloc::Global;
 
@@ -24,7 +23,7 @@ use std::alloc::Global;
 /// step stands.
 fn write_explanation<T: Runs, W: Sink>(
     alloc: Global,
-    run: &Chronicle,
+    run: &Trace,
     p: u32,
     k: Option<u32>,
     out: &mut W,
@@ -48,7 +47,7 @@ fn write_explanation<T: Runs, W: Sink>(
 /// it is written. So after `Write` what was written is a beginning of the explanation, and after any other
 /// fault nothing was written. After `Setup` the script is not read; `Read` comes only where the reader failed in
 /// this call, and `Write` only where the writer did.
-pub fn explain<T: Chronicled, R: Source, W: Sink>(
+pub fn explain<T: Runs, R: Source, W: Sink>(
     alloc: Global,
     setup: &[u8],
     script: &mut R,

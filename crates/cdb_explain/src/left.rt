@@ -10,11 +10,10 @@ ghost use Rattle.cdb_setup.specs.declared.fault.SetupFault.{SetupFault as SetupF
 ghost use Rattle.cdb_streams.specs.Faults.{IsFaultOfPlay};
 ghost use Rattle.cdb_streams.specs.Streams.{FailsWhere};
 
-use crate::chronicle::chronicle_of;
+use crate::trace::trace_of;
 use cdb_base::NoMemory;
 use cdb_control::{CallFault, Command, Control, open_for};
-use cdb_past::{Chronicle, Chronicled};
-use cdb_rules::Runs;
+use cdb_rules::{Runs, Trace};
 use cdb_setup::Setup;
 use cdb_streams::{PlayFault, Source, read_commands};
 use std::alloc::Global;
@@ -79,11 +78,11 @@ fn control_after<T: Runs>(
 ///
 /// The setup is read first, then the whole script, then all its lines. The faults are those of a play, without
 /// `Write`; after `Setup` the script is not read, and `Read` comes only where the reader failed in this call.
-pub fn run_left_by<T: Chronicled, R: Source>(
+pub fn run_left_by<T: Runs, R: Source>(
     alloc: Global,
     setup: &[u8],
     script: &mut R,
-) -> Result<Chronicle, PlayFault>
+) -> Result<Trace, PlayFault>
     ensures left { IfOk result
         (LeavesOnHeadline T.rules T.same_state setup.now
         (R.stream script.old) (R.stream script.new)) }
@@ -99,6 +98,6 @@ pub fn run_left_by<T: Chronicled, R: Source>(
     let setup = Setup::read(alloc, setup)?;
     let commands = read_commands(alloc, script)?;
     let control = control_after::<T>(alloc, setup, commands.as_slice())?;
-    let run = chronicle_of(alloc, control)?;
+    let run = trace_of(alloc, control)?;
     Ok(run)
 }

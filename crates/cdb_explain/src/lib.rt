@@ -7,7 +7,7 @@
 #![tactic(auto)]
 
 mod asked;
-mod chronicle;
+mod trace;
 mod detail;
 mod explains;
 mod fault;

@@ -10,8 +10,7 @@ ghost use Rattle.std.specs.Prelude.{◌≡◌, ◌≤◌, length, IfOk};
 use crate::line::push_line;
 use crate::replay::{fresh, take_next};
 use cdb_base::NoMemory;
-use cdb_past::Chronicle;
-use cdb_rules::Runs;
+use cdb_rules::{Runs, Trace};
 use std::alloc::{AllocError, Global};
 
 /// Adds the lines of the flagged events, in the order of the history, and returns how many they are.
@@ -19,7 +18,7 @@ use std::alloc::{AllocError, Global};
 fn push_lines<T: Runs>(
     alloc: Global,
     text: &mut String,
-    run: &Chronicle,
+    run: &Trace,
     flags: &[bool],
 ) -> Result<usize, NoMemory>
     requires valid { IsInOrder T.rules run.now }
@@ -59,7 +58,7 @@ fn push_count(text: &mut String, count: usize, all: usize) -> Result<(), AllocEr
 fn push_all<T: Runs>(
     alloc: Global,
     text: &mut String,
-    run: &Chronicle,
+    run: &Trace,
     flags: &[bool],
 ) -> Result<(), NoMemory>
     requires valid { IsInOrder T.rules run.now }
@@ -74,7 +73,7 @@ fn push_all<T: Runs>(
 /// The lines of the flagged events, and then how many they are of how many.
 fn text_of_flagged<T: Runs>(
     alloc: Global,
-    run: &Chronicle,
+    run: &Trace,
     flags: &[bool],
 ) -> Result<Vec<u8>, NoMemory>
     requires valid { IsInOrder T.rules run.now }
@@ -90,7 +89,7 @@ fn text_of_flagged<T: Runs>(
 /// the order of the history, and then how many they are. `NoMemory` if an allocation fails.
 pub fn explanation<T: Runs>(
     alloc: Global,
-    run: &Chronicle,
+    run: &Trace,
     position: usize,
 ) -> Result<Vec<u8>, NoMemory>
     requires valid { IsInOrder T.rules run.now }

@@ -5,12 +5,11 @@ ghost use Rattle.cdb_rules.specs.Runs.{with_event, with_history};
 ghost use Rattle.std.specs.Prelude.{◌≡◌, [], IfOk, OnOk};
 
 use cdb_base::{CopyName, Event, Kind, MsgName, NoMemory, Reg, StepId, StepName};
-use cdb_past::Chronicle;
-use cdb_rules::Runs;
+use cdb_rules::{Runs, Trace};
 use std::alloc::Global;
 
 /// A run of the same setup in which nothing has happened.
-pub fn fresh<T: Runs>(alloc: Global, run: &Chronicle) -> Result<T, NoMemory>
+pub fn fresh<T: Runs>(alloc: Global, run: &Trace) -> Result<T, NoMemory>
     ensures { IfOk result (λ again. T.run again ≡ with_history run.now []) }
 {
     let setup = run.setup().copy(alloc)?;

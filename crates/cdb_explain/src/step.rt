@@ -7,8 +7,7 @@ ghost use Rattle.std.specs.Prelude.{IfOk};
 use crate::asked::position_of_step;
 use crate::lines::explanation;
 use cdb_base::NoMemory;
-use cdb_past::Chronicle;
-use cdb_rules::Runs;
+use cdb_rules::{Runs, Trace};
 use std::alloc::Global;
 
 /// The explanation of the `k`-th standing step of process `p`; without `k` that of its last standing step,
@@ -16,7 +15,7 @@ use std::alloc::Global;
 /// allocation fails.
 pub fn explain_step<T: Runs>(
     alloc: Global,
-    run: &Chronicle,
+    run: &Trace,
     p: u32,
     k: Option<u32>,
 ) -> Result<Option<Vec<u8>>, NoMemory>

@@ -33,3 +33,6 @@ pub mod WhereOk
 pub mod Standing
 pub mod Removed
 pub mod TakenBack
+-- what stands in a run, and the past of an event
+pub mod Beginnings
+pub mod Flagged

@@ -14,6 +14,8 @@ pub mod Rules
 pub mod ByRules
 pub mod Auto
 pub mod Views
+-- the past of an event, by flags
+pub mod Flags
 -- the laws: what the rules keep, agreement and validity
 pub mod Lawful
 pub mod Agreement

@@ -10,10 +10,13 @@
 
 mod event_ref;
 mod own_event;
+mod past;
 mod progress;
 mod runs;
+mod trace;
 
 pub use event_ref::EventRef;
 pub use own_event::OwnEvent;
 pub use progress::Progress;
 pub use runs::Runs;
+pub use trace::Trace;

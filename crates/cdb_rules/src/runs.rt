@@ -7,7 +7,7 @@ ghost use Rattle.cdb_base.specs.Limits.{MAX_ENTRIES};
 ghost use Rattle.cdb_base.specs.declared.event.Event.{Event};
 ghost use Rattle.cdb_base.specs.Results.{Tells};
 ghost use Rattle.cdb_rules.specs.Auto.{first_step_by};
-ghost use Rattle.cdb_rules.specs.ByRules.{result_of_step, result_of_again, result_of_loss, process_in, mail_in, registers_in, cell_in, decisions_in};
+ghost use Rattle.cdb_rules.specs.ByRules.{IsInOrder, result_of_step, result_of_again, result_of_loss, process_in, mail_in, registers_in, cell_in, decisions_in};
 ghost use Rattle.cdb_rules.specs.RunView.{RunView};
 ghost use Rattle.cdb_rules.specs.Lawful.{AreLawful, KeepHistories};
 ghost use Rattle.cdb_rules.specs.Refusals.{IsOfRun};
@@ -24,6 +24,7 @@ use cdb_base::{
     Act, Cell, Event, MsgName, NoMemory, Payload, Proc, ProcView, Refusal, Reg, StepId, Val,
 };
 use cdb_setup::Setup;
+use cdb_standing::History;
 use smallvec::SmallVec;
 use std::alloc::Global;
 
@@ -163,6 +164,11 @@ pub trait Runs: Sized + Drop {
     /// The decisions that stand: each process that has decided with its value, in order.
     fn decisions(&self, alloc: Global) -> Result<Vec<(Proc, Val)>, NoMemory>
         ensures { IfOk result (λ pairs. pairs.items ≡ decisions_in rules (run self.now)) };
+
+    /// The setup of the run and its standing events, each of which was enabled in its turn. All else is given up.
+    fn into_parts(self) -> (Setup, History)
+        ensures run { run self ≡ record { setup = result.0; history = result.1 } }
+        ensures valid { IsInOrder rules (run self) };
 
     // What the rules keep: events of the run, and valid histories, the state that these reach, agreement and validity.
     ghost lawful: { (given : Parts) → AreInRange given → AreLawful (rules given) given };

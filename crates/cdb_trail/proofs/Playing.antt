@@ -6,7 +6,7 @@ use Rattle.std.proofs.lemmas.Option.{none-some, same_Some, slice_get-get_or}
 use Rattle.cdb_base.specs.declared.event.Event.{Event}
 use Rattle.cdb_causal.proofs.Lists.{push_back, push_front}
 use Rattle.cdb_causal.proofs.Reaches.{reached_front_some}
-use Rattle.cdb_past.proofs.Beginnings.{one_more}
+use Rattle.cdb_rules.proofs.Beginnings.{one_more}
 use Rattle.cdb_process.specs.Table.{Table}
 use Rattle.cdb_rules.specs.RunView.{RunView}
 use Rattle.cdb_rules.specs.Runs.{IsInOrder, machine_in, state_in, with_event, with_history}

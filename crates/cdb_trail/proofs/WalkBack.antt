@@ -7,7 +7,7 @@ use Rattle.std.proofs.lemmas.Option.{none-some, same_Some, slice_get_within, get
 use Rattle.cdb_base.specs.Positions.{nth}
 use Rattle.cdb_base.specs.declared.event.Event.{Event}
 use Rattle.cdb_base.specs.declared.register.Reg.{Reg}
-use Rattle.cdb_past.specs.Flags.{IsFlagged}
+use Rattle.cdb_rules.specs.Flags.{IsFlagged}
 use Rattle.cdb_process.proofs.Members.{IsIn, contained_in, in_contained}
 use Rattle.cdb_rules.specs.State.{Machine}
 use Rattle.cdb_trail.specs.Flow.{Spot, slot, message, register, Flows}

@@ -2,7 +2,7 @@
 use Rattle.std.specs.Prelude.{◌≡◌, ℕ, List, ◌++◌, codes, decimal, length, Contains, Bool, Option, Some, None, ◌↔◌, Vec}
 use Rattle.std.specs.Global.{Global}
 use Rattle.cdb_agreement.specs.Algorithms.{leader_machine, alpha_machine}
-use Rattle.cdb_past.specs.Flags.{IsFlagged}
+use Rattle.cdb_rules.specs.Flags.{IsFlagged}
 use Rattle.cdb_rules.specs.RunView.{RunView}
 use Rattle.cdb_rules.specs.State.{Machine}
 use Rattle.cdb_setup.specs.declared.setup.Algorithm.{Algorithm}

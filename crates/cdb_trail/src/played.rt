@@ -9,7 +9,7 @@ use crate::flow::{Flow, Spot};
 use crate::flowing::Flowing;
 use crate::payload::value_of;
 use cdb_base::{Event, Kind, MsgName, NoMemory, Proc, Val};
-use cdb_past::Chronicle;
+use cdb_rules::Trace;
 use cdb_process::Process;
 use cdb_run::Run;
 use std::alloc::Global;
@@ -70,7 +70,7 @@ fn take_next<P: Process>(alloc: Global, again: &mut Run<P>, event: &Event) -> Re
 /// The run as it stands before its event at position `count`, from 0, and the flows of the events before it.
 pub(crate) fn play_before<P: Flowing>(
     alloc: Global,
-    run: &Chronicle,
+    run: &Trace,
     count: usize,
 ) -> Result<(Run<P>, Vec<Flow<P::Slot>>), NoMemory>
     requires valid { IsInOrder P.table run.now }

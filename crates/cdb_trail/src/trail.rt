@@ -13,7 +13,7 @@ use crate::walk::walk_back;
 use cdb_alpha::Alpha;
 use cdb_base::{NoMemory, Proc, Val};
 use cdb_leader::Leader;
-use cdb_past::Chronicle;
+use cdb_rules::Trace;
 use cdb_setup::Algorithm;
 use std::alloc::Global;
 
@@ -29,7 +29,7 @@ pub struct Trail {
 /// The trail to the step at a position, from 1, of a run of that machine; none where the step takes no value.
 fn trail_by<P: Flowing>(
     alloc: Global,
-    run: &Chronicle,
+    run: &Trace,
     position: usize,
 ) -> Result<Option<Trail>, NoMemory>
     requires valid { is_in_order P.table run.now }
@@ -61,7 +61,7 @@ fn trail_by<P: Flowing>(
 
 /// The trail along which a value came to the step at a position, from 1; none where the step takes no value. It plays
 /// the run again up to the step, and goes back from there once. `NoMemory` if an allocation fails.
-pub fn trail_of(alloc: Global, run: &Chronicle, position: usize) -> Result<Option<Trail>, NoMemory>
+pub fn trail_of(alloc: Global, run: &Trace, position: usize) -> Result<Option<Trail>, NoMemory>
     requires valid { IsInOrder rules run.now }
     requires from_one { 1 ≤ position }
     requires to_len { position ≤ length run.now.history }

@@ -7,7 +7,7 @@ ghost use Rattle.cdb_trail.specs.Trailed.{FlagsTrail};
 use crate::flow::{Flow, Spot};
 use crate::flowing::Flowing;
 use cdb_base::{NoMemory, Proc};
-use cdb_past::Chronicle;
+use cdb_rules::Trace;
 use std::alloc::Global;
 
 /// Whether the two are one spot.
@@ -44,7 +44,7 @@ fn sets<P: Flowing>(flow: &Flow<P::Slot>, spot: &Spot<P::Slot>) -> bool
 /// returns the process at whose input the trail begins.
 pub(crate) fn walk_back<P: Flowing>(
     alloc: Global,
-    run: &Chronicle,
+    run: &Trace,
     flows: &[Flow<P::Slot>],
     from: Spot<P::Slot>,
 ) -> Result<(Proc, Vec<bool>), NoMemory>

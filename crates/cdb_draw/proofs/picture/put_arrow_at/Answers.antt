@@ -2,7 +2,7 @@ use Rattle.std.proofs.Common.{◌<◌, ◌-◌, Bool, false, List, ℕ, get_or, 
 use Rattle.cdb_base.specs.Positions.{nth}
 use Rattle.cdb_base.specs.declared.event.Event.{Event}
 use Rattle.cdb_causal.proofs.FromOne.{by_next}
-use Rattle.cdb_past.proofs.Flagged.{item_one}
+use Rattle.cdb_rules.proofs.Flagged.{item_one}
 use Rattle.cdb_explain.proofs.Flagging.{flag_read}
 use Rattle.cdb_explain.specs.Flagged.{is_flagged}
 use Rattle.cdb_draw.specs.declared.layout.Grid.{Grid}

@@ -1,6 +1,6 @@
 use Rattle.std.proofs.Common.{◌≡◌, ◌<◌, ◌-◌, false, get_or, length, refl, ap, arith}
 use Rattle.cdb_causal.proofs.FromOne.{by_next}
-use Rattle.cdb_past.proofs.Flagged.{item_at}
+use Rattle.cdb_rules.proofs.Flagged.{item_at}
 use Rattle.cdb_explain.proofs.Flagging.{flag_read}
 use Rattle.cdb_explain.specs.Explanations.{run_after}
 use Rattle.cdb_explain.specs.Flagged.{is_flagged}

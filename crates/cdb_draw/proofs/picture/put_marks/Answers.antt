@@ -2,7 +2,7 @@ use Rattle.cdb_base.specs.Memory.{no_memory}
 use Rattle.std.proofs.Common.{rules, ◌+◌, ◌<◌, ◌≡◌, length, ap, arith}
 use Rattle.std.proofs.lemmas.Result.{err_from_is_err_and}
 use Rattle.cdb_draw.specs.EventMarks.{mark_at}
-use Rattle.cdb_past.proofs.Flagged.{item_at}
+use Rattle.cdb_rules.proofs.Flagged.{item_at}
 use Rattle.cdb_explain.proofs.Along.{next_along, next_valid}
 use Rattle.cdb_streams.specs.declared.buffer.OutputFault.TheVariants.{NoMemory}
 use Rattle.cdb_streams.proofs.Putting.{put_nothing, puts_nothing}

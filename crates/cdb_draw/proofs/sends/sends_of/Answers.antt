@@ -1,7 +1,7 @@
 use Rattle.std.proofs.Common.{take, refl, arith}
 use Rattle.std.proofs.lemmas.List.{length-take-le}
-use Rattle.cdb_past.proofs.Beginnings.{one_more}
-use Rattle.cdb_past.proofs.Flagged.{item_at}
+use Rattle.cdb_rules.proofs.Beginnings.{one_more}
+use Rattle.cdb_rules.proofs.Flagged.{item_at}
 use Rattle.cdb_draw.proofs.sends.sends_of.Goals as goal
 
 pub loop-i-preserved : goal.loop-i-preserved

@@ -27,7 +27,7 @@ returns-clause-left g c =
           is = c.in_ok-run.ensures.is ∙ run_left rules setup commands control along;
         },
       );
-      headline = headline_left rules setup commands control along g.T.Runs.same_state c.chronicle_of.ensures.headline;
+      headline = headline_left rules setup commands control along g.T.Runs.same_state c.trace_of.ensures.headline;
     }
 
 pub returns-in_err-setup-clause-written : goal.returns-in_err-setup-clause-written

@@ -1,6 +1,6 @@
 use Rattle.std.proofs.Common.{ℕ, ◌+◌, ◌<◌, length, string_bytes, true, false, sym, ap, ◌∙◌, arith}
 use Rattle.cdb_base.specs.declared.event.Event.{Event}
-use Rattle.cdb_past.proofs.Flagged.{item_at}
+use Rattle.cdb_rules.proofs.Flagged.{item_at}
 use Rattle.cdb_rules.specs.RunView.{RunView}
 use Rattle.cdb_setup.specs.Parts.{AreInRange}
 use Rattle.cdb_explain.specs.Explanations.{line_at, line_text}

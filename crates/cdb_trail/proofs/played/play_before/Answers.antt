@@ -1,6 +1,6 @@
 use Rattle.std.proofs.Common.{◌≡◌, length, take, Some, slice_get, sym, ap, ◌∙◌, subst, arith, rules}
 use Rattle.cdb_base.specs.declared.event.Event.{Event}
-use Rattle.cdb_past.proofs.Flagged.{item_at}
+use Rattle.cdb_rules.proofs.Flagged.{item_at}
 use Rattle.cdb_rules.specs.Runs.{with_history}
 use Rattle.cdb_trail.specs.Played.{AreFirstFlows}
 use Rattle.cdb_trail.proofs.Playing.{next_valid, next_along, flow_is, one_flow_more}

@@ -9,7 +9,6 @@ use cdb_agreement::{agreement, laws};
 use cdb_any_run::{AnyRun, Runs};
 use cdb_base::{Act, CopyName, MsgName, Proc, Reg, StepId, StepName};
 use cdb_leader::{Back, Leader};
-use cdb_past::Chronicled;
 use std::process::Abort;
 
 /// Takes a step of process 1.

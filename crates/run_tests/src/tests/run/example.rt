@@ -7,7 +7,6 @@ ghost use Rattle.cdb_rules.specs.Refusals.{IsOfRun};
 use cdb_any_run::AnyRun;
 use cdb_base::{Event, Kind, MsgName, NoMemory, Proc, Refusal, Reg};
 use cdb_control::Command;
-use cdb_past::Chronicled;
 use cdb_rules::{EventRef, Runs};
 use cdb_setup::{Setup, SetupFault};
 use cdb_text::parse_line;

@@ -12,7 +12,7 @@ use Rattle.cdb_causal.specs.Names.{IsNamedAt}
 use Rattle.cdb_causal.proofs.FromOne.{by_next}
 use Rattle.cdb_standing.specs.LedTo.{IsPastOfName, IsUpTo}
 use Rattle.cdb_standing.proofs.Rows.{nth_back, nth_front, nth_push, nth_some, nth_within, same_at}
-use Rattle.cdb_past.specs.Flags.{IsFlagged, FlagsPast}
+use Rattle.cdb_rules.specs.Flags.{IsFlagged, FlagsPast}
 
 -- the first n events are flagged where they are up to the numbers
 pub record IsFlagging (numbers : List ℕ) (name : StepId) (events : List Event) (n : ℕ) (flags : List Bool) : Type 0 where

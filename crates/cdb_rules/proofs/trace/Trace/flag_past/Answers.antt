@@ -1,7 +1,7 @@
 use Rattle.std.proofs.Common.{◌≡◌, length, refl, sym, ap, arith}
 use Rattle.cdb_rules.specs.RunView.{RunView}
-use Rattle.cdb_past.proofs.Flagged.{flagged_more, flags_past, item_at, item_one}
-use Rattle.cdb_past.proofs.chronicle.Chronicle.flag_past.Goals as goal
+use Rattle.cdb_rules.proofs.Flagged.{flagged_more, flags_past, item_at, item_one}
+use Rattle.cdb_rules.proofs.trace.Trace.flag_past.Goals as goal
 
 pub past-numbers-requires : goal.past-numbers-requires
 past-numbers-requires c =

@@ -8,15 +8,15 @@ ghost use Rattle.std.specs.Prelude.{◌≡◌, ◌≤◌, length, IfOk};
 use cdb_base::NoMemory;
 use cdb_base::limits::MAX_ENTRIES;
 use cdb_control::Control;
-use cdb_past::{Chronicle, Chronicled};
+use cdb_rules::{Runs, Trace};
 use std::alloc::Global;
 
 /// What stands in the run of a control: no more events than the journal has entries. All else of the control is
 /// given up.
-pub(crate) fn chronicle_of<T: Chronicled>(
+pub(crate) fn trace_of<T: Runs>(
     alloc: Global,
     control: Control<T>,
-) -> Result<Chronicle, NoMemory>
+) -> Result<Trace, NoMemory>
     ensures is { IfOk result (λ run. run ≡ run_of T.rules control) }
     ensures valid { IfOk result (IsInOrder T.rules) }
     ensures few { IfOk result (λ run. length run.history ≤ MAX_ENTRIES) }
@@ -28,5 +28,5 @@ pub(crate) fn chronicle_of<T: Chronicled>(
     // Its clause says that the parts of the setup are in range.
     let _ranges = run.setup().n();
     let (setup, history) = run.into_parts();
-    Chronicle::new(alloc, setup, history)
+    Trace::new(alloc, setup, history)
 }

@@ -2,7 +2,7 @@ use Rattle.std.proofs.Common.{◌≤◌, ◌∙◌, length, Result, Ok, Err, IfO
 use Rattle.cdb_rules.specs.RunView.{RunView}
 use Rattle.cdb_setup.specs.Parts.{AreInRange}
 use Rattle.cdb_explain.proofs.Bounded.{few_events}
-use Rattle.cdb_explain.proofs.chronicle.chronicle_of.Goals as goal
+use Rattle.cdb_explain.proofs.trace.trace_of.Goals as goal
 
 kept_as : {A E : Type 0} {P Q : A → Type 0} (result : Result A E) → ((value : A) → P value → Q value) → IfOk result P → IfOk result Q
 kept_as (Ok value) so is = so value is

@@ -1,12 +1,17 @@
-//! What stands in a run, and the trait of a run that can be given up for it.
+//! What stands in a run, and what led to an event: its past, flagged by position in the history.
+//!
+//! ```text
+//! let (setup, history) = run.into_parts();
+//! let run = Trace::new(alloc, setup, history)?;
+//! let flags = run.flag_past(alloc, 4)?;
+//! let led_to_it = flags[0];
+//! ```
 
 ghost use Rattle.std.specs.Prelude.{◌≡◌, ◌≤◌, length, IfOk};
-ghost use Rattle.cdb_past.specs.Flags.{FlagsPast};
-ghost use Rattle.cdb_rules.specs.ByRules.{IsInOrder};
+ghost use Rattle.cdb_rules.specs.Flags.{FlagsPast};
 
 use crate::past::is_up_to;
 use cdb_base::{Event, NoMemory};
-use cdb_rules::Runs;
 use cdb_setup::Setup;
 use cdb_standing::History;
 use std::alloc::Global;
@@ -14,14 +19,14 @@ use std::marker::Model;
 
 /// The setup of a run and its standing events, without what they have come to and what takes them back.
 #[derive(Drop)]
-pub struct Chronicle {
+pub struct Trace {
     setup: Setup,
     history: History,
     /// The events of the history, in order.
     events: Vec<Event>,
 }
 
-impl Model for Chronicle {
+impl Model for Trace {
     ghost use Rattle.std.specs.Prelude.{◌≡◌};
     ghost use Rattle.cdb_rules.specs.RunView.{RunView};
 
@@ -32,13 +37,13 @@ impl Model for Chronicle {
     ghost invariant = { λ fields. fields.events.items ≡ fields.history };
 }
 
-impl Chronicle {
+impl Trace {
     /// A setup with events that stand.
     pub fn new(alloc: Global, setup: Setup, history: History) -> Result<Self, NoMemory>
         ensures { IfOk result (λ run. run ≡ record { setup = setup; history = history }) }
     {
         let events = history.to_vec(alloc)?;
-        Ok(Chronicle {
+        Ok(Trace {
             setup,
             history,
             events,
@@ -75,12 +80,4 @@ impl Chronicle {
         }
         Ok(flags)
     }
-}
-
-/// A run that can be given up for what stands in it.
-pub trait Chronicled: Runs {
-    /// The setup of the run and its standing events, each of which was enabled in its turn. All else is given up.
-    fn into_parts(self) -> (Setup, History)
-        ensures run { Self.run self ≡ record { setup = result.0; history = result.1 } }
-        ensures valid { IsInOrder Self.rules (Self.run self) };
 }

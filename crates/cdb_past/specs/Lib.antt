@@ -1,2 +1,0 @@
--- ---- what the public contracts name
-pub mod Flags
