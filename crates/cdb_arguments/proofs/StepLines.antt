@@ -193,7 +193,7 @@ draw_line_alone : (name setup script : Text) → ArePlain (setup ∷ script ∷ 
 unfolding clap_on_literals program draw_shape
 draw_line_alone name setup script plain =
     let words = setup ∷ script ∷ [] in
-    let passes = ((refl, refl, tt), refl, ((refl, refl, tt), refl, tt)) in
+    let passes : ValuesPass draw_shape (walk_from nothing_held) words = ((refl, refl, tt), refl, ((refl, refl, tt), refl, tt)) in
     record {
       rows = finished draw_shape.rules (held_after draw_shape words);
       asked = line_asked (codes "draw") draw_shape draw_takes.sub name words plain passes;

@@ -1,6 +1,6 @@
 //! A script is carried out without its replies, and the trail to a step of the run that it leaves is written.
 
-ghost use Rattle.std.specs.Prelude.{◌≡◌, length, Err, IfErr, IfOk};
+ghost use Rattle.std.specs.Prelude.{◌≡◌, ◌≤◌, length, None, Err, IfErr, IfOk, MatchOption};
 ghost use Rattle.cdb_agreement.specs.Algorithms.{rules};
 ghost use Rattle.cdb_explain.specs.Asked.{StandsNoStep};
 ghost use Rattle.cdb_explain.specs.Explained.{explain_ending};
@@ -12,7 +12,8 @@ ghost use Rattle.cdb_streams.specs.Streams.{FailsWhere};
 ghost use Rattle.cdb_streams.specs.Written.{IsWritten};
 ghost use Rattle.cdb_streams.specs.declared.fault.PlayFault.TheVariants as play;
 ghost use Rattle.cdb_text.specs.Pushes.{Pushes};
-ghost use Rattle.cdb_trail.specs.Written.{proposal_text, trail_text, IsFaultOfTrail, IsTrailToStep, TakesNoValue, WritesTrail};
+ghost use Rattle.cdb_trail.specs.Trailed.{IsTrailIn};
+ghost use Rattle.cdb_trail.specs.Written.{proposal_text, trail_text, IsFaultOfTrail, IsTrailText, IsTrailToStep, TakesNoValue, WritesTrail};
 
 use crate::trail::{Trail, trail_of};
 use cdb_any_run::AnyRun;
@@ -40,33 +41,36 @@ fn text_of_trail(alloc: Global, run: &Chronicle, trail: &Trail) -> Result<Vec<u8
 {
     let mut text = String::new(alloc);
     push_proposal(&mut text, trail.proposer, trail.value)?;
-    push_flagged::<AnyRun>(alloc, &mut text, Causes::Hidden, run, trail.flags.as_slice())?;
+    push_flagged::<AnyRun>(
+        alloc,
+        &mut text,
+        Causes::Hidden,
+        run,
+        trail.flags.as_slice(),
+    )?;
     Ok(text.into_bytes())
 }
 
-/// The text of the trail to a step of this run. `NoStep` where no such step stands, `NoValue` where it takes no value,
-/// and `Play(NoMemory)` if an allocation fails.
-fn trail_to(
+/// The text of the trail to the step at a position, from 1, of this run; none where the step takes no value.
+fn text_of_trail_to(
     alloc: Global,
     run: &Chronicle,
-    p: u32,
-    k: Option<u32>,
-) -> Result<Vec<u8>, ExplainFault>
-    requires { IsInOrder rules run.now }
-    ensures text { IfOk result (λ text. IsTrailToStep run.now p k text.items) }
-    ensures fault { IfErr result
-        (IsFaultOfStep (StandsNoStep run.now.history p k) (TakesNoValue run.now p k)) }
+    position: usize,
+) -> Result<Option<Vec<u8>>, NoMemory>
+    requires valid { IsInOrder rules run.now }
+    requires from_one { 1 ≤ position }
+    requires to_len { position ≤ length run.now.history }
+    ensures { IfOk result (λ text. MatchOption text (IsTrailIn run.now position None)
+        (λ text. IsTrailText run.now position text.items)) }
 {
-    let Some(position) = position_of_step(run.history(), p, k) else {
-        return Err(ExplainFault::NoStep);
-    };
-    let Some(trail) = trail_of(alloc, run, position)? else {
-        return Err(ExplainFault::NoValue);
-    };
-    Ok(text_of_trail(alloc, run, &trail)?)
+    match trail_of(alloc, run, position)? {
+        Some(trail) => Ok(Some(text_of_trail(alloc, run, &trail)?)),
+        None => Ok(None),
+    }
 }
 
-/// Writes the trail to a step of this run, whose text is whole before any of it is written.
+/// Writes the trail to a step of this run, whose text is whole before any of it is written. `NoStep` where no such step
+/// stands, and `NoValue` where it takes no value.
 fn write_trail_to<W: Sink>(
     alloc: Global,
     run: &Chronicle,
@@ -80,7 +84,12 @@ fn write_trail_to<W: Sink>(
     ensures fault { IfErr result
         (IsFaultOfStep (StandsNoStep run.now.history p k) (TakesNoValue run.now p k)) }
 {
-    let text = trail_to(alloc, run, p, k)?;
+    let Some(position) = position_of_step(run.history(), p, k) else {
+        return Err(ExplainFault::NoStep);
+    };
+    let Some(text) = text_of_trail_to(alloc, run, position)? else {
+        return Err(ExplainFault::NoValue);
+    };
     write_text(alloc, text.as_slice(), out)?;
     Ok(())
 }
