@@ -13,15 +13,15 @@ use Rattle.std.proofs.lemmas.Result.{IfOk-weaker}
 use Rattle.clap.specs.Words.{Row, Text, first_of, subcommand_of, takes}
 use Rattle.clap.specs.declared.builder.value_parser.ValueParser.TheVariants as vp
 use Rattle.clap.proofs.ValueTestLemmas.{Accepts-accepts}
-use Rattle.cdb_arguments.specs.Asking.{NamesAsked, IsRequest, IsPlayOf, IsRaceOf, IsExplainOf, IsDrawOf, IsDebugOf, IsTurns, IsNumber, IsNumberOf, text_at, texts_at}
+use Rattle.cdb_arguments.specs.Asking.{NamesAsked, IsRequest, IsPlayOf, IsRaceOf, IsExplainOf, IsTrailOf, IsDrawOf, IsDebugOf, IsTurns, IsNumber, IsNumberOf, text_at, texts_at}
 use Rattle.cdb_arguments.specs.CommandLine.{program}
-use Rattle.cdb_arguments.specs.Plain.{IsNameAlone, IsNumberOfTurns, IsPlain, IsPlayLine, IsRaceLine, IsExplainLine, IsDrawLine, IsDebugLine}
+use Rattle.cdb_arguments.specs.Plain.{IsNameAlone, IsNumberOfTurns, IsPlain, IsPlayLine, IsRaceLine, IsExplainLine, IsTrailLine, IsDrawLine, IsDebugLine}
 use Rattle.cdb_arguments.specs.declared.request.AskFault.{AskFault}
 use Rattle.cdb_arguments.specs.declared.request.AskFault.TheVariants.{NoMemory}
 use Rattle.cdb_arguments.specs.declared.request.Asked.{Asked}
-use Rattle.cdb_arguments.specs.declared.request.Asked.TheVariants.{Script, Play, Race, Explain, Draw, Debug}
+use Rattle.cdb_arguments.specs.declared.request.Asked.TheVariants.{Script, Play, Race, Explain, Trail, Draw, Debug}
 use Rattle.cdb_base.specs.Memory.{no_memory}
-use Rattle.cdb_arguments.proofs.StepLines.{OptionWritesNumber, StepLine, explain_line, draw_line}
+use Rattle.cdb_arguments.proofs.StepLines.{OptionWritesNumber, StepLine, explain_line, trail_line, draw_line}
 use Rattle.cdb_arguments.proofs.SeatLines.{SeatLine, debug_line}
 use Rattle.cdb_arguments.proofs.Lines.{nothing_asked, nothing_taken, play_asked, play_taken, PlayRows, race_asked, race_taken, RaceRows, AcceptsTurns}
 
@@ -32,6 +32,7 @@ script_is found Script none asks = refl
 script_is found (Play a b) none asks = absurd (none-some _ (sym none ∙ asks.1))
 script_is found (Race a n b) none asks = absurd (none-some _ (sym none ∙ asks.1))
 script_is found (Explain a b p k) none asks = absurd (none-some _ (sym none ∙ asks.1))
+script_is found (Trail a b p k) none asks = absurd (none-some _ (sym none ∙ asks.1))
 script_is found (Draw a b p k) none asks = absurd (none-some _ (sym none ∙ asks.1))
 script_is found (Debug a b) none asks = absurd (none-some _ (sym none ∙ asks.1))
 
@@ -60,6 +61,7 @@ play_is found rows setup script (Play a b) is have asks =
     )
 play_is found rows setup script (Race a n b) is have asks = absurd (other_name found _ (codes "race") rows asks.0 is asks.1 refl refl)
 play_is found rows setup script (Explain a b p k) is have asks = absurd (other_name found _ (codes "explain") rows asks.0 is asks.1 refl refl)
+play_is found rows setup script (Trail a b p k) is have asks = absurd (other_name found _ (codes "trail") rows asks.0 is asks.1 refl refl)
 play_is found rows setup script (Draw a b p k) is have asks = absurd (other_name found _ (codes "draw") rows asks.0 is asks.1 refl refl)
 play_is found rows setup script (Debug a b) is have asks = absurd (other_name found _ (codes "debug") rows asks.0 is asks.1 refl refl)
 
@@ -68,6 +70,7 @@ race_is : (found : Option (Text × List Row)) (rows : List Row) (setup text : Te
 race_is found rows setup text turns scripts Script is have number asks = absurd (none-some _ (sym asks ∙ is))
 race_is found rows setup text turns scripts (Play a b) is have number asks = absurd (other_name found _ (codes "play") rows asks.0 is asks.1 refl refl)
 race_is found rows setup text turns scripts (Explain a b p k) is have number asks = absurd (other_name found _ (codes "explain") rows asks.0 is asks.1 refl refl)
+race_is found rows setup text turns scripts (Trail a b p k) is have number asks = absurd (other_name found _ (codes "trail") rows asks.0 is asks.1 refl refl)
 race_is found rows setup text turns scripts (Draw a b p k) is have number asks = absurd (other_name found _ (codes "draw") rows asks.0 is asks.1 refl refl)
 race_is found rows setup text turns scripts (Debug a b) is have number asks = absurd (other_name found _ (codes "debug") rows asks.0 is asks.1 refl refl)
 race_is found rows setup text turns scripts (Race a n b) is have number asks =
@@ -94,10 +97,28 @@ explain_is : (setup script : Text) (p : ℕ) (k : Option ℕ) (words : List Text
 explain_is setup script p k words Script line asks = absurd (none-some _ (sym asks ∙ line.asked))
 explain_is setup script p k words (Play a b) line asks = absurd (other_name _ _ (codes "play") line.rows asks.0 line.asked asks.1 refl refl)
 explain_is setup script p k words (Race a n b) line asks = absurd (other_name _ _ (codes "race") line.rows asks.0 line.asked asks.1 refl refl)
+explain_is setup script p k words (Trail a b q l) line asks = absurd (other_name _ _ (codes "trail") line.rows asks.0 line.asked asks.1 refl refl)
 explain_is setup script p k words (Draw a b q l) line asks = absurd (other_name _ _ (codes "draw") line.rows asks.0 line.asked asks.1 refl refl)
 explain_is setup script p k words (Debug a b) line asks = absurd (other_name _ _ (codes "debug") line.rows asks.0 line.asked asks.1 refl refl)
 explain_is setup script p k words (Explain a b q l) line asks =
     let same = same_rows _ (codes "explain") (codes "explain") line.rows asks.0 line.asked asks.1 in
+    let p_text : text_at (codes "P") asks.0 ≡ unwrap_or line.p_text [] = ap (text_at (codes "P")) same ∙ ap (λ t. unwrap_or t []) line.p_at in (
+      asks.2 ∙ ap (text_at (codes "SETUP")) same ∙ ap (λ t. unwrap_or t []) line.setup_at,
+      asks.3 ∙ ap (text_at (codes "SCRIPT")) same ∙ ap (λ t. unwrap_or t []) line.script_at,
+      own_number line.p_text p q line.p_written (subst (λ t. IsNumber t q) p_text asks.4),
+      number_is line.k_text k l line.k_written (subst (λ t. IsNumberOf t l) (ap (first_of (codes "K")) same ∙ line.k_at) asks.5),
+    )
+
+trail_is : (setup script : Text) (p : ℕ) (k : Option ℕ) (words : List Text) (asked : Asked) → StepLine (codes "trail") setup script (Some p) k words
+    → NamesAsked (subcommand_of program words) asked → IsTrailOf setup script p k asked
+trail_is setup script p k words Script line asks = absurd (none-some _ (sym asks ∙ line.asked))
+trail_is setup script p k words (Play a b) line asks = absurd (other_name _ _ (codes "play") line.rows asks.0 line.asked asks.1 refl refl)
+trail_is setup script p k words (Race a n b) line asks = absurd (other_name _ _ (codes "race") line.rows asks.0 line.asked asks.1 refl refl)
+trail_is setup script p k words (Explain a b q l) line asks = absurd (other_name _ _ (codes "explain") line.rows asks.0 line.asked asks.1 refl refl)
+trail_is setup script p k words (Draw a b q l) line asks = absurd (other_name _ _ (codes "draw") line.rows asks.0 line.asked asks.1 refl refl)
+trail_is setup script p k words (Debug a b) line asks = absurd (other_name _ _ (codes "debug") line.rows asks.0 line.asked asks.1 refl refl)
+trail_is setup script p k words (Trail a b q l) line asks =
+    let same = same_rows _ (codes "trail") (codes "trail") line.rows asks.0 line.asked asks.1 in
     let p_text : text_at (codes "P") asks.0 ≡ unwrap_or line.p_text [] = ap (text_at (codes "P")) same ∙ ap (λ t. unwrap_or t []) line.p_at in (
       asks.2 ∙ ap (text_at (codes "SETUP")) same ∙ ap (λ t. unwrap_or t []) line.setup_at,
       asks.3 ∙ ap (text_at (codes "SCRIPT")) same ∙ ap (λ t. unwrap_or t []) line.script_at,
@@ -111,6 +132,7 @@ draw_is setup script p k words Script line asks = absurd (none-some _ (sym asks 
 draw_is setup script p k words (Play a b) line asks = absurd (other_name _ _ (codes "play") line.rows asks.0 line.asked asks.1 refl refl)
 draw_is setup script p k words (Race a n b) line asks = absurd (other_name _ _ (codes "race") line.rows asks.0 line.asked asks.1 refl refl)
 draw_is setup script p k words (Explain a b q l) line asks = absurd (other_name _ _ (codes "explain") line.rows asks.0 line.asked asks.1 refl refl)
+draw_is setup script p k words (Trail a b q l) line asks = absurd (other_name _ _ (codes "trail") line.rows asks.0 line.asked asks.1 refl refl)
 draw_is setup script p k words (Debug a b) line asks = absurd (other_name _ _ (codes "debug") line.rows asks.0 line.asked asks.1 refl refl)
 draw_is setup script p k words (Draw a b q l) line asks =
     let same = same_rows _ (codes "draw") (codes "draw") line.rows asks.0 line.asked asks.1 in (
@@ -125,6 +147,7 @@ debug_is setup seats words Script line asks = absurd (none-some _ (sym asks ∙ 
 debug_is setup seats words (Play a b) line asks = absurd (other_name _ _ (codes "play") line.rows asks.0 line.asked asks.1 refl refl)
 debug_is setup seats words (Race a n b) line asks = absurd (other_name _ _ (codes "race") line.rows asks.0 line.asked asks.1 refl refl)
 debug_is setup seats words (Explain a b q l) line asks = absurd (other_name _ _ (codes "explain") line.rows asks.0 line.asked asks.1 refl refl)
+debug_is setup seats words (Trail a b q l) line asks = absurd (other_name _ _ (codes "trail") line.rows asks.0 line.asked asks.1 refl refl)
 debug_is setup seats words (Draw a b q l) line asks = absurd (other_name _ _ (codes "draw") line.rows asks.0 line.asked asks.1 refl refl)
 debug_is setup seats words (Debug a b) line asks =
     let same = same_rows _ (codes "debug") (codes "debug") line.rows asks.0 line.asked asks.1 in (
@@ -182,6 +205,16 @@ explain_asked_for words result ok taken setup script p k line =
     let its = explain_line line.2.0.0 setup script line.0 p k line.1 line.2.1 in
     let its_words : StepLine (codes "explain") setup script (Some p) k words = subst (StepLine (codes "explain") setup script (Some p) k) (sym line.2.0.1) its in (
       IfOk-weaker result _ _ (λ asked asks. explain_is setup script p k words asked its_words asks) ok,
+      taken its_words.taken,
+    )
+
+pub trail_asked_for : (words : List Text) (result : Result Asked AskFault) → IfOk result (NamesAsked (subcommand_of program words))
+    → (takes program words ≡ true → IfErr result (λ fault. fault ≡ NoMemory no_memory)) → (setup script : Text) (p : ℕ) (k : Option ℕ) → IsTrailLine words setup script p k
+    → IsRequest result (IsTrailOf setup script p k)
+trail_asked_for words result ok taken setup script p k line =
+    let its = trail_line line.2.0.0 setup script line.0 p k line.1 line.2.1 in
+    let its_words : StepLine (codes "trail") setup script (Some p) k words = subst (StepLine (codes "trail") setup script (Some p) k) (sym line.2.0.1) its in (
+      IfOk-weaker result _ _ (λ asked asks. trail_is setup script p k words asked its_words asks) ok,
       taken its_words.taken,
     )
 

@@ -1,4 +1,4 @@
--- What clap makes of the lines of an explanation and of a picture, whose last texts may be left out.
+-- What clap makes of the lines of an explanation, of a trail and of a picture, whose last texts may be left out.
 use Rattle.std.proofs.Common.{◌≡◌, ◌∙◌, ◌≤◌, ℕ, true, false, List, [], ◌∷◌, Option, Some, None, refl, ap, sym, subst, codes, pos, arith, w64}
 use Rattle.std.specs.Prelude.{fold, unwrap_or, slice_get}
 use Rattle.std.specs.Str.Parse.{digits_value, without_leading_plus}
@@ -7,7 +7,7 @@ use Rattle.std.proofs.Math.Dec.{le→leb}
 use Rattle.clap.specs.Simple.{Shape, new_shape, built}
 use Rattle.clap.specs.ValueTests.{accepts}
 use Rattle.clap.specs.Values.{IsSignedIn}
-use Rattle.clap.specs.Walk.{Row, Text, walk_from, nothing_held, finished}
+use Rattle.clap.specs.Walk.{Held, Row, Text, walk_from, nothing_held, finished}
 use Rattle.clap.specs.Words.{first_of, subcommand_of, takes}
 use Rattle.clap.specs.declared.builder.value_parser.ValueParser.TheVariants as vp
 use Rattle.clap.proofs.OnLiterals.{clap_on_literals}
@@ -55,126 +55,149 @@ pub record StepLine (command setup script : Text) (p k : Option ℕ) (words : Li
   pub k_at : first_of (codes "K") rows ≡ k_text
   pub k_written : OptionWritesNumber k_text k
 
+-- ---- a subcommand that takes the files of a setup and of a script, and a step
+
+-- the matches have these texts
+abbrev HasTexts : Text → Text → Option Text → Option Text → List Row → Type 0
+HasTexts setup script p k rows =
+    (first_of (codes "SETUP") rows ≡ Some setup) × (first_of (codes "SCRIPT") rows ≡ Some script) × (first_of (codes "P") rows ≡ p) × (first_of (codes "K") rows ≡ k)
+
+-- what clap holds once it has met these texts
+abbrev held_after : Shape → List Text → Held
+held_after shape texts = (fold (with_value shape.rules) (walk_from nothing_held) texts).held
+
+-- clap goes by this shape after this name, which takes a process, and after it a step or none
+record TakesStep (command : Text) (shape : Shape) : Type 0 where
+  sub : IsSub command shape
+  passes : (setup script p : Text) → ValuesPass shape (walk_from nothing_held) (setup ∷ script ∷ p ∷ [])
+  ends : (setup script p : Text) → AcceptsNumber p → EndPasses shape (held_after shape (setup ∷ script ∷ p ∷ []))
+  has : (setup script p : Text) → HasTexts setup script (Some p) None (finished shape.rules (held_after shape (setup ∷ script ∷ p ∷ [])))
+  passes_k : (setup script p k : Text) → AcceptsNumber p → ValuesPass shape (walk_from nothing_held) (setup ∷ script ∷ p ∷ k ∷ [])
+  ends_k : (setup script p k : Text) → AcceptsNumber k → EndPasses shape (held_after shape (setup ∷ script ∷ p ∷ k ∷ []))
+  has_k : (setup script p k : Text) → HasTexts setup script (Some p) (Some k) (finished shape.rules (held_after shape (setup ∷ script ∷ p ∷ k ∷ [])))
+
+module _ (command : Text) (shape : Shape) (takes : TakesStep command shape) (name setup script : Text) where
+  line_p : (text : Text) (p : ℕ) → WritesNumber text p → ArePlain (setup ∷ script ∷ text ∷ []) → StepLine command setup script (Some p) None (name ∷ command ∷ setup ∷ script ∷ text ∷ [])
+  line_p text p writes plain =
+      let words = setup ∷ script ∷ text ∷ [] in
+      let a = accepts_number text p plain.1.1.0 writes in
+      let has = takes.has setup script text in
+      record {
+        rows = finished shape.rules (held_after shape words);
+        asked = line_asked command shape takes.sub name words plain (takes.passes setup script text);
+        taken = line_taken command shape takes.sub name words plain (takes.passes setup script text) (takes.ends setup script text a);
+        setup_at = has.0;
+        script_at = has.1;
+        p_text = Some text;
+        p_at = has.2;
+        p_written = writes;
+        k_text = None;
+        k_at = has.3;
+        k_written = tt;
+      }
+
+  line_k : (text other : Text) (p k : ℕ) → WritesNumber text p → WritesNumber other k → ArePlain (setup ∷ script ∷ text ∷ other ∷ [])
+      → StepLine command setup script (Some p) (Some k) (name ∷ command ∷ setup ∷ script ∷ text ∷ other ∷ [])
+  line_k text other p k writes more plain =
+      let words = setup ∷ script ∷ text ∷ other ∷ [] in
+      let a = accepts_number text p plain.1.1.0 writes in
+      let b = accepts_number other k plain.1.1.1.0 more in
+      let has = takes.has_k setup script text other in
+      record {
+        rows = finished shape.rules (held_after shape words);
+        asked = line_asked command shape takes.sub name words plain (takes.passes_k setup script text other a);
+        taken = line_taken command shape takes.sub name words plain (takes.passes_k setup script text other a) (takes.ends_k setup script text other b);
+        setup_at = has.0;
+        script_at = has.1;
+        p_text = Some text;
+        p_at = has.2;
+        p_written = writes;
+        k_text = Some other;
+        k_at = has.3;
+        k_written = more;
+      }
+
+  step_line : (texts : List Text) (p : ℕ) (k : Option ℕ) → WritesStep texts (Some p) k → ArePlain (setup ∷ script ∷ texts)
+      → StepLine command setup script (Some p) k (name ∷ command ∷ setup ∷ script ∷ texts)
+  step_line texts p None writes plain =
+      let (text, more, is, first, second) = writes in
+      let all : texts ≡ text ∷ [] = is ∙ ap (λ rest. text ∷ rest) second in
+      subst (λ ts. ArePlain (setup ∷ script ∷ ts) → StepLine command setup script (Some p) None (name ∷ command ∷ setup ∷ script ∷ ts)) (sym all)
+      (line_p text p first) plain
+  step_line texts p (Some k) writes plain =
+      let (text, more, is, first, second) = writes in
+      let all : texts ≡ text ∷ second.0 ∷ [] = is ∙ ap (λ rest. text ∷ rest) second.1 in
+      subst (λ ts. ArePlain (setup ∷ script ∷ ts) → StepLine command setup script (Some p) (Some k) (name ∷ command ∷ setup ∷ script ∷ ts)) (sym all)
+      (line_k text second.0 p k first second.2) plain
+
 -- ---- an explanation
 
 explain_shape : Shape
 explain_shape = unwrap_or (slice_get (built program).subs 2) (new_shape [])
 
-explain_sub : IsSub (codes "explain") explain_shape
+explain_takes : TakesStep (codes "explain") explain_shape
 unfolding clap_on_literals program explain_shape
-explain_sub = record { stops = refl; turn = refl; end = refl; enters = λ words. refl; levels = λ words. refl }
-
-explain_values : (setup script p : Text) → ValuesPass explain_shape (walk_from nothing_held) (setup ∷ script ∷ p ∷ [])
-unfolding clap_on_literals program explain_shape
-explain_values setup script p = ((refl, refl, tt), refl, ((refl, refl, tt), refl, ((refl, refl, tt), refl, tt)))
-
-explain_end : (setup script p : Text) → AcceptsNumber p → EndPasses explain_shape (fold (with_value explain_shape.rules) (walk_from nothing_held) (setup ∷ script ∷ p ∷ [])).held
-unfolding clap_on_literals program explain_shape
-explain_end setup script p a = (rw a refl, refl, refl)
-
-explain_values_k : (setup script p k : Text) → AcceptsNumber p → ValuesPass explain_shape (walk_from nothing_held) (setup ∷ script ∷ p ∷ k ∷ [])
-unfolding clap_on_literals program explain_shape
-explain_values_k setup script p k a = ((refl, refl, tt), refl, ((refl, refl, tt), refl, ((refl, refl, tt), refl, ((refl, refl, tt), rw a refl, tt))))
-
-explain_end_k : (setup script p k : Text) → AcceptsNumber k → EndPasses explain_shape (fold (with_value explain_shape.rules) (walk_from nothing_held) (setup ∷ script ∷ p ∷ k ∷ [])).held
-unfolding clap_on_literals program explain_shape
-explain_end_k setup script p k a = (rw a refl, refl, refl)
-
-explain_line_p : (name setup script text : Text) (p : ℕ) → WritesNumber text p → ArePlain (setup ∷ script ∷ text ∷ [])
-    → StepLine (codes "explain") setup script (Some p) None (name ∷ codes "explain" ∷ setup ∷ script ∷ text ∷ [])
-unfolding clap_on_literals program explain_shape
-explain_line_p name setup script text p writes plain =
-    let words = setup ∷ script ∷ text ∷ [] in
-    let a = accepts_number text p plain.1.1.0 writes in
-    record {
-      rows = finished explain_shape.rules (fold (with_value explain_shape.rules) (walk_from nothing_held) words).held;
-      asked = line_asked (codes "explain") explain_shape explain_sub name words plain (explain_values setup script text);
-      taken = line_taken (codes "explain") explain_shape explain_sub name words plain (explain_values setup script text) (explain_end setup script text a);
-      setup_at = refl;
-      script_at = refl;
-      p_text = Some text;
-      p_at = refl;
-      p_written = writes;
-      k_text = None;
-      k_at = refl;
-      k_written = tt;
-    }
-
-explain_line_k : (name setup script text other : Text) (p k : ℕ) → WritesNumber text p → WritesNumber other k → ArePlain (setup ∷ script ∷ text ∷ other ∷ [])
-    → StepLine (codes "explain") setup script (Some p) (Some k) (name ∷ codes "explain" ∷ setup ∷ script ∷ text ∷ other ∷ [])
-unfolding clap_on_literals program explain_shape
-explain_line_k name setup script text other p k writes more plain =
-    let words = setup ∷ script ∷ text ∷ other ∷ [] in
-    let a = accepts_number text p plain.1.1.0 writes in
-    let b = accepts_number other k plain.1.1.1.0 more in
-    record {
-      rows = finished explain_shape.rules (fold (with_value explain_shape.rules) (walk_from nothing_held) words).held;
-      asked = line_asked (codes "explain") explain_shape explain_sub name words plain (explain_values_k setup script text other a);
-      taken = line_taken (codes "explain") explain_shape explain_sub name words plain (explain_values_k setup script text other a) (explain_end_k setup script text other b);
-      setup_at = refl;
-      script_at = refl;
-      p_text = Some text;
-      p_at = refl;
-      p_written = writes;
-      k_text = Some other;
-      k_at = refl;
-      k_written = more;
-    }
+explain_takes = record {
+  sub = record { stops = refl; turn = refl; end = refl; enters = λ words. refl; levels = λ words. refl };
+  passes = λ setup script p. ((refl, refl, tt), refl, ((refl, refl, tt), refl, ((refl, refl, tt), refl, tt)));
+  ends = λ setup script p a. (rw a refl, refl, refl);
+  has = λ setup script p. (refl, refl, refl, refl);
+  passes_k = λ setup script p k a. ((refl, refl, tt), refl, ((refl, refl, tt), refl, ((refl, refl, tt), refl, ((refl, refl, tt), rw a refl, tt))));
+  ends_k = λ setup script p k a. (rw a refl, refl, refl);
+  has_k = λ setup script p k. (refl, refl, refl, refl);
+}
 
 pub explain_line : (name setup script : Text) (texts : List Text) (p : ℕ) (k : Option ℕ) → WritesStep texts (Some p) k → ArePlain (setup ∷ script ∷ texts)
     → StepLine (codes "explain") setup script (Some p) k (name ∷ codes "explain" ∷ setup ∷ script ∷ texts)
-explain_line name setup script texts p None writes plain =
-    let (text, more, is, first, second) = writes in
-    let all : texts ≡ text ∷ [] = is ∙ ap (λ rest. text ∷ rest) second in
-    subst (λ ts. ArePlain (setup ∷ script ∷ ts) → StepLine (codes "explain") setup script (Some p) None (name ∷ codes "explain" ∷ setup ∷ script ∷ ts)) (sym all)
-    (explain_line_p name setup script text p first) plain
-explain_line name setup script texts p (Some k) writes plain =
-    let (text, more, is, first, second) = writes in
-    let all : texts ≡ text ∷ second.0 ∷ [] = is ∙ ap (λ rest. text ∷ rest) second.1 in
-    subst (λ ts. ArePlain (setup ∷ script ∷ ts) → StepLine (codes "explain") setup script (Some p) (Some k) (name ∷ codes "explain" ∷ setup ∷ script ∷ ts)) (sym all)
-    (explain_line_k name setup script text second.0 p k first second.2) plain
+explain_line = step_line (codes "explain") explain_shape explain_takes
+
+-- ---- a trail
+
+trail_shape : Shape
+trail_shape = unwrap_or (slice_get (built program).subs 3) (new_shape [])
+
+trail_takes : TakesStep (codes "trail") trail_shape
+unfolding clap_on_literals program trail_shape
+trail_takes = record {
+  sub = record { stops = refl; turn = refl; end = refl; enters = λ words. refl; levels = λ words. refl };
+  passes = λ setup script p. ((refl, refl, tt), refl, ((refl, refl, tt), refl, ((refl, refl, tt), refl, tt)));
+  ends = λ setup script p a. (rw a refl, refl, refl);
+  has = λ setup script p. (refl, refl, refl, refl);
+  passes_k = λ setup script p k a. ((refl, refl, tt), refl, ((refl, refl, tt), refl, ((refl, refl, tt), refl, ((refl, refl, tt), rw a refl, tt))));
+  ends_k = λ setup script p k a. (rw a refl, refl, refl);
+  has_k = λ setup script p k. (refl, refl, refl, refl);
+}
+
+pub trail_line : (name setup script : Text) (texts : List Text) (p : ℕ) (k : Option ℕ) → WritesStep texts (Some p) k → ArePlain (setup ∷ script ∷ texts)
+    → StepLine (codes "trail") setup script (Some p) k (name ∷ codes "trail" ∷ setup ∷ script ∷ texts)
+trail_line = step_line (codes "trail") trail_shape trail_takes
 
 -- ---- a picture
 
 draw_shape : Shape
-draw_shape = unwrap_or (slice_get (built program).subs 3) (new_shape [])
+draw_shape = unwrap_or (slice_get (built program).subs 4) (new_shape [])
 
-draw_sub : IsSub (codes "draw") draw_shape
+draw_takes : TakesStep (codes "draw") draw_shape
 unfolding clap_on_literals program draw_shape
-draw_sub = record { stops = refl; turn = refl; end = refl; enters = λ words. refl; levels = λ words. refl }
-
-draw_values : (setup script : Text) → ValuesPass draw_shape (walk_from nothing_held) (setup ∷ script ∷ [])
-unfolding clap_on_literals program draw_shape
-draw_values setup script = ((refl, refl, tt), refl, ((refl, refl, tt), refl, tt))
-
-draw_end : (setup script : Text) → EndPasses draw_shape (fold (with_value draw_shape.rules) (walk_from nothing_held) (setup ∷ script ∷ [])).held
-unfolding clap_on_literals program draw_shape
-draw_end setup script = (refl, refl, refl)
-
-draw_values_p : (setup script p : Text) → ValuesPass draw_shape (walk_from nothing_held) (setup ∷ script ∷ p ∷ [])
-unfolding clap_on_literals program draw_shape
-draw_values_p setup script p = ((refl, refl, tt), refl, ((refl, refl, tt), refl, ((refl, refl, tt), refl, tt)))
-
-draw_end_p : (setup script p : Text) → AcceptsNumber p → EndPasses draw_shape (fold (with_value draw_shape.rules) (walk_from nothing_held) (setup ∷ script ∷ p ∷ [])).held
-unfolding clap_on_literals program draw_shape
-draw_end_p setup script p a = (rw a refl, refl, refl)
-
-draw_values_k : (setup script p k : Text) → AcceptsNumber p → ValuesPass draw_shape (walk_from nothing_held) (setup ∷ script ∷ p ∷ k ∷ [])
-unfolding clap_on_literals program draw_shape
-draw_values_k setup script p k a = ((refl, refl, tt), refl, ((refl, refl, tt), refl, ((refl, refl, tt), refl, ((refl, refl, tt), rw a refl, tt))))
-
-draw_end_k : (setup script p k : Text) → AcceptsNumber k → EndPasses draw_shape (fold (with_value draw_shape.rules) (walk_from nothing_held) (setup ∷ script ∷ p ∷ k ∷ [])).held
-unfolding clap_on_literals program draw_shape
-draw_end_k setup script p k a = (rw a refl, refl, refl)
+draw_takes = record {
+  sub = record { stops = refl; turn = refl; end = refl; enters = λ words. refl; levels = λ words. refl };
+  passes = λ setup script p. ((refl, refl, tt), refl, ((refl, refl, tt), refl, ((refl, refl, tt), refl, tt)));
+  ends = λ setup script p a. (rw a refl, refl, refl);
+  has = λ setup script p. (refl, refl, refl, refl);
+  passes_k = λ setup script p k a. ((refl, refl, tt), refl, ((refl, refl, tt), refl, ((refl, refl, tt), refl, ((refl, refl, tt), rw a refl, tt))));
+  ends_k = λ setup script p k a. (rw a refl, refl, refl);
+  has_k = λ setup script p k. (refl, refl, refl, refl);
+}
 
 draw_line_alone : (name setup script : Text) → ArePlain (setup ∷ script ∷ []) → StepLine (codes "draw") setup script None None (name ∷ codes "draw" ∷ setup ∷ script ∷ [])
 unfolding clap_on_literals program draw_shape
 draw_line_alone name setup script plain =
     let words = setup ∷ script ∷ [] in
+    let passes : ValuesPass draw_shape (walk_from nothing_held) words = ((refl, refl, tt), refl, ((refl, refl, tt), refl, tt)) in
     record {
-      rows = finished draw_shape.rules (fold (with_value draw_shape.rules) (walk_from nothing_held) words).held;
-      asked = line_asked (codes "draw") draw_shape draw_sub name words plain (draw_values setup script);
-      taken = line_taken (codes "draw") draw_shape draw_sub name words plain (draw_values setup script) (draw_end setup script);
+      rows = finished draw_shape.rules (held_after draw_shape words);
+      asked = line_asked (codes "draw") draw_shape draw_takes.sub name words plain passes;
+      taken = line_taken (codes "draw") draw_shape draw_takes.sub name words plain passes (refl, refl, refl);
       setup_at = refl;
       script_at = refl;
       p_text = None;
@@ -185,60 +208,10 @@ draw_line_alone name setup script plain =
       k_written = tt;
     }
 
-draw_line_p : (name setup script text : Text) (p : ℕ) → WritesNumber text p → ArePlain (setup ∷ script ∷ text ∷ [])
-    → StepLine (codes "draw") setup script (Some p) None (name ∷ codes "draw" ∷ setup ∷ script ∷ text ∷ [])
-unfolding clap_on_literals program draw_shape
-draw_line_p name setup script text p writes plain =
-    let words = setup ∷ script ∷ text ∷ [] in
-    let a = accepts_number text p plain.1.1.0 writes in
-    record {
-      rows = finished draw_shape.rules (fold (with_value draw_shape.rules) (walk_from nothing_held) words).held;
-      asked = line_asked (codes "draw") draw_shape draw_sub name words plain (draw_values_p setup script text);
-      taken = line_taken (codes "draw") draw_shape draw_sub name words plain (draw_values_p setup script text) (draw_end_p setup script text a);
-      setup_at = refl;
-      script_at = refl;
-      p_text = Some text;
-      p_at = refl;
-      p_written = writes;
-      k_text = None;
-      k_at = refl;
-      k_written = tt;
-    }
-
-draw_line_k : (name setup script text other : Text) (p k : ℕ) → WritesNumber text p → WritesNumber other k → ArePlain (setup ∷ script ∷ text ∷ other ∷ [])
-    → StepLine (codes "draw") setup script (Some p) (Some k) (name ∷ codes "draw" ∷ setup ∷ script ∷ text ∷ other ∷ [])
-unfolding clap_on_literals program draw_shape
-draw_line_k name setup script text other p k writes more plain =
-    let words = setup ∷ script ∷ text ∷ other ∷ [] in
-    let a = accepts_number text p plain.1.1.0 writes in
-    let b = accepts_number other k plain.1.1.1.0 more in
-    record {
-      rows = finished draw_shape.rules (fold (with_value draw_shape.rules) (walk_from nothing_held) words).held;
-      asked = line_asked (codes "draw") draw_shape draw_sub name words plain (draw_values_k setup script text other a);
-      taken = line_taken (codes "draw") draw_shape draw_sub name words plain (draw_values_k setup script text other a) (draw_end_k setup script text other b);
-      setup_at = refl;
-      script_at = refl;
-      p_text = Some text;
-      p_at = refl;
-      p_written = writes;
-      k_text = Some other;
-      k_at = refl;
-      k_written = more;
-    }
-
 pub draw_line : (name setup script : Text) (texts : List Text) (p k : Option ℕ) → WritesStep texts p k → ArePlain (setup ∷ script ∷ texts)
     → StepLine (codes "draw") setup script p k (name ∷ codes "draw" ∷ setup ∷ script ∷ texts)
 draw_line name setup script texts None None writes plain =
     subst (λ ts. ArePlain (setup ∷ script ∷ ts) → StepLine (codes "draw") setup script None None (name ∷ codes "draw" ∷ setup ∷ script ∷ ts)) (sym writes)
     (draw_line_alone name setup script) plain
 draw_line name setup script texts None (Some k) writes plain = absurd writes
-draw_line name setup script texts (Some p) None writes plain =
-    let (text, more, is, first, second) = writes in
-    let all : texts ≡ text ∷ [] = is ∙ ap (λ rest. text ∷ rest) second in
-    subst (λ ts. ArePlain (setup ∷ script ∷ ts) → StepLine (codes "draw") setup script (Some p) None (name ∷ codes "draw" ∷ setup ∷ script ∷ ts)) (sym all)
-    (draw_line_p name setup script text p first) plain
-draw_line name setup script texts (Some p) (Some k) writes plain =
-    let (text, more, is, first, second) = writes in
-    let all : texts ≡ text ∷ second.0 ∷ [] = is ∙ ap (λ rest. text ∷ rest) second.1 in
-    subst (λ ts. ArePlain (setup ∷ script ∷ ts) → StepLine (codes "draw") setup script (Some p) (Some k) (name ∷ codes "draw" ∷ setup ∷ script ∷ ts)) (sym all)
-    (draw_line_k name setup script text second.0 p k first second.2) plain
+draw_line name setup script texts (Some p) k writes plain = step_line (codes "draw") draw_shape draw_takes name setup script texts p k writes plain

@@ -10,8 +10,8 @@ use Rattle.cdb_arguments.specs.declared.request.AskFault.{AskFault}
 use Rattle.cdb_base.specs.Memory.{no_memory}
 use Rattle.cdb_arguments.specs.declared.request.AskFault.TheVariants.{Words, NoMemory}
 use Rattle.cdb_arguments.specs.declared.request.Asked.{Asked}
-use Rattle.cdb_arguments.specs.declared.request.Asked.TheVariants.{Script, Play, Race, Explain, Draw, Debug}
-use Rattle.cdb_arguments.specs.Plain.{IsDebugLine, IsDrawLine, IsExplainLine, IsPlayLine, IsRaceLine, WritesNumber}
+use Rattle.cdb_arguments.specs.declared.request.Asked.TheVariants.{Script, Play, Race, Explain, Trail, Draw, Debug}
+use Rattle.cdb_arguments.specs.Plain.{IsDebugLine, IsDrawLine, IsExplainLine, IsPlayLine, IsRaceLine, IsTrailLine, WritesNumber}
 
 -- the texts of the arguments
 abbrev pub texts : List (Bor Text) → List Text
@@ -21,7 +21,7 @@ texts = map (λ text. text.now)
 abbrev pub NamesOne : Option (Text × List Row) → Type 0
 NamesOne None = Unit {0}
 NamesOne (Some found) = (found.0 ≡ codes "play") ⊎ ((found.0 ≡ codes "race")
-    ⊎ ((found.0 ≡ codes "explain") ⊎ ((found.0 ≡ codes "draw") ⊎ (found.0 ≡ codes "debug"))))
+    ⊎ ((found.0 ≡ codes "explain") ⊎ ((found.0 ≡ codes "trail") ⊎ ((found.0 ≡ codes "draw") ⊎ (found.0 ≡ codes "debug")))))
 
 -- the text of an argument, which is empty where the matches have none
 abbrev pub text_at : Text → List Row → Text
@@ -59,6 +59,9 @@ NamesAsked found (Race setup turns scripts) =
 NamesAsked found (Explain setup script p k) =
     (rows : List Row) × (found ≡ Some (codes "explain", rows)) × (setup.now ≡ text_at (codes "SETUP") rows) × (script.now ≡ text_at (codes "SCRIPT") rows)
     × IsNumber (text_at (codes "P") rows) p × IsNumberAt (codes "K") rows k
+NamesAsked found (Trail setup script p k) =
+    (rows : List Row) × (found ≡ Some (codes "trail", rows)) × (setup.now ≡ text_at (codes "SETUP") rows) × (script.now ≡ text_at (codes "SCRIPT") rows)
+    × IsNumber (text_at (codes "P") rows) p × IsNumberAt (codes "K") rows k
 NamesAsked found (Draw setup script p k) =
     (rows : List Row) × (found ≡ Some (codes "draw", rows)) × (setup.now ≡ text_at (codes "SETUP") rows) × (script.now ≡ text_at (codes "SCRIPT") rows)
     × IsNumberAt (codes "P") rows p × IsNumberAt (codes "K") rows k
@@ -82,6 +85,12 @@ abbrev pub IsExplainOf : Text → Text → ℕ → Option ℕ → Asked → Type
 IsExplainOf setup script p k (Explain its_setup its_script its_p its_k) =
     (its_setup.now ≡ setup) × (its_script.now ≡ script) × (its_p ≡ p) × (its_k ≡ k)
 IsExplainOf setup script p k asked = ⊥
+
+-- the trail to this step of the run of these two files
+abbrev pub IsTrailOf : Text → Text → ℕ → Option ℕ → Asked → Type 0
+IsTrailOf setup script p k (Trail its_setup its_script its_p its_k) =
+    (its_setup.now ≡ setup) × (its_script.now ≡ script) × (its_p ≡ p) × (its_k ≡ k)
+IsTrailOf setup script p k asked = ⊥
 
 -- the picture of the run of these two files, in which what led to this step stands out
 abbrev pub IsDrawOf : Text → Text → Option ℕ → Option ℕ → Asked → Type 0
@@ -112,6 +121,11 @@ abbrev pub AsksForExplain : Result Asked AskFault → List Text → Type 0
 AsksForExplain result words =
     (setup script : Text) (p : ℕ) (k : Option ℕ) → IsExplainLine words setup script p k
     → IsRequest result (IsExplainOf setup script p k)
+
+abbrev pub AsksForTrail : Result Asked AskFault → List Text → Type 0
+AsksForTrail result words =
+    (setup script : Text) (p : ℕ) (k : Option ℕ) → IsTrailLine words setup script p k
+    → IsRequest result (IsTrailOf setup script p k)
 
 abbrev pub AsksForDraw : Result Asked AskFault → List Text → Type 0
 AsksForDraw result words =

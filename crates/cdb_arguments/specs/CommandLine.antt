@@ -38,9 +38,17 @@ play_app = on_files (codes "play") []
 abbrev pub race_app : App
 race_app = with_arguments (codes "race") (required_rule (codes "SETUP") ∷ turns_rule ∷ several (required_rule (codes "SCRIPT")) ∷ [])
 
+-- a subcommand with these files, and a step
+abbrev pub on_step : Text → App
+on_step name = on_files name (numbered (required_rule (codes "P")) ∷ numbered (new_rule (codes "K")) ∷ [])
+
 -- `explain SETUP SCRIPT P [K]`
 abbrev pub explain_app : App
-explain_app = on_files (codes "explain") (numbered (required_rule (codes "P")) ∷ numbered (new_rule (codes "K")) ∷ [])
+explain_app = on_step (codes "explain")
+
+-- `trail SETUP SCRIPT P [K]`
+abbrev pub trail_app : App
+trail_app = on_step (codes "trail")
 
 -- `draw SETUP SCRIPT [P [K]]`
 abbrev pub draw_app : App
@@ -60,4 +68,4 @@ playing = with_subcommands (on_top (λ s. record s { has_version = true; disable
 
 -- the program with its subcommands
 unfoldable pub program : App
-program = with_subcommands playing (explain_app ∷ draw_app ∷ debug_app ∷ [])
+program = with_subcommands playing (explain_app ∷ trail_app ∷ draw_app ∷ debug_app ∷ [])

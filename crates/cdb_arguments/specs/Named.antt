@@ -6,7 +6,7 @@ use Rattle.cdb_arguments.specs.declared.command_line.Argument.{Argument}
 use Rattle.cdb_arguments.specs.declared.command_line.Argument.TheVariants as arg
 use Rattle.cdb_arguments.specs.declared.command_line.Subcommand.{Subcommand}
 use Rattle.cdb_arguments.specs.declared.command_line.Subcommand.TheVariants as sub
-use Rattle.cdb_arguments.specs.CommandLine.{required_rule, turns_rule, numbered, several, play_app, race_app, explain_app, draw_app, debug_app}
+use Rattle.cdb_arguments.specs.CommandLine.{required_rule, turns_rule, numbered, several, play_app, race_app, explain_app, trail_app, draw_app, debug_app}
 
 abbrev pub rule_named : Argument → Rule
 rule_named arg.Setup = required_rule (codes "SETUP")
@@ -25,6 +25,7 @@ abbrev pub name_of : Subcommand → Text
 name_of sub.Play = codes "play"
 name_of sub.Race = codes "race"
 name_of sub.Explain = codes "explain"
+name_of sub.Trail = codes "trail"
 name_of sub.Draw = codes "draw"
 name_of sub.Debug = codes "debug"
 
@@ -32,6 +33,7 @@ abbrev pub app_named : Subcommand → App
 app_named sub.Play = play_app
 app_named sub.Race = race_app
 app_named sub.Explain = explain_app
+app_named sub.Trail = trail_app
 app_named sub.Draw = draw_app
 app_named sub.Debug = debug_app
 

@@ -59,6 +59,11 @@ abbrev pub IsExplainLine : List Text → Text → Text → ℕ → Option ℕ �
 IsExplainLine words setup script p k =
     (texts : List Text) × WritesStep texts (Some p) k × IsSubcommandLine (codes "explain") (setup ∷ script ∷ texts) words
 
+-- `trail SETUP SCRIPT P [K]`
+abbrev pub IsTrailLine : List Text → Text → Text → ℕ → Option ℕ → Type 0
+IsTrailLine words setup script p k =
+    (texts : List Text) × WritesStep texts (Some p) k × IsSubcommandLine (codes "trail") (setup ∷ script ∷ texts) words
+
 -- `draw SETUP SCRIPT [P [K]]`
 abbrev pub IsDrawLine : List Text → Text → Text → Option ℕ → Option ℕ → Type 0
 IsDrawLine words setup script p k =

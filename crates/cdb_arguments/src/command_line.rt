@@ -24,6 +24,9 @@ const RACE: &str =
 const EXPLAIN: &str =
     "Plays a script, and prints what led to a step: the events, with their causes";
 
+const TRAIL: &str =
+    "Plays a script, and prints how a value came to a step: from whose input, along which events";
+
 const DRAW: &str =
     "Plays a script, and prints a picture of the run in SVG; what led to a step stands out";
 
@@ -88,16 +91,18 @@ pub(crate) enum Subcommand {
     Play,
     Race,
     Explain,
+    Trail,
     Draw,
     Debug,
 }
 
 impl Subcommand {
     /// The subcommands, in the order in which help lists them.
-    pub(crate) const ALL: [Subcommand; 5] = [
+    pub(crate) const ALL: [Subcommand; 6] = [
         Subcommand::Play,
         Subcommand::Race,
         Subcommand::Explain,
+        Subcommand::Trail,
         Subcommand::Draw,
         Subcommand::Debug,
     ];
@@ -109,6 +114,7 @@ impl Subcommand {
             Subcommand::Play => "play",
             Subcommand::Race => "race",
             Subcommand::Explain => "explain",
+            Subcommand::Trail => "trail",
             Subcommand::Draw => "draw",
             Subcommand::Debug => "debug",
         }
@@ -119,6 +125,7 @@ impl Subcommand {
             Subcommand::Play => PLAY,
             Subcommand::Race => RACE,
             Subcommand::Explain => EXPLAIN,
+            Subcommand::Trail => TRAIL,
             Subcommand::Draw => DRAW,
             Subcommand::Debug => DEBUG,
         }
@@ -131,7 +138,7 @@ impl Subcommand {
         match self {
             Subcommand::Play => &[Argument::Setup, Argument::Script],
             Subcommand::Race => &[Argument::Setup, Argument::Turns, Argument::Scripts],
-            Subcommand::Explain => &[
+            Subcommand::Explain | Subcommand::Trail => &[
                 Argument::Setup,
                 Argument::Script,
                 Argument::Process,

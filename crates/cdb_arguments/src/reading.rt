@@ -4,7 +4,7 @@ ghost use Rattle.std.specs.Prelude.{◌≡◌, OnOk, IfOk, IfErr, Some, [], true
 ghost use Rattle.clap.specs.Words.{Kinds, Text, HasKind, fault_of, found_of, kind_of, rows_of, subcommand_of, subcommand_rows_of, takes};
 ghost use Rattle.cdb_base.specs.Memory.{no_memory};
 ghost use Rattle.cdb_arguments.specs.CommandLine.{program};
-ghost use Rattle.cdb_arguments.specs.Asking.{NamesOne, IsTurns, IsNumber, IsNumberAt, text_at, texts, texts_at, NamesAsked, IsOfKinds, IsRequest, AsksForPlay, AsksForRace, AsksForExplain, AsksForDraw, AsksForDebug, ask_status_of, words_status};
+ghost use Rattle.cdb_arguments.specs.Asking.{NamesOne, IsTurns, IsNumber, IsNumberAt, text_at, texts, texts_at, NamesAsked, IsOfKinds, IsRequest, AsksForPlay, AsksForRace, AsksForExplain, AsksForTrail, AsksForDraw, AsksForDebug, ask_status_of, words_status};
 ghost use Rattle.cdb_arguments.specs.Plain.{IsNameAlone};
 
 use crate::command_line::program;
@@ -131,6 +131,18 @@ fn explain_of<'a>(found: &ArgMatches<'a>) -> Asked<'a>
     }
 }
 
+/// The trail to a step.
+fn trail_of<'a>(found: &ArgMatches<'a>) -> Asked<'a>
+    ensures { NamesAsked (Some (codes "trail", rows_of (found_of found.now))) result }
+{
+    Asked::Trail {
+        setup: text_of(found, "SETUP"),
+        script: text_of(found, "SCRIPT"),
+        p: number_of(text_of(found, "P")),
+        k: number_at(found, "K"),
+    }
+}
+
 /// A picture.
 fn draw_of<'a>(found: &ArgMatches<'a>) -> Asked<'a>
     ensures { NamesAsked (Some (codes "draw", rows_of (found_of found.now))) result }
@@ -165,6 +177,7 @@ fn asked_under<'a>(
     match name {
         "play" => Ok(play_of(found)),
         "explain" => Ok(explain_of(found)),
+        "trail" => Ok(trail_of(found)),
         "draw" => Ok(draw_of(found)),
         "debug" => debug_of(alloc, found),
         _ => race_of(alloc, found),
@@ -218,8 +231,9 @@ fn read<'a>(alloc: Global, words: &'a [&'a str]) -> Result<Asked<'a>, AskFault>
 
 /// What the arguments of the command line ask for; the first is the program's name. The name alone asks for the
 /// script on standard input, `play SETUP SCRIPT` for a play, `race SETUP TURNS SCRIPT..` for a race,
-/// `explain SETUP SCRIPT P [K]` for what led to a step, `draw SETUP SCRIPT [P [K]]` for a picture,
-/// `debug SETUP [SEAT..]` for a session that goes on line by line. P and K are numbers of 1 to 999,999.
+/// `explain SETUP SCRIPT P [K]` for what led to a step, `trail SETUP SCRIPT P [K]` for the trail of a value to it,
+/// `draw SETUP SCRIPT [P [K]]` for a picture, `debug SETUP [SEAT..]` for a session that goes on line by line. P and K are
+/// numbers of 1 to 999,999.
 ///
 /// # Errors
 /// `Words` with `clap`'s error for arguments that the command line does not take, and for those alone; the error is
@@ -237,6 +251,7 @@ pub fn asked<'a>(alloc: Global, words: &'a [&'a str]) -> Result<Asked<'a>, AskFa
     ensures play { AsksForPlay result (texts words.entry.now) }
     ensures race { AsksForRace result (texts words.entry.now) }
     ensures explain { AsksForExplain result (texts words.entry.now) }
+    ensures trail { AsksForTrail result (texts words.entry.now) }
     ensures draw { AsksForDraw result (texts words.entry.now) }
     ensures debug { AsksForDebug result (texts words.entry.now) }
 {

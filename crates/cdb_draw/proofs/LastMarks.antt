@@ -4,6 +4,7 @@ use Rattle.cdb_base.specs.declared.event.Event.{Event}
 use Rattle.cdb_causal.specs.Standing.{IsStanding}
 use Rattle.cdb_explain.specs.Explanations.{run_after}
 use Rattle.cdb_explain.specs.Flagged.{is_flagged}
+use Rattle.cdb_explain.specs.declared.line.Causes.TheVariants.{Shown}
 use Rattle.cdb_explain.proofs.Along.{whole_of_last}
 use Rattle.cdb_rules.specs.Lawful.{KeepHistories}
 use Rattle.cdb_rules.specs.Rules.{Rules}
@@ -18,7 +19,7 @@ pub mark_of_last : (rules : Parts → Rules) (grid : Grid) (SameState : Parts �
     → mark_text rules grid after after full (suc i) event ≡ mark_at rules grid run flags (suc i)
 mark_of_last rules grid SameState kept run flags i event standing at after is full marked =
     ap (λ r. mark_text rules grid r r full (suc i) event) is
-    ∙ ap (marked_text rules grid (run_after run (suc i)) full (suc i) event) (sym (whole_of_last rules SameState kept run i event at (with_history run (take i run.history)) refl standing))
+    ∙ ap (marked_text rules grid (run_after run (suc i)) full (suc i) event) (sym (whole_of_last rules SameState kept run i event at (with_history run (take i run.history)) refl Shown standing))
     ∙ ap (λ b. mark_text rules grid run (run_after run (suc i)) b (suc i) event) (sym marked) ∙ sym stands
   where
     stands : mark_at rules grid run flags (suc i) ≡ mark_text rules grid run (run_after run (suc i)) (is_flagged flags (suc i)) (suc i) event

@@ -3,10 +3,10 @@ use Rattle.std.specs.Prelude.{ℕ, List, Option, None, Some, Result, Ok, Err}
 use Rattle.cdb_base.specs.declared.event.Event.{Event}
 use Rattle.cdb_explain.specs.Asked.{IsStepAsked, StandsNoStep}
 use Rattle.cdb_explain.specs.declared.fault.ExplainFault.{ExplainFault}
-use Rattle.cdb_explain.specs.declared.fault.ExplainFault.TheVariants.{NoStep, Play}
+use Rattle.cdb_explain.specs.declared.fault.ExplainFault.TheVariants.{Play}
 use Rattle.cdb_streams.specs.Endings.{Ending, Complete, WriterFailed, CutShort, NotBegun}
-use Rattle.cdb_streams.specs.Faults.{IsFaultOfPlay}
 use Rattle.cdb_explain.specs.Left.{Leaves}
+use Rattle.cdb_explain.specs.StepFaults.{IsFaultOfLeft}
 use Rattle.cdb_streams.specs.Streams.{Stream}
 use Rattle.cdb_streams.specs.declared.fault.PlayFault.TheVariants as play
 use Rattle.cdb_rules.specs.RunView.{RunView}
@@ -38,9 +38,7 @@ Draws rules json columns step old new text =
 
 -- the step does not stand in the run that the script leaves; else as a fault of a play
 abbrev pub IsFaultOfDraw : (Parts → Rules) → List ℕ → Option StepAsked → Stream → Stream → ExplainFault → Type 0
-IsFaultOfDraw rules json step old new NoStep =
-    (run : RunView) × Leaves rules json old new run × IsMissing run.history step
-IsFaultOfDraw rules json step old new (Play fault) = IsFaultOfPlay json old new fault
+IsFaultOfDraw rules json step old new = IsFaultOfLeft rules json old new (λ run. IsMissing run.history step) (λ run. ⊥)
 
 -- how the writing of a picture ended, which is written in pieces as it is drawn
 abbrev pub draw_ending : {A : Type 0} → Result A ExplainFault → Ending

@@ -14,6 +14,7 @@ use Rattle.cdb_base.specs.NameTexts.{message_text, register_text, step_text}
 use Rattle.cdb_control.specs.Commands.{decides}
 use Rattle.cdb_explain.specs.Explanations.{run_after, whole_text}
 use Rattle.cdb_explain.specs.Flagged.{is_flagged}
+use Rattle.cdb_explain.specs.declared.line.Causes.TheVariants.{Shown}
 use Rattle.cdb_message.specs.Mail.{MailState, message_name, payload_of}
 use Rattle.cdb_rules.specs.ByRules.{mail_in}
 use Rattle.cdb_rules.specs.RunView.{RunView}
@@ -121,7 +122,7 @@ marked_text rules grid after full position event whole =
 -- the whole text is shown where a pointer rests on the mark
 abbrev pub mark_text : (Parts → Rules) → Grid → RunView → RunView → Bool → ℕ → Event → List ℕ
 mark_text rules grid run after full position event =
-    marked_text rules grid after full position event (whole_text rules run after event)
+    marked_text rules grid after full position event (whole_text rules Shown run after event)
 
 abbrev pub mark_at : (Parts → Rules) → Grid → RunView → List Bool → ℕ → List ℕ
 mark_at rules grid run flags position =

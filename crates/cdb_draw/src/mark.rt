@@ -16,7 +16,7 @@ use crate::piece::Piece::{After, Between, Number, Text};
 use crate::piece::{Piece, put_each};
 use cdb_base::limits::MAX_ENTRIES;
 use cdb_base::{Event, Kind, MsgName, Payload, Proc, Reg, Val};
-use cdb_explain::{decision_by, push_whole};
+use cdb_explain::{Causes, decision_by, push_whole};
 use cdb_rules::Runs;
 use cdb_streams::{Buffer, OutputFault, Sink};
 use std::alloc::Global;
@@ -259,7 +259,7 @@ pub(crate) fn put_mark<T: Runs, W: Sink>(
         (mark_text T.rules grid (T.run run.now) (T.run run.now) full position event.now) }
 {
     whole.clear();
-    push_whole(alloc, whole, run, event)?;
+    push_whole(alloc, whole, Causes::Shown, run, event)?;
     put_each(
         &mark(grid, run, full, position, event, whole.as_str()),
         buffer,

@@ -53,7 +53,7 @@ fn write_drawing<T: Runs, W: Sink>(
     requires few { length run.now.history ≤ MAX_ENTRIES }
     ensures wrote { IsWritten W.stream (draw_ending result) out.old out.new
         (IsPictureFor T.rules run.now columns step) }
-    ensures fault { IfErr result (IsFaultOfStep (IsMissing run.now.history step)) }
+    ensures fault { IfErr result (IsFaultOfStep (IsMissing run.now.history step) ⊥) }
 {
     let position = position_for(run.events(), step)?;
     draw_run::<T, W>(alloc, run, columns, position, out)?;

@@ -12,8 +12,10 @@ use Rattle.cdb_rules.specs.Runs.{with_event, with_history}
 use Rattle.cdb_setup.specs.Parts.{Parts, AreInRange}
 use Rattle.cdb_text.specs.Events.{event_text}
 use Rattle.cdb_text.specs.Texts.{decides_text}
-use Rattle.cdb_explain.proofs.Causes.{same_causes}
+use Rattle.cdb_explain.proofs.SameCauses.{same_causes}
 use Rattle.cdb_explain.specs.Explanations.{because_text, detail_text, line_at, line_text, run_after, whole_text}
+use Rattle.cdb_explain.specs.declared.line.Causes.{Causes}
+use Rattle.cdb_explain.specs.declared.line.Causes.TheVariants.{Shown, Hidden}
 
 parted : {A : Type 0} (xs : List A) (i : ℕ) (x : A) → slice_get xs i ≡ Some x → (take i xs ++ x ∷ []) ++ drop (i + 1) xs ≡ xs
 parted xs i x at = ap (λ front. front ++ drop (i + 1) xs) (one_more xs i x at) ∙ take-append-drop (i + 1) xs
@@ -30,8 +32,9 @@ module _ (rules : Parts → Rules) (SameState : Parts → List Event → List Ev
   next_along later is = is ∙ ap (λ r. with_event r event) along ∙ ap (with_history run) (one_more run.history i event at)
 
   -- its whole text is that of the last event of the run once it had come to it
-  pub whole_of_last : IsStanding run.history → whole_text rules run (run_after run (suc i)) event ≡ whole_text rules (run_after run (suc i)) (run_after run (suc i)) event
-  whole_of_last standing =
+  pub whole_of_last : (causes : Causes) → IsStanding run.history → whole_text rules causes run (run_after run (suc i)) event ≡ whole_text rules causes (run_after run (suc i)) (run_after run (suc i)) event
+  whole_of_last Hidden standing = refl
+  whole_of_last Shown standing =
       let after = run_after run (suc i) in
       let same = same_causes run.setup.processes run.history standing i event at in
       ap (λ causes. event_text event ++ detail_text rules after event ++ decides_text (decides (rules after.setup) after.history event) ++ because_text causes) (sym same)
@@ -39,9 +42,9 @@ module _ (rules : Parts → Rules) (SameState : Parts → List Event → List Ev
   pub next_is_after : (later : RunView) → later ≡ with_event again event → later ≡ run_after run (suc i)
   next_is_after later is = next_along later is ∙ ap (λ (n : ℕ). with_history run (take n run.history)) (add-one i)
 
-  pub its_line : IsStanding run.history → (later : RunView) → later ≡ with_event again event → line_at rules run (suc i) ≡ line_text rules later later event
-  its_line standing later is =
-      line_there ∙ ap (λ (t : List ℕ). t ++ codes "\n") (whole_of_last standing) ∙ ap (λ r. line_text rules r r event) (sym (next_is_after later is))
+  pub its_line : (causes : Causes) → IsStanding run.history → (later : RunView) → later ≡ with_event again event → line_at rules causes run (suc i) ≡ line_text rules causes later later event
+  its_line causes standing later is =
+      line_there ∙ ap (λ (t : List ℕ). t ++ codes "\n") (whole_of_last causes standing) ∙ ap (λ r. line_text rules causes r r event) (sym (next_is_after later is))
     where
-      line_there : line_at rules run (suc i) ≡ line_text rules run (run_after run (suc i)) event
+      line_there : line_at rules causes run (suc i) ≡ line_text rules causes run (run_after run (suc i)) event
       line_there = rw at refl

@@ -1,6 +1,6 @@
 pub mod Returned
 pub mod Flagging
-pub mod Causes
+pub mod SameCauses
 pub mod Along
 pub mod Bounded
 pub mod CarriedOut

@@ -1,5 +1,5 @@
 -- A step that was asked for, and what was answered.
-use Rattle.std.proofs.Common.{◌≡◌, ℕ, List, Option, Result, Ok, Err, ap, sym, subst}
+use Rattle.std.proofs.Common.{◌≡◌, ℕ, List, Result, Ok, Err, ap, sym, subst}
 use Rattle.std.specs.Prelude.{[], IfErr}
 use Rattle.cdb_base.specs.declared.name.StepId.{StepId}
 use Rattle.cdb_base.specs.declared.refusal.Refusal.{Refusal}
@@ -11,10 +11,8 @@ use Rattle.cdb_streams.specs.declared.buffer.OutputFault.{OutputFault}
 use Rattle.cdb_streams.specs.declared.buffer.OutputFault.TheVariants as output
 use Rattle.cdb_streams.specs.declared.fault.PlayFault.TheVariants as play
 use Rattle.cdb_explain.specs.declared.fault.ExplainFault.{ExplainFault}
-use Rattle.cdb_explain.specs.declared.fault.ExplainFault.TheVariants.{NoStep, Play}
-use Rattle.cdb_explain.specs.Asked.{StandsNoStep}
-use Rattle.cdb_explain.specs.Explained.{IsFaultOfExplain}
-use Rattle.cdb_explain.specs.StepFaults.{IsFaultOfStep}
+use Rattle.cdb_explain.specs.declared.fault.ExplainFault.TheVariants.{NoStep, NoValue, Play}
+use Rattle.cdb_explain.specs.StepFaults.{IsFaultOfLeft, IsFaultOfStep}
 use Rattle.cdb_setup.specs.declared.fault.SetupFault.{SetupFault}
 use Rattle.cdb_rules.specs.RunView.{RunView}
 use Rattle.cdb_base.specs.Results.{Tells}
@@ -27,24 +25,27 @@ pub output_fault : (why : OutputFault) (json : List ℕ) (old new : Stream) → 
 output_fault output.Write json old new setup = setup
 output_fault (output.NoMemory refused) json old new setup = setup.1.0
 
-pub fault_left : (rules : Parts → Rules) (json : List ℕ) (p : ℕ) (k : Option ℕ) (old new : Stream) (run : RunView) → Leaves rules json old new run
-    → (result : Result (Unit {0}) ExplainFault) → IfErr result (IsFaultOfStep (StandsNoStep run.history p k)) → IfErr result (IsFaultOfExplain rules json p k old new)
-fault_left rules json p k old new run left (Ok done) none = tt
-fault_left rules json p k old new run left (Err NoStep) none = (run, left, none)
-fault_left rules json p k old new run left (Err (Play fault)) (why, is) =
+pub fault_left : (rules : Parts → Rules) (json : List ℕ) (old new : Stream) (Missing Valueless : RunView → Type 0) (run : RunView) → Leaves rules json old new run
+    → (result : Result (Unit {0}) ExplainFault) → IfErr result (IsFaultOfStep (Missing run) (Valueless run)) → IfErr result (IsFaultOfLeft rules json old new Missing Valueless)
+fault_left rules json old new Missing Valueless run left (Ok done) none = tt
+fault_left rules json old new Missing Valueless run left (Err NoStep) missing = (run, left, missing)
+fault_left rules json old new Missing Valueless run left (Err NoValue) none = (run, left, none)
+fault_left rules json old new Missing Valueless run left (Err (Play fault)) (why, is) =
     subst (IsFaultOfPlay json old new) (sym is) (output_fault why json old new (left.2.setup, left.2.encodes))
 
 -- what is said of a fault after the run stood: it is none of reading
-module _ (Missing : Type 0) where
-  pub is_no_setup : (result : Result (Unit {0}) ExplainFault) (fault : SetupFault) → IfErr result (IsFaultOfStep Missing) → result ≡ Err (Play (play.Setup fault)) → ⊥
+module _ (Missing Valueless : Type 0) where
+  pub is_no_setup : (result : Result (Unit {0}) ExplainFault) (fault : SetupFault) → IfErr result (IsFaultOfStep Missing Valueless) → result ≡ Err (Play (play.Setup fault)) → ⊥
   is_no_setup (Ok done) fault is same = cc
   is_no_setup (Err NoStep) fault is same = cc
+  is_no_setup (Err NoValue) fault is same = cc
   is_no_setup (Err (Play made)) fault (output.Write, is) same = cc
   is_no_setup (Err (Play made)) fault (output.NoMemory refused, is) same = cc
 
-  pub reads_none : (result : Result (Unit {0}) ExplainFault) → IfErr result (IsFaultOfStep Missing) → result ≡ Err (Play play.Read) → ⊥
+  pub reads_none : (result : Result (Unit {0}) ExplainFault) → IfErr result (IsFaultOfStep Missing Valueless) → result ≡ Err (Play play.Read) → ⊥
   reads_none (Ok done) is same = cc
   reads_none (Err NoStep) is same = cc
+  reads_none (Err NoValue) is same = cc
   reads_none (Err (Play made)) (output.Write, is) same = cc
   reads_none (Err (Play made)) (output.NoMemory refused, is) same = cc
 

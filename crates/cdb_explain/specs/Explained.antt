@@ -1,7 +1,6 @@
 -- What the subcommand writes: the explanation of a step of the run that a script leaves.
 use Rattle.std.specs.Prelude.{ℕ, List, Option, Result, Ok, Err}
 use Rattle.cdb_streams.specs.Endings.{Ending, Complete, WriterFailed, NotBegun}
-use Rattle.cdb_streams.specs.Faults.{IsFaultOfPlay}
 use Rattle.cdb_explain.specs.Left.{Leaves}
 use Rattle.cdb_streams.specs.Streams.{Stream}
 use Rattle.cdb_streams.specs.declared.fault.PlayFault.TheVariants as play
@@ -10,8 +9,9 @@ use Rattle.cdb_rules.specs.Rules.{Rules}
 use Rattle.cdb_setup.specs.Parts.{Parts}
 use Rattle.cdb_explain.specs.Asked.{StandsNoStep}
 use Rattle.cdb_explain.specs.Explanations.{IsStepExplained}
+use Rattle.cdb_explain.specs.StepFaults.{IsFaultOfLeft}
 use Rattle.cdb_explain.specs.declared.fault.ExplainFault.{ExplainFault}
-use Rattle.cdb_explain.specs.declared.fault.ExplainFault.TheVariants.{NoStep, Play}
+use Rattle.cdb_explain.specs.declared.fault.ExplainFault.TheVariants.{Play}
 
 -- the text is the explanation of that step of the run that the script leaves
 abbrev pub Explains : (Parts → Rules) → List ℕ → ℕ → Option ℕ → Stream → Stream → List ℕ → Type 0
@@ -20,11 +20,9 @@ Explains rules json p k old new text =
 
 -- no such step stands in the run that the script leaves; else as a fault of a play
 abbrev pub IsFaultOfExplain : (Parts → Rules) → List ℕ → ℕ → Option ℕ → Stream → Stream → ExplainFault → Type 0
-IsFaultOfExplain rules json p k old new NoStep =
-    (run : RunView) × Leaves rules json old new run × StandsNoStep run.history p k
-IsFaultOfExplain rules json p k old new (Play fault) = IsFaultOfPlay json old new fault
+IsFaultOfExplain rules json p k old new = IsFaultOfLeft rules json old new (λ run. StandsNoStep run.history p k) (λ run. ⊥)
 
--- how the writing of an explanation ended, which is whole before any of it is written
+-- how the writing of a text about a step ended, which is whole before any of it is written
 abbrev pub explain_ending : {A : Type 0} → Result A ExplainFault → Ending
 explain_ending (Ok done) = Complete
 explain_ending (Err (Play play.Write)) = WriterFailed

@@ -18,6 +18,8 @@ use Rattle.cdb_base.specs.declared.register.Reg.TheVariants.{R, Dec}
 use Rattle.cdb_control.specs.Commands.{decides}
 use Rattle.cdb_explain.specs.Asked.{IsStepAsked, StandsNoStep}
 use Rattle.cdb_explain.specs.Flagged.{flagged_of_first}
+use Rattle.cdb_explain.specs.declared.line.Causes.{Causes}
+use Rattle.cdb_explain.specs.declared.line.Causes.TheVariants.{Shown, Hidden}
 use Rattle.cdb_message.specs.Mail.{message_name, payload_of}
 use Rattle.cdb_rules.specs.Flags.{FlagsPast}
 use Rattle.cdb_rules.specs.ByRules.{cell_in, mail_in}
@@ -61,6 +63,11 @@ abbrev pub because_text : Result (List StepId) Refusal → List ℕ
 because_text (Ok causes) = codes " because" ++ causes_text causes
 because_text (Err why) = []
 
+-- those of an event of the run, where they are shown
+abbrev pub shown_causes : Causes → RunView → Event → List ℕ
+shown_causes Shown run event = because_text (causes_in run (event_name event))
+shown_causes Hidden run event = []
+
 -- ---- a line for each event
 
 -- the run once it had come to the event at that position
@@ -68,20 +75,20 @@ abbrev pub run_after : RunView → ℕ → RunView
 run_after run position = with_history run (take position run.history)
 
 -- the whole text of an event, where the run stands so after it: as `show history` prints it, what it carries
--- and decides, and its direct causes
-abbrev pub whole_text : (Parts → Rules) → RunView → RunView → Event → List ℕ
-whole_text rules run after event =
+-- and decides, and its direct causes where they are shown
+abbrev pub whole_text : (Parts → Rules) → Causes → RunView → RunView → Event → List ℕ
+whole_text rules causes run after event =
     event_text event ++ detail_text rules after event
-    ++ decides_text (decides (rules after.setup) after.history event)
-    ++ because_text (causes_in run (event_name event))
+    ++ decides_text (decides (rules after.setup) after.history event) ++ shown_causes causes run event
 
 -- the same as a line
-abbrev pub line_text : (Parts → Rules) → RunView → RunView → Event → List ℕ
-line_text rules run after event = whole_text rules run after event ++ codes "\n"
+abbrev pub line_text : (Parts → Rules) → Causes → RunView → RunView → Event → List ℕ
+line_text rules causes run after event = whole_text rules causes run after event ++ codes "\n"
 
 -- the line of the event at that position, where one stands there
-abbrev pub line_at : (Parts → Rules) → RunView → ℕ → List ℕ
-line_at rules run position = option_map_or (line_text rules run (run_after run position)) (nth run.history position) []
+abbrev pub line_at : (Parts → Rules) → Causes → RunView → ℕ → List ℕ
+line_at rules causes run position =
+    option_map_or (line_text rules causes run (run_after run position)) (nth run.history position) []
 
 -- `N of M standing events`
 abbrev pub count_text : ℕ → ℕ → List ℕ
@@ -89,16 +96,16 @@ count_text count all =
     decimal count ++ codes " of " ++ decimal all ++ codes " standing" ++ codes " events\n"
 
 -- the lines of the flagged events, in the order of the history, and then how many they are of how many
-abbrev pub lines_text : (Parts → Rules) → RunView → List Bool → List ℕ
-lines_text rules run flags =
+abbrev pub lines_text : (Parts → Rules) → Causes → RunView → List Bool → List ℕ
+lines_text rules causes run flags =
     let positions = flagged_of_first (length run.history) flags in
-    flat_map (line_at rules run) positions ++ count_text (length positions) (length run.history)
+    flat_map (line_at rules causes run) positions ++ count_text (length positions) (length run.history)
 
 -- The text is that of what led to the event at that position: of that event, and of each from which a
--- chain of dependences leads to it.
+-- chain of dependences leads to it, with their causes.
 abbrev pub IsExplanation : (Parts → Rules) → RunView → ℕ → List ℕ → Type 0
 IsExplanation rules run position text =
-    (flags : List Bool) × FlagsPast run.history position flags × (text ≡ lines_text rules run flags)
+    (flags : List Bool) × FlagsPast run.history position flags × (text ≡ lines_text rules Shown run flags)
 
 -- the text is the explanation of that step: of p.k, or without k of the last standing step of p
 abbrev pub IsStepExplained : (Parts → Rules) → RunView → ℕ → Option ℕ → List ℕ → Type 0

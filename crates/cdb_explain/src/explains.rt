@@ -31,7 +31,7 @@ fn write_explanation<T: Runs, W: Sink>(
     requires { IsInOrder T.rules run.now }
     ensures wrote { IsWritten W.stream (explain_ending result) out.old out.new
         (IsStepExplained T.rules run.now p k) }
-    ensures fault { IfErr result (IsFaultOfStep (StandsNoStep run.now.history p k)) }
+    ensures fault { IfErr result (IsFaultOfStep (StandsNoStep run.now.history p k) ⊥) }
 {
     let Some(text) = explain_step::<T>(alloc, run, p, k)? else {
         return Err(ExplainFault::NoStep);

@@ -1,4 +1,4 @@
-//! Why no explanation was written.
+//! Why nothing was written of a step that was asked for.
 
 ghost use Rattle.std.specs.Prelude.{Some};
 ghost use Rattle.cdb_explain.specs.FaultTexts.{explain_fault_text};
@@ -8,11 +8,13 @@ use cdb_streams::{OutputFault, PlayFault};
 use std::error::Error;
 use std::fmt;
 
-/// Why no explanation was written.
+/// Why nothing was written of a step that was asked for.
 #[derive(Clone, Copy, Debug, PartialEq, Eq)]
 pub enum ExplainFault {
     /// The step that is asked for doesn't stand in the run that the script leaves.
     NoStep,
+    /// The step takes no value, so no trail leads to it.
+    NoValue,
     /// As for a play of the script.
     Play(PlayFault),
 }
@@ -27,6 +29,7 @@ impl fmt::Display for ExplainFault {
                 let refusal = Refusal::NoStep;
                 write!(f, "{refusal}")
             }
+            ExplainFault::NoValue => f.write_str("no value"),
             ExplainFault::Play(fault) => write!(f, "{fault}"),
         }
     }

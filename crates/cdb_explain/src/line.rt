@@ -1,8 +1,8 @@
-//! The line of an event: the event, what it carries and decides, and its direct causes.
+//! The line of an event: the event, what it carries and decides, and its direct causes where they are shown.
 
 ghost use Rattle.cdb_base.specs.Event.{event_name};
 ghost use Rattle.cdb_control.specs.Commands.{decides};
-ghost use Rattle.cdb_explain.specs.Explanations.{because_text, line_text, whole_text};
+ghost use Rattle.cdb_explain.specs.Explanations.{because_text, line_text, shown_causes, whole_text};
 ghost use Rattle.cdb_rules.specs.EventRefs.{name_given};
 ghost use Rattle.cdb_rules.specs.Runs.{causes_in};
 ghost use Rattle.cdb_text.specs.Pushes.{Pushes};
@@ -13,6 +13,13 @@ use cdb_base::{CopyName, Event, MsgName, Val};
 use cdb_rules::{EventRef, Runs};
 use cdb_text::{push_causes, push_decides, push_event};
 use std::alloc::{AllocError, Global};
+
+/// Whether the text of an event names its direct causes.
+#[derive(Clone, Copy)]
+pub enum Causes {
+    Shown,
+    Hidden,
+}
 
 /// The numbers under which a command names the event.
 fn reference(event: &Event) -> EventRef
@@ -58,33 +65,51 @@ fn push_because<T: Runs>(
     }
 }
 
+/// Adds the direct causes of a standing event, where they are shown.
+fn push_shown<T: Runs>(
+    alloc: Global,
+    text: &mut String,
+    causes: Causes,
+    run: &T,
+    event: &Event,
+) -> Result<(), AllocError>
+    ensures { Pushes result text.old text.new (shown_causes causes (T.run run.now) event.now) }
+{
+    match causes {
+        Causes::Shown => push_because(alloc, text, run, event),
+        Causes::Hidden => Ok(()),
+    }
+}
+
 /// Adds the whole text of the last event of a run. In a longer run it is the same, since nothing that comes later
 /// changes direct causes. Only out of memory is an error.
 pub fn push_whole<T: Runs>(
     alloc: Global,
     text: &mut String,
+    causes: Causes,
     run: &T,
     event: &Event,
 ) -> Result<(), AllocError>
     ensures { Pushes result text.old text.new
-        (whole_text T.rules (T.run run.now) (T.run run.now) event.now) }
+        (whole_text T.rules causes (T.run run.now) (T.run run.now) event.now) }
 {
     push_event(text, event)?;
     push_detail(text, run, event)?;
     push_decides(text, decision_by(run, event))?;
-    push_because(alloc, text, run, event)
+    push_shown(alloc, text, causes, run, event)
 }
 
 /// Adds the line of the last event of a run, which is its whole text.
 pub(crate) fn push_line<T: Runs>(
     alloc: Global,
     text: &mut String,
+    causes: Causes,
     run: &T,
     event: &Event,
 ) -> Result<(), AllocError>
     ensures { Pushes result text.old text.new
-        (line_text T.rules (T.run run.now) (T.run run.now) event.now) }
+        (line_text T.rules causes (T.run run.now) (T.run run.now) event.now) }
 {
-    push_whole(alloc, text, run, event)?;
+    push_whole(alloc, text, causes, run, event)?;
     text.push_str("\n")
 }

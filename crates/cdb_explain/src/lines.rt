@@ -2,12 +2,13 @@
 
 ghost use Rattle.cdb_explain.specs.Explanations.{count_text, line_at, lines_text, IsExplanation};
 ghost use Rattle.cdb_explain.specs.Flagged.{flagged_of_first};
+ghost use Rattle.cdb_explain.specs.declared.line.Causes.TheVariants.{Shown};
 ghost use Rattle.cdb_rules.specs.ByRules.{IsInOrder};
 ghost use Rattle.cdb_text.specs.Pushes.{Pushes};
 ghost use Rattle.std.specs.List.{flat_map};
 ghost use Rattle.std.specs.Prelude.{◌≡◌, ◌≤◌, length, IfOk};
 
-use crate::line::push_line;
+use crate::line::{Causes, push_line};
 use crate::replay::{fresh, take_next};
 use cdb_base::NoMemory;
 use cdb_rules::{Runs, Trace};
@@ -18,13 +19,14 @@ use std::alloc::{AllocError, Global};
 fn push_lines<T: Runs>(
     alloc: Global,
     text: &mut String,
+    causes: Causes,
     run: &Trace,
     flags: &[bool],
 ) -> Result<usize, NoMemory>
     requires valid { IsInOrder T.rules run.now }
     requires a_flag_each { length flags.now ≡ length run.now.history }
     ensures lines { Pushes result text.old text.new
-        (flat_map (line_at T.rules run.now) (flagged_of_first (length run.now.history) flags.now)) }
+        (flat_map (line_at T.rules causes run.now) (flagged_of_first (length run.now.history) flags.now)) }
     ensures count { IfOk result (λ count.
         count ≡ length (flagged_of_first (length run.now.history) flags.now)) }
 {
@@ -37,7 +39,7 @@ fn push_lines<T: Runs>(
         let event = &events[i];
         take_next(alloc, &mut again, event)?;
         if flags[i] {
-            push_line(alloc, text, &again, event)?;
+            push_line(alloc, text, causes, &again, event)?;
             count += 1;
         }
     }
@@ -54,23 +56,25 @@ fn push_count(text: &mut String, count: usize, all: usize) -> Result<(), AllocEr
     text.push_str(" events\n")
 }
 
-/// Adds the lines of the flagged events, and then how many they are of how many.
-fn push_all<T: Runs>(
+/// Adds the lines of the flagged events, with their causes or without, and then how many they are of how many. There is a
+/// flag for each event. `NoMemory` if an allocation fails.
+pub fn push_flagged<T: Runs>(
     alloc: Global,
     text: &mut String,
+    causes: Causes,
     run: &Trace,
     flags: &[bool],
 ) -> Result<(), NoMemory>
     requires valid { IsInOrder T.rules run.now }
     requires a_flag_each { length flags.now ≡ length run.now.history }
-    ensures { Pushes result text.old text.new (lines_text T.rules run.now flags.now) }
+    ensures { Pushes result text.old text.new (lines_text T.rules causes run.now flags.now) }
 {
-    let count = push_lines::<T>(alloc, text, run, flags)?;
+    let count = push_lines::<T>(alloc, text, causes, run, flags)?;
     push_count(text, count, run.events().len())?;
     Ok(())
 }
 
-/// The lines of the flagged events, and then how many they are of how many.
+/// The lines of the flagged events, with their causes, and then how many they are of how many.
 fn text_of_flagged<T: Runs>(
     alloc: Global,
     run: &Trace,
@@ -78,10 +82,10 @@ fn text_of_flagged<T: Runs>(
 ) -> Result<Vec<u8>, NoMemory>
     requires valid { IsInOrder T.rules run.now }
     requires a_flag_each { length flags.now ≡ length run.now.history }
-    ensures { IfOk result (λ text. text.items ≡ lines_text T.rules run.now flags.now) }
+    ensures { IfOk result (λ text. text.items ≡ lines_text T.rules Shown run.now flags.now) }
 {
     let mut text = String::new(alloc);
-    push_all::<T>(alloc, &mut text, run, flags)?;
+    push_flagged::<T>(alloc, &mut text, Causes::Shown, run, flags)?;
     Ok(text.into_bytes())
 }
 

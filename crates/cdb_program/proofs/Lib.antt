@@ -2,6 +2,5 @@ pub mod Opening
 pub mod Seen
 pub mod Raced
 pub mod Reported
-pub mod Explained
-pub mod Drawn
+pub mod Left
 pub mod Seated

@@ -6,8 +6,7 @@ pub mod Reading
 pub mod Reports
 pub mod Playing
 pub mod Racing
-pub mod Explaining
-pub mod Drawing
+pub mod Left
 pub mod Debugging
 pub mod Seating
 pub mod Requests

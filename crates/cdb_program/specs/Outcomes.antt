@@ -5,7 +5,7 @@ use Rattle.cdb_explain.specs.declared.fault.ExplainFault.TheVariants as explain
 use Rattle.cdb_streams.specs.declared.fault.PlayFault.{PlayFault}
 use Rattle.cdb_streams.specs.declared.fault.RaceFault.{RaceFault}
 use Rattle.cdb_program.specs.declared.fault.Fault.{Fault}
-use Rattle.cdb_program.specs.declared.fault.Fault.TheVariants.{Play, Race, NoStep}
+use Rattle.cdb_program.specs.declared.fault.Fault.TheVariants.{Play, Race, NoStep, NoValue}
 
 -- how a request ended
 abbrev pub RequestEnd : Type 0
@@ -23,9 +23,10 @@ IsOfRace (Ok done) (Ok its_done) = Unit {0}
 IsOfRace (Err fault) (Err (Race its_fault)) = its_fault ≡ fault
 IsOfRace raced outcome = ⊥
 
--- it ended as the explanation or the picture did, whose fault of a play has the name of the script
+-- it ended as the explanation, the trail or the picture did, whose fault of a play has the name of the script
 abbrev pub IsOfExplain : List ℕ → Result (Unit {0}) ExplainFault → RequestEnd → Type 0
 IsOfExplain name (Ok done) (Ok its_done) = Unit {0}
 IsOfExplain name (Err explain.NoStep) (Err NoStep) = Unit {0}
+IsOfExplain name (Err explain.NoValue) (Err NoValue) = Unit {0}
 IsOfExplain name (Err (explain.Play fault)) (Err (Play its_fault its_name)) = (its_fault ≡ fault) × (its_name.now ≡ name)
 IsOfExplain name explained outcome = ⊥

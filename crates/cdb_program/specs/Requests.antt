@@ -3,9 +3,8 @@ use Rattle.std.specs.Prelude.{◌≡◌, ℕ, ◌≤◌, List, length, Ok, Err}
 use Rattle.cdb_streams.specs.Streams.{Stream, Takes, Fails, itself}
 use Rattle.cdb_streams.specs.declared.fault.PlayFault.TheVariants.{Write}
 use Rattle.cdb_program.specs.Debugging.{DebugsFile}
-use Rattle.cdb_program.specs.Drawing.{DrawsFiles}
-use Rattle.cdb_program.specs.Explaining.{ExplainsFiles}
 use Rattle.cdb_program.specs.Known.{Seen}
+use Rattle.cdb_program.specs.Left.{ExplainsFiles, TrailsFiles, DrawsFiles}
 use Rattle.cdb_program.specs.Outcomes.{RequestEnd}
 use Rattle.cdb_program.specs.Playing.{PlaysInput, PlaysFiles}
 use Rattle.cdb_program.specs.Racing.{RacesFiles}
@@ -44,6 +43,7 @@ Does request.Script old new outcome = PlaysInput old new outcome
 Does (request.Play setup script) old new outcome = PlaysFiles setup.now script.now old new outcome
 Does (request.Race setup turns scripts) old new outcome = RacesFiles setup.now turns (file_names scripts.now) old new outcome
 Does (request.Explain setup script p k) old new outcome = ExplainsFiles setup.now script.now p k old new outcome
+Does (request.Trail setup script p k) old new outcome = TrailsFiles setup.now script.now p k old new outcome
 Does (request.Draw setup script step) old new outcome = DrawsFiles setup.now script.now step old new outcome
 Does (request.Debug setup prompt) old new outcome = DebugsFile setup.now prompt.now old new outcome
 Does (request.DebugShared setup seats) old new outcome = ⊥

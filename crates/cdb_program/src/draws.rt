@@ -1,7 +1,7 @@
 //! Pictures of runs, of what is outside.
 
 ghost use Rattle.std.specs.Prelude.{◌≡◌};
-ghost use Rattle.cdb_program.specs.Drawing.{DrawsFiles};
+ghost use Rattle.cdb_program.specs.Left.{DrawsFiles};
 
 use crate::fault::{Fault, of_explain};
 use crate::files::{Files, read_two};

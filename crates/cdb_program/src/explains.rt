@@ -1,7 +1,7 @@
 //! Explanations of steps, of what is outside.
 
 ghost use Rattle.std.specs.Prelude.{◌≡◌};
-ghost use Rattle.cdb_program.specs.Explaining.{ExplainsFiles};
+ghost use Rattle.cdb_program.specs.Left.{ExplainsFiles};
 
 use crate::fault::{Fault, of_explain};
 use crate::files::{Files, read_two};

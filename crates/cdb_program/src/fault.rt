@@ -13,8 +13,10 @@ pub enum Fault<'a> {
     /// A fault of a play, or of what was to be read for a play or a race, which has this name.
     Play(PlayFault, &'a str),
     Race(RaceFault),
-    /// The step that was to be explained or drawn doesn't stand.
+    /// The step that was asked for doesn't stand.
     NoStep,
+    /// The step whose trail was asked for takes no value.
+    NoValue,
     /// A race of more than 64 processes and scripts.
     TooManySeats,
     /// Nothing was asked for that can be done, and this text says why.
@@ -34,6 +36,7 @@ impl fmt::Display for Fault<'_> {
             Fault::Play(fault, _) => writeln!(f, "{fault}"),
             Fault::Race(fault) => writeln!(f, "{fault}"),
             Fault::NoStep => f.write_str("refused 10 NoStep\n"),
+            Fault::NoValue => f.write_str("no value\n"),
             Fault::TooManySeats => f.write_str("too many seats\n"),
             Fault::Refused(reason) => f.write_str(reason),
         }
@@ -62,13 +65,15 @@ pub fn of_race<'a>(raced: Result<(), RaceFault>) -> Result<(), Fault<'a>>
     }
 }
 
-/// How a request ended that explained a step of the run that the script of this name leaves, or drew that run.
+/// How a request ended that explained a step of the run that the script of this name leaves, wrote the trail to it, or
+/// drew that run.
 pub fn of_explain<'a>(explained: Result<(), ExplainFault>, name: &'a str) -> Result<(), Fault<'a>>
     ensures { IsOfExplain name.entry.now explained result }
 {
     match explained {
         Ok(()) => Ok(()),
         Err(ExplainFault::NoStep) => Err(Fault::NoStep),
+        Err(ExplainFault::NoValue) => Err(Fault::NoValue),
         Err(ExplainFault::Play(fault)) => Err(Fault::Play(fault, name)),
     }
 }

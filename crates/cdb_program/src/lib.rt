@@ -12,6 +12,7 @@ mod races;
 mod reports;
 mod request;
 mod seats;
+mod trails;
 
 pub use fault::Fault;
 pub use files::Files;

@@ -13,6 +13,7 @@ use crate::plays::{play_files, play_input};
 use crate::races::race_files;
 use crate::reports::report;
 use crate::seats::perform_shared;
+use crate::trails::trail_files;
 use cdb_draw::StepAsked;
 use cdb_streams::{PlayFault, Sink, Source, write_all};
 use std::alloc::Global;
@@ -41,6 +42,13 @@ pub enum Request<'a> {
     /// Explains a step of the run that a script file leaves on a setup file: the `k`-th standing step of process `p`,
     /// or without `k` its last one.
     Explain {
+        setup: &'a str,
+        script: &'a str,
+        p: u32,
+        k: Option<u32>,
+    },
+    /// Writes the trail of a value to such a step, which is given in the same way.
+    Trail {
         setup: &'a str,
         script: &'a str,
         p: u32,
@@ -110,6 +118,12 @@ fn carry_out<
             p,
             k,
         } => explain_files(alloc, setup, script, p, k, outside),
+        Request::Trail {
+            setup,
+            script,
+            p,
+            k,
+        } => trail_files(alloc, setup, script, p, k, outside),
         Request::Draw {
             setup,
             script,

@@ -8,3 +8,4 @@ pub mod AlphaTrue
 pub mod Promised
 pub mod WalkBack
 pub mod Playing
+pub mod Texts

@@ -4,5 +4,6 @@ pub mod LeaderFlow
 pub mod AlphaFlow
 pub mod Trails
 pub mod Trailed
+pub mod Written
 -- what the code keeps for itself
 pub mod Played

@@ -1,6 +1,5 @@
--- What is found of the trail to a step, and its text.
-use Rattle.std.specs.Prelude.{◌≡◌, ℕ, List, ◌++◌, codes, decimal, length, Contains, Bool, Option, Some, None, ◌↔◌, Vec}
-use Rattle.std.specs.Global.{Global}
+-- What is found of the trail to a step.
+use Rattle.std.specs.Prelude.{◌≡◌, ℕ, List, length, Contains, Bool, Option, Some, None, ◌↔◌}
 use Rattle.cdb_agreement.specs.Algorithms.{leader_machine, alpha_machine}
 use Rattle.cdb_rules.specs.Flags.{IsFlagged}
 use Rattle.cdb_rules.specs.RunView.{RunView}

@@ -1,8 +1,8 @@
-//! The trail of a decision: the steps along which the value that a process decides went, from the input of a
-//! process to the decision. The functions of `laws` do nothing: the contract of each is the law.
+//! The trail of a value to a step: the steps along which it went, from the input of a process. The functions of `laws` do
+//! nothing: the contract of each is the law.
 //!
 //! ```text
-//! laws::leader_decisions_have_trails();
+//! write_trail(alloc, setup, &mut script, 2, None, &mut output)?;
 //! ```
 #![tactic(auto)]
 
@@ -15,3 +15,6 @@ mod payload;
 mod played;
 mod trail;
 mod walk;
+mod writes;
+
+pub use writes::write_trail;

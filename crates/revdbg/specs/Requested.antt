@@ -7,7 +7,7 @@ use Rattle.clap.specs.declared.error.kind.ErrorKind.{ErrorKind}
 use Rattle.cdb_base.specs.Memory.{no_memory}
 use Rattle.cdb_arguments.specs.Asking.{NamesAsked, texts, words_status}
 use Rattle.cdb_arguments.specs.CommandLine.{program}
-use Rattle.cdb_arguments.specs.Plain.{IsNameAlone, IsPlayLine, IsRaceLine, IsExplainLine, IsDrawLine, IsDebugLine}
+use Rattle.cdb_arguments.specs.Plain.{IsNameAlone, IsPlayLine, IsRaceLine, IsExplainLine, IsTrailLine, IsDrawLine, IsDebugLine}
 use Rattle.cdb_arguments.specs.declared.request.Asked.{Asked}
 use Rattle.cdb_arguments.specs.declared.request.Asked.TheVariants as asked
 use Rattle.cdb_draw.specs.declared.script.StepAsked.{StepAsked}
@@ -18,7 +18,7 @@ use Rattle.cdb_program.specs.Known.{Seen}
 use Rattle.cdb_program.specs.Requests.{Performs}
 use Rattle.cdb_program.specs.declared.fault.Fault.TheVariants as fault
 use Rattle.cdb_program.specs.declared.request.Request.{Request}
-use Rattle.cdb_program.specs.declared.request.Request.TheVariants.{Script, Play, Race, Explain, Draw, Debug, DebugShared, Print, Refuse}
+use Rattle.cdb_program.specs.declared.request.Request.TheVariants.{Script, Play, Race, Explain, Trail, Draw, Debug, DebugShared, Print, Refuse}
 
 -- a play of these two files
 abbrev pub IsPlayRequest : Text → Text → Request → Type 0
@@ -36,6 +36,12 @@ abbrev pub IsExplainRequest : Text → Text → ℕ → Option ℕ → Request �
 IsExplainRequest setup script p k (Explain its_setup its_script its_p its_k) =
     (its_setup.now ≡ setup) × (its_script.now ≡ script) × (its_p ≡ p) × (its_k ≡ k)
 IsExplainRequest setup script p k request = ⊥
+
+-- the trail to this step of the run of these two files
+abbrev pub IsTrailRequest : Text → Text → ℕ → Option ℕ → Request → Type 0
+IsTrailRequest setup script p k (Trail its_setup its_script its_p its_k) =
+    (its_setup.now ≡ setup) × (its_script.now ≡ script) × (its_p ≡ p) × (its_k ≡ k)
+IsTrailRequest setup script p k request = ⊥
 
 -- the step of process p, the k-th where a number is given
 abbrev pub step_asked : Option ℕ → ℕ → StepAsked
@@ -59,6 +65,7 @@ IsRequestOf prompt asked.Script request = request ≡ Script
 IsRequestOf prompt (asked.Play setup script) request = IsPlayRequest setup.now script.now request
 IsRequestOf prompt (asked.Race setup turns scripts) request = IsRaceRequest setup.now turns (texts scripts.items) request
 IsRequestOf prompt (asked.Explain setup script p k) request = IsExplainRequest setup.now script.now p k request
+IsRequestOf prompt (asked.Trail setup script p k) request = IsTrailRequest setup.now script.now p k request
 IsRequestOf prompt (asked.Draw setup script p k) request = IsDrawRequest setup.now script.now p k request
 IsRequestOf prompt (asked.Debug setup seats) request = IsDebugRequest prompt setup.now (texts seats.items) request
 
@@ -90,6 +97,8 @@ pub record IsAskedBy (prompt : Text) (words : List Text) (request : Request) : T
       → IsRaceLine words setup turns script more → OrOutOfMemory (IsRaceRequest setup turns (script ∷ more)) request
   pub explain : (setup script : Text) (p : ℕ) (k : Option ℕ)
       → IsExplainLine words setup script p k → OrOutOfMemory (IsExplainRequest setup script p k) request
+  pub trail : (setup script : Text) (p : ℕ) (k : Option ℕ)
+      → IsTrailLine words setup script p k → OrOutOfMemory (IsTrailRequest setup script p k) request
   pub draw : (setup script : Text) (p k : Option ℕ)
       → IsDrawLine words setup script p k → OrOutOfMemory (IsDrawRequest setup script p k) request
   pub debug : (setup : Text) (seats : List Text)

@@ -84,6 +84,17 @@ fn request_of<'a>(asked: &'a Asked<'a>, prompt: &'a str) -> Request<'a>
             p: *p,
             k: *k,
         },
+        Asked::Trail {
+            setup,
+            script,
+            p,
+            k,
+        } => Request::Trail {
+            setup,
+            script,
+            p: *p,
+            k: *k,
+        },
         Asked::Draw {
             setup,
             script,

@@ -26,6 +26,13 @@ const EXPLAIN: Request<'static> = Request::Explain {
     k: Some(2),
 };
 
+const TRAIL: Request<'static> = Request::Trail {
+    setup: "one.json",
+    script: "eight.txt",
+    p: 1,
+    k: Some(2),
+};
+
 const DRAW: Request<'static> = Request::Draw {
     setup: "one.json",
     script: "eight.txt",
@@ -70,6 +77,7 @@ fn each_write_of_output_fails_in_turn(rt: HostRuntime) {
         (PLAY, 107),
         (RACE, 90),
         (EXPLAIN, 82),
+        (TRAIL, 66),
         (DRAW, 4_114),
         (Request::Print("help\n"), 5),
     ];
@@ -149,6 +157,10 @@ const UNREAD: &[(Request<'static>, &'static [&'static str])] = &[
     (PLAY, &["cannot read one.json\n", "cannot read eight.txt\n"]),
     (
         EXPLAIN,
+        &["cannot read one.json\n", "cannot read eight.txt\n"],
+    ),
+    (
+        TRAIL,
         &["cannot read one.json\n", "cannot read eight.txt\n"],
     ),
     (DRAW, &["cannot read one.json\n", "cannot read eight.txt\n"]),

@@ -1,8 +1,7 @@
 use Rattle.cdb_rules.specs.RunView.{RunView}
 use Rattle.cdb_streams.proofs.Ending.{written_as}
-use Rattle.cdb_explain.proofs.Returned.{is_no_setup, reads_none, no_err}
-use Rattle.cdb_draw.specs.Drawn.{draw_ending, Draws, IsPictureFor}
-use Rattle.cdb_draw.proofs.Ended.{fault_left}
+use Rattle.cdb_explain.proofs.Returned.{fault_left, is_no_setup, reads_none, no_err}
+use Rattle.cdb_draw.specs.Drawn.{draw_ending, Draws, IsMissing, IsPictureFor}
 use Rattle.cdb_draw.proofs.script.draw.Goals as goal
 
 pub returns-clause-wrote : goal.returns-clause-wrote
@@ -19,13 +18,13 @@ returns-clause-fault g c =
     let old = g.R.Source.stream c.args.script.now in
     let new = g.R.Source.stream c.run_left_by.new.script in
     let left = c.in_ok-run.ensures.left.leaves in
-    fault_left g.T.Runs.rules c.args.setup.now c.args.step old new c.in_ok-run.run' left c.write_drawing.result c.write_drawing.ensures.fault
+    fault_left g.T.Runs.rules c.args.setup.now old new (λ run. IsMissing run.history c.args.step) (λ run. ⊥) c.in_ok-run.run' left c.write_drawing.result c.write_drawing.ensures.fault
 
 pub returns-clause-unread : goal.returns-clause-unread
-returns-clause-unread g c = λ fault same. absurd (is_no_setup _ c.write_drawing.result fault c.write_drawing.ensures.fault same)
+returns-clause-unread g c = λ fault same. absurd (is_no_setup _ _ c.write_drawing.result fault c.write_drawing.ensures.fault same)
 
 pub returns-clause-read : goal.returns-clause-read
 returns-clause-read g c = (
-  λ same. absurd (reads_none _ c.write_drawing.result c.write_drawing.ensures.fault same),
+  λ same. absurd (reads_none _ _ c.write_drawing.result c.write_drawing.ensures.fault same),
   λ _. c.in_ok-run.ensures.read.1 (λ same. absurd (no_err _ _ same)),
 )

@@ -1,4 +1,5 @@
 use Rattle.cdb_rules.specs.RunView.{RunView}
+use Rattle.cdb_explain.specs.Asked.{StandsNoStep}
 use Rattle.cdb_explain.specs.Explained.{explain_ending, Explains}
 use Rattle.cdb_explain.specs.Explanations.{IsStepExplained}
 use Rattle.cdb_streams.proofs.Ending.{written_as}
@@ -20,13 +21,13 @@ returns-clause-fault g c =
     let new = g.R.Source.stream c.run_left_by.new.script in
     let run : RunView = c.in_ok-run.run' in
     let left = c.in_ok-run.ensures.left.leaves in
-    fault_left g.T.Runs.rules c.args.setup.now c.args.p c.args.k old new run left c.write_explanation.result c.write_explanation.ensures.fault
+    fault_left g.T.Runs.rules c.args.setup.now old new (λ it. StandsNoStep it.history c.args.p c.args.k) (λ it. ⊥) run left c.write_explanation.result c.write_explanation.ensures.fault
 
 pub returns-clause-unread : goal.returns-clause-unread
-returns-clause-unread g c = λ fault same. absurd (is_no_setup _ c.write_explanation.result fault c.write_explanation.ensures.fault same)
+returns-clause-unread g c = λ fault same. absurd (is_no_setup _ _ c.write_explanation.result fault c.write_explanation.ensures.fault same)
 
 pub returns-clause-read : goal.returns-clause-read
 returns-clause-read g c = (
-  λ same. absurd (reads_none _ c.write_explanation.result c.write_explanation.ensures.fault same),
+  λ same. absurd (reads_none _ _ c.write_explanation.result c.write_explanation.ensures.fault same),
   λ _. c.in_ok-run.ensures.read.1 (λ same. absurd (no_err _ _ same)),
 )

@@ -33,13 +33,13 @@ loop-i-preserved g c =
     let along = next_along g.T.Runs.rules g.T.Runs.same_state g.met.T.Runs.histories run i event at _ so.again later c.in_ok-take_next.ensures in
     elim c.if-flags-i.branch [
       | then-flags-i+in_ok-push_line w ↦
-          let line = its_line g.T.Runs.rules g.T.Runs.same_state g.met.T.Runs.histories run i event at _ so.again standing later c.in_ok-take_next.ensures in
+          let line = its_line g.T.Runs.rules g.T.Runs.same_state g.met.T.Runs.histories run i event at _ so.again c.args.causes standing later c.in_ok-take_next.ensures in
           let is = flag_read flags i _ true within w.if-flags-i.true in
           let counted = w.count-is in
           let few = so.few in
           record {
             again = along;
-            text = text_more (line_at g.T.Runs.rules run) flags i (string_bytes c.args.text.now) (string_bytes c.loop-i.text) (string_bytes c.if-flags-i.text) (line_text g.T.Runs.rules later later event) so.text (ap string_bytes w.text-is ∙ w.in_ok-push_line.ensures) line is;
+            text = text_more (line_at g.T.Runs.rules c.args.causes run) flags i (string_bytes c.args.text.now) (string_bytes c.loop-i.text) (string_bytes c.if-flags-i.text) (line_text g.T.Runs.rules c.args.causes later later event) so.text (ap string_bytes w.text-is ∙ w.in_ok-push_line.ensures) line is;
             count = w.count-is ∙ ap (λ (n : ℕ). n + 1) so.count ∙ sym (count_more flags i is);
             few = omega (arith, counted, few);
           }
@@ -49,7 +49,7 @@ loop-i-preserved g c =
           let few = so.few in
           record {
             again = along;
-            text = ap string_bytes w.text-is ∙ text_same (line_at g.T.Runs.rules run) flags i (string_bytes c.args.text.now) (string_bytes c.loop-i.text) so.text is;
+            text = ap string_bytes w.text-is ∙ text_same (line_at g.T.Runs.rules c.args.causes run) flags i (string_bytes c.args.text.now) (string_bytes c.loop-i.text) so.text is;
             count = w.count-is ∙ so.count ∙ ap length (sym (unflagged_more flags i is));
             few = omega (arith, counted, few);
           }

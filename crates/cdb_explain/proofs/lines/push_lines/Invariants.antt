@@ -8,7 +8,7 @@ use Rattle.cdb_explain.proofs.lines.push_lines.Given as goal
 abbrev pub invariant-loop-i : goal.invariant-loop-i
 invariant-loop-i g l = record {
   again : g.T.Runs.run l.again ≡ with_history l.run (take l.i l.run.history);
-  text : string_bytes l.text ≡ string_bytes l.initial.text ++ flat_map (line_at g.T.Runs.rules l.run) (flagged_of_first l.i l.flags);
+  text : string_bytes l.text ≡ string_bytes l.initial.text ++ flat_map (line_at g.T.Runs.rules l.causes l.run) (flagged_of_first l.i l.flags);
   count : l.count ≡ length (flagged_of_first l.i l.flags);
   few : l.count ≤ l.i;
 }

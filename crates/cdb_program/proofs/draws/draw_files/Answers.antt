@@ -1,7 +1,7 @@
 use Rattle.std.proofs.Common.{◌≡◌, ◌∙◌, ℕ, List, Some, Bor, ap, refl, inl, inr, ◌∷◌, []}
 use Rattle.cdb_streams.specs.declared.input.Bytes.{Bytes}
 use Rattle.std.proofs.lemmas.Result.{err_from_is_err_and}
-use Rattle.cdb_program.proofs.Drawn.{draw_seen}
+use Rattle.cdb_program.proofs.Left.{text_seen}
 use Rattle.cdb_program.specs.Known.{in_memory}
 use Rattle.cdb_program.proofs.draws.draw_files.Goals as goal
 
@@ -27,7 +27,7 @@ returns-clause-does g c =
           Some c.draw-drawn.new.script.rest.now,
           c.of_explain.ensures,
           rw (← json_is, ← bytes_is)
-              (draw_seen (λ (b : Bytes). in_memory (Some b.rest.now)) g.O.Sink.stream c.as_slice-2.result.now c.args.step c.draw-drawn.result c.new-commands.result c.draw-drawn.new.script _ _ said.wrote said.fault said.unread said.read),
+              (text_seen (λ (b : Bytes). in_memory (Some b.rest.now)) g.O.Sink.stream c.draw-drawn.result _ _ _ c.new-commands.result c.draw-drawn.new.script _ _ said.wrote said.fault said.unread said.read),
         ),
       ),
     )

@@ -1,7 +1,7 @@
 use Rattle.std.proofs.Common.{◌≡◌, ◌∙◌, ℕ, List, Some, Bor, ap, refl, inl, inr, ◌∷◌, []}
 use Rattle.cdb_streams.specs.declared.input.Bytes.{Bytes}
 use Rattle.std.proofs.lemmas.Result.{err_from_is_err_and}
-use Rattle.cdb_program.proofs.Explained.{explain_seen}
+use Rattle.cdb_program.proofs.Left.{text_seen}
 use Rattle.cdb_program.specs.Known.{in_memory}
 use Rattle.cdb_program.proofs.explains.explain_files.Goals as goal
 
@@ -27,7 +27,7 @@ returns-clause-does g c =
           Some c.explain-explained.new.script.rest.now,
           c.of_explain.ensures,
           rw (← json_is, ← bytes_is)
-              (explain_seen (λ (b : Bytes). in_memory (Some b.rest.now)) g.O.Sink.stream c.as_slice-2.result.now c.args.p c.args.k c.explain-explained.result c.new-commands.result c.explain-explained.new.script _ _ said.wrote said.fault said.unread said.read),
+              (text_seen (λ (b : Bytes). in_memory (Some b.rest.now)) g.O.Sink.stream c.explain-explained.result _ _ _ c.new-commands.result c.explain-explained.new.script _ _ said.wrote said.fault said.unread said.read),
         ),
       ),
     )

@@ -1,0 +1,42 @@
+-- What the subcommand writes: the trail to a step of the run that a script leaves.
+use Rattle.std.specs.Prelude.{◌≡◌, ℕ, List, ◌++◌, codes, decimal, Option, Some, None}
+use Rattle.cdb_agreement.specs.Algorithms.{rules}
+use Rattle.cdb_explain.specs.Asked.{IsStepAsked, StandsNoStep}
+use Rattle.cdb_explain.specs.Explanations.{lines_text}
+use Rattle.cdb_explain.specs.Left.{Leaves}
+use Rattle.cdb_explain.specs.StepFaults.{IsFaultOfLeft}
+use Rattle.cdb_explain.specs.declared.fault.ExplainFault.{ExplainFault}
+use Rattle.cdb_explain.specs.declared.line.Causes.TheVariants.{Hidden}
+use Rattle.cdb_rules.specs.RunView.{RunView}
+use Rattle.cdb_streams.specs.Streams.{Stream}
+use Rattle.cdb_trail.specs.Trailed.{IsTrailIn}
+use Rattle.cdb_trail.specs.declared.trail.Trail.{Trail}
+
+-- the line of the input at which a trail begins
+abbrev pub proposal_text : ℕ → ℕ → List ℕ
+proposal_text proposer value = codes "process " ++ decimal proposer ++ codes " proposes " ++ decimal value ++ codes "\n"
+
+-- the text of a trail: its input, then a line for each event on it, in the order of the history, and how many they are of how many
+abbrev pub trail_text : RunView → Trail → List ℕ
+trail_text run trail = proposal_text trail.proposer trail.value ++ lines_text rules Hidden run trail.flags.items
+
+-- the text is that of the trail to the event at that position
+abbrev pub IsTrailText : RunView → ℕ → List ℕ → Type 0
+IsTrailText run position text = (trail : Trail) × IsTrailIn run position (Some trail) × (text ≡ trail_text run trail)
+
+-- the text is that of the trail to this step: to p.k, or without k to the last standing step of p
+abbrev pub IsTrailToStep : RunView → ℕ → Option ℕ → List ℕ → Type 0
+IsTrailToStep run p k text = (position : ℕ) × IsStepAsked run.history p k position × IsTrailText run position text
+
+-- this step takes no value, so no trail leads to it
+abbrev pub TakesNoValue : RunView → ℕ → Option ℕ → Type 0
+TakesNoValue run p k = (position : ℕ) × IsStepAsked run.history p k position × IsTrailIn run position None
+
+-- the text is that of the trail to this step of the run that the script leaves
+abbrev pub WritesTrail : List ℕ → ℕ → Option ℕ → Stream → Stream → List ℕ → Type 0
+WritesTrail json p k old new text = (run : RunView) × Leaves rules json old new run × IsTrailToStep run p k text
+
+-- no such step stands in that run, or it takes no value there; else as a fault of a play
+abbrev pub IsFaultOfTrail : List ℕ → ℕ → Option ℕ → Stream → Stream → ExplainFault → Type 0
+IsFaultOfTrail json p k old new =
+    IsFaultOfLeft rules json old new (λ run. StandsNoStep run.history p k) (λ run. TakesNoValue run p k)

@@ -1,0 +1,123 @@
+//! A script is carried out without its replies, and the trail to a step of the run that it leaves is written.
+
+ghost use Rattle.std.specs.Prelude.{◌≡◌, ◌≤◌, length, None, Err, IfErr, IfOk, MatchOption};
+ghost use Rattle.cdb_agreement.specs.Algorithms.{rules};
+ghost use Rattle.cdb_explain.specs.Asked.{StandsNoStep};
+ghost use Rattle.cdb_explain.specs.Explained.{explain_ending};
+ghost use Rattle.cdb_explain.specs.StepFaults.{IsFaultOfStep};
+ghost use Rattle.cdb_explain.specs.declared.fault.ExplainFault.TheVariants.{Play as of_play};
+ghost use Rattle.cdb_rules.specs.ByRules.{IsInOrder};
+ghost use Rattle.cdb_setup.specs.declared.fault.SetupFault.{SetupFault as SetupFaultName};
+ghost use Rattle.cdb_streams.specs.Streams.{FailsWhere};
+ghost use Rattle.cdb_streams.specs.Written.{IsWritten};
+ghost use Rattle.cdb_streams.specs.declared.fault.PlayFault.TheVariants as play;
+ghost use Rattle.cdb_text.specs.Pushes.{Pushes};
+ghost use Rattle.cdb_trail.specs.Trailed.{IsTrailIn};
+ghost use Rattle.cdb_trail.specs.Written.{proposal_text, trail_text, IsFaultOfTrail, IsTrailText, IsTrailToStep, TakesNoValue, WritesTrail};
+
+use crate::trail::{Trail, trail_of};
+use cdb_any_run::AnyRun;
+use cdb_base::{NoMemory, Proc, Val};
+use cdb_explain::{Causes, ExplainFault, position_of_step, push_flagged, run_left_by};
+use cdb_rules::Trace;
+use cdb_streams::{Sink, Source, write_text};
+use std::alloc::{AllocError, Global};
+
+/// Adds the line of the input at which a trail begins.
+fn push_proposal(text: &mut String, proposer: Proc, value: Val) -> Result<(), AllocError>
+    ensures { Pushes result text.old text.new (proposal_text proposer value) }
+{
+    let proposer = proposer.number();
+    let value = value.number();
+    write!(text, "process {proposer} proposes ")?;
+    write!(text, "{value}\n")
+}
+
+/// The text of a trail of this run.
+fn text_of_trail(alloc: Global, run: &Trace, trail: &Trail) -> Result<Vec<u8>, NoMemory>
+    requires valid { IsInOrder rules run.now }
+    requires a_flag_each { length trail.now.flags.items ≡ length run.now.history }
+    ensures { IfOk result (λ text. text.items ≡ trail_text run.now trail.now) }
+{
+    let mut text = String::new(alloc);
+    push_proposal(&mut text, trail.proposer, trail.value)?;
+    push_flagged::<AnyRun>(
+        alloc,
+        &mut text,
+        Causes::Hidden,
+        run,
+        trail.flags.as_slice(),
+    )?;
+    Ok(text.into_bytes())
+}
+
+/// The text of the trail to the step at a position, from 1, of this run; none where the step takes no value.
+fn text_of_trail_to(
+    alloc: Global,
+    run: &Trace,
+    position: usize,
+) -> Result<Option<Vec<u8>>, NoMemory>
+    requires valid { IsInOrder rules run.now }
+    requires from_one { 1 ≤ position }
+    requires to_len { position ≤ length run.now.history }
+    ensures { IfOk result (λ text. MatchOption text (IsTrailIn run.now position None)
+        (λ text. IsTrailText run.now position text.items)) }
+{
+    match trail_of(alloc, run, position)? {
+        Some(trail) => Ok(Some(text_of_trail(alloc, run, &trail)?)),
+        None => Ok(None),
+    }
+}
+
+/// Writes the trail to a step of this run, whose text is whole before any of it is written. `NoStep` where no such step
+/// stands, and `NoValue` where it takes no value.
+fn write_trail_to<W: Sink>(
+    alloc: Global,
+    run: &Trace,
+    p: u32,
+    k: Option<u32>,
+    out: &mut W,
+) -> Result<(), ExplainFault>
+    requires { IsInOrder rules run.now }
+    ensures wrote { IsWritten W.stream (explain_ending result) out.old out.new
+        (IsTrailToStep run.now p k) }
+    ensures fault { IfErr result
+        (IsFaultOfStep (StandsNoStep run.now.history p k) (TakesNoValue run.now p k)) }
+{
+    let Some(position) = position_of_step(run.events(), p, k) else {
+        return Err(ExplainFault::NoStep);
+    };
+    let Some(text) = text_of_trail_to(alloc, run, position)? else {
+        return Err(ExplainFault::NoValue);
+    };
+    write_text(alloc, text.as_slice(), out)?;
+    Ok(())
+}
+
+/// Writes the trail of a value to a step of the run that a script leaves: to the `k`-th standing step of process `p`;
+/// without `k` to its last one, which is its decision where it has decided. First the process whose input the value was,
+/// then each event along which it went, and how many they are.
+///
+/// The setup is read first, then the whole script, then all its lines; the text is whole before any of it is
+/// written. So after `Write` what was written is a beginning of the text, and after any other fault nothing was
+/// written. `NoStep` comes where no such step stands, and `NoValue` where it takes no value. After `Setup` the script is
+/// not read; `Read` comes only where the reader failed in this call, and `Write` only where the writer did.
+pub fn write_trail<R: Source, W: Sink>(
+    alloc: Global,
+    setup: &[u8],
+    script: &mut R,
+    p: u32,
+    k: Option<u32>,
+    out: &mut W,
+) -> Result<(), ExplainFault>
+    ensures wrote { IsWritten W.stream (explain_ending result) out.old out.new
+        (WritesTrail setup.now p k (R.stream script.old) (R.stream script.new)) }
+    ensures fault { IfErr result
+        (IsFaultOfTrail setup.now p k (R.stream script.old) (R.stream script.new)) }
+    ensures unread { (fault : SetupFaultName) →
+        result ≡ Err (of_play (play.Setup fault)) → script.new ≡ script.old }
+    ensures read { FailsWhere R.stream (result ≡ Err (of_play play.Read)) script.old script.new }
+{
+    let run = run_left_by::<AnyRun, R>(alloc, setup, script)?;
+    write_trail_to(alloc, &run, p, k, out)
+}
