@@ -10,8 +10,8 @@ use cdb_streams::{Bytes, Sink, Source};
 use cdb_trail::write_trail;
 use std::alloc::Global;
 
-/// Writes the trail of a value to a step of the run that a script file leaves on a setup file: to the `k`-th standing step
-/// of process `p`; without `k` to its last one.
+/// Writes the trail of a value to a step of the run that a script file leaves on a setup file: to the `k`-th standing
+/// step of process `p`; without `k` to its last one.
 pub fn trail_files<'a, F: Files + Drop, I: Source + Drop, O: Sink + Drop, E: Sink + Drop>(
     alloc: Global,
     setup: &'a str,
