@@ -1,5 +1,5 @@
 -- The copies that are lost, in the rows and in the history.
-use Rattle.std.proofs.Common.{◌≡◌, ◌↔◌, ◌<◌, ◌≤◌, ℕ, zero, suc, Bool, true, false, List, length, IsTrue, inl, inr, refl, sym, ◌∙◌, arith}
+use Rattle.std.proofs.Common.{◌≡◌, ◌↔◌, ◌<◌, ◌≤◌, ℕ, zero, suc, Bool, true, false, List, length, IsTrue, inl, inr, refl, sym, arith}
 use Rattle.std.proofs.lemmas.Bool.{cases_lt}
 use Rattle.std.proofs.lemmas.Option.{none-some, slice_get_within}
 use Rattle.cdb_base.specs.declared.event.Event.TheVariants as event
@@ -13,10 +13,7 @@ use Rattle.cdb_standing.specs.declared.tables.Sent.{Sent}
 use Rattle.cdb_standing.proofs.Rows.{none_at, nth_within, is_row}
 use Rattle.cdb_standing.proofs.Places.{stands_in, in_stands}
 
--- what two tests that answer the same say is the same, and where they don't it is not
-
-pub same_told : {P Q : Type 0} (a b : Bool) → (IsTrue a ↔ P) → (IsTrue b ↔ Q) → a ≡ b → P ↔ Q
-same_told a b p q e = ((λ h. q.0 (sym e ∙ p.1 h)), (λ h. p.0 (e ∙ q.1 h)))
+-- two tests that say the same answer the same
 
 pub told_same : {P Q : Type 0} (a b : Bool) → (IsTrue a ↔ P) → (IsTrue b ↔ Q) → P ↔ Q → a ≡ b
 told_same true b p q same = sym (q.1 (same.0 (p.0 refl)))
