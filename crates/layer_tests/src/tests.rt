@@ -2,6 +2,7 @@
 
 mod causal_twins;
 mod dependence;
+mod draws;
 mod laws;
 mod long_history;
 mod processes;

@@ -1,16 +1,8 @@
-//! Which events depend on each other, and which may follow on a history.
-
-ghost use Rattle.std.specs.Prelude.{◌≡◌, IsTrue, false};
-ghost use Rattle.cdb_base.specs.Event.{event_name};
-ghost use Rattle.cdb_base.specs.declared.event.Event.TheVariants.{Lost};
-ghost use Rattle.cdb_base.specs.declared.name.CopyName.{CopyName as ACopy};
-ghost use Rattle.cdb_causal.specs.Dependence.{send_and_loss};
-ghost use Rattle.cdb_causal.specs.Names.{IsNewName};
-ghost use Rattle.cdb_causal.specs.Standing.{HasNoLostCopy};
+//! Which events depend on each other.
 
 use cdb_base::{CopyName, Event, Kind, MsgName, NoMemory, Proc, Reg};
 use cdb_causal::depends;
-use cdb_history::History;
+use cdb_standing::History;
 use std::process::Abort;
 
 pub fn step(p: Proc, k: u16, kind: Kind) -> Event {
@@ -71,63 +63,9 @@ fn what_depends_on_what(rt: HostRuntime) {
     compare(&rt, &pairs);
 }
 
-/// False where the event is no send.
-fn may_send(event: &Event) -> bool
-    ensures { (copy : ACopy) → result ≡ false → send_and_loss event.now (Lost copy) ≡ false }
-{
-    match event {
-        Event::Lost(_) => false,
-        Event::Step { kind, .. } => match kind {
-            Kind::Send(_) => true,
-            _ => false,
-        },
-    }
-}
-
-/// False where the earlier event is not the loss of a copy of what the event sends.
-fn has_lost(event: &Event, earlier: &Event) -> bool
-    ensures { (copy : ACopy) → earlier.now ≡ Lost copy → result ≡ false →
-        send_and_loss event.now (Lost copy) ≡ false }
-{
-    match earlier {
-        Event::Step { .. } => false,
-        Event::Lost(_) => may_send(event) && depends(event, earlier),
-    }
-}
-
-fn has_no_lost_copy(history: &History, event: &Event) -> bool
-    ensures { IsTrue result → HasNoLostCopy history.now event.now }
-{
-    for i in 0..history.len() {
-        let earlier = history.event(i);
-        if has_lost(event, earlier) {
-            return false;
-        }
-    }
-    true
-}
-
-fn has_new_name(history: &History, event: &Event) -> bool
-    ensures { IsTrue result → IsNewName history.now (event_name event.now) }
-{
-    let name = event.name();
-    match history.position(name) {
-        Some(_) => false,
-        None => true,
-    }
-}
-
-/// Whether a history may have the event next.
-pub fn may_follow(history: &History, event: &Event) -> bool
-    ensures new_name { IsTrue result → IsNewName history.now (event_name event.now) }
-    ensures not_lost { IsTrue result → HasNoLostCopy history.now event.now }
-{
-    has_new_name(history, event) && has_no_lost_copy(history, event)
-}
-
-/// Adds an event where the history may have it.
+/// Adds an event where the history may have it next.
 pub fn add(history: &mut History, event: Event) -> Result<(), NoMemory> {
-    if may_follow(history, &event) {
+    if history.may_come(&event) {
         history.push(event)?;
     }
     Ok(())

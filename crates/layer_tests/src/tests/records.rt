@@ -1,8 +1,9 @@
 //! The calls of records that no run makes.
 
-use super::dependence::{copy, may_follow, step};
+use super::dependence::{copy, step};
 use cdb_base::{Cell, Event, Kind, NoMemory, Proc, Reg, StepId, StepName, Val};
-use cdb_record::{Left, Recorded, Records};
+use cdb_standing::{Left, Recorded, Records};
+use std::alloc::Global;
 use std::process::Abort;
 
 const CELL: Cell = Cell {
@@ -13,7 +14,7 @@ const CELL: Cell = Cell {
 
 /// Adds an event where the records may have it: a step with a number and a cell that it left.
 fn add(records: &mut Records<u32>, event: Event, number: u32) -> Result<(), NoMemory> {
-    if !may_follow(records.history(), &event) {
+    if !records.history().may_come(&event) {
         return Ok(());
     }
     match event {
@@ -48,7 +49,7 @@ fn add_example(records: &mut Records<u32>) -> Result<(), NoMemory> {
 }
 
 /// Compares how many events have one as a direct cause.
-fn compare_counts(rt: &impl Abort, records: &Records<u32>) {
+fn compare_counts(rt: &impl Abort, alloc: Global, records: &Records<u32>) {
     let (one, two, three) = (Proc::new(1), Proc::new(2), Proc::new(3));
     let counts = [
         (one, 1, 1),
@@ -58,9 +59,11 @@ fn compare_counts(rt: &impl Abort, records: &Records<u32>) {
         (three, 2, 0),
     ];
     for (p, k, count) in counts {
-        assert_eq!(rt; records.count_of(StepId::Step(StepName { p, k })), count);
+        let name = StepId::Step(StepName { p, k });
+        assert_eq!(rt; records.count_of(alloc, name).expect(rt, "memory"), count);
     }
-    assert_eq!(rt; records.count_of(StepId::Lost(copy(one, 1, two))), 0);
+    let lost = StepId::Lost(copy(one, 1, two));
+    assert_eq!(rt; records.count_of(alloc, lost).expect(rt, "memory"), 0);
 }
 
 /// Whether this event was taken out, with its number and the cell where it is a step.
@@ -90,9 +93,9 @@ fn take_out(rt: &impl Abort, records: &mut Records<u32>) {
 
 #[test]
 fn records_are_counted_and_taken_out(rt: HostRuntime) {
-    let mut records = Records::new(rt.alloc());
+    let mut records = Records::new(rt.alloc()).expect(&rt, "memory");
     assert!(rt; add_example(&mut records).is_ok());
-    compare_counts(&rt, &records);
+    compare_counts(&rt, rt.alloc(), &records);
     take_out(&rt, &mut records);
     assert_eq!(rt; records.history().len(), 5);
 }
@@ -103,7 +106,7 @@ const MANY: u16 = 300;
 #[test]
 fn many_steps_of_a_process_are_taken_out(rt: HostRuntime) {
     let one = Proc::new(1);
-    let mut records = Records::new(rt.alloc());
+    let mut records = Records::new(rt.alloc()).expect(&rt, "memory");
     for k in 1..=MANY {
         let added = add(&mut records, step(one, k, Kind::Local), u32::from(k));
         assert!(rt; added.is_ok());

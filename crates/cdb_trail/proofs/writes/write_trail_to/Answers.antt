@@ -19,7 +19,7 @@ pub returns-in_err-write_text-clause-wrote : goal.returns-in_err-write_text-clau
 returns-in_err-write_text-clause-wrote g c =
     let p = err_from_is_err_and c.from_residual-in_err-write_text.result c.from_residual-in_err-write_text.ensures.1 in
     let run : RunView = c.args.run.now in
-    let asked = subst (λ (h : List Event). IsStepAsked h c.args.p c.args.k c.in-Some.position) c.history.ensures c.in-Some.ensures in
+    let asked = subst (λ (h : List Event). IsStepAsked h c.args.p c.args.k c.in-Some.position) c.events.ensures c.in-Some.ensures in
     let its : IsTrailToStep run c.args.p c.args.k c.in-Some-2.text.items = (c.in-Some.position, asked, rw c.in-Some-2.is at c.in_ok-text.ensures) in
     let why = c.in_err-write_text.field-0.0 in
     rw (p.1, p.2, trail_ends (Unit {0}) why)
@@ -28,6 +28,6 @@ returns-in_err-write_text-clause-wrote g c =
 pub returns-clause-wrote : goal.returns-clause-wrote
 returns-clause-wrote g c =
     let run : RunView = c.args.run.now in
-    let asked = subst (λ (h : List Event). IsStepAsked h c.args.p c.args.k c.in-Some.position) c.history.ensures c.in-Some.ensures in
+    let asked = subst (λ (h : List Event). IsStepAsked h c.args.p c.args.k c.in-Some.position) c.events.ensures c.in-Some.ensures in
     let its : IsTrailToStep run c.args.p c.args.k c.in-Some-2.text.items = (c.in-Some.position, asked, rw c.in-Some-2.is at c.in_ok-text.ensures) in
     only_as g.W.Sink.stream Complete c.args.out.now c.write_text.new.out c.in-Some-2.text.items (IsTrailToStep run c.args.p c.args.k) its (rw c.as_slice.ensures.value at c.in_ok-write_text.ensures)
