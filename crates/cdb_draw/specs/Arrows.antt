@@ -43,16 +43,22 @@ abbrev pub register_lane : Grid → Reg → ℕ
 register_lane grid (R p) = p
 register_lane grid Dec = grid.processes + 1
 
+-- on it, in the column of the event at that position
+abbrev pub register_spot : Grid → ℕ → Reg → Point
+register_spot grid position register =
+    record {
+      x = x_of grid position;
+      y = register_y grid (row_of grid position) (register_lane grid register);
+    }
+
 -- from a register to a read of process p, and from a write to the register
 abbrev pub read_way : Grid → ℕ → ℕ → Reg → List (List Point)
 read_way grid position p register =
-    upright (x_of grid position) (register_y grid (row_of grid position) (register_lane grid register))
-    (lane_y grid (row_of grid position) p)
+    upright (x_of grid position) (register_spot grid position register).y (lane_y grid (row_of grid position) p)
 
 abbrev pub write_way : Grid → ℕ → ℕ → Reg → List (List Point)
 write_way grid position p register =
-    upright (x_of grid position) (lane_y grid (row_of grid position) p)
-    (register_y grid (row_of grid position) (register_lane grid register))
+    upright (x_of grid position) (lane_y grid (row_of grid position) p) (register_spot grid position register).y
 
 -- the arrow to a step of process p of that kind: to a receive from its send, to a read from the register; and of a
 -- write to the register

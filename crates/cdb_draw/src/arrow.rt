@@ -1,7 +1,7 @@
 //! The arrows of a picture.
 
 ghost use Rattle.std.specs.Prelude.{◌≡◌, ◌≤◌, length};
-ghost use Rattle.cdb_draw.specs.Arrows.{arrow_at, arrow_text, copy_arrow, event_arrow, register_lane, step_arrow};
+ghost use Rattle.cdb_draw.specs.Arrows.{arrow_at, arrow_text, copy_arrow, event_arrow, register_lane, register_spot, step_arrow};
 ghost use Rattle.cdb_draw.specs.Arrows.{upright, weight_text};
 ghost use Rattle.cdb_draw.specs.Layout.{end_x, IsGrid, IsOnPage};
 ghost use Rattle.cdb_draw.specs.Pieces.{pieces_text};
@@ -196,6 +196,19 @@ fn register_lane(grid: Grid, register: Reg) -> usize
     }
 }
 
+/// Where the arrow of a read or a write at a position, from 1, comes to the lane of its register.
+pub(crate) fn register_spot(grid: Grid, position: usize, register: Reg) -> Point
+    requires grid { IsGrid grid }
+    requires position { position ≤ MAX_ENTRIES }
+    ensures { result ≡ register_spot grid position register }
+{
+    let lane = register_lane(grid, register);
+    Point {
+        x: x_of(grid, position),
+        y: register_y(grid, row_of(grid, position), lane),
+    }
+}
+
 /// Puts the arrow of a step of that kind at a position.
 fn put_step<W: Sink>(
     grid: Grid,
@@ -224,15 +237,13 @@ fn put_step<W: Sink>(
             )
         }
         Kind::Read(register) => {
-            let from = register_y(grid, row, register_lane(grid, register));
-            let x = x_of(grid, position);
-            let pieces = upright_arrow("read", full, x, from, lane_y(grid, row, p));
+            let from = register_spot(grid, position, register);
+            let pieces = upright_arrow("read", full, from.x, from.y, lane_y(grid, row, p));
             put_each(&pieces, buffer, out)
         }
         Kind::Write(register) => {
-            let to = register_y(grid, row, register_lane(grid, register));
-            let x = x_of(grid, position);
-            let pieces = upright_arrow("write", full, x, lane_y(grid, row, p), to);
+            let to = register_spot(grid, position, register);
+            let pieces = upright_arrow("write", full, to.x, lane_y(grid, row, p), to.y);
             put_each(&pieces, buffer, out)
         }
         Kind::Query(_) | Kind::Send(_) | Kind::Local | Kind::Learn | Kind::Crash => Ok(()),

@@ -3,6 +3,7 @@
 
 mod arrow;
 mod draws;
+mod holds;
 mod lanes;
 mod laws;
 mod layout;

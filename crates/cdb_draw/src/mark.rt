@@ -1,8 +1,9 @@
 //! The marks of a picture.
 
 ghost use Rattle.std.specs.Prelude.{◌≡◌, ◌≤◌, [], option_copied, string_bytes};
-ghost use Rattle.cdb_draw.specs.EventMarks.{below_class, below_text, carried_text, decided_text, event_below, first_row, kind_below, kind_with, kind_word, lane_of, mark_text, marked_text, second_row, shape_of, third_row, value_of};
+ghost use Rattle.cdb_draw.specs.EventMarks.{below_place, below_text, carried_text, decided_text, decision_place, event_below, first_row, kind_below, kind_with, kind_word, lane_of, mark_text, marked_text, second_row, shape_of, third_row, value_of};
 ghost use Rattle.cdb_draw.specs.Layout.{IsGrid};
+ghost use Rattle.cdb_explain.specs.Explanations.{whole_text};
 ghost use Rattle.cdb_draw.specs.Pieces.{piece_text, pieces_text};
 ghost use Rattle.cdb_base.specs.NameTexts.{message_text, register_text};
 ghost use Rattle.cdb_message.specs.Mail.{payload_of};
@@ -11,6 +12,7 @@ ghost use Rattle.cdb_streams.specs.Putting.{Puts};
 ghost use Rattle.cdb_text.specs.Reports.{value_text};
 
 use crate::arrow::weight;
+use crate::holds::put_written;
 use crate::layout::{Grid, spot};
 use crate::piece::Piece::{After, Between, Number, Text};
 use crate::piece::{Piece, put_each};
@@ -110,7 +112,7 @@ fn third_row(event: &Event) -> Piece<'static>
 }
 
 /// A value, or `none`.
-fn value(value: Option<Val>) -> Piece<'static>
+pub(crate) fn value(value: Option<Val>) -> Piece<'static>
     ensures { piece_text result ≡ value_text value }
 {
     match value {
@@ -166,13 +168,26 @@ fn below<T: Runs>(run: &T, event: &Event, decided: Option<Val>) -> Piece<'static
     }
 }
 
-/// How it looks.
-fn below_class(decided: Option<Val>) -> &'static str
-    ensures { result.now ≡ below_class decided }
+/// How the value of a decision looks and where it stands: beside the arrow of a read or a write.
+fn decision_place(event: &Event) -> &'static str
+    ensures { result.now ≡ decision_place event.now }
+{
+    match *event {
+        Event::Step {
+            kind: Kind::Read(_) | Kind::Write(_),
+            ..
+        } => "class='beside' x='3' y='33'",
+        _ => "class='decision' y='22'",
+    }
+}
+
+/// How what stands below a mark looks, and where it stands.
+fn below_place(event: &Event, decided: Option<Val>) -> &'static str
+    ensures { result.now ≡ below_place decided event.now }
 {
     match decided {
-        Some(_) => "decision",
-        None => "value",
+        Some(_) => decision_place(event),
+        None => "class='value' y='22'",
     }
 }
 
@@ -213,7 +228,7 @@ fn mark<'a, T: Runs>(
 {
     let decided = decision_by(run, event);
     let (first, second) = (decided, decided);
-    let (ring, class) = (ring(first), below_class(second));
+    let (ring, place) = (ring(first), below_place(event, second));
     let below = below(run, event, decided);
     let at = spot(grid, position, lane_of(event));
     [
@@ -233,15 +248,42 @@ fn mark<'a, T: Runs>(
         second_row(event),
         Text("</text><text y='-15'>"),
         third_row(event),
-        Text("</text><text class='"),
-        Text(class),
-        Text("' y='22'>"),
+        Text("</text><text "),
+        Text(place),
+        Text(">"),
         below,
         Text("</text></g>\n"),
     ]
 }
 
 /// Puts the mark of the last event of a run, which stands at a position, from 1. Its whole text is made in `whole`.
+fn put_marked<T: Runs, W: Sink>(
+    alloc: Global,
+    grid: Grid,
+    run: &T,
+    full: bool,
+    position: usize,
+    event: &Event,
+    whole: &mut String,
+    buffer: &mut Buffer,
+    out: &mut W,
+) -> Result<(), OutputFault>
+    requires grid { IsGrid grid }
+    requires position { position ≤ MAX_ENTRIES }
+    ensures { Puts W.stream result out.old buffer.old out.new buffer.new
+        (marked_text T.rules grid (T.run run.now) full position event.now
+        (whole_text T.rules (T.run run.now) (T.run run.now) event.now)) }
+{
+    whole.clear();
+    push_whole(alloc, whole, run, event)?;
+    put_each(
+        &mark(grid, run, full, position, event, whole.as_str()),
+        buffer,
+        out,
+    )
+}
+
+/// Puts the mark of the last event of a run, and what the event left in a register.
 pub(crate) fn put_mark<T: Runs, W: Sink>(
     alloc: Global,
     grid: Grid,
@@ -258,11 +300,6 @@ pub(crate) fn put_mark<T: Runs, W: Sink>(
     ensures { Puts W.stream result out.old buffer.old out.new buffer.new
         (mark_text T.rules grid (T.run run.now) (T.run run.now) full position event.now) }
 {
-    whole.clear();
-    push_whole(alloc, whole, run, event)?;
-    put_each(
-        &mark(grid, run, full, position, event, whole.as_str()),
-        buffer,
-        out,
-    )
+    put_marked(alloc, grid, run, full, position, event, whole, buffer, out)?;
+    put_written(grid, run, full, position, event, buffer, out)
 }
