@@ -47,7 +47,7 @@ fn holding(
         Text(weight(full)),
         Text("' transform='translate("),
         Between(at.x, ",", at.y),
-        Text(")'><text x='4' y='-3'>"),
+        Text(")'><text x='6' y='-3'>"),
         value,
         Text("</text></g>\n"),
     ]

@@ -3,7 +3,7 @@
 ghost use Rattle.std.specs.Prelude.{◌≡◌, [], ◌≤◌, length};
 ghost use Rattle.cdb_causal.specs.Standing.{IsStanding};
 ghost use Rattle.cdb_draw.specs.Arrows.{arrow_at};
-ghost use Rattle.cdb_draw.specs.EventMarks.{mark_at};
+ghost use Rattle.cdb_draw.specs.EventMarks.{mark_at, round_before};
 ghost use Rattle.cdb_draw.specs.Layout.{IsGrid};
 ghost use Rattle.cdb_draw.specs.Picture.{arrows_text, document_text, head_text, heading_text, marks_text, picture_text};
 ghost use Rattle.cdb_draw.specs.Pieces.{piece_text, pieces_text};
@@ -17,7 +17,7 @@ ghost use Rattle.cdb_rules.specs.ByRules.{IsInOrder};
 use crate::arrow::put_arrow;
 use crate::lanes::put_lanes;
 use crate::layout::{Grid, height, width};
-use crate::mark::put_mark;
+use crate::mark::{put_mark, round_by};
 use crate::piece::Piece::{After, Number, Text};
 use crate::piece::{Piece, put_each};
 use crate::sends::{Sends, sends_of};
@@ -128,11 +128,13 @@ fn put_arrows<W: Sink>(
     Ok(())
 }
 
-/// Puts the mark of the event at a position, from 1, where `after` is the run once it had come to that event.
+/// Puts the mark of the event at a position, from 1, where its process was in round `before` before it, and `after` is
+/// the run once it had come to that event.
 fn put_mark_at<T: Runs, W: Sink>(
     alloc: Global,
     grid: Grid,
     run: &Trace,
+    before: u32,
     after: &T,
     flags: &[bool],
     position: usize,
@@ -146,6 +148,7 @@ fn put_mark_at<T: Runs, W: Sink>(
     requires from_one { 1 ≤ position }
     requires to_len { position ≤ length run.now.history }
     requires standing { IsStanding run.now.history }
+    requires before { before ≡ round_before T.rules run.now position }
     requires after { T.run after.now ≡ run_after run.now position }
     ensures { Puts W.stream result out.old buffer.old out.new buffer.new
         (mark_at T.rules grid run.now flags.now position) }
@@ -154,7 +157,7 @@ fn put_mark_at<T: Runs, W: Sink>(
     let event = &events[position - 1];
     let full = flags[position - 1];
     put_mark(
-        alloc, grid, after, full, position, event, whole, buffer, out,
+        alloc, grid, before, after, full, position, event, whole, buffer, out,
     )
 }
 
@@ -181,11 +184,14 @@ fn put_marks<T: Runs, W: Sink>(
     let _ranges = run.setup().n();
     let events = run.events();
     for i in 0..events.len() {
-        take_next(alloc, &mut again, &events[i])?;
+        let event = &events[i];
+        let before = round_by(&again, event);
+        take_next(alloc, &mut again, event)?;
         put_mark_at(
             alloc,
             grid,
             run,
+            before,
             &again,
             flags,
             i + 1,
