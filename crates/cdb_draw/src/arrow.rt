@@ -5,14 +5,15 @@ ghost use Rattle.cdb_draw.specs.Arrows.{arrow_at, arrow_text, copy_arrow, event_
 ghost use Rattle.cdb_draw.specs.Arrows.{upright, weight_text};
 ghost use Rattle.cdb_draw.specs.Layout.{end_x, IsGrid, IsOnPage};
 ghost use Rattle.cdb_draw.specs.Pieces.{pieces_text};
-ghost use Rattle.cdb_draw.specs.Sends.{AreSendsOf};
+ghost use Rattle.cdb_draw.specs.Sends.{AreSendsOf, AreTakesOf};
 ghost use Rattle.cdb_draw.specs.Ways.{broken_way, way_of, whole_way};
 ghost use Rattle.cdb_streams.specs.Putting.{Puts};
 
 use crate::layout::{Grid, Point, end_x, lane_y, register_y, row_of, spot, x_of};
 use crate::piece::Piece::{Between, Text};
 use crate::piece::{Piece, put_each};
-use crate::sends::{Sends, position_of_send};
+use crate::sends::{Sends, Takes, position_of_send};
+use crate::waits::put_on_way;
 use crate::way::{Side, coming, leaving, passing, side_of};
 use cdb_base::limits::MAX_ENTRIES;
 use cdb_base::{Event, Kind, MsgName, Proc, Reg};
@@ -214,6 +215,7 @@ fn put_step<W: Sink>(
     grid: Grid,
     events: &[Event],
     sends: &Sends,
+    takes: &Takes,
     full: bool,
     position: usize,
     p: Proc,
@@ -225,6 +227,7 @@ fn put_step<W: Sink>(
     requires few { length events.now ≤ MAX_ENTRIES }
     requires position { position ≤ MAX_ENTRIES }
     requires sends { AreSendsOf sends.now events.now }
+    requires takes { AreTakesOf takes.now events.now }
     ensures { Puts W.stream result out.old buffer.old out.new buffer.new
         (step_arrow grid events.now full position p kind) }
 {
@@ -246,7 +249,11 @@ fn put_step<W: Sink>(
             let pieces = upright_arrow("write", full, to.x, lane_y(grid, row, p), to.y);
             put_each(&pieces, buffer, out)
         }
-        Kind::Query(_) | Kind::Send(_) | Kind::Local | Kind::Learn | Kind::Crash => Ok(()),
+        Kind::Send(m) => {
+            let name = MsgName { s: p, m };
+            put_on_way(grid, events, takes, full, position, &name, buffer, out)
+        }
+        Kind::Query(_) | Kind::Local | Kind::Learn | Kind::Crash => Ok(()),
     }
 }
 
@@ -255,6 +262,7 @@ pub(crate) fn put_arrow<W: Sink>(
     grid: Grid,
     events: &[Event],
     sends: &Sends,
+    takes: &Takes,
     full: bool,
     position: usize,
     event: &Event,
@@ -265,12 +273,15 @@ pub(crate) fn put_arrow<W: Sink>(
     requires few { length events.now ≤ MAX_ENTRIES }
     requires position { position ≤ MAX_ENTRIES }
     requires sends { AreSendsOf sends.now events.now }
+    requires takes { AreTakesOf takes.now events.now }
     ensures { Puts W.stream result out.old buffer.old out.new buffer.new
         (event_arrow grid events.now full position event.now) }
 {
     match *event {
         Event::Step { p, kind, .. } => {
-            put_step(grid, events, sends, full, position, p, kind, buffer, out)
+            put_step(
+                grid, events, sends, takes, full, position, p, kind, buffer, out,
+            )
         }
         Event::Lost(copy) => {
             let (name, to) = (copy.msg, copy.to);

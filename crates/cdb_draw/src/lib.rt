@@ -13,6 +13,7 @@ mod piece;
 mod script;
 mod sends;
 pub mod style;
+mod waits;
 mod way;
 
 pub use draws::draw_run;

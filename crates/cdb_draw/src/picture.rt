@@ -7,7 +7,7 @@ ghost use Rattle.cdb_draw.specs.EventMarks.{mark_at, round_before};
 ghost use Rattle.cdb_draw.specs.Layout.{IsGrid};
 ghost use Rattle.cdb_draw.specs.Picture.{arrows_text, document_text, head_text, heading_text, marks_text, picture_text};
 ghost use Rattle.cdb_draw.specs.Pieces.{piece_text, pieces_text};
-ghost use Rattle.cdb_draw.specs.Sends.{AreSendsOf};
+ghost use Rattle.cdb_draw.specs.Sends.{AreSendsOf, AreTakesOf};
 ghost use Rattle.cdb_explain.specs.Explanations.{run_after};
 ghost use Rattle.cdb_streams.specs.Putting.{Puts};
 ghost use Rattle.cdb_streams.specs.Endings.{pieces_ending};
@@ -20,7 +20,7 @@ use crate::layout::{Grid, height, width};
 use crate::mark::{put_mark, round_by};
 use crate::piece::Piece::{After, Number, Text};
 use crate::piece::{Piece, put_each};
-use crate::sends::{Sends, sends_of};
+use crate::sends::{Sends, Takes, sends_of, takes_of};
 use crate::style::{NAMESPACE, SHAPES, STYLE};
 use cdb_base::limits::MAX_ENTRIES;
 use cdb_explain::{fresh, take_next};
@@ -85,6 +85,7 @@ fn put_arrow_at<W: Sink>(
     grid: Grid,
     run: &Trace,
     sends: &Sends,
+    takes: &Takes,
     flags: &[bool],
     position: usize,
     buffer: &mut Buffer,
@@ -96,13 +97,16 @@ fn put_arrow_at<W: Sink>(
     requires from_one { 1 ≤ position }
     requires to_len { position ≤ length run.now.history }
     requires sends { AreSendsOf sends.now run.now.history }
+    requires takes { AreTakesOf takes.now run.now.history }
     ensures { Puts W.stream result out.old buffer.old out.new buffer.new
         (arrow_at grid run.now.history flags.now position) }
 {
     let events = run.events();
     let event = &events[position - 1];
     let full = flags[position - 1];
-    put_arrow(grid, events, sends, full, position, event, buffer, out)
+    put_arrow(
+        grid, events, sends, takes, full, position, event, buffer, out,
+    )
 }
 
 /// Puts the arrows of all events.
@@ -122,8 +126,9 @@ fn put_arrows<W: Sink>(
 {
     let events = run.events();
     let sends = sends_of(alloc, events)?;
+    let takes = takes_of(alloc, events)?;
     for i in 0..events.len() {
-        put_arrow_at(grid, run, &sends, flags, i + 1, buffer, out)?;
+        put_arrow_at(grid, run, &sends, &takes, flags, i + 1, buffer, out)?;
     }
     Ok(())
 }
