@@ -1,5 +1,5 @@
--- The table of sends, when the history grows.
-use Rattle.std.proofs.Common.{◌≡◌, ℕ, suc, ◌+◌, ◌^◌, ◌<◌, ◌≤◌, Bool, true, false, ◌&&◌, List, [], ◌∷◌, ◌++◌, length, Option, Some, None, Result, Ok, Err, OnOk, cond, nat_eq, nat_lt, option_map, refl, sym, ap, subst, ◌∙◌, arith}
+-- The tables of sends and of copies that were received or lost, when the history grows.
+use Rattle.std.proofs.Common.{◌≡◌, ℕ, suc, ◌+◌, ◌*◌, ◌^◌, ◌<◌, ◌≤◌, Bool, true, false, ◌&&◌, List, [], ◌∷◌, ◌++◌, length, Option, Some, None, Result, Ok, Err, OnOk, cond, nat_eq, nat_lt, option_map, refl, sym, ap, subst, ◌∙◌, arith}
 use Rattle.std.specs.HashMap.{HashMap, get}
 use Rattle.std.specs.List.{position_from, position_or_len}
 use Rattle.std.specs.Prelude.{position}
@@ -9,10 +9,12 @@ use Rattle.std.proofs.lemmas.Iterator.Adapters.{position_from-zero}
 use Rattle.cdb_base.specs.declared.event.Event.{Event}
 use Rattle.cdb_base.specs.declared.event.Event.TheVariants.{Step, Lost}
 use Rattle.cdb_base.specs.declared.event.Kind.TheVariants.{Query, Send, Recv, Read, Write, Local, Learn, Crash}
+use Rattle.cdb_base.specs.declared.name.CopyName.{CopyName}
 use Rattle.cdb_base.specs.declared.name.MsgName.{MsgName}
+use Rattle.std.specs.Option.{option_map_or}
 use Rattle.cdb_message.specs.Mail.{message_name}
-use Rattle.cdb_draw.specs.Positions.{is_send_of, sent_at}
-use Rattle.cdb_draw.specs.Sends.{AreSendsOf, kept_or_noted, message_code, message_of}
+use Rattle.cdb_draw.specs.Positions.{copy_of, is_send_of, same_copy, sent_at, taken_at, takes}
+use Rattle.cdb_draw.specs.Sends.{AreSendsOf, AreTakesOf, copy_code, kept_or_noted, message_code, message_of}
 
 -- ---- the first position at which a test holds
 
@@ -101,3 +103,30 @@ without_send table event before is so = λ s m below.
     so s m below ∙ sym (kept_false (sent_at before other) (suc (length before)))
     ∙ ap (λ (b : Bool). kept_or_noted (sent_at before other) b (suc (length before))) (sym (is_send other event ∙ ap (λ o. sends_named o other) is))
     ∙ sym (sent_push other before event)
+
+-- ---- copies that were received or lost
+
+taken_push : (copy : CopyName) (before : List Event) (event : Event) → taken_at (before ++ event ∷ []) copy ≡ kept_or_noted (taken_at before copy) (takes copy event) (suc (length before))
+taken_push copy before event =
+    ap (option_map suc) (position_push (takes copy) before event) ∙ sym (kept_next (position (takes copy) before) (takes copy event) (length before))
+
+same_copy_code : (s m to s' m' to' : ℕ) → m < 2 ^ 16 → to < 16 → m' < 2 ^ 16 → to' < 16
+    → nat_eq ((s * 2 ^ 16 + m) * 16 + to) ((s' * 2 ^ 16 + m') * 16 + to') ≡ (nat_eq to' to && (nat_eq s' s && nat_eq m' m))
+same_copy_code s m to s' m' to' a b c d = grind (arith, nat_tests)
+
+pub with_take : {A E S : Type 0} (result : Result A E) (old new : HashMap ℕ ℕ S) (event : Event) (one : CopyName) (code position : ℕ) → copy_of event ≡ Some one → code ≡ copy_code one → one.msg.m < 2 ^ 16 → one.to < 16
+    → OnOk result ((q : ℕ) → get nat_eq new q ≡ kept_or_noted (get nat_eq old q) (nat_eq code q) position)
+    → OnOk result ((before : List Event) → suc (length before) ≡ position → AreTakesOf old before → AreTakesOf new (before ++ event ∷ []))
+with_take (Ok done) old new event one code position is coded small few noted = λ before count so copy below low.
+    let held = taken_at before copy in
+    noted (copy_code copy) ∙ ap (λ o. kept_or_noted o (nat_eq code (copy_code copy)) position) (so copy below low)
+    ∙ ap (λ (b : Bool). kept_or_noted held b position)
+    (ap (λ (n : ℕ). nat_eq n (copy_code copy)) coded ∙ same_copy_code one.msg.s one.msg.m one.to copy.msg.s copy.msg.m copy.to small few below low ∙ sym (ap (λ o. option_map_or (same_copy copy) o false) is))
+    ∙ ap (λ (n : ℕ). kept_or_noted held (takes copy event) n) (sym count) ∙ sym (taken_push copy before event)
+with_take (Err why) old new event one code position is coded small few noted = tt
+
+pub without_take : {S : Type 0} (table : HashMap ℕ ℕ S) (event : Event) (before : List Event) → copy_of event ≡ None → AreTakesOf table before → AreTakesOf table (before ++ event ∷ [])
+without_take table event before is so = λ copy below low.
+    so copy below low ∙ sym (kept_false (taken_at before copy) (suc (length before)))
+    ∙ ap (λ (b : Bool). kept_or_noted (taken_at before copy) b (suc (length before))) (sym (ap (λ o. option_map_or (same_copy copy) o false) is))
+    ∙ sym (taken_push copy before event)

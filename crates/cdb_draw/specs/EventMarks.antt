@@ -1,6 +1,7 @@
 -- The marks of a picture: one for each event, on the lane of its process, with its name and its whole text. What stands
 -- at a mark is at most as wide as a column: three rows above it, and below it the value that it carries, or the leader.
-use Rattle.std.specs.Prelude.{ℕ, Bool, List, [], ◌∷◌, ◌++◌, codes, decimal, Option, None, Some}
+-- A write has the value that its register then holds on the lane of the register.
+use Rattle.std.specs.Prelude.{ℕ, ◌-◌, Bool, List, [], ◌∷◌, ◌++◌, codes, decimal, Option, None, Some, nat_eq, if◌then◌else◌}
 use Rattle.std.specs.List.{concat}
 use Rattle.std.specs.Option.{option_map_or}
 use Rattle.cdb_base.specs.Positions.{nth}
@@ -10,18 +11,21 @@ use Rattle.cdb_base.specs.declared.event.Kind.{Kind}
 use Rattle.cdb_base.specs.declared.event.Kind.TheVariants.{Query, Send, Recv, Read, Write, Local, Learn, Crash}
 use Rattle.cdb_base.specs.declared.payload.Payload.{Payload}
 use Rattle.cdb_base.specs.declared.payload.Payload.TheVariants.{P1, P2, D}
+use Rattle.cdb_base.specs.declared.register.Cell.{Cell}
+use Rattle.cdb_base.specs.declared.register.Reg.{Reg}
 use Rattle.cdb_base.specs.NameTexts.{message_text, register_text, step_text}
 use Rattle.cdb_control.specs.Commands.{decides}
 use Rattle.cdb_explain.specs.Explanations.{run_after, whole_text}
 use Rattle.cdb_explain.specs.Flagged.{is_flagged}
 use Rattle.cdb_explain.specs.declared.line.Causes.TheVariants.{Shown}
 use Rattle.cdb_message.specs.Mail.{MailState, message_name, payload_of}
-use Rattle.cdb_rules.specs.ByRules.{mail_in}
+use Rattle.cdb_rules.specs.ByRules.{cell_in, mail_in}
 use Rattle.cdb_rules.specs.RunView.{RunView}
 use Rattle.cdb_rules.specs.Rules.{Rules}
+use Rattle.cdb_rules.specs.Views.{round_of}
 use Rattle.cdb_setup.specs.Parts.{Parts}
 use Rattle.cdb_text.specs.Reports.{value_text}
-use Rattle.cdb_draw.specs.Arrows.{weight_text}
+use Rattle.cdb_draw.specs.Arrows.{register_spot, weight_text}
 use Rattle.cdb_draw.specs.Layout.{spot}
 use Rattle.cdb_draw.specs.Ways.{point_text}
 use Rattle.cdb_draw.specs.declared.layout.Grid.{Grid}
@@ -92,13 +96,42 @@ abbrev pub below_text : Option ℕ → MailState → Event → List ℕ
 below_text None mail event = event_below mail event
 below_text (Some v) mail event = decimal v
 
-abbrev pub below_class : Option ℕ → List ℕ
-below_class None = codes "value"
-below_class (Some v) = codes "decision"
+-- where: from a read and a write an arrow runs straight down, so that the value stands beside it
+
+abbrev pub decision_place : Event → List ℕ
+decision_place (Step p k (Read register)) = codes "class='beside' x='3' y='33'"
+decision_place (Step p k (Write register)) = codes "class='beside' x='3' y='33'"
+decision_place event = codes "class='decision' y='22'"
+
+abbrev pub below_place : Option ℕ → Event → List ℕ
+below_place None event = codes "class='value' y='22'"
+below_place (Some v) event = decision_place event
 
 abbrev pub decided_text : Option ℕ → List ℕ
 decided_text None = []
 decided_text (Some v) = codes "<use href='#decided'/><text class='decision' y='-48'>decides</text>"
+
+-- ---- the round that it begins
+
+-- the round of the process of a step
+abbrev pub round_by : (Parts → Rules) → RunView → Event → ℕ
+round_by rules run (Step p k kind) = round_of (rules run.setup) run.history p
+round_by rules run (Lost copy) = 0
+
+-- a query begins the round in which its process then is, where it was in another one before
+abbrev pub begun : ℕ → ℕ → Event → Option ℕ
+begun before after (Step p k (Query leader)) = if nat_eq before after then None else Some after
+begun before after event = None
+
+-- a tick on the lane, left of the mark, and the round in a row of its own
+
+abbrev pub tick_text : Option ℕ → List ℕ
+tick_text None = []
+tick_text (Some round) = codes "<path d='M-15,-5v10'/>"
+
+abbrev pub round_text : Option ℕ → List ℕ
+round_text None = []
+round_text (Some round) = codes "round " ++ decimal round
 
 -- ---- the mark
 
@@ -107,24 +140,55 @@ abbrev pub lane_of : Event → ℕ
 lane_of (Step p k kind) = p
 lane_of (Lost copy) = copy.to
 
--- the mark of an event at that position, where the run stands so after it, with its whole text
-unfoldable pub marked_text : (Parts → Rules) → Grid → RunView → Bool → ℕ → Event → List ℕ → List ℕ
-marked_text rules grid after full position event whole =
+-- the mark of an event at that position, where its process was in that round before it, and the run stands so after it,
+-- with its whole text
+unfoldable pub marked_text : (Parts → Rules) → Grid → ℕ → RunView → Bool → ℕ → Event → List ℕ → List ℕ
+marked_text rules grid before after full position event whole =
     let decided = decides (rules after.setup) after.history event in
+    let round = begun before (round_by rules after event) event in
     concat
     (codes "<g class='" ∷ weight_text full ∷ codes "' transform='translate("
     ∷ point_text (spot grid position (lane_of event)) ∷ codes ")'><title>" ∷ whole
-    ∷ codes "</title>" ∷ decided_text decided ∷ codes "<use href='#" ∷ shape_of event
+    ∷ codes "</title>" ∷ decided_text decided ∷ tick_text round ∷ codes "<use href='#" ∷ shape_of event
     ∷ codes "'/><text y='-37'>" ∷ first_row event ∷ codes "</text><text y='-26'>" ∷ second_row event
-    ∷ codes "</text><text y='-15'>" ∷ third_row event ∷ codes "</text><text class='" ∷ below_class decided
-    ∷ codes "' y='22'>" ∷ below_text decided (mail_in rules after) event ∷ codes "</text></g>\n" ∷ [])
+    ∷ codes "</text><text y='-15'>" ∷ third_row event ∷ codes "</text><text " ∷ below_place decided event
+    ∷ codes ">" ∷ below_text decided (mail_in rules after) event ∷ codes "</text><text class='note' y='33'>"
+    ∷ round_text round ∷ codes "</text></g>\n" ∷ [])
 
--- the whole text is shown where a pointer rests on the mark
-abbrev pub mark_text : (Parts → Rules) → Grid → RunView → RunView → Bool → ℕ → Event → List ℕ
-mark_text rules grid run after full position event =
-    marked_text rules grid after full position event (whole_text rules Shown run after event)
+-- ---- what a register holds
+
+abbrev pub held_text : Option Cell → List ℕ
+held_text None = []
+held_text (Some cell) = value_text cell.val
+
+-- that value on the lane of a register, to the right of the head of the arrow at that position
+unfoldable pub holding_text : Grid → Bool → ℕ → Reg → List ℕ → List ℕ
+holding_text grid full position register value =
+    concat
+    (codes "<g class='holds " ∷ weight_text full ∷ codes "' transform='translate("
+    ∷ point_text (register_spot grid position register) ∷ codes ")'><text x='6' y='-3'>" ∷ value
+    ∷ codes "</text></g>\n" ∷ [])
+
+-- what a write leaves in its register
+abbrev pub written_text : (Parts → Rules) → Grid → RunView → Bool → ℕ → Event → List ℕ
+written_text rules grid after full position (Step p k (Write register)) =
+    holding_text grid full position register (held_text (cell_in rules after register))
+written_text rules grid after full position event = []
+
+-- ---- with its whole text, which is shown where a pointer rests on the mark
+
+abbrev pub mark_text : (Parts → Rules) → Grid → RunView → ℕ → RunView → Bool → ℕ → Event → List ℕ
+mark_text rules grid run before after full position event =
+    marked_text rules grid before after full position event (whole_text rules Shown run after event)
+    ++ written_text rules grid after full position event
+
+-- the round of the process of the event at that position, before the event
+abbrev pub round_before : (Parts → Rules) → RunView → ℕ → ℕ
+round_before rules run position =
+    option_map_or (round_by rules (run_after run (position - 1))) (nth run.history position) 0
 
 abbrev pub mark_at : (Parts → Rules) → Grid → RunView → List Bool → ℕ → List ℕ
 mark_at rules grid run flags position =
-    let mark = mark_text rules grid run (run_after run position) (is_flagged flags position) position in
+    let before = round_before rules run position in
+    let mark = mark_text rules grid run before (run_after run position) (is_flagged flags position) position in
     option_map_or mark (nth run.history position) []

@@ -1,18 +1,19 @@
 //! The arrows of a picture.
 
 ghost use Rattle.std.specs.Prelude.{◌≡◌, ◌≤◌, length};
-ghost use Rattle.cdb_draw.specs.Arrows.{arrow_at, arrow_text, copy_arrow, event_arrow, register_lane, step_arrow};
+ghost use Rattle.cdb_draw.specs.Arrows.{arrow_at, arrow_text, copy_arrow, event_arrow, register_lane, register_spot, step_arrow};
 ghost use Rattle.cdb_draw.specs.Arrows.{upright, weight_text};
 ghost use Rattle.cdb_draw.specs.Layout.{end_x, IsGrid, IsOnPage};
 ghost use Rattle.cdb_draw.specs.Pieces.{pieces_text};
-ghost use Rattle.cdb_draw.specs.Sends.{AreSendsOf};
+ghost use Rattle.cdb_draw.specs.Sends.{AreSendsOf, AreTakesOf};
 ghost use Rattle.cdb_draw.specs.Ways.{broken_way, way_of, whole_way};
 ghost use Rattle.cdb_streams.specs.Putting.{Puts};
 
 use crate::layout::{Grid, Point, end_x, lane_y, register_y, row_of, spot, x_of};
 use crate::piece::Piece::{Between, Text};
 use crate::piece::{Piece, put_each};
-use crate::sends::{Sends, position_of_send};
+use crate::sends::{Sends, Takes, position_of_send};
+use crate::waits::put_on_way;
 use crate::way::{Side, coming, leaving, passing, side_of};
 use cdb_base::limits::MAX_ENTRIES;
 use cdb_base::{Event, Kind, MsgName, Proc, Reg};
@@ -196,11 +197,25 @@ fn register_lane(grid: Grid, register: Reg) -> usize
     }
 }
 
+/// Where the arrow of a read or a write at a position, from 1, comes to the lane of its register.
+pub(crate) fn register_spot(grid: Grid, position: usize, register: Reg) -> Point
+    requires grid { IsGrid grid }
+    requires position { position ≤ MAX_ENTRIES }
+    ensures { result ≡ register_spot grid position register }
+{
+    let lane = register_lane(grid, register);
+    Point {
+        x: x_of(grid, position),
+        y: register_y(grid, row_of(grid, position), lane),
+    }
+}
+
 /// Puts the arrow of a step of that kind at a position.
 fn put_step<W: Sink>(
     grid: Grid,
     events: &[Event],
     sends: &Sends,
+    takes: &Takes,
     full: bool,
     position: usize,
     p: Proc,
@@ -212,6 +227,7 @@ fn put_step<W: Sink>(
     requires few { length events.now ≤ MAX_ENTRIES }
     requires position { position ≤ MAX_ENTRIES }
     requires sends { AreSendsOf sends.now events.now }
+    requires takes { AreTakesOf takes.now events.now }
     ensures { Puts W.stream result out.old buffer.old out.new buffer.new
         (step_arrow grid events.now full position p kind) }
 {
@@ -224,18 +240,20 @@ fn put_step<W: Sink>(
             )
         }
         Kind::Read(register) => {
-            let from = register_y(grid, row, register_lane(grid, register));
-            let x = x_of(grid, position);
-            let pieces = upright_arrow("read", full, x, from, lane_y(grid, row, p));
+            let from = register_spot(grid, position, register);
+            let pieces = upright_arrow("read", full, from.x, from.y, lane_y(grid, row, p));
             put_each(&pieces, buffer, out)
         }
         Kind::Write(register) => {
-            let to = register_y(grid, row, register_lane(grid, register));
-            let x = x_of(grid, position);
-            let pieces = upright_arrow("write", full, x, lane_y(grid, row, p), to);
+            let to = register_spot(grid, position, register);
+            let pieces = upright_arrow("write", full, to.x, lane_y(grid, row, p), to.y);
             put_each(&pieces, buffer, out)
         }
-        Kind::Query(_) | Kind::Send(_) | Kind::Local | Kind::Learn | Kind::Crash => Ok(()),
+        Kind::Send(m) => {
+            let name = MsgName { s: p, m };
+            put_on_way(grid, events, takes, full, position, &name, buffer, out)
+        }
+        Kind::Query(_) | Kind::Local | Kind::Learn | Kind::Crash => Ok(()),
     }
 }
 
@@ -244,6 +262,7 @@ pub(crate) fn put_arrow<W: Sink>(
     grid: Grid,
     events: &[Event],
     sends: &Sends,
+    takes: &Takes,
     full: bool,
     position: usize,
     event: &Event,
@@ -254,12 +273,15 @@ pub(crate) fn put_arrow<W: Sink>(
     requires few { length events.now ≤ MAX_ENTRIES }
     requires position { position ≤ MAX_ENTRIES }
     requires sends { AreSendsOf sends.now events.now }
+    requires takes { AreTakesOf takes.now events.now }
     ensures { Puts W.stream result out.old buffer.old out.new buffer.new
         (event_arrow grid events.now full position event.now) }
 {
     match *event {
         Event::Step { p, kind, .. } => {
-            put_step(grid, events, sends, full, position, p, kind, buffer, out)
+            put_step(
+                grid, events, sends, takes, full, position, p, kind, buffer, out,
+            )
         }
         Event::Lost(copy) => {
             let (name, to) = (copy.msg, copy.to);

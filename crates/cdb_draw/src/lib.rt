@@ -3,6 +3,7 @@
 
 mod arrow;
 mod draws;
+mod holds;
 mod lanes;
 mod laws;
 mod layout;
@@ -12,6 +13,7 @@ mod piece;
 mod script;
 mod sends;
 pub mod style;
+mod waits;
 mod way;
 
 pub use draws::draw_run;

@@ -1,8 +1,9 @@
 //! The marks of a picture.
 
 ghost use Rattle.std.specs.Prelude.{◌≡◌, ◌≤◌, [], option_copied, string_bytes};
-ghost use Rattle.cdb_draw.specs.EventMarks.{below_class, below_text, carried_text, decided_text, event_below, first_row, kind_below, kind_with, kind_word, lane_of, mark_text, marked_text, second_row, shape_of, third_row, value_of};
+ghost use Rattle.cdb_draw.specs.EventMarks.{begun, below_place, below_text, carried_text, decided_text, decision_place, event_below, first_row, kind_below, kind_with, kind_word, lane_of, mark_text, marked_text, round_by, round_text, second_row, shape_of, third_row, tick_text, value_of};
 ghost use Rattle.cdb_draw.specs.Layout.{IsGrid};
+ghost use Rattle.cdb_explain.specs.Explanations.{whole_text};
 ghost use Rattle.cdb_draw.specs.Pieces.{piece_text, pieces_text};
 ghost use Rattle.cdb_base.specs.NameTexts.{message_text, register_text};
 ghost use Rattle.cdb_message.specs.Mail.{payload_of};
@@ -11,6 +12,7 @@ ghost use Rattle.cdb_streams.specs.Putting.{Puts};
 ghost use Rattle.cdb_text.specs.Reports.{value_text};
 
 use crate::arrow::weight;
+use crate::holds::put_written;
 use crate::layout::{Grid, spot};
 use crate::piece::Piece::{After, Between, Number, Text};
 use crate::piece::{Piece, put_each};
@@ -110,7 +112,7 @@ fn third_row(event: &Event) -> Piece<'static>
 }
 
 /// A value, or `none`.
-fn value(value: Option<Val>) -> Piece<'static>
+pub(crate) fn value(value: Option<Val>) -> Piece<'static>
     ensures { piece_text result ≡ value_text value }
 {
     match value {
@@ -166,13 +168,26 @@ fn below<T: Runs>(run: &T, event: &Event, decided: Option<Val>) -> Piece<'static
     }
 }
 
-/// How it looks.
-fn below_class(decided: Option<Val>) -> &'static str
-    ensures { result.now ≡ below_class decided }
+/// How the value of a decision looks and where it stands: beside the arrow of a read or a write.
+fn decision_place(event: &Event) -> &'static str
+    ensures { result.now ≡ decision_place event.now }
+{
+    match *event {
+        Event::Step {
+            kind: Kind::Read(_) | Kind::Write(_),
+            ..
+        } => "class='beside' x='3' y='33'",
+        _ => "class='decision' y='22'",
+    }
+}
+
+/// How what stands below a mark looks, and where it stands.
+fn below_place(event: &Event, decided: Option<Val>) -> &'static str
+    ensures { result.now ≡ below_place decided event.now }
 {
     match decided {
-        Some(_) => "decision",
-        None => "value",
+        Some(_) => decision_place(event),
+        None => "class='value' y='22'",
     }
 }
 
@@ -186,6 +201,51 @@ fn ring(decided: Option<Val>) -> &'static str
     }
 }
 
+/// The round of the process of a step.
+pub(crate) fn round_by<T: Runs>(run: &T, event: &Event) -> u32
+    ensures { result ≡ round_by T.rules (T.run run.now) event.now }
+{
+    match *event {
+        Event::Step { p, .. } => run
+            .view(u32::from(p.number()))
+            .map_or(0, |process| process.round),
+        Event::Lost(_) => 0,
+    }
+}
+
+/// The round that an event begins, where its process was in round `before` before it and is in round `after` after it.
+fn begun(event: &Event, before: u32, after: u32) -> Option<u32>
+    ensures { result ≡ begun before after event.now }
+{
+    match *event {
+        Event::Step {
+            kind: Kind::Query(_),
+            ..
+        } => { if before == after { None } else { Some(after) } }
+        _ => None,
+    }
+}
+
+/// The tick of a round that begins.
+fn tick(round: Option<u32>) -> &'static str
+    ensures { result.now ≡ tick_text round }
+{
+    match round {
+        Some(_) => "<path d='M-15,-5v10'/>",
+        None => "",
+    }
+}
+
+/// A round that begins.
+fn round(round: Option<u32>) -> Piece<'static>
+    ensures { piece_text result ≡ round_text round }
+{
+    match round {
+        Some(round) => After("round ", round as usize),
+        None => Text(""),
+    }
+}
+
 /// The process on whose lane an event stands.
 fn lane_of(event: &Event) -> Proc
     ensures { result ≡ lane_of event.now }
@@ -196,25 +256,30 @@ fn lane_of(event: &Event) -> Proc
     }
 }
 
-/// The mark of the last event of a run, which stands at a position, from 1.
+/// The mark of the last event of a run, which stands at a position, from 1, and before which its process was in round
+/// `before`.
 #[tactic(auto, unfolding(crate::specs::EventMarks::marked_text))]
 fn mark<'a, T: Runs>(
     grid: Grid,
+    before: u32,
     run: &T,
     full: bool,
     position: usize,
     event: &Event,
     whole: &'a str,
-) -> [Piece<'a>; 21]
+) -> [Piece<'a>; 24]
     requires grid { IsGrid grid }
     requires position { position ≤ MAX_ENTRIES }
     ensures { pieces_text result
-        ≡ marked_text T.rules grid (T.run run.now) full position event.now whole.entry.now }
+        ≡ marked_text T.rules grid before (T.run run.now) full position event.now whole.entry.now }
 {
     let decided = decision_by(run, event);
     let (first, second) = (decided, decided);
-    let (ring, class) = (ring(first), below_class(second));
+    let (ring, place) = (ring(first), below_place(event, second));
     let below = below(run, event, decided);
+    let begun = begun(event, before, round_by(run, event));
+    let again = begun;
+    let (tick, round) = (tick(begun), round(again));
     let at = spot(grid, position, lane_of(event));
     [
         Text("<g class='"),
@@ -225,6 +290,7 @@ fn mark<'a, T: Runs>(
         Text(whole),
         Text("</title>"),
         Text(ring),
+        Text(tick),
         Text("<use href='#"),
         Text(shape_of(event)),
         Text("'/><text y='-37'>"),
@@ -233,18 +299,21 @@ fn mark<'a, T: Runs>(
         second_row(event),
         Text("</text><text y='-15'>"),
         third_row(event),
-        Text("</text><text class='"),
-        Text(class),
-        Text("' y='22'>"),
+        Text("</text><text "),
+        Text(place),
+        Text(">"),
         below,
+        Text("</text><text class='note' y='33'>"),
+        round,
         Text("</text></g>\n"),
     ]
 }
 
 /// Puts the mark of the last event of a run, which stands at a position, from 1. Its whole text is made in `whole`.
-pub(crate) fn put_mark<T: Runs, W: Sink>(
+fn put_marked<T: Runs, W: Sink>(
     alloc: Global,
     grid: Grid,
+    before: u32,
     run: &T,
     full: bool,
     position: usize,
@@ -256,13 +325,38 @@ pub(crate) fn put_mark<T: Runs, W: Sink>(
     requires grid { IsGrid grid }
     requires position { position ≤ MAX_ENTRIES }
     ensures { Puts W.stream result out.old buffer.old out.new buffer.new
-        (mark_text T.rules grid (T.run run.now) (T.run run.now) full position event.now) }
+        (marked_text T.rules grid before (T.run run.now) full position event.now
+        (whole_text T.rules (T.run run.now) (T.run run.now) event.now)) }
 {
     whole.clear();
     push_whole(alloc, whole, Causes::Shown, run, event)?;
     put_each(
-        &mark(grid, run, full, position, event, whole.as_str()),
+        &mark(grid, before, run, full, position, event, whole.as_str()),
         buffer,
         out,
     )
+}
+
+/// Puts the mark of the last event of a run, and what the event left in a register.
+pub(crate) fn put_mark<T: Runs, W: Sink>(
+    alloc: Global,
+    grid: Grid,
+    before: u32,
+    run: &T,
+    full: bool,
+    position: usize,
+    event: &Event,
+    whole: &mut String,
+    buffer: &mut Buffer,
+    out: &mut W,
+) -> Result<(), OutputFault>
+    requires grid { IsGrid grid }
+    requires position { position ≤ MAX_ENTRIES }
+    ensures { Puts W.stream result out.old buffer.old out.new buffer.new
+        (mark_text T.rules grid (T.run run.now) before (T.run run.now) full position event.now) }
+{
+    put_marked(
+        alloc, grid, before, run, full, position, event, whole, buffer, out,
+    )?;
+    put_written(grid, run, full, position, event, buffer, out)
 }

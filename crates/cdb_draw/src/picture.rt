@@ -3,11 +3,11 @@
 ghost use Rattle.std.specs.Prelude.{◌≡◌, [], ◌≤◌, length};
 ghost use Rattle.cdb_causal.specs.Standing.{IsStanding};
 ghost use Rattle.cdb_draw.specs.Arrows.{arrow_at};
-ghost use Rattle.cdb_draw.specs.EventMarks.{mark_at};
+ghost use Rattle.cdb_draw.specs.EventMarks.{mark_at, round_before};
 ghost use Rattle.cdb_draw.specs.Layout.{IsGrid};
 ghost use Rattle.cdb_draw.specs.Picture.{arrows_text, document_text, head_text, heading_text, marks_text, picture_text};
 ghost use Rattle.cdb_draw.specs.Pieces.{piece_text, pieces_text};
-ghost use Rattle.cdb_draw.specs.Sends.{AreSendsOf};
+ghost use Rattle.cdb_draw.specs.Sends.{AreSendsOf, AreTakesOf};
 ghost use Rattle.cdb_explain.specs.Explanations.{run_after};
 ghost use Rattle.cdb_streams.specs.Putting.{Puts};
 ghost use Rattle.cdb_streams.specs.Endings.{pieces_ending};
@@ -17,10 +17,10 @@ ghost use Rattle.cdb_rules.specs.ByRules.{IsInOrder};
 use crate::arrow::put_arrow;
 use crate::lanes::put_lanes;
 use crate::layout::{Grid, height, width};
-use crate::mark::put_mark;
+use crate::mark::{put_mark, round_by};
 use crate::piece::Piece::{After, Number, Text};
 use crate::piece::{Piece, put_each};
-use crate::sends::{Sends, sends_of};
+use crate::sends::{Sends, Takes, sends_of, takes_of};
 use crate::style::{NAMESPACE, SHAPES, STYLE};
 use cdb_base::limits::MAX_ENTRIES;
 use cdb_explain::{fresh, take_next};
@@ -85,6 +85,7 @@ fn put_arrow_at<W: Sink>(
     grid: Grid,
     run: &Trace,
     sends: &Sends,
+    takes: &Takes,
     flags: &[bool],
     position: usize,
     buffer: &mut Buffer,
@@ -96,13 +97,16 @@ fn put_arrow_at<W: Sink>(
     requires from_one { 1 ≤ position }
     requires to_len { position ≤ length run.now.history }
     requires sends { AreSendsOf sends.now run.now.history }
+    requires takes { AreTakesOf takes.now run.now.history }
     ensures { Puts W.stream result out.old buffer.old out.new buffer.new
         (arrow_at grid run.now.history flags.now position) }
 {
     let events = run.events();
     let event = &events[position - 1];
     let full = flags[position - 1];
-    put_arrow(grid, events, sends, full, position, event, buffer, out)
+    put_arrow(
+        grid, events, sends, takes, full, position, event, buffer, out,
+    )
 }
 
 /// Puts the arrows of all events.
@@ -122,17 +126,20 @@ fn put_arrows<W: Sink>(
 {
     let events = run.events();
     let sends = sends_of(alloc, events)?;
+    let takes = takes_of(alloc, events)?;
     for i in 0..events.len() {
-        put_arrow_at(grid, run, &sends, flags, i + 1, buffer, out)?;
+        put_arrow_at(grid, run, &sends, &takes, flags, i + 1, buffer, out)?;
     }
     Ok(())
 }
 
-/// Puts the mark of the event at a position, from 1, where `after` is the run once it had come to that event.
+/// Puts the mark of the event at a position, from 1, where its process was in round `before` before it, and `after` is
+/// the run once it had come to that event.
 fn put_mark_at<T: Runs, W: Sink>(
     alloc: Global,
     grid: Grid,
     run: &Trace,
+    before: u32,
     after: &T,
     flags: &[bool],
     position: usize,
@@ -146,6 +153,7 @@ fn put_mark_at<T: Runs, W: Sink>(
     requires from_one { 1 ≤ position }
     requires to_len { position ≤ length run.now.history }
     requires standing { IsStanding run.now.history }
+    requires before { before ≡ round_before T.rules run.now position }
     requires after { T.run after.now ≡ run_after run.now position }
     ensures { Puts W.stream result out.old buffer.old out.new buffer.new
         (mark_at T.rules grid run.now flags.now position) }
@@ -154,7 +162,7 @@ fn put_mark_at<T: Runs, W: Sink>(
     let event = &events[position - 1];
     let full = flags[position - 1];
     put_mark(
-        alloc, grid, after, full, position, event, whole, buffer, out,
+        alloc, grid, before, after, full, position, event, whole, buffer, out,
     )
 }
 
@@ -181,11 +189,14 @@ fn put_marks<T: Runs, W: Sink>(
     let _ranges = run.setup().n();
     let events = run.events();
     for i in 0..events.len() {
-        take_next(alloc, &mut again, &events[i])?;
+        let event = &events[i];
+        let before = round_by(&again, event);
+        take_next(alloc, &mut again, event)?;
         put_mark_at(
             alloc,
             grid,
             run,
+            before,
             &again,
             flags,
             i + 1,

@@ -1,12 +1,12 @@
-//! Where each message was sent, and where each process crashed.
+//! Where each message was sent, where each copy was received or lost, and where each process crashed.
 
 ghost use Rattle.std.specs.HashMap.{get};
-ghost use Rattle.std.specs.Prelude.{◌≡◌, ◌<◌, ◌^◌, ℕ, List, nat_eq, IfOk, OnOk};
+ghost use Rattle.std.specs.Prelude.{◌≡◌, ◌<◌, ◌^◌, ◌*◌, ℕ, List, nat_eq, IfOk, OnOk};
 ghost use Rattle.cdb_base.specs.declared.event.Event.{Event as EventName};
-ghost use Rattle.cdb_draw.specs.Positions.{crashed_at, is_crash_of, sent_at};
-ghost use Rattle.cdb_draw.specs.Sends.{AreSendsOf, HasNoted, kept_or_noted, message_code, message_of};
+ghost use Rattle.cdb_draw.specs.Positions.{copy_of, crashed_at, is_crash_of, sent_at, taken_at};
+ghost use Rattle.cdb_draw.specs.Sends.{AreSendsOf, AreTakesOf, copy_code, HasNoted, HasTaken, kept_or_noted, message_code, message_of};
 
-use cdb_base::{Event, Kind, MsgName, NoMemory, Proc};
+use cdb_base::{CopyName, Event, Kind, MsgName, NoMemory, Proc};
 use std::alloc::Global;
 use std::collections::HashMap;
 
@@ -17,6 +17,7 @@ pub(crate) type Sends = HashMap<u32, usize>;
 fn message_code(name: MsgName) -> u32
     ensures value { result ≡ message_code name.s name.m }
     ensures small { name.m < 2 ^ 16 }
+    ensures most { result < 10 * 2 ^ 16 }
 {
     u32::from(name.s.number()) * 65_536 + u32::from(name.m)
 }
@@ -71,6 +72,65 @@ pub(crate) fn position_of_send(sends: &Sends, name: MsgName) -> Option<usize>
         result ≡ sent_at history name }
 {
     sends.get(&message_code(name)).copied()
+}
+
+/// The positions at which copies were received or lost, by the numbers of their names.
+pub(crate) type Takes = HashMap<u32, usize>;
+
+/// A number for the name of a copy.
+fn copy_code(copy: CopyName) -> u32
+    ensures value { result ≡ copy_code copy }
+    ensures small { copy.msg.m < 2 ^ 16 }
+    ensures few { copy.to < 16 }
+{
+    message_code(copy.msg) * 16 + u32::from(copy.to.number())
+}
+
+/// The copy that an event receives or loses.
+fn copy_of(event: &Event) -> Option<CopyName>
+    ensures { result ≡ copy_of event.now }
+{
+    match *event {
+        Event::Step {
+            p,
+            kind: Kind::Recv(s, m),
+            ..
+        } => Some(CopyName {
+            msg: MsgName { s, m },
+            to: p,
+        }),
+        Event::Lost(copy) => Some(copy),
+        _ => None,
+    }
+}
+
+/// Notes the position of an event, where it receives or loses a copy.
+fn note_take(takes: &mut Takes, event: &Event, position: usize) -> Result<(), NoMemory>
+    ensures { OnOk result (HasTaken takes.old takes.new position event.now) }
+{
+    match copy_of(event) {
+        Some(copy) => note(takes, copy_code(copy), position),
+        None => Ok(()),
+    }
+}
+
+/// The positions at which the copies of a history were received or lost.
+pub(crate) fn takes_of(alloc: Global, events: &[Event]) -> Result<Takes, NoMemory>
+    ensures { IfOk result (λ takes. AreTakesOf takes events.now) }
+{
+    let mut takes = HashMap::new(alloc);
+    for i in 0..events.len() {
+        note_take(&mut takes, &events[i], i + 1)?;
+    }
+    Ok(takes)
+}
+
+/// The position at which a copy was received or lost, from 1.
+pub(crate) fn position_of_take(takes: &Takes, copy: CopyName) -> Option<usize>
+    ensures { (history : List EventName) → AreTakesOf takes.now history →
+        result ≡ taken_at history copy }
+{
+    takes.get(&copy_code(copy)).copied()
 }
 
 /// Whether the event is a crash of process `p`.

@@ -10,15 +10,15 @@ pub const STYLE: &str = "\
 svg{background:white}
 text{font:12px Arial,Helvetica,sans-serif;text-anchor:middle;paint-order:stroke;stroke:white;stroke-width:2px}
 path,use{fill:none;stroke:black;stroke-width:1.3px}
-.lane text,.register text,.heading{text-anchor:start}
-.lane .input,.note{font-size:10px}
+.lane text,.register text,.holds text,.heading,.beside{text-anchor:start}
+.lane .input,.note,.beside{font-size:10px}
 .lane path,.register path{stroke-width:1px}
 .register path{stroke-dasharray:1 3}
 .copy,.read{marker-end:url(#tip)}
 .read{marker-start:url(#dot)}
 .write{marker-end:url(#end)}
 .wait path{stroke-dasharray:2 2}
-.decision{font-weight:bold}
+.decision,.beside{font-weight:bold}
 .pale{opacity:.5;color:#ccc}
 path.pale,.pale use{stroke-width:.7px;stroke-dasharray:3 2}
 </style>

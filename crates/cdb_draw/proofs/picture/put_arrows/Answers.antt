@@ -8,6 +8,9 @@ use Rattle.cdb_draw.proofs.picture.put_arrows.Goals as goal
 pub returns-in_err-sends : goal.returns-in_err-sends
 returns-in_err-sends g c = search (rules, puts_nothing)
 
+pub returns-in_err-takes : goal.returns-in_err-takes
+returns-in_err-takes g c = search (rules, puts_nothing)
+
 pub loop-i-init : goal.loop-i-init
 loop-i-init g c = put_nothing g.W.Sink.stream _ _
 

@@ -1,13 +1,30 @@
 use Rattle.cdb_base.specs.Memory.{no_memory}
-use Rattle.std.proofs.Common.{rules, ◌+◌, ◌<◌, ◌≡◌, length, ap, arith}
+use Rattle.std.proofs.Common.{rules, ℕ, suc, ◌+◌, ◌-◌, ◌<◌, ◌≡◌, ◌∙◌, Some, length, slice_get, take, refl, sym, ap, arith}
 use Rattle.std.proofs.lemmas.Result.{err_from_is_err_and}
-use Rattle.cdb_draw.specs.EventMarks.{mark_at}
+use Rattle.cdb_base.specs.declared.event.Event.{Event}
+use Rattle.cdb_rules.specs.RunView.{RunView}
+use Rattle.cdb_rules.specs.Rules.{Rules}
+use Rattle.cdb_rules.specs.Runs.{with_history}
+use Rattle.cdb_setup.specs.Parts.{Parts}
+use Rattle.cdb_draw.specs.EventMarks.{mark_at, round_before, round_by}
 use Rattle.cdb_rules.proofs.Flagged.{item_at}
 use Rattle.cdb_explain.proofs.Along.{next_along, next_valid}
 use Rattle.cdb_streams.specs.declared.buffer.OutputFault.TheVariants.{NoMemory}
 use Rattle.cdb_streams.proofs.Putting.{put_nothing, puts_nothing}
 use Rattle.cdb_draw.proofs.Parted.{cut_one, put_one}
 use Rattle.cdb_draw.proofs.picture.put_marks.Goals as goal
+
+-- the round is asked for before the event is taken
+was : (by : Parts → Rules) (run : RunView) (i : ℕ) (event : Event) → slice_get run.history i ≡ Some event → (again : RunView) → again ≡ with_history run (take i run.history)
+    → (before : ℕ) → before ≡ round_by by again event → before ≡ round_before by run (i + 1)
+was by run i event at again is before asked =
+    let next : suc i ≡ i + 1 = omega arith in
+    asked ∙ ap (λ r. round_by by r event) is ∙ sym stands ∙ ap (round_before by run) next
+  where
+    stands : round_before by run (suc i) ≡ round_by by (with_history run (take i run.history)) event
+    stands =
+        let last : suc i - 1 ≡ i = omega arith in
+        rw (at, last) refl
 
 pub returns-in_err-again : goal.returns-in_err-again
 returns-in_err-again g c = search (rules, puts_nothing)
@@ -27,6 +44,11 @@ pub put_mark_at-requires-clause-after : goal.put_mark_at-requires-clause-after
 put_mark_at-requires-clause-after g c =
     let at = item_at c.events-events.ensures c.loop-i.i c.index-events-i.result (omega arith) c.index-events-i.is in
     next_along g.T.Runs.rules g.T.Runs.same_state g.met.T.Runs.histories c.args.run.now c.loop-i.i c.index-events-i.result at _ c.loop-i.invariant.again _ c.in_ok-take_next.ensures
+
+pub put_mark_at-requires-clause-before : goal.put_mark_at-requires-clause-before
+put_mark_at-requires-clause-before g c =
+    let at = item_at c.events-events.ensures c.loop-i.i c.index-events-i.result (omega arith) c.index-events-i.is in
+    was g.T.Runs.rules c.args.run.now c.loop-i.i c.index-events-i.result at _ c.loop-i.invariant.again _ c.round_by-before.ensures
 
 pub loop-i-init : goal.loop-i-init
 loop-i-init g c = record { again = c.in_ok-again.ensures; put = put_nothing g.W.Sink.stream _ _ }
