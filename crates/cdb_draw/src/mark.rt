@@ -4,6 +4,7 @@ ghost use Rattle.std.specs.Prelude.{◌≡◌, ◌≤◌, [], option_copied, str
 ghost use Rattle.cdb_draw.specs.EventMarks.{begun, below_place, below_text, carried_text, decided_text, decision_place, event_below, first_row, kind_below, kind_with, kind_word, lane_of, mark_text, marked_text, round_by, round_text, second_row, shape_of, third_row, tick_text, value_of};
 ghost use Rattle.cdb_draw.specs.Layout.{IsGrid};
 ghost use Rattle.cdb_explain.specs.Explanations.{whole_text};
+ghost use Rattle.cdb_explain.specs.declared.line.Causes.TheVariants.{Shown};
 ghost use Rattle.cdb_draw.specs.Pieces.{piece_text, pieces_text};
 ghost use Rattle.cdb_base.specs.NameTexts.{message_text, register_text};
 ghost use Rattle.cdb_message.specs.Mail.{payload_of};
@@ -326,7 +327,7 @@ fn put_marked<T: Runs, W: Sink>(
     requires position { position ≤ MAX_ENTRIES }
     ensures { Puts W.stream result out.old buffer.old out.new buffer.new
         (marked_text T.rules grid before (T.run run.now) full position event.now
-        (whole_text T.rules (T.run run.now) (T.run run.now) event.now)) }
+        (whole_text T.rules Shown (T.run run.now) (T.run run.now) event.now)) }
 {
     whole.clear();
     push_whole(alloc, whole, Causes::Shown, run, event)?;
