@@ -78,7 +78,7 @@ fn each_write_of_output_fails_in_turn(rt: HostRuntime) {
         (RACE, 90),
         (EXPLAIN, 82),
         (TRAIL, 66),
-        (DRAW, 4_114),
+        (DRAW, 4_590),
         (Request::Print("help\n"), 5),
     ];
     for (request, length) in &requests {
