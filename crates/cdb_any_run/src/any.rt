@@ -40,6 +40,8 @@ pub(crate) enum ByMachine {
 
 /// A run of the algorithm that its setup names. A contract sees its setup and its standing events, and what it returns
 /// and shows is what the rules of the setup say of these events, one set of rules for both algorithms.
+///
+/// Promise: What is promised of a run holds by the rules of the algorithm that the setup names, whichever it is.
 #[derive(Drop)]
 pub struct AnyRun {
     pub(crate) run: ByMachine,

@@ -238,6 +238,10 @@ fn read<'a>(alloc: Global, words: &'a [&'a str]) -> Result<Asked<'a>, AskFault>
 /// # Errors
 /// `Words` with `clap`'s error for arguments that the command line does not take, and for those alone; the error is
 /// help or the version where these were asked for. `NoMemory` where an allocation fails.
+///
+/// Promise: Plain arguments ask for exactly what the usage says of them, whatever texts they are that are no options;
+/// others ask for what `clap`'s matches name, and those in which `clap`'s definition finds a fault are refused, the
+/// rest only where memory is out.
 pub fn asked<'a>(alloc: Global, words: &'a [&'a str]) -> Result<Asked<'a>, AskFault>
     ensures ok { IfOk result
         (λ asked. NamesAsked (subcommand_of program (texts words.entry.now)) asked) }

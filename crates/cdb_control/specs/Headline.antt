@@ -103,7 +103,8 @@ pub record IsRolledBackAndForth (rules : Rules) (SameState : List Event → List
 pub record HoldsAt (rules : Rules) (SameState : List Event → List Event → Type 0) (setup : Parts) (seats : ℕ) (t : State) : Type 0 where
   -- each standing event was enabled in its turn: the run state is what the standing events alone reach from the start
   pub reached : IsTrue (rules.valid t.history)
-  -- an undo is granted exactly where no standing event depends on its event
+  -- an undo is granted exactly where no standing event depends on its event, and leaves the others; else the first that
+  -- does is named
   pub undone_where_free : (seat at : ℕ) (event : Event) → nth t.history at ≡ Some event
       → IsUndoneWhereFree rules t seat at event
   -- step then undo is the identity, whoever steps and whoever undoes

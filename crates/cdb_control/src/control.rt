@@ -138,6 +138,10 @@ impl<R: Runs> Control<R> {
     /// Carries a command out for a seat, from 1, and adds it to the journal, a refused one too. `JournalFull` comes
     /// before `NoMemory`, and either changes nothing. Where the seat has room, an undo, an undo of a loss, `forget`,
     /// `unbreak` and `resume` need no memory, nor does any command that is refused.
+    ///
+    /// Promise: Each command has the reply of one table, at the state that the journal so far leads to, and adds its
+    /// entry, a refused one too. A fault changes nothing, and `JournalFull` comes exactly at 999,999 entries. A refused
+    /// command changes nothing else, other seats' redo lists stay, and of every journal the headline holds.
     #[inline(always)]
     pub fn execute(&mut self, alloc: Global, seat: u8, command: Command) -> Result<Reply, CallFault>
         requires from_one { 1 ≤ seat }
@@ -185,6 +189,9 @@ impl<R: Runs> Control<R> {
 
     /// How many more commands there can be of any seat before one of this seat that is spared can need memory; at
     /// first 0. A granted rollback of the seat counts as many as it removes.
+    ///
+    /// Promise: Where a seat has room, its undo, `forget`, `unbreak` and `resume` never return `NoMemory`, nor does a
+    /// refused command.
     pub fn room(&self, seat: u8) -> u32
         requires from_one { 1 ≤ seat }
         requires to_last { seat ≤ self.now.seats }

@@ -47,6 +47,10 @@ fn write_explanation<T: Runs, W: Sink>(
 /// it is written. So after `Write` what was written is a beginning of the explanation, and after any other
 /// fault nothing was written. After `Setup` the script is not read; `Read` comes only where the reader failed in
 /// this call, and `Write` only where the writer did.
+///
+/// Promise: An explanation has a line for each event that has led to the step and for no other, in the order of the
+/// history, each with what it carries and decides and with its direct causes, and counts them. `NoStep` comes only
+/// where no such step stands. After a fault nothing was written, but after a failed write a beginning.
 pub fn explain<T: Runs, R: Source, W: Sink>(
     alloc: Global,
     setup: &[u8],

@@ -78,6 +78,9 @@ fn control_after<T: Runs>(
 ///
 /// The setup is read first, then the whole script, then all its lines. The faults are those of a play, without
 /// `Write`; after `Setup` the script is not read, and `Read` comes only where the reader failed in this call.
+///
+/// Promise: The run that a script leaves is that of its commands, carried out by the only seat, and the headline holds
+/// of it.
 pub fn run_left_by<T: Runs, R: Source>(
     alloc: Global,
     setup: &[u8],

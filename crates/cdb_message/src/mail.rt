@@ -15,6 +15,9 @@ use std::marker::Model;
 
 /// The messages of a run. A contract sees the payloads that each process sent, the set of the names
 /// that it received, and the set of the copies that are lost.
+///
+/// Promise: A send, a receive, a loss and their inverses change lists and sets as their names say, and out of memory
+/// changes nothing; the pending message is the least.
 #[derive(Drop)]
 pub struct Mail {
     sent: Vec<Outbox>,

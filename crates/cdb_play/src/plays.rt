@@ -145,6 +145,10 @@ fn play_by<T: Runs, R: Source, W: Sink>(
 /// out of memory.
 ///
 /// The replies in the transcript are those to a journal of which the headline holds.
+///
+/// Promise: A play writes exactly the transcript of its script, or a beginning of it with the reason: nothing after a
+/// fault of the setup, of reading, of a line or of length. The setup's fault comes first, then the first bad line with
+/// its first fault. The replies are those to a journal of which the headline holds.
 pub fn play<T: Runs, R: Source, W: Sink>(
     alloc: Global,
     setup: &[u8],

@@ -146,6 +146,10 @@ fn run_race<T: Runs + Send, G: Gate + Drop + Send, R: Threads + Wait + Sync, W: 
 /// line before it was the input of a process. Of several faults of sessions that of the least seat is reported;
 /// `JournalFull` comes only where processes times turns and the commands of the scripts are 999,999 at least, and
 /// `Stopped` only of a gate that did not let a call go on.
+///
+/// Promise: A race writes each script's replies, the last decisions, and whether they agree, all of one journal that
+/// explains it. In Alpha, and with a majority, each race that ends well ends with `decisions agree`, and the decisions
+/// were inputs.
 pub fn race_on_with<T: Runs + Send, G: Gate + Drop + Send, R: Threads + Wait + Sync, W: Sink>(
     rt: &R,
     alloc: Global,

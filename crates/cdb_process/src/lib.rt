@@ -53,6 +53,10 @@ pub enum Wish {
 }
 
 /// The machine of one process. In the contracts `Self` is its local state.
+///
+/// Promise: A machine accepts an input exactly where its table has a next state, and goes to it; its wish is what it
+/// accepts of sends, reads, writes and local steps; whether it accepts a query or a receive depends on the local state
+/// alone; its inverse restores the state before an input; a decision stands exactly at the last place.
 pub trait Process: Sized + Drop {
     /// What an input consumed or overwrote, for going back.
     type Back: Drop;

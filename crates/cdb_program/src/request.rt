@@ -155,6 +155,11 @@ fn perform_one<
 /// Carries a request out, reports on standard error how it ended, and returns the status with which the program
 /// ends: 0 where all went well, else 1 to 9. A fault has one line on standard error, and each seat that failed has one; nothing
 /// else is written there.
+///
+/// Promise: A request reads the files that it names, in order and no others, up to the first that can't be read; its
+/// text goes to standard output. How it ended is reported: nothing and status 0 where it is well, else the fault's
+/// text, with the name of what can't be read, on standard error, and its status. The K-th session is held at the
+/// endpoint of the K-th name.
 pub fn perform<
     R: Threads + Wait + Sync,
     F: Files + Drop,

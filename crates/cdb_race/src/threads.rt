@@ -263,6 +263,11 @@ fn open_shared<T: Runs, R: Wait>(
 /// are at most 64. All memory for what it hands back is taken before the threads start. Of several faults of sessions
 /// the one of the least seat is returned, and the race leaves nothing then. `Stopped` comes only from a gate that did not let a call go on, and `JournalFull` only where these processes
 /// and scripts make as many calls as a journal has entries at most.
+///
+/// Promise: A race that ends well has a journal of each script's commands in order, `auto` of each process as often as
+/// its turns or until it was done, and no more; the headline holds of it. `JournalFull` comes only where processes
+/// times turns and the commands reach 999,999; any other fault is one of starting or joining threads, or that of the
+/// least seat whose session ended with one.
 pub fn race<T: Runs + Send, G: Gate + Drop + Send, R: Threads + Wait + Sync>(
     rt: &R,
     alloc: Global,

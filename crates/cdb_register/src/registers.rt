@@ -14,6 +14,8 @@ use std::marker::Model;
 
 /// The registers of a run. A contract sees what those of the processes hold, in order of number, and
 /// what that of the decision holds, each with the number of its writes that stand.
+///
+/// Promise: A write and its inverse change a cell and its count as their names say.
 #[derive(Drop)]
 pub struct Registers {
     of_processes: Vec<RegisterState>,

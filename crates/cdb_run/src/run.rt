@@ -175,6 +175,10 @@ impl<P: Process> Run<P> {
     /// Takes the step of process `p` that an act names, or returns the first refusal that holds:
     /// `NoProcess`, `Crashed`, `Done`, `NotNow`, `NoMessage`, `Taken`, `BadLeader`, `NoAnswer`,
     /// `StepLimit` or `Lost`, in this order. After a refusal and after `NoMemory` the run is as it was.
+    ///
+    /// Promise: A step, and a loss and an event taken again, return the event as the definition gives it and add it, or
+    /// return the first refusal in order and change nothing. Memory that is refused changes nothing, and what is
+    /// refused takes none.
     pub fn step(
         &mut self,
         alloc: Global,

@@ -54,6 +54,12 @@ fn open<R: Runs>(alloc: Global, setup: Setup) -> Result<Control<R>, NoMemory>
 /// `Setup` with the setup's first fault, before any input is asked for. `Read` where the reading failed: each line is
 /// responded to. `Write` where the writing failed: what was written is a beginning of the responses. `NoMemory` where
 /// an allocation fails: what was written are the responses to a beginning of the lines.
+///
+/// Promise: Whenever a session asks for more input, all lines that it was given so far have their responses in full,
+/// none of them was `quit`, and the input was not at its end. At the end it has written exactly the dialogue of all
+/// that was read, and has ended at `quit`, at the end of the input, which is asked for once, or after 2^63 bytes. After
+/// a failed read each line that had ended has its response; after a failed write what was written is a beginning of the
+/// responses; after out of memory it is the responses to the first of the lines.
 pub fn debug<R: Runs, T: Console>(
     alloc: Global,
     setup: &[u8],

@@ -60,6 +60,9 @@ impl Setup {
     /// Bytes that are the text of none have the first fault that holds of them: `TooLong` is looked for
     /// first, then `NotJson` to `BadOracle` by number, then `BadVersion`. `NoMemory` if an allocation
     /// fails; a text that is too long needs none. An error leaves nothing allocated.
+    ///
+    /// Promise: Bytes are read as a setup exactly where they are one in JSON; else the first fault that holds is
+    /// returned, of a text that is too long always that.
     pub fn read(alloc: Global, bytes: &[u8]) -> Result<Setup, SetupFault>
         // What is returned is the setup of which the bytes are the text.
         ensures found { IfOk result (λ setup. Encodes bytes.now setup) }

@@ -70,6 +70,10 @@ fn is_done(reply: &Reply) -> bool
 /// Makes a session's calls in order, each after the gate was asked, and hands the seat back with the replies. It
 /// ends with `Stopped` where the gate says so, and with `JournalFull` or `NoMemory` where a call meets
 /// that; the replies are those before. Room for all of them is made at the first call.
+///
+/// Promise: A session gives its commands in order, and reports each reply; its gate is asked before each call and
+/// notified after it, with the numbers 1, 2, 3 and so on, the last one too, and a gate that always passes stops none. A
+/// full journal is reported as that, also without memory.
 pub fn serve<T: Runs, G: Gate + Drop, R: Wait>(
     shared: &Shared<T>,
     rt: &R,

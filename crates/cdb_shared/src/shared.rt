@@ -43,6 +43,10 @@ impl<T: Runs> Shared<T> {
     /// Carries a command out for a seat: takes the turn, executes and gives the turn back. It tries until
     /// it has the turn, so it may wait. After `JournalFull`, where the journal has as many entries as it
     /// can, and after `NoMemory` the control is as it was, and the seat has seen what others did.
+    ///
+    /// Promise: A call has the reply at the journal that its seat has then seen, with its own calls once each and in
+    /// order, and the headline holds of that journal. One that fails adds nothing. The seat has not the turn outside a
+    /// call.
     pub fn call<R: Wait>(
         &self,
         rt: &R,
@@ -148,6 +152,8 @@ impl<T: Runs> Shared<T> {
 
     /// Takes the turn for good and gives the control out of it. The seats, one at least, are used up. It may
     /// wait for the turn.
+    ///
+    /// Promise: The journal at the end begins with what every seat has seen, and the headline holds of it.
     pub fn finish<R: Wait>(self, rt: &R, seats: Vec<Seat<T>>) -> Control<T>
         requires some { 0 < vec_len seats }
         requires rest { All (λ seat. RestsAt self seat) seats.items }

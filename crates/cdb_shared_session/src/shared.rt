@@ -35,6 +35,9 @@ fn of_sessions(fault: SessionsFault) -> RaceFault
 /// # Errors
 /// `Setup` with the setup's first fault, and then no session was begun; `Spawn` where a thread can't be started, and
 /// `NoMemory` where an allocation fails before the sessions have ended. Nothing was written to either output.
+///
+/// Promise: That journal is written, `S LINE` for each entry, and a line for each seat that failed, which takes no
+/// memory; the status is that of a journal that was not written, else of the least seat that failed.
 pub fn debug_shared<
     R: Runs + Send,
     T: Console + Drop + Send,

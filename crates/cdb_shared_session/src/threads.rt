@@ -228,6 +228,11 @@ fn open_shared<R: Runs, Rt: Wait>(
 /// `NoMemory` where the control, the results or the threads find no memory, and then no session was begun. `Spawn`
 /// where a thread can't be started: sessions that were begun by then go on to their ends, but their endpoints and the
 /// journal are lost.
+///
+/// Promise: With several seats one journal explains the responses to each: it has the commands of each seat's lines, in
+/// order and each once, or the first of them and is full; each seat got the replies to them there, in full before it
+/// was asked for more; no entry is of another seat. A seat that fails ends alone; only after out of memory the journal
+/// may have one command more than had its reply.
 pub fn debug_seats<R: Runs + Send, T: Console + Drop + Send, Rt: Threads + Wait + Sync>(
     rt: &Rt,
     alloc: Global,

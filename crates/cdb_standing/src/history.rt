@@ -33,6 +33,9 @@ use std::alloc::Global;
 use std::marker::Model;
 
 /// The standing events, each under a name of its own. A contract sees their list.
+///
+/// Promise: A history is a list of events as a run can take them, and each call leaves it as the list's own would: an
+/// event is added at the end, and taken out where nothing depends on it. Memory that is refused changes nothing.
 #[derive(Drop)]
 pub struct History {
     tables: Tables,

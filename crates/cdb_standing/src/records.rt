@@ -33,6 +33,9 @@ fn is_free(history: &History, name: StepId) -> bool
 
 /// The standing events, each with what restores the state before it. A contract sees the list of recorded events, in
 /// the order in which they were taken.
+///
+/// Promise: An event is added with what its change left, or nothing is; what is taken out is what stood there; the
+/// count of an event is 0 exactly where it is free.
 #[derive(Drop)]
 pub struct Records<B: Drop> {
     history: History,

@@ -119,6 +119,8 @@ fn write_words<W: Sink>(words: &str, err: &mut W) -> Result<(), Failed>
 
 /// Writes the line that reports a fault. The name is that of what could not be read. Where the writer fails, what
 /// was written is a beginning of the line.
+///
+/// Promise: The text of a fault is written without memory, and is that of its `Display`.
 pub fn write_fault<W: Sink>(fault: &PlayFault, name: &str, err: &mut W) -> Result<(), Failed>
     ensures { Writes W.stream result err.old err.new
         (as_line (play_fault_text fault.now name.now)) }

@@ -102,6 +102,10 @@ fn write_trail_to<W: Sink>(
 /// written. So after `Write` what was written is a beginning of the text, and after any other fault nothing was
 /// written. `NoStep` comes where no such step stands, and `NoValue` where it takes no value. After `Setup` the script is
 /// not read; `Read` comes only where the reader failed in this call, and `Write` only where the writer did.
+///
+/// Promise: A trail has the process whose input the value was, a line for each event on the trail to the step and for
+/// no other, and counts them. `NoStep` comes only where no such step stands, `NoValue` only where it takes no value.
+/// After a fault nothing was written, but after a failed write a beginning.
 pub fn write_trail<R: Source, W: Sink>(
     alloc: Global,
     setup: &[u8],

@@ -32,6 +32,9 @@ fn run<R: Threads + Wait + Sync, F: Files + Drop, I: Source + Drop, O: Sink + Dr
 
 /// Performs what the arguments ask for, as they were read from the system, or reports that they could not be read; and
 /// returns the status with which the program ends. A session shows this prompt before each line.
+///
+/// Promise: The request that is performed is what the arguments ask for; help and version are printed, what is wrong is
+/// reported, also an argument that is no text; or memory was out.
 pub fn begin<
     R: Threads + Wait + Sync,
     F: Files + Drop,

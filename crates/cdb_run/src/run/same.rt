@@ -33,6 +33,9 @@ impl<P: Process> Run<P> {
     /// Whether both runs are in the same state: each process has the same events, each access after
     /// as many writes of its register, and the same copies are lost. The histories are then equal up
     /// to exchange of neighbours that do not depend on each other. It takes no memory.
+    ///
+    /// Promise: Two runs of equal setups are in one state exactly where exchanges of independent neighbours lead from
+    /// one history to the other. It takes no memory.
     pub fn same_run(&self, other: &Run<P>) -> bool
         requires { self.now.setup ≡ other.now.setup }
         ensures state { IsTrue result ↔ AreInSameState P.table self.now other.now }
