@@ -514,12 +514,7 @@ impl<R: Runs> ControlState<R> {
 
     /// Carries a command out, of a seat.
     #[inline(always)]
-    pub fn perform(
-        &mut self,
-        alloc: Global,
-        seat: u8,
-        command: Command,
-    ) -> Result<Reply, NoMemory>
+    pub fn perform(&mut self, alloc: Global, seat: u8, command: Command) -> Result<Reply, NoMemory>
         requires from_one { 1 ≤ seat }
         requires to_last { seat ≤ length self.old.state.redo }
         requires few { events_kept self.old.state ≤ MAX_ENTRIES }

@@ -7,7 +7,6 @@
 #![tactic(auto)]
 
 mod asked;
-mod trace;
 mod detail;
 mod explains;
 mod fault;
@@ -16,6 +15,7 @@ mod line;
 mod lines;
 mod replay;
 mod step;
+mod trace;
 
 pub use asked::position_of_step;
 pub use explains::explain;

@@ -75,11 +75,7 @@ pub fn push_flagged<T: Runs>(
 }
 
 /// The lines of the flagged events, with their causes, and then how many they are of how many.
-fn text_of_flagged<T: Runs>(
-    alloc: Global,
-    run: &Trace,
-    flags: &[bool],
-) -> Result<Vec<u8>, NoMemory>
+fn text_of_flagged<T: Runs>(alloc: Global, run: &Trace, flags: &[bool]) -> Result<Vec<u8>, NoMemory>
     requires valid { IsInOrder T.rules run.now }
     requires a_flag_each { length flags.now ≡ length run.now.history }
     ensures { IfOk result (λ text. text.items ≡ lines_text T.rules Shown run.now flags.now) }

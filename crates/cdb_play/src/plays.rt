@@ -14,9 +14,7 @@ ghost use Rattle.cdb_streams.specs.Written.{IsWritten, Only};
 
 use cdb_control::{CallFault, Command, Control, Runs, laws, open_for};
 use cdb_setup::Setup;
-use cdb_streams::{
-    Buffer, OutputFault, PlayFault, Sink, Source, put_reply, read_commands,
-};
+use cdb_streams::{Buffer, OutputFault, PlayFault, Sink, Source, put_reply, read_commands};
 use std::alloc::Global;
 
 /// Carries a command out for the only seat, and puts the text of the reply, which is made in `text`.

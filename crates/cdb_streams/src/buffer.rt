@@ -14,7 +14,7 @@ use cdb_base::NoMemory;
 use cdb_commands::Reply;
 use cdb_text::{
     Line, MOST_BYTES, MOST_CAUSES, MOST_ITEMS, MOST_LINE, MOST_REPORT, write_because,
-    write_decisions, write_short_reply, write_registers, write_view,
+    write_decisions, write_registers, write_short_reply, write_view,
 };
 use std::alloc::{AllocError, Global};
 use std::error::Error;

@@ -20,7 +20,7 @@ pub use fault::{PlayFault, RaceFault};
 pub use fault_text::{write_fault, write_race_fault};
 pub use input::{Bytes, HeldBytes, Input};
 pub use output::Output;
-pub use reply::{put_reply};
+pub use reply::put_reply;
 pub use script::{ScriptFault, commands_of, read_commands};
 pub use sink::{Failed, Sink, write_all};
 pub use source::{ReadFault, Source, read_up_to};

@@ -20,6 +20,6 @@ pub use fault::LineFault;
 pub use line::parse_line;
 pub use text::{
     Line, MOST_BYTES, MOST_CAUSES, MOST_ITEMS, MOST_LINE, MOST_REPORT, push_causes, push_command,
-    push_decides, push_event, push_number, push_payload, push_reply, push_value,
-    reply_text, write_because, write_decisions, write_short_reply, write_registers, write_view,
+    push_decides, push_event, push_number, push_payload, push_reply, push_value, reply_text,
+    write_because, write_decisions, write_registers, write_short_reply, write_view,
 };

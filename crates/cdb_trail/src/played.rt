@@ -9,8 +9,8 @@ use crate::flow::{Flow, Spot};
 use crate::flowing::Flowing;
 use crate::payload::value_of;
 use cdb_base::{Event, Kind, MsgName, NoMemory, Proc, Val};
-use cdb_rules::Trace;
 use cdb_process::Process;
+use cdb_rules::Trace;
 use cdb_run::Run;
 use std::alloc::Global;
 

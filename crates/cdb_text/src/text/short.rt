@@ -290,7 +290,12 @@ pub(super) fn write_undone(bytes: &mut [u8], from: usize, event: &Event) -> usiz
     write_byte(bytes, next, b'\n')
 }
 
-pub(super) fn write_redone(bytes: &mut [u8], from: usize, event: &Event, decides: Option<Val>) -> usize
+pub(super) fn write_redone(
+    bytes: &mut [u8],
+    from: usize,
+    event: &Event,
+    decides: Option<Val>,
+) -> usize
     requires { from + 57 ≤ length bytes.old }
     ensures { Writes from result bytes.old bytes.new
         (codes "redone " ++ event_text event.now ++ decides_text decides ++ codes "\n") }
