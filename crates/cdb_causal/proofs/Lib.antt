@@ -10,6 +10,7 @@ pub mod Reaches
 pub mod Paths
 pub mod Undone
 pub mod PastLaws
+pub mod Slices
 -- direct causes and direct dependents
 pub mod Effects
 pub mod Counting
