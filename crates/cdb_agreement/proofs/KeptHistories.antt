@@ -21,7 +21,7 @@ use Rattle.cdb_message.specs.Mail.{is_sent, is_received}
 use Rattle.cdb_process.specs.Table.{Table}
 use Rattle.cdb_rules.specs.Agreement.{AllAgree, AreProposed, HasMajorityIfNeeded}
 use Rattle.cdb_agreement.specs.Algorithms.{leader_machine, alpha_machine, rules, rules_by}
-use Rattle.cdb_rules.specs.Lawful.{KeepHistories}
+use Rattle.cdb_rules.specs.Lawful.{KeepHistories, taken_by}
 use Rattle.cdb_rules.specs.Machines.{machine_of}
 use Rattle.cdb_rules.specs.Mail.{mail_of}
 use Rattle.cdb_rules.specs.Refusals.{step_result, again_result, IsOfRun, NamesProcess}
@@ -31,6 +31,7 @@ use Rattle.cdb_rules.specs.State.{Machine, ProcessState}
 use Rattle.cdb_rules.specs.Step.{after, fold, is_among, state_of, IsValid, IsEnabled}
 use Rattle.cdb_rules.proofs.Stages.{is_due}
 use Rattle.cdb_rules.specs.Undo.{IsEventNamed, names_processes}
+use Rattle.cdb_rules.proofs.Acts.{step_by_act}
 use Rattle.cdb_rules.proofs.Again.{loss_again, step_again, again_exact, lose_enabled}
 use Rattle.cdb_agreement.proofs.Agreed.{agreed, proposed}
 use Rattle.cdb_rules.proofs.Commutes.{lost_from}
@@ -149,6 +150,15 @@ module _ {L : Type 0} (table : Table L) (setup : Parts) (range : AreInRange setu
       step_again machine lawful setup number refl state p k kind _ taken.at_process enabled
   taken_again history (Lost copy) enabled = loss_again machine setup number refl _ copy enabled
 
+  taken_by_its_act : (history : List Event) (event : Event) → IsEnabled machine (state_of machine history) event
+      → taken_by (rules_of table setup) history event ≡ Ok event
+  taken_by_its_act history (Step p k kind) enabled =
+      let state = state_of machine history in
+      let to = some_of _ enabled in
+      let taken = taken_from machine state to.0 p k kind to.1 in
+      step_by_act machine lawful setup number state p k kind _ taken.at_process enabled
+  taken_by_its_act history (Lost copy) enabled = loss_again machine setup number refl _ copy enabled
+
   again_enabled : (history : List Event) (event : Event) → IsOfRun setup event
       → again_result machine setup (state_of machine history) event ≡ Ok event → IsEnabled machine (state_of machine history) event
   again_enabled history event of_run h =
@@ -168,6 +178,7 @@ module _ {L : Type 0} (table : Table L) (setup : Parts) (range : AreInRange setu
         lose = λ history valid name p event h. pushed history valid event (when_ok _ _ event h (lose_enabled machine setup number refl _ name p));
         again = λ history valid event of_run h. pushed history valid event (again_enabled history event of_run h);
         last_again = λ history event valid. taken_again history event (last_enabled history event valid);
+        last_taken = λ history event valid. taken_by_its_act history event (last_enabled history event valid);
         of_run = next_of_run;
         standing = stands;
         exchanged = λ history other exchanged valid. subst IsSome (fold_exchanged machine history other exchanged) valid;
@@ -181,11 +192,25 @@ module _ {L : Type 0} (table : Table L) (setup : Parts) (range : AreInRange setu
 
 leader_lawful : (setup : Parts) → IsLawful (leader_machine setup)
 leader_lawful setup =
-    record { query = leader_laws.next_state-query; recv = leader_laws.next_state-recv; send = leader_laws.wish_of-send; write = leader_laws.wish_of-write }
+    record {
+      query = leader_laws.next_state-query;
+      recv = leader_laws.next_state-recv;
+      send = leader_laws.wish_of-send;
+      read = leader_laws.wish_of-read;
+      write = leader_laws.wish_of-write;
+      local = leader_laws.wish_of-local;
+    }
 
 alpha_lawful : (setup : Parts) → IsLawful (alpha_machine setup)
 alpha_lawful setup =
-    record { query = alpha_laws.next_state-query; recv = alpha_laws.next_state-recv; send = alpha_laws.wish_of-send; write = alpha_laws.wish_of-write }
+    record {
+      query = alpha_laws.next_state-query;
+      recv = alpha_laws.next_state-recv;
+      send = alpha_laws.wish_of-send;
+      read = alpha_laws.wish_of-read;
+      write = alpha_laws.wish_of-write;
+      local = alpha_laws.wish_of-local;
+    }
 
 by_algorithm : (setup : Parts) → AreInRange setup → (algorithm : Algorithm)
     → (HasMajorityIfNeeded setup → (history : List Event) → IsTrue ((rules_by algorithm setup).valid history)

@@ -1,7 +1,8 @@
 -- What the subcommand writes: the picture of the run that a script leaves.
 use Rattle.std.specs.Prelude.{ℕ, List, Option, None, Some, Result, Ok, Err}
 use Rattle.cdb_base.specs.declared.event.Event.{Event}
-use Rattle.cdb_explain.specs.Asked.{IsStepAsked, StandsNoStep}
+use Rattle.cdb_explain.specs.Asked.{IsMissing, IsStepAsked}
+use Rattle.cdb_explain.specs.declared.asked.StepAsked.{StepAsked}
 use Rattle.cdb_explain.specs.declared.fault.ExplainFault.{ExplainFault}
 use Rattle.cdb_explain.specs.declared.fault.ExplainFault.TheVariants.{Play}
 use Rattle.cdb_streams.specs.Endings.{Ending, Complete, WriterFailed, CutShort, NotBegun}
@@ -13,18 +14,12 @@ use Rattle.cdb_rules.specs.RunView.{RunView}
 use Rattle.cdb_rules.specs.Rules.{Rules}
 use Rattle.cdb_setup.specs.Parts.{Parts}
 use Rattle.cdb_draw.specs.Picture.{IsPicture}
-use Rattle.cdb_draw.specs.declared.script.StepAsked.{StepAsked}
 
 -- the position of the step that is asked for; none where none is
 abbrev pub IsPositionFor : List Event → Option StepAsked → Option ℕ → Type 0
 IsPositionFor history None None = Unit {0}
 IsPositionFor history (Some step) (Some position) = IsStepAsked history step.p step.k position
 IsPositionFor history step position = ⊥
-
--- a step is asked for, and none such stands
-abbrev pub IsMissing : List Event → Option StepAsked → Type 0
-IsMissing history None = ⊥
-IsMissing history (Some step) = StandsNoStep history step.p step.k
 
 -- the text is the picture of the run, in which what led to the step is in full
 abbrev pub IsPictureFor : (Parts → Rules) → RunView → ℕ → Option StepAsked → List ℕ → Type 0

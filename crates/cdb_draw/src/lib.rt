@@ -19,4 +19,4 @@ mod way;
 pub use draws::draw_run;
 pub use laws::arrows_keep_off_marks;
 pub use layout::COLUMNS;
-pub use script::{StepAsked, draw};
+pub use script::draw;

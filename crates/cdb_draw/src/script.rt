@@ -1,7 +1,8 @@
 //! A script is carried out without its replies, and the run that it leaves is drawn.
 
 ghost use Rattle.std.specs.Prelude.{◌≡◌, ◌<◌, ◌≤◌, length, Err, IfErr, IfOk, IfSome};
-ghost use Rattle.cdb_draw.specs.Drawn.{draw_ending, Draws, IsFaultOfDraw, IsMissing, IsPictureFor, IsPositionFor};
+ghost use Rattle.cdb_draw.specs.Drawn.{draw_ending, Draws, IsFaultOfDraw, IsPictureFor, IsPositionFor};
+ghost use Rattle.cdb_explain.specs.Asked.{IsMissing};
 ghost use Rattle.cdb_explain.specs.StepFaults.{IsFaultOfStep};
 ghost use Rattle.cdb_explain.specs.declared.fault.ExplainFault.TheVariants.{NoStep as no_step, Play as of_play};
 ghost use Rattle.cdb_streams.specs.Streams.{FailsWhere};
@@ -13,17 +14,10 @@ ghost use Rattle.cdb_setup.specs.declared.fault.SetupFault.{SetupFault as SetupF
 use crate::draws::draw_run;
 use cdb_base::Event;
 use cdb_base::limits::MAX_ENTRIES;
-use cdb_explain::{ExplainFault, position_of_step, run_left_by};
+use cdb_explain::{ExplainFault, StepAsked, position_of_step, run_left_by};
 use cdb_rules::{Runs, Trace};
 use cdb_streams::{Sink, Source};
 use std::alloc::Global;
-
-/// A step, to which what led is drawn in full: the `k`-th standing step of process `p`, or without `k` its last one.
-#[derive(Clone, Copy)]
-pub struct StepAsked {
-    pub p: u32,
-    pub k: Option<u32>,
-}
 
 /// The position, from 1, of the step that is asked for, if one is. `NoStep` where none such stands.
 fn position_for(events: &[Event], step: Option<StepAsked>) -> Result<Option<usize>, ExplainFault>

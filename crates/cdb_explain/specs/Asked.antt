@@ -3,6 +3,7 @@ use Rattle.std.specs.Prelude.{◌≡◌, ℕ, ◌<◌, ◌&&◌, ◌==◌, Bool,
 use Rattle.cdb_base.specs.Positions.{nth}
 use Rattle.cdb_base.specs.declared.event.Event.{Event}
 use Rattle.cdb_base.specs.declared.event.Event.TheVariants.{Step, Lost}
+use Rattle.cdb_explain.specs.declared.asked.StepAsked.{StepAsked}
 
 -- the event is a step of process p, the k-th where a number is given
 abbrev pub is_asked : ℕ → Option ℕ → Event → Bool
@@ -22,3 +23,8 @@ pub record IsStepAsked (history : List Event) (p : ℕ) (k : Option ℕ) (positi
 abbrev pub StandsNoStep : List Event → ℕ → Option ℕ → Type 0
 StandsNoStep history p k =
     (position : ℕ) (event : Event) → nth history position ≡ Some event → is_asked p k event ≡ false
+
+-- a step is asked for, and none such stands
+abbrev pub IsMissing : List Event → Option StepAsked → Type 0
+IsMissing history None = ⊥
+IsMissing history (Some step) = StandsNoStep history step.p step.k

@@ -2,7 +2,7 @@
 use Rattle.std.specs.Prelude.{◌≡◌, ℕ, List, [], ◌∷◌, Option, Some, Result, Err, IfErr}
 use Rattle.cdb_draw.specs.Drawn.{draw_ending, Draws, IsFaultOfDraw}
 use Rattle.cdb_draw.specs.declared.layout.TheConstants.{COLUMNS}
-use Rattle.cdb_draw.specs.declared.script.StepAsked.{StepAsked}
+use Rattle.cdb_explain.specs.declared.asked.StepAsked.{StepAsked}
 use Rattle.cdb_explain.specs.Explained.{explain_ending, Explains, IsFaultOfExplain}
 use Rattle.cdb_explain.specs.declared.fault.ExplainFault.{ExplainFault}
 use Rattle.cdb_explain.specs.declared.fault.ExplainFault.TheVariants.{Play}

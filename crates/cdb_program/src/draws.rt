@@ -7,7 +7,8 @@ use crate::fault::{Fault, of_explain};
 use crate::files::{Files, read_two};
 use crate::outside::Outside;
 use cdb_any_run::AnyRun;
-use cdb_draw::{COLUMNS, StepAsked, draw};
+use cdb_draw::{COLUMNS, draw};
+use cdb_explain::StepAsked;
 use cdb_streams::{Bytes, Sink, Source};
 use std::alloc::Global;
 

@@ -14,7 +14,7 @@ use crate::races::race_files;
 use crate::reports::report;
 use crate::seats::perform_shared;
 use crate::trails::trail_files;
-use cdb_draw::StepAsked;
+use cdb_explain::StepAsked;
 use cdb_streams::{PlayFault, Sink, Source, write_all};
 use std::alloc::Global;
 use std::sync::Wait;

@@ -27,14 +27,14 @@ use Rattle.cdb_rules.proofs.Taken.{IsAccepted, taken_from, parts, some_of}
 use Rattle.cdb_setup.specs.Parts.{Parts}
 
 -- a row of checks of which none holds refuses nothing
-none_refuses : (checks : List (Bool × Refusal)) → AllPass checks → first_refusal checks ≡ None
+pub none_refuses : (checks : List (Bool × Refusal)) → AllPass checks → first_refusal checks ≡ None
 none_refuses [] pass = refl
 none_refuses (check ∷ checks) pass = ap (λ b. option_map (λ (c : Bool × Refusal). c.1) (if b then Some check else find (λ (c : Bool × Refusal). c.0) checks)) pass.0 ∙ none_refuses checks pass.1
 
 unless_ok : (why : Option Refusal) (event : Event) → why ≡ None → unless_refused why (Some event) ≡ Ok event
 unless_ok why event none = ap (λ w. unless_refused w (Some event)) none
 
-turned : (b : Bool) → b ≡ true → not b ≡ false
+pub turned : (b : Bool) → b ≡ true → not b ≡ false
 turned b h = ap not h
 
 is_number : (a b : ℕ) → a ≡ b → (a == b) ≡ true
@@ -53,7 +53,7 @@ fits_receive machine setup number mail p (Query leader) names sent received lost
 fits_receive machine setup number mail p (Recv s m) names sent received lost = (not_false (is_sent mail (message_name s m)) sent, received, lost)
 fits_receive machine setup number mail p _ names sent received lost = tt
 
-receive_passes : {L : Type 0} (machine : Machine L) (mail : MailState) (p : ℕ) (kind : Kind) → Fits machine mail p kind
+pub receive_passes : {L : Type 0} (machine : Machine L) (mail : MailState) (p : ℕ) (kind : Kind) → Fits machine mail p kind
     → (receives_such (λ name. not (is_sent mail name)) kind ≡ false) × (receives_such (is_received mail p) kind ≡ false) × (receives_such (λ name. is_lost mail (copy_name name p)) kind ≡ false)
 receive_passes machine mail p (Recv s m) fits = (turned (is_sent mail (message_name s m)) fits.0, fits.1, fits.2)
 receive_passes machine mail p _ fits = (refl, refl, refl)

@@ -11,7 +11,7 @@ use Rattle.cdb_base.specs.declared.event.Kind.TheVariants.{Query, Send, Recv, Re
 use Rattle.cdb_base.specs.declared.payload.Payload.{Payload}
 use Rattle.cdb_base.specs.declared.refusal.Refusal.{Refusal}
 use Rattle.cdb_message.specs.Mail.{MailState, message_name, copy_name, sent_by, is_sent, is_received, is_lost}
-use Rattle.cdb_process.specs.Process.{QueryDependsOnStateAlone, RecvDependsOnStateAlone, WishNamesSend, WishNamesWrite}
+use Rattle.cdb_process.specs.Process.{QueryDependsOnStateAlone, RecvDependsOnStateAlone, WishNamesSend, WishNamesRead, WishNamesWrite, WishNamesLocal}
 use Rattle.cdb_process.specs.declared.Input.TheVariants as input
 use Rattle.cdb_process.specs.Wishes.{wished_payload, wished_cell}
 use Rattle.cdb_register.specs.Registers.{register_of}
@@ -31,7 +31,9 @@ pub record IsLawful {L : Type 0} (machine : Machine L) : Type 0 where
   pub query : QueryDependsOnStateAlone machine.next machine.accepts_query
   pub recv : RecvDependsOnStateAlone machine.next machine.accepts_receive
   pub send : WishNamesSend machine.next machine.wish
+  pub read : WishNamesRead machine.next machine.wish
   pub write : WishNamesWrite machine.next machine.wish
+  pub local : WishNamesLocal machine.next machine.wish
 
 -- none of the checks of a row holds
 abbrev pub AllPass : List (Bool × Refusal) → Type 0
@@ -56,7 +58,7 @@ Fits machine mail p _ = Unit {0}
 join : (a b : Bool) → a ≡ true → b ≡ true → (a && b) ≡ true
 join a b h k = ap₂ (λ x y. x && y) h k
 
-map_or_true : {A : Type 0} (test : A → Bool) (o : Option A) → option_map_or test o false ≡ true → (a : A) × (o ≡ Some a) × (test a ≡ true)
+pub map_or_true : {A : Type 0} (test : A → Bool) (o : Option A) → option_map_or test o false ≡ true → (a : A) × (o ≡ Some a) × (test a ≡ true)
 map_or_true test None h = absurd (true≢false (sym h))
 map_or_true test (Some a) h = (a, refl, h)
 

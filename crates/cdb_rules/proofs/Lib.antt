@@ -16,6 +16,7 @@ pub mod Granted
 pub mod Enabled
 pub mod Planned
 pub mod Again
+pub mod Acts
 -- valid histories: their states, the order of their events, numbers and names
 pub mod FirstStates
 pub mod FoldKeeps

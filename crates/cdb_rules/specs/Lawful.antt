@@ -1,18 +1,19 @@
 -- What the rules of a run keep to.
-use Rattle.std.specs.Prelude.{◌≡◌, ℕ, true, List, [], ◌∷◌, ◌++◌, Some, Ok, IsTrue}
+use Rattle.std.specs.Prelude.{◌≡◌, ℕ, true, List, [], ◌∷◌, ◌++◌, Some, Result, Ok, IsTrue}
 use Rattle.cdb_base.specs.Event.{event_name}
 use Rattle.cdb_base.specs.Positions.{nth}
 use Rattle.cdb_base.specs.declared.act.Act.{Act}
 use Rattle.cdb_base.specs.declared.event.Event.{Event}
 use Rattle.cdb_base.specs.declared.name.CopyName.{CopyName}
 use Rattle.cdb_base.specs.declared.name.MsgName.{MsgName}
-use Rattle.cdb_base.specs.declared.event.Event.TheVariants.{Lost}
+use Rattle.cdb_base.specs.declared.event.Event.TheVariants.{Step, Lost}
+use Rattle.cdb_base.specs.declared.refusal.Refusal.{Refusal}
 use Rattle.cdb_causal.specs.Causality.{IsFree}
 use Rattle.cdb_causal.specs.Dependence.{depends}
 use Rattle.cdb_causal.specs.Exchange.{IsExchanged}
 use Rattle.cdb_causal.specs.Standing.{IsStanding}
 use Rattle.cdb_rules.specs.Agreement.{AllAgree, AreProposed, HasMajorityIfNeeded}
-use Rattle.cdb_rules.specs.Refusals.{IsOfRun}
+use Rattle.cdb_rules.specs.Refusals.{act_for, IsOfRun}
 use Rattle.cdb_rules.specs.Rules.{Rules, Shown}
 use Rattle.cdb_rules.specs.Step.{is_among}
 use Rattle.cdb_rules.specs.Undo.{IsEventNamed}
@@ -26,6 +27,11 @@ pub record AreLawful (rules : Rules) (setup : Parts) : Type 0 where
   pub step : (history : List Event) (p : ℕ) (act : Act) (event : Event) → rules.step history p act ≡ Ok event → IsOfRun setup event
   pub lose : (history : List Event) (name : MsgName) (p : ℕ) (event : Event) → rules.lose history name p ≡ Ok event → IsOfRun setup event
   pub again : (history : List Event) (event taken : Event) → rules.again history event ≡ Ok taken → taken ≡ event
+
+-- what an event is taken by: a step by its act, a loss by that of its copy
+abbrev pub taken_by : Rules → List Event → Event → Result Event Refusal
+taken_by rules history (Step p k kind) = rules.step history p (act_for kind)
+taken_by rules history (Lost copy) = rules.lose history copy.msg copy.to
 
 -- The rules keep valid histories, the state that they reach, agreement and validity. SameState says of two histories that they
 -- reach one state.
@@ -43,6 +49,9 @@ pub record KeepHistories (rules : Rules) (SameState : List Event → List Event 
   -- the last event of a valid history, once undone, is taken again
   pub last_again : (history : List Event) (event : Event) → IsTrue (rules.valid (history ++ event ∷ []))
       → rules.again history event ≡ Ok event
+  -- it is what its act takes, or its loss
+  pub last_taken : (history : List Event) (event : Event) → IsTrue (rules.valid (history ++ event ∷ []))
+      → taken_by rules history event ≡ Ok event
   -- it is one of a run of the setup, and a valid history is one that look-ups over histories ask for
   pub of_run : (history : List Event) (event : Event) → IsTrue (rules.valid (history ++ event ∷ [])) → IsOfRun setup event
   pub standing : (history : List Event) → IsTrue (rules.valid history) → IsStanding history

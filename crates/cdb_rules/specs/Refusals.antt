@@ -45,6 +45,14 @@ named_kind wish sends answer (act.Query None) = option_map Query answer
 named_kind wish sends answer (act.Query (Some leader)) = Some (Query leader)
 named_kind wish sends answer (act.Recv s m) = Some (Recv s m)
 
+-- the act that names a step of that kind
+abbrev pub act_for : Kind → Act
+act_for (Query leader) = act.Query (Some leader)
+act_for (Recv s m) = act.Recv s m
+act_for Learn = act.Learn
+act_for Crash = act.Crash
+act_for kind = act.Go
+
 -- whether a machine accepts a step of that kind now: a query whoever is named, a receive whatever is received
 abbrev pub accepts_kind : {L : Type 0} → Machine L → L → ℕ → RegisterStates → Kind → Bool
 accepts_kind machine local sends registers (Query leader) = machine.accepts_query local

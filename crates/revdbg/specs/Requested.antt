@@ -10,7 +10,7 @@ use Rattle.cdb_arguments.specs.CommandLine.{program}
 use Rattle.cdb_arguments.specs.Plain.{IsNameAlone, IsPlayLine, IsRaceLine, IsExplainLine, IsTrailLine, IsDrawLine, IsDebugLine}
 use Rattle.cdb_arguments.specs.declared.request.Asked.{Asked}
 use Rattle.cdb_arguments.specs.declared.request.Asked.TheVariants as asked
-use Rattle.cdb_draw.specs.declared.script.StepAsked.{StepAsked}
+use Rattle.cdb_explain.specs.declared.asked.StepAsked.{StepAsked}
 use Rattle.cdb_streams.specs.declared.fault.PlayFault.TheVariants.{NoMemory}
 use Rattle.revdbg.specs.declared.requested.Unread.{Unread}
 use Rattle.revdbg.specs.declared.requested.Unread.TheVariants as unread

@@ -11,7 +11,7 @@ ghost use Rattle.revdbg.specs.Requested.{IsAskedBy, IsOutOfMemory, IsRefusal, Is
 
 use cdb_arguments::{AskFault, Asked, ask_status, asked};
 use cdb_base::NoMemory;
-use cdb_draw::StepAsked;
+use cdb_explain::StepAsked;
 use cdb_program::{Fault, Request};
 use cdb_streams::PlayFault;
 use std::alloc::{AllocError, Global};

@@ -1,7 +1,8 @@
 use Rattle.cdb_rules.specs.RunView.{RunView}
 use Rattle.cdb_streams.proofs.Ending.{written_as}
+use Rattle.cdb_explain.specs.Asked.{IsMissing}
 use Rattle.cdb_explain.proofs.Returned.{fault_left, is_no_setup, reads_none, no_err}
-use Rattle.cdb_draw.specs.Drawn.{draw_ending, Draws, IsMissing, IsPictureFor}
+use Rattle.cdb_draw.specs.Drawn.{draw_ending, Draws, IsPictureFor}
 use Rattle.cdb_draw.proofs.script.draw.Goals as goal
 
 pub returns-clause-wrote : goal.returns-clause-wrote

@@ -71,7 +71,7 @@ returns-clause-enabled g c =
     let setup = c.self.inside.setup in
     let number = machine_each process.table setup c.n-ranges.ensures.ranges in
     let laws = g.met.P.Process in
-    let lawful : IsLawful (machine_of process.table setup) = record { query = laws.query_by_state; recv = laws.recv_by_state; send = laws.wish_send; write = laws.wish_write } in
+    let lawful : IsLawful (machine_of process.table setup) = record { query = laws.query_by_state; recv = laws.recv_by_state; send = laws.wish_send; read = laws.wish_read; write = laws.wish_write; local = laws.wish_local } in
     let answered = returns-clause-returns g c in
     if_ok c.plan.result _ (λ event is.
     subst (λ (s : RunView). IsNext process.table s event) c.self.view_is

@@ -97,7 +97,7 @@ returns-in-Step-clause-taken g c =
     let of_run = subst (λ (s : RunView). IsOfRun s.setup c.args.event.now) (sym c.self.view_is) c.requires in
     let laws = g.met.P.Process in
     let machine = machine_of process.table setup in
-    let lawful : IsLawful machine = record { query = laws.query_by_state; recv = laws.recv_by_state; send = laws.wish_send; write = laws.wish_write } in
+    let lawful : IsLawful machine = record { query = laws.query_by_state; recv = laws.recv_by_state; send = laws.wish_send; read = laws.wish_read; write = laws.wish_write; local = laws.wish_local } in
     let returned = returns-in-Step-clause-returns g c in
     subst (λ (s : RunView). let machine = machine_of process.table s.setup in IsOk c.plan_again.result ↔ IsSome (after machine (state_of machine s.history) c.args.event.now)) c.self.view_is
     (again_exact machine lawful setup number refl (state_of machine (events_of c.self.inside.records)) c.args.event.now of_run c.plan_again.result
@@ -118,7 +118,7 @@ returns-in-Lost-clause-taken g c =
     let of_run = subst (λ (s : RunView). IsOfRun s.setup c.args.event.now) (sym c.self.view_is) c.requires in
     let laws = g.met.P.Process in
     let machine = machine_of process.table setup in
-    let lawful : IsLawful machine = record { query = laws.query_by_state; recv = laws.recv_by_state; send = laws.wish_send; write = laws.wish_write } in
+    let lawful : IsLawful machine = record { query = laws.query_by_state; recv = laws.recv_by_state; send = laws.wish_send; read = laws.wish_read; write = laws.wish_write; local = laws.wish_local } in
     let returned = returns-in-Lost-clause-returns g c in
     subst (λ (s : RunView). let machine = machine_of process.table s.setup in IsOk c.plan_loss_again.result ↔ IsSome (after machine (state_of machine s.history) c.args.event.now)) c.self.view_is
     (again_exact machine lawful setup number refl (state_of machine (events_of c.self.inside.records)) c.args.event.now of_run c.plan_loss_again.result

@@ -1,0 +1,14 @@
+//! A script that plays a run again, or only what led to a step of it. The functions of `laws` do nothing: the contract of each
+//! is the law.
+//!
+//! ```text
+//! slice::<AnyRun, _, _>(alloc, setup, &mut script, step, &mut output)?;
+//! ```
+#![tactic(auto)]
+
+mod events;
+pub mod laws;
+mod script;
+mod slices;
+
+pub use slices::slice;
