@@ -1,0 +1,2 @@
+pub mod PlayedBack
+pub mod Parting

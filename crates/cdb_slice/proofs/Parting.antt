@@ -1,0 +1,50 @@
+-- A list is parted by its flags.
+use Rattle.std.proofs.Common.{◌≡◌, ℕ, zero, suc, ◌+◌, Bool, true, false, List, [], ◌∷◌, ◌++◌, Some, length, slice_get, drop, refl, sym, ap, ◌∙◌, subst, arith, append_assoc}
+use Rattle.cdb_base.specs.declared.event.Event.{Event}
+use Rattle.cdb_causal.proofs.Lists.{drop_from}
+use Rattle.cdb_causal.specs.Dependence.{depends}
+use Rattle.cdb_causal.specs.Past.{HasLedTo, IsSlice}
+use Rattle.cdb_causal.specs.Rollback.{IsParted, done, kept, gone}
+use Rattle.cdb_rules.specs.Flags.{FlagsPast}
+use Rattle.cdb_slice.specs.Flagged.{flagged, unflagged}
+
+module _ {A : Type 0} (P : ℕ → Type 0) where
+  -- the flags are those of the positions of the set, the first of which is given
+  record FlagSet (position : ℕ) (flags : List Bool) : Type 0 where
+    to : (i : ℕ) → slice_get flags i ≡ Some true → P (position + i)
+    from : (i : ℕ) → P (position + i) → slice_get flags i ≡ Some true
+
+  behind : (position : ℕ) (flag : Bool) (flags : List Bool) → FlagSet position (flag ∷ flags) → FlagSet (suc position) flags
+  behind position flag flags set =
+      record {
+        to = λ i is. let same : position + suc i ≡ suc position + i = omega arith in subst P same (set.to (suc i) is);
+        from = λ i p. let same : suc position + i ≡ position + suc i = omega arith in set.from (suc i) (subst P same p);
+      }
+
+  parted : (position : ℕ) (flags : List Bool) (xs : List A) → length flags ≡ length xs → FlagSet position flags
+      → IsParted P position xs (unflagged flags xs) (flagged flags xs)
+  parted position [] [] number set = done
+  parted position [] (x ∷ xs) number set = absurd (omega (arith, number))
+  parted position (flag ∷ flags) [] number set = absurd (omega (arith, number))
+  parted position (true ∷ flags) (x ∷ xs) number set =
+      let same : position + 0 ≡ position = omega arith in
+      gone (subst P same (set.to 0 refl)) (parted (suc position) flags xs (let n = number in omega arith) (behind position true flags set))
+  parted position (false ∷ flags) (x ∷ xs) number set =
+      let same : position ≡ position + 0 = omega arith in
+      kept (λ p. let is = set.from 0 (subst P same p) in absurd (cc)) (parted (suc position) flags xs (let n = number in omega arith) (behind position false flags set))
+
+pub flags_slice : (history : List Event) (at : ℕ) (flags : List Bool) → FlagsPast history at flags → IsSlice depends history at (flagged flags history) (unflagged flags history)
+flags_slice history at flags past =
+    parted (HasLedTo depends history at) 1 flags history past.0 (record {
+      to = λ i is. let same : suc i ≡ 1 + i = omega arith in subst (HasLedTo depends history at) same ((past.1 (suc i)).0 is);
+      from = λ i led. let same : 1 + i ≡ suc i = omega arith in (past.1 (suc i)).1 (subst (HasLedTo depends history at) same led);
+    })
+
+-- ---- one element after the other
+
+module _ {A : Type 0} (flags : List Bool) (xs : List A) (i : ℕ) (x : A) (stands : slice_get xs i ≡ Some x) where
+  pub one_flagged : slice_get flags i ≡ Some true → flagged (drop i flags) (drop i xs) ≡ x ∷ flagged (drop (suc i) flags) (drop (suc i) xs)
+  one_flagged is = rw (drop_from flags i true is, drop_from xs i x stands) refl
+
+  pub one_unflagged : slice_get flags i ≡ Some false → flagged (drop i flags) (drop i xs) ≡ flagged (drop (suc i) flags) (drop (suc i) xs)
+  one_unflagged is = rw (drop_from flags i false is, drop_from xs i x stands) refl
