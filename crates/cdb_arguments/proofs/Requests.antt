@@ -1,6 +1,6 @@
 -- The requests of command lines whose texts are no options.
-use Rattle.std.proofs.Common.{◌≡◌, ◌∙◌, ◌≤◌, ℕ, true, false, List, [], ◌∷◌, Option, Some, None, refl, ap, sym, subst, codes, pos, arith, w64}
-use Rattle.std.specs.Prelude.{Result, IfOk, IfErr, unwrap_or}
+use Rattle.std.proofs.Common.{◌≡◌, ◌∙◌, ◌≤◌, ℕ, true, false, List, [], ◌∷◌, Option, Some, None, refl, ap, ap₂, sym, subst, codes, pos, arith, w64}
+use Rattle.std.specs.Prelude.{Result, IfOk, IfErr, IsSome, unwrap_or}
 use Rattle.std.specs.Str.{bytes_eq}
 use Rattle.std.specs.Str.Parse.{digits_value, without_leading_plus}
 use Rattle.std.proofs.lemmas.Bool.{false≢true}
@@ -13,15 +13,18 @@ use Rattle.std.proofs.lemmas.Result.{IfOk-weaker}
 use Rattle.clap.specs.Words.{Row, Text, first_of, subcommand_of, takes}
 use Rattle.clap.specs.declared.builder.value_parser.ValueParser.TheVariants as vp
 use Rattle.clap.proofs.ValueTestLemmas.{Accepts-accepts}
-use Rattle.cdb_arguments.specs.Asking.{NamesAsked, IsRequest, IsPlayOf, IsRaceOf, IsExplainOf, IsTrailOf, IsDrawOf, IsDebugOf, IsTurns, IsNumber, IsNumberOf, text_at, texts_at}
+use Rattle.cdb_arguments.specs.Asking.{HasStepOf, IsAnyStepIn, IsStepIn, NamesAsked, IsRequest, IsPlayOf, IsQuestionOf, IsRaceOf, IsDebugOf, IsTurns, IsNumber, IsNumberOf, text_at, texts_at}
 use Rattle.cdb_arguments.specs.CommandLine.{program}
-use Rattle.cdb_arguments.specs.Plain.{IsNameAlone, IsNumberOfTurns, IsPlain, IsPlayLine, IsRaceLine, IsExplainLine, IsTrailLine, IsDrawLine, IsDebugLine}
+use Rattle.cdb_arguments.specs.Plain.{IsNameAlone, IsNumberOfTurns, IsPlain, IsPlayLine, IsQuestionLine, IsRaceLine, IsDebugLine, question_name}
 use Rattle.cdb_arguments.specs.declared.request.AskFault.{AskFault}
 use Rattle.cdb_arguments.specs.declared.request.AskFault.TheVariants.{NoMemory}
 use Rattle.cdb_arguments.specs.declared.request.Asked.{Asked}
-use Rattle.cdb_arguments.specs.declared.request.Asked.TheVariants.{Script, Play, Race, Explain, Trail, Draw, Debug}
+use Rattle.cdb_arguments.specs.declared.request.Asked.TheVariants.{Script, Play, Race, Ask, Debug}
+use Rattle.cdb_base.specs.declared.question.Question.{Question}
+use Rattle.cdb_base.specs.declared.question.Question.TheVariants.{Explain, Trail, Draw, Slice}
+use Rattle.cdb_base.specs.declared.question.StepAsked.{StepAsked}
 use Rattle.cdb_base.specs.Memory.{no_memory}
-use Rattle.cdb_arguments.proofs.StepLines.{OptionWritesNumber, StepLine, explain_line, trail_line, draw_line}
+use Rattle.cdb_arguments.proofs.StepLines.{OptionWritesNumber, QuestionLine, StepLine, StepWritten, question_line}
 use Rattle.cdb_arguments.proofs.SeatLines.{SeatLine, debug_line}
 use Rattle.cdb_arguments.proofs.Lines.{nothing_asked, nothing_taken, play_asked, play_taken, PlayRows, race_asked, race_taken, RaceRows, AcceptsTurns}
 
@@ -31,9 +34,7 @@ script_is : (found : Option (Text × List Row)) (asked : Asked) → found ≡ No
 script_is found Script none asks = refl
 script_is found (Play a b) none asks = absurd (none-some _ (sym none ∙ asks.1))
 script_is found (Race a n b) none asks = absurd (none-some _ (sym none ∙ asks.1))
-script_is found (Explain a b p k) none asks = absurd (none-some _ (sym none ∙ asks.1))
-script_is found (Trail a b p k) none asks = absurd (none-some _ (sym none ∙ asks.1))
-script_is found (Draw a b p k) none asks = absurd (none-some _ (sym none ∙ asks.1))
+script_is found (Ask a b q) none asks = absurd (none-some _ (sym none ∙ asks.1))
 script_is found (Debug a b) none asks = absurd (none-some _ (sym none ∙ asks.1))
 
 some_same : {X : Type 0} (a b : X) → Some a ≡ Some b → a ≡ b
@@ -51,6 +52,22 @@ other_name : (found : Option (Text × List Row)) (name other : Text) (rows more 
 other_name found name other rows more a b differ same =
     false≢true (sym differ ∙ ap (λ text. bytes_eq text name) (same_names found name other rows more a b) ∙ same)
 
+-- the subcommands of questions are none of the others
+record Differs (question : Question) : Type 0 where
+  play : bytes_eq (question_name question) (codes "play") ≡ false
+  race : bytes_eq (question_name question) (codes "race") ≡ false
+  debug : bytes_eq (question_name question) (codes "debug") ≡ false
+  from_play : bytes_eq (codes "play") (question_name question) ≡ false
+  from_race : bytes_eq (codes "race") (question_name question) ≡ false
+  from_debug : bytes_eq (codes "debug") (question_name question) ≡ false
+  own : bytes_eq (question_name question) (question_name question) ≡ true
+
+differs : (question : Question) → Differs question
+differs (Explain step) = record { play = refl; race = refl; debug = refl; from_play = refl; from_race = refl; from_debug = refl; own = refl }
+differs (Trail step) = record { play = refl; race = refl; debug = refl; from_play = refl; from_race = refl; from_debug = refl; own = refl }
+differs (Draw step) = record { play = refl; race = refl; debug = refl; from_play = refl; from_race = refl; from_debug = refl; own = refl }
+differs (Slice step) = record { play = refl; race = refl; debug = refl; from_play = refl; from_race = refl; from_debug = refl; own = refl }
+
 play_is : (found : Option (Text × List Row)) (rows : List Row) (setup script : Text) (asked : Asked) → found ≡ Some (codes "play", rows)
     → PlayRows setup script rows → NamesAsked found asked → IsPlayOf setup script asked
 play_is found rows setup script Script is have asks = absurd (none-some _ (sym asks ∙ is))
@@ -60,18 +77,14 @@ play_is found rows setup script (Play a b) is have asks =
       asks.3 ∙ ap (text_at (codes "SCRIPT")) same ∙ ap (λ text. unwrap_or text []) have.1,
     )
 play_is found rows setup script (Race a n b) is have asks = absurd (other_name found _ (codes "race") rows asks.0 is asks.1 refl refl)
-play_is found rows setup script (Explain a b p k) is have asks = absurd (other_name found _ (codes "explain") rows asks.0 is asks.1 refl refl)
-play_is found rows setup script (Trail a b p k) is have asks = absurd (other_name found _ (codes "trail") rows asks.0 is asks.1 refl refl)
-play_is found rows setup script (Draw a b p k) is have asks = absurd (other_name found _ (codes "draw") rows asks.0 is asks.1 refl refl)
+play_is found rows setup script (Ask a b q) is have asks = absurd (other_name found _ (question_name q) rows asks.0 is asks.1 (differs q).play refl)
 play_is found rows setup script (Debug a b) is have asks = absurd (other_name found _ (codes "debug") rows asks.0 is asks.1 refl refl)
 
 race_is : (found : Option (Text × List Row)) (rows : List Row) (setup text : Text) (turns : ℕ) (scripts : List Text) (asked : Asked)
     → found ≡ Some (codes "race", rows) → RaceRows setup text scripts rows → IsNumberOfTurns text turns → NamesAsked found asked → IsRaceOf setup turns scripts asked
 race_is found rows setup text turns scripts Script is have number asks = absurd (none-some _ (sym asks ∙ is))
 race_is found rows setup text turns scripts (Play a b) is have number asks = absurd (other_name found _ (codes "play") rows asks.0 is asks.1 refl refl)
-race_is found rows setup text turns scripts (Explain a b p k) is have number asks = absurd (other_name found _ (codes "explain") rows asks.0 is asks.1 refl refl)
-race_is found rows setup text turns scripts (Trail a b p k) is have number asks = absurd (other_name found _ (codes "trail") rows asks.0 is asks.1 refl refl)
-race_is found rows setup text turns scripts (Draw a b p k) is have number asks = absurd (other_name found _ (codes "draw") rows asks.0 is asks.1 refl refl)
+race_is found rows setup text turns scripts (Ask a b q) is have number asks = absurd (other_name found _ (question_name q) rows asks.0 is asks.1 (differs q).race refl)
 race_is found rows setup text turns scripts (Debug a b) is have number asks = absurd (other_name found _ (codes "debug") rows asks.0 is asks.1 refl refl)
 race_is found rows setup text turns scripts (Race a n b) is have number asks =
     let same = same_rows found (codes "race") (codes "race") rows asks.0 is asks.1 in
@@ -88,67 +101,85 @@ number_is None (Some k) its writes is = absurd writes
 number_is (Some text) None its writes is = absurd writes
 number_is (Some text) (Some k) its writes is = is.1 ∙ ap (λ n. let found : Option ℕ = Some n in found) (is.2.2 k writes)
 
+same_step : (its step : StepAsked) → its.p ≡ step.p → its.k ≡ step.k → its ≡ step
+same_step its step p k = ap₂ (λ p k. let made : StepAsked = record { p = p; k = k } in made) p k
+
+-- the texts of a step that is written
+its_p : (p k : Option Text) (step : StepAsked) → StepWritten p k (Some step) → OptionWritesNumber p (Some step.p)
+its_p None k step writes = writes
+its_p (Some p) k step writes = writes.0
+
+its_k : (p k : Option Text) (step : StepAsked) → StepWritten p k (Some step) → OptionWritesNumber k step.k
+its_k None k step writes = absurd writes
+its_k (Some p) k step writes = writes.1
+
+no_text : (p k : Option Text) → StepWritten p k None → IsSome p → ⊥
+no_text p k none some = false≢true (subst IsSome none some)
+
+some_text : (p k : Option Text) (step : StepAsked) → StepWritten p k (Some step) → p ≡ None → ⊥
+some_text None k step writes none = writes
+some_text (Some p) k step writes none = none-some p (sym none)
+
 own_number : (text : Option Text) (p its : ℕ) → OptionWritesNumber text (Some p) → IsNumber (unwrap_or text []) its → its ≡ p
 own_number None p its writes is = absurd writes
 own_number (Some text) p its writes is = is.2 p writes
 
-explain_is : (setup script : Text) (p : ℕ) (k : Option ℕ) (words : List Text) (asked : Asked) → StepLine (codes "explain") setup script (Some p) k words
-    → NamesAsked (subcommand_of program words) asked → IsExplainOf setup script p k asked
-explain_is setup script p k words Script line asks = absurd (none-some _ (sym asks ∙ line.asked))
-explain_is setup script p k words (Play a b) line asks = absurd (other_name _ _ (codes "play") line.rows asks.0 line.asked asks.1 refl refl)
-explain_is setup script p k words (Race a n b) line asks = absurd (other_name _ _ (codes "race") line.rows asks.0 line.asked asks.1 refl refl)
-explain_is setup script p k words (Trail a b q l) line asks = absurd (other_name _ _ (codes "trail") line.rows asks.0 line.asked asks.1 refl refl)
-explain_is setup script p k words (Draw a b q l) line asks = absurd (other_name _ _ (codes "draw") line.rows asks.0 line.asked asks.1 refl refl)
-explain_is setup script p k words (Debug a b) line asks = absurd (other_name _ _ (codes "debug") line.rows asks.0 line.asked asks.1 refl refl)
-explain_is setup script p k words (Explain a b q l) line asks =
-    let same = same_rows _ (codes "explain") (codes "explain") line.rows asks.0 line.asked asks.1 in
-    let p_text : text_at (codes "P") asks.0 ≡ unwrap_or line.p_text [] = ap (text_at (codes "P")) same ∙ ap (λ t. unwrap_or t []) line.p_at in (
-      asks.2 ∙ ap (text_at (codes "SETUP")) same ∙ ap (λ t. unwrap_or t []) line.setup_at,
-      asks.3 ∙ ap (text_at (codes "SCRIPT")) same ∙ ap (λ t. unwrap_or t []) line.script_at,
-      own_number line.p_text p q line.p_written (subst (λ t. IsNumber t q) p_text asks.4),
-      number_is line.k_text k l line.k_written (subst (λ t. IsNumberOf t l) (ap (first_of (codes "K")) same ∙ line.k_at) asks.5),
-    )
+-- a step that is written is the one of the matches
+step_is : {command setup script : Text} {asked : Option StepAsked} {words : List Text} (line : StepLine command setup script asked words) (step its : StepAsked)
+    → StepWritten line.p_text line.k_text (Some step) → IsStepIn line.rows its → its ≡ step
+step_is line step its writes is =
+    let p_text : text_at (codes "P") line.rows ≡ unwrap_or line.p_text [] = ap (λ t. unwrap_or t []) line.p_at in
+    same_step its step
+    (own_number line.p_text step.p its.p (its_p line.p_text line.k_text step writes) (subst (λ t. IsNumber t its.p) p_text is.0))
+    (number_is line.k_text step.k its.k (its_k line.p_text line.k_text step writes) (subst (λ t. IsNumberOf t its.k) line.k_at is.1))
 
-trail_is : (setup script : Text) (p : ℕ) (k : Option ℕ) (words : List Text) (asked : Asked) → StepLine (codes "trail") setup script (Some p) k words
-    → NamesAsked (subcommand_of program words) asked → IsTrailOf setup script p k asked
-trail_is setup script p k words Script line asks = absurd (none-some _ (sym asks ∙ line.asked))
-trail_is setup script p k words (Play a b) line asks = absurd (other_name _ _ (codes "play") line.rows asks.0 line.asked asks.1 refl refl)
-trail_is setup script p k words (Race a n b) line asks = absurd (other_name _ _ (codes "race") line.rows asks.0 line.asked asks.1 refl refl)
-trail_is setup script p k words (Explain a b q l) line asks = absurd (other_name _ _ (codes "explain") line.rows asks.0 line.asked asks.1 refl refl)
-trail_is setup script p k words (Draw a b q l) line asks = absurd (other_name _ _ (codes "draw") line.rows asks.0 line.asked asks.1 refl refl)
-trail_is setup script p k words (Debug a b) line asks = absurd (other_name _ _ (codes "debug") line.rows asks.0 line.asked asks.1 refl refl)
-trail_is setup script p k words (Trail a b q l) line asks =
-    let same = same_rows _ (codes "trail") (codes "trail") line.rows asks.0 line.asked asks.1 in
-    let p_text : text_at (codes "P") asks.0 ≡ unwrap_or line.p_text [] = ap (text_at (codes "P")) same ∙ ap (λ t. unwrap_or t []) line.p_at in (
-      asks.2 ∙ ap (text_at (codes "SETUP")) same ∙ ap (λ t. unwrap_or t []) line.setup_at,
-      asks.3 ∙ ap (text_at (codes "SCRIPT")) same ∙ ap (λ t. unwrap_or t []) line.script_at,
-      own_number line.p_text p q line.p_written (subst (λ t. IsNumber t q) p_text asks.4),
-      number_is line.k_text k l line.k_written (subst (λ t. IsNumberOf t l) (ap (first_of (codes "K")) same ∙ line.k_at) asks.5),
-    )
+any_step_is : {command setup script : Text} {asked : Option StepAsked} {words : List Text} (line : StepLine command setup script asked words) (step its : Option StepAsked)
+    → StepWritten line.p_text line.k_text step → IsAnyStepIn line.rows its → its ≡ step
+any_step_is line None None writes is = refl
+any_step_is line None (Some its) writes is = absurd (no_text line.p_text line.k_text writes (subst IsSome line.p_at is.0))
+any_step_is line (Some step) None writes is = absurd (some_text line.p_text line.k_text step writes (sym line.p_at ∙ is))
+any_step_is line (Some step) (Some its) writes is = ap (λ (it : StepAsked). Some it) (step_is line step its writes is.1)
 
-draw_is : (setup script : Text) (p k : Option ℕ) (words : List Text) (asked : Asked) → StepLine (codes "draw") setup script p k words
-    → NamesAsked (subcommand_of program words) asked → IsDrawOf setup script p k asked
-draw_is setup script p k words Script line asks = absurd (none-some _ (sym asks ∙ line.asked))
-draw_is setup script p k words (Play a b) line asks = absurd (other_name _ _ (codes "play") line.rows asks.0 line.asked asks.1 refl refl)
-draw_is setup script p k words (Race a n b) line asks = absurd (other_name _ _ (codes "race") line.rows asks.0 line.asked asks.1 refl refl)
-draw_is setup script p k words (Explain a b q l) line asks = absurd (other_name _ _ (codes "explain") line.rows asks.0 line.asked asks.1 refl refl)
-draw_is setup script p k words (Trail a b q l) line asks = absurd (other_name _ _ (codes "trail") line.rows asks.0 line.asked asks.1 refl refl)
-draw_is setup script p k words (Debug a b) line asks = absurd (other_name _ _ (codes "debug") line.rows asks.0 line.asked asks.1 refl refl)
-draw_is setup script p k words (Draw a b q l) line asks =
-    let same = same_rows _ (codes "draw") (codes "draw") line.rows asks.0 line.asked asks.1 in (
+-- of one name, and with the step of the matches, it is the question
+same_question : (question its : Question) (setup script : Text) (words : List Text) (line : QuestionLine question setup script words) → bytes_eq (question_name its) (question_name question) ≡ true
+    → HasStepOf line.rows its → its ≡ question
+same_question (Explain step) (Explain its) setup script words line named is = ap (λ (it : StepAsked). Explain it) (step_is line step its line.written is)
+same_question (Trail step) (Trail its) setup script words line named is = ap (λ (it : StepAsked). Trail it) (step_is line step its line.written is)
+same_question (Draw step) (Draw its) setup script words line named is = ap (λ (it : Option StepAsked). Draw it) (any_step_is line step its line.written is)
+same_question (Slice step) (Slice its) setup script words line named is = ap (λ (it : Option StepAsked). Slice it) (any_step_is line step its line.written is)
+same_question (Explain step) (Trail its) setup script words line named is = absurd (false≢true named)
+same_question (Explain step) (Draw its) setup script words line named is = absurd (false≢true named)
+same_question (Explain step) (Slice its) setup script words line named is = absurd (false≢true named)
+same_question (Trail step) (Explain its) setup script words line named is = absurd (false≢true named)
+same_question (Trail step) (Draw its) setup script words line named is = absurd (false≢true named)
+same_question (Trail step) (Slice its) setup script words line named is = absurd (false≢true named)
+same_question (Draw step) (Explain its) setup script words line named is = absurd (false≢true named)
+same_question (Draw step) (Trail its) setup script words line named is = absurd (false≢true named)
+same_question (Draw step) (Slice its) setup script words line named is = absurd (false≢true named)
+same_question (Slice step) (Explain its) setup script words line named is = absurd (false≢true named)
+same_question (Slice step) (Trail its) setup script words line named is = absurd (false≢true named)
+same_question (Slice step) (Draw its) setup script words line named is = absurd (false≢true named)
+
+question_is : (setup script : Text) (question : Question) (words : List Text) (asked : Asked) → QuestionLine question setup script words
+    → NamesAsked (subcommand_of program words) asked → IsQuestionOf setup script question asked
+question_is setup script question words Script line asks = absurd (none-some _ (sym asks ∙ line.asked))
+question_is setup script question words (Play a b) line asks = absurd (other_name _ _ (codes "play") line.rows asks.0 line.asked asks.1 (differs question).from_play (differs question).own)
+question_is setup script question words (Race a n b) line asks = absurd (other_name _ _ (codes "race") line.rows asks.0 line.asked asks.1 (differs question).from_race (differs question).own)
+question_is setup script question words (Debug a b) line asks = absurd (other_name _ _ (codes "debug") line.rows asks.0 line.asked asks.1 (differs question).from_debug (differs question).own)
+question_is setup script question words (Ask a b its) line asks =
+    let same = same_rows _ (question_name question) (question_name its) line.rows asks.0 line.asked asks.1 in
+    let names = same_names _ (question_name question) (question_name its) line.rows asks.0 line.asked asks.1 in (
       asks.2 ∙ ap (text_at (codes "SETUP")) same ∙ ap (λ t. unwrap_or t []) line.setup_at,
       asks.3 ∙ ap (text_at (codes "SCRIPT")) same ∙ ap (λ t. unwrap_or t []) line.script_at,
-      number_is line.p_text p q line.p_written (subst (λ t. IsNumberOf t q) (ap (first_of (codes "P")) same ∙ line.p_at) asks.4),
-      number_is line.k_text k l line.k_written (subst (λ t. IsNumberOf t l) (ap (first_of (codes "K")) same ∙ line.k_at) asks.5),
+      same_question question its setup script words line (ap (λ text. bytes_eq text (question_name question)) names ∙ (differs question).own)
+      (subst (λ rows. HasStepOf rows its) same asks.4),
     )
 
 debug_is : (setup : Text) (seats words : List Text) (asked : Asked) → SeatLine setup seats words → NamesAsked (subcommand_of program words) asked → IsDebugOf setup seats asked
 debug_is setup seats words Script line asks = absurd (none-some _ (sym asks ∙ line.asked))
 debug_is setup seats words (Play a b) line asks = absurd (other_name _ _ (codes "play") line.rows asks.0 line.asked asks.1 refl refl)
 debug_is setup seats words (Race a n b) line asks = absurd (other_name _ _ (codes "race") line.rows asks.0 line.asked asks.1 refl refl)
-debug_is setup seats words (Explain a b q l) line asks = absurd (other_name _ _ (codes "explain") line.rows asks.0 line.asked asks.1 refl refl)
-debug_is setup seats words (Trail a b q l) line asks = absurd (other_name _ _ (codes "trail") line.rows asks.0 line.asked asks.1 refl refl)
-debug_is setup seats words (Draw a b q l) line asks = absurd (other_name _ _ (codes "draw") line.rows asks.0 line.asked asks.1 refl refl)
+debug_is setup seats words (Ask a b q) line asks = absurd (other_name _ _ (question_name q) line.rows asks.0 line.asked asks.1 (differs q).debug refl)
 debug_is setup seats words (Debug a b) line asks =
     let same = same_rows _ (codes "debug") (codes "debug") line.rows asks.0 line.asked asks.1 in (
       asks.2 ∙ ap (text_at (codes "SETUP")) same ∙ ap (λ t. unwrap_or t []) line.setup_at,
@@ -198,33 +229,13 @@ race_asked_for words result ok taken setup turns script more line =
       taken (ap (takes program) is ∙ race_taken name setup text script more plain (accepts_turns text turns plain.1.0 number) line.1),
     )
 
-pub explain_asked_for : (words : List Text) (result : Result Asked AskFault) → IfOk result (NamesAsked (subcommand_of program words))
-    → (takes program words ≡ true → IfErr result (λ fault. fault ≡ NoMemory no_memory)) → (setup script : Text) (p : ℕ) (k : Option ℕ) → IsExplainLine words setup script p k
-    → IsRequest result (IsExplainOf setup script p k)
-explain_asked_for words result ok taken setup script p k line =
-    let its = explain_line line.2.0.0 setup script line.0 p k line.1 line.2.1 in
-    let its_words : StepLine (codes "explain") setup script (Some p) k words = subst (StepLine (codes "explain") setup script (Some p) k) (sym line.2.0.1) its in (
-      IfOk-weaker result _ _ (λ asked asks. explain_is setup script p k words asked its_words asks) ok,
-      taken its_words.taken,
-    )
-
-pub trail_asked_for : (words : List Text) (result : Result Asked AskFault) → IfOk result (NamesAsked (subcommand_of program words))
-    → (takes program words ≡ true → IfErr result (λ fault. fault ≡ NoMemory no_memory)) → (setup script : Text) (p : ℕ) (k : Option ℕ) → IsTrailLine words setup script p k
-    → IsRequest result (IsTrailOf setup script p k)
-trail_asked_for words result ok taken setup script p k line =
-    let its = trail_line line.2.0.0 setup script line.0 p k line.1 line.2.1 in
-    let its_words : StepLine (codes "trail") setup script (Some p) k words = subst (StepLine (codes "trail") setup script (Some p) k) (sym line.2.0.1) its in (
-      IfOk-weaker result _ _ (λ asked asks. trail_is setup script p k words asked its_words asks) ok,
-      taken its_words.taken,
-    )
-
-pub draw_asked_for : (words : List Text) (result : Result Asked AskFault) → IfOk result (NamesAsked (subcommand_of program words))
-    → (takes program words ≡ true → IfErr result (λ fault. fault ≡ NoMemory no_memory)) → (setup script : Text) (p k : Option ℕ) → IsDrawLine words setup script p k
-    → IsRequest result (IsDrawOf setup script p k)
-draw_asked_for words result ok taken setup script p k line =
-    let its = draw_line line.2.0.0 setup script line.0 p k line.1 line.2.1 in
-    let its_words : StepLine (codes "draw") setup script p k words = subst (StepLine (codes "draw") setup script p k) (sym line.2.0.1) its in (
-      IfOk-weaker result _ _ (λ asked asks. draw_is setup script p k words asked its_words asks) ok,
+pub question_asked_for : (words : List Text) (result : Result Asked AskFault) → IfOk result (NamesAsked (subcommand_of program words))
+    → (takes program words ≡ true → IfErr result (λ fault. fault ≡ NoMemory no_memory)) → (setup script : Text) (question : Question) → IsQuestionLine words setup script question
+    → IsRequest result (IsQuestionOf setup script question)
+question_asked_for words result ok taken setup script question line =
+    let its = question_line question line.2.0.0 setup script line.0 line.1 line.2.1 in
+    let its_words : QuestionLine question setup script words = subst (QuestionLine question setup script) (sym line.2.0.1) its in (
+      IfOk-weaker result _ _ (λ asked asks. question_is setup script question words asked its_words asks) ok,
       taken its_words.taken,
     )
 

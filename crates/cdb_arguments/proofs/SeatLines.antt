@@ -17,7 +17,7 @@ use Rattle.cdb_arguments.proofs.Subcommands.{IsSub, line_asked, line_taken}
 use Rattle.cdb_arguments.proofs.Values.{ValuesPass, EndPasses}
 
 debug_shape : Shape
-debug_shape = unwrap_or (slice_get (built program).subs 5) (new_shape [])
+debug_shape = unwrap_or (slice_get (built program).subs 6) (new_shape [])
 
 debug_sub : IsSub (codes "debug") debug_shape
 unfolding clap_on_literals program debug_shape

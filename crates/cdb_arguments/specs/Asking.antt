@@ -1,5 +1,5 @@
 -- What the arguments ask for.
-use Rattle.std.specs.Prelude.{◌≡◌, ◌⊎◌, ℕ, ◌≤◌, List, [], ◌∷◌, codes, map, Option, Some, None, unwrap_or, Result, IfOk, IfErr}
+use Rattle.std.specs.Prelude.{◌≡◌, ◌⊎◌, ℕ, ◌≤◌, List, [], ◌∷◌, codes, map, Option, Some, None, unwrap_or, Result, IfOk, IfErr, IsSome}
 use Rattle.std.specs.Borrow.{Bor}
 use Rattle.std.specs.Str.Parse.{IsNumeral, digits_value, without_leading_plus}
 use Rattle.clap.specs.Words.{Kinds, IsAmong, Row, Text, first_of, all_of, kind_of}
@@ -10,8 +10,11 @@ use Rattle.cdb_arguments.specs.declared.request.AskFault.{AskFault}
 use Rattle.cdb_base.specs.Memory.{no_memory}
 use Rattle.cdb_arguments.specs.declared.request.AskFault.TheVariants.{Words, NoMemory}
 use Rattle.cdb_arguments.specs.declared.request.Asked.{Asked}
-use Rattle.cdb_arguments.specs.declared.request.Asked.TheVariants.{Script, Play, Race, Explain, Trail, Draw, Debug}
-use Rattle.cdb_arguments.specs.Plain.{IsDebugLine, IsDrawLine, IsExplainLine, IsPlayLine, IsRaceLine, IsTrailLine, WritesNumber}
+use Rattle.cdb_arguments.specs.declared.request.Asked.TheVariants.{Script, Play, Race, Ask, Debug}
+use Rattle.cdb_arguments.specs.Plain.{IsDebugLine, IsPlayLine, IsQuestionLine, IsRaceLine, WritesNumber, question_name}
+use Rattle.cdb_base.specs.declared.question.Question.{Question}
+use Rattle.cdb_base.specs.declared.question.Question.TheVariants.{Explain, Trail, Draw, Slice}
+use Rattle.cdb_base.specs.declared.question.StepAsked.{StepAsked}
 
 -- the texts of the arguments
 abbrev pub texts : List (Bor Text) → List Text
@@ -21,7 +24,7 @@ texts = map (λ text. text.now)
 abbrev pub NamesOne : Option (Text × List Row) → Type 0
 NamesOne None = Unit {0}
 NamesOne (Some found) = (found.0 ≡ codes "play") ⊎ ((found.0 ≡ codes "race")
-    ⊎ ((found.0 ≡ codes "explain") ⊎ ((found.0 ≡ codes "trail") ⊎ ((found.0 ≡ codes "draw") ⊎ (found.0 ≡ codes "debug")))))
+    ⊎ ((found.0 ≡ codes "explain") ⊎ ((found.0 ≡ codes "trail") ⊎ ((found.0 ≡ codes "draw") ⊎ ((found.0 ≡ codes "slice") ⊎ (found.0 ≡ codes "debug"))))))
 
 -- the text of an argument, which is empty where the matches have none
 abbrev pub text_at : Text → List Row → Text
@@ -49,6 +52,22 @@ IsNumberOf (Some text) found = (number : ℕ) × (found ≡ Some number) × IsNu
 abbrev pub IsNumberAt : Text → List Row → Option ℕ → Type 0
 IsNumberAt id rows = IsNumberOf (first_of id rows)
 
+-- the step of the matches, where one has to be given
+abbrev pub IsStepIn : List Row → StepAsked → Type 0
+IsStepIn rows step = IsNumber (text_at (codes "P") rows) step.p × IsNumberAt (codes "K") rows step.k
+
+-- and where it may be left out
+abbrev pub IsAnyStepIn : List Row → Option StepAsked → Type 0
+IsAnyStepIn rows None = first_of (codes "P") rows ≡ None
+IsAnyStepIn rows (Some step) = IsSome (first_of (codes "P") rows) × IsStepIn rows step
+
+-- the question asks for the step of the matches
+abbrev pub HasStepOf : List Row → Question → Type 0
+HasStepOf rows (Explain step) = IsStepIn rows step
+HasStepOf rows (Trail step) = IsStepIn rows step
+HasStepOf rows (Draw step) = IsAnyStepIn rows step
+HasStepOf rows (Slice step) = IsAnyStepIn rows step
+
 -- the subcommand that the matches name, with its texts in their order
 abbrev pub NamesAsked : Option (Text × List Row) → Asked → Type 0
 NamesAsked found Script = found ≡ None
@@ -56,15 +75,9 @@ NamesAsked found (Play setup script) = (rows : List Row) × (found ≡ Some (cod
 NamesAsked found (Race setup turns scripts) =
     (rows : List Row) × (found ≡ Some (codes "race", rows)) × (setup.now ≡ text_at (codes "SETUP") rows) × IsTurns (text_at (codes "TURNS") rows) turns
     × (map (λ script. script.now) scripts.items ≡ texts_at (codes "SCRIPT") rows)
-NamesAsked found (Explain setup script p k) =
-    (rows : List Row) × (found ≡ Some (codes "explain", rows)) × (setup.now ≡ text_at (codes "SETUP") rows) × (script.now ≡ text_at (codes "SCRIPT") rows)
-    × IsNumber (text_at (codes "P") rows) p × IsNumberAt (codes "K") rows k
-NamesAsked found (Trail setup script p k) =
-    (rows : List Row) × (found ≡ Some (codes "trail", rows)) × (setup.now ≡ text_at (codes "SETUP") rows) × (script.now ≡ text_at (codes "SCRIPT") rows)
-    × IsNumber (text_at (codes "P") rows) p × IsNumberAt (codes "K") rows k
-NamesAsked found (Draw setup script p k) =
-    (rows : List Row) × (found ≡ Some (codes "draw", rows)) × (setup.now ≡ text_at (codes "SETUP") rows) × (script.now ≡ text_at (codes "SCRIPT") rows)
-    × IsNumberAt (codes "P") rows p × IsNumberAt (codes "K") rows k
+NamesAsked found (Ask setup script question) =
+    (rows : List Row) × (found ≡ Some (question_name question, rows)) × (setup.now ≡ text_at (codes "SETUP") rows) × (script.now ≡ text_at (codes "SCRIPT") rows)
+    × HasStepOf rows question
 NamesAsked found (Debug setup seats) =
     (rows : List Row) × (found ≡ Some (codes "debug", rows)) × (setup.now ≡ text_at (codes "SETUP") rows)
     × (map (λ seat. seat.now) seats.items ≡ texts_at (codes "SEAT") rows)
@@ -80,23 +93,11 @@ IsRaceOf setup turns scripts (Race its_setup its_turns its_scripts) =
     (its_setup.now ≡ setup) × (its_turns ≡ turns) × (texts its_scripts.items ≡ scripts)
 IsRaceOf setup turns scripts asked = ⊥
 
--- the explanation of this step of the run of these two files
-abbrev pub IsExplainOf : Text → Text → ℕ → Option ℕ → Asked → Type 0
-IsExplainOf setup script p k (Explain its_setup its_script its_p its_k) =
-    (its_setup.now ≡ setup) × (its_script.now ≡ script) × (its_p ≡ p) × (its_k ≡ k)
-IsExplainOf setup script p k asked = ⊥
-
--- the trail to this step of the run of these two files
-abbrev pub IsTrailOf : Text → Text → ℕ → Option ℕ → Asked → Type 0
-IsTrailOf setup script p k (Trail its_setup its_script its_p its_k) =
-    (its_setup.now ≡ setup) × (its_script.now ≡ script) × (its_p ≡ p) × (its_k ≡ k)
-IsTrailOf setup script p k asked = ⊥
-
--- the picture of the run of these two files, in which what led to this step stands out
-abbrev pub IsDrawOf : Text → Text → Option ℕ → Option ℕ → Asked → Type 0
-IsDrawOf setup script p k (Draw its_setup its_script its_p its_k) =
-    (its_setup.now ≡ setup) × (its_script.now ≡ script) × (its_p ≡ p) × (its_k ≡ k)
-IsDrawOf setup script p k asked = ⊥
+-- this question of the run of these two files
+abbrev pub IsQuestionOf : Text → Text → Question → Asked → Type 0
+IsQuestionOf setup script question (Ask its_setup its_script its_question) =
+    (its_setup.now ≡ setup) × (its_script.now ≡ script) × (its_question ≡ question)
+IsQuestionOf setup script question asked = ⊥
 
 -- a session for each of these seats, in this order
 abbrev pub IsDebugOf : Text → List Text → Asked → Type 0
@@ -117,19 +118,9 @@ AsksForRace result words =
     (setup : Text) (turns : ℕ) (script : Text) (more : List Text) → IsRaceLine words setup turns script more
     → IsRequest result (IsRaceOf setup turns (script ∷ more))
 
-abbrev pub AsksForExplain : Result Asked AskFault → List Text → Type 0
-AsksForExplain result words =
-    (setup script : Text) (p : ℕ) (k : Option ℕ) → IsExplainLine words setup script p k
-    → IsRequest result (IsExplainOf setup script p k)
-
-abbrev pub AsksForTrail : Result Asked AskFault → List Text → Type 0
-AsksForTrail result words =
-    (setup script : Text) (p : ℕ) (k : Option ℕ) → IsTrailLine words setup script p k
-    → IsRequest result (IsTrailOf setup script p k)
-
-abbrev pub AsksForDraw : Result Asked AskFault → List Text → Type 0
-AsksForDraw result words =
-    (setup script : Text) (p k : Option ℕ) → IsDrawLine words setup script p k → IsRequest result (IsDrawOf setup script p k)
+abbrev pub AsksQuestion : Result Asked AskFault → List Text → Type 0
+AsksQuestion result words =
+    (setup script : Text) (question : Question) → IsQuestionLine words setup script question → IsRequest result (IsQuestionOf setup script question)
 
 abbrev pub AsksForDebug : Result Asked AskFault → List Text → Type 0
 AsksForDebug result words =

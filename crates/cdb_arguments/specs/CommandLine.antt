@@ -50,9 +50,17 @@ explain_app = on_step (codes "explain")
 abbrev pub trail_app : App
 trail_app = on_step (codes "trail")
 
+-- a subcommand with these files, and a step that may be left out
+abbrev pub on_any_step : Text → App
+on_any_step name = on_files name (numbered (new_rule (codes "P")) ∷ numbered (new_rule (codes "K")) ∷ [])
+
 -- `draw SETUP SCRIPT [P [K]]`
 abbrev pub draw_app : App
-draw_app = on_files (codes "draw") (numbered (new_rule (codes "P")) ∷ numbered (new_rule (codes "K")) ∷ [])
+draw_app = on_any_step (codes "draw")
+
+-- `slice SETUP SCRIPT [P [K]]`
+abbrev pub slice_app : App
+slice_app = on_any_step (codes "slice")
 
 -- `debug SETUP [SEAT..]`
 abbrev pub debug_app : App
@@ -68,4 +76,4 @@ playing = with_subcommands (on_top (λ s. record s { has_version = true; disable
 
 -- the program with its subcommands
 unfoldable pub program : App
-program = with_subcommands playing (explain_app ∷ trail_app ∷ draw_app ∷ debug_app ∷ [])
+program = with_subcommands playing (explain_app ∷ trail_app ∷ draw_app ∷ slice_app ∷ debug_app ∷ [])

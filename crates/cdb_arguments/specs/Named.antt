@@ -6,7 +6,7 @@ use Rattle.cdb_arguments.specs.declared.command_line.Argument.{Argument}
 use Rattle.cdb_arguments.specs.declared.command_line.Argument.TheVariants as arg
 use Rattle.cdb_arguments.specs.declared.command_line.Subcommand.{Subcommand}
 use Rattle.cdb_arguments.specs.declared.command_line.Subcommand.TheVariants as sub
-use Rattle.cdb_arguments.specs.CommandLine.{required_rule, turns_rule, numbered, several, play_app, race_app, explain_app, trail_app, draw_app, debug_app}
+use Rattle.cdb_arguments.specs.CommandLine.{required_rule, turns_rule, numbered, several, play_app, race_app, explain_app, trail_app, draw_app, slice_app, debug_app}
 
 abbrev pub rule_named : Argument → Rule
 rule_named arg.Setup = required_rule (codes "SETUP")
@@ -27,6 +27,7 @@ name_of sub.Race = codes "race"
 name_of sub.Explain = codes "explain"
 name_of sub.Trail = codes "trail"
 name_of sub.Draw = codes "draw"
+name_of sub.Slice = codes "slice"
 name_of sub.Debug = codes "debug"
 
 abbrev pub app_named : Subcommand → App
@@ -35,6 +36,7 @@ app_named sub.Race = race_app
 app_named sub.Explain = explain_app
 app_named sub.Trail = trail_app
 app_named sub.Draw = draw_app
+app_named sub.Slice = slice_app
 app_named sub.Debug = debug_app
 
 abbrev pub with_named : App → Subcommand → App

@@ -5,6 +5,9 @@ use Rattle.std.specs.Str.Parse.{IsNumeral, digits_value, without_leading_plus}
 use Rattle.clap.specs.Lexer.{usize_max}
 use Rattle.clap.specs.Words.{Text}
 use Rattle.cdb_arguments.specs.declared.limits.TheConstants.{MAX_NUMBER, MAX_TURNS}
+use Rattle.cdb_base.specs.declared.question.Question.{Question}
+use Rattle.cdb_base.specs.declared.question.Question.TheVariants.{Explain, Trail, Draw, Slice}
+use Rattle.cdb_base.specs.declared.question.StepAsked.{StepAsked}
 
 -- a text that does not begin with a hyphen, so that it is no option
 abbrev pub IsPlain : Text → Type 0
@@ -30,11 +33,25 @@ abbrev pub WritesOption : List Text → Option ℕ → Type 0
 WritesOption texts None = texts ≡ []
 WritesOption texts (Some number) = (text : Text) × (texts ≡ text ∷ []) × WritesNumber text number
 
--- the texts of a number and of a second one, which stands only after a first
-abbrev pub WritesStep : List Text → Option ℕ → Option ℕ → Type 0
-WritesStep texts None None = texts ≡ []
-WritesStep texts None (Some k) = ⊥
-WritesStep texts (Some p) k = (text : Text) × (more : List Text) × (texts ≡ text ∷ more) × WritesNumber text p × WritesOption more k
+-- the texts of a step, none where there is none
+abbrev pub WritesStep : List Text → Option StepAsked → Type 0
+WritesStep texts None = texts ≡ []
+WritesStep texts (Some step) =
+    (text : Text) × (more : List Text) × (texts ≡ text ∷ more) × WritesNumber text step.p × WritesOption more step.k
+
+-- the subcommand of a question
+abbrev pub question_name : Question → Text
+question_name (Explain step) = codes "explain"
+question_name (Trail step) = codes "trail"
+question_name (Draw step) = codes "draw"
+question_name (Slice step) = codes "slice"
+
+-- the step that it asks for, if it asks for one
+abbrev pub step_asked : Question → Option StepAsked
+step_asked (Explain step) = Some step
+step_asked (Trail step) = Some step
+step_asked (Draw step) = step
+step_asked (Slice step) = step
 
 -- the program's name alone
 abbrev pub IsNameAlone : List Text → Type 0
@@ -54,20 +71,10 @@ IsRaceLine words setup turns script more =
     ((name : Text) × (text : Text) × (words ≡ name ∷ codes "race" ∷ setup ∷ text ∷ script ∷ more)
     × IsNumberOfTurns text turns × ArePlain (setup ∷ text ∷ script ∷ more)) × (length (script ∷ more) ≤ usize_max)
 
--- `explain SETUP SCRIPT P [K]`
-abbrev pub IsExplainLine : List Text → Text → Text → ℕ → Option ℕ → Type 0
-IsExplainLine words setup script p k =
-    (texts : List Text) × WritesStep texts (Some p) k × IsSubcommandLine (codes "explain") (setup ∷ script ∷ texts) words
-
--- `trail SETUP SCRIPT P [K]`
-abbrev pub IsTrailLine : List Text → Text → Text → ℕ → Option ℕ → Type 0
-IsTrailLine words setup script p k =
-    (texts : List Text) × WritesStep texts (Some p) k × IsSubcommandLine (codes "trail") (setup ∷ script ∷ texts) words
-
--- `draw SETUP SCRIPT [P [K]]`
-abbrev pub IsDrawLine : List Text → Text → Text → Option ℕ → Option ℕ → Type 0
-IsDrawLine words setup script p k =
-    (texts : List Text) × WritesStep texts p k × IsSubcommandLine (codes "draw") (setup ∷ script ∷ texts) words
+-- `explain SETUP SCRIPT P [K]`, `trail SETUP SCRIPT P [K]`, `draw SETUP SCRIPT [P [K]]` and `slice SETUP SCRIPT [P [K]]`
+abbrev pub IsQuestionLine : List Text → Text → Text → Question → Type 0
+IsQuestionLine words setup script question =
+    (texts : List Text) × WritesStep texts (step_asked question) × IsSubcommandLine (question_name question) (setup ∷ script ∷ texts) words
 
 -- `debug SETUP [SEAT..]`, with as many seats as a machine's word counts
 abbrev pub IsDebugLine : List Text → Text → List Text → Type 0

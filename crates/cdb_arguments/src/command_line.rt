@@ -30,6 +30,9 @@ const TRAIL: &str =
 const DRAW: &str =
     "Plays a script, and prints a picture of the run in SVG; what led to a step stands out";
 
+const SLICE: &str =
+    "Plays a script, and prints one that plays what stands, or only what led to a step";
+
 const DEBUG: &str = "Carries each command out before the next is read, for one user or for several";
 
 const LINES: &str =
@@ -93,17 +96,19 @@ pub(crate) enum Subcommand {
     Explain,
     Trail,
     Draw,
+    Slice,
     Debug,
 }
 
 impl Subcommand {
     /// The subcommands, in the order in which help lists them.
-    pub(crate) const ALL: [Subcommand; 6] = [
+    pub(crate) const ALL: [Subcommand; 7] = [
         Subcommand::Play,
         Subcommand::Race,
         Subcommand::Explain,
         Subcommand::Trail,
         Subcommand::Draw,
+        Subcommand::Slice,
         Subcommand::Debug,
     ];
 
@@ -116,6 +121,7 @@ impl Subcommand {
             Subcommand::Explain => "explain",
             Subcommand::Trail => "trail",
             Subcommand::Draw => "draw",
+            Subcommand::Slice => "slice",
             Subcommand::Debug => "debug",
         }
     }
@@ -127,6 +133,7 @@ impl Subcommand {
             Subcommand::Explain => EXPLAIN,
             Subcommand::Trail => TRAIL,
             Subcommand::Draw => DRAW,
+            Subcommand::Slice => SLICE,
             Subcommand::Debug => DEBUG,
         }
     }
@@ -144,7 +151,7 @@ impl Subcommand {
                 Argument::Process,
                 Argument::Step,
             ],
-            Subcommand::Draw => &[
+            Subcommand::Draw | Subcommand::Slice => &[
                 Argument::Setup,
                 Argument::Script,
                 Argument::AnyProcess,
@@ -229,7 +236,7 @@ fn argument_of<'a>(alloc: Global, argument: &Argument) -> Arg<'a>
         Argument::AnyProcess => number(
             alloc,
             "P",
-            "The process whose step stands out, 1 to 999999; left out: all stands out",
+            "The process whose step it is, 1 to 999999; left out: the whole run",
         ),
         Argument::Step => number(
             alloc,

@@ -4,13 +4,13 @@ ghost use Rattle.std.specs.Prelude.{◌≡◌, OnOk, IfOk, IfErr, Some, [], true
 ghost use Rattle.clap.specs.Words.{Kinds, Text, HasKind, fault_of, found_of, kind_of, rows_of, subcommand_of, subcommand_rows_of, takes};
 ghost use Rattle.cdb_base.specs.Memory.{no_memory};
 ghost use Rattle.cdb_arguments.specs.CommandLine.{program};
-ghost use Rattle.cdb_arguments.specs.Asking.{NamesOne, IsTurns, IsNumber, IsNumberAt, text_at, texts, texts_at, NamesAsked, IsOfKinds, IsRequest, AsksForPlay, AsksForRace, AsksForExplain, AsksForTrail, AsksForDraw, AsksForDebug, ask_status_of, words_status};
-ghost use Rattle.cdb_arguments.specs.Plain.{IsNameAlone};
+ghost use Rattle.cdb_arguments.specs.Asking.{HasStepOf, IsAnyStepIn, IsStepIn, NamesOne, IsTurns, IsNumber, IsNumberAt, text_at, texts, texts_at, NamesAsked, IsOfKinds, IsRequest, AsksForPlay, AsksForRace, AsksQuestion, AsksForDebug, ask_status_of, words_status};
+ghost use Rattle.cdb_arguments.specs.Plain.{IsNameAlone, question_name};
 
 use crate::command_line::program;
 use crate::limits::{MAX_NUMBER, MAX_TURNS};
 use crate::request::{AskFault, Asked, WordsError};
-use cdb_base::NoMemory;
+use cdb_base::{NoMemory, Question, StepAsked};
 use clap::error::ErrorKind;
 use clap::{ArgMatches, Error};
 use std::alloc::{AllocError, Global};
@@ -119,39 +119,35 @@ fn race_of<'a>(alloc: Global, found: &ArgMatches<'a>) -> Result<Asked<'a>, Alloc
     })
 }
 
-/// What led to a step.
-fn explain_of<'a>(found: &ArgMatches<'a>) -> Asked<'a>
-    ensures { NamesAsked (Some (codes "explain", rows_of (found_of found.now))) result }
+/// The step of the matches, which have a process.
+fn step_of(found: &ArgMatches) -> StepAsked
+    ensures { IsStepIn (rows_of (found_of found.now)) result }
 {
-    Asked::Explain {
-        setup: text_of(found, "SETUP"),
-        script: text_of(found, "SCRIPT"),
+    StepAsked {
         p: number_of(text_of(found, "P")),
         k: number_at(found, "K"),
     }
 }
 
-/// The trail to a step.
-fn trail_of<'a>(found: &ArgMatches<'a>) -> Asked<'a>
-    ensures { NamesAsked (Some (codes "trail", rows_of (found_of found.now))) result }
+/// The step of the matches, where they have a process.
+fn any_step_of(found: &ArgMatches) -> Option<StepAsked>
+    ensures { IsAnyStepIn (rows_of (found_of found.now)) result }
 {
-    Asked::Trail {
-        setup: text_of(found, "SETUP"),
-        script: text_of(found, "SCRIPT"),
-        p: number_of(text_of(found, "P")),
-        k: number_at(found, "K"),
+    match found.get_str("P") {
+        Some(_) => Some(step_of(found)),
+        None => None,
     }
 }
 
-/// A picture.
-fn draw_of<'a>(found: &ArgMatches<'a>) -> Asked<'a>
-    ensures { NamesAsked (Some (codes "draw", rows_of (found_of found.now))) result }
+/// What is asked of the run of two files.
+fn question_of<'a>(found: &ArgMatches<'a>, question: Question) -> Asked<'a>
+    requires { HasStepOf (rows_of (found_of found.now)) question }
+    ensures { NamesAsked (Some (question_name question, rows_of (found_of found.now))) result }
 {
-    Asked::Draw {
+    Asked::Ask {
         setup: text_of(found, "SETUP"),
         script: text_of(found, "SCRIPT"),
-        p: number_at(found, "P"),
-        k: number_at(found, "K"),
+        question,
     }
 }
 
@@ -176,9 +172,10 @@ fn asked_under<'a>(
 {
     match name {
         "play" => Ok(play_of(found)),
-        "explain" => Ok(explain_of(found)),
-        "trail" => Ok(trail_of(found)),
-        "draw" => Ok(draw_of(found)),
+        "explain" => Ok(question_of(found, Question::Explain(step_of(found)))),
+        "trail" => Ok(question_of(found, Question::Trail(step_of(found)))),
+        "draw" => Ok(question_of(found, Question::Draw(any_step_of(found)))),
+        "slice" => Ok(question_of(found, Question::Slice(any_step_of(found)))),
         "debug" => debug_of(alloc, found),
         _ => race_of(alloc, found),
     }
@@ -232,7 +229,7 @@ fn read<'a>(alloc: Global, words: &'a [&'a str]) -> Result<Asked<'a>, AskFault>
 /// What the arguments of the command line ask for; the first is the program's name. The name alone asks for the
 /// script on standard input, `play SETUP SCRIPT` for a play, `race SETUP TURNS SCRIPT..` for a race,
 /// `explain SETUP SCRIPT P [K]` for what led to a step, `trail SETUP SCRIPT P [K]` for the trail of a value to it,
-/// `draw SETUP SCRIPT [P [K]]` for a picture, `debug SETUP [SEAT..]` for a session that goes on line by line. P and K are
+/// `draw SETUP SCRIPT [P [K]]` for a picture, `slice SETUP SCRIPT [P [K]]` for a script, `debug SETUP [SEAT..]` for a session that goes on line by line. P and K are
 /// numbers of 1 to 999,999.
 ///
 /// # Errors
@@ -254,9 +251,7 @@ pub fn asked<'a>(alloc: Global, words: &'a [&'a str]) -> Result<Asked<'a>, AskFa
         IsRequest result (λ asked. asked ≡ Asked.Script) }
     ensures play { AsksForPlay result (texts words.entry.now) }
     ensures race { AsksForRace result (texts words.entry.now) }
-    ensures explain { AsksForExplain result (texts words.entry.now) }
-    ensures trail { AsksForTrail result (texts words.entry.now) }
-    ensures draw { AsksForDraw result (texts words.entry.now) }
+    ensures question { AsksQuestion result (texts words.entry.now) }
     ensures debug { AsksForDebug result (texts words.entry.now) }
 {
     read(alloc, words)

@@ -3,7 +3,7 @@ use Rattle.std.specs.Prelude.{◌≡◌, ℕ, ◌<◌, ◌&&◌, ◌==◌, Bool,
 use Rattle.cdb_base.specs.Positions.{nth}
 use Rattle.cdb_base.specs.declared.event.Event.{Event}
 use Rattle.cdb_base.specs.declared.event.Event.TheVariants.{Step, Lost}
-use Rattle.cdb_explain.specs.declared.asked.StepAsked.{StepAsked}
+use Rattle.cdb_base.specs.declared.question.StepAsked.{StepAsked}
 
 -- the event is a step of process p, the k-th where a number is given
 abbrev pub is_asked : ℕ → Option ℕ → Event → Bool

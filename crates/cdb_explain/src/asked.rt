@@ -5,13 +5,6 @@ ghost use Rattle.cdb_explain.specs.Asked.{is_asked, IsStepAsked, StandsNoStep};
 
 use cdb_base::Event;
 
-/// A step that is asked for: the `k`-th standing step of process `p`, or without `k` its last one.
-#[derive(Clone, Copy)]
-pub struct StepAsked {
-    pub p: u32,
-    pub k: Option<u32>,
-}
-
 /// Whether the event is a step of process `p`, the `k`-th where a number is given.
 fn is_asked(event: &Event, p: u32, k: Option<u32>) -> bool
     ensures { result ≡ is_asked p k event.now }

@@ -17,7 +17,7 @@ mod replay;
 mod step;
 mod trace;
 
-pub use asked::{StepAsked, position_of_step};
+pub use asked::position_of_step;
 pub use explains::explain;
 pub use fault::ExplainFault;
 pub use left::run_left_by;

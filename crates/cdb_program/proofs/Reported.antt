@@ -5,15 +5,13 @@ use Rattle.cdb_program.specs.Known.{Seen}
 use Rattle.cdb_program.specs.Outcomes.{RequestEnd}
 use Rattle.cdb_program.specs.Requests.{Does, IsAlone, Performs, PerformsAlone}
 use Rattle.cdb_program.specs.declared.request.Request.{Request}
-use Rattle.cdb_program.specs.declared.request.Request.TheVariants.{Script, Play, Race, Explain, Trail, Draw, Debug, DebugShared, Print, Refuse}
+use Rattle.cdb_program.specs.declared.request.Request.TheVariants.{Script, Play, Race, Ask, Debug, DebugShared, Print, Refuse}
 
 pub does_but_error : (request : Request) (old new : Seen) (error : Stream) (outcome : RequestEnd) → Does request old new outcome → Does request old (record new { error = error }) outcome
 does_but_error Script old new error outcome does = does
 does_but_error (Play setup script) old new error outcome does = does
 does_but_error (Race setup turns scripts) old new error outcome does = does
-does_but_error (Explain setup script p k) old new error outcome does = does
-does_but_error (Trail setup script p k) old new error outcome does = does
-does_but_error (Draw setup script step) old new error outcome does = does
+does_but_error (Ask setup script question) old new error outcome does = does
 does_but_error (Debug setup prompt) old new error outcome does = does
 does_but_error (DebugShared setup seats) old new error outcome does = does
 does_but_error (Print text) old new error outcome does = does
@@ -24,9 +22,7 @@ pub performs_alone : (request : Request) (old new : Seen) (status : ℕ) → IsA
 performs_alone Script old new status alone does = does
 performs_alone (Play setup script) old new status alone does = does
 performs_alone (Race setup turns scripts) old new status alone does = does
-performs_alone (Explain setup script p k) old new status alone does = does
-performs_alone (Trail setup script p k) old new status alone does = does
-performs_alone (Draw setup script step) old new status alone does = does
+performs_alone (Ask setup script question) old new status alone does = does
 performs_alone (Debug setup prompt) old new status alone does = does
 performs_alone (DebugShared setup seats) old new status alone does = absurd alone
 performs_alone (Print text) old new status alone does = does
@@ -37,9 +33,7 @@ pub is_alone : (request : Request) → ((setup : Bor (List ℕ)) (seats : Bor (L
 is_alone Script other = tt
 is_alone (Play setup script) other = tt
 is_alone (Race setup turns scripts) other = tt
-is_alone (Explain setup script p k) other = tt
-is_alone (Trail setup script p k) other = tt
-is_alone (Draw setup script step) other = tt
+is_alone (Ask setup script question) other = tt
 is_alone (Debug setup prompt) other = tt
 is_alone (DebugShared setup seats) other = other setup seats refl
 is_alone (Print text) other = tt

@@ -6,7 +6,7 @@ pub mod Reading
 pub mod Reports
 pub mod Playing
 pub mod Racing
-pub mod Left
+pub mod Questions
 pub mod Debugging
 pub mod Seating
 pub mod Requests

@@ -23,7 +23,7 @@ IsOfRace (Ok done) (Ok its_done) = Unit {0}
 IsOfRace (Err fault) (Err (Race its_fault)) = its_fault ≡ fault
 IsOfRace raced outcome = ⊥
 
--- it ended as the explanation, the trail or the picture did, whose fault of a play has the name of the script
+-- it ended as the answer did, whose fault of a play has the name of the script
 abbrev pub IsOfExplain : List ℕ → Result (Unit {0}) ExplainFault → RequestEnd → Type 0
 IsOfExplain name (Ok done) (Ok its_done) = Unit {0}
 IsOfExplain name (Err explain.NoStep) (Err NoStep) = Unit {0}

@@ -4,9 +4,9 @@ use Rattle.cdb_streams.specs.Streams.{Stream, Takes, Fails, itself}
 use Rattle.cdb_streams.specs.declared.fault.PlayFault.TheVariants.{Write}
 use Rattle.cdb_program.specs.Debugging.{DebugsFile}
 use Rattle.cdb_program.specs.Known.{Seen}
-use Rattle.cdb_program.specs.Left.{ExplainsFiles, TrailsFiles, DrawsFiles}
 use Rattle.cdb_program.specs.Outcomes.{RequestEnd}
 use Rattle.cdb_program.specs.Playing.{PlaysInput, PlaysFiles}
+use Rattle.cdb_program.specs.Questions.{AsksFiles}
 use Rattle.cdb_program.specs.Racing.{RacesFiles}
 use Rattle.cdb_program.specs.Reading.{file_names}
 use Rattle.cdb_program.specs.Reports.{IsReported}
@@ -42,9 +42,7 @@ abbrev pub Does : Request → Seen → Seen → RequestEnd → Type 0
 Does request.Script old new outcome = PlaysInput old new outcome
 Does (request.Play setup script) old new outcome = PlaysFiles setup.now script.now old new outcome
 Does (request.Race setup turns scripts) old new outcome = RacesFiles setup.now turns (file_names scripts.now) old new outcome
-Does (request.Explain setup script p k) old new outcome = ExplainsFiles setup.now script.now p k old new outcome
-Does (request.Trail setup script p k) old new outcome = TrailsFiles setup.now script.now p k old new outcome
-Does (request.Draw setup script step) old new outcome = DrawsFiles setup.now script.now step old new outcome
+Does (request.Ask setup script question) old new outcome = AsksFiles setup.now script.now question old new outcome
 Does (request.Debug setup prompt) old new outcome = DebugsFile setup.now prompt.now old new outcome
 Does (request.DebugShared setup seats) old new outcome = ⊥
 Does (request.Print text) old new outcome = ReadsNothing old new × Prints text.now old.output new.output outcome

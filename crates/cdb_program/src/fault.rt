@@ -65,8 +65,7 @@ pub fn of_race<'a>(raced: Result<(), RaceFault>) -> Result<(), Fault<'a>>
     }
 }
 
-/// How a request ended that explained a step of the run that the script of this name leaves, wrote the trail to it, or
-/// drew that run.
+/// How a request ended that answered a question of the run that the script of this name leaves.
 pub fn of_explain<'a>(explained: Result<(), ExplainFault>, name: &'a str) -> Result<(), Fault<'a>>
     ensures { IsOfExplain name.entry.now explained result }
 {

@@ -2,17 +2,15 @@
 #![tactic(auto)]
 
 mod debugs;
-mod draws;
-mod explains;
 mod fault;
 mod files;
 mod outside;
 mod plays;
+mod questions;
 mod races;
 mod reports;
 mod request;
 mod seats;
-mod trails;
 
 pub use fault::Fault;
 pub use files::Files;

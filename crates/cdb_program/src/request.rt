@@ -4,17 +4,15 @@ ghost use Rattle.std.specs.Prelude.{◌≡◌, ◌≤◌};
 ghost use Rattle.cdb_program.specs.Requests.{Does, IsAlone, Performs, PerformsAlone, Prints, HasTurns};
 
 use crate::debugs::debug_file;
-use crate::draws::draw_files;
-use crate::explains::explain_files;
 use crate::fault::Fault;
 use crate::files::Files;
 use crate::outside::Outside;
 use crate::plays::{play_files, play_input};
+use crate::questions::answer_files;
 use crate::races::race_files;
 use crate::reports::report;
 use crate::seats::perform_shared;
-use crate::trails::trail_files;
-use cdb_explain::StepAsked;
+use cdb_base::Question;
 use cdb_streams::{PlayFault, Sink, Source, write_all};
 use std::alloc::Global;
 use std::sync::Wait;
@@ -39,26 +37,11 @@ pub enum Request<'a> {
         turns: u32,
         scripts: &'a [&'a str],
     },
-    /// Explains a step of the run that a script file leaves on a setup file: the `k`-th standing step of process `p`,
-    /// or without `k` its last one.
-    Explain {
+    /// Answers a question of the run that a script file leaves on a setup file.
+    Ask {
         setup: &'a str,
         script: &'a str,
-        p: u32,
-        k: Option<u32>,
-    },
-    /// Writes the trail of a value to such a step, which is given in the same way.
-    Trail {
-        setup: &'a str,
-        script: &'a str,
-        p: u32,
-        k: Option<u32>,
-    },
-    /// Draws the run that a script file leaves on a setup file; with a step what led to it in full, and the rest pale.
-    Draw {
-        setup: &'a str,
-        script: &'a str,
-        step: Option<StepAsked>,
+        question: Question,
     },
     /// Holds a session on a run of a setup file over standard input and standard output, with this prompt before each
     /// line.
@@ -112,23 +95,11 @@ fn carry_out<
             turns,
             scripts,
         } => race_files(threads, alloc, setup, turns, scripts, outside),
-        Request::Explain {
+        Request::Ask {
             setup,
             script,
-            p,
-            k,
-        } => explain_files(alloc, setup, script, p, k, outside),
-        Request::Trail {
-            setup,
-            script,
-            p,
-            k,
-        } => trail_files(alloc, setup, script, p, k, outside),
-        Request::Draw {
-            setup,
-            script,
-            step,
-        } => draw_files(alloc, setup, script, step, outside),
+            question,
+        } => answer_files(alloc, setup, script, question, outside),
         Request::Debug { setup, prompt } => debug_file(alloc, setup, prompt, outside),
         Request::DebugShared { .. } => unreachable!(),
         Request::Print(text) => print(text, &mut outside.streams.output),

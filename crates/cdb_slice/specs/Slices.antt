@@ -6,7 +6,7 @@ use Rattle.cdb_causal.specs.Past.{IsSlice}
 use Rattle.cdb_explain.specs.Asked.{IsMissing, IsStepAsked}
 use Rattle.cdb_explain.specs.Left.{Leaves}
 use Rattle.cdb_explain.specs.StepFaults.{IsFaultOfLeft}
-use Rattle.cdb_explain.specs.declared.asked.StepAsked.{StepAsked}
+use Rattle.cdb_base.specs.declared.question.StepAsked.{StepAsked}
 use Rattle.cdb_explain.specs.declared.fault.ExplainFault.{ExplainFault}
 use Rattle.cdb_rules.specs.RunView.{RunView}
 use Rattle.cdb_rules.specs.Rules.{Rules}

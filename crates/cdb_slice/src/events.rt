@@ -5,8 +5,8 @@ ghost use Rattle.cdb_explain.specs.Asked.{IsMissing};
 ghost use Rattle.cdb_slice.specs.Flagged.{flagged};
 ghost use Rattle.cdb_slice.specs.Slices.{AreSliced};
 
-use cdb_base::{Event, NoMemory};
-use cdb_explain::{StepAsked, position_of_step};
+use cdb_base::{Event, NoMemory, StepAsked};
+use cdb_explain::position_of_step;
 use cdb_rules::Trace;
 use std::alloc::Global;
 

@@ -1,14 +1,14 @@
 //! A script of events, one a line.
 
-ghost use Rattle.std.specs.Prelude.{◌≡◌};
+ghost use Rattle.std.specs.Prelude.{◌≡◌, IfOk};
 ghost use Rattle.cdb_rules.specs.Refusals.{act_for};
 ghost use Rattle.cdb_slice.specs.Scripts.{command_for, script_text};
 ghost use Rattle.cdb_text.specs.Pushes.{Pushes};
 
-use cdb_base::{Act, Event, Kind};
+use cdb_base::{Act, Event, Kind, NoMemory};
 use cdb_commands::Command;
 use cdb_text::push_command;
-use std::alloc::AllocError;
+use std::alloc::{AllocError, Global};
 
 /// The act that names a step of that kind.
 fn act_for(kind: &Kind) -> Act
@@ -38,7 +38,7 @@ fn command_for(event: &Event) -> Command
 }
 
 /// Adds a line for each event, in order: the command that takes it.
-pub(crate) fn push_script(text: &mut String, events: &[Event]) -> Result<(), AllocError>
+fn push_script(text: &mut String, events: &[Event]) -> Result<(), AllocError>
     ensures { Pushes result text.old text.new (script_text events.now) }
 {
     for event in events {
@@ -46,4 +46,13 @@ pub(crate) fn push_script(text: &mut String, events: &[Event]) -> Result<(), All
         text.push('\n')?;
     }
     Ok(())
+}
+
+/// The script of these events.
+pub(crate) fn script_of(alloc: Global, events: &[Event]) -> Result<Vec<u8>, NoMemory>
+    ensures { IfOk result (λ text. text.items ≡ script_text events.now) }
+{
+    let mut text = String::new(alloc);
+    push_script(&mut text, events)?;
+    Ok(text.into_bytes())
 }

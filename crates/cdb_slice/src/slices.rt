@@ -13,8 +13,9 @@ ghost use Rattle.cdb_streams.specs.Written.{IsWritten};
 ghost use Rattle.cdb_streams.specs.declared.fault.PlayFault.TheVariants as play;
 
 use crate::events::events_for;
-use crate::script::push_script;
-use cdb_explain::{ExplainFault, StepAsked, run_left_by};
+use crate::script::script_of;
+use cdb_base::StepAsked;
+use cdb_explain::{ExplainFault, run_left_by};
 use cdb_rules::{Runs, Trace};
 use cdb_streams::{Sink, Source, write_text};
 use std::alloc::Global;
@@ -37,9 +38,8 @@ fn write_script<T: Runs, W: Sink>(
     let Some(events) = events_for(alloc, run, step)? else {
         return Err(ExplainFault::NoStep);
     };
-    let mut text = String::new(alloc);
-    push_script(&mut text, events.as_slice())?;
-    write_text(alloc, text.as_bytes(), out)?;
+    let text = script_of(alloc, events.as_slice())?;
+    write_text(alloc, text.as_slice(), out)?;
     Ok(())
 }
 

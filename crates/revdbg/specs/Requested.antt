@@ -1,5 +1,5 @@
 -- What the arguments request, and that it is performed.
-use Rattle.std.specs.Prelude.{◌≡◌, ◌≢◌, ◌⊎◌, ◌∷◌, ℕ, List, [], Option, codes, option_map}
+use Rattle.std.specs.Prelude.{◌≡◌, ◌≢◌, ◌⊎◌, ◌∷◌, ℕ, List, [], Option, codes}
 use Rattle.std.specs.declared.io.ErrorKind.{ErrorKind as IoKind}
 use Rattle.std.specs.declared.io.ErrorKind.TheVariants as io_kind
 use Rattle.clap.specs.Words.{Kinds, IsAmong, Row, Text, fault_of, subcommand_of}
@@ -7,10 +7,10 @@ use Rattle.clap.specs.declared.error.kind.ErrorKind.{ErrorKind}
 use Rattle.cdb_base.specs.Memory.{no_memory}
 use Rattle.cdb_arguments.specs.Asking.{NamesAsked, texts, words_status}
 use Rattle.cdb_arguments.specs.CommandLine.{program}
-use Rattle.cdb_arguments.specs.Plain.{IsNameAlone, IsPlayLine, IsRaceLine, IsExplainLine, IsTrailLine, IsDrawLine, IsDebugLine}
+use Rattle.cdb_arguments.specs.Plain.{IsNameAlone, IsPlayLine, IsQuestionLine, IsRaceLine, IsDebugLine}
 use Rattle.cdb_arguments.specs.declared.request.Asked.{Asked}
 use Rattle.cdb_arguments.specs.declared.request.Asked.TheVariants as asked
-use Rattle.cdb_explain.specs.declared.asked.StepAsked.{StepAsked}
+use Rattle.cdb_base.specs.declared.question.Question.{Question}
 use Rattle.cdb_streams.specs.declared.fault.PlayFault.TheVariants.{NoMemory}
 use Rattle.revdbg.specs.declared.requested.Unread.{Unread}
 use Rattle.revdbg.specs.declared.requested.Unread.TheVariants as unread
@@ -18,7 +18,7 @@ use Rattle.cdb_program.specs.Known.{Seen}
 use Rattle.cdb_program.specs.Requests.{Performs}
 use Rattle.cdb_program.specs.declared.fault.Fault.TheVariants as fault
 use Rattle.cdb_program.specs.declared.request.Request.{Request}
-use Rattle.cdb_program.specs.declared.request.Request.TheVariants.{Script, Play, Race, Explain, Trail, Draw, Debug, DebugShared, Print, Refuse}
+use Rattle.cdb_program.specs.declared.request.Request.TheVariants.{Script, Play, Race, Ask, Debug, DebugShared, Print, Refuse}
 
 -- a play of these two files
 abbrev pub IsPlayRequest : Text → Text → Request → Type 0
@@ -31,27 +31,11 @@ IsRaceRequest setup turns scripts (Race its_setup its_turns its_scripts) =
     (its_setup.now ≡ setup) × (its_turns ≡ turns) × (texts its_scripts.now ≡ scripts)
 IsRaceRequest setup turns scripts request = ⊥
 
--- the explanation of this step of the run of these two files
-abbrev pub IsExplainRequest : Text → Text → ℕ → Option ℕ → Request → Type 0
-IsExplainRequest setup script p k (Explain its_setup its_script its_p its_k) =
-    (its_setup.now ≡ setup) × (its_script.now ≡ script) × (its_p ≡ p) × (its_k ≡ k)
-IsExplainRequest setup script p k request = ⊥
-
--- the trail to this step of the run of these two files
-abbrev pub IsTrailRequest : Text → Text → ℕ → Option ℕ → Request → Type 0
-IsTrailRequest setup script p k (Trail its_setup its_script its_p its_k) =
-    (its_setup.now ≡ setup) × (its_script.now ≡ script) × (its_p ≡ p) × (its_k ≡ k)
-IsTrailRequest setup script p k request = ⊥
-
--- the step of process p, the k-th where a number is given
-abbrev pub step_asked : Option ℕ → ℕ → StepAsked
-step_asked k p = record { p = p; k = k }
-
--- the picture of the run of these two files, with what led to the step in full where one is given
-abbrev pub IsDrawRequest : Text → Text → Option ℕ → Option ℕ → Request → Type 0
-IsDrawRequest setup script p k (Draw its_setup its_script its_step) =
-    (its_setup.now ≡ setup) × (its_script.now ≡ script) × (its_step ≡ option_map (step_asked k) p)
-IsDrawRequest setup script p k request = ⊥
+-- this question of the run of these two files
+abbrev pub IsQuestionRequest : Text → Text → Question → Request → Type 0
+IsQuestionRequest setup script question (Ask its_setup its_script its_question) =
+    (its_setup.now ≡ setup) × (its_script.now ≡ script) × (its_question ≡ question)
+IsQuestionRequest setup script question request = ⊥
 
 -- a session on a run of this file, with this prompt; or sessions of these seats, where there are any
 abbrev pub IsDebugRequest : Text → Text → List Text → Request → Type 0
@@ -64,9 +48,7 @@ abbrev pub IsRequestOf : Text → Asked → Request → Type 0
 IsRequestOf prompt asked.Script request = request ≡ Script
 IsRequestOf prompt (asked.Play setup script) request = IsPlayRequest setup.now script.now request
 IsRequestOf prompt (asked.Race setup turns scripts) request = IsRaceRequest setup.now turns (texts scripts.items) request
-IsRequestOf prompt (asked.Explain setup script p k) request = IsExplainRequest setup.now script.now p k request
-IsRequestOf prompt (asked.Trail setup script p k) request = IsTrailRequest setup.now script.now p k request
-IsRequestOf prompt (asked.Draw setup script p k) request = IsDrawRequest setup.now script.now p k request
+IsRequestOf prompt (asked.Ask setup script question) request = IsQuestionRequest setup.now script.now question request
 IsRequestOf prompt (asked.Debug setup seats) request = IsDebugRequest prompt setup.now (texts seats.items) request
 
 -- the request for what the subcommand that `clap` found asks for
@@ -95,12 +77,8 @@ pub record IsAskedBy (prompt : Text) (words : List Text) (request : Request) : T
   pub play : (setup script : Text) → IsPlayLine words setup script → OrOutOfMemory (IsPlayRequest setup script) request
   pub race : (setup : Text) (turns : ℕ) (script : Text) (more : List Text)
       → IsRaceLine words setup turns script more → OrOutOfMemory (IsRaceRequest setup turns (script ∷ more)) request
-  pub explain : (setup script : Text) (p : ℕ) (k : Option ℕ)
-      → IsExplainLine words setup script p k → OrOutOfMemory (IsExplainRequest setup script p k) request
-  pub trail : (setup script : Text) (p : ℕ) (k : Option ℕ)
-      → IsTrailLine words setup script p k → OrOutOfMemory (IsTrailRequest setup script p k) request
-  pub draw : (setup script : Text) (p k : Option ℕ)
-      → IsDrawLine words setup script p k → OrOutOfMemory (IsDrawRequest setup script p k) request
+  pub question : (setup script : Text) (question : Question)
+      → IsQuestionLine words setup script question → OrOutOfMemory (IsQuestionRequest setup script question) request
   pub debug : (setup : Text) (seats : List Text)
       → IsDebugLine words setup seats → OrOutOfMemory (IsDebugRequest prompt setup seats) request
   pub taken : fault_of program words ≡ [] → OrOutOfMemory (IsRequested prompt (subcommand_of program words)) request

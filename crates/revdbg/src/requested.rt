@@ -11,7 +11,6 @@ ghost use Rattle.revdbg.specs.Requested.{IsAskedBy, IsOutOfMemory, IsRefusal, Is
 
 use cdb_arguments::{AskFault, Asked, ask_status, asked};
 use cdb_base::NoMemory;
-use cdb_explain::StepAsked;
 use cdb_program::{Fault, Request};
 use cdb_streams::PlayFault;
 use std::alloc::{AllocError, Global};
@@ -73,37 +72,14 @@ fn request_of<'a>(asked: &'a Asked<'a>, prompt: &'a str) -> Request<'a>
             turns: *turns,
             scripts: scripts.as_slice(),
         },
-        Asked::Explain {
+        Asked::Ask {
             setup,
             script,
-            p,
-            k,
-        } => Request::Explain {
+            question,
+        } => Request::Ask {
             setup,
             script,
-            p: *p,
-            k: *k,
-        },
-        Asked::Trail {
-            setup,
-            script,
-            p,
-            k,
-        } => Request::Trail {
-            setup,
-            script,
-            p: *p,
-            k: *k,
-        },
-        Asked::Draw {
-            setup,
-            script,
-            p,
-            k,
-        } => Request::Draw {
-            setup,
-            script,
-            step: p.map(|p| StepAsked { p, k: *k }),
+            question: *question,
         },
         Asked::Debug { setup, seats } if seats.is_empty() => Request::Debug { setup, prompt },
         Asked::Debug { setup, seats } => Request::DebugShared {

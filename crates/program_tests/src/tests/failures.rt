@@ -1,7 +1,7 @@
 //! Each read and each write fails in turn.
 
 use super::{ALL_GOOD, Ended, GoodCalls, performed};
-use cdb_explain::StepAsked;
+use cdb_base::{Question, StepAsked};
 use cdb_program::{Fault, Request};
 use std::process::Abort;
 use std::sync::Wait;

@@ -1,4 +1,4 @@
-use Rattle.cdb_arguments.proofs.Requests.{script_asked_for, play_asked_for, race_asked_for, explain_asked_for, trail_asked_for, draw_asked_for, debug_asked_for}
+use Rattle.cdb_arguments.proofs.Requests.{script_asked_for, play_asked_for, race_asked_for, question_asked_for, debug_asked_for}
 use Rattle.cdb_arguments.specs.Asking.{texts}
 use Rattle.cdb_arguments.proofs.reading.asked.Goals as goal
 
@@ -11,14 +11,8 @@ returns-clause-play c = play_asked_for (texts c.args.words.now) c.read.result c.
 pub returns-clause-race : goal.returns-clause-race
 returns-clause-race c = race_asked_for (texts c.args.words.now) c.read.result c.read.ensures.ok c.read.ensures.taken
 
-pub returns-clause-explain : goal.returns-clause-explain
-returns-clause-explain c = explain_asked_for (texts c.args.words.now) c.read.result c.read.ensures.ok c.read.ensures.taken
-
-pub returns-clause-trail : goal.returns-clause-trail
-returns-clause-trail c = trail_asked_for (texts c.args.words.now) c.read.result c.read.ensures.ok c.read.ensures.taken
-
-pub returns-clause-draw : goal.returns-clause-draw
-returns-clause-draw c = draw_asked_for (texts c.args.words.now) c.read.result c.read.ensures.ok c.read.ensures.taken
+pub returns-clause-question : goal.returns-clause-question
+returns-clause-question c = question_asked_for (texts c.args.words.now) c.read.result c.read.ensures.ok c.read.ensures.taken
 
 pub returns-clause-debug : goal.returns-clause-debug
 returns-clause-debug c = debug_asked_for (texts c.args.words.now) c.read.result c.read.ensures.ok c.read.ensures.taken

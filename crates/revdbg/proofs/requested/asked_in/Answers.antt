@@ -2,7 +2,7 @@ use Rattle.std.proofs.Common.{◌∷◌, List, [], ap, inl, inr, subst}
 use Rattle.clap.specs.Words.{Kinds, Text}
 use Rattle.cdb_arguments.specs.Asking.{texts}
 use Rattle.revdbg.specs.Requested.{IsAskedBy, IsRefusal, OrOutOfMemory}
-use Rattle.revdbg.proofs.Requests.{memory_has_no_kinds, only_memory, debug_request, draw_request, explain_request, play_request, race_request, script_request, trail_request}
+use Rattle.revdbg.proofs.Requests.{memory_has_no_kinds, only_memory, debug_request, play_request, question_request, race_request, script_request}
 use Rattle.revdbg.proofs.requested.asked_in.Goals as goal
 
 pub returns-in-Ok-asked-clause-asked : goal.returns-in-Ok-asked-clause-asked
@@ -13,9 +13,7 @@ returns-in-Ok-asked-clause-asked c =
       script = λ alone. inl (script_request prompt it (said.script alone).0 request of);
       play = λ setup script line. inl (play_request prompt setup script it (said.play setup script line).0 request of);
       race = λ setup turns script more line. inl (race_request prompt setup turns (script ∷ more) it (said.race setup turns script more line).0 request of);
-      explain = λ setup script p k line. inl (explain_request prompt setup script p k it (said.explain setup script p k line).0 request of);
-      trail = λ setup script p k line. inl (trail_request prompt setup script p k it (said.trail setup script p k line).0 request of);
-      draw = λ setup script p k line. inl (draw_request prompt setup script p k it (said.draw setup script p k line).0 request of);
+      question = λ setup script question line. inl (question_request prompt setup script question it (said.question setup script question line).0 request of);
       debug = λ setup seats line. inl (debug_request prompt setup seats it (said.debug setup seats line).0 request of);
       taken = λ none. inl (it, said.ok, of);
       refused = λ some. absurd (some said.right);
@@ -30,9 +28,7 @@ returns-in-Err-asked-clause-asked c =
       script = λ alone. inr (only_memory request (made [] (memory_has_no_kinds fault (said.script alone).1) prompt request of));
       play = λ setup script line. inr (only_memory request (made [] (memory_has_no_kinds fault (said.play setup script line).1) prompt request of));
       race = λ setup turns script more line. inr (only_memory request (made [] (memory_has_no_kinds fault (said.race setup turns script more line).1) prompt request of));
-      explain = λ setup script p k line. inr (only_memory request (made [] (memory_has_no_kinds fault (said.explain setup script p k line).1) prompt request of));
-      trail = λ setup script p k line. inr (only_memory request (made [] (memory_has_no_kinds fault (said.trail setup script p k line).1) prompt request of));
-      draw = λ setup script p k line. inr (only_memory request (made [] (memory_has_no_kinds fault (said.draw setup script p k line).1) prompt request of));
+      question = λ setup script question line. inr (only_memory request (made [] (memory_has_no_kinds fault (said.question setup script question line).1) prompt request of));
       debug = λ setup seats line. inr (only_memory request (made [] (memory_has_no_kinds fault (said.debug setup seats line).1) prompt request of));
       taken = λ none. inr (only_memory request (subst (λ (kinds : Kinds). OrOutOfMemory (IsRefusal kinds) request) none (made _ said.refused prompt request of)));
       refused = λ some. made _ said.refused prompt request of;

@@ -1,9 +1,9 @@
 use Rattle.std.proofs.Common.{◌≡◌, ◌∙◌, ℕ, List, Some, Bor, ap, refl, inl, inr, ◌∷◌, []}
 use Rattle.cdb_streams.specs.declared.input.Bytes.{Bytes}
 use Rattle.std.proofs.lemmas.Result.{err_from_is_err_and}
-use Rattle.cdb_program.proofs.Left.{text_seen}
+use Rattle.cdb_program.proofs.Questions.{text_seen}
 use Rattle.cdb_program.specs.Known.{in_memory}
-use Rattle.cdb_program.proofs.trails.trail_files.Goals as goal
+use Rattle.cdb_program.proofs.questions.answer_files.Goals as goal
 
 pub returns-in_err-json-clause-does : goal.returns-in_err-json-clause-does
 returns-in_err-json-clause-does g c =
@@ -14,7 +14,7 @@ pub returns-clause-does : goal.returns-clause-does
 returns-clause-does g c =
     let json = c.in_ok-json.json.items in
     let bytes = c.in_ok-json.bytes.items in
-    let said = c.write_trail-written.ensures in
+    let said = c.answer-answered.ensures in
     let json_is : c.as_slice-2.result.now ≡ json = c.as_slice-2.ensures.value in
     let bytes_is : c.new-commands.result.rest.now ≡ bytes = ap (λ (b : Bor (List ℕ)). b.now) c.new-commands.ensures ∙ c.as_slice.ensures.value in
     rw (← c.outside.view_is) (
@@ -23,11 +23,11 @@ returns-clause-does g c =
         json ∷ bytes ∷ [],
         c.in_ok-json.ensures,
         (
-          c.write_trail-written.result,
-          Some c.write_trail-written.new.script.rest.now,
+          c.answer-answered.result,
+          Some c.answer-answered.new.script.rest.now,
           c.of_explain.ensures,
           rw (← json_is, ← bytes_is)
-              (text_seen (λ (b : Bytes). in_memory (Some b.rest.now)) g.O.Sink.stream c.write_trail-written.result _ _ _ c.new-commands.result c.write_trail-written.new.script _ _ said.wrote said.fault said.unread said.read),
+              (text_seen (λ (b : Bytes). in_memory (Some b.rest.now)) g.O.Sink.stream c.answer-answered.result _ _ _ c.new-commands.result c.answer-answered.new.script _ _ said.wrote said.fault said.unread said.read),
         ),
       ),
     )

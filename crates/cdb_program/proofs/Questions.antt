@@ -8,7 +8,7 @@ use Rattle.cdb_streams.specs.Streams.{FailsWhere, Stream}
 use Rattle.cdb_streams.specs.Written.{IsWritten}
 use Rattle.cdb_streams.specs.declared.fault.PlayFault.TheVariants as play
 use Rattle.cdb_setup.specs.declared.fault.SetupFault.{SetupFault}
-use Rattle.cdb_program.specs.Left.{IsTextOfRun}
+use Rattle.cdb_program.specs.Questions.{IsTextOfRun}
 use Rattle.cdb_program.proofs.Seen.{stream_written}
 
 pub text_seen : {R W : Type 0} (reader : R → Stream) (writer : W → Stream) (ended : Result (Unit {0}) ExplainFault) (ending : Ending) (IsText : List ℕ → Type 0) (IsFault : ExplainFault → Type 0) (script rest : R) (old new : W)

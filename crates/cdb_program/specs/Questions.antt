@@ -1,0 +1,72 @@
+-- What a request does that answers a question of the run that a script leaves.
+use Rattle.std.specs.Prelude.{◌≡◌, ℕ, List, [], ◌∷◌, Option, Some, Result, Err, IfErr}
+use Rattle.cdb_base.specs.declared.question.Question.{Question}
+use Rattle.cdb_base.specs.declared.question.Question.TheVariants.{Explain, Trail, Draw, Slice}
+use Rattle.cdb_draw.specs.Drawn.{draw_ending, Draws, IsFaultOfDraw}
+use Rattle.cdb_draw.specs.declared.layout.TheConstants.{COLUMNS}
+use Rattle.cdb_explain.specs.Explained.{explain_ending, Explains, IsFaultOfExplain}
+use Rattle.cdb_explain.specs.declared.fault.ExplainFault.{ExplainFault}
+use Rattle.cdb_explain.specs.declared.fault.ExplainFault.TheVariants.{Play}
+use Rattle.cdb_slice.specs.Slices.{WritesSlice, IsFaultOfSlice}
+use Rattle.cdb_streams.specs.Endings.{Ending}
+use Rattle.cdb_streams.specs.Streams.{FailsWhere, Stream, itself}
+use Rattle.cdb_streams.specs.Written.{IsWritten}
+use Rattle.cdb_streams.specs.declared.fault.PlayFault.TheVariants as play
+use Rattle.cdb_agreement.specs.Algorithms.{rules}
+use Rattle.cdb_setup.specs.declared.fault.SetupFault.{SetupFault}
+use Rattle.cdb_trail.specs.Written.{WritesTrail, IsFaultOfTrail}
+use Rattle.cdb_program.specs.Known.{Seen, in_memory}
+use Rattle.cdb_program.specs.Outcomes.{RequestEnd, IsOfExplain}
+use Rattle.cdb_program.specs.Reading.{ReadsThen}
+
+-- how the writing of such a text ended
+abbrev pub TextEnd : Type 0
+TextEnd = Result (Unit {0}) ExplainFault
+
+-- The writing of a text of this kind ended so, and its fault, where it has one, is of this kind. The script's reader and
+-- the output are seen before and after.
+pub record IsTextOfRun (ended : TextEnd) (ending : Ending) (IsText : List ℕ → Type 0) (IsFault : ExplainFault → Type 0) (script left old new : Stream) : Type 0 where
+  pub wrote : IsWritten itself ending old new IsText
+  pub fault : IfErr ended IsFault
+  pub unread : (fault : SetupFault) → ended ≡ Err (Play (play.Setup fault)) → left ≡ script
+  pub read : FailsWhere itself (ended ≡ Err (Play play.Read)) script left
+
+-- the bytes of a setup and of a script, of this name, and this is done with them
+abbrev pub DoesWithBytes : List ℕ → (List ℕ → TextEnd → Stream → Stream → Type 0) → RequestEnd → List (List ℕ) → Type 0
+DoesWithBytes name IsDone outcome (json ∷ script ∷ []) =
+    (ended : TextEnd) × (left : Option (List ℕ)) × IsOfExplain name ended outcome
+    × IsDone json ended (in_memory (Some script)) (in_memory left)
+DoesWithBytes name IsDone outcome others = ⊥
+
+-- ---- the answers
+
+-- the text that answers a question of the run that a script leaves; a picture has 20 columns to a row
+abbrev pub Answers : List ℕ → Question → Stream → Stream → List ℕ → Type 0
+Answers json (Explain step) old new = Explains rules json step.p step.k old new
+Answers json (Trail step) old new = WritesTrail json step.p step.k old new
+Answers json (Draw step) old new = Draws rules json COLUMNS step old new
+Answers json (Slice step) old new = WritesSlice rules json step old new
+
+-- why it is not answered
+abbrev pub IsFaultOfQuestion : List ℕ → Question → Stream → Stream → ExplainFault → Type 0
+IsFaultOfQuestion json (Explain step) old new = IsFaultOfExplain rules json step.p step.k old new
+IsFaultOfQuestion json (Trail step) old new = IsFaultOfTrail json step.p step.k old new
+IsFaultOfQuestion json (Draw step) old new = IsFaultOfDraw rules json step old new
+IsFaultOfQuestion json (Slice step) old new = IsFaultOfSlice rules json step old new
+
+-- how the writing of the answer ended
+abbrev pub question_ending : Question → TextEnd → Ending
+question_ending (Draw step) ended = draw_ending ended
+question_ending question ended = explain_ending ended
+
+-- the answer was written, with the text of a setup, and a script's reader and the output before and after
+abbrev pub IsAnswered : Question → Stream → Stream → List ℕ → TextEnd → Stream → Stream → Type 0
+IsAnswered question old new json ended script left =
+    IsTextOfRun ended (question_ending question ended) (Answers json question script left)
+    (IsFaultOfQuestion json question script left) script left old new
+
+-- the file of the setup and then that of the script are read, and the question is answered
+abbrev pub AsksFiles : List ℕ → List ℕ → Question → Seen → Seen → RequestEnd → Type 0
+AsksFiles setup script question old new outcome =
+    ReadsThen (setup ∷ script ∷ []) old new outcome
+    (DoesWithBytes script (IsAnswered question old.output new.output) outcome)
