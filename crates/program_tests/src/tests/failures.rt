@@ -19,24 +19,30 @@ const RACE: Request<'static> = Request::Race {
     scripts: &["undo.txt", "redo.txt"],
 };
 
-const EXPLAIN: Request<'static> = Request::Explain {
+const STEP: StepAsked = StepAsked { p: 1, k: Some(2) };
+
+const EXPLAIN: Request<'static> = Request::Ask {
     setup: "one.json",
     script: "eight.txt",
-    p: 1,
-    k: Some(2),
+    question: Question::Explain(STEP),
 };
 
-const TRAIL: Request<'static> = Request::Trail {
+const TRAIL: Request<'static> = Request::Ask {
     setup: "one.json",
     script: "eight.txt",
-    p: 1,
-    k: Some(2),
+    question: Question::Trail(STEP),
 };
 
-const DRAW: Request<'static> = Request::Draw {
+const DRAW: Request<'static> = Request::Ask {
     setup: "one.json",
     script: "eight.txt",
-    step: Some(StepAsked { p: 1, k: Some(2) }),
+    question: Question::Draw(Some(STEP)),
+};
+
+const SLICE: Request<'static> = Request::Ask {
+    setup: "one.json",
+    script: "eight.txt",
+    question: Question::Slice(Some(STEP)),
 };
 
 const DEBUG: Request<'static> = Request::Debug {
@@ -79,6 +85,7 @@ fn each_write_of_output_fails_in_turn(rt: HostRuntime) {
         (EXPLAIN, 82),
         (TRAIL, 66),
         (DRAW, 4_590),
+        (SLICE, 25),
         (Request::Print("help\n"), 5),
     ];
     for (request, length) in &requests {
@@ -164,6 +171,10 @@ const UNREAD: &[(Request<'static>, &'static [&'static str])] = &[
         &["cannot read one.json\n", "cannot read eight.txt\n"],
     ),
     (DRAW, &["cannot read one.json\n", "cannot read eight.txt\n"]),
+    (
+        SLICE,
+        &["cannot read one.json\n", "cannot read eight.txt\n"],
+    ),
     (DEBUG, &["cannot read one.json\n"]),
     (
         RACE,
