@@ -13,7 +13,7 @@ use Rattle.cdb_causal.specs.DirectDependents.{is_direct, as_number, direct_depen
 use Rattle.cdb_causal.specs.Laws.{CountsTakenOut, IsDirectOfNone, NoneDepends}
 use Rattle.cdb_causal.specs.Rollback.{without}
 use Rattle.cdb_causal.proofs.Lists.{all_nth, nth_all, nth_within, push_front, push_back}
-use Rattle.cdb_causal.proofs.Walks.{IsIndependent, none_behind}
+use Rattle.cdb_causal.proofs.Walks.{IsIndependent, none_behind, free_behind}
 
 number_zero : (b : Bool) → as_number b ≡ 0 → b ≡ false
 number_zero true h = absurd (omega (arith, h))
@@ -129,6 +129,13 @@ module _ {E : Type 0} (depends : E → E → Bool) (cause : E) where
   no_direct_dependent events = (
     (λ zeros. nth_all (λ other. depends cause other ≡ false) events (none_depends [] events refl zeros)),
     (λ none. none_direct [] events (all_nth (λ other. depends cause other ≡ false) events none)),
+  )
+
+  -- an event is free exactly where none of those behind it depends on it directly
+  pub free_if_none : (history : List E) (at : ℕ) → nth history at ≡ Some cause → IsDirectOfNone depends cause (drop at history) ↔ IsFree depends history at
+  free_if_none history at stands = (
+    (λ zeros. free_behind depends history at cause stands (none_depends [] (drop at history) refl zeros)),
+    (λ free. none_direct [] (drop at history) (none_behind depends history at cause stands free)),
   )
 
 -- the last event is free

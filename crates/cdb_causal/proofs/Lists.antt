@@ -1,9 +1,11 @@
 -- Lists by positions from 1, and a list with one element more.
 use Rattle.std.proofs.lemmas.Grind.{common_steps}
 use Rattle.std.proofs.lemmas.Option.{gets, none-some, same_Some, slice_get_within}
-use Rattle.std.proofs.Common.{◌≡◌, ℕ, zero, suc, ◌+◌, ◌-◌, ◌<◌, ◌≤◌, ◌⊎◌, List, [], ◌∷◌, ◌++◌, Some, length, slice_get, drop, refl, ap, ◌∙◌, subst, arith}
+use Rattle.std.proofs.Common.{◌≡◌, ℕ, zero, suc, ◌+◌, ◌-◌, ◌<◌, ◌≤◌, ◌⊎◌, List, [], ◌∷◌, ◌++◌, Some, length, slice_get, take, drop, map, refl, sym, ap, ap₂, ◌∙◌, subst, arith}
+use Rattle.std.proofs.lemmas.List.{map-append, take-map, drop-map}
 use Rattle.std.specs.List.{AllByRecursion}
 use Rattle.cdb_base.specs.Positions.{nth}
+use Rattle.cdb_causal.specs.Rollback.{without}
 
 next_is : (at : ℕ) → 1 ≤ at → suc (at - 1) ≡ at
 next_is at from_one = omega (arith, from_one)
@@ -40,6 +42,10 @@ nth_front xs y x (suc k) stands = push_front xs y x k stands
 pub nth_within : {A : Type 0} (xs : List A) (k : ℕ) (x : A) → nth xs k ≡ Some x → k ≤ length xs
 nth_within xs zero x stands = absurd (none-some x stands)
 nth_within xs (suc k) x stands = slice_get_within xs k x stands
+
+pub map-without : {A B : Type 0} (f : A → B) (xs : List A) (at : ℕ) → map f (without xs at) ≡ without (map f xs) at
+map-without f xs zero = refl
+map-without f xs (suc i) = map-append f (take i xs) (drop (suc i) xs) ∙ ap₂ (λ front rest. front ++ rest) (sym (take-map f i xs)) (sym (drop-map f (suc i) xs))
 
 -- what is true of each element of a list is true at each position
 module _ {A : Type 0} (P : A → Type 0) where
