@@ -16,6 +16,3 @@ pub mod Effects
 pub mod Counting
 pub mod Dependents
 pub mod DirectByList
--- positions from 1, where these count from 0
-pub mod FromOne
-pub mod LawsFromOne

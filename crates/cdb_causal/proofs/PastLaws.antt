@@ -1,8 +1,10 @@
 -- The past of an event, by its consequences turned round, and by direct causes.
-use Rattle.std.proofs.Common.{◌≡◌, ℕ, zero, suc, ◌<◌, ◌≤◌, Bool, true, false, ◌⊎◌, inl, inr, ⊎_elim, ◌↔◌, List, Option, Some, None, slice_get, refl, sym, ◌∙◌, subst, arith}
-use Rattle.std.proofs.lemmas.Option.{none-some}
-use Rattle.cdb_causal.specs.FromZero.{IsLink, IsConsequence, direct, onward, IsDirectCause, IsInPast, one_link, link_before, HasLedTo}
-use Rattle.cdb_causal.proofs.Walks.{link_at, no_link_at}
+use Rattle.std.proofs.Common.{ℕ, zero, suc, ◌≤◌, Bool, ◌⊎◌, inl, inr, ⊎_elim, ◌↔◌, List, refl, subst, arith}
+use Rattle.cdb_causal.specs.Causality.{IsLink, IsConsequence, direct, onward}
+use Rattle.cdb_causal.specs.Laws.{LeadsThrough}
+use Rattle.cdb_causal.specs.Past.{IsInPast, one_link, link_before, HasLedTo}
+use Rattle.cdb_causal.proofs.Counting.{first_below}
+use Rattle.cdb_causal.proofs.Walks.{linked_or_not}
 
 module _ {E : Type 0} (depends : E → E → Bool) (history : List E) where
   -- ---- the consequences turned round
@@ -30,64 +32,36 @@ module _ {E : Type 0} (depends : E → E → Bool) (history : List E) where
 
   -- ---- direct causes
 
-  later_or_not : (i k : ℕ) → (i < k) ⊎ (k ≤ i)
-  later_or_not i k = grind arith
+  -- a position stands between two others in a chain
+  abbrev IsBetween : ℕ → ℕ → ℕ → Type 0
+  IsBetween i l m = IsLink depends history i m × IsLink depends history m l
 
-  -- whether a position is linked to another can be looked up
-  linked_or_not : (i k : ℕ) → IsLink depends history i k ⊎ (IsLink depends history i k → ⊥)
-  linked_or_not i k = ⊎_elim (λ later. look later (slice_get history i) (slice_get history k) refl refl) (λ not. inr (λ l. let later = l.later in absurd (omega (arith, later, not)))) (later_or_not i k)
+  between_or_not : (i l m : ℕ) → IsBetween i l m ⊎ (IsBetween i l m → ⊥)
+  between_or_not i l m = both (linked_or_not depends history i m) (linked_or_not depends history m l)
     where
-      look : i < k → (a b : Option E) → slice_get history i ≡ a → slice_get history k ≡ b → IsLink depends history i k ⊎ (IsLink depends history i k → ⊥)
-      look later None b at_i at_k = inr (λ l. none-some l.cause (sym at_i ∙ l.at_cause))
-      look later (Some cause) None at_i at_k = inr (λ l. none-some l.effect (sym at_k ∙ l.at_effect))
-      look later (Some cause) (Some effect) at_i at_k =
-          elim (depends cause effect) as (λ b. depends cause effect ≡ b → IsLink depends history i k ⊎ (IsLink depends history i k → ⊥)) [
-            | true ↦ λ h. inl (link_at depends history i k cause effect later at_i at_k h)
-            | false ↦ λ h. inr (no_link_at depends history i k cause effect at_i at_k h)
-          ] refl
-
-  below_next : (m n : ℕ) → m < suc n → (m < n) ⊎ (m ≡ n)
-  below_next m n h = grind arith
-
-  -- below a bound no position stands between two others in a chain
-  abbrev NoneBelow : ℕ → ℕ → ℕ → Type 0
-  NoneBelow i l n = (m : ℕ) → m < n → IsLink depends history i m → IsLink depends history m l → ⊥
-
-  -- there is none, or there is such a position
-  between_or_not : (i l n : ℕ) → NoneBelow i l n ⊎ ((m : ℕ) × IsLink depends history i m × IsLink depends history m l)
-  between_or_not i l zero = inl (λ m below one two. absurd (omega (arith, below)))
-  between_or_not i l (suc n) = ⊎_elim (λ none. at_n none (linked_or_not i n) (linked_or_not n l)) (λ found. inr found) (between_or_not i l n)
-    where
-      not_at : NoneBelow i l n → (IsLink depends history i n → IsLink depends history n l → ⊥) → NoneBelow i l (suc n)
-      not_at none not m below one two =
-          ⊎_elim (λ less. none m less one two)
-          (λ e. not (subst (λ x. IsLink depends history i x) e one) (subst (λ x. IsLink depends history x l) e two)) (below_next m n below)
-
-      at_n : NoneBelow i l n → IsLink depends history i n ⊎ (IsLink depends history i n → ⊥) → IsLink depends history n l ⊎ (IsLink depends history n l → ⊥) → NoneBelow i l (suc n) ⊎ ((m : ℕ) × IsLink depends history i m × IsLink depends history m l)
-      at_n none (inl one) (inl two) = inr (n, one, two)
-      at_n none (inl one) (inr not) = inl (not_at none (λ _ two. not two))
-      at_n none (inr not) other = inl (not_at none (λ one _. not one))
+      both : IsLink depends history i m ⊎ (IsLink depends history i m → ⊥) → IsLink depends history m l ⊎ (IsLink depends history m l → ⊥)
+          → IsBetween i l m ⊎ (IsBetween i l m → ⊥)
+      both (inl one) (inl two) = inl (one, two)
+      both (inl one) (inr not) = inr (λ b. not b.1)
+      both (inr not) other = inr (λ b. not b.0)
 
   -- what is linked to a position that has led to j is in the past
-  pub linked_past : (j m l : ℕ) → IsLink depends history m l → HasLedTo depends history j l → IsInPast depends history j m
+  linked_past : (j m l : ℕ) → IsLink depends history m l → HasLedTo depends history j l → IsInPast depends history j m
   linked_past j m l link (inl e) = one_link (subst (λ x. IsLink depends history m x) e link)
   linked_past j m l link (inr p) = link_before link p
 
-  abbrev pub IsDirectCauseOfPast : ℕ → ℕ → Type 0
-  IsDirectCauseOfPast j i = (k : ℕ) × IsDirectCause depends history i k × HasLedTo depends history j k
-
   -- of the positions that have led to j and to which position i is linked, the nearest has it as a direct cause
-  nearest : (n j i l : ℕ) → l ≤ n → IsLink depends history i l → HasLedTo depends history j l → IsDirectCauseOfPast j i
+  nearest : (n j i l : ℕ) → l ≤ n → IsLink depends history i l → HasLedTo depends history j l → LeadsThrough depends history i j
   nearest zero j i l few link led = let later = link.later in absurd (omega (arith, later, few))
   nearest (suc n) j i l few link led =
       ⊎_elim
-      (λ none. (l, record { link = link; nothing_between = λ k one two. none k two.later one two }, led))
-      (λ found. let later = found.2.later in nearest n j i found.0 (omega (arith, later, few)) found.1 (inr (linked_past j found.0 l found.2 led)))
-      (between_or_not i l l)
+      (λ none. (l, record { link = link; nothing_between = λ k one two. none k two.later (one, two) }, led))
+      (λ found. let later = (found.1).1.later in nearest n j i found.0 (omega (arith, later, few)) (found.1).0 (inr (linked_past j found.0 l (found.1).1 led)))
+      (first_below (IsBetween i l) (between_or_not i l) l)
 
-  pub directly : (i j : ℕ) → IsInPast depends history j i → IsDirectCauseOfPast j i
+  directly : (i j : ℕ) → IsInPast depends history j i → LeadsThrough depends history i j
   directly i j (one_link l) = nearest j j i j (omega arith) l (inl refl)
   directly i j (link_before {i = k} l p) = nearest k j i k (omega arith) l (inr p)
 
-  pub by_direct_causes : (i j : ℕ) → IsInPast depends history j i ↔ IsDirectCauseOfPast j i
+  pub by_direct_causes : (i j : ℕ) → IsInPast depends history j i ↔ LeadsThrough depends history i j
   by_direct_causes i j = (directly i j, λ found. linked_past j i found.0 (found.1).link found.2)

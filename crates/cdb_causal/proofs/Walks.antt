@@ -1,35 +1,58 @@
--- One step of a walk along a history: what a link is at two events, and what is caught from a position on.
-use Rattle.std.proofs.lemmas.Grind.{common_steps}
-use Rattle.std.proofs.lemmas.Option.{gets, same_Some, none-some}
-use Rattle.std.proofs.Common.{◌≡◌, ℕ, zero, suc, ◌-◌, ◌<◌, ◌≤◌, Bool, true, false, ◌⊎◌, ⊎_elim, List, [], ◌∷◌, Some, slice_get, sym, ap, ap₂, ◌∙◌, arith}
-use Rattle.cdb_causal.specs.FromZero.{IsLink, consequences, rolled_back}
-use Rattle.cdb_causal.specs.Rollback.{caught}
+-- Links and free events by what stands at positions.
+use Rattle.std.proofs.lemmas.Bool.{false_from_ne_true, cases_lt, cases_Bool}
+use Rattle.std.proofs.lemmas.Option.{same_Some, none-some}
+use Rattle.std.proofs.Common.{◌≡◌, ℕ, zero, suc, ◌+◌, ◌-◌, ◌<◌, ◌≤◌, Bool, true, false, ◌⊎◌, inl, inr, List, Option, Some, None, drop, refl, sym, ap, ap₂, ◌∙◌}
+use Rattle.std.proofs.Common.{true≢false, arith}
+use Rattle.std.specs.List.{AllByRecursion}
+use Rattle.cdb_base.specs.Positions.{nth}
+use Rattle.cdb_causal.specs.Causality.{IsLink, IsFree}
+use Rattle.cdb_causal.proofs.Lists.{nth_drop, all_nth, nth_all}
 
 module _ {E : Type 0} (depends : E → E → Bool) where
-  abbrev pub link_at : (history : List E) (i j : ℕ) (cause effect : E) → i < j → slice_get history i ≡ Some cause → slice_get history j ≡ Some effect → depends cause effect ≡ true → IsLink depends history i j
-  link_at history i j cause effect later at_cause at_effect linked =
-      record { cause = cause; effect = effect; later = later; at_cause = at_cause; at_effect = at_effect; linked = linked }
+  -- none of the events depends on the one
+  abbrev pub IsIndependent : E → List E → Type 0
+  IsIndependent event others = AllByRecursion (λ other. depends event other ≡ false) others
 
-  pub no_link_at : (history : List E) (i j : ℕ) (cause effect : E) → slice_get history i ≡ Some cause → slice_get history j ≡ Some effect → depends cause effect ≡ false → IsLink depends history i j → ⊥
-  no_link_at history i j cause effect h1 h2 h3 h4 = grind (arith, common_steps, gets)
+  module _ (history : List E) (i j : ℕ) (cause effect : E) (at_cause : nth history i ≡ Some cause) (at_effect : nth history j ≡ Some effect) where
+    abbrev pub link_at : i < j → depends cause effect ≡ true → IsLink depends history i j
+    link_at later linked =
+        record { cause = cause; effect = effect; later = later; at_cause = at_cause; at_effect = at_effect; linked = linked }
 
-  pub rolled_back_split : (history : List E) (i : ℕ) (event : E) → slice_get history i ≡ Some event → rolled_back depends history i ≡ event ∷ consequences depends history i
-  rolled_back_split [] i event at = absurd (none-some event at)
-  rolled_back_split (x ∷ xs) zero event at = ap (λ e. e ∷ caught depends (x ∷ []) xs) (same_Some x event at)
-  rolled_back_split (x ∷ xs) (suc i) event at = rolled_back_split xs i event at
+    -- what a link says of the events at its ends
+    pub linked_events : IsLink depends history i j → depends cause effect ≡ true
+    linked_events l =
+        sym (ap₂ depends (same_Some l.cause cause (sym l.at_cause ∙ at_cause)) (same_Some l.effect effect (sym l.at_effect ∙ at_effect))) ∙ l.linked
 
-pub above_suc : (k j : ℕ) → (k < j → ⊥) → j ≤ k
-above_suc k j h = grind (arith, h)
+  -- whether a position is linked to another can be looked up
+  pub linked_or_not : (history : List E) (i j : ℕ) → IsLink depends history i j ⊎ (IsLink depends history i j → ⊥)
+  linked_or_not history i j = look (nth history i) (nth history j) refl refl (cases_lt i j)
+    where
+      look : (a b : Option E) → nth history i ≡ a → nth history j ≡ b → (i < j) ⊎ (j ≤ i) → IsLink depends history i j ⊎ (IsLink depends history i j → ⊥)
+      look a b at_i at_j (inr before) = inr (λ l. let later = l.later in absurd (omega (arith, later, before)))
+      look None b at_i at_j (inl later) = inr (λ l. none-some l.cause (sym at_i ∙ l.at_cause))
+      look (Some cause) None at_i at_j (inl later) = inr (λ l. none-some l.effect (sym at_j ∙ l.at_effect))
+      look (Some cause) (Some effect) at_i at_j (inl later) =
+          elim (cases_Bool (depends cause effect)) [
+            | inl h ↦ inl (link_at history i j cause effect at_i at_j later h)
+            | inr h ↦ inr (λ l. true≢false (sym (linked_events history i j cause effect at_i at_j l) ∙ h))
+          ]
 
--- a position from a bound on, of which all above are ruled out, is the bound
-pub below_or_at : {P : Type 0} (k n : ℕ) → n - 1 ≤ k → 0 < n → (n ≤ k → P) → (k ≡ n - 1 → P) → P
-below_or_at {P} k n low some above same = ⊎_elim above same (two k n low some)
-  where
-    two : (k n : ℕ) → n - 1 ≤ k → 0 < n → (n ≤ k) ⊎ (k ≡ n - 1)
-    two k n low some = grind arith
+  -- an event is free exactly where none of those behind it depends on it
+  module _ (history : List E) (at : ℕ) (event : E) (stands : nth history at ≡ Some event) where
+    pub none_behind : IsFree depends history at → IsIndependent event (drop at history)
+    none_behind free = all_nth (λ other. depends event other ≡ false) (drop at history) independent
+      where
+        independent : (k : ℕ) (other : E) → nth (drop at history) k ≡ Some other → depends event other ≡ false
+        independent zero other there = absurd (none-some other there)
+        independent (suc k) other there =
+            false_from_ne_true (depends event other)
+            (λ linked. free (suc (at + k)) (link_at history at (suc (at + k)) event other stands (sym (nth_drop history at k) ∙ there) (omega arith) linked))
 
-module _ {E : Type 0} (depends : E → E → Bool) where
-  -- what a link says of the events at its ends
-  pub linked_events : (history : List E) (i j : ℕ) (cause effect : E) → slice_get history i ≡ Some cause → slice_get history j ≡ Some effect → IsLink depends history i j → depends cause effect ≡ true
-  linked_events history i j cause effect at_cause at_effect l =
-      sym (ap₂ depends (same_Some l.cause cause (sym l.at_cause ∙ at_cause)) (same_Some l.effect effect (sym l.at_effect ∙ at_effect))) ∙ l.linked
+    pub free_behind : IsIndependent event (drop at history) → IsFree depends history at
+    free_behind none j l =
+        let later = l.later in
+        let further : suc (at + (j - suc at)) ≡ j = omega (arith, later) in
+        let there = nth_drop history at (j - suc at) ∙ ap (nth history) further ∙ l.at_effect in
+        let independent = nth_all (λ other. depends event other ≡ false) (drop at history) none (suc (j - suc at)) l.effect there in
+        let cause = same_Some event l.cause (sym stands ∙ l.at_cause) in
+        true≢false (sym l.linked ∙ ap (λ x. depends x l.effect) (sym cause) ∙ independent)

@@ -12,7 +12,6 @@ pub mod Paths
 pub mod Reach
 pub mod Rollback
 pub mod Standing
--- what the code keeps for itself: tests by effect, positions from 0, and steps in another order
+-- what the code keeps for itself: tests by effect, and steps in another order
 pub mod Effects
-pub mod FromZero
 pub mod Exchanging

@@ -16,7 +16,7 @@ pub fn dependence_is_symmetric()
 {}
 
 /// A free event reaches the end of the list by exchanges of independent neighbours alone.
-#[tactic(auto, using(crate::proofs::LawsFromOne::free_to_end))]
+#[tactic(auto, using(crate::proofs::Exchanges::free_to_end))]
 pub fn free_to_end<E>()
     ensures { OfFree E (λ depends events at event.
         IsExchanged depends events (without events at ++ event ∷ [])) }
@@ -24,7 +24,7 @@ pub fn free_to_end<E>()
 
 /// An event reaches the end of the list with its consequences, in order, by exchanges of
 /// independent neighbours alone.
-#[tactic(auto, using(crate::proofs::LawsFromOne::rollback_to_end))]
+#[tactic(auto, using(crate::proofs::Exchanges::rollback_to_end))]
 pub fn rollback_to_end<E>()
     ensures { OfRollbacks E (λ depends history at left removed.
         IsExchanged depends history (left ++ removed)) }
@@ -32,7 +32,7 @@ pub fn rollback_to_end<E>()
 
 /// What is rolled back is the event with exactly its consequences, and what remains is all else,
 /// each in the order of the list. The event itself comes first.
-#[tactic(auto, using(crate::proofs::LawsFromOne::parted, crate::proofs::LawsFromOne::rolled_back_split))]
+#[tactic(auto, using(crate::proofs::Chains::parted, crate::proofs::Chains::rolled_back_split))]
 pub fn rolled_back_exactly<E>()
     ensures first { OfEvents E (λ depends history at event.
         rolled_back depends history at ≡ event ∷ consequences depends history at) }

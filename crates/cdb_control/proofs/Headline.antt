@@ -17,8 +17,10 @@ use Rattle.cdb_causal.specs.Dependence.{depends}
 use Rattle.cdb_causal.specs.Exchange.{IsExchanged}
 use Rattle.cdb_causal.specs.Names.{IsFirstDependent}
 use Rattle.cdb_causal.specs.Rollback.{IsParted, IsRolledBack, without, remaining, rolled_back}
-use Rattle.cdb_causal.proofs.Dependents.{get_push_back}
-use Rattle.cdb_causal.proofs.LawsFromOne.{free_to_end, parted, rollback_to_end}
+use Rattle.cdb_causal.proofs.Chains.{parted}
+use Rattle.cdb_causal.proofs.Dependents.{last_free, without_push_back}
+use Rattle.cdb_causal.proofs.Exchanges.{free_to_end, rollback_to_end}
+use Rattle.cdb_causal.proofs.Lists.{push_back}
 use Rattle.cdb_commands.specs.ToldReply.{ToldReply}
 use Rattle.cdb_commands.specs.ToldReply as reply
 use Rattle.cdb_control.specs.Auto.{choice}
@@ -36,7 +38,7 @@ use Rattle.cdb_commands.specs.declared.command.View.TheVariants as view
 use Rattle.cdb_control.specs.declared.control.Entry.{Entry}
 use Rattle.cdb_rules.specs.declared.event_ref.EventRef.TheVariants as named
 use Rattle.cdb_rules.proofs.Alls.{all-get_or, all-replicate, all-slice_get}
-use Rattle.cdb_control.proofs.FirstDependent.{free_or_needed_at}
+use Rattle.cdb_control.proofs.FirstDependent.{free_or_needed}
 use Rattle.cdb_control.proofs.Table.{obey-adds}
 use Rattle.cdb_message.specs.Mail.{message_name}
 use Rattle.cdb_rules.specs.Agreement.{AllAgree, AreProposed, HasMajorityIfNeeded}
@@ -46,7 +48,7 @@ use Rattle.cdb_rules.specs.Rules.{Rules}
 use Rattle.cdb_rules.specs.Undo.{undo_of, rollback_of, causes_of}
 use Rattle.cdb_rules.proofs.WhereOk.{undone_free, rolled_back_where_ok}
 use Rattle.cdb_rules.proofs.Finding.{stands_from_one}
-use Rattle.cdb_rules.proofs.Standing.{free_undone, last_taken_free, needed_refused, standing_rolled_back, without_last as without_taken}
+use Rattle.cdb_rules.proofs.Standing.{free_undone, needed_refused, standing_rolled_back}
 use Rattle.cdb_setup.specs.Parts.{Parts, IsWithin, AreInRange}
 
 -- ---- what one command does to a valid history
@@ -117,7 +119,7 @@ module _ (rules : Rules) (SameState : List Event → List Event → Type 0) (t :
       granted-keeps (rollback_of t.setup.processes t.history name) _
       (λ removed h.
       let u = rolled_back_where_ok t.setup.processes t.history name removed.0 removed.1 h in
-      let longer = keeps.exchanged t.history (remaining depends t.history u.0 ++ rolled_back depends t.history u.0) (rollback_to_end depends t.history u.0 (stands_from_one t.history u.0 u.1 u.3)) valid in
+      let longer = keeps.exchanged t.history (remaining depends t.history u.0 ++ rolled_back depends t.history u.0) (rollback_to_end depends t.history u.0) valid in
       record {
         valid_after = subst (λ (l : List Event). IsTrue (rules.valid l)) (sym u.5) (keeps.beginning (remaining depends t.history u.0) (rolled_back depends t.history u.0) longer);
         setup = refl;
@@ -245,19 +247,19 @@ module _ (rules : Rules) (SameState : List Event → List Event → Type 0) (t :
         }
       where
         either : IsFree depends t.history i ⊎ ((later : StepId) × IsFirstDependent t.history i later)
-        either = free_or_needed_at t.history i event at
+        either = free_or_needed t.history i
 
 -- what stands last is undone next
 pub undone_last : (rules : Rules) (SameState : List Event → List Event → Type 0) (before after : State) (event : Event) (seat : ℕ)
     → KeepHistories rules SameState after.setup → IsTrue (rules.valid after.history) → after.history ≡ before.history ++ event ∷ [] → IsUndoneNext rules before after event seat
 undone_last rules SameState before after event seat keeps valid is =
     let i = suc (length before.history) in
-    let at = ap (λ (h : List Event). nth h i) is ∙ get_push_back before.history event in
-    let free = subst (λ (h : List Event). IsFree depends h i) (sym is) (last_taken_free before.history event) in
+    let at = ap (λ (h : List Event). nth h i) is ∙ push_back before.history event in
+    let free = subst (λ (h : List Event). IsFree depends h i) (sym is) (last_free depends before.history event) in
     let told = told_free rules SameState after keeps valid seat i event at free in
     record {
       undone = ap (λ (o : Outcome). o.reply) told;
-      left = ap (λ (o : Outcome). o.after.history) told ∙ ap (λ (h : List Event). without h i) is ∙ without_taken before.history event;
+      left = ap (λ (o : Outcome). o.after.history) told ∙ ap (λ (h : List Event). without h i) is ∙ without_push_back before.history event;
     }
 
 -- ---- redos
@@ -266,7 +268,7 @@ last_pushed : (xs : List Event) (x : Event) → last_of (xs ++ x ∷ []) ≡ Som
 last_pushed xs x =
     let long = length-append xs (x ∷ []) in
     let position : length (xs ++ x ∷ []) - 1 ≡ length xs = omega (arith, long) in
-    ap (slice_get (xs ++ x ∷ [])) position ∙ get_push_back xs x
+    ap (slice_get (xs ++ x ∷ [])) position ∙ push_back xs x
 
 front_pushed : (xs : List Event) (x : Event) → without_last (xs ++ x ∷ []) ≡ xs
 front_pushed xs x =
@@ -357,7 +359,7 @@ module _ (rules : Rules) (SameState : List Event → List Event → Type 0) (t :
           gone = gone;
           told = ap (λ (o : Outcome). o.reply) out ∙ ap (λ (n : ℕ). reply.RolledBack n) (length-reverse gone);
           exactly = subst (λ (o : Outcome). IsParted (IsRolledBack depends t.history i) 1 t.history o.after.history gone) (sym out) (parted depends t.history i from_one);
-          back = redone_after gone left (obey rules t seat (rolling_back name)) (rollback_to_end depends t.history i from_one) (ap (λ (o : Outcome). o.after) out);
+          back = redone_after gone left (obey rules t seat (rolling_back name)) (rollback_to_end depends t.history i) (ap (λ (o : Outcome). o.after) out);
         }
 
   -- what is told are the decisions that the history shows

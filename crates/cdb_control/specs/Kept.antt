@@ -6,7 +6,7 @@ use Rattle.cdb_rules.specs.Refusals.{IsOfRun}
 use Rattle.cdb_control.specs.State.{State, redo_of}
 use Rattle.std.specs.Map.{remove_entry}
 use Rattle.cdb_commands.specs.declared.command.Stop.{Stop}
-use Rattle.cdb_control.specs.Stops.{Numbered, Stops}
+use Rattle.cdb_control.specs.Stops.{Numbered}
 use Rattle.cdb_control.specs.Room.{StoredState}
 use Rattle.cdb_base.specs.Limits.{MAX_ENTRIES, MAX_SEATS}
 use Rattle.cdb_control.specs.declared.control.Entry.{Entry}

@@ -1,5 +1,6 @@
 -- Two events that do not depend on each other may be taken in either order, with the same outcome.
 use Rattle.std.proofs.Common.{arith, ◌≡◌, ℕ, Bool, true, false, not, ◌&&◌, ◌||◌, length, Some, None, if◌then◌else◌, refl, sym, ap, ap₂, ◌∙◌, subst, true≢false}
+use Rattle.std.proofs.lemmas.Bool.{or_parts}
 use Rattle.std.proofs.lemmas.Grind.{common_steps}
 use Rattle.std.proofs.lemmas.Option.{gets}
 use Rattle.std.specs.FinSet as set
@@ -14,7 +15,7 @@ use Rattle.cdb_base.specs.declared.name.CopyName.{CopyName}
 use Rattle.cdb_causal.specs.Dependence.{depends}
 use Rattle.cdb_causal.specs.Reach.{IsCommuting}
 use Rattle.cdb_causal.proofs.Reaches.{commuting_from_diamond}
-use Rattle.cdb_causal.proofs.Symmetry.{depends-symmetric, other_process, unaffected, unaffecting, or-false_left, or-false_right}
+use Rattle.cdb_causal.proofs.Symmetry.{symmetric, other_process, unaffected, unaffecting}
 use Rattle.cdb_message.specs.Mail.{is_sent, is_received}
 use Rattle.cdb_message.specs.Names.{CopySet, copy_cmp}
 use Rattle.cdb_message.proofs.Sets.{copy_cmp_total, copy_cmp-IsAntisymmetric}
@@ -47,10 +48,8 @@ insert-insert lost a b =
 -- a set that lacks a copy after another one joined lacked it before, and the copy is another
 lacked : (lost : CopySet) (a b : CopyName) → set.contains (set.insert lost a) b ≡ false → (set.contains lost b ≡ false) × (a ≡ b → ⊥)
 lacked lost a b h =
-    let e = sym (set.contains-insert copy_cmp_total lost a b) ∙ h in (
-      or-false_right (eq_by_cmp copy_cmp b a) (set.contains lost b) e,
-      λ same. true≢false (sym ((Equal-is (copy_cmp b a)).1 (subst (λ x. copy_cmp x a ≡ Equal) same (tied_itself copy_cmp_total a))) ∙ or-false_left (eq_by_cmp copy_cmp b a) (set.contains lost b) e),
-    )
+    let both = or_parts (eq_by_cmp copy_cmp b a) (set.contains lost b) (sym (set.contains-insert copy_cmp_total lost a b) ∙ h) in
+    (both.1, λ same. true≢false (sym ((Equal-is (copy_cmp b a)).1 (subst (λ x. copy_cmp x a ≡ Equal) same (tied_itself copy_cmp_total a))) ∙ both.0))
 
 module _ {L : Type 0} (machine : Machine L) where
   pub after_taken : (state to : RunState L) (p k : ℕ) (kind : Kind) → IsTaken machine state p k kind to → after machine state (Step p k kind) ≡ Some to
@@ -72,7 +71,7 @@ module _ {L : Type 0} (machine : Machine L) where
     between = state_after machine state p k kind process next
 
     turned : depends (Step q l kind') (Step p k kind) ≡ false
-    turned = sym (depends-symmetric (Step p k kind) (Step q l kind')) ∙ independent
+    turned = sym (symmetric (Step p k kind) (Step q l kind')) ∙ independent
 
     before_second : IsTaken machine state p k kind (state_after machine state p k kind process next)
     before_second = record { process = process; next = next; at_process = at_process; accepts = accepts; leads_to = refl }
@@ -185,10 +184,10 @@ module _ {L : Type 0} (machine : Machine L) where
   diamond : (state between to : RunState L) (first second : Event) → depends first second ≡ false → after machine state first ≡ Some between → after machine between second ≡ Some to → Turns state to first second
   diamond state between to (Step p k kind) (Step q l kind') h one two = step_step state between to p k q l kind kind' h one two
   diamond state between to (Step p k kind) (Lost copy) h one two = step_loss state between to p k kind copy h one two
-  diamond state between to (Lost copy) (Step p k kind) h one two = loss_step state between to p k kind copy (depends-symmetric (Step p k kind) (Lost copy) ∙ h) one two
+  diamond state between to (Lost copy) (Step p k kind) h one two = loss_step state between to p k kind copy (symmetric (Step p k kind) (Lost copy) ∙ h) one two
   diamond state between to (Lost copy) (Lost copy') h one two = loss_loss state between to copy copy' one two
 
   -- Two events that do not depend on each other may be taken in either order, with the same outcome: both orders lead to
   -- the same state, or in neither order may both be taken.
   pub after_commutes : IsCommuting (after machine) depends
-  after_commutes = commuting_from_diamond (after machine) depends depends-symmetric diamond
+  after_commutes = commuting_from_diamond (after machine) depends symmetric diamond

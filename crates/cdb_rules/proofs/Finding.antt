@@ -108,19 +108,18 @@ number_of (named.Step step) = step.k
 number_of (named.Lost copy) = copy.msg.m
 
 module _ {L : Type 0} (machine : Machine L) (history : List Event) (valid : IsValid machine history) where
-  number_few : (name : StepId) (i : ℕ) (event : Event) → slice_get history i ≡ Some event → event_name event ≡ name → number_of name ≤ 9999
-  number_few name i (Step p k kind) at is =
-      let few = step_within machine history valid p k kind (in_position history i (Step p k kind) at) in
+  number_few : (name : StepId) (at : ℕ) (event : Event) → nth history at ≡ Some event → event_name event ≡ name → number_of name ≤ 9999
+  number_few name at (Step p k kind) stands is =
+      let few = step_within machine history valid p k kind (in_position history at (Step p k kind) stands) in
       let same = ap number_of is in
       omega (arith, few, same)
-  number_few name i (Lost copy) at is =
-      let few = loss_within machine history valid copy (in_position history i (Lost copy) at) in
+  number_few name at (Lost copy) stands is =
+      let few = loss_within machine history valid copy (in_position history at (Lost copy) stands) in
       let same = ap number_of is in
       omega (arith, few, same)
 
   pub too_great : (name : StepId) → 9999 < number_of name → IsNewName history name
-  too_great name great zero named_at = none-some named_at.0 named_at.1
-  too_great name great (suc i) named_at = let few = number_few name i named_at.0 named_at.1 named_at.2 in omega (arith, great, few)
+  too_great name great at named = let few = number_few name at named.0 named.1 named.2 in omega (arith, great, few)
 
 -- A process among n.
 

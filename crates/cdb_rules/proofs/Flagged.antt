@@ -9,7 +9,7 @@ use Rattle.cdb_base.specs.declared.name.StepId.{StepId}
 use Rattle.cdb_causal.specs.Dependence.{depends}
 use Rattle.cdb_causal.specs.Past.{HasLedTo, IsInPast, one_link, link_before}
 use Rattle.cdb_causal.specs.Names.{IsNamedAt}
-use Rattle.cdb_causal.proofs.FromOne.{by_next}
+use Rattle.cdb_causal.proofs.Lists.{by_next}
 use Rattle.cdb_standing.specs.LedTo.{IsPastOfName, IsUpTo}
 use Rattle.cdb_standing.proofs.Rows.{nth_back, nth_front, nth_push, nth_some, nth_within, same_at}
 use Rattle.cdb_rules.specs.Flags.{IsFlagged, FlagsPast}

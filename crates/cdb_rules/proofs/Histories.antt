@@ -1,31 +1,24 @@
 -- What follows for histories from that independent events commute.
-use Rattle.std.proofs.Common.{arith, ◌≡◌, ℕ, zero, suc, false, List, [], ◌∷◌, ◌++◌, append-nil, Some, option_and_then, IsSome, refl, ap, ap₂, subst, sym, ◌∙◌}
+use Rattle.std.proofs.Common.{arith, ◌≡◌, ℕ, List, [], ◌∷◌, ◌++◌, Some, option_and_then, IsSome, refl, ap, subst, sym, ◌∙◌}
 use Rattle.std.proofs.lemmas.Grind.{common_steps}
-use Rattle.std.proofs.lemmas.Option.{gets, none-some}
+use Rattle.std.proofs.lemmas.Option.{gets}
 use Rattle.cdb_base.specs.Positions.{nth}
 use Rattle.cdb_base.specs.declared.event.Event.{Event}
 use Rattle.cdb_causal.specs.Causality.{IsFree}
 use Rattle.cdb_causal.specs.Dependence.{depends}
 use Rattle.cdb_causal.specs.Exchange.{IsExchanged}
-use Rattle.cdb_causal.specs.Rollback.{without, caught, uncaught, remaining, rolled_back}
-use Rattle.cdb_causal.proofs.FromOne.{free_down, without_is, rolled_back_is, remaining_is}
-use Rattle.cdb_causal.proofs.Reaches.{reached_exchange, reached_exchanged, reached_free, reached_rollback, reached_front_some, reached_push}
+use Rattle.cdb_causal.specs.Rollback.{without, remaining, rolled_back}
+use Rattle.cdb_causal.proofs.Reaches.{reached_exchanged, reached_free, reached_rollback, reached_front_some, reached_push}
 use Rattle.cdb_rules.specs.State.{Machine, start}
 use Rattle.cdb_rules.specs.Step.{after, fold, IsEnabled, IsValid, state_of}
 use Rattle.cdb_rules.proofs.Commutes.{after_commutes}
 
 module _ {L : Type 0} (machine : Machine L) where
-  pub fold_exchange : (before rest : List Event) (first second : Event) → depends first second ≡ false → fold machine (before ++ first ∷ second ∷ rest) ≡ fold machine (before ++ second ∷ first ∷ rest)
-  fold_exchange before rest first second h = reached_exchange (after machine) depends (after_commutes machine) (start machine) before first second rest h
-
   pub fold_exchanged : (history other : List Event) → IsExchanged depends history other → fold machine history ≡ fold machine other
   fold_exchanged history other p = reached_exchanged (after machine) depends (after_commutes machine) (start machine) p
 
   pub fold_free : (history : List Event) (at : ℕ) (event : Event) → nth history at ≡ Some event → IsFree depends history at → fold machine (without history at ++ event ∷ []) ≡ fold machine history
-  fold_free history zero event stands free = absurd (none-some event stands)
-  fold_free history (suc i) event stands free =
-      ap (λ l. fold machine (l ++ event ∷ [])) (without_is history i)
-      ∙ reached_free (after machine) depends (after_commutes machine) (start machine) history i event stands (free_down depends history i free)
+  fold_free history at event stands free = reached_free (after machine) depends (after_commutes machine) (start machine) history at event stands free
 
   pub undo_valid : (history : List Event) (at : ℕ) (event : Event) → nth history at ≡ Some event → IsFree depends history at → IsValid machine history → IsValid machine (without history at)
   undo_valid history at event stands free valid =
@@ -47,20 +40,8 @@ module _ {L : Type 0} (machine : Machine L) where
   pub undo_enabled : (history : List Event) (at : ℕ) (event : Event) → nth history at ≡ Some event → IsFree depends history at → IsValid machine history → IsEnabled machine (state_of machine (without history at)) event
   undo_enabled history at event stands free valid = subst IsSome (sym (undo_again history at event stands free valid)) refl
 
-  -- nothing depends on an event of an empty list
-  none_caught : (events : List Event) → caught depends [] events ≡ []
-  none_caught [] = refl
-  none_caught (event ∷ events) = none_caught events
-
-  all_uncaught : (events : List Event) → uncaught depends [] events ≡ events
-  all_uncaught [] = refl
-  all_uncaught (event ∷ events) = ap (λ l. event ∷ l) (all_uncaught events)
-
   pub rollback_redo : (history : List Event) (at : ℕ) → fold machine (remaining depends history at ++ rolled_back depends history at) ≡ fold machine history
-  rollback_redo history zero = ap (fold machine) (ap₂ (λ l r. l ++ r) (all_uncaught history) (none_caught history) ∙ append-nil history)
-  rollback_redo history (suc i) =
-      ap (fold machine) (ap₂ (λ l r. l ++ r) (remaining_is depends history i) (rolled_back_is depends history i))
-      ∙ reached_rollback (after machine) depends (after_commutes machine) (start machine) history i
+  rollback_redo history at = reached_rollback (after machine) depends (after_commutes machine) (start machine) history at
 
   pub rollback_valid : (history : List Event) (at : ℕ) → IsValid machine history → IsValid machine (remaining depends history at)
   rollback_valid history at valid =

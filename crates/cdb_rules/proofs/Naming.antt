@@ -1,5 +1,5 @@
 -- In a valid history names name one event each, and losses stand where they may.
-use Rattle.std.proofs.Common.{◌≡◌, ℕ, zero, suc, ◌<◌, ◌≤◌, length, Bool, true, false, ◌⊎◌, inl, inr, ⊎_elim, List, [], ◌∷◌, Option, Some, None, slice_get, is_some, option_map, unwrap_or, refl, sym, ap, ◌∙◌, subst, true≢false, arith}
+use Rattle.std.proofs.Common.{◌≡◌, ℕ, zero, suc, ◌<◌, ◌≤◌, length, Bool, true, false, ◌⊎◌, inl, inr, ⊎_elim, List, [], ◌∷◌, Option, Some, None, is_some, option_map, unwrap_or, refl, sym, ap, ◌∙◌, subst, true≢false, arith}
 use Rattle.std.proofs.lemmas.List.{length-map}
 use Rattle.std.proofs.lemmas.Option.{same_Some, none-some}
 use Rattle.cdb_base.specs.Event.{event_name}
@@ -13,13 +13,12 @@ use Rattle.cdb_base.specs.declared.name.MsgName.{MsgName}
 use Rattle.cdb_base.specs.declared.name.StepId.{StepId}
 use Rattle.cdb_base.specs.declared.name.StepId.TheVariants as named
 use Rattle.cdb_base.specs.declared.payload.Payload.{Payload}
-use Rattle.cdb_causal.proofs.Symmetry.{depends-symmetric}
+use Rattle.cdb_causal.proofs.Symmetry.{symmetric}
 use Rattle.cdb_causal.specs.Causality.{IsFree}
 use Rattle.cdb_causal.specs.Dependence.{depends, sends, send_and_loss}
 use Rattle.cdb_causal.specs.Exchange.{IsIn, IsBefore, IsEachOnce, here, there}
 use Rattle.cdb_causal.specs.Names.{IsNamedAt}
 use Rattle.cdb_causal.specs.Standing.{IsStanding}
-use Rattle.cdb_causal.proofs.FromOne.{free_up, standing_up}
 use Rattle.cdb_message.specs.Mail.{is_sent, payload_of}
 use Rattle.cdb_rules.specs.Mail.{mail_of}
 use Rattle.cdb_rules.specs.State.{Machine, ProcessState, RunState, fresh_process, start}
@@ -32,17 +31,20 @@ use Rattle.cdb_rules.proofs.Positions.{nth-map, nth_within}
 use Rattle.cdb_rules.proofs.SameState.{once, sends_it, stand_apart, step_loss_not_both}
 use Rattle.cdb_rules.proofs.Taken.{taken_from, some_of}
 
-pub in_position : {E : Type 0} (events : List E) (j : ℕ) (event : E) → slice_get events j ≡ Some event → IsIn event events
-in_position [] j event at = absurd (none-some event at)
-in_position (x ∷ xs) zero event at = subst (λ y. IsIn event (y ∷ xs)) (sym (same_Some x event at)) here
-in_position (x ∷ xs) (suc j) event at = there (in_position xs j event at)
+pub in_position : {E : Type 0} (events : List E) (at : ℕ) (event : E) → nth events at ≡ Some event → IsIn event events
+in_position events zero event stands = absurd (none-some event stands)
+in_position [] (suc i) event stands = absurd (none-some event stands)
+in_position (x ∷ xs) (suc zero) event stands = subst (λ y. IsIn event (y ∷ xs)) (sym (same_Some x event stands)) here
+in_position (x ∷ xs) (suc (suc i)) event stands = there (in_position xs (suc i) event stands)
 
-before_positions : {E : Type 0} (events : List E) (i j : ℕ) (a b : E) → i < j → slice_get events i ≡ Some a → slice_get events j ≡ Some b → IsBefore a b events
-before_positions [] i j a b less at_i at_j = absurd (none-some a at_i)
-before_positions (x ∷ xs) zero zero a b less at_i at_j = absurd (omega (arith, less))
-before_positions (x ∷ xs) zero (suc j) a b less at_i at_j = subst (λ y. IsBefore a b (y ∷ xs)) (sym (same_Some x a at_i)) (here (in_position xs j b at_j))
-before_positions (x ∷ xs) (suc i) zero a b less at_i at_j = absurd (omega (arith, less))
-before_positions (x ∷ xs) (suc i) (suc j) a b less at_i at_j = there (before_positions xs i j a b (omega (arith, less)) at_i at_j)
+before_positions : {E : Type 0} (events : List E) (i j : ℕ) (a b : E) → i < j → nth events i ≡ Some a → nth events j ≡ Some b → IsBefore a b events
+before_positions events zero j a b less at_i at_j = absurd (none-some a at_i)
+before_positions [] (suc i) j a b less at_i at_j = absurd (none-some a at_i)
+before_positions (x ∷ xs) (suc i) zero a b less at_i at_j = absurd (none-some b at_j)
+before_positions (x ∷ xs) (suc i) (suc zero) a b less at_i at_j = absurd (omega (arith, less))
+before_positions (x ∷ xs) (suc zero) (suc (suc j)) a b less at_i at_j =
+    subst (λ y. IsBefore a b (y ∷ xs)) (sym (same_Some x a at_i)) (here (in_position xs (suc j) b at_j))
+before_positions (x ∷ xs) (suc (suc i)) (suc (suc j)) a b less at_i at_j = there (before_positions xs (suc i) (suc j) a b (omega (arith, less)) at_i at_j)
 
 three_cases : (i j : ℕ) → (i < j) ⊎ ((i ≡ j) ⊎ (j < i))
 three_cases i j = grind arith
@@ -116,13 +118,11 @@ module _ {L : Type 0} (machine : Machine L) where
     names_apart (Lost copy) (Lost other) before same = in_order (Lost copy) (Lost other) before (ap (copy_of copy) same)
 
     pub names_differ : (i j : ℕ) (name : StepId) → IsNamedAt history i name → IsNamedAt history j name → i ≡ j
-    names_differ zero j name a b = absurd (none-some a.0 a.1)
-    names_differ (suc i) zero name a b = absurd (none-some b.0 b.1)
-    names_differ (suc i) (suc j) name a b =
+    names_differ i j name a b =
         ⊎_elim
         (λ less. absurd (names_apart a.0 b.0 (before_positions history i j a.0 b.0 less a.1 b.1) (a.2 ∙ sym b.2)))
         (⊎_elim
-        (λ is. ap suc is)
+        (λ is. is)
         (λ more. absurd (names_apart b.0 a.0 (before_positions history j i b.0 a.0 more b.1 a.1) (b.2 ∙ sym a.2))))
         (three_cases i j)
 
@@ -137,12 +137,11 @@ module _ {L : Type 0} (machine : Machine L) where
     -- what every history keeps
     pub valid_standing : length machine.firsts ≤ 9 → IsStanding history
     valid_standing few =
-        standing_up history
-        (record {
-          names_differ = λ i j name a b. let same = names_differ (suc i) (suc j) name a b in omega (arith, same);
+        record {
+          names_differ = names_differ;
           processes = λ i p k kind at. let within = of_processes p k kind (in_position history i (Step p k kind) at) in (within.0, let last = within.1 in omega (arith, last, few));
           lost_after_sent = λ i j copy event less at_i at_j. not_sent_later copy event (before_positions history i j (Lost copy) event less at_i at_j);
-        })
+        }
 
     -- what is lost is not received, neither before the loss nor behind it
     pub lost_unreceived : (copy : CopyName) (k : ℕ) → IsIn (Lost copy) history → IsIn (Step copy.to k (Recv copy.msg.s copy.msg.m)) history → ⊥
@@ -159,15 +158,14 @@ module _ {L : Type 0} (machine : Machine L) where
 
     -- no event depends on a loss
     pub loss_free : (at : ℕ) (copy : CopyName) → nth history at ≡ Some (Lost copy) → IsFree depends history at
-    loss_free zero copy stands = absurd (none-some (Lost copy) stands)
-    loss_free (suc i) copy stands = free_up depends history i (λ j link.
+    loss_free at copy stands j link =
         let cause = same_Some link.cause (Lost copy) (sym link.at_cause ∙ stands) in
         unlinked link.effect (sym (ap (λ c. depends c link.effect) cause) ∙ link.linked)
-        (before_positions history i j (Lost copy) link.effect link.later stands link.at_effect))
+        (before_positions history at j (Lost copy) link.effect link.later stands link.at_effect)
       where
         unlinked : (effect : Event) → depends (Lost copy) effect ≡ true → IsBefore (Lost copy) effect history → ⊥
         unlinked (Step p k kind) linked before =
-            step_loss_not_both machine reaches.0 p k kind copy (depends-symmetric (Step p k kind) (Lost copy) ∙ linked) (in_order (Lost copy) (Step p k kind) before)
+            step_loss_not_both machine reaches.0 p k kind copy (symmetric (Step p k kind) (Lost copy) ∙ linked) (in_order (Lost copy) (Step p k kind) before)
         unlinked (Lost other) linked before = true≢false (sym linked)
 
   -- the send of a message that is sent behind a list, and was not before it, is in the list

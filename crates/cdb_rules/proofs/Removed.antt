@@ -1,7 +1,7 @@
 -- What undo and rollback take out of a history is missing from it.
 use Rattle.std.proofs.lemmas.Grind.{common_steps}
 use Rattle.std.proofs.lemmas.Option.{gets, none-some, same_Some}
-use Rattle.std.proofs.Common.{◌≡◌, ℕ, zero, suc, ◌+◌, ◌≤◌, Bool, true, false, cond, List, [], ◌∷◌, ◌++◌, length, Option, Some, None, Result, Ok, Err, reverse, slice_get, find, refl, sym, subst, arith}
+use Rattle.std.proofs.Common.{◌≡◌, ℕ, zero, suc, ◌+◌, ◌≤◌, Bool, true, false, cond, List, [], ◌∷◌, ◌++◌, length, Option, Some, None, Result, Ok, Err, reverse, find, refl, sym, subst, arith}
 use Rattle.std.specs.List.{AllByRecursion, position}
 use Rattle.std.proofs.lemmas.List.{length-reverse, reverse-append}
 use Rattle.cdb_base.specs.Positions.{nth}
@@ -9,10 +9,7 @@ use Rattle.cdb_base.specs.declared.event.Event.{Event}
 use Rattle.cdb_base.specs.declared.name.StepId.{StepId}
 use Rattle.cdb_base.specs.declared.refusal.Refusal.{Refusal}
 use Rattle.cdb_causal.specs.Dependence.{depends}
-use Rattle.cdb_causal.specs.FromZero.{without, rolled_back, remaining}
-use Rattle.cdb_causal.specs.Rollback as from_one
-use Rattle.cdb_causal.specs.Rollback.{depends_on_one, caught, uncaught}
-use Rattle.cdb_causal.proofs.FromOne.{without_is, rolled_back_is, remaining_is}
+use Rattle.cdb_causal.specs.Rollback.{without, rolled_back, remaining, depends_on_one, caught, uncaught}
 use Rattle.cdb_rules.proofs.Alls.{all-append}
 use Rattle.cdb_rules.specs.Undo.{Found, is_named, names_processes, found_at, event_named, undo_of, rollback_of, result_alone, number_removed}
 
@@ -56,16 +53,14 @@ module _ (P : Event → Type 0) where
     pub gone : AllByRecursion P history → AllByRecursion P events
     pub left : AllByRecursion P history → AllByRecursion P rest
 
-  without-parted : (history : List Event) (i : ℕ) (event : Event) → slice_get history i ≡ Some event → Parted history (event ∷ []) (without history i)
-  without-parted [] i event at = absurd (none-some event at)
-  without-parted (x ∷ xs) zero event at = record { count = omega arith; gone = λ all. (subst P (same_Some x event at) all.0, tt); left = λ all. all.1 }
-  without-parted (x ∷ xs) (suc i) event at =
-      let rest = without-parted xs i event at in
+  without-parted : (history : List Event) (at : ℕ) (event : Event) → nth history at ≡ Some event → Parted history (event ∷ []) (without history at)
+  without-parted history zero event stands = absurd (none-some event stands)
+  without-parted [] (suc i) event stands = absurd (none-some event stands)
+  without-parted (x ∷ xs) (suc zero) event stands =
+      record { count = omega arith; gone = λ all. (subst P (same_Some x event stands) all.0, tt); left = λ all. all.1 }
+  without-parted (x ∷ xs) (suc (suc i)) event stands =
+      let rest = without-parted xs (suc i) event stands in
       record { count = omega (arith, rest.count); gone = λ all. rest.gone all.1; left = λ all. (all.0, rest.left all.1) }
-
-  parted-at : (history : List Event) (at : ℕ) (event : Event) → nth history at ≡ Some event → Parted history (event ∷ []) (from_one.without history at)
-  parted-at history zero event stands = absurd (none-some event stands)
-  parted-at history (suc i) event stands = subst (Parted history (event ∷ [])) (sym (without_is history i)) (without-parted history i event stands)
 
   one-more : (b : Bool) (x : Event) (xs taken left_taken uncaught_ left_uncaught : List Event) → Parted xs taken left_taken → Parted xs uncaught_ left_uncaught → Parted (x ∷ xs) (cond b (x ∷ taken) uncaught_) (cond b left_taken (x ∷ left_uncaught))
   one-more true x xs taken left_taken uncaught_ left_uncaught h k =
@@ -78,10 +73,16 @@ module _ (P : Event → Type 0) where
   caught-parted causes (x ∷ xs) =
       one-more (depends_on_one depends causes x) x xs _ _ _ _ (caught-parted (causes ++ x ∷ []) xs) (caught-parted causes xs)
 
-  rolled-parted : (history : List Event) (i : ℕ) → Parted history (rolled_back depends history i) (remaining depends history i)
-  rolled-parted [] i = record { count = refl; gone = λ all. tt; left = λ all. tt }
-  rolled-parted (x ∷ xs) zero = let rest = caught-parted (x ∷ []) xs in record { count = omega (arith, rest.count); gone = λ all. (all.0, rest.gone all.1); left = λ all. rest.left all.1 }
-  rolled-parted (x ∷ xs) (suc i) = let rest = rolled-parted xs i in record { count = omega (arith, rest.count); gone = λ all. rest.gone all.1; left = λ all. (all.0, rest.left all.1) }
+  rolled-parted : (history : List Event) (at : ℕ) → Parted history (rolled_back depends history at) (remaining depends history at)
+  rolled-parted history zero = caught-parted [] history
+  rolled-parted [] (suc zero) = record { count = refl; gone = λ all. tt; left = λ all. tt }
+  rolled-parted [] (suc (suc i)) = record { count = refl; gone = λ all. tt; left = λ all. tt }
+  rolled-parted (x ∷ xs) (suc zero) =
+      let rest = caught-parted (x ∷ []) xs in
+      record { count = omega (arith, rest.count); gone = λ all. (all.0, rest.gone all.1); left = λ all. rest.left all.1 }
+  rolled-parted (x ∷ xs) (suc (suc i)) =
+      let rest = rolled-parted xs (suc i) in
+      record { count = omega (arith, rest.count); gone = λ all. rest.gone all.1; left = λ all. (all.0, rest.left all.1) }
 
   all-reverse : (events : List Event) → AllByRecursion P events → AllByRecursion P (reverse events)
   all-reverse [] all = tt
@@ -92,7 +93,7 @@ module _ (P : Event → Type 0) where
       result_cases (Parted history (undone.0 ∷ []) undone.1) (event_named n history name)
       (λ found is. option_cases (Parted history (undone.0 ∷ []) undone.1) (find (depends found.event) found.later)
       (λ none. let f : undo_of n history name ≡ Ok undone → Parted history (undone.0 ∷ []) undone.1 =
-      rw (is, none) (λ k. subst (λ (u : Event × List Event). Parted history (u.0 ∷ []) u.1) (ok_same _ undone k) (parted-at history found.position found.event (standing-at n history name found is)))
+      rw (is, none) (λ k. subst (λ (u : Event × List Event). Parted history (u.0 ∷ []) u.1) (ok_same _ undone k) (without-parted history found.position found.event (standing-at n history name found is)))
       in
       f h)
       (λ dependent some. let f : undo_of n history name ≡ Ok undone → Parted history (undone.0 ∷ []) undone.1 = rw (is, some) (λ k. absurd (cc)) in f h))
@@ -102,26 +103,20 @@ module _ (P : Event → Type 0) where
   rolled_back-parted n history name removed h =
       result_cases (Parted history removed.0 removed.1) (event_named n history name)
       (λ found is. let f : rollback_of n history name ≡ Ok removed → Parted history removed.0 removed.1 =
-      rw is (λ k. subst (λ (r : List Event × List Event). Parted history r.0 r.1) (ok_same _ removed k) (turned history found.position found.event (standing-at n history name found is))) in
+      rw is (λ k. subst (λ (r : List Event × List Event). Parted history r.0 r.1) (ok_same _ removed k) (turned found.position)) in
       f h)
       (λ why is. let f : rollback_of n history name ≡ Ok removed → Parted history removed.0 removed.1 = rw is (λ k. absurd (cc)) in f h)
     where
-      turned : (history : List Event) (at : ℕ) (event : Event) → nth history at ≡ Some event → Parted history (reverse (from_one.rolled_back depends history at)) (from_one.remaining depends history at)
-      turned history zero event stands = absurd (none-some event stands)
-      turned history (suc i) event stands =
-          let parted = rolled-parted history i in
-          subst (λ r. Parted history (reverse r) (from_one.remaining depends history (suc i))) (sym (rolled_back_is depends history i))
-          (subst (Parted history (reverse (rolled_back depends history i))) (sym (remaining_is depends history i))
-          (record {
-            count = omega (arith, parted.count, length-reverse (rolled_back depends history i));
-            gone = λ all. all-reverse (rolled_back depends history i) (parted.gone all);
+      turned : (at : ℕ) → Parted history (reverse (rolled_back depends history at)) (remaining depends history at)
+      turned at =
+          let parted = rolled-parted history at in
+          record {
+            count = omega (arith, parted.count, length-reverse (rolled_back depends history at));
+            gone = λ all. all-reverse (rolled_back depends history at) (parted.gone all);
             left = parted.left;
-          }))
+          }
 
 -- a rollback removes one event at least
-rolled-one : (history : List Event) (at : ℕ) (event : Event) → nth history at ≡ Some event → 1 ≤ length (from_one.rolled_back depends history at)
-rolled-one history at event h1 = grind (arith, common_steps, gets)
-
 pub removed-one : (n : ℕ) (history : List Event) (name : StepId) (removed : List Event × List Event) → rollback_of n history name ≡ Ok removed → 1 ≤ length removed.0
 removed-one n history name removed h1 = grind (arith, common_steps, gets)
 

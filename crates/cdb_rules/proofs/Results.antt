@@ -1,6 +1,5 @@
 -- What an undo is answered, by what is found.
-use Rattle.std.proofs.lemmas.Grind.{common_steps}
-use Rattle.std.proofs.lemmas.Option.{gets, none-some, same_Some}
+use Rattle.std.proofs.lemmas.Option.{none-some, same_Some}
 use Rattle.std.proofs.Common.{◌≡◌, ℕ, zero, suc, ◌+◌, ◌<◌, Bool, true, false, List, [], ◌∷◌, Some, None, Ok, Err, find, drop, ◌-◌, slice_get, refl, sym, ap, ap₂, ◌∙◌, arith, cond}
 use Rattle.std.specs.Option.{option_map_or}
 use Rattle.cdb_base.specs.Event.{event_name}
@@ -8,6 +7,7 @@ use Rattle.cdb_base.specs.Positions.{nth}
 use Rattle.cdb_base.specs.declared.event.Event.{Event}
 use Rattle.cdb_base.specs.declared.name.StepId.{StepId}
 use Rattle.cdb_base.specs.declared.refusal.Refusal.TheVariants as refusal
+use Rattle.cdb_causal.proofs.Lists.{nth_drop}
 use Rattle.cdb_causal.specs.Causality.{IsFree}
 use Rattle.cdb_causal.specs.Dependence.{depends}
 use Rattle.cdb_causal.specs.Names.{IsFirstDependent}
@@ -30,9 +30,6 @@ module _ {E : Type 0} (test : E → Bool) where
   find_none [] none = refl
   find_none (y ∷ ys) none = ap (λ b. cond b (Some y) (find test ys)) (none 0 y refl) ∙ find_none ys (λ k z at_k. none (suc k) z at_k)
 
-pub get-drop : {E : Type 0} (xs : List E) (i k n : ℕ) → n ≡ i + k → slice_get (drop i xs) k ≡ slice_get xs n
-get-drop xs i k n h1 = grind (arith, common_steps, gets)
-
 module _ (history : List Event) (at : ℕ) where
   module _ (event : Event) (stands : nth history at ≡ Some event) where
     pub found_is : found_at history at ≡ Ok (record { event = event; position = at; earlier = events_before history at; later = events_behind history at })
@@ -42,7 +39,7 @@ module _ (history : List Event) (at : ℕ) where
     none_needs free =
         find_none (depends event) (drop at history)
         (λ k later at_k. is_false (depends event later)
-        (λ linked. free (suc (at + k)) (record { cause = event; effect = later; later = omega arith; at_cause = stands; at_effect = sym (get-drop history at k (at + k) refl) ∙ at_k; linked = linked })))
+        (λ linked. free (suc (at + k)) (record { cause = event; effect = later; later = omega arith; at_cause = stands; at_effect = sym (nth_drop history at k) ∙ at_k; linked = linked })))
 
     -- a free event is taken back
     pub free_result : IsFree depends history at → for_standing (found_at history at) (undo_found history) ≡ Ok (event, without history at)
@@ -58,10 +55,10 @@ module _ (history : List Event) (at : ℕ) where
         let e : suc (at + k) ≡ position = omega (arith, later) in
         let same_cause = same_Some first.link.cause event (sym first.link.at_cause ∙ stands) in
         let same_effect = same_Some first.link.effect first.named.0 (sym first.link.at_effect ∙ first.named.1) in
-        find_first (depends event) (drop at history) k first.named.0 (get-drop history at k (at + k) refl ∙ ap (nth history) e ∙ first.named.1) (sym (ap₂ depends same_cause same_effect) ∙ first.link.linked)
+        find_first (depends event) (drop at history) k first.named.0 (nth_drop history at k ∙ ap (nth history) e ∙ first.named.1) (sym (ap₂ depends same_cause same_effect) ∙ first.link.linked)
         (λ l other less at_l. is_false (depends event other)
         (λ linked.
-        let before = first.first (suc (at + l)) (record { cause = event; effect = other; later = omega arith; at_cause = stands; at_effect = sym (get-drop history at l (at + l) refl) ∙ at_l; linked = linked }) in
+        let before = first.first (suc (at + l)) (record { cause = event; effect = other; later = omega arith; at_cause = stands; at_effect = sym (nth_drop history at l) ∙ at_l; linked = linked }) in
         omega (arith, before, less, e)))
 
     -- one that is needed is refused, with the first that needs it

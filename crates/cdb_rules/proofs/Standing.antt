@@ -16,9 +16,8 @@ use Rattle.cdb_causal.specs.Dependence.{depends}
 use Rattle.cdb_causal.specs.Exchange.{IsIn}
 use Rattle.cdb_causal.specs.Names.{IsNamedAt, IsNewName, IsFirstDependent}
 use Rattle.cdb_causal.specs.Rollback.{without, remaining, rolled_back}
-use Rattle.cdb_causal.proofs.Dependents.{get_push_back, last_free, without_push_back}
-use Rattle.cdb_causal.proofs.FromOne.{free_up, without_is}
-use Rattle.cdb_causal.proofs.Lists.{push_cases}
+use Rattle.cdb_causal.proofs.Dependents.{last_free, without_push_back}
+use Rattle.cdb_causal.proofs.Lists.{push_back, push_cases}
 use Rattle.cdb_message.specs.Mail.{is_sent, is_received, is_lost}
 use Rattle.cdb_rules.specs.Mail.{mail_of}
 use Rattle.cdb_rules.specs.State.{Machine, RunState, start}
@@ -77,20 +76,14 @@ last_only history event name new zero named = absurd (none-some named.0 named.1)
 last_only history event name new (suc i) named = ⊎_elim (λ old. absurd (new (suc i) (named.0, old.0, named.2))) (λ last. ap suc last.1) (push_cases history event named.0 i named.1)
 
 -- and it can be undone, which leaves what stood before it
-pub last_taken_free : (history : List Event) (event : Event) → IsFree depends (history ++ event ∷ []) (suc (length history))
-last_taken_free history event = free_up depends (history ++ event ∷ []) (length history) (last_free depends history event)
-
-pub without_last : (history : List Event) (event : Event) → without (history ++ event ∷ []) (suc (length history)) ≡ history
-without_last history event = without_is (history ++ event ∷ []) (length history) ∙ without_push_back history event
-
 module _ (n : ℕ) (history : List Event) (event : Event) (there : names_processes n (event_name event) ≡ true) (new : IsNewName history (event_name event)) where
   last_named : IsEventNamed n (history ++ event ∷ []) (event_name event) (suc (length history)) event
-  last_named = named_alone n (history ++ event ∷ []) (suc (length history)) event there (get_push_back history event) (last_only history event (event_name event) new)
+  last_named = named_alone n (history ++ event ∷ []) (suc (length history)) event there (push_back history event) (last_only history event (event_name event) new)
 
   pub last_undone : undo_of n (history ++ event ∷ []) (event_name event) ≡ Ok (event, history)
   last_undone =
-      free_undone n (history ++ event ∷ []) (event_name event) (suc (length history)) event last_named (last_taken_free history event)
-      ∙ ap (λ left. Ok (event, left)) (without_last history event)
+      free_undone n (history ++ event ∷ []) (event_name event) (suc (length history)) event last_named (last_free depends history event)
+      ∙ ap (λ left. Ok (event, left)) (without_push_back history event)
 
 -- In a valid history each event is the one of its name.
 
@@ -129,7 +122,6 @@ module _ {L : Type 0} (machine : Machine L) where
         (lost_to history (start machine) to.0 to.1 copy i)
 
     pub valid_named : (at : ℕ) (event : Event) → nth history at ≡ Some event → IsEventNamed count history (event_name event) at event
-    valid_named zero event stands = absurd (none-some event stands)
-    valid_named (suc i) event stands =
-        named_alone count history (suc i) event (its_processes event (in_position history i event stands)) stands
-        (λ other named. names_differ machine history valid other (suc i) (event_name event) named (event, stands, refl))
+    valid_named at event stands =
+        named_alone count history at event (its_processes event (in_position history at event stands)) stands
+        (λ other named. names_differ machine history valid other at (event_name event) named (event, stands, refl))

@@ -9,8 +9,9 @@ use Rattle.cdb_causal.specs.Dependence.{depends}
 use Rattle.cdb_causal.specs.Laws.{IsRollback}
 use Rattle.cdb_causal.specs.Names.{IsNamedAt}
 use Rattle.cdb_causal.specs.Rollback.{rolled_back, remaining}
-use Rattle.cdb_causal.proofs.Dependents.{get_push_back}
-use Rattle.cdb_causal.proofs.LawsFromOne.{parted}
+use Rattle.cdb_causal.proofs.Chains.{parted}
+use Rattle.cdb_causal.proofs.Dependents.{last_free, without_push_back}
+use Rattle.cdb_causal.proofs.Lists.{push_back}
 use Rattle.cdb_causal.proofs.Reaches.{reached_push}
 use Rattle.cdb_rules.specs.RunView.{RunView}
 use Rattle.cdb_rules.specs.Runs.{IsExactRollback, rollback_in, after_rollback}
@@ -20,7 +21,7 @@ use Rattle.cdb_rules.specs.Undo.{IsEventNamed, IsFreeName, undo_of, rollback_of,
 use Rattle.cdb_rules.proofs.WhereOk.{undone_free, undone_back, rolled_back_where_ok, rolled_back_back}
 use Rattle.cdb_rules.proofs.Finding.{has_name_is, stands_from_one}
 use Rattle.cdb_rules.proofs.Histories.{reached_state}
-use Rattle.cdb_rules.proofs.Standing.{free_undone, last_taken_free, valid_named, without_last}
+use Rattle.cdb_rules.proofs.Standing.{free_undone, valid_named}
 
 module _ {L : Type 0} (machine : Machine L) (n : ℕ) (number : length machine.firsts ≡ n) (history : List Event) (valid : IsValid machine history) where
   module _ (name : StepId) where
@@ -91,9 +92,9 @@ module _ {L : Type 0} (machine : Machine L) (n : ℕ) (number : length machine.f
       let longer = history ++ event ∷ [] in
       let last = suc (length history) in
       let is = subst (λ (m : ℕ). IsEventNamed m longer (event_name event) last event) number
-      (valid_named machine longer (valid_push event enabled) last event (get_push_back history event)) in
-      free_undone n longer (event_name event) last event is (last_taken_free history event)
-      ∙ ap (λ (left : List Event). let r : Result (Event × List Event) Refusal = Ok (event, left) in r) (without_last history event)
+      (valid_named machine longer (valid_push event enabled) last event (push_back history event)) in
+      free_undone n longer (event_name event) last event is (last_free depends history event)
+      ∙ ap (λ (left : List Event). let r : Result (Event × List Event) Refusal = Ok (event, left) in r) (without_push_back history event)
 
 -- a rollback that is granted takes back the event of the name with exactly its consequences
 pub exact_rollback : (run : RunView) (name : StepId) → IsExactRollback run name (after_rollback run name)

@@ -17,7 +17,7 @@ use Rattle.cdb_causal.specs.Rollback.{events_before, events_behind, without, rem
 use Rattle.cdb_rules.specs.Undo.{Found, position_of, found_at, event_named, for_standing, undo_found, undo_of, rollback_of, names_processes, is_named}
 use Rattle.cdb_rules.specs.State.{Machine}
 use Rattle.cdb_rules.specs.Step.{IsValid, after, fold, state_of}
-use Rattle.cdb_rules.proofs.Results.{get-drop}
+use Rattle.cdb_causal.proofs.Lists.{nth_drop}
 use Rattle.cdb_rules.proofs.Histories.{undo_valid, undo_again, rollback_valid, rollback_redo}
 
 -- where none is found, the test holds of none
@@ -73,7 +73,7 @@ module _ (history : List Event) (at : ℕ) (event : Event) (stands : nth history
       let k = j - suc at in
       let e : suc (at + k) ≡ j = omega (arith, later) in
       let same = same_Some l.cause event (sym l.at_cause ∙ stands) in
-      true≢false (sym l.linked ∙ ap (λ c. depends c l.effect) same ∙ all_fail (depends event) (drop at history) none k l.effect (get-drop history at k (at + k) refl ∙ ap (nth history) e ∙ l.at_effect))
+      true≢false (sym l.linked ∙ ap (λ c. depends c l.effect) same ∙ all_fail (depends event) (drop at history) none k l.effect (nth_drop history at k ∙ ap (nth history) e ∙ l.at_effect))
 
   by_find : (done : Event × List Event) (o : Option Event) → find (depends event) (drop at history) ≡ o
       → ◌≡◌ {A = Result (Event × List Event) Refusal} (option_map_or (λ dependent. Err (refusal.NeededBy (event_name dependent))) o (Ok (event, without history at))) (Ok done)

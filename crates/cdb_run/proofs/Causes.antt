@@ -1,7 +1,9 @@
 -- The direct causes of an event, sought by process, are those that are looked for in the history.
-use Rattle.std.proofs.Common.{◌≡◌, ℕ, zero, suc, ◌<◌, ◌≤◌, true, false, not, ◌&&◌, ◌||◌, ◌==◌, ⊎_elim, List, [], ◌∷◌, ◌++◌, Some, length, take, drop, map, filter, cond, nat_eq, slice_get, if◌then◌else◌, refl, sym, ap, ap₂, ◌∙◌, subst, true≢false, arith}
+use Rattle.std.proofs.Common.{◌≡◌, ℕ, zero, suc, ◌+◌, ◌<◌, ◌≤◌, true, false, not, ◌&&◌, ◌||◌, ◌==◌, inl, inr, ⊎_elim, List, [], ◌∷◌, ◌++◌, Some, length, take}
+use Rattle.std.proofs.Common.{drop, map, filter, cond, nat_eq, slice_get, if◌then◌else◌, refl, sym, ap, ap₂, ◌∙◌, subst, true≢false, arith}
+use Rattle.std.proofs.lemmas.Bool.{cases_Bool}
 use Rattle.std.proofs.lemmas.Bool.Decides.{nat_tests}
-use Rattle.std.proofs.lemmas.Option.{none-some, same_Some, slice_get_within}
+use Rattle.std.proofs.lemmas.Option.{none-some, same_Some}
 use Rattle.std.specs.List.{list_any, flat_map}
 use Rattle.cdb_base.specs.Event.{event_name, is_step_of}
 use Rattle.cdb_base.specs.Positions.{nth}
@@ -13,19 +15,19 @@ use Rattle.cdb_base.specs.declared.name.StepId.TheVariants as named
 use Rattle.cdb_causal.specs.Dependence.{depends}
 use Rattle.cdb_causal.specs.Effects.{affects}
 use Rattle.cdb_causal.proofs.Effects.{by_effect}
-use Rattle.cdb_causal.specs.DirectCauses.{ComesBefore}
+use Rattle.cdb_causal.specs.DirectCauses.{AreDirectCauses, NamesDirectCause, ComesBefore}
 use Rattle.cdb_causal.specs.DirectDependents.{is_direct}
 use Rattle.cdb_causal.specs.Exchange.{IsIn, here, there}
-use Rattle.cdb_causal.specs.FromZero.{IsLink, IsDirectCause, AreDirectCauses, NamesDirectCause}
-use Rattle.cdb_causal.specs.DirectCauses as from_one
+use Rattle.cdb_causal.specs.Causality.{IsLink, IsDirectCause}
 use Rattle.cdb_causal.specs.Rollback.{events_before}
-use Rattle.cdb_causal.proofs.DirectByList.{direct_between}
-use Rattle.cdb_causal.proofs.FromOne.{link_up, direct_causes_down}
+use Rattle.cdb_causal.proofs.DirectByList.{direct_by_list}
+use Rattle.cdb_causal.proofs.Lists.{nth_within}
 use Rattle.cdb_rules.specs.State.{Machine}
 use Rattle.cdb_rules.specs.Step.{IsValid}
 use Rattle.cdb_rules.specs.Undo.{direct_among}
 use Rattle.cdb_rules.proofs.Kept.{is_false}
-use Rattle.cdb_rules.proofs.ListMembers.{nothing_in, position_in, in_filter, from_filter, filter_none, any_none, get-take, get_up_to, length_up_to, in_map, from_map, in_flat, from_flat}
+use Rattle.cdb_rules.proofs.ListMembers.{nothing_in, position_in, in_filter, from_filter, filter_none, any_none, get-take, get_up_to, length_up_to, in_map}
+use Rattle.cdb_rules.proofs.ListMembers.{from_map, in_flat, from_flat}
 use Rattle.cdb_rules.proofs.Mails.{not_true}
 use Rattle.cdb_rules.proofs.Naming.{in_cases, in_position, of_processes, loss_free}
 use Rattle.cdb_rules.proofs.Taken.{both}
@@ -58,7 +60,8 @@ same_names (x ∷ xs) (y ∷ ys) a b to from =
         (λ later. ⊎_elim (λ e. sym e) (λ behind. absurd (not_both x y (a.0 y behind) (b.0 x later))) (in_cases y x xs (from y here)))
         (in_cases x y ys (to x here))
 
-rising_names : (names : List StepId) → ((k l : ℕ) (name other : StepId) → k < l → slice_get names k ≡ Some name → slice_get names l ≡ Some other → ComesBefore name other) → IsRising names
+rising_names : (names : List StepId)
+    → ((k l : ℕ) (name other : StepId) → k < l → slice_get names k ≡ Some name → slice_get names l ≡ Some other → ComesBefore name other) → IsRising names
 rising_names [] order = tt
 rising_names (x ∷ xs) order = (
   λ y i. let at = position_in y xs i in order 0 (suc at.0) x y (omega arith) refl at.1,
@@ -74,38 +77,43 @@ IsShort (x ∷ y ∷ ys) = ⊥
 -- The direct causes among the events before an event: of each process there is at most one.
 
 module _ (effect : Event) where
-  direct_in : (earlier : List Event) (i : ℕ) (cause : Event) → slice_get earlier i ≡ Some cause → is_direct depends cause (drop (suc i) earlier) effect ≡ true → IsIn cause (direct_among earlier effect)
-  direct_in [] i cause at direct = absurd (none-some cause at)
-  direct_in (x ∷ xs) zero cause at direct =
-      let same = same_Some x cause at in
+  direct_in : (earlier : List Event) (at : ℕ) (cause : Event) → nth earlier at ≡ Some cause → is_direct depends cause (drop at earlier) effect ≡ true
+      → IsIn cause (direct_among earlier effect)
+  direct_in earlier zero cause stands direct = absurd (none-some cause stands)
+  direct_in [] (suc i) cause stands direct = absurd (none-some cause stands)
+  direct_in (x ∷ xs) (suc zero) cause stands direct =
+      let same = same_Some x cause stands in
       subst (λ b. IsIn cause (if b then x ∷ direct_among xs effect else direct_among xs effect)) (sym (ap (λ y. is_direct depends y xs effect) same ∙ direct))
       (subst (λ y. IsIn cause (y ∷ direct_among xs effect)) (sym same) here)
-  direct_in (x ∷ xs) (suc i) cause at direct =
-      let rest = direct_in xs i cause at direct in
+  direct_in (x ∷ xs) (suc (suc i)) cause stands direct =
+      let rest = direct_in xs (suc i) cause stands direct in
       elim (is_direct depends x xs effect) as (λ b. IsIn cause (if b then x ∷ direct_among xs effect else direct_among xs effect)) [ true ↦ there rest | false ↦ rest ]
 
-  in_direct : (earlier : List Event) (cause : Event) → IsIn cause (direct_among earlier effect) → (i : ℕ) × (slice_get earlier i ≡ Some cause) × (is_direct depends cause (drop (suc i) earlier) effect ≡ true)
+  in_direct : (earlier : List Event) (cause : Event) → IsIn cause (direct_among earlier effect)
+      → (i : ℕ) × (nth earlier (suc i) ≡ Some cause) × (is_direct depends cause (drop (suc i) earlier) effect ≡ true)
   in_direct [] cause i = absurd (nothing_in cause i)
   in_direct (x ∷ xs) cause i =
-      elim (is_direct depends x xs effect) as (λ b. is_direct depends x xs effect ≡ b → IsIn cause (if b then x ∷ direct_among xs effect else direct_among xs effect) → (k : ℕ) × (slice_get (x ∷ xs) k ≡ Some cause) × (is_direct depends cause (drop (suc k) (x ∷ xs)) effect ≡ true)) [
-        | true ↦ λ e j.
+      elim (cases_Bool (is_direct depends x xs effect)) [
+        | inl e ↦
             ⊎_elim
             (λ same. (0, ap Some (sym same), ap (λ y. is_direct depends y xs effect) same ∙ e))
             (λ later. let rest = in_direct xs cause later in (suc rest.0, rest.1, rest.2))
-            (in_cases cause x (direct_among xs effect) j)
-        | false ↦ λ e j. let rest = in_direct xs cause j in (suc rest.0, rest.1, rest.2)
-      ] refl i
+            (in_cases cause x (direct_among xs effect) (rw e at i))
+        | inr e ↦ let rest = in_direct xs cause (rw e at i) in (suc rest.0, rest.1, rest.2)
+      ]
 
   same_process_depends : (p : ℕ) (one other : Event) → is_step_of p one ≡ true → is_step_of p other ≡ true → depends one other ≡ true
   same_process_depends p (Step q k kind) (Step r l other) one two =
-      by_effect (Step q k kind) (Step r l other) ∙ ap (λ b. b || (affects (Step q k kind) (Step r l other) || affects (Step r l other) (Step q k kind))) (same q r one two)
+      by_effect (Step q k kind) (Step r l other)
+      ∙ ap (λ b. b || (affects (Step q k kind) (Step r l other) || affects (Step r l other) (Step q k kind))) (same q r one two)
     where
       same : (q r : ℕ) → (q == p) ≡ true → (r == p) ≡ true → nat_eq q r ≡ true
       same q r one two = grind (arith, nat_tests)
   same_process_depends p (Step q k kind) (Lost copy) one two = absurd (true≢false (sym two))
   same_process_depends p (Lost copy) other one two = absurd (true≢false (sym one))
 
-  no_other : (p : ℕ) (cause : Event) (between : List Event) → is_step_of p cause ≡ true → is_direct depends cause between effect ≡ true → filter (is_step_of p) (direct_among between effect) ≡ []
+  no_other : (p : ℕ) (cause : Event) (between : List Event) → is_step_of p cause ≡ true → is_direct depends cause between effect ≡ true
+      → filter (is_step_of p) (direct_among between effect) ≡ []
   no_other p cause between of_p direct =
       filter_none (is_step_of p) (direct_among between effect)
       (λ other i.
@@ -115,7 +123,7 @@ module _ (effect : Event) where
       is_false (is_step_of p other)
       (λ of_p_too. true≢false
       (sym (ap₂ (λ a b. a && b) (same_process_depends p cause other of_p of_p_too) linked)
-      ∙ any_none (λ x. depends cause x && depends x effect) between none other (in_position between d.0 other d.1))))
+      ∙ any_none (λ x. depends cause x && depends x effect) between none other (in_position between (suc d.0) other d.1))))
 
   one_of_process : (p : ℕ) (earlier : List Event) → IsShort (filter (is_step_of p) (direct_among earlier effect))
   one_of_process p [] = tt
@@ -156,7 +164,8 @@ module _ (events : List Event) where
   abbrev row : List ℕ → List StepId
   row ps = map event_name (flat_map of_process ps)
 
-  in_row : (ps : List ℕ) (name : StepId) → IsIn name (row ps) → (p : ℕ) × (event : Event) × IsIn p ps × IsIn event events × (is_step_of p event ≡ true) × (event_name event ≡ name)
+  in_row : (ps : List ℕ) (name : StepId) → IsIn name (row ps)
+      → (p : ℕ) × (event : Event) × IsIn p ps × IsIn event events × (is_step_of p event ≡ true) × (event_name event ≡ name)
   in_row ps name i =
       let m = from_map event_name name (flat_map of_process ps) i in
       let f = from_flat of_process ps m.0 m.1 in
@@ -202,7 +211,7 @@ is_process (suc (suc (suc (suc (suc (suc (suc (suc (suc (suc p)))))))))) first l
 
 -- Direct causes in a list and in its front.
 
-module _ (one other : List Event) (j : ℕ) (agree : (k : ℕ) → k ≤ j → slice_get one k ≡ slice_get other k) where
+module _ (one other : List Event) (j : ℕ) (agree : (k : ℕ) → k ≤ j → nth one k ≡ nth other k) where
   link_along : (i k : ℕ) → k ≤ j → IsLink depends one i k → IsLink depends other i k
   link_along i k last l =
       let later = l.later in
@@ -215,7 +224,8 @@ module _ (one other : List Event) (j : ℕ) (agree : (k : ℕ) → k ≤ j → s
         linked = l.linked;
       }
 
-direct_along : (one other : List Event) (j : ℕ) → ((k : ℕ) → k ≤ j → slice_get one k ≡ slice_get other k) → (i : ℕ) → IsDirectCause depends one i j → IsDirectCause depends other i j
+direct_along : (one other : List Event) (j : ℕ) → ((k : ℕ) → k ≤ j → nth one k ≡ nth other k) → (i : ℕ) → IsDirectCause depends one i j
+    → IsDirectCause depends other i j
 direct_along one other j agree i d =
     record {
       link = link_along one other j agree i j (omega arith) d.link;
@@ -237,49 +247,62 @@ module _ {L : Type 0} (machine : Machine L) (history : List Event) (valid : IsVa
       itself : (p : ℕ) → (p == p) ≡ true
       itself p = grind (arith, nat_tests)
   process_of_cause i j l (Lost copy) is =
-      absurd (loss_free machine history valid (suc i) copy (l.at_cause ∙ ap Some is) (suc j) (link_up depends history i j l))
+      absurd (loss_free machine history valid i copy (l.at_cause ∙ ap Some is) j l)
 
-  module _ (j : ℕ) (event : Event) (at : slice_get history j ≡ Some event) where
+  module _ (j : ℕ) (event : Event) (at : nth history (suc j) ≡ Some event) where
     abbrev earlier : List Event
     earlier = take j history
+
+    abbrev longer : List Event
+    longer = earlier ++ event ∷ []
 
     abbrev causes : List Event
     causes = direct_among earlier event
 
-    up_to : (k : ℕ) → k ≤ j → slice_get (earlier ++ event ∷ []) k ≡ slice_get history k
-    up_to = get_up_to history j event at
+    in_earlier : (k : ℕ) → k ≤ j → nth earlier k ≡ nth history k
+    in_earlier zero low = refl
+    in_earlier (suc k) low = get-take history j k low
 
-    cause_in : (name : StepId) → NamesDirectCause history j name → IsIn name (row causes all_processes)
+    up_to : (k : ℕ) → k ≤ suc j → nth longer k ≡ nth history k
+    up_to zero low = refl
+    up_to (suc k) low = get_up_to history j event at k (omega (arith, low))
+
+    number : length earlier ≡ j
+    number = length_up_to history j event at
+
+    last_is : length earlier + 1 ≡ suc j
+    last_is = omega (arith, number)
+
+    cause_in : (name : StepId) → NamesDirectCause history (suc j) name → IsIn name (row causes all_processes)
     cause_in name n =
         let link = n.1.link in
         let later = link.later in
         let cause = link.cause in
-        let at_cause : slice_get earlier n.0 ≡ Some cause = get-take history j n.0 later ∙ link.at_cause in
-        let longer = subst (IsDirectCause depends (earlier ++ event ∷ []) n.0) (sym (length_up_to history j event at))
-        (direct_along history (earlier ++ event ∷ []) j (λ k last. sym (up_to k last)) n.0 n.1) in
-        let direct = (direct_between depends earlier event n.0 cause at_cause).0 longer in
-        let process = process_of_cause n.0 j link cause refl in
+        let at_cause : nth earlier n.0 ≡ Some cause = in_earlier n.0 (omega (arith, later)) ∙ link.at_cause in
+        let last = direct_along history longer (suc j) (λ k low. sym (up_to k low)) n.0 n.1 in
+        let direct = (direct_by_list depends earlier n.0 cause at_cause event).0 (subst (IsDirectCause depends longer n.0) (sym last_is) last) in
+        let process = process_of_cause n.0 (suc j) link cause refl in
         let is_named = ap event_name (same_Some cause n.2.0 (sym link.at_cause ∙ n.2.1)) ∙ n.2.2 in
         subst (λ z. IsIn z (row causes all_processes)) is_named
         (row_in causes all_processes process.0 cause process.1 (direct_in event earlier n.0 cause at_cause direct) process.2)
 
-    in_cause : (name : StepId) → IsIn name (row causes all_processes) → NamesDirectCause history j name
+    in_cause : (name : StepId) → IsIn name (row causes all_processes) → NamesDirectCause history (suc j) name
     in_cause name i =
         let r = in_row causes all_processes name i in
         let d = in_direct event earlier r.1 r.3 in
-        let longer = (direct_between depends earlier event d.0 r.1 d.1).1 d.2 in
-        let below : d.0 < j = (let within = slice_get_within earlier d.0 r.1 d.1 in let number = length_up_to history j event at in omega (arith, within, number)) in
-        let direct = direct_along (earlier ++ event ∷ []) history j up_to d.0 (subst (IsDirectCause depends (earlier ++ event ∷ []) d.0) (length_up_to history j event at) longer) in
-        (d.0, direct, (r.1, sym (get-take history j d.0 below) ∙ d.1, r.5))
+        let last = (direct_by_list depends earlier (suc d.0) r.1 d.1 event).1 d.2 in
+        let below : suc d.0 ≤ j = (let within = nth_within earlier (suc d.0) r.1 d.1 in omega (arith, within, number)) in
+        let direct = direct_along longer history (suc j) up_to (suc d.0) (subst (IsDirectCause depends longer (suc d.0)) last_is last) in
+        (suc d.0, direct, (r.1, sym (in_earlier (suc d.0) below) ∙ d.1, r.5))
 
-    pub causes_are : (names : List StepId) → AreDirectCauses history j names → names ≡ row causes all_processes
+    causes_are : (names : List StepId) → AreDirectCauses history (suc j) names → names ≡ row causes all_processes
     causes_are names are =
         same_names names (row causes all_processes) (rising_names names are.in_order)
         (row_rises causes (λ p. one_of_process event p earlier) 0 all_processes processes_rise)
         (λ name i. let k = position_in name names i in cause_in name (are.only k.0 name k.1))
-        (λ name i. let k = are.each name (in_cause name i) in in_position names k.0 name k.1)
+        (λ name i. let k = are.each name (in_cause name i) in in_position names (suc k.0) name k.1)
 
-  -- the same by a position from 1
-  pub causes_at : (at : ℕ) (event : Event) → nth history at ≡ Some event → (names : List StepId) → from_one.AreDirectCauses history at names → names ≡ row (direct_among (events_before history at) event) all_processes
+  pub causes_at : (at : ℕ) (event : Event) → nth history at ≡ Some event → (names : List StepId) → AreDirectCauses history at names
+      → names ≡ row (direct_among (events_before history at) event) all_processes
   causes_at zero event stands names are = absurd (none-some event stands)
-  causes_at (suc i) event stands names are = causes_are i event stands names (direct_causes_down history i names are)
+  causes_at (suc i) event stands names are = causes_are i event stands names are

@@ -1,7 +1,7 @@
 -- An enabled event may come: a step is the next of its process, what it sends is the next message, and a copy that is received or
 -- lost is pending.
-use Rattle.std.proofs.Common.{◌≡◌, ℕ, zero, suc, ◌+◌, ◌-◌, ◌≤◌, true, false, ◌⊎◌, inl, inr, ⊎_elim, List, [], ◌∷◌, Option, None, Some, IsSome, nat_eq, refl, sym, ap, ◌∙◌, subst, true≢false, le_trans, arith}
-use Rattle.std.proofs.lemmas.Option.{none-some, same_Some}
+use Rattle.std.proofs.Common.{◌≡◌, ℕ, suc, ◌+◌, ◌-◌, ◌≤◌, true, false, ◌⊎◌, inl, inr, ⊎_elim, List, [], ◌∷◌, Option, None, Some, IsSome, nat_eq, refl, sym, ap, ◌∙◌, subst, true≢false, le_trans, arith}
+use Rattle.std.proofs.lemmas.Option.{same_Some}
 use Rattle.cdb_base.specs.Positions.{nth}
 use Rattle.cdb_base.specs.declared.event.Event.{Event}
 use Rattle.cdb_base.specs.declared.event.Event.TheVariants.{Step, Lost}
@@ -104,8 +104,7 @@ module _ {L : Type 0} (machine : Machine L) where
 
   module _ (history : List Event) (to : RunState L) (reaches : fold machine history ≡ Some to) where
     in_history : (event : Event) → StandsIn history event → IsIn event history
-    in_history event (zero, at) = absurd (none-some event at)
-    in_history event (suc i, at) = in_position history i event at
+    in_history event (at, stands) = in_position history at event stands
 
     in_stands : (event : Event) → IsIn event history → StandsIn history event
     in_stands event i = let found = position_in event history i in (suc found.0, found.1)

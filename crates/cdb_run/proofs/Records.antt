@@ -1,7 +1,6 @@
 -- Recorded events that do not depend on each other may be exchanged with the records that they have, so that a free one
 -- may be taken last.
-use Rattle.std.proofs.Common.{◌≡◌, ℕ, zero, suc, Bool, false, List, ◌++◌, take, drop, Option, Some, slice_get, option_map, refl, sym, ap, ap₂, ◌∙◌, subst}
-use Rattle.std.proofs.lemmas.List.{map-append, take-map, drop-map}
+use Rattle.std.proofs.Common.{◌≡◌, ℕ, zero, suc, Bool, false, List, Option, Some, option_map, refl, sym, ap, ◌∙◌}
 use Rattle.std.proofs.lemmas.Option.{none-some, slice_get-map}
 use Rattle.cdb_base.specs.Positions.{nth}
 use Rattle.cdb_base.specs.declared.event.Event.{Event}
@@ -11,15 +10,14 @@ use Rattle.cdb_base.specs.declared.event.Kind.TheVariants.{Write}
 use Rattle.cdb_base.specs.declared.name.StepId.{StepId}
 use Rattle.cdb_causal.specs.Dependence.{depends}
 use Rattle.cdb_causal.specs.Effects.{kind_affects}
-use Rattle.cdb_causal.specs.FromZero.{IsFree, without}
+use Rattle.cdb_causal.specs.Causality.{IsFree}
 use Rattle.cdb_causal.specs.Paths.{IsPath}
 use Rattle.cdb_causal.specs.Exchanging.{IsExchangeable}
-use Rattle.cdb_causal.specs.Causality as from_one
-use Rattle.cdb_causal.specs.Rollback as from_one_lists
-use Rattle.cdb_causal.proofs.FromOne.{free_down, without_is}
+use Rattle.cdb_causal.specs.Rollback.{without}
+use Rattle.cdb_causal.proofs.Lists.{map-without}
 use Rattle.cdb_causal.proofs.Paths.{free_last}
 use Rattle.cdb_causal.proofs.Reaches.{two_parts, two_taken}
-use Rattle.cdb_causal.proofs.Symmetry.{depends-symmetric, other_process, unaffected}
+use Rattle.cdb_causal.proofs.Symmetry.{symmetric, other_process, unaffected}
 use Rattle.cdb_standing.specs.Moves.{IsTakenOut}
 use Rattle.cdb_standing.specs.Recorded.{events_of, IsRecordTakenOut}
 use Rattle.cdb_standing.specs.declared.recorded.Recorded.{Recorded}
@@ -34,21 +32,16 @@ use Rattle.cdb_rules.proofs.Taken.{IsTaken, taken_from}
 
 -- the events of a list of records, and of one without a record
 module _ {B : Type 0} (entries : List (Recorded B)) where
-  get-events : (i : ℕ) (entry : Recorded B) → slice_get entries i ≡ Some entry → slice_get (events_of entries) i ≡ Some entry.event
-  get-events i entry at = slice_get-map (λ (x : Recorded B). x.event) entries i ∙ ap (option_map (λ (x : Recorded B). x.event)) at
-
   pub nth_events : (at : ℕ) (entry : Recorded B) → nth entries at ≡ Some entry → nth (events_of entries) at ≡ Some entry.event
   nth_events zero entry stands = absurd (none-some entry stands)
-  nth_events (suc i) entry stands = get-events i entry stands
+  nth_events (suc i) entry stands = slice_get-map (λ (x : Recorded B). x.event) entries i ∙ ap (option_map (λ (x : Recorded B). x.event)) stands
 
-  pub events_without : (at : ℕ) → events_of (from_one_lists.without entries at) ≡ from_one_lists.without (events_of entries) at
-  events_without zero = refl
-  events_without (suc i) =
-      map-append (λ (x : Recorded B). x.event) (take i entries) (drop (suc i) entries)
-      ∙ ap₂ (λ front rest. front ++ rest) (sym (take-map (λ (x : Recorded B). x.event) i entries)) (sym (drop-map (λ (x : Recorded B). x.event) (suc i) entries))
+  pub events_without : (at : ℕ) → events_of (without entries at) ≡ without (events_of entries) at
+  events_without at = map-without (λ (x : Recorded B). x.event) entries at
 
 -- what is taken out of the records is taken out of the events
-pub taken_out : {B : Type 0} (old new : List (Recorded B)) (name : StepId) (recorded : Recorded B) → IsRecordTakenOut old name recorded new → IsTakenOut (events_of old) name recorded.event (events_of new)
+pub taken_out : {B : Type 0} (old new : List (Recorded B)) (name : StepId) (recorded : Recorded B) → IsRecordTakenOut old name recorded new
+    → IsTakenOut (events_of old) name recorded.event (events_of new)
 taken_out old new name recorded taken at named =
     let t = taken at named in (nth_events old at recorded t.0, ap events_of t.1 ∙ events_without old at)
 
@@ -62,8 +55,10 @@ module _ {L : Type 0} (machine : Machine L) where
   IsAlike state to (Step q l kind) = (nth to.processes q ≡ nth state.processes q) × (overwritten_cell to.registers kind ≡ overwritten_cell state.registers kind)
   IsAlike state to (Lost copy) = Unit {0}
 
-  cell_kept : (state to : RunState L) (p k : ℕ) (kind : Kind) → IsTaken machine state p k kind to → (other : Kind) → kind_affects p kind other ≡ false → overwritten_cell to.registers other ≡ overwritten_cell state.registers other
-  cell_kept state to p k kind t (Write x) h = ap (option_map (λ (stands : RegisterState). stands.cell)) (register_kept machine state to p k kind t x (affects_read p kind x ∙ h))
+  cell_kept : (state to : RunState L) (p k : ℕ) (kind : Kind) → IsTaken machine state p k kind to → (other : Kind) → kind_affects p kind other ≡ false
+      → overwritten_cell to.registers other ≡ overwritten_cell state.registers other
+  cell_kept state to p k kind t (Write x) h =
+      ap (option_map (λ (stands : RegisterState). stands.cell)) (register_kept machine state to p k kind t x (affects_read p kind x ∙ h))
   cell_kept state to p k kind t _ h = refl
 
   alike : (state to : RunState L) (first second : Event) → depends first second ≡ false → after machine state first ≡ Some to → IsAlike state to second
@@ -79,7 +74,8 @@ module _ {L : Type 0} (machine : Machine L) where
 
   module _ {B : Type 0} (before : L → B → L) where
     module _ (state to other_state other_to : RunState L) where
-      back_kept : (event : Event) (back : Option B) → IsAlike other_state state event → IsAlike other_to to event → PutsBack before state event back to → PutsBack before other_state event back other_to
+      back_kept : (event : Event) (back : Option B) → IsAlike other_state state event → IsAlike other_to to event → PutsBack before state event back to
+          → PutsBack before other_state event back other_to
       back_kept (Step p k kind) back was is h = λ process left at at_left. h process left (was.0 ∙ at) (is.0 ∙ at_left)
       back_kept (Lost copy) back was is h = h
 
@@ -87,7 +83,9 @@ module _ {L : Type 0} (machine : Machine L) where
       overwritten_kept (Step p k kind) was = was.1
       overwritten_kept (Lost copy) was = refl
 
-      recorded_kept : (entry : Recorded B) → IsAlike other_state state entry.event → IsAlike other_to to entry.event → after machine other_state entry.event ≡ Some other_to → IsRecorded machine before state entry to → IsRecorded machine before other_state entry other_to
+      recorded_kept : (entry : Recorded B) → IsAlike other_state state entry.event → IsAlike other_to to entry.event
+          → after machine other_state entry.event ≡ Some other_to → IsRecorded machine before state entry to
+          → IsRecorded machine before other_state entry other_to
       recorded_kept entry was is leads recorded =
           record {
             leads = leads;
@@ -102,9 +100,9 @@ module _ {L : Type 0} (machine : Machine L) where
     -- each meets what it met, so that its record is the same
     pub recorded_exchange : IsExchangeable (IsRecorded machine before) entries_depend
     recorded_exchange state between to first second independent one two =
-        let turned = sym (depends-symmetric first.event second.event) ∙ independent in
-        let both = two_taken (after machine) depends depends-symmetric state between to first.event second.event one.leads two.leads in
-        let swapped = two_parts (after machine) depends depends-symmetric first.event to (after machine state second.event) (sym (after_commutes machine state first.event second.event independent) ∙ both) in
+        let turned = sym (symmetric first.event second.event) ∙ independent in
+        let both = two_taken (after machine) depends symmetric state between to first.event second.event one.leads two.leads in
+        let swapped = two_parts (after machine) depends symmetric first.event to (after machine state second.event) (sym (after_commutes machine state first.event second.event independent) ∙ both) in
         let other = swapped.0 in (
           other,
           recorded_kept between to state other second (alike state between first.event second.event independent one.leads) (alike other to first.event second.event independent swapped.2) swapped.1 two,
@@ -115,18 +113,19 @@ module _ {L : Type 0} (machine : Machine L) where
         )
 
     -- an event that is free in the history is free among the recorded events
-    free_recorded : (entries : List (Recorded B)) (i : ℕ) → IsFree depends (events_of entries) i → IsFree entries_depend entries i
-    free_recorded entries i free j l =
-        free j (record { cause = l.cause.event; effect = l.effect.event; later = l.later; at_cause = get-events entries i l.cause l.at_cause; at_effect = get-events entries j l.effect l.at_effect; linked = l.linked })
+    free_recorded : (entries : List (Recorded B)) (at : ℕ) → IsFree depends (events_of entries) at → IsFree entries_depend entries at
+    free_recorded entries at free j l = free j (record {
+      cause = l.cause.event;
+      effect = l.effect.event;
+      later = l.later;
+      at_cause = nth_events entries at l.cause l.at_cause;
+      at_effect = nth_events entries j l.effect l.at_effect;
+      linked = l.linked;
+    })
 
     -- the others lead to a state from which the free one, with its record, leads to the state that was reached
-    free_recorded_last : (state to : RunState L) (entries : List (Recorded B)) (i : ℕ) (entry : Recorded B) → slice_get entries i ≡ Some entry → IsFree depends (events_of entries) i → IsPath (IsRecorded machine before) state entries to → (last : RunState L) × IsPath (IsRecorded machine before) state (without entries i) last × IsRecorded machine before last entry to
-    free_recorded_last state to entries i entry at free led =
-        free_last (IsRecorded machine before) entries_depend recorded_exchange state to entries i entry at (free_recorded entries i free) led
-
-    -- the same by a position from 1
-    pub free_recorded_at : (state to : RunState L) (entries : List (Recorded B)) (at : ℕ) (entry : Recorded B) → nth entries at ≡ Some entry → from_one.IsFree depends (events_of entries) at → IsPath (IsRecorded machine before) state entries to → (last : RunState L) × IsPath (IsRecorded machine before) state (from_one_lists.without entries at) last × IsRecorded machine before last entry to
-    free_recorded_at state to entries zero entry stands free led = absurd (none-some entry stands)
-    free_recorded_at state to entries (suc i) entry stands free led =
-        let found = free_recorded_last state to entries i entry stands (free_down depends (events_of entries) i free) led in
-        (found.0, subst (λ l. IsPath (IsRecorded machine before) state l found.0) (sym (without_is entries i)) found.1, found.2)
+    pub free_recorded_last : (state to : RunState L) (entries : List (Recorded B)) (at : ℕ) (entry : Recorded B) → nth entries at ≡ Some entry
+        → IsFree depends (events_of entries) at → IsPath (IsRecorded machine before) state entries to
+        → (last : RunState L) × IsPath (IsRecorded machine before) state (without entries at) last × IsRecorded machine before last entry to
+    free_recorded_last state to entries at entry stands free led =
+        free_last (IsRecorded machine before) entries_depend recorded_exchange state to entries at entry stands (free_recorded entries at free) led

@@ -43,7 +43,7 @@ use Rattle.cdb_rules.proofs.Mails.{sent_is, mail_left}
 use Rattle.cdb_rules.proofs.Members.{now_lost, losable}
 use Rattle.cdb_rules.proofs.Numbers.{sends_of, send_number, received_first, received_now}
 use Rattle.cdb_rules.proofs.Positions.{nth-map, nth-update_nth_same, map-set_nth, set_nth_same, nth-set_nth_same, nth_within}
-use Rattle.cdb_run.proofs.Records.{free_recorded_at}
+use Rattle.cdb_run.proofs.Records.{free_recorded_last}
 use Rattle.cdb_run.proofs.SentFirst.{IsSentFirst, sent_first}
 use Rattle.cdb_rules.proofs.Taken.{IsTaken, IsAccepted, taken_from, parts, some_of, both}
 
@@ -239,7 +239,7 @@ module _ {L : Type 0} (machine : Machine L) (last to : RunState L) (p k : ℕ) (
 module _ {L B : Type 0} {machine : Machine L} {before : L → B → L} {processes : List (Progress L)} {mail : MailState} {registers : RegisterStates} {entries : List (Recorded B)} (current : IsCurrent machine before processes mail registers entries) (at : ℕ) (entry : Recorded B) (stands : nth entries at ≡ Some entry) (free : IsFree depends (events_of entries) at) where
   -- the state before the free event, which the others reach
   earlier : (last : RunState L) × IsPath (IsRecorded machine before) (start machine) (without entries at) last × IsRecorded machine before last entry current.state
-  earlier = free_recorded_at machine before (start machine) current.state entries at entry stands free current.led
+  earlier = free_recorded_last machine before (start machine) current.state entries at entry stands free current.led
 
   abbrev last : RunState L
   last = earlier.0

@@ -1,7 +1,7 @@
 -- Two runs are in the same state where their histories say the same of each process and of what is lost.
 use Rattle.std.proofs.Common.{◌≡◌, ℕ, zero, suc, ◌-◌, ◌<◌, ◌≤◌, ◌↔◌, Bool, true, false, List, [], ◌∷◌, length, Option, Some, None, IsTrue, option_and_then, option_map, unwrap_or, slice_get, slice_index_or, refl, sym, ap, ◌∙◌, subst, ◌⊎◌, ⊎_elim, arith}
 use Rattle.std.proofs.lemmas.List.{length-map}
-use Rattle.std.proofs.lemmas.Option.{none-some, same_Some}
+use Rattle.std.proofs.lemmas.Option.{same_Some}
 use Rattle.cdb_base.specs.Positions.{nth}
 use Rattle.cdb_base.specs.Processes.{all_processes}
 use Rattle.cdb_base.specs.declared.event.Event.{Event}
@@ -34,8 +34,7 @@ stands events event i = let found = at events i in (suc found.0, found.1)
     at (x ∷ xs) (there i) = let found = at xs i in (suc found.0, found.1)
 
 is_in : (events : List Event) (event : Event) → StandsIn events event → IsIn event events
-is_in events event (zero, at) = absurd (none-some event at)
-is_in events event (suc j, at) = in_position events j event at
+is_in events event (at, stands) = in_position events at event stands
 
 same_bool : (a b : Bool) → (a ≡ true → b ≡ true) → (b ≡ true → a ≡ true) → a ≡ b
 same_bool true b h g = sym (h refl)

@@ -10,9 +10,8 @@ use Rattle.cdb_base.specs.declared.event.Kind.{Kind}
 use Rattle.cdb_base.specs.declared.name.CopyName.{CopyName}
 use Rattle.cdb_base.specs.declared.name.StepId.TheVariants as named
 use Rattle.cdb_base.specs.declared.name.StepName.{StepName}
-use Rattle.cdb_causal.specs.FromZero as from_zero
 use Rattle.cdb_causal.specs.Rollback.{without}
-use Rattle.cdb_causal.proofs.FromOne.{without_is}
+use Rattle.cdb_causal.proofs.Lists.{map-without}
 use Rattle.cdb_standing.specs.InOrder.{Has}
 use Rattle.cdb_standing.specs.Lefts.{left_of, recorded_with, AreBeside}
 use Rattle.cdb_standing.specs.Moves.{StandsIn, HasStep, IsNextStep, IsEndOf, IsFreeAlone, IsTakenOut}
@@ -44,31 +43,12 @@ stands_front history more it h = has_stands (history ++ more ∷ []) it (has_lef
 
 module _ (history : List Event) (at : ℕ) (gone : Event) (there : nth history at ≡ Some gone) where
   pub stood : (it : Event) → StandsIn (without history at) it → StandsIn history it
-  stood it h = by at there (stands_has (without history at) it h)
-    where
-      by : (at : ℕ) → nth history at ≡ Some gone → Has (without history at) it → StandsIn history it
-      by zero there h = absurd (none-some gone there)
-      by (suc i) there h = has_stands history it (without_only history i it (rw (without_is history i) at h))
+  stood it h = has_stands history it (without_only history at it (stands_has (without history at) it h))
 
   pub stays : (it : Event) → it ≢ gone → StandsIn history it → StandsIn (without history at) it
-  stays it other h = has_stands (without history at) it (by at there)
-    where
-      by : (at : ℕ) → nth history at ≡ Some gone → Has (without history at) it
-      by zero there = absurd (none-some gone there)
-      by (suc i) there = rw (without_is history i) (without_keeps history i gone it there (stands_has history it h) other)
+  stays it other h = has_stands (without history at) it (without_keeps history at gone it there (stands_has history it h) other)
 
 -- ---- lists of what is recorded
-
-map_without : {A B : Type 0} (f : A → B) (xs : List A) (at : ℕ) → map f (without xs at) ≡ without (map f xs) at
-map_without f [] zero = refl
-map_without f [] (suc i) = ap (map f) (without_is [] i) ∙ sym (without_is [] i)
-map_without f (x ∷ xs) zero = refl
-map_without f (x ∷ xs) (suc i) = ap (map f) (without_is (x ∷ xs) i) ∙ from f (x ∷ xs) i ∙ sym (without_is (map f (x ∷ xs)) i)
-  where
-    from : {A B : Type 0} (f : A → B) (xs : List A) (i : ℕ) → map f (from_zero.without xs i) ≡ from_zero.without (map f xs) i
-    from f [] i = refl
-    from f (x ∷ xs) zero = refl
-    from f (x ∷ xs) (suc i) = ap (λ l. f x ∷ l) (from f xs i)
 
 nth_map : {A B : Type 0} (f : A → B) (xs : List A) (at : ℕ) (x : A) → nth xs at ≡ Some x → nth (map f xs) at ≡ Some (f x)
 nth_map f xs zero x there = absurd (none-some x there)
@@ -259,7 +239,7 @@ module _ {B : Type 0} (low high : List (List (Left B))) (p : ℕ) (left : Left B
     step_taken at h =
         let out = taken at (rw (events_recorded high history) at h) in (
           nth_map _ history at (Step p k kind) out.0 ∙ ap (λ l. Some (recorded_of (Step p k kind) l)) (top_left k kind last_left),
-          sym (same_recorded low high new (λ it s. left_otherwise k last_left it (gone it (has_stands new it s)))) ∙ ap (recorded_with high) out.1 ∙ map_without _ history at,
+          sym (same_recorded low high new (λ it s. left_otherwise k last_left it (gone it (has_stands new it s)))) ∙ ap (recorded_with high) out.1 ∙ map-without _ history at,
         )
 
 -- the loss of a copy less
@@ -267,7 +247,7 @@ module _ {B : Type 0} (lefts : List (List (Left B))) (history new : List Event) 
   pub loss_taken : IsRecordTakenOut (recorded_with lefts history) (named.Lost copy) (recorded_of (Lost copy) nothing) (recorded_with lefts new)
   loss_taken at h =
       let out = taken at (rw (events_recorded lefts history) at h) in
-      (nth_map _ history at (Lost copy) out.0, ap (recorded_with lefts) out.1 ∙ map_without _ history at)
+      (nth_map _ history at (Lost copy) out.0, ap (recorded_with lefts) out.1 ∙ map-without _ history at)
 
   pub beside_unlost : IsFreeAlone history (named.Lost copy) → AreBeside lefts history → AreBeside lefts new
   beside_unlost free beside = let out = taken free.0 free.1 in rw out.1 (beside_less lefts history beside copy free.0 out.0)

@@ -1,15 +1,13 @@
 -- How many events depend directly on one, and that there are none exactly where it is free.
-use Rattle.std.proofs.Common.{◌≡◌, ℕ, zero, suc, ◌+◌, ◌-◌, ◌≤◌, Bool, List, [], ◌∷◌, ◌++◌, take, drop, Some, slice_get, sym, ap, ◌∙◌, arith}
+use Rattle.std.proofs.Common.{◌≡◌, ℕ, suc, ◌+◌, ◌-◌, ◌≤◌, Bool, List, [], ◌∷◌, ◌++◌, take, drop, Some, slice_get, sym, ap, ◌∙◌, arith}
 use Rattle.std.proofs.Math.Seq.{take-suc}
-use Rattle.std.proofs.lemmas.Option.{none-some, slice_get_within, get_or_from_slice_get}
+use Rattle.std.proofs.lemmas.Option.{slice_get_within, get_or_from_slice_get}
 use Rattle.cdb_base.specs.declared.event.Event.{Event}
 use Rattle.cdb_base.specs.declared.name.StepId.{StepId}
 use Rattle.cdb_causal.specs.Dependence.{depends}
 use Rattle.cdb_causal.specs.DirectDependents.{as_number, is_direct, direct_dependents, CountsDirectDependents}
-use Rattle.cdb_causal.specs.FromZero.{IsFree}
 use Rattle.cdb_causal.specs.Names.{IsPositionOf}
-use Rattle.cdb_causal.proofs.Dependents.{no_direct_dependent, no_dependent, free_behind, behind_free, dependents_added}
-use Rattle.cdb_causal.proofs.FromOne.{free_up, free_down}
+use Rattle.cdb_causal.proofs.Dependents.{dependents_added, free_if_none}
 use Rattle.cdb_standing.specs.Recorded.{IsCountOf, IsZeroWhereFree}
 use Rattle.cdb_standing.proofs.Merging.{drop_get}
 
@@ -26,28 +24,13 @@ counted_more events at j cause event later there b b_is =
     ∙ dependents_added depends cause (take (j - at) behind) event
     ∙ ap (λ t. direct_dependents depends cause (take (j - at) behind) + as_number t) (sym b_is)
 
-module _ (history : List Event) (i : ℕ) (event : Event) (at : slice_get history i ≡ Some event) where
-  zero_free : direct_dependents depends event (drop (suc i) history) ≡ 0 → IsFree depends history i
-  zero_free zeros =
-      free_behind depends history i event at
-      (λ j other less at_other.
-      let is : suc i + (j - suc i) ≡ j = omega arith in
-      no_direct_dependent depends event (drop (suc i) history) zeros (j - suc i) other (drop_get (suc i) history (j - suc i) ∙ ap (slice_get history) is ∙ at_other))
-
-  free_zero : IsFree depends history i → direct_dependents depends event (drop (suc i) history) ≡ 0
-  free_zero free =
-      no_dependent depends event (drop (suc i) history)
-      (λ m other at_other. behind_free depends history i event at free (suc i + m) other (omega arith) (sym (drop_get (suc i) history m) ∙ at_other))
-
 -- by name
 module _ (history : List Event) (name : StepId) (position : ℕ) (is : IsPositionOf history name position) (count : ℕ) (counts : CountsDirectDependents depends history position count) where
   pub counted : IsCountOf history name count
   counted at event stands named = let same = is.only at (event, stands, named) in rw same (counts event (rw same at stands))
 
   pub counted_free : IsZeroWhereFree history name count
-  counted_free zero named = absurd (none-some named.0 named.1)
-  counted_free (suc i) named =
-      let same = counted (suc i) named.0 named.1 named.2 in (
-        (λ zeros. free_up depends history i (zero_free history i named.0 named.1 (sym same ∙ zeros))),
-        (λ free. same ∙ free_zero history i named.0 named.1 (free_down depends history i free)),
-      )
+  counted_free at named =
+      let same = counted at named.0 named.1 named.2 in
+      let free = free_if_none depends named.0 history at named.1 in
+      ((λ zeros. free.0 (sym same ∙ zeros)), (λ is_free. same ∙ free.1 is_free))

@@ -13,7 +13,8 @@ use Rattle.cdb_causal.specs.Causality.{IsFree, IsConsequence, direct, onward}
 use Rattle.cdb_causal.specs.Dependence.{depends}
 use Rattle.cdb_causal.specs.Names.{IsNamedAt}
 use Rattle.cdb_causal.specs.Rollback.{IsParted, done, kept, gone, IsRolledBack, rolled_back}
-use Rattle.cdb_causal.proofs.LawsFromOne.{parted, rolled_back_split, consequences_parted}
+use Rattle.cdb_causal.proofs.Chains.{parted, rolled_back_split}
+use Rattle.cdb_causal.proofs.LeastSet.{consequences_parted}
 use Rattle.cdb_standing.specs.Cuts.{cut_of, IsCut, AreConsequencesCut}
 use Rattle.cdb_standing.specs.Gathered.{AreInOrder}
 use Rattle.cdb_standing.specs.InOrder.{Marked, Has, IsRising, events_of}

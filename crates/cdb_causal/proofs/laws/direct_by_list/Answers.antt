@@ -1,4 +1,4 @@
-use Rattle.cdb_causal.proofs.LawsFromOne.{direct_by_list}
+use Rattle.cdb_causal.proofs.DirectByList.{direct_by_list}
 use Rattle.cdb_causal.proofs.laws.direct_by_list.Goals as goal
 
 pub returns : goal.returns

@@ -1,4 +1,4 @@
-use Rattle.cdb_causal.proofs.LawsFromOne.{dependents_taken_out}
+use Rattle.cdb_causal.proofs.Dependents.{dependents_taken_out}
 use Rattle.cdb_causal.proofs.laws.direct_dependents_counted.Goals as goal
 
 pub returns-clause-taken_out : goal.returns-clause-taken_out

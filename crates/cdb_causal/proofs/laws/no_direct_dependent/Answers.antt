@@ -1,4 +1,4 @@
-use Rattle.cdb_causal.proofs.LawsFromOne.{no_direct_dependent}
+use Rattle.cdb_causal.proofs.Dependents.{no_direct_dependent}
 use Rattle.cdb_causal.proofs.laws.no_direct_dependent.Goals as goal
 
 pub returns : goal.returns

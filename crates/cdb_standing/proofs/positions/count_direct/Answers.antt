@@ -3,7 +3,7 @@ use Rattle.std.proofs.lemmas.List.{take_rest}
 use Rattle.std.proofs.lemmas.Option.{same_Some}
 use Rattle.cdb_base.specs.Positions.{nth}
 use Rattle.cdb_base.specs.declared.event.Event.{Event}
-use Rattle.cdb_causal.proofs.FromOne.{nth_below}
+use Rattle.cdb_causal.proofs.Lists.{nth_below}
 use Rattle.cdb_causal.specs.Dependence.{depends}
 use Rattle.cdb_causal.specs.DirectDependents.{as_number, direct_dependents}
 use Rattle.cdb_standing.proofs.DirectCounts.{counted_more}
