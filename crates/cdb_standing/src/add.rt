@@ -46,6 +46,7 @@ pub(crate) fn reserve_mark(tables: &Tables) -> Result<(), NoMemory>
 }
 
 /// Makes room for a step. What stands stays, whatever is returned.
+#[inline(always)]
 pub(crate) fn reserve_step(tables: &mut Tables, p: Proc, kind: &Kind) -> Result<(), NoMemory>
     requires { HasRows tables.old }
     ensures same { HoldSame tables.old tables.new }
@@ -80,6 +81,7 @@ fn mail(sent: &mut Vec<Vec<Sent>>, p: Proc, k: u16, kind: &Kind)
 }
 
 /// Adds a step, for which there is room. It takes no memory.
+#[inline(always)]
 pub(crate) fn add_step(tables: &mut Tables, p: Proc, k: u16, kind: &Kind)
     requires mark { tables.old.next < u64.MAX }
     requires room { HasRoomFor tables.old.steps.items p }

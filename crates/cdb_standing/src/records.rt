@@ -84,6 +84,7 @@ impl<B: Drop> Records<B> {
     /// Changes a state as the `k`-th step of process `p` does, which is its next, and adds the step at the end, with what
     /// `change` returns for taking it back: makes room for both, then calls `change`, then adds them, which takes no
     /// memory. Where there is no room, and where `change` fails, nothing is added.
+    #[inline(always)]
     pub fn push_with<S, F: FnOnce(&mut S) -> Result<Left<B>, NoMemory>>(
         &mut self,
         p: Proc,
