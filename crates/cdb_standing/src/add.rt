@@ -8,7 +8,7 @@ ghost use Rattle.cdb_standing.specs.declared.tables.Copied.TheVariants.{Lost};
 
 use crate::accesses::{accessed, list_at, reserve_list, written};
 use crate::copies::set_copy;
-use crate::table::{put_on, reserve_in};
+use crate::table::{put_on, reserve_in, reserve_step_in};
 use crate::tables::{Access, Copied, Entry, Sent, Tables};
 use cdb_base::{CopyName, Kind, NoMemory, Proc};
 
@@ -58,7 +58,7 @@ pub(crate) fn reserve_step(tables: &mut Tables, p: Proc, kind: &Kind) -> Result<
     ensures writes { OnOk result (HasRoomToList (written_by kind.now) p tables.new.writes.items) }
 {
     reserve_mark(tables)?;
-    reserve_for(&mut tables.steps, p)?;
+    reserve_step_in(&mut tables.steps, p.index())?;
     reserve_mail(&mut tables.sent, p, kind)?;
     reserve_list(&mut tables.accesses, p, accessed(kind))?;
     reserve_list(&mut tables.writes, p, written(kind))
