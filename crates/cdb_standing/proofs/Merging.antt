@@ -3,6 +3,7 @@ use Rattle.std.proofs.Common.{◌≡◌, ◌≢◌, ℕ, zero, suc, ◌+◌, ◌
 use Rattle.std.specs.List.Sorted.{IsNonDecreasingBy}
 use Rattle.std.specs.Option.{option_map_or}
 use Rattle.std.specs.Prelude.{IsPermutation, Result, Ok, Err, IfOk}
+use Rattle.std.proofs.lemmas.List.Sorted.{IsPermutation-trans}
 use Rattle.std.proofs.lemmas.Option.{none-some}
 use Rattle.cdb_base.specs.Positions.{nth}
 use Rattle.cdb_base.specs.declared.event.Event.{Event}
@@ -217,10 +218,10 @@ module _ (next : ℕ) (steps : List (List Entry)) (sent : List (List Sent)) (sou
         let e = (same_step x y of_x of_y same).0 in absurd (omega arith))
 
     -- sorted, they are in order
-    pub in_order_is : (found sorted : List Marked) → found ≡ all_from cuts steps sent → IsPermutation found sorted → IsNonDecreasingBy (λ (x : Marked). x.mark) sorted
+    pub in_order_is : (found sorted : List Marked) → IsPermutation (all_from cuts steps sent) found → IsPermutation found sorted → IsNonDecreasingBy (λ (x : Marked). x.mark) sorted
         → (events : List Event) → events ≡ events_of sorted → AreInOrder cuts steps sent events
     in_order_is found sorted is moved rises events are =
-        let moved_all : IsPermutation (all_from cuts steps sent) sorted = rw is at moved in
+        let moved_all = IsPermutation-trans (all_from cuts steps sent) found sorted is moved in
         record {
           marked = sorted;
           rising = sorted_rises sorted rises (moved_once (all_from cuts steps sent) sorted moved_all all_once);

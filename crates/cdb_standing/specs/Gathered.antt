@@ -1,5 +1,5 @@
 -- The events that numbers cut off, as they are gathered: of each process its steps from a number on, each with the losses of what it sent.
-use Rattle.std.specs.Prelude.{◌≡◌, ◌↔◌, ℕ, suc, ◌-◌, List, [], ◌++◌, drop}
+use Rattle.std.specs.Prelude.{◌≡◌, ◌↔◌, ℕ, suc, ◌+◌, ◌-◌, ◌<◌, ◌≤◌, List, [], ◌++◌, Option, Some, MatchOption, length, drop, slice_get}
 use Rattle.std.specs.Option.{option_map_or}
 use Rattle.cdb_base.specs.Positions.{nth}
 use Rattle.cdb_base.specs.declared.event.Event.{Event}
@@ -8,6 +8,7 @@ use Rattle.cdb_base.specs.declared.event.Kind.TheVariants.{Send}
 use Rattle.cdb_standing.specs.Cuts.{cut_of}
 use Rattle.cdb_standing.specs.InOrder.{Marked, Has, IsRising, each_from, events_of}
 use Rattle.cdb_standing.specs.Tables.{row_of, step_at, loss_at}
+use Rattle.cdb_standing.specs.declared.order.Next.{Next}
 use Rattle.cdb_standing.specs.declared.tables.Entry.{Entry}
 use Rattle.cdb_standing.specs.declared.tables.Sent.{Sent}
 
@@ -26,6 +27,26 @@ steps_from sent from p row = each_from (of_step sent p) (suc (from - 1)) (drop (
 
 abbrev pub all_from : List ℕ → List (List Entry) → List (List Sent) → List Marked
 all_from cuts steps sent = each_from (λ p row. steps_from sent (cut_of cuts p) p row) 1 steps
+
+-- the row at that index has a step of the process's number or a higher one
+abbrev pub IsLeftAt : List (List Entry) → List ℕ → ℕ → Type 0
+IsLeftAt steps from i = (i < 9) × (cut_of from (suc i) - 1 < length (row_of steps (suc i)))
+
+abbrev pub IsNextOf : List (List Entry) → List ℕ → Next → Type 0
+IsNextOf steps from next = IsLeftAt steps from next.i
+
+abbrev pub IsNextOrNone : List (List Entry) → List ℕ → ℕ → Option Next → Type 0
+IsNextOrNone steps from i found = MatchOption found (IsLeftAt steps from i → ⊥) (λ next. IsNextOf steps from next × (next.i ≡ i))
+
+abbrev pub NoneIsLeft : List (List Entry) → List ℕ → ℕ → ℕ → Type 0
+NoneIsLeft steps from start end = (i : ℕ) → start ≤ i → i < end → IsLeftAt steps from i → ⊥
+
+-- the next step of the process at an index was added, with the losses of what it sent; n is the number behind it
+pub record IsGathered (steps : List (List Entry)) (sent : List (List Sent)) (from : List ℕ) (i : ℕ) (old new : List Marked) (n : ℕ) : Type 0 where
+  pub entry : Entry
+  pub at : slice_get (row_of steps (suc i)) (cut_of from (suc i) - 1) ≡ Some entry
+  pub number : n ≡ cut_of from (suc i) - 1 + 2
+  pub more : new ≡ old ++ of_step sent (suc i) (suc (cut_of from (suc i) - 1)) entry
 
 -- the same events in the order of their marks
 pub record AreInOrder (cuts : List ℕ) (steps : List (List Entry)) (sent : List (List Sent)) (events : List Event) : Type 0 where

@@ -8,7 +8,7 @@ ghost use Rattle.cdb_standing.specs.declared.tables.Copied.TheVariants.{Lost};
 
 use crate::accesses::{accessed, list_at, reserve_list, written};
 use crate::copies::set_copy;
-use crate::table::{put_on, reserve_in};
+use crate::table::{put_on, reserve_in, reserve_step_in};
 use crate::tables::{Access, Copied, Entry, Sent, Tables};
 use cdb_base::{CopyName, Kind, NoMemory, Proc};
 
@@ -46,6 +46,7 @@ pub(crate) fn reserve_mark(tables: &Tables) -> Result<(), NoMemory>
 }
 
 /// Makes room for a step. What stands stays, whatever is returned.
+#[inline(always)]
 pub(crate) fn reserve_step(tables: &mut Tables, p: Proc, kind: &Kind) -> Result<(), NoMemory>
     requires { HasRows tables.old }
     ensures same { HoldSame tables.old tables.new }
@@ -57,7 +58,7 @@ pub(crate) fn reserve_step(tables: &mut Tables, p: Proc, kind: &Kind) -> Result<
     ensures writes { OnOk result (HasRoomToList (written_by kind.now) p tables.new.writes.items) }
 {
     reserve_mark(tables)?;
-    reserve_for(&mut tables.steps, p)?;
+    reserve_step_in(&mut tables.steps, p.index())?;
     reserve_mail(&mut tables.sent, p, kind)?;
     reserve_list(&mut tables.accesses, p, accessed(kind))?;
     reserve_list(&mut tables.writes, p, written(kind))
@@ -80,6 +81,7 @@ fn mail(sent: &mut Vec<Vec<Sent>>, p: Proc, k: u16, kind: &Kind)
 }
 
 /// Adds a step, for which there is room. It takes no memory.
+#[inline(always)]
 pub(crate) fn add_step(tables: &mut Tables, p: Proc, k: u16, kind: &Kind)
     requires mark { tables.old.next < u64.MAX }
     requires room { HasRoomFor tables.old.steps.items p }

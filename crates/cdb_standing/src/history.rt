@@ -85,6 +85,7 @@ impl History {
 
     /// Changes a state as a step does, and adds the step at the end: makes room for it, then calls `change`, then adds
     /// it, which takes no memory. Where there is no room, or `change` fails, nothing is added.
+    #[inline(always)]
     pub fn push_step_with<S, R, F: FnOnce(&mut S) -> Result<R, NoMemory>>(
         &mut self,
         p: Proc,
@@ -227,6 +228,7 @@ impl History {
     }
 
     /// Takes out the last step of a process, on which nothing depends, and returns what it did. It takes no memory.
+    #[inline(always)]
     pub fn take_step(&mut self, p: Proc, k: u16) -> Kind
         requires { IsFreeAlone self.old (named.Step (record { p = p; k = k })) }
         ensures taken { IsTakenOut self.old (named.Step (record { p = p; k = k })) (Step p k result)

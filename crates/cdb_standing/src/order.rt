@@ -1,8 +1,8 @@
 //! The events that numbers cut off, in the order in which they were taken.
 
-ghost use Rattle.std.specs.Prelude.{◌≡◌, ◌≤◌, ◌++◌, ◌∷◌, [], length, IfOk, OnOk};
+ghost use Rattle.std.specs.Prelude.{◌≡◌, ◌<◌, ◌≤◌, ◌++◌, ◌∷◌, [], None, length, IfOk, OnOk, IfSome, IfNone, IsPermutation};
 ghost use Rattle.cdb_base.specs.declared.event.Kind.TheVariants.{Send};
-ghost use Rattle.cdb_standing.specs.Gathered.{losses_of, of_step, steps_from, all_from, AreInOrder};
+ghost use Rattle.cdb_standing.specs.Gathered.{losses_of, of_step, all_from, AreInOrder, IsLeftAt, IsNextOf, IsNextOrNone, NoneIsLeft, IsGathered};
 ghost use Rattle.cdb_standing.specs.InOrder.{events_of};
 ghost use Rattle.cdb_standing.specs.Kept.{AreKept};
 ghost use Rattle.cdb_standing.specs.Tables.{rows_in, row_of, loss_at, IsEntry};
@@ -47,6 +47,7 @@ fn push_losses(
 }
 
 /// Adds a step, and the losses of the copies of what it sent.
+#[inline(always)]
 fn push_step(
     sent: &Vec<Vec<Sent>>,
     p: Proc,
@@ -70,34 +71,120 @@ fn push_step(
     }
 }
 
-/// Adds the steps of a process from a number on, with those losses.
-fn push_steps(
-    tables: &Tables,
-    p: Proc,
-    from: usize,
-    found: &mut Vec<Marked>,
-) -> Result<(), NoMemory>
-    requires { AreKept tables.now }
-    ensures { OnOk result (found.new.items ≡ found.old.items
-        ++ steps_from (rows_in tables.now.sent.items) from p
-        (row_of (rows_in tables.now.steps.items) p)) }
-{
-    let row = &tables.steps[p.index()];
-    for i in from.saturating_sub(1)..row.len() {
-        push_step(&tables.sent, p, i as u16 + 1, &row[i], found)?;
-    }
-    Ok(())
+/// A step that is the next of its process to be gathered: the index of the process, and when it was taken.
+#[derive(Clone, Copy)]
+pub(crate) struct Next {
+    pub(crate) i: usize,
+    pub(crate) mark: u64,
 }
 
-/// What the numbers cut off, with its marks, process by process.
+/// The next step of the process at an index, where one is left.
+#[inline(always)]
+fn next_at(tables: &Tables, from: &[usize; 9], i: usize) -> Option<Next>
+    requires kept { AreKept tables.now }
+    requires few { i < 9 }
+    ensures { IsNextOrNone (rows_in tables.now.steps.items) from.now i result }
+{
+    let entry = tables.steps[i].get(from[i].saturating_sub(1))?;
+    Some(Next {
+        i,
+        mark: entry.mark,
+    })
+}
+
+/// Of the next steps of the processes at the indexes from `start` to `end`, and of another one, the earliest, or the first
+/// that was taken at `low`.
+fn earliest(
+    tables: &Tables,
+    from: &[usize; 9],
+    start: usize,
+    end: usize,
+    low: u64,
+    other: Option<Next>,
+) -> Option<Next>
+    requires kept { AreKept tables.now }
+    requires few { end ≤ 9 }
+    requires left { IfSome other (IsNextOf (rows_in tables.now.steps.items) from.now) }
+    ensures left { IfSome result (IsNextOf (rows_in tables.now.steps.items) from.now) }
+    ensures none { IfNone result
+        ((other ≡ None) × NoneIsLeft (rows_in tables.now.steps.items) from.now start end) }
+{
+    let mut found = other;
+    for i in start..end {
+        if let Some(next) = next_at(tables, from, i) {
+            if next.mark == low {
+                return Some(next);
+            }
+            match found {
+                Some(least) if least.mark < next.mark => {}
+                _ => found = Some(next),
+            }
+        }
+    }
+    found
+}
+
+/// The earliest of all next steps. The look begins at a process, and ends at a step that was taken at `low`, before which
+/// none is left: mostly it is one of that process, or of the one behind it.
+fn first_left(tables: &Tables, from: &[usize; 9], start: usize, low: u64) -> Option<Next>
+    requires kept { AreKept tables.now }
+    requires few { start < 9 }
+    ensures left { IfSome result (IsNextOf (rows_in tables.now.steps.items) from.now) }
+    ensures none { IfNone result (NoneIsLeft (rows_in tables.now.steps.items) from.now 0 9) }
+{
+    let found = earliest(tables, from, start, 9, low, None);
+    if let Some(next) = found {
+        if next.mark == low {
+            return Some(next);
+        }
+    }
+    earliest(tables, from, 0, start, low, found)
+}
+
+/// About how many events the numbers cut off: the steps, without losses.
+fn count_steps(tables: &Tables, cuts: &[usize; 9]) -> usize
+    requires { AreKept tables.now }
+{
+    let mut count = 0usize;
+    for i in 0..9 {
+        let before = cuts[i].saturating_sub(1);
+        count = count.saturating_add(tables.steps[i].len().saturating_sub(before));
+    }
+    count
+}
+
+/// Adds the next step of the process at an index, with those losses. Returns the number behind it.
+fn push_next(
+    tables: &Tables,
+    from: &[usize; 9],
+    i: usize,
+    found: &mut Vec<Marked>,
+) -> Result<usize, NoMemory>
+    requires kept { AreKept tables.now }
+    requires left { IsLeftAt (rows_in tables.now.steps.items) from.now i }
+    ensures { IfOk result (IsGathered (rows_in tables.now.steps.items) (rows_in tables.now.sent.items)
+        from.now i found.old.items found.new.items) }
+{
+    let j = from[i].saturating_sub(1);
+    let p = Proc::new(i as u8 + 1);
+    push_step(&tables.sent, p, j as u16 + 1, &tables.steps[i][j], found)?;
+    Ok(j + 2)
+}
+
+/// What the numbers cut off, with its marks, in the order of its marks but for the losses.
 fn gathered(alloc: Global, tables: &Tables, cuts: &[usize; 9]) -> Result<Vec<Marked>, NoMemory>
     requires { AreKept tables.now }
-    ensures { IfOk result (λ found. found.items ≡ all_from cuts.now
-        (rows_in tables.now.steps.items) (rows_in tables.now.sent.items)) }
+    ensures { IfOk result (λ found. IsPermutation (all_from cuts.now
+        (rows_in tables.now.steps.items) (rows_in tables.now.sent.items)) found.items) }
 {
-    let mut found = Vec::new(alloc);
-    for i in 0..9u8 {
-        push_steps(tables, Proc::new(i + 1), cuts[i as usize], &mut found)?;
+    let mut found = Vec::with_capacity(alloc, count_steps(tables, cuts))?;
+    let mut from = *cuts;
+    let mut start = 0;
+    let mut low = 0;
+    while let Some(next) = first_left(tables, &from, start, low) {
+        start = next.i;
+        low = next.mark.saturating_add(1);
+        from[start] = push_next(tables, &from, start, &mut found)?;
     }
     Ok(found)
 }
@@ -113,7 +200,7 @@ fn without_marks(alloc: Global, found: &[Marked]) -> Result<Vec<Event>, NoMemory
     Ok(events)
 }
 
-/// What the numbers cut off, in the order of its marks: those of each process rise, so it is a merge.
+/// What the numbers cut off, in the order of its marks. It is gathered so that the sort only moves losses.
 pub(crate) fn in_order(
     alloc: Global,
     tables: &Tables,

@@ -12,7 +12,7 @@ ghost use Rattle.cdb_standing.specs.Recorded.{events_of, nothing, recorded_of, I
 use crate::history::History;
 use crate::positions::count_direct;
 use crate::recorded::{Left, Recorded};
-use crate::table::{empty_rows, put_on, reserve_in, take_last};
+use crate::table::{empty_rows, put_on, reserve_step_in, take_last};
 use cdb_base::{CopyName, Event, Kind, NoMemory, Proc, StepId, StepName};
 use std::alloc::Global;
 use std::marker::Model;
@@ -84,6 +84,7 @@ impl<B: Drop> Records<B> {
     /// Changes a state as the `k`-th step of process `p` does, which is its next, and adds the step at the end, with what
     /// `change` returns for taking it back: makes room for both, then calls `change`, then adds them, which takes no
     /// memory. Where there is no room, and where `change` fails, nothing is added.
+    #[inline(always)]
     pub fn push_with<S, F: FnOnce(&mut S) -> Result<Left<B>, NoMemory>>(
         &mut self,
         p: Proc,
@@ -100,7 +101,7 @@ impl<B: Drop> Records<B> {
         ensures err { OnErr result (self.new ≡ self.old) }
     {
         let i = p.index();
-        reserve_in(&mut self.left, i)?;
+        reserve_step_in(&mut self.left, i)?;
         let left = self.history.push_step_with(p, k, kind, state, change)?;
         put_on(&mut self.left, i, left);
         Ok(())

@@ -1,22 +1,29 @@
-use Rattle.std.proofs.Common.{refl, arith}
-use Rattle.cdb_standing.specs.Cuts.{cut_of}
-use Rattle.cdb_standing.specs.Gathered.{steps_from}
+use Rattle.std.proofs.Common.{length-set, ◌∙◌}
+use Rattle.cdb_standing.specs.Gathered.{all_from}
 use Rattle.cdb_standing.specs.Tables.{rows_in}
-use Rattle.cdb_standing.proofs.Gathering.{next_process, all_added}
+use Rattle.cdb_standing.proofs.Gathering.{gathered_more, fewer_left, nothing_left}
 use Rattle.cdb_standing.proofs.order.gathered.Goals as goal
 
-pub loop-i-init : goal.loop-i-init
-loop-i-init c = rw c.new-found.ensures.items refl
+pub loop-next-smaller : goal.loop-next-smaller
+loop-next-smaller c =
+    let t = c.args.tables.now in
+    fewer_left (rows_in t.steps.items) (rows_in t.sent.items) c.requires.sound.processes c.loop-next.from c.in-Some.next.i c.in_ok-from.field-0 c.loop-next.found.items c.push_next.new.found.items
+    c.loop-next.invariant.long c.in-Some.ensures.left.0 c.in_ok-from.ensures
 
-pub loop-i-preserved : goal.loop-i-preserved
-loop-i-preserved c =
-    let nine = c.requires.sound.processes in
-    next_process (rows_in c.args.tables.now.sent.items) (rows_in c.args.tables.now.steps.items) c.args.cuts.now _ c.loop-i.found.items c.push_steps.new.found.items c.loop-i.i (omega arith)
-    (omega arith) (omega arith) c.in_ok-push_steps.ensures c.loop-i.invariant
+pub loop-next-preserved : goal.loop-next-preserved
+loop-next-preserved c =
+    let t = c.args.tables.now in
+    record {
+      same =
+          gathered_more (rows_in t.steps.items) (rows_in t.sent.items) c.requires.sound.processes (all_from c.args.cuts.now (rows_in t.steps.items) (rows_in t.sent.items))
+          c.loop-next.from c.in-Some.next.i c.in_ok-from.field-0 c.loop-next.found.items c.push_next.new.found.items
+          c.loop-next.invariant.long c.in-Some.ensures.left.0 c.in_ok-from.ensures c.loop-next.invariant.same;
+      long = length-set c.loop-next.from c.in-Some.next.i c.in_ok-from.field-0 ∙ c.loop-next.invariant.long;
+      few = c.in-Some.ensures.left.0;
+    }
 
 pub returns : goal.returns
 returns c =
-    let steps = rows_in c.args.tables.now.steps.items in
-    let sent = rows_in c.args.tables.now.sent.items in
-    let nine = c.requires.sound.processes in
-    all_added (λ p row. steps_from sent (cut_of c.args.cuts.now p) p row) steps _ c.loop-i.found.items c.loop-i.i (omega arith) c.loop-i.invariant
+    let t = c.args.tables.now in
+    nothing_left (rows_in t.steps.items) (rows_in t.sent.items) c.requires.sound.processes (all_from c.args.cuts.now (rows_in t.steps.items) (rows_in t.sent.items)) c.loop-next.from
+    c.loop-next.found.items c.in_default.ensures.none c.loop-next.invariant.same

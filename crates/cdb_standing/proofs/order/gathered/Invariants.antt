@@ -1,11 +1,17 @@
-use Rattle.std.proofs.Common.{◌≡◌, ◌++◌, suc, drop}
-use Rattle.cdb_standing.specs.Cuts.{cut_of}
-use Rattle.cdb_standing.specs.Gathered.{steps_from, all_from}
-use Rattle.cdb_standing.specs.InOrder.{each_from}
+use Rattle.std.proofs.Common.{◌≡◌, ◌++◌, ◌<◌, length}
+use Rattle.std.specs.List.{sum_by}
+use Rattle.std.specs.Prelude.{IsPermutation}
+use Rattle.cdb_standing.specs.Gathered.{all_from}
+use Rattle.cdb_standing.specs.InOrder.{Marked}
 use Rattle.cdb_standing.specs.Tables.{rows_in}
 use Rattle.cdb_standing.proofs.order.gathered.Given as goal
 
-abbrev pub invariant-loop-i : goal.invariant-loop-i
-invariant-loop-i l =
-    l.found.items ++ each_from (λ p row. steps_from (rows_in l.tables.sent.items) (cut_of l.cuts p) p row) (suc l.i) (drop l.i (rows_in l.tables.steps.items))
-    ≡ all_from l.cuts (rows_in l.tables.steps.items) (rows_in l.tables.sent.items)
+abbrev pub invariant-loop-next : goal.invariant-loop-next
+invariant-loop-next l = record {
+  same : IsPermutation (all_from l.cuts (rows_in l.tables.steps.items) (rows_in l.tables.sent.items)) (l.found.items ++ all_from l.from (rows_in l.tables.steps.items) (rows_in l.tables.sent.items));
+  long : length l.from ≡ 9;
+  few : l.start < 9;
+}
+
+abbrev pub decreases-loop-next : goal.decreases-loop-next
+decreases-loop-next l = sum_by (λ (x : Marked). 1) (all_from l.from (rows_in l.tables.steps.items) (rows_in l.tables.sent.items))

@@ -10,13 +10,13 @@ pub push_step_with-requires-clause-may : goal.push_step_with-requires-clause-may
 push_step_with-requires-clause-may g c = rw (history_seen (rows_in c.self.inside.left.items) c.self.inside.history c.self.view_is) c.requires.may.1
 
 pub put_on-requires : goal.put_on-requires
-put_on-requires g c = c.in_ok-reserve_in.ensures.room
+put_on-requires g c = c.in_ok-reserve_step_in.ensures.room
 
 pub invariant_of-self-2 : goal.invariant_of-self-2
 invariant_of-self-2 g c =
     let low = rows_in c.self.inside.left.items in
     let high = rows_in c.put_on.new.table.items in
-    let put : IsPutOn c.args.p low c.in_ok-left.left high = rw (← c.index-i.ensures.value, ← c.reserve_in.ensures.same) c.put_on.ensures in
+    let put : IsPutOn c.args.p low c.in_ok-left.left high = rw (← c.index-i.ensures.value, ← c.reserve_step_in.ensures.same) c.put_on.ensures in
     let next : IsNextStep c.self.inside.history c.args.p c.args.k = rw (history_seen low c.self.inside.history c.self.view_is) c.requires.may.0 in
     rw c.in_ok-left.ensures.added
     (beside_more low high c.args.p c.in_ok-left.left put c.self.inside.history c.args.k c.args.kind c.self.invariant next)
@@ -25,7 +25,7 @@ pub returns-clause-ok : goal.returns-clause-ok
 returns-clause-ok g c =
     let low = rows_in c.self.inside.left.items in
     let high = rows_in c.put_on.new.table.items in
-    let put : IsPutOn c.args.p low c.in_ok-left.left high = rw (← c.index-i.ensures.value, ← c.reserve_in.ensures.same) c.put_on.ensures in
+    let put : IsPutOn c.args.p low c.in_ok-left.left high = rw (← c.index-i.ensures.value, ← c.reserve_step_in.ensures.same) c.put_on.ensures in
     let next : IsNextStep c.self.inside.history c.args.p c.args.k = rw (history_seen low c.self.inside.history c.self.view_is) c.requires.may.0 in (
       c.in_ok-left.left,
       c.in_ok-left.ensures.changed,
