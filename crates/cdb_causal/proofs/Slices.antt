@@ -1,12 +1,13 @@
 -- What led to an event reaches the front of the list by exchanges.
 use Rattle.std.proofs.Common.{◌≡◌, ℕ, zero, suc, ◌+◌, ◌<◌, Bool, true, false, inl, inr, List, [], ◌∷◌, ◌++◌, Some, slice_get, refl, subst, arith}
+use Rattle.std.proofs.lemmas.Bool.{false_from_ne_true}
 use Rattle.std.specs.List.{AllByRecursion}
 use Rattle.cdb_base.specs.Positions.{nth}
 use Rattle.cdb_causal.specs.Causality.{IsLink}
 use Rattle.cdb_causal.specs.Exchange.{IsExchanged, same}
 use Rattle.cdb_causal.specs.Past.{HasLedTo, one_link, link_before, IsSlice}
 use Rattle.cdb_causal.specs.Rollback.{IsParted, done, kept, gone}
-use Rattle.cdb_causal.proofs.Exchanges.{is_false, joined, behind_one, front_exchange}
+use Rattle.cdb_causal.proofs.Exchanges.{joined, behind_one, front_exchange}
 
 module _ {E : Type 0} (depends : E → E → Bool) where
   -- an event on which none of these depends comes behind them
@@ -42,7 +43,7 @@ module _ {E : Type 0} (depends : E → E → Bool) where
     apart x i stands not below stand (kept {position = position} {event = event} {events = events} skipped p) =
         apart x i stands not (let b = below in omega arith) (others_stand position event events stand) p
     apart x i stands not below stand (gone {position = position} {event = event} {events = events} led p) = (
-      is_false (depends x event) (λ linked. not (led_before i position
+      false_from_ne_true (depends x event) (λ linked. not (led_before i position
           (record { cause = x; effect = event; later = below; at_cause = stands; at_effect = first_stands position event events stand; linked = linked }) led)),
       apart x i stands not (let b = below in omega arith) (others_stand position event events stand) p,
     )

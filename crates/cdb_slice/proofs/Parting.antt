@@ -1,5 +1,6 @@
 -- A list is parted by its flags.
-use Rattle.std.proofs.Common.{◌≡◌, ℕ, zero, suc, ◌+◌, Bool, true, false, List, [], ◌∷◌, ◌++◌, Some, length, slice_get, drop, refl, sym, ap, ◌∙◌, subst, arith, append_assoc}
+use Rattle.std.proofs.Common.{◌≡◌, ℕ, zero, suc, ◌+◌, ◌<◌, ⊎_elim, Bool, true, false, List, [], ◌∷◌, ◌++◌, Some, length, slice_get, drop, refl, sym, ap, ◌∙◌, subst, arith, append_assoc}
+use Rattle.std.proofs.lemmas.Option.{slice_get_cases}
 use Rattle.cdb_base.specs.declared.event.Event.{Event}
 use Rattle.cdb_causal.proofs.Lists.{drop_from}
 use Rattle.cdb_causal.specs.Dependence.{depends}
@@ -8,7 +9,7 @@ use Rattle.cdb_causal.specs.Rollback.{IsParted, done, kept, gone}
 use Rattle.cdb_rules.specs.Flags.{FlagsPast}
 use Rattle.cdb_slice.specs.Flagged.{flagged, unflagged}
 
-module _ {A : Type 0} (P : ℕ → Type 0) where
+module _ (P : ℕ → Type 0) where
   -- the flags are those of the positions of the set, the first of which is given
   record FlagSet (position : ℕ) (flags : List Bool) : Type 0 where
     to : (i : ℕ) → slice_get flags i ≡ Some true → P (position + i)
@@ -21,7 +22,7 @@ module _ {A : Type 0} (P : ℕ → Type 0) where
         from = λ i p. let same : suc position + i ≡ position + suc i = omega arith in set.from (suc i) (subst P same p);
       }
 
-  parted : (position : ℕ) (flags : List Bool) (xs : List A) → length flags ≡ length xs → FlagSet position flags
+  parted : {A : Type 0} (position : ℕ) (flags : List Bool) (xs : List A) → length flags ≡ length xs → FlagSet position flags
       → IsParted P position xs (unflagged flags xs) (flagged flags xs)
   parted position [] [] number set = done
   parted position [] (x ∷ xs) number set = absurd (omega (arith, number))
@@ -42,9 +43,24 @@ flags_slice history at flags past =
 
 -- ---- one element after the other
 
-module _ {A : Type 0} (flags : List Bool) (xs : List A) (i : ℕ) (x : A) (stands : slice_get xs i ≡ Some x) where
-  pub one_flagged : slice_get flags i ≡ Some true → flagged (drop i flags) (drop i xs) ≡ x ∷ flagged (drop (suc i) flags) (drop (suc i) xs)
-  one_flagged is = rw (drop_from flags i true is, drop_from xs i x stands) refl
+-- what stands at a position of a list
+element : {A : Type 0} (xs : List A) (i : ℕ) → i < length xs → (x : A) × (slice_get xs i ≡ Some x)
+element xs i within = ⊎_elim (λ found. (found.0, found.2)) (λ past. let beyond = past.0 in absurd (omega (arith, within))) (slice_get_cases xs i).1
 
-  pub one_unflagged : slice_get flags i ≡ Some false → flagged (drop i flags) (drop i xs) ≡ flagged (drop (suc i) flags) (drop (suc i) xs)
-  one_unflagged is = rw (drop_from flags i false is, drop_from xs i x stands) refl
+module _ {A : Type 0} (flags : List Bool) (xs : List A) (i : ℕ) (found whole : List A) (so : found ++ flagged (drop i flags) (drop i xs) ≡ whole) where
+  next_is : i + 1 ≡ suc i
+  next_is = omega arith
+
+  -- where the next is flagged it is found too
+  pub found_more : (x : A) → slice_get xs i ≡ Some x → slice_get flags i ≡ Some true → (found ++ x ∷ []) ++ flagged (drop (i + 1) flags) (drop (i + 1) xs) ≡ whole
+  found_more x stands is =
+      let more : flagged (drop i flags) (drop i xs) ≡ x ∷ flagged (drop (i + 1) flags) (drop (i + 1) xs) =
+      rw (next_is, drop_from flags i true is, drop_from xs i x stands) refl in
+      append_assoc found (x ∷ []) _ ∙ ap (λ rest. found ++ rest) (sym more) ∙ so
+
+  pub found_same : i < length xs → slice_get flags i ≡ Some false → found ++ flagged (drop (i + 1) flags) (drop (i + 1) xs) ≡ whole
+  found_same within is =
+      let x = element xs i within in
+      let skipped : flagged (drop i flags) (drop i xs) ≡ flagged (drop (i + 1) flags) (drop (i + 1) xs) =
+      rw (next_is, drop_from flags i false is, drop_from xs i x.0 x.1) refl in
+      ap (λ rest. found ++ rest) (sym skipped) ∙ so

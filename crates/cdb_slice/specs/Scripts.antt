@@ -20,9 +20,13 @@ abbrev pub command_for : Event → Command
 command_for (event.Step p k kind) = command.Step p (act_for kind)
 command_for (event.Lost copy) = command.Lose copy.msg.s copy.msg.m copy.to
 
--- a line for each event, in order: the command that takes it
+-- the line of that command
+abbrev pub line_text : Event → List ℕ
+line_text event = printed (command_for event) ++ codes "\n"
+
+-- a line for each event, in order
 abbrev pub script_text : List Event → List ℕ
-script_text events = flat_map (λ event. printed (command_for event) ++ codes "\n") events
+script_text events = flat_map line_text events
 
 -- the commands for these events, given by the only seat one after another from t on, are answered with them
 abbrev pub AreAnswered : Rules → State → List Event → Type 0

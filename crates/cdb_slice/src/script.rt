@@ -2,7 +2,7 @@
 
 ghost use Rattle.std.specs.Prelude.{◌≡◌, IfOk};
 ghost use Rattle.cdb_rules.specs.Refusals.{act_for};
-ghost use Rattle.cdb_slice.specs.Scripts.{command_for, script_text};
+ghost use Rattle.cdb_slice.specs.Scripts.{command_for, line_text, script_text};
 ghost use Rattle.cdb_text.specs.Pushes.{Pushes};
 
 use cdb_base::{Act, Event, Kind, NoMemory};
@@ -37,13 +37,20 @@ fn command_for(event: &Event) -> Command
     }
 }
 
-/// Adds a line for each event, in order: the command that takes it.
+/// Adds the line of the command that takes an event.
+fn push_line(text: &mut String, event: &Event) -> Result<(), AllocError>
+    ensures { Pushes result text.old text.new (line_text event.now) }
+{
+    push_command(text, &command_for(event))?;
+    text.push('\n')
+}
+
+/// Adds a line for each event, in order.
 fn push_script(text: &mut String, events: &[Event]) -> Result<(), AllocError>
     ensures { Pushes result text.old text.new (script_text events.now) }
 {
     for event in events {
-        push_command(text, &command_for(event))?;
-        text.push('\n')?;
+        push_line(text, event)?;
     }
     Ok(())
 }
