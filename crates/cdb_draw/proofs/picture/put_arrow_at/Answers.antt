@@ -1,7 +1,7 @@
-use Rattle.std.proofs.Common.{◌<◌, ◌-◌, Bool, false, List, ℕ, get_or, length, Some, refl, ap, arith, ◌≡◌}
+use Rattle.std.proofs.Common.{◌<◌, ◌-◌, Bool, false, List, ℕ, get_or, length, Some, refl, arith, ◌≡◌}
 use Rattle.cdb_base.specs.Positions.{nth}
 use Rattle.cdb_base.specs.declared.event.Event.{Event}
-use Rattle.cdb_causal.proofs.FromOne.{by_next}
+use Rattle.cdb_causal.proofs.Lists.{by_next}
 use Rattle.cdb_rules.proofs.Flagged.{item_one}
 use Rattle.cdb_explain.proofs.Flagging.{flag_read}
 use Rattle.cdb_explain.specs.Flagged.{is_flagged}

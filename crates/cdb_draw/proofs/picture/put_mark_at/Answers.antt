@@ -1,5 +1,5 @@
 use Rattle.std.proofs.Common.{◌≡◌, ◌<◌, ◌-◌, false, get_or, length, refl, ap, arith}
-use Rattle.cdb_causal.proofs.FromOne.{by_next}
+use Rattle.cdb_causal.proofs.Lists.{by_next}
 use Rattle.cdb_rules.proofs.Flagged.{item_at}
 use Rattle.cdb_explain.proofs.Flagging.{flag_read}
 use Rattle.cdb_explain.specs.Explanations.{run_after}
