@@ -1,7 +1,6 @@
 //! The replies to a session's commands.
 
 use cdb_base::{Cell, Event, MsgName, Payload, Proc, ProcView, Refusal, StepId, Val};
-use smallvec::SmallVec;
 
 /// The reply to a command.
 #[derive(Drop)]
@@ -21,7 +20,7 @@ pub enum Reply {
     /// How many events were removed.
     RolledBack(u32),
     /// An event and its direct causes.
-    Because(StepId, SmallVec<StepId, 9>),
+    Because(StepId, Vec<StepId>),
     BreakSet(u32),
     BreakGone(u32),
     Resumed,

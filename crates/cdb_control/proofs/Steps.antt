@@ -46,15 +46,15 @@ pub rollback_lost_ok : (rules : Rules) (t u : State) (seat s m p : ℕ) (it : Co
 unfolding outcome
 rollback_lost_ok rules t u seat s m p it r is ok = subst (λ (c : Command). IfOk r (CameOutAs (outcome rules t seat c) u)) (sym is) ok
 
-pub why_ok : (rules : Rules) (t : State) (seat p k : ℕ) (it : Command) (r : Reply) → it ≡ command.Why p k
-    → CameOutAs (why t (name_given (Step p k))) t r → CameOutAs (outcome rules t seat it) t r
+pub why_ok : (rules : Rules) (t : State) (seat p k : ℕ) (it : Command) (r : Result Reply NoMemory) → it ≡ command.Why p k
+    → IfOk r (CameOutAs (why t (name_given (Step p k))) t) → IfOk r (CameOutAs (outcome rules t seat it) t)
 unfolding outcome
-why_ok rules t seat p k it r is ok = subst (λ (c : Command). CameOutAs (outcome rules t seat c) t r) (sym is) ok
+why_ok rules t seat p k it r is ok = subst (λ (c : Command). IfOk r (CameOutAs (outcome rules t seat c) t)) (sym is) ok
 
-pub why_lost_ok : (rules : Rules) (t : State) (seat s m p : ℕ) (it : Command) (r : Reply) → it ≡ command.WhyLost s m p
-    → CameOutAs (why t (name_given (Lost s m p))) t r → CameOutAs (outcome rules t seat it) t r
+pub why_lost_ok : (rules : Rules) (t : State) (seat s m p : ℕ) (it : Command) (r : Result Reply NoMemory) → it ≡ command.WhyLost s m p
+    → IfOk r (CameOutAs (why t (name_given (Lost s m p))) t) → IfOk r (CameOutAs (outcome rules t seat it) t)
 unfolding outcome
-why_lost_ok rules t seat s m p it r is ok = subst (λ (c : Command). CameOutAs (outcome rules t seat c) t r) (sym is) ok
+why_lost_ok rules t seat s m p it r is ok = subst (λ (c : Command). IfOk r (CameOutAs (outcome rules t seat c) t)) (sym is) ok
 
 -- ---- commands that are carried out by a method of their own: what it does is done by the command, for its seat or for any
 
@@ -100,6 +100,16 @@ pub rollback_lost_granted : (rules : Rules) (t : State) (seat s m p : ℕ) (it :
     → OnErr r (IsNoRefusal (rollback t seat (name_given (Lost s m p)))) → OnErr r (IsNoRefusal (outcome rules t seat it))
 unfolding outcome
 rollback_lost_granted rules t seat s m p it r is memory = subst (λ (c : Command). OnErr r (IsNoRefusal (outcome rules t seat c))) (sym is) memory
+
+pub why_granted : (rules : Rules) (t : State) (seat p k : ℕ) (it : Command) (r : Result Reply NoMemory) → it ≡ command.Why p k
+    → OnErr r (IsNoRefusal (why t (name_given (Step p k)))) → OnErr r (IsNoRefusal (outcome rules t seat it))
+unfolding outcome
+why_granted rules t seat p k it r is memory = subst (λ (c : Command). OnErr r (IsNoRefusal (outcome rules t seat c))) (sym is) memory
+
+pub why_lost_granted : (rules : Rules) (t : State) (seat s m p : ℕ) (it : Command) (r : Result Reply NoMemory) → it ≡ command.WhyLost s m p
+    → OnErr r (IsNoRefusal (why t (name_given (Lost s m p)))) → OnErr r (IsNoRefusal (outcome rules t seat it))
+unfolding outcome
+why_lost_granted rules t seat s m p it r is memory = subst (λ (c : Command). OnErr r (IsNoRefusal (outcome rules t seat c))) (sym is) memory
 
 -- what is granted is answered as what it goes on to
 pub granted_goes_on : {A : Type 0} (x : Result A Refusal) (t : State) (go : A → Outcome) → IsOk x → ((a : A) → is_refused (go a).reply ≡ false) → is_refused (granted x t go).reply ≡ false

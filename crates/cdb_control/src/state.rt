@@ -19,7 +19,7 @@ ghost use Rattle.cdb_setup.specs.Parts.{AreInRange};
 use crate::redo::RedoList;
 use crate::stops::{Breakpoints, TakenStep, names_none_of};
 use cdb_base::limits::{MAX_BREAKPOINTS, MAX_STEPS};
-use cdb_base::{Act, Event, NoMemory, Refusal, Val};
+use cdb_base::{Act, Event, NoMemory, Refusal, StepId, Val};
 use cdb_commands::{Command, Reply, Stop, View};
 use cdb_rules::{EventRef, Runs};
 use cdb_setup::Setup;
@@ -72,6 +72,13 @@ fn refused(refusal: Refusal) -> Result<Reply, NoMemory>
     ensures { result ≡ Ok (Reply.Refused refusal) }
 {
     Ok(Reply::Refused(refusal))
+}
+
+/// The names of causes in a list of their own, so that a reply is small, whatever it says.
+fn listed(alloc: Global, causes: &[StepId]) -> Result<Vec<StepId>, NoMemory>
+    ensures { IfOk result (λ list. list.items ≡ causes.now) }
+{
+    Ok(Vec::from_slice(alloc, causes)?)
 }
 
 /// The first act of those that `auto` tries which the run does not refuse.
@@ -464,12 +471,15 @@ impl<R: Runs> ControlState<R> {
 
     /// Returns the direct causes of an event.
     #[inline(never)]
-    pub fn why(&self, alloc: Global, event: EventRef) -> Reply
-        ensures { CameOutAs (why self.now.state (name_given event)) self.now.state result }
+    pub fn why(&self, alloc: Global, event: EventRef) -> Result<Reply, NoMemory>
+        ensures ok { IfOk result
+            (CameOutAs (why self.now.state (name_given event)) self.now.state) }
+        ensures memory { OnErr result
+            (IsNoRefusal (why self.now.state (name_given event))) }
     {
         match self.run.explain(alloc, event) {
-            Ok((name, causes)) => Reply::Because(name, causes),
-            Err(refusal) => Reply::Refused(refusal),
+            Ok((name, causes)) => Ok(Reply::Because(name, listed(alloc, causes.as_slice())?)),
+            Err(refusal) => refused(refusal),
         }
     }
 
@@ -538,8 +548,8 @@ impl<R: Runs> ControlState<R> {
             Command::Forget => Ok(self.forget(seat)),
             Command::Rollback(p, k) => self.rollback(alloc, seat, EventRef::Step(p, k)),
             Command::RollbackLost(s, m, p) => self.rollback(alloc, seat, EventRef::Lost(s, m, p)),
-            Command::Why(p, k) => Ok(self.why(alloc, EventRef::Step(p, k))),
-            Command::WhyLost(s, m, p) => Ok(self.why(alloc, EventRef::Lost(s, m, p))),
+            Command::Why(p, k) => self.why(alloc, EventRef::Step(p, k)),
+            Command::WhyLost(s, m, p) => self.why(alloc, EventRef::Lost(s, m, p)),
             Command::Break(stop) => self.set_break(stop),
             Command::Unbreak(number) => Ok(self.unbreak(number)),
             Command::Resume => Ok(self.resume()),

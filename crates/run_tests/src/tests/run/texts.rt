@@ -3,7 +3,6 @@
 use cdb_base::{CopyName, MsgName, NoMemory, Payload, Proc, StepId, StepName};
 use cdb_control::Reply;
 use cdb_text::{parse_line, push_command, reply_text};
-use smallvec::SmallVec;
 use std::alloc::{AllocError, Global};
 
 const LINES: &str = "step 1 go
@@ -79,7 +78,7 @@ fn a_loss_among_causes(rt: HostRuntime) -> Result<(), AllocError> {
         p: Proc::new(1),
         k: 2,
     });
-    let causes = SmallVec::from_slice(rt.alloc(), &[first, loss])?;
+    let causes = Vec::from_slice(rt.alloc(), &[first, loss])?;
     let reply = Reply::Because(second, causes);
     let text = "1.2 because 1.1 lost 1#1 to 2\n";
     assert!(rt; is_text(rt.alloc(), reply, text) == Ok(true));

@@ -1,7 +1,7 @@
 use Rattle.std.proofs.Common.{rules}
 use Rattle.cdb_commands.specs.declared.command.Command.TheVariants as command
 use Rattle.cdb_control.proofs.Steps.{any_ok, any_granted, as_many, same_ok, same_granted, undo_ok, undo_lost_ok, undo_granted, undo_lost_granted}
-use Rattle.cdb_control.proofs.Steps.{rollback_ok, rollback_lost_ok, why_ok, why_lost_ok, rollback_granted, rollback_lost_granted}
+use Rattle.cdb_control.proofs.Steps.{rollback_ok, rollback_lost_ok, why_ok, why_lost_ok, rollback_granted, rollback_lost_granted, why_granted, why_lost_granted}
 use Rattle.cdb_control.proofs.state.ControlState.perform.Goals as goal
 
 pub returns-in-Step : goal.returns-in-Step
@@ -101,9 +101,19 @@ returns-in-RollbackLost-clause-memory g c =
 pub returns-in-Why-clause-ok : goal.returns-in-Why-clause-ok
 returns-in-Why-clause-ok g c =
     let t = c.args.self.now.state in
-    why_ok (g.R.Runs.rules t.setup) t c.args.seat c.in-Why.p c.in-Why.k c.args.command c.why.result c.in-Why.is c.why.ensures
+    why_ok (g.R.Runs.rules t.setup) t c.args.seat c.in-Why.p c.in-Why.k c.args.command c.why.result c.in-Why.is c.why.ensures.ok
+
+pub returns-in-Why-clause-memory : goal.returns-in-Why-clause-memory
+returns-in-Why-clause-memory g c =
+    let t = c.args.self.now.state in
+    why_granted (g.R.Runs.rules t.setup) t c.args.seat c.in-Why.p c.in-Why.k c.args.command c.why.result c.in-Why.is c.why.ensures.memory
 
 pub returns-in-WhyLost-clause-ok : goal.returns-in-WhyLost-clause-ok
 returns-in-WhyLost-clause-ok g c =
     let t = c.args.self.now.state in
-    why_lost_ok (g.R.Runs.rules t.setup) t c.args.seat c.in-WhyLost.s c.in-WhyLost.m c.in-WhyLost.p c.args.command c.why-in-WhyLost.result c.in-WhyLost.is c.why-in-WhyLost.ensures
+    why_lost_ok (g.R.Runs.rules t.setup) t c.args.seat c.in-WhyLost.s c.in-WhyLost.m c.in-WhyLost.p c.args.command c.why-in-WhyLost.result c.in-WhyLost.is c.why-in-WhyLost.ensures.ok
+
+pub returns-in-WhyLost-clause-memory : goal.returns-in-WhyLost-clause-memory
+returns-in-WhyLost-clause-memory g c =
+    let t = c.args.self.now.state in
+    why_lost_granted (g.R.Runs.rules t.setup) t c.args.seat c.in-WhyLost.s c.in-WhyLost.m c.in-WhyLost.p c.args.command c.why-in-WhyLost.result c.in-WhyLost.is c.why-in-WhyLost.ensures.memory
