@@ -13,15 +13,16 @@ use Rattle.std.proofs.lemmas.Result.{IfOk-weaker}
 use Rattle.clap.specs.Words.{Row, Text, first_of, subcommand_of, takes}
 use Rattle.clap.specs.declared.builder.value_parser.ValueParser.TheVariants as vp
 use Rattle.clap.proofs.ValueTestLemmas.{Accepts-accepts}
-use Rattle.cdb_arguments.specs.Asking.{NamesAsked, IsRequest, IsPlayOf, IsRaceOf, IsExplainOf, IsTrailOf, IsDrawOf, IsDebugOf, IsTurns, IsNumber, IsNumberOf, text_at, texts_at}
+use Rattle.cdb_arguments.specs.Asking.{NamesAsked, IsRequest, IsPlayOf, IsRaceOf, IsExplainOf, IsTrailOf, IsDrawOf, IsDebugOf, IsReplayOf, IsTurns, IsNumber, IsNumberOf, text_at, texts_at}
 use Rattle.cdb_arguments.specs.CommandLine.{program}
-use Rattle.cdb_arguments.specs.Plain.{IsNameAlone, IsNumberOfTurns, IsPlain, IsPlayLine, IsRaceLine, IsExplainLine, IsTrailLine, IsDrawLine, IsDebugLine}
+use Rattle.cdb_arguments.specs.Plain.{IsNameAlone, IsNumberOfTurns, IsPlain, IsPlayLine, IsRaceLine, IsExplainLine, IsTrailLine, IsDrawLine, IsDebugLine, IsReplayLine}
 use Rattle.cdb_arguments.specs.declared.request.AskFault.{AskFault}
 use Rattle.cdb_arguments.specs.declared.request.AskFault.TheVariants.{NoMemory}
 use Rattle.cdb_arguments.specs.declared.request.Asked.{Asked}
-use Rattle.cdb_arguments.specs.declared.request.Asked.TheVariants.{Script, Play, Race, Explain, Trail, Draw, Debug}
+use Rattle.cdb_arguments.specs.declared.request.Asked.TheVariants.{Script, Play, Race, Explain, Trail, Draw, Debug, Replay}
 use Rattle.cdb_base.specs.Memory.{no_memory}
 use Rattle.cdb_arguments.proofs.StepLines.{OptionWritesNumber, StepLine, explain_line, trail_line, draw_line}
+use Rattle.cdb_arguments.proofs.JournalLines.{JournalLine, replay_line}
 use Rattle.cdb_arguments.proofs.SeatLines.{SeatLine, debug_line}
 use Rattle.cdb_arguments.proofs.Lines.{nothing_asked, nothing_taken, play_asked, play_taken, PlayRows, race_asked, race_taken, RaceRows, AcceptsTurns}
 
@@ -35,6 +36,7 @@ script_is found (Explain a b p k) none asks = absurd (none-some _ (sym none ∙ 
 script_is found (Trail a b p k) none asks = absurd (none-some _ (sym none ∙ asks.1))
 script_is found (Draw a b p k) none asks = absurd (none-some _ (sym none ∙ asks.1))
 script_is found (Debug a b) none asks = absurd (none-some _ (sym none ∙ asks.1))
+script_is found (Replay a b) none asks = absurd (none-some _ (sym none ∙ asks.1))
 
 some_same : {X : Type 0} (a b : X) → Some a ≡ Some b → a ≡ b
 some_same a b same = ap (λ found. unwrap_or found a) same
@@ -64,6 +66,7 @@ play_is found rows setup script (Explain a b p k) is have asks = absurd (other_n
 play_is found rows setup script (Trail a b p k) is have asks = absurd (other_name found _ (codes "trail") rows asks.0 is asks.1 refl refl)
 play_is found rows setup script (Draw a b p k) is have asks = absurd (other_name found _ (codes "draw") rows asks.0 is asks.1 refl refl)
 play_is found rows setup script (Debug a b) is have asks = absurd (other_name found _ (codes "debug") rows asks.0 is asks.1 refl refl)
+play_is found rows setup script (Replay a b) is have asks = absurd (other_name found _ (codes "replay") rows asks.0 is asks.1 refl refl)
 
 race_is : (found : Option (Text × List Row)) (rows : List Row) (setup text : Text) (turns : ℕ) (scripts : List Text) (asked : Asked)
     → found ≡ Some (codes "race", rows) → RaceRows setup text scripts rows → IsNumberOfTurns text turns → NamesAsked found asked → IsRaceOf setup turns scripts asked
@@ -73,6 +76,7 @@ race_is found rows setup text turns scripts (Explain a b p k) is have number ask
 race_is found rows setup text turns scripts (Trail a b p k) is have number asks = absurd (other_name found _ (codes "trail") rows asks.0 is asks.1 refl refl)
 race_is found rows setup text turns scripts (Draw a b p k) is have number asks = absurd (other_name found _ (codes "draw") rows asks.0 is asks.1 refl refl)
 race_is found rows setup text turns scripts (Debug a b) is have number asks = absurd (other_name found _ (codes "debug") rows asks.0 is asks.1 refl refl)
+race_is found rows setup text turns scripts (Replay a b) is have number asks = absurd (other_name found _ (codes "replay") rows asks.0 is asks.1 refl refl)
 race_is found rows setup text turns scripts (Race a n b) is have number asks =
     let same = same_rows found (codes "race") (codes "race") rows asks.0 is asks.1 in
     let its_text : text_at (codes "TURNS") asks.0 ≡ text = ap (text_at (codes "TURNS")) same ∙ ap (λ t. unwrap_or t []) have.1 in
@@ -100,6 +104,7 @@ explain_is setup script p k words (Race a n b) line asks = absurd (other_name _ 
 explain_is setup script p k words (Trail a b q l) line asks = absurd (other_name _ _ (codes "trail") line.rows asks.0 line.asked asks.1 refl refl)
 explain_is setup script p k words (Draw a b q l) line asks = absurd (other_name _ _ (codes "draw") line.rows asks.0 line.asked asks.1 refl refl)
 explain_is setup script p k words (Debug a b) line asks = absurd (other_name _ _ (codes "debug") line.rows asks.0 line.asked asks.1 refl refl)
+explain_is setup script p k words (Replay a b) line asks = absurd (other_name _ _ (codes "replay") line.rows asks.0 line.asked asks.1 refl refl)
 explain_is setup script p k words (Explain a b q l) line asks =
     let same = same_rows _ (codes "explain") (codes "explain") line.rows asks.0 line.asked asks.1 in
     let p_text : text_at (codes "P") asks.0 ≡ unwrap_or line.p_text [] = ap (text_at (codes "P")) same ∙ ap (λ t. unwrap_or t []) line.p_at in (
@@ -117,6 +122,7 @@ trail_is setup script p k words (Race a n b) line asks = absurd (other_name _ _ 
 trail_is setup script p k words (Explain a b q l) line asks = absurd (other_name _ _ (codes "explain") line.rows asks.0 line.asked asks.1 refl refl)
 trail_is setup script p k words (Draw a b q l) line asks = absurd (other_name _ _ (codes "draw") line.rows asks.0 line.asked asks.1 refl refl)
 trail_is setup script p k words (Debug a b) line asks = absurd (other_name _ _ (codes "debug") line.rows asks.0 line.asked asks.1 refl refl)
+trail_is setup script p k words (Replay a b) line asks = absurd (other_name _ _ (codes "replay") line.rows asks.0 line.asked asks.1 refl refl)
 trail_is setup script p k words (Trail a b q l) line asks =
     let same = same_rows _ (codes "trail") (codes "trail") line.rows asks.0 line.asked asks.1 in
     let p_text : text_at (codes "P") asks.0 ≡ unwrap_or line.p_text [] = ap (text_at (codes "P")) same ∙ ap (λ t. unwrap_or t []) line.p_at in (
@@ -134,6 +140,7 @@ draw_is setup script p k words (Race a n b) line asks = absurd (other_name _ _ (
 draw_is setup script p k words (Explain a b q l) line asks = absurd (other_name _ _ (codes "explain") line.rows asks.0 line.asked asks.1 refl refl)
 draw_is setup script p k words (Trail a b q l) line asks = absurd (other_name _ _ (codes "trail") line.rows asks.0 line.asked asks.1 refl refl)
 draw_is setup script p k words (Debug a b) line asks = absurd (other_name _ _ (codes "debug") line.rows asks.0 line.asked asks.1 refl refl)
+draw_is setup script p k words (Replay a b) line asks = absurd (other_name _ _ (codes "replay") line.rows asks.0 line.asked asks.1 refl refl)
 draw_is setup script p k words (Draw a b q l) line asks =
     let same = same_rows _ (codes "draw") (codes "draw") line.rows asks.0 line.asked asks.1 in (
       asks.2 ∙ ap (text_at (codes "SETUP")) same ∙ ap (λ t. unwrap_or t []) line.setup_at,
@@ -149,10 +156,25 @@ debug_is setup seats words (Race a n b) line asks = absurd (other_name _ _ (code
 debug_is setup seats words (Explain a b q l) line asks = absurd (other_name _ _ (codes "explain") line.rows asks.0 line.asked asks.1 refl refl)
 debug_is setup seats words (Trail a b q l) line asks = absurd (other_name _ _ (codes "trail") line.rows asks.0 line.asked asks.1 refl refl)
 debug_is setup seats words (Draw a b q l) line asks = absurd (other_name _ _ (codes "draw") line.rows asks.0 line.asked asks.1 refl refl)
+debug_is setup seats words (Replay a b) line asks = absurd (other_name _ _ (codes "replay") line.rows asks.0 line.asked asks.1 refl refl)
 debug_is setup seats words (Debug a b) line asks =
     let same = same_rows _ (codes "debug") (codes "debug") line.rows asks.0 line.asked asks.1 in (
       asks.2 ∙ ap (text_at (codes "SETUP")) same ∙ ap (λ t. unwrap_or t []) line.setup_at,
       asks.3 ∙ ap (texts_at (codes "SEAT")) same ∙ line.seats_at,
+    )
+
+replay_is : (setup journal : Text) (words : List Text) (asked : Asked) → JournalLine setup journal words → NamesAsked (subcommand_of program words) asked → IsReplayOf setup journal asked
+replay_is setup journal words Script line asks = absurd (none-some _ (sym asks ∙ line.asked))
+replay_is setup journal words (Play a b) line asks = absurd (other_name _ _ (codes "play") line.rows asks.0 line.asked asks.1 refl refl)
+replay_is setup journal words (Race a n b) line asks = absurd (other_name _ _ (codes "race") line.rows asks.0 line.asked asks.1 refl refl)
+replay_is setup journal words (Explain a b q l) line asks = absurd (other_name _ _ (codes "explain") line.rows asks.0 line.asked asks.1 refl refl)
+replay_is setup journal words (Trail a b q l) line asks = absurd (other_name _ _ (codes "trail") line.rows asks.0 line.asked asks.1 refl refl)
+replay_is setup journal words (Draw a b q l) line asks = absurd (other_name _ _ (codes "draw") line.rows asks.0 line.asked asks.1 refl refl)
+replay_is setup journal words (Debug a b) line asks = absurd (other_name _ _ (codes "debug") line.rows asks.0 line.asked asks.1 refl refl)
+replay_is setup journal words (Replay a b) line asks =
+    let same = same_rows _ (codes "replay") (codes "replay") line.rows asks.0 line.asked asks.1 in (
+      asks.2 ∙ ap (text_at (codes "SETUP")) same ∙ ap (λ t. unwrap_or t []) line.setup_at,
+      asks.3 ∙ ap (text_at (codes "JOURNAL")) same ∙ ap (λ t. unwrap_or t []) line.journal_at,
     )
 
 -- ---- the answers
@@ -235,5 +257,15 @@ debug_asked_for words result ok taken setup seats line =
     let its = debug_line line.0.0.0 setup seats line.0.1 line.1 in
     let its_words : SeatLine setup seats words = subst (SeatLine setup seats) (sym line.0.0.1) its in (
       IfOk-weaker result _ _ (λ asked asks. debug_is setup seats words asked its_words asks) ok,
+      taken its_words.taken,
+    )
+
+pub replay_asked_for : (words : List Text) (result : Result Asked AskFault) → IfOk result (NamesAsked (subcommand_of program words))
+    → (takes program words ≡ true → IfErr result (λ fault. fault ≡ NoMemory no_memory)) → (setup journal : Text) → IsReplayLine words setup journal
+    → IsRequest result (IsReplayOf setup journal)
+replay_asked_for words result ok taken setup journal line =
+    let its = replay_line line.0.0 setup journal line.1 in
+    let its_words : JournalLine setup journal words = subst (JournalLine setup journal) (sym line.0.1) its in (
+      IfOk-weaker result _ _ (λ asked asks. replay_is setup journal words asked its_words asks) ok,
       taken its_words.taken,
     )

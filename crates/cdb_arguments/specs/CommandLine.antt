@@ -58,6 +58,10 @@ draw_app = on_files (codes "draw") (numbered (new_rule (codes "P")) ∷ numbered
 abbrev pub debug_app : App
 debug_app = with_arguments (codes "debug") (required_rule (codes "SETUP") ∷ several (new_rule (codes "SEAT")) ∷ [])
 
+-- `replay SETUP JOURNAL`
+abbrev pub replay_app : App
+replay_app = with_arguments (codes "replay") (required_rule (codes "SETUP") ∷ required_rule (codes "JOURNAL") ∷ [])
+
 -- the program with these subcommands too
 abbrev pub with_subcommands : App → List App → App
 with_subcommands = fold (λ app sub. with_subcommand app sub.top)
@@ -68,4 +72,4 @@ playing = with_subcommands (on_top (λ s. record s { has_version = true; disable
 
 -- the program with its subcommands
 unfoldable pub program : App
-program = with_subcommands playing (explain_app ∷ trail_app ∷ draw_app ∷ debug_app ∷ [])
+program = with_subcommands playing (explain_app ∷ trail_app ∷ draw_app ∷ debug_app ∷ replay_app ∷ [])

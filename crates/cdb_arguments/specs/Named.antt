@@ -6,7 +6,7 @@ use Rattle.cdb_arguments.specs.declared.command_line.Argument.{Argument}
 use Rattle.cdb_arguments.specs.declared.command_line.Argument.TheVariants as arg
 use Rattle.cdb_arguments.specs.declared.command_line.Subcommand.{Subcommand}
 use Rattle.cdb_arguments.specs.declared.command_line.Subcommand.TheVariants as sub
-use Rattle.cdb_arguments.specs.CommandLine.{required_rule, turns_rule, numbered, several, play_app, race_app, explain_app, trail_app, draw_app, debug_app}
+use Rattle.cdb_arguments.specs.CommandLine.{required_rule, turns_rule, numbered, several, play_app, race_app, explain_app, trail_app, draw_app, debug_app, replay_app}
 
 abbrev pub rule_named : Argument → Rule
 rule_named arg.Setup = required_rule (codes "SETUP")
@@ -17,6 +17,7 @@ rule_named arg.Process = numbered (required_rule (codes "P"))
 rule_named arg.AnyProcess = numbered (new_rule (codes "P"))
 rule_named arg.Step = numbered (new_rule (codes "K"))
 rule_named arg.Seats = several (new_rule (codes "SEAT"))
+rule_named arg.Journal = required_rule (codes "JOURNAL")
 
 abbrev pub with_argument : App → Argument → App
 with_argument app argument = with_rule app (rule_named argument)
@@ -28,6 +29,7 @@ name_of sub.Explain = codes "explain"
 name_of sub.Trail = codes "trail"
 name_of sub.Draw = codes "draw"
 name_of sub.Debug = codes "debug"
+name_of sub.Replay = codes "replay"
 
 abbrev pub app_named : Subcommand → App
 app_named sub.Play = play_app
@@ -36,6 +38,7 @@ app_named sub.Explain = explain_app
 app_named sub.Trail = trail_app
 app_named sub.Draw = draw_app
 app_named sub.Debug = debug_app
+app_named sub.Replay = replay_app
 
 abbrev pub with_named : App → Subcommand → App
 with_named app subcommand = with_subcommand app (app_named subcommand).top

@@ -32,6 +32,8 @@ const DRAW: &str =
 
 const DEBUG: &str = "Carries each command out before the next is read, for one user or for several";
 
+const REPLAY: &str = "Plays a journal again, and prints each reply behind the number of its seat";
+
 const LINES: &str =
     "Without a subcommand it plays the script on standard input, on one process that proposes 7.
 
@@ -84,6 +86,7 @@ pub(crate) enum Argument {
     AnyProcess,
     Step,
     Seats,
+    Journal,
 }
 
 /// A subcommand of the program.
@@ -94,17 +97,19 @@ pub(crate) enum Subcommand {
     Trail,
     Draw,
     Debug,
+    Replay,
 }
 
 impl Subcommand {
     /// The subcommands, in the order in which help lists them.
-    pub(crate) const ALL: [Subcommand; 6] = [
+    pub(crate) const ALL: [Subcommand; 7] = [
         Subcommand::Play,
         Subcommand::Race,
         Subcommand::Explain,
         Subcommand::Trail,
         Subcommand::Draw,
         Subcommand::Debug,
+        Subcommand::Replay,
     ];
 
     fn name<'a>(&self) -> &'a str
@@ -117,6 +122,7 @@ impl Subcommand {
             Subcommand::Trail => "trail",
             Subcommand::Draw => "draw",
             Subcommand::Debug => "debug",
+            Subcommand::Replay => "replay",
         }
     }
 
@@ -128,6 +134,7 @@ impl Subcommand {
             Subcommand::Trail => TRAIL,
             Subcommand::Draw => DRAW,
             Subcommand::Debug => DEBUG,
+            Subcommand::Replay => REPLAY,
         }
     }
 
@@ -151,6 +158,7 @@ impl Subcommand {
                 Argument::Step,
             ],
             Subcommand::Debug => &[Argument::Setup, Argument::Seats],
+            Subcommand::Replay => &[Argument::Setup, Argument::Journal],
         }
     }
 }
@@ -237,6 +245,11 @@ fn argument_of<'a>(alloc: Global, argument: &Argument) -> Arg<'a>
             "Which of its standing steps, 1 to 999999; left out: its last one",
         ),
         Argument::Seats => seats(alloc),
+        Argument::Journal => required(
+            alloc,
+            "JOURNAL",
+            "The file of the journal, one entry a line: its seat, and its command",
+        ),
     }
 }
 

@@ -4,7 +4,7 @@ ghost use Rattle.std.specs.Prelude.{◌≡◌, OnOk, IfOk, IfErr, Some, [], true
 ghost use Rattle.clap.specs.Words.{Kinds, Text, HasKind, fault_of, found_of, kind_of, rows_of, subcommand_of, subcommand_rows_of, takes};
 ghost use Rattle.cdb_base.specs.Memory.{no_memory};
 ghost use Rattle.cdb_arguments.specs.CommandLine.{program};
-ghost use Rattle.cdb_arguments.specs.Asking.{NamesOne, IsTurns, IsNumber, IsNumberAt, text_at, texts, texts_at, NamesAsked, IsOfKinds, IsRequest, AsksForPlay, AsksForRace, AsksForExplain, AsksForTrail, AsksForDraw, AsksForDebug, ask_status_of, words_status};
+ghost use Rattle.cdb_arguments.specs.Asking.{NamesOne, IsTurns, IsNumber, IsNumberAt, text_at, texts, texts_at, NamesAsked, IsOfKinds, IsRequest, AsksForPlay, AsksForRace, AsksForExplain, AsksForTrail, AsksForDraw, AsksForDebug, AsksForReplay, ask_status_of, words_status};
 ghost use Rattle.cdb_arguments.specs.Plain.{IsNameAlone};
 
 use crate::command_line::program;
@@ -165,6 +165,16 @@ fn debug_of<'a>(alloc: Global, found: &ArgMatches<'a>) -> Result<Asked<'a>, Allo
     })
 }
 
+/// A journal that is played again.
+fn replay_of<'a>(found: &ArgMatches<'a>) -> Asked<'a>
+    ensures { NamesAsked (Some (codes "replay", rows_of (found_of found.now))) result }
+{
+    Asked::Replay {
+        setup: text_of(found, "SETUP"),
+        journal: text_of(found, "JOURNAL"),
+    }
+}
+
 /// What the matches of a subcommand of this name ask for.
 fn asked_under<'a>(
     alloc: Global,
@@ -180,6 +190,7 @@ fn asked_under<'a>(
         "trail" => Ok(trail_of(found)),
         "draw" => Ok(draw_of(found)),
         "debug" => debug_of(alloc, found),
+        "replay" => Ok(replay_of(found)),
         _ => race_of(alloc, found),
     }
 }
@@ -232,8 +243,8 @@ fn read<'a>(alloc: Global, words: &'a [&'a str]) -> Result<Asked<'a>, AskFault>
 /// What the arguments of the command line ask for; the first is the program's name. The name alone asks for the
 /// script on standard input, `play SETUP SCRIPT` for a play, `race SETUP TURNS SCRIPT..` for a race,
 /// `explain SETUP SCRIPT P [K]` for what led to a step, `trail SETUP SCRIPT P [K]` for the trail of a value to it,
-/// `draw SETUP SCRIPT [P [K]]` for a picture, `debug SETUP [SEAT..]` for a session that goes on line by line. P and K are
-/// numbers of 1 to 999,999.
+/// `draw SETUP SCRIPT [P [K]]` for a picture, `debug SETUP [SEAT..]` for a session that goes on line by line,
+/// `replay SETUP JOURNAL` for a journal that is played again. P and K are numbers of 1 to 999,999.
 ///
 /// # Errors
 /// `Words` with `clap`'s error for arguments that the command line does not take, and for those alone; the error is
@@ -258,6 +269,7 @@ pub fn asked<'a>(alloc: Global, words: &'a [&'a str]) -> Result<Asked<'a>, AskFa
     ensures trail { AsksForTrail result (texts words.entry.now) }
     ensures draw { AsksForDraw result (texts words.entry.now) }
     ensures debug { AsksForDebug result (texts words.entry.now) }
+    ensures replay { AsksForReplay result (texts words.entry.now) }
 {
     read(alloc, words)
 }

@@ -6,6 +6,7 @@ pub mod Reading
 pub mod Reports
 pub mod Playing
 pub mod Racing
+pub mod Replaying
 pub mod Left
 pub mod Debugging
 pub mod Seating

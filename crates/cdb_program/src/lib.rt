@@ -9,6 +9,7 @@ mod files;
 mod outside;
 mod plays;
 mod races;
+mod replays;
 mod reports;
 mod request;
 mod seats;

@@ -11,6 +11,7 @@ use crate::files::Files;
 use crate::outside::Outside;
 use crate::plays::{play_files, play_input};
 use crate::races::race_files;
+use crate::replays::replay_files;
 use crate::reports::report;
 use crate::seats::perform_shared;
 use crate::trails::trail_files;
@@ -72,6 +73,11 @@ pub enum Request<'a> {
         setup: &'a str,
         seats: &'a [&'a str],
     },
+    /// Plays a journal file again on a run of a setup file.
+    Replay {
+        setup: &'a str,
+        journal: &'a str,
+    },
     /// Writes a text to standard output.
     Print(&'a str),
     /// Does nothing, and reports this fault.
@@ -131,6 +137,7 @@ fn carry_out<
         } => draw_files(alloc, setup, script, step, outside),
         Request::Debug { setup, prompt } => debug_file(alloc, setup, prompt, outside),
         Request::DebugShared { .. } => unreachable!(),
+        Request::Replay { setup, journal } => replay_files(alloc, setup, journal, outside),
         Request::Print(text) => print(text, &mut outside.streams.output),
         Request::Refuse(fault) => Err(fault),
     }

@@ -4,7 +4,7 @@ use Rattle.cdb_base.specs.Memory.{no_memory}
 use Rattle.revdbg.specs.declared.requested.Unread.{Unread}
 use Rattle.revdbg.specs.declared.requested.Unread.TheVariants as unread
 use Rattle.clap.specs.Words.{Text}
-use Rattle.cdb_arguments.specs.Asking.{IsDebugOf, IsDrawOf, IsExplainOf, IsOfKinds, IsPlayOf, IsRaceOf, IsTrailOf}
+use Rattle.cdb_arguments.specs.Asking.{IsDebugOf, IsDrawOf, IsExplainOf, IsOfKinds, IsPlayOf, IsRaceOf, IsReplayOf, IsTrailOf}
 use Rattle.cdb_arguments.specs.declared.request.AskFault.{AskFault}
 use Rattle.cdb_arguments.specs.declared.request.AskFault.TheVariants as fault_of_asking
 use Rattle.cdb_arguments.specs.declared.request.Asked.{Asked}
@@ -13,8 +13,8 @@ use Rattle.cdb_streams.specs.declared.fault.PlayFault.TheVariants as play
 use Rattle.cdb_program.specs.Known.{Seen}
 use Rattle.cdb_program.specs.declared.fault.Fault.TheVariants as fault
 use Rattle.cdb_program.specs.declared.request.Request.{Request}
-use Rattle.cdb_program.specs.declared.request.Request.TheVariants.{Script, Play, Race, Explain, Trail, Draw, Debug, DebugShared, Print, Refuse}
-use Rattle.revdbg.specs.Requested.{IsAskedBy, IsDebugRequest, IsDrawRequest, IsExplainRequest, IsOutOfMemory, IsPlayRequest, IsRaceRequest, IsRequestOf, IsRefusal, IsTrailRequest, IsUnread, OrOutOfMemory, PerformsOne}
+use Rattle.cdb_program.specs.declared.request.Request.TheVariants.{Script, Play, Race, Explain, Trail, Draw, Debug, DebugShared, Replay, Print, Refuse}
+use Rattle.revdbg.specs.Requested.{IsAskedBy, IsDebugRequest, IsDrawRequest, IsExplainRequest, IsOutOfMemory, IsPlayRequest, IsRaceRequest, IsReplayRequest, IsRequestOf, IsRefusal, IsTrailRequest, IsUnread, OrOutOfMemory, PerformsOne}
 
 -- where nothing can be wrong with the arguments, an allocation failed
 no_refusal : (request : Request) → IsRefusal [] request → ⊥
@@ -31,6 +31,7 @@ no_refusal (Trail setup script p k) is = is
 no_refusal (Draw setup script step) is = is
 no_refusal (Debug setup prompt) is = is
 no_refusal (DebugShared setup seats) is = is
+no_refusal (Replay setup journal) is = is
 no_refusal (Refuse fault.NoStep) is = is
 no_refusal (Refuse fault.NoValue) is = is
 
@@ -50,6 +51,7 @@ module _ (prompt : Text) where
   pub play_request : (setup script : Text) (it : Asked) → IsPlayOf setup script it → (request : Request) → IsRequestOf prompt it request → IsPlayRequest setup script request
   play_request setup script (asked.Play a b) is request of_it = rw (← is.0, ← is.1) of_it
   play_request setup script asked.Script is request of_it = absurd is
+  play_request setup script (asked.Replay a b) is request of_it = absurd is
   play_request setup script (asked.Draw a b q l) is request of_it = absurd is
   play_request setup script (asked.Debug a seats) is request of_it = absurd is
   play_request setup script (asked.Race a n b) is request of_it = absurd is
@@ -59,6 +61,7 @@ module _ (prompt : Text) where
   pub race_request : (setup : Text) (turns : ℕ) (scripts : List Text) (it : Asked) → IsRaceOf setup turns scripts it → (request : Request) → IsRequestOf prompt it request → IsRaceRequest setup turns scripts request
   race_request setup turns scripts (asked.Race a n b) is request of_it = rw (← is.0, ← is.1, ← is.2) of_it
   race_request setup turns scripts asked.Script is request of_it = absurd is
+  race_request setup turns scripts (asked.Replay a b) is request of_it = absurd is
   race_request setup turns scripts (asked.Draw a b q l) is request of_it = absurd is
   race_request setup turns scripts (asked.Debug a seats) is request of_it = absurd is
   race_request setup turns scripts (asked.Play a b) is request of_it = absurd is
@@ -68,6 +71,7 @@ module _ (prompt : Text) where
   pub explain_request : (setup script : Text) (p : ℕ) (k : Option ℕ) (it : Asked) → IsExplainOf setup script p k it → (request : Request) → IsRequestOf prompt it request → IsExplainRequest setup script p k request
   explain_request setup script p k (asked.Explain a b q l) is request of_it = rw (← is.0, ← is.1, ← is.2, ← is.3) of_it
   explain_request setup script p k asked.Script is request of_it = absurd is
+  explain_request setup script p k (asked.Replay a b) is request of_it = absurd is
   explain_request setup script p k (asked.Draw a b q l) is request of_it = absurd is
   explain_request setup script p k (asked.Debug a seats) is request of_it = absurd is
   explain_request setup script p k (asked.Trail a b q l) is request of_it = absurd is
@@ -77,6 +81,7 @@ module _ (prompt : Text) where
   pub trail_request : (setup script : Text) (p : ℕ) (k : Option ℕ) (it : Asked) → IsTrailOf setup script p k it → (request : Request) → IsRequestOf prompt it request → IsTrailRequest setup script p k request
   trail_request setup script p k (asked.Trail a b q l) is request of_it = rw (← is.0, ← is.1, ← is.2, ← is.3) of_it
   trail_request setup script p k asked.Script is request of_it = absurd is
+  trail_request setup script p k (asked.Replay a b) is request of_it = absurd is
   trail_request setup script p k (asked.Draw a b q l) is request of_it = absurd is
   trail_request setup script p k (asked.Debug a seats) is request of_it = absurd is
   trail_request setup script p k (asked.Explain a b q l) is request of_it = absurd is
@@ -86,6 +91,7 @@ module _ (prompt : Text) where
   pub debug_request : (setup : Text) (seats : List Text) (it : Asked) → IsDebugOf setup seats it → (request : Request) → IsRequestOf prompt it request → IsDebugRequest prompt setup seats request
   debug_request setup seats (asked.Debug a b) is request of_it = rw (← is.0, ← is.1) of_it
   debug_request setup seats asked.Script is request of_it = absurd is
+  debug_request setup seats (asked.Replay a b) is request of_it = absurd is
   debug_request setup seats (asked.Play a b) is request of_it = absurd is
   debug_request setup seats (asked.Race a n b) is request of_it = absurd is
   debug_request setup seats (asked.Explain a b p k) is request of_it = absurd is
@@ -95,11 +101,22 @@ module _ (prompt : Text) where
   pub draw_request : (setup script : Text) (p k : Option ℕ) (it : Asked) → IsDrawOf setup script p k it → (request : Request) → IsRequestOf prompt it request → IsDrawRequest setup script p k request
   draw_request setup script p k (asked.Draw a b q l) is request of_it = rw (← is.0, ← is.1, ← is.2, ← is.3) of_it
   draw_request setup script p k asked.Script is request of_it = absurd is
+  draw_request setup script p k (asked.Replay a b) is request of_it = absurd is
   draw_request setup script p k (asked.Play a b) is request of_it = absurd is
   draw_request setup script p k (asked.Race a n b) is request of_it = absurd is
   draw_request setup script p k (asked.Explain a b q l) is request of_it = absurd is
   draw_request setup script p k (asked.Trail a b q l) is request of_it = absurd is
   draw_request setup script p k (asked.Debug a b) is request of_it = absurd is
+
+  pub replay_request : (setup journal : Text) (it : Asked) → IsReplayOf setup journal it → (request : Request) → IsRequestOf prompt it request → IsReplayRequest setup journal request
+  replay_request setup journal (asked.Replay a b) is request of_it = rw (← is.0, ← is.1) of_it
+  replay_request setup journal asked.Script is request of_it = absurd is
+  replay_request setup journal (asked.Play a b) is request of_it = absurd is
+  replay_request setup journal (asked.Race a n b) is request of_it = absurd is
+  replay_request setup journal (asked.Explain a b p k) is request of_it = absurd is
+  replay_request setup journal (asked.Trail a b p k) is request of_it = absurd is
+  replay_request setup journal (asked.Draw a b p k) is request of_it = absurd is
+  replay_request setup journal (asked.Debug a b) is request of_it = absurd is
 
 -- ---- an allocation failed before it was known what is asked for
 
@@ -112,6 +129,7 @@ memory_is_asked prompt words request is = record {
   trail = λ setup script p k line. inr is;
   draw = λ setup script p k line. inr is;
   debug = λ setup seats line. inr is;
+  replay = λ setup journal line. inr is;
   taken = λ none. inr is;
   refused = λ some. inr is;
 }

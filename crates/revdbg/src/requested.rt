@@ -105,6 +105,7 @@ fn request_of<'a>(asked: &'a Asked<'a>, prompt: &'a str) -> Request<'a>
             script,
             step: p.map(|p| StepAsked { p, k: *k }),
         },
+        Asked::Replay { setup, journal } => Request::Replay { setup, journal },
         Asked::Debug { setup, seats } if seats.is_empty() => Request::Debug { setup, prompt },
         Asked::Debug { setup, seats } => Request::DebugShared {
             setup,
