@@ -39,6 +39,11 @@ const DRAW: Request<'static> = Request::Draw {
     step: Some(StepAsked { p: 1, k: Some(2) }),
 };
 
+const REPLAY: Request<'static> = Request::Replay {
+    setup: "one.json",
+    journal: "journal.txt",
+};
+
 const DEBUG: Request<'static> = Request::Debug {
     setup: "one.json",
     prompt: "> ",
@@ -79,6 +84,7 @@ fn each_write_of_output_fails_in_turn(rt: HostRuntime) {
         (EXPLAIN, 82),
         (TRAIL, 66),
         (DRAW, 4_590),
+        (REPLAY, 35),
         (Request::Print("help\n"), 5),
     ];
     for (request, length) in &requests {
@@ -164,6 +170,10 @@ const UNREAD: &[(Request<'static>, &'static [&'static str])] = &[
         &["cannot read one.json\n", "cannot read eight.txt\n"],
     ),
     (DRAW, &["cannot read one.json\n", "cannot read eight.txt\n"]),
+    (
+        REPLAY,
+        &["cannot read one.json\n", "cannot read journal.txt\n"],
+    ),
     (DEBUG, &["cannot read one.json\n"]),
     (
         RACE,
