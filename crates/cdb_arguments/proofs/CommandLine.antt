@@ -20,7 +20,8 @@ program_is_free = refl
 
 abbrev IsOne : Shape → Type 0
 IsOne shape = (shape.name ≡ codes "play") ⊎ ((shape.name ≡ codes "race")
-    ⊎ ((shape.name ≡ codes "explain") ⊎ ((shape.name ≡ codes "trail") ⊎ ((shape.name ≡ codes "draw") ⊎ ((shape.name ≡ codes "slice") ⊎ (shape.name ≡ codes "debug"))))))
+    ⊎ ((shape.name ≡ codes "explain") ⊎ ((shape.name ≡ codes "trail") ⊎ ((shape.name ≡ codes "draw")
+    ⊎ ((shape.name ≡ codes "slice") ⊎ ((shape.name ≡ codes "debug") ⊎ (shape.name ≡ codes "replay")))))))
 
 found_is_one : (subs : List Shape) (test : Shape → Bool) (rest : List Text) → AllByRecursion IsOne subs → NamesOne (option_map (λ s. rows_at s rest) (find test subs))
 found_is_one [] test rest all = tt
@@ -36,7 +37,22 @@ entered_is_one app (Some p) all = found_is_one app.subs (λ s. answers_to p.0 (l
 
 subs_are : AllByRecursion IsOne (built program).subs
 unfolding clap_on_literals program
-subs_are = (inl refl, (inr (inl refl), (inr (inr (inl refl)), (inr (inr (inr (inl refl))), (inr (inr (inr (inr (inl refl)))), (inr (inr (inr (inr (inr (inl refl))))), (inr (inr (inr (inr (inr (inr refl))))), tt)))))))
+subs_are = (
+  inl refl,
+  (
+    inr (inl refl),
+    (
+      inr (inr (inl refl)),
+      (
+        inr (inr (inr (inl refl))),
+        (
+          inr (inr (inr (inr (inl refl)))),
+          (inr (inr (inr (inr (inr (inl refl))))), (inr (inr (inr (inr (inr (inr (inl refl)))))), (inr (inr (inr (inr (inr (inr (inr refl)))))), tt))),
+        ),
+      ),
+    ),
+  ),
+)
 
 -- the words name one of the subcommands, or none
 pub names_one : (words : List Text) → NamesOne (subcommand_of program words)

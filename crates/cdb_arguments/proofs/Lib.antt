@@ -3,6 +3,7 @@ pub mod Given
 pub mod Named
 pub mod PlainWords
 pub mod Values
+pub mod JournalLines
 pub mod Lines
 pub mod Subcommands
 pub mod StepLines

@@ -10,8 +10,8 @@ use Rattle.cdb_arguments.specs.declared.request.AskFault.{AskFault}
 use Rattle.cdb_base.specs.Memory.{no_memory}
 use Rattle.cdb_arguments.specs.declared.request.AskFault.TheVariants.{Words, NoMemory}
 use Rattle.cdb_arguments.specs.declared.request.Asked.{Asked}
-use Rattle.cdb_arguments.specs.declared.request.Asked.TheVariants.{Script, Play, Race, Ask, Debug}
-use Rattle.cdb_arguments.specs.Plain.{IsDebugLine, IsPlayLine, IsQuestionLine, IsRaceLine, WritesNumber, question_name}
+use Rattle.cdb_arguments.specs.declared.request.Asked.TheVariants.{Script, Play, Race, Ask, Debug, Replay}
+use Rattle.cdb_arguments.specs.Plain.{IsDebugLine, IsPlayLine, IsQuestionLine, IsRaceLine, IsReplayLine, WritesNumber, question_name}
 use Rattle.cdb_base.specs.declared.question.Question.{Question}
 use Rattle.cdb_base.specs.declared.question.Question.TheVariants.{Explain, Trail, Draw, Slice}
 use Rattle.cdb_base.specs.declared.question.StepAsked.{StepAsked}
@@ -24,7 +24,8 @@ texts = map (λ text. text.now)
 abbrev pub NamesOne : Option (Text × List Row) → Type 0
 NamesOne None = Unit {0}
 NamesOne (Some found) = (found.0 ≡ codes "play") ⊎ ((found.0 ≡ codes "race")
-    ⊎ ((found.0 ≡ codes "explain") ⊎ ((found.0 ≡ codes "trail") ⊎ ((found.0 ≡ codes "draw") ⊎ ((found.0 ≡ codes "slice") ⊎ (found.0 ≡ codes "debug"))))))
+    ⊎ ((found.0 ≡ codes "explain") ⊎ ((found.0 ≡ codes "trail") ⊎ ((found.0 ≡ codes "draw")
+    ⊎ ((found.0 ≡ codes "slice") ⊎ ((found.0 ≡ codes "debug") ⊎ (found.0 ≡ codes "replay")))))))
 
 -- the text of an argument, which is empty where the matches have none
 abbrev pub text_at : Text → List Row → Text
@@ -81,6 +82,9 @@ NamesAsked found (Ask setup script question) =
 NamesAsked found (Debug setup seats) =
     (rows : List Row) × (found ≡ Some (codes "debug", rows)) × (setup.now ≡ text_at (codes "SETUP") rows)
     × (map (λ seat. seat.now) seats.items ≡ texts_at (codes "SEAT") rows)
+NamesAsked found (Replay setup journal) =
+    (rows : List Row) × (found ≡ Some (codes "replay", rows)) × (setup.now ≡ text_at (codes "SETUP") rows)
+    × (journal.now ≡ text_at (codes "JOURNAL") rows)
 
 -- a play of these two files
 abbrev pub IsPlayOf : Text → Text → Asked → Type 0
@@ -104,6 +108,11 @@ abbrev pub IsDebugOf : Text → List Text → Asked → Type 0
 IsDebugOf setup seats (Debug its_setup its_seats) = (its_setup.now ≡ setup) × (texts its_seats.items ≡ seats)
 IsDebugOf setup seats asked = ⊥
 
+-- a journal that is played again on this setup
+abbrev pub IsReplayOf : Text → Text → Asked → Type 0
+IsReplayOf setup journal (Replay its_setup its_journal) = (its_setup.now ≡ setup) × (its_journal.now ≡ journal)
+IsReplayOf setup journal asked = ⊥
+
 -- what was asked for, or no memory to say it
 abbrev pub IsRequest : Result Asked AskFault → (Asked → Type 0) → Type 0
 IsRequest result IsIt = IfOk result IsIt × IfErr result (λ fault. fault ≡ NoMemory no_memory)
@@ -125,6 +134,10 @@ AsksQuestion result words =
 abbrev pub AsksForDebug : Result Asked AskFault → List Text → Type 0
 AsksForDebug result words =
     (setup : Text) (seats : List Text) → IsDebugLine words setup seats → IsRequest result (IsDebugOf setup seats)
+
+abbrev pub AsksForReplay : Result Asked AskFault → List Text → Type 0
+AsksForReplay result words =
+    (setup journal : Text) → IsReplayLine words setup journal → IsRequest result (IsReplayOf setup journal)
 
 -- out of memory, or an error of one of the kinds
 abbrev pub IsOfKinds : Kinds → AskFault → Type 0

@@ -66,6 +66,10 @@ slice_app = on_any_step (codes "slice")
 abbrev pub debug_app : App
 debug_app = with_arguments (codes "debug") (required_rule (codes "SETUP") ∷ several (new_rule (codes "SEAT")) ∷ [])
 
+-- `replay SETUP JOURNAL`
+abbrev pub replay_app : App
+replay_app = with_arguments (codes "replay") (required_rule (codes "SETUP") ∷ required_rule (codes "JOURNAL") ∷ [])
+
 -- the program with these subcommands too
 abbrev pub with_subcommands : App → List App → App
 with_subcommands = fold (λ app sub. with_subcommand app sub.top)
@@ -76,4 +80,4 @@ playing = with_subcommands (on_top (λ s. record s { has_version = true; disable
 
 -- the program with its subcommands
 unfoldable pub program : App
-program = with_subcommands playing (explain_app ∷ trail_app ∷ draw_app ∷ slice_app ∷ debug_app ∷ [])
+program = with_subcommands playing (explain_app ∷ trail_app ∷ draw_app ∷ slice_app ∷ debug_app ∷ replay_app ∷ [])

@@ -79,3 +79,7 @@ IsQuestionLine words setup script question =
 -- `debug SETUP [SEAT..]`, with as many seats as a machine's word counts
 abbrev pub IsDebugLine : List Text → Text → List Text → Type 0
 IsDebugLine words setup seats = IsSubcommandLine (codes "debug") (setup ∷ seats) words × (length seats ≤ usize_max)
+
+-- `replay SETUP JOURNAL`
+abbrev pub IsReplayLine : List Text → Text → Text → Type 0
+IsReplayLine words setup journal = IsSubcommandLine (codes "replay") (setup ∷ journal ∷ []) words

@@ -35,6 +35,8 @@ const SLICE: &str =
 
 const DEBUG: &str = "Carries each command out before the next is read, for one user or for several";
 
+const REPLAY: &str = "Plays a journal again, and prints each reply behind the number of its seat";
+
 const LINES: &str =
     "Without a subcommand it plays the script on standard input, on one process that proposes 7.
 
@@ -87,6 +89,7 @@ pub(crate) enum Argument {
     AnyProcess,
     Step,
     Seats,
+    Journal,
 }
 
 /// A subcommand of the program.
@@ -98,11 +101,12 @@ pub(crate) enum Subcommand {
     Draw,
     Slice,
     Debug,
+    Replay,
 }
 
 impl Subcommand {
     /// The subcommands, in the order in which help lists them.
-    pub(crate) const ALL: [Subcommand; 7] = [
+    pub(crate) const ALL: [Subcommand; 8] = [
         Subcommand::Play,
         Subcommand::Race,
         Subcommand::Explain,
@@ -110,6 +114,7 @@ impl Subcommand {
         Subcommand::Draw,
         Subcommand::Slice,
         Subcommand::Debug,
+        Subcommand::Replay,
     ];
 
     fn name<'a>(&self) -> &'a str
@@ -123,6 +128,7 @@ impl Subcommand {
             Subcommand::Draw => "draw",
             Subcommand::Slice => "slice",
             Subcommand::Debug => "debug",
+            Subcommand::Replay => "replay",
         }
     }
 
@@ -135,6 +141,7 @@ impl Subcommand {
             Subcommand::Draw => DRAW,
             Subcommand::Slice => SLICE,
             Subcommand::Debug => DEBUG,
+            Subcommand::Replay => REPLAY,
         }
     }
 
@@ -158,6 +165,7 @@ impl Subcommand {
                 Argument::Step,
             ],
             Subcommand::Debug => &[Argument::Setup, Argument::Seats],
+            Subcommand::Replay => &[Argument::Setup, Argument::Journal],
         }
     }
 }
@@ -244,6 +252,11 @@ fn argument_of<'a>(alloc: Global, argument: &Argument) -> Arg<'a>
             "Which of its standing steps, 1 to 999999; left out: its last one",
         ),
         Argument::Seats => seats(alloc),
+        Argument::Journal => required(
+            alloc,
+            "JOURNAL",
+            "The file of the journal, one entry a line: its seat, and its command",
+        ),
     }
 }
 

@@ -46,9 +46,9 @@ pub read_none : (files : FilesSeen) → HasRead files files [] []
 read_none files = (sym (opened_none files), tt)
 
 -- it can't be read
-pub fails_one : (old new : FilesSeen) (name : Bor (List ℕ)) (fault : ReadFault) → ReadsFile old new name.now most_read (Err fault) → FailsToRead old new (name.now ∷ []) (Play (of_reading fault) name)
-fails_one old new name reading.Failed read = ([], [], refl, read)
-fails_one old new name (reading.NoMemory refused) read = ([], name.now ∷ [], refl, read ∙ sym (opened_none old))
+pub fails_one : (old new : FilesSeen) (name : Bor (List ℕ)) (most : ℕ) (fault : ReadFault) → ReadsFile old new name.now most (Err fault) → FailsToRead old new (name.now ∷ []) (Play (of_reading fault) name)
+fails_one old new name most reading.Failed read = ([], [], refl, read)
+fails_one old new name most (reading.NoMemory refused) read = ([], name.now ∷ [], refl, read ∙ sym (opened_none old))
 
 -- ---- files after others
 

@@ -136,6 +136,7 @@ holds_seen rules known output_stream error_stream json endpoints output output_a
       encodes = h.encodes;
       control = h.control;
       finished = map (known_finished known) h.finished;
+      writable = h.writable;
       sessions = record {
         setup_is = h.sessions.setup_is;
         seats_are = h.sessions.seats_are ∙ sym (length-map endpoints (known_endpoint known));

@@ -11,7 +11,9 @@ use Rattle.cdb_streams.specs.declared.fault.PlayFault.TheVariants as play
 use Rattle.cdb_agreement.specs.Algorithms.{rules}
 use Rattle.cdb_agreement.specs.SameState.{ReachSameState}
 use Rattle.cdb_setup.specs.declared.fault.SetupFault.{SetupFault}
+use Rattle.cdb_journal.specs.Replays.{IsFaultOfReplay, Replays, TellsAgain}
 use Rattle.cdb_program.specs.Playing.{IsPlay}
+use Rattle.cdb_program.specs.Replaying.{IsReplay}
 
 -- what was written of a text, by the writer's stream
 pub stream_written : {W : Type 0} (stream : W → Stream) (ending : Ending) (old new : W) (IsText : List ℕ → Type 0) → IsWritten stream ending old new IsText → IsWritten (λ (s : Stream). s) ending (stream old) (stream new) IsText
@@ -34,6 +36,19 @@ pub play_seen : {R W : Type 0} (reader : R → Stream) (writer : W → Stream) (
 play_seen reader writer json played script rest old new wrote headline fault same read = record {
   wrote = stream_written writer (play_ending played) old new (Plays rules json (reader script) (reader rest)) wrote;
   headline = stream_written writer (play_ending played) old new (RestsOnHeadline rules ReachSameState json (reader script) (reader rest)) headline;
+  fault = fault;
+  unread = λ why is. ap reader (same why is);
+  read = read;
+}
+
+-- what a replay says of its reader and its writer
+pub replay_seen : {R W : Type 0} (reader : R → Stream) (writer : W → Stream) (json : List ℕ) (replayed : Result (Unit {0}) PlayFault) (journal rest : R) (old new : W)
+    → IsWritten writer (play_ending replayed) old new (Replays rules json (reader journal) (reader rest)) → IsWritten writer (play_ending replayed) old new (TellsAgain rules json (reader journal) (reader rest)) → IfErr replayed (IsFaultOfReplay json (reader journal) (reader rest))
+    → ((fault : SetupFault) → replayed ≡ Err (play.Setup fault) → rest ≡ journal) → FailsWhere reader (replayed ≡ Err play.Read) journal rest
+    → IsReplay json replayed (reader journal) (reader rest) (writer old) (writer new)
+replay_seen reader writer json replayed journal rest old new wrote again fault same read = record {
+  wrote = stream_written writer (play_ending replayed) old new (Replays rules json (reader journal) (reader rest)) wrote;
+  again = stream_written writer (play_ending replayed) old new (TellsAgain rules json (reader journal) (reader rest)) again;
   fault = fault;
   unread = λ why is. ap reader (same why is);
   read = read;

@@ -9,6 +9,7 @@ use Rattle.cdb_program.specs.Playing.{PlaysInput, PlaysFiles}
 use Rattle.cdb_program.specs.Questions.{AsksFiles}
 use Rattle.cdb_program.specs.Racing.{RacesFiles}
 use Rattle.cdb_program.specs.Reading.{file_names}
+use Rattle.cdb_program.specs.Replaying.{ReplaysFiles}
 use Rattle.cdb_program.specs.Reports.{IsReported}
 use Rattle.cdb_program.specs.Seating.{PerformsShared}
 use Rattle.cdb_program.specs.declared.fault.Fault.TheVariants.{Play}
@@ -45,6 +46,7 @@ Does (request.Race setup turns scripts) old new outcome = RacesFiles setup.now t
 Does (request.Ask setup script question) old new outcome = AsksFiles setup.now script.now question old new outcome
 Does (request.Debug setup prompt) old new outcome = DebugsFile setup.now prompt.now old new outcome
 Does (request.DebugShared setup seats) old new outcome = ⊥
+Does (request.Replay setup journal) old new outcome = ReplaysFiles setup.now journal.now old new outcome
 Does (request.Print text) old new outcome = ReadsNothing old new × Prints text.now old.output new.output outcome
 Does (request.Refuse fault) old new outcome = ReadsNothing old new × (new.output ≡ old.output) × (outcome ≡ Err fault)
 

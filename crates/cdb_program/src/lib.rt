@@ -8,6 +8,7 @@ mod outside;
 mod plays;
 mod questions;
 mod races;
+mod replays;
 mod reports;
 mod request;
 mod seats;

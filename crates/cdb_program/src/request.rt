@@ -10,6 +10,7 @@ use crate::outside::Outside;
 use crate::plays::{play_files, play_input};
 use crate::questions::answer_files;
 use crate::races::race_files;
+use crate::replays::replay_files;
 use crate::reports::report;
 use crate::seats::perform_shared;
 use cdb_base::Question;
@@ -54,6 +55,11 @@ pub enum Request<'a> {
     DebugShared {
         setup: &'a str,
         seats: &'a [&'a str],
+    },
+    /// Plays a journal file again on a run of a setup file.
+    Replay {
+        setup: &'a str,
+        journal: &'a str,
     },
     /// Writes a text to standard output.
     Print(&'a str),
@@ -102,6 +108,7 @@ fn carry_out<
         } => answer_files(alloc, setup, script, question, outside),
         Request::Debug { setup, prompt } => debug_file(alloc, setup, prompt, outside),
         Request::DebugShared { .. } => unreachable!(),
+        Request::Replay { setup, journal } => replay_files(alloc, setup, journal, outside),
         Request::Print(text) => print(text, &mut outside.streams.output),
         Request::Refuse(fault) => Err(fault),
     }

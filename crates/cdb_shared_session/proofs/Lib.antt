@@ -4,4 +4,5 @@ pub mod SetupFaults
 pub mod AllSeats
 pub mod FailureLines
 pub mod SeatCalls
+pub mod Writable
 pub mod WrittenTexts

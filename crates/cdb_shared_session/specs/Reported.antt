@@ -13,7 +13,8 @@ use Rattle.cdb_rules.specs.Rules.{Rules}
 use Rattle.cdb_setup.specs.Format.{Encodes, longest}
 use Rattle.cdb_setup.specs.Order.{IsFirstFault}
 use Rattle.cdb_setup.specs.Parts.{Parts}
-use Rattle.cdb_shared_session.specs.SharedSessions.{AreSessions, journal_text}
+use Rattle.cdb_journal.specs.Journals.{IsWritable, journal_text}
+use Rattle.cdb_shared_session.specs.SharedSessions.{AreSessions}
 use Rattle.cdb_shared_session.specs.Reports.{outcomes, failures_text, status_of}
 use Rattle.cdb_shared_session.specs.declared.endpoint.Endpoint.{Endpoint}
 use Rattle.cdb_shared_session.specs.declared.endpoint.Finished.{Finished}
@@ -28,6 +29,8 @@ pub record RunsSessions {T O E : Type 0} (rules : Parts â†’ Rules) (known : T â†
   pub control : Journaled
   pub finished : List (Finished T)
   pub sessions : AreSessions rules known setup endpoints control finished
+  -- so a replay of what is written tells each seat what it was told
+  pub writable : IsWritable control
   pub written : Result (Unit {0}) OutputFault
   pub journal : IsWritten output_stream (whole_ending written) output output_after (Only (journal_text control.journal))
   pub reported : Result (Unit {0}) Failed

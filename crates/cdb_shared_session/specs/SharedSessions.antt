@@ -1,13 +1,10 @@
 -- Sessions of several seats over one run.
-use Rattle.std.specs.Prelude.{◌≡◌, ℕ, ◌+◌, ◌<◌, List, length, slice_index_or, codes, decimal, ◌++◌}
-use Rattle.std.specs.List.{flat_map}
+use Rattle.std.specs.Prelude.{◌≡◌, ℕ, ◌+◌, ◌<◌, List, length, slice_index_or}
 use Rattle.cdb_control.specs.Journal.{Journaled, AreOfSeats}
-use Rattle.cdb_control.specs.declared.control.Entry.{Entry}
 use Rattle.cdb_session.specs.Moves.{Known, Move, Makes}
 use Rattle.cdb_session.specs.Served.{IsSession}
 use Rattle.cdb_rules.specs.Rules.{Rules}
 use Rattle.cdb_setup.specs.Parts.{Parts}
-use Rattle.cdb_text.specs.Grammar.{printed}
 use Rattle.cdb_shared_session.specs.SeatParts.{part_in, seat_style}
 use Rattle.cdb_shared_session.specs.declared.endpoint.Endpoint.{Endpoint}
 use Rattle.cdb_shared_session.specs.declared.endpoint.Finished.{Finished}
@@ -28,13 +25,3 @@ pub record AreSessions {T : Type 0} (rules : Parts → Rules) (known : T → Kno
   pub many : length finished ≡ length endpoints
   pub each : (k : ℕ) (p : Endpoint T) (a : Finished T) → k < length endpoints
       → IsFinished rules known c (k + 1) (slice_index_or endpoints k p) (slice_index_or finished k a)
-
--- ---- the journal as text
-
--- `S LINE`
-abbrev pub entry_line : Entry → List ℕ
-entry_line e = decimal e.seat ++ codes " " ++ printed e.command ++ codes "\n"
-
--- a line for each entry
-abbrev pub journal_text : List Entry → List ℕ
-journal_text journal = flat_map entry_line journal

@@ -4,19 +4,17 @@
 //! ```text
 //! let endpoints = vec![in alloc; Endpoint { console, prompt: b"> " }]?;
 //! let (control, finished) = debug_seats::<R, _, _>(rt, alloc, setup, endpoints)?;
-//! let text = journal_text(alloc, control.journal())?;
+//! let text = cdb_journal::journal_text(alloc, control.journal())?;
 //! ```
 #![tactic(auto)]
 
 mod endpoint;
-mod journal;
 mod reports;
 mod seat;
 mod shared;
 mod threads;
 
 pub use endpoint::{Endpoint, Finished};
-pub use journal::journal_text;
 pub use reports::{status_after, write_failures, write_journal};
 pub use shared::debug_shared;
 pub use threads::{SessionsFault, debug_seats};

@@ -4,15 +4,15 @@ ghost use Rattle.std.specs.Prelude.{◌≡◌, ◌≤◌, length};
 ghost use Rattle.cdb_streams.specs.Endings.{whole_ending};
 ghost use Rattle.cdb_streams.specs.Streams.{Writes};
 ghost use Rattle.cdb_streams.specs.Written.{IsWritten, Only};
-ghost use Rattle.cdb_shared_session.specs.SharedSessions.{journal_text};
+ghost use Rattle.cdb_journal.specs.Journals.{journal_text};
 ghost use Rattle.cdb_shared_session.specs.Reports.{outcomes, seat_name, failed_seat_line};
 ghost use Rattle.cdb_shared_session.specs.Reports.{failed_seat_lines, seats_status};
 ghost use Rattle.cdb_shared_session.specs.Reports.{journal_line, failures_text, status_of as status_is};
 
 use crate::endpoint::Finished;
-use crate::journal::journal_text;
 use cdb_base::limits::MAX_SEATS;
 use cdb_control::Entry;
+use cdb_journal::journal_text;
 use cdb_streams::{Failed, OutputFault, PlayFault, Sink, status_of, write_all, write_fault};
 use itoa::Buffer;
 use std::alloc::Global;

@@ -2,6 +2,7 @@
 
 ghost use Rattle.std.specs.Prelude.{◌≡◌, ◌≤◌, length, vec_len, vec_capacity, All, IfOk, IfErr, OnErr};
 ghost use Rattle.cdb_control.specs.Journal.{opened};
+ghost use Rattle.cdb_journal.specs.Journals.{IsWritable};
 ghost use Rattle.cdb_shared_session.specs.SharedSessions.{AreSessions};
 ghost use Rattle.cdb_shared_session.specs.Promises.{IsUnused, IsSeatPromise, AreSeatPromises};
 ghost use Rattle.cdb_shared_session.specs.Promises.{AllKept, AllHaveRun, HasRun};
@@ -222,7 +223,7 @@ fn open_shared<R: Runs, Rt: Wait>(
 /// own, until all have ended; then the control, whose journal has the commands of all, and the endpoints in the same
 /// order, each with how its session ended. The k-th endpoint is that of seat k. A line has its response as in a session
 /// of one seat, but that no line chooses a seat. A seat whose session ends with a fault ends alone, and the others go
-/// on.
+/// on. The journal can be written, and a replay of what was written tells each seat what it was told.
 ///
 /// # Errors
 /// `NoMemory` where the control, the results or the threads find no memory, and then no session was begun. `Spawn`
@@ -243,6 +244,7 @@ pub fn debug_seats<R: Runs + Send, T: Console + Drop + Send, Rt: Threads + Wait 
     requires fits { vec_len endpoints ≤ MAX_SEATS }
     ensures sessions { IfOk result
         (λ r. AreSessions R.rules T.known setup endpoints.items r.0 r.1.items) }
+    ensures writable { IfOk result (λ r. IsWritable r.0) }
     ensures headline { IfOk result (λ r. HasHeadline R.rules R.same_state r.0) }
 {
     let count = endpoints.len() as u8;

@@ -19,6 +19,7 @@ pub use buffer::{Buffer, OutputFault, write_text};
 pub use fault::{PlayFault, RaceFault};
 pub use fault_text::{write_fault, write_race_fault};
 pub use input::{Bytes, HeldBytes, Input};
+pub use lines::first_line;
 pub use output::Output;
 pub use reply::put_reply;
 pub use script::{ScriptFault, commands_of, read_commands};

@@ -10,7 +10,7 @@ abbrev pub is_space : ℕ → Bool
 is_space byte = nat_eq byte 32
 
 -- a line has a word
-some_word : (line : List ℕ) → words_of line ≢ []
+pub some_word : (line : List ℕ) → words_of line ≢ []
 some_word line none = absurd (omega (arith, length-slice_split is_space line, ap length none))
 
 -- no word is left only behind the last

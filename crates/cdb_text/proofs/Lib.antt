@@ -2,6 +2,7 @@ pub mod Again
 pub mod Behind
 pub mod Cut
 pub mod Digits
+pub mod Entries
 pub mod Keys
 pub mod Numbers
 pub mod Printed

@@ -23,7 +23,7 @@ use Rattle.cdb_text.proofs.Cut.{is_space}
 abbrev IsSpaceless : List ℕ → Type 0
 IsSpaceless word = AllByRecursion (λ byte. is_space byte ≡ false) word
 
-none_is_space : (word : List ℕ) → IsSpaceless word → All (λ byte. is_space byte ≡ false) word
+pub none_is_space : (word : List ℕ) → IsSpaceless word → All (λ byte. is_space byte ≡ false) word
 none_is_space word is = All-from_recursion (λ byte. is_space byte ≡ false) word is
 
 -- words without a space, joined by spaces, are cut into these words
@@ -42,7 +42,7 @@ digits_are_spaceless : (word : List ℕ) → AllDigits 10 word → IsSpaceless w
 digits_are_spaceless [] all = tt
 digits_are_spaceless (byte ∷ word) all = (digit_is_no_space byte all.0, digits_are_spaceless word all.1)
 
-number_is_spaceless : (n : ℕ) → n ≤ 999999 → IsSpaceless (decimal n)
+pub number_is_spaceless : (n : ℕ) → n ≤ 999999 → IsSpaceless (decimal n)
 number_is_spaceless n high = digits_are_spaceless (decimal n) (digits_decimal (numerals_by_value (AllDigits 10) tells_digits) n (omega arith))
 
 abbrev no_space : CommandPart → Bool
@@ -86,7 +86,7 @@ cut_again : (parts : List CommandPart) → parts ≢ [] → AllByRecursion IsSpa
 cut_again [] some all = absurd (some refl)
 cut_again (part ∷ parts) some all = joined (part_text part) (map part_text parts) all.0 all.1
 
-some_part : (command : Command) → command_parts command ≢ []
+pub some_part : (command : Command) → command_parts command ≢ []
 some_part (Step p act.Go) e = cc
 some_part (Step p act.Learn) e = cc
 some_part (Step p act.Crash) e = cc
@@ -103,7 +103,7 @@ some_part (Show view.Mail) e = cc
 some_part (Show view.History) e = cc
 some_part other e = cc
 
-printed_is_line : (command : Command) → HasNumbersInRange command → IsLineOf command (printed command)
+pub printed_is_line : (command : Command) → HasNumbersInRange command → IsLineOf command (printed command)
 printed_is_line command ranges = (cut_again (command_parts command) (some_part command) (parts_are_spaceless (command_parts command) (no_spaces command) ranges), ranges)
 
 line_is_printed : (command : Command) (line : List ℕ) → IsLineOf command line → line ≡ printed command

@@ -3,6 +3,7 @@ pub mod Commands
 pub mod Grammar
 pub mod Faults
 pub mod LineFaults
+pub mod Entries
 pub mod Laws
 -- and the texts of replies
 pub mod Events

@@ -1,5 +1,5 @@
-//! The script grammar, and the texts of replies. A line of a script is a command or has a first fault,
-//! and a reply of the control has one text:
+//! The script grammar, and the texts of replies. A line of a script is a command or has a first fault, one of a journal
+//! is the number of a seat and a command, and a reply of the control has one text:
 //!
 //! ```text
 //! let command = parse_line(b"undo 2 1")?;
@@ -8,6 +8,7 @@
 //! ```
 #![tactic(auto)]
 
+mod entry;
 mod fault;
 mod keyword;
 pub mod laws;
@@ -16,6 +17,7 @@ mod text;
 mod verb;
 mod words;
 
+pub use entry::parse_entry;
 pub use fault::LineFault;
 pub use line::parse_line;
 pub use text::{

@@ -121,7 +121,7 @@ fn event(verb: Verb, mut words: Words<'_>) -> Result<Command, LineFault>
 
 /// The command of a line of words.
 #[inline(never)]
-fn command(mut words: Words<'_>) -> Result<Command, LineFault>
+pub(crate) fn command(mut words: Words<'_>) -> Result<Command, LineFault>
     ensures { IsReadAfter [] words.entry result }
 {
     let word = words.word()?;

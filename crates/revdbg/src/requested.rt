@@ -81,6 +81,7 @@ fn request_of<'a>(asked: &'a Asked<'a>, prompt: &'a str) -> Request<'a>
             script,
             question: *question,
         },
+        Asked::Replay { setup, journal } => Request::Replay { setup, journal },
         Asked::Debug { setup, seats } if seats.is_empty() => Request::Debug { setup, prompt },
         Asked::Debug { setup, seats } => Request::DebugShared {
             setup,

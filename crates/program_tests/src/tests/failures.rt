@@ -45,6 +45,11 @@ const SLICE: Request<'static> = Request::Ask {
     question: Question::Slice(Some(STEP)),
 };
 
+const REPLAY: Request<'static> = Request::Replay {
+    setup: "one.json",
+    journal: "journal.txt",
+};
+
 const DEBUG: Request<'static> = Request::Debug {
     setup: "one.json",
     prompt: "> ",
@@ -86,6 +91,7 @@ fn each_write_of_output_fails_in_turn(rt: HostRuntime) {
         (TRAIL, 66),
         (DRAW, 4_590),
         (SLICE, 25),
+        (REPLAY, 35),
         (Request::Print("help\n"), 5),
     ];
     for (request, length) in &requests {
@@ -174,6 +180,10 @@ const UNREAD: &[(Request<'static>, &'static [&'static str])] = &[
     (
         SLICE,
         &["cannot read one.json\n", "cannot read eight.txt\n"],
+    ),
+    (
+        REPLAY,
+        &["cannot read one.json\n", "cannot read journal.txt\n"],
     ),
     (DEBUG, &["cannot read one.json\n"]),
     (

@@ -27,6 +27,7 @@ const FILES: &[Named] = &[
     ("redo.txt", b"redo"),
     ("decisions.txt", b"decisions\n"),
     ("number.txt", b"auto 1\nstep 01 go\n"),
+    ("journal.txt", b"1 auto 1\n2 undo 1 1\n"),
 ];
 
 /// Files in memory, the names of those that were opened, and how many more can be read. No contract knows their bytes.

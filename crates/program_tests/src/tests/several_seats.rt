@@ -3,10 +3,9 @@
 use super::person::{Person, with_lines};
 use cdb_any_run::AnyRun;
 use cdb_control::{Control, Entry};
+use cdb_journal::journal_text;
 use cdb_setup::Setup;
-use cdb_shared_session::{
-    Endpoint, Finished, debug_seats, journal_text, status_after, write_failures,
-};
+use cdb_shared_session::{Endpoint, Finished, debug_seats, status_after, write_failures};
 use cdb_streams::{Output, PlayFault};
 use std::alloc::{AllocError, Global};
 use std::process::Abort;

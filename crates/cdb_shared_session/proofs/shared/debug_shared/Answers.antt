@@ -3,7 +3,7 @@ use Rattle.cdb_control.specs.declared.control.Entry.{Entry}
 use Rattle.cdb_streams.specs.Endings.{whole_ending}
 use Rattle.cdb_streams.specs.Streams.{Writes}
 use Rattle.cdb_streams.specs.Written.{IsWritten, Only}
-use Rattle.cdb_shared_session.specs.SharedSessions.{journal_text}
+use Rattle.cdb_journal.specs.Journals.{journal_text}
 use Rattle.cdb_shared_session.specs.Reported.{IsFaultOfSessions}
 use Rattle.cdb_shared_session.specs.Reports.{outcomes, failures_text, status_of}
 use Rattle.cdb_shared_session.specs.declared.endpoint.Finished.{Finished}
@@ -28,6 +28,7 @@ returns-clause-sessions g c =
       control = c.in-Ok-debug_seats.sessions.0;
       finished = c.in-Ok-debug_seats.sessions.1.items;
       sessions = c.in-Ok-debug_seats.ensures.sessions;
+      writable = c.in-Ok-debug_seats.ensures.writable;
       written = written;
       journal = subst (λ (es : List Entry). IsWritten g.O.Sink.stream (whole_ending written) c.args.output.now c.write_journal-written.new.out (Only (journal_text es))) c.journal.ensures.entries c.write_journal-written.ensures;
       reported = c.write_failures.result;

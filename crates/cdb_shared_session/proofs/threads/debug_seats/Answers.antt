@@ -2,6 +2,7 @@ use Rattle.std.proofs.Common.{◌≡◌, ◌≤◌, arith, length}
 use Rattle.cdb_shared_session.proofs.Kept.{some_of}
 use Rattle.cdb_shared_session.proofs.AllSeats.{all_ready, all_rest, sessions}
 use Rattle.cdb_shared.proofs.Fresh.{fresh_of}
+use Rattle.cdb_shared_session.proofs.Writable.{writable}
 use Rattle.cdb_shared_session.proofs.threads.debug_seats.Goals as goal
 
 pub run_all-requires-clause-ready : goal.run_all-requires-clause-ready
@@ -48,3 +49,16 @@ returns-clause-sessions g c =
     let responded : length finished.items ≡ length endpoints.items = omega (arith, new.many, c.in-Ok.ensures.count.1, before.ok.0, finished.ok.0) in
     let some : 1 ≤ length endpoints.items = omega (arith, c.requires.some, endpoints.ok.0) in
     sessions g.R.Runs.rules g.T.Console.known c.in_ok-shared.shared c.args.setup endpoints.items before.items seats.items finished.items new many c.in-Ok.ensures.each c.finish-control.result c.finish-control.ensures.known c.journal.ensures.limit some c.journal.ensures.seats responded
+
+pub returns-clause-writable : goal.returns-clause-writable
+returns-clause-writable g c =
+    let new = fresh_of c.in_ok-shared.shared c.args.setup (length c.args.endpoints.items) _ _ (omega (arith, c.len-count.ensures, c.args.endpoints.ok.0)) c.in_ok-shared.ensures in
+    let endpoints = c.args.endpoints in
+    let before = c.in_ok-shared.seats in
+    let seats = c.in-Ok.joined.0 in
+    let finished = c.in-Ok.joined.1 in
+    let many : length seats.items ≡ length endpoints.items = omega (arith, new.many, c.in-Ok.ensures.count.0, before.ok.0, seats.ok.0) in
+    let responded : length finished.items ≡ length endpoints.items = omega (arith, new.many, c.in-Ok.ensures.count.1, before.ok.0, finished.ok.0) in
+    let some : 1 ≤ length endpoints.items = omega (arith, c.requires.some, endpoints.ok.0) in
+    let all = sessions g.R.Runs.rules g.T.Console.known c.in_ok-shared.shared c.args.setup endpoints.items before.items seats.items finished.items new many c.in-Ok.ensures.each c.finish-control.result c.finish-control.ensures.known c.journal.ensures.limit some c.journal.ensures.seats responded in
+    writable g.R.Runs.rules g.T.Console.known c.args.setup endpoints.items c.finish-control.result finished.items all (omega (arith, c.requires.fits, endpoints.ok.0)) c.journal.ensures.limit

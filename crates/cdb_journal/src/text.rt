@@ -2,7 +2,7 @@
 
 ghost use Rattle.std.specs.Prelude.{◌≡◌, IfOk, string_bytes};
 ghost use Rattle.cdb_text.specs.Pushes.{Pushes};
-ghost use Rattle.cdb_shared_session.specs.SharedSessions.{entry_line, journal_text};
+ghost use Rattle.cdb_journal.specs.Journals.{entry_line, journal_text};
 
 use cdb_base::NoMemory;
 use cdb_control::Entry;

@@ -1,0 +1,5 @@
+pub mod Padded
+pub mod Lines
+pub mod Again
+pub mod Read
+pub mod Telling

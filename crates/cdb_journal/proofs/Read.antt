@@ -1,0 +1,54 @@
+-- A journal that is under way of being read.
+use Rattle.std.proofs.Common.{◌≡◌, ℕ, ◌+◌, ◌<◌, List, [], ◌∷◌, ◌++◌, length, refl, sym, ap, ◌∙◌, append_assoc, append-nil, arith, length-append}
+use Rattle.cdb_control.specs.declared.control.Entry.{Entry}
+use Rattle.cdb_text.specs.Entries.{IsEntryLine, IsFaultOfEntry}
+use Rattle.cdb_text.specs.declared.fault.LineFault.{LineFault}
+use Rattle.cdb_streams.specs.Lines.{lines_of}
+use Rattle.cdb_streams.proofs.Cutting.{no_lines}
+use Rattle.cdb_journal.specs.Journals.{AreEntriesOf, IsFirstBadEntry}
+
+-- the lines read so far are those of the entries, and what is left has the others
+pub record IsUnderWay (text : List ℕ) (entries : List Entry) (rest : List ℕ) : Type 0 where
+  pub read : List (List ℕ)
+  pub whole : lines_of text ≡ read ++ lines_of rest
+  pub entries_are : AreEntriesOf entries read
+  pub so_many : length entries ≡ length read
+
+pub begun : (text : List ℕ) → IsUnderWay text [] text
+begun text = record { read = []; whole = refl; entries_are = tt; so_many = refl }
+
+one_more : (entries : List Entry) (lines : List (List ℕ)) (e : Entry) (line : List ℕ) → AreEntriesOf entries lines → IsEntryLine e.seat e.command line → AreEntriesOf (entries ++ e ∷ []) (lines ++ line ∷ [])
+one_more [] [] e line are is = (is, tt)
+one_more [] (other ∷ lines) e line are is = absurd are
+one_more (other ∷ entries) [] e line are is = absurd are
+one_more (other ∷ entries) (other_line ∷ lines) e line are is = (are.0, one_more entries lines e line are.1 is)
+
+pub nothing_left : (rest : List ℕ) → length rest ≡ 0 → rest ≡ []
+nothing_left [] e = refl
+nothing_left (x ∷ xs) e = absurd (omega (arith, e))
+
+pub no_lines_left : (rest : List ℕ) → length rest ≡ 0 → length (lines_of rest) ≡ 0
+no_lines_left rest none = ap (λ (r : List ℕ). length (lines_of r)) (nothing_left rest none) ∙ ap length no_lines
+
+module _ (text : List ℕ) (entries : List Entry) (rest line behind : List ℕ) (u : IsUnderWay text entries rest) (cut : lines_of rest ≡ line ∷ lines_of behind) where
+  split : lines_of text ≡ u.read ++ (line ∷ lines_of behind)
+  split = u.whole ∙ ap (λ lines. u.read ++ lines) cut
+
+  pub room_left : length entries < length (lines_of text)
+  room_left = omega (arith, u.so_many, ap length split, length-append u.read (line ∷ lines_of behind))
+
+  pub one_line : (e : Entry) → IsEntryLine e.seat e.command line → IsUnderWay text (entries ++ e ∷ []) behind
+  one_line e is =
+      record {
+        read = u.read ++ line ∷ [];
+        whole = split ∙ sym (append_assoc u.read (line ∷ []) (lines_of behind));
+        entries_are = one_more entries u.read e line u.entries_are is;
+        so_many = omega (arith, u.so_many, length-append entries (e ∷ []), length-append u.read (line ∷ []));
+      }
+
+  pub bad_line : (fault : LineFault) → IsFaultOfEntry fault line → IsFirstBadEntry (length entries + 1) fault (lines_of text)
+  bad_line fault is = (entries, u.read, line, lines_of behind, split, omega (arith, u.so_many), u.entries_are, is)
+
+pub ended : (text : List ℕ) (entries : List Entry) (rest : List ℕ) → IsUnderWay text entries rest → length rest ≡ 0 → AreEntriesOf entries (lines_of text)
+ended text entries rest u none =
+    rw (u.whole ∙ ap (λ r. u.read ++ lines_of r) (nothing_left rest none) ∙ ap (λ lines. u.read ++ lines) no_lines ∙ append-nil u.read) u.entries_are

@@ -1,0 +1,45 @@
+use Rattle.std.proofs.Common.{refl}
+use Rattle.std.proofs.lemmas.Result.{err_from_is_err_and}
+use Rattle.cdb_base.specs.Limits.{MAX_SEATS}
+use Rattle.cdb_streams.specs.Endings.{Complete}
+use Rattle.cdb_streams.proofs.Ending.{only_as}
+use Rattle.cdb_journal.specs.Replays.{Replays}
+use Rattle.cdb_journal.specs.Told.{told_along, told_text}
+use Rattle.cdb_journal.proofs.Telling.{read_seats, read_few, replay_wrote}
+use Rattle.cdb_journal.proofs.replays.replay_by.Goals as goal
+
+pub write_replies-requires-clause-seats : goal.write_replies-requires-clause-seats
+write_replies-requires-clause-seats g c =
+    let given = c.in_ok-entries.ensures.entries in
+    rw c.as_slice.ensures.value (read_seats c.in_ok-entries.entries.items given.0 given.2)
+
+pub write_replies-requires-clause-room : goal.write_replies-requires-clause-room
+write_replies-requires-clause-room g c =
+    let given = c.in_ok-entries.ensures.entries in
+    rw c.as_slice.ensures.value (read_few c.in_ok-entries.entries.items given.0 given.2)
+
+pub returns-in_err-write_replies-clause-wrote : goal.returns-in_err-write_replies-clause-wrote
+returns-in_err-write_replies-clause-wrote g c =
+    let p = err_from_is_err_and c.from_residual-in_err-write_replies.result c.from_residual-in_err-write_replies.ensures.1 in
+    let given = c.in_ok-entries.ensures.entries in
+    let setup = c.in_ok-setup.setup in
+    let entries = c.in_ok-entries.entries.items in
+    let rules_of = g.T.Runs.rules in
+    let text = told_text (told_along (rules_of setup) setup MAX_SEATS entries) in
+    let is : Replays rules_of c.args.setup.now (g.R.Source.stream c.args.journal.now) (g.R.Source.stream c.read_entries.new.journal) text =
+    (given.0, given.1, record { setup = setup; entries = entries; encodes = c.in_ok-setup.ensures.found; lines = given.2; is = refl }) in
+    rw (p.1, p.2)
+    (replay_wrote g.W.Sink.stream (Unit {0}) _ c.in_err-write_replies.field-0.0 c.args.out.now c.write_replies.new.out text is
+    (rw c.as_slice.ensures.value at c.in_err-write_replies.ensures))
+
+pub returns-clause-wrote : goal.returns-clause-wrote
+returns-clause-wrote g c =
+    let given = c.in_ok-entries.ensures.entries in
+    let setup = c.in_ok-setup.setup in
+    let entries = c.in_ok-entries.entries.items in
+    let rules_of = g.T.Runs.rules in
+    let text = told_text (told_along (rules_of setup) setup MAX_SEATS entries) in
+    let is : Replays rules_of c.args.setup.now (g.R.Source.stream c.args.journal.now) (g.R.Source.stream c.read_entries.new.journal) text =
+    (given.0, given.1, record { setup = setup; entries = entries; encodes = c.in_ok-setup.ensures.found; lines = given.2; is = refl }) in
+    only_as g.W.Sink.stream Complete c.args.out.now c.write_replies.new.out text _ is
+    (rw c.as_slice.ensures.value at c.in_ok-write_replies.ensures)

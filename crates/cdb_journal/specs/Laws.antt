@@ -1,0 +1,26 @@
+-- The words of the laws of journals.
+use Rattle.std.specs.Prelude.{◌≡◌, ◌↔◌, ℕ, List}
+use Rattle.cdb_base.specs.Limits.{MAX_SEATS}
+use Rattle.cdb_control.specs.Journal.{Journaled, replies_in}
+use Rattle.cdb_control.specs.declared.control.Entry.{Entry}
+use Rattle.cdb_rules.specs.Rules.{Rules}
+use Rattle.cdb_setup.specs.Parts.{Parts}
+use Rattle.cdb_journal.specs.Journals.{IsJournal, IsWritable, journal_text}
+use Rattle.cdb_journal.specs.Told.{told_along, told_in, told_to}
+
+-- of each control whose journal can be written
+abbrev pub ForWritten : (Journaled → Type 0) → Type 0
+ForWritten Holds = (c : Journaled) → IsWritable c → Holds c
+
+-- its text is a journal of its entries, and of no others
+abbrev pub IsReadBack : Journaled → Type 0
+IsReadBack c = (entries : List Entry) → IsJournal entries (journal_text c.journal) ↔ (entries ≡ c.journal)
+
+-- by any rules, its entries tell with 64 seats what they told
+abbrev pub IsToldAgain : Journaled → Type 0
+IsToldAgain c =
+    (rules : Parts → Rules) → told_along (rules c.setup) c.setup MAX_SEATS c.journal ≡ told_in rules c
+
+-- each seat is told the replies to its commands
+abbrev pub TellsEachSeat : Type 0
+TellsEachSeat = (rules : Parts → Rules) (c : Journaled) (seat : ℕ) → told_to seat (told_in rules c) ≡ replies_in rules seat c

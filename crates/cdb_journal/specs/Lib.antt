@@ -1,0 +1,5 @@
+-- what the public contracts name
+pub mod Journals
+pub mod Told
+pub mod Replays
+pub mod Laws

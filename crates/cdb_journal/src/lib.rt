@@ -1,0 +1,17 @@
+//! Journals as text, and the law of replay: a journal that was written is read back, and each seat is told what it was told.
+//!
+//! ```text
+//! let text = journal_text(alloc, control.journal())?;
+//! let entries = entries_of(alloc, text.as_slice())?;
+//! replay::<AnyRun, _, _>(alloc, setup, &mut Bytes::new(text.as_slice()), &mut out)?;
+//! ```
+#![tactic(auto)]
+
+pub mod laws;
+mod reading;
+mod replays;
+mod text;
+
+pub use reading::{MOST_JOURNAL, entries_of, read_entries};
+pub use replays::replay;
+pub use text::journal_text;

@@ -1,0 +1,110 @@
+-- The journal of sessions has commands of lines alone, so it can be written.
+use Rattle.std.proofs.Common.{◌≡◌, ℕ, ◌+◌, ◌-◌, ◌<◌, ◌≤◌, ◌==◌, Bool, true, false, cond, List, [], ◌∷◌, ◌++◌, length, map, get_or, refl, sym, ap, subst, ◌∙◌, inl, inr, arith}
+use Rattle.std.specs.List.{AllByRecursion, AllZip}
+use Rattle.std.specs.Prelude.{Result, Ok, Err}
+use Rattle.cdb_base.specs.Limits.{MAX_ENTRIES, MAX_SEATS}
+use Rattle.cdb_commands.specs.declared.command.Command.{Command}
+use Rattle.cdb_control.specs.Journal.{Journaled, AreOfSeats, entry, own}
+use Rattle.cdb_control.specs.declared.control.Entry.{Entry}
+use Rattle.cdb_journal.specs.Journals.{IsWritable}
+use Rattle.cdb_rules.specs.Rules.{Rules}
+use Rattle.cdb_session.specs.Moves.{Known, Move}
+use Rattle.cdb_session.specs.Parts.{HasCommands, all_asked, seat_next}
+use Rattle.cdb_session.specs.Requests.{Asks, AreAsked, up_to_quit}
+use Rattle.cdb_session.specs.Served.{IsSession}
+use Rattle.cdb_session.specs.Styles.{Part, StyleView}
+use Rattle.cdb_session.specs.declared.request.Request.{Request}
+use Rattle.cdb_session.specs.declared.request.Request.TheVariants.{Call, Seat, Help, Quit, Fault, TooLong}
+use Rattle.cdb_setup.specs.Parts.{Parts}
+use Rattle.cdb_streams.specs.declared.fault.PlayFault.{PlayFault}
+use Rattle.cdb_streams.specs.declared.fault.PlayFault.TheVariants as fault
+use Rattle.cdb_text.specs.Grammar.{HasNumbersInRange}
+use Rattle.cdb_shared_session.specs.SeatParts.{part_in, seat_style}
+use Rattle.cdb_shared_session.specs.SharedSessions.{AreSessions}
+use Rattle.cdb_shared_session.specs.declared.endpoint.Endpoint.{Endpoint}
+use Rattle.cdb_shared_session.specs.declared.endpoint.Finished.{Finished}
+use Rattle.cdb_shared_session.proofs.Kept.{some_of}
+
+abbrev HaveLines : List Entry → Type 0
+HaveLines entries = AllByRecursion (λ e. HasNumbersInRange e.command) entries
+
+-- ---- of one seat
+
+-- what lines ask for has lines
+asked_have_lines : (chooses : Bool) (seat : ℕ) (requests : List Request) (lines : List (List ℕ)) → AllZip Asks requests lines → HaveLines (all_asked chooses seat requests)
+asked_have_lines chooses seat [] lines asked = tt
+asked_have_lines chooses seat (request ∷ requests) [] asked = absurd asked
+asked_have_lines chooses seat (Call command ∷ requests) (line ∷ lines) asked =
+    (asked.0.1.1.1, asked_have_lines chooses (seat_next chooses seat (Call command)) requests lines asked.1)
+asked_have_lines chooses seat (Seat chosen ∷ requests) (line ∷ lines) asked = asked_have_lines chooses (seat_next chooses seat (Seat chosen)) requests lines asked.1
+asked_have_lines chooses seat (Help ∷ requests) (line ∷ lines) asked = asked_have_lines chooses seat requests lines asked.1
+asked_have_lines chooses seat (Quit ∷ requests) (line ∷ lines) asked = asked_have_lines chooses seat requests lines asked.1
+asked_have_lines chooses seat (Fault why ∷ requests) (line ∷ lines) asked = asked_have_lines chooses seat requests lines asked.1
+asked_have_lines chooses seat (TooLong ∷ requests) (line ∷ lines) asked = asked_have_lines chooses seat requests lines asked.1
+
+first_have_lines : (first more : List Entry) → HaveLines (first ++ more) → HaveLines first
+first_have_lines [] more all = tt
+first_have_lines (e ∷ first) more all = (all.0, first_have_lines first more all.1)
+
+module _ (style : StyleView) (part : Part) where
+  calls_have_lines : (requests : List Request) (lines : List (List ℕ)) → AreAsked requests lines → HasCommands style part requests → HaveLines part.calls
+  calls_have_lines requests lines asked has =
+      let all = asked_have_lines style.chooses style.first requests (up_to_quit lines) asked in
+      elim has [
+        | inl same ↦ subst HaveLines (sym same) all
+        | inr (full, missing, same) ↦ first_have_lines part.calls missing (subst HaveLines same all)
+      ]
+
+  session_has_lines : (returned : Result (Unit {0}) PlayFault) (moves : List Move) → IsSession style part returned moves → HaveLines part.calls
+  session_has_lines (Ok done) moves s = let r = s.ends.responded in calls_have_lines r.0 _ r.1 r.3
+  session_has_lines (Err fault.Read) moves s = let r = s.ends.0.responded in calls_have_lines r.0 _ r.1 r.3
+  session_has_lines (Err fault.Write) moves s = let r = s.ends.0.responded in calls_have_lines r.0 _ r.1 r.3
+  session_has_lines (Err (fault.NoMemory refused)) moves s = let r = s.ends.commands in calls_have_lines r.0 _ r.1 r.2
+  session_has_lines (Err (fault.Setup why)) moves s = absurd s.ends
+  session_has_lines (Err (fault.Line script line why)) moves s = absurd s.ends
+  session_has_lines (Err (fault.ScriptTooLong script)) moves s = absurd s.ends
+
+-- ---- of all of them
+
+abbrev InRange : List Command → Type 0
+InRange commands = AllByRecursion HasNumbersInRange commands
+
+commands_of : (seat : ℕ) (commands : List Command) → HaveLines (map (entry seat) commands) → InRange commands
+commands_of seat [] all = tt
+commands_of seat (command ∷ commands) all = (all.0, commands_of seat commands all.1)
+
+own_head : (b : Bool) (command : Command) (others : List Command) → b ≡ true → InRange (cond b (command ∷ others) others) → HasNumbersInRange command
+own_head true command others is all = all.0
+own_head false command others is all = absurd cc
+
+own_tail : (b : Bool) (command : Command) (others : List Command) → InRange (cond b (command ∷ others) others) → InRange others
+own_tail true command others all = all.1
+own_tail false command others all = all
+
+same_seat : (n : ℕ) → (n == n) ≡ true
+same_seat n = grind arith
+
+of_each_seat : (seats : ℕ) (es : List Entry) → AreOfSeats seats es → ((seat : ℕ) → 1 ≤ seat → seat ≤ seats → InRange (own seat es)) → HaveLines es
+of_each_seat seats [] of_seats each = tt
+of_each_seat seats (e ∷ es) of_seats each = (
+  own_head (e.seat == e.seat) e.command (own e.seat es) (same_seat e.seat) (each e.seat of_seats.0.0 of_seats.0.1),
+  of_each_seat seats es of_seats.1 (λ seat low high. own_tail (e.seat == seat) e.command (own seat es) (each seat low high)),
+)
+
+pub writable : {T : Type 0} (rules : Parts → Rules) (known : T → Known) (setup : Parts) (endpoints : List (Endpoint T)) (c : Journaled) (finished : List (Finished T)) → AreSessions rules known setup endpoints c finished
+    → length endpoints ≤ MAX_SEATS → length c.journal ≤ MAX_ENTRIES → IsWritable c
+writable rules known setup endpoints c finished all fits few =
+    record {
+      seats = omega (arith, all.seats_are, fits);
+      of_seats = all.entries;
+      ranges = of_each_seat c.seats c.journal all.entries (λ seat low high.
+          let k = seat - 1 in
+          let below : k < length endpoints = omega (arith, all.seats_are, low, high) in
+          let p = some_of endpoints (omega (arith, below)) in
+          let a = some_of finished (omega (arith, below, all.many)) in
+          let number : k + 1 ≡ seat = omega (arith, low) in
+          let its = all.each k p a below in
+          let calls = session_has_lines (seat_style (get_or endpoints k p).prompt.now (k + 1)) (part_in rules c (k + 1)) (get_or finished k a).outcome its.made its.session in
+          subst (λ (n : ℕ). InRange (own n c.journal)) number (commands_of (k + 1) (own (k + 1) c.journal) calls));
+      few = few;
+    }

@@ -1,0 +1,5 @@
+use Rattle.cdb_text.proofs.Entries.{one_entry_line}
+use Rattle.cdb_text.proofs.laws.each_entry_has_one_line.Goals as goal
+
+pub returns : goal.returns
+returns c = one_entry_line

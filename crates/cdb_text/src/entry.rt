@@ -1,0 +1,43 @@
+//! Lines of a journal.
+
+ghost use Rattle.std.specs.Prelude.{◌≡◌, ◌≢◌, ◌↔◌, ℕ, [], ◌∷◌, decimal, Ok, Err, IfOk, IfErr};
+ghost use Rattle.cdb_commands.specs.declared.command.Command.{Command as CommandName};
+ghost use Rattle.cdb_text.specs.declared.fault.LineFault.{LineFault as LineFaultName};
+ghost use Rattle.cdb_text.specs.Entries.{IsEntryLine, IsFaultOfEntry, IsSeat, BeginWithNoSeat};
+
+use crate::fault::LineFault;
+use crate::line::command;
+use crate::words::Words;
+use cdb_base::limits::MAX_SEATS;
+use cdb_commands::Command;
+
+/// The next word, which is the number of a seat.
+fn seat(words: &mut Words<'_>) -> Result<u8, LineFault>
+    requires { words.old ≢ [] }
+    ensures seat { IfOk result (λ seat. IsSeat seat × (words.old ≡ decimal seat ∷ words.new)) }
+    ensures fault { IfErr result
+        (λ fault. (fault ≡ LineFault.Number) × BeginWithNoSeat words.old) }
+{
+    let number = words.number()?;
+    if number > u32::from(MAX_SEATS) {
+        return Err(LineFault::Number);
+    }
+    Ok(number as u8)
+}
+
+/// The seat, from 1 to 64, and the command of a line of a journal, which is given without the byte 10 at its end; else the
+/// first fault of the line, read from the left: a first word that is no seat is a bad number. It allocates nothing.
+pub fn parse_entry(line: &[u8]) -> Result<(u8, Command), LineFault>
+    ensures entry { (seat : ℕ) (command : CommandName) →
+        (result ≡ Ok (seat, command)) ↔ IsEntryLine seat command line.now }
+    ensures fault { (fault : LineFaultName) →
+        (result ≡ Err fault) ↔ IsFaultOfEntry fault line.now }
+{
+    if line.is_empty() {
+        return Err(LineFault::Empty);
+    }
+    let mut words = Words::of(line);
+    let seat = seat(&mut words)?;
+    let command = command(words)?;
+    Ok((seat, command))
+}
