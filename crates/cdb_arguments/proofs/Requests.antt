@@ -183,7 +183,7 @@ question_is setup script question words (Ask a b its) line asks =
       asks.2 ∙ ap (text_at (codes "SETUP")) same ∙ ap (λ t. unwrap_or t []) line.setup_at,
       asks.3 ∙ ap (text_at (codes "SCRIPT")) same ∙ ap (λ t. unwrap_or t []) line.script_at,
       same_question question its setup script words line (ap (λ text. bytes_eq text (question_name question)) names ∙ (differs question).own)
-      (subst (λ rows. HasStepOf rows its) same asks.4),
+          (subst (λ rows. HasStepOf rows its) same asks.4),
     )
 
 debug_is : (setup : Text) (seats words : List Text) (asked : Asked) → SeatLine setup seats words → NamesAsked (subcommand_of program words) asked → IsDebugOf setup seats asked

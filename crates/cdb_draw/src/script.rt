@@ -12,8 +12,8 @@ ghost use Rattle.cdb_rules.specs.ByRules.{IsInOrder};
 ghost use Rattle.cdb_setup.specs.declared.fault.SetupFault.{SetupFault as SetupFaultName};
 
 use crate::draws::draw_run;
-use cdb_base::{Event, StepAsked};
 use cdb_base::limits::MAX_ENTRIES;
+use cdb_base::{Event, StepAsked};
 use cdb_explain::{ExplainFault, position_of_step, run_left_by};
 use cdb_rules::{Runs, Trace};
 use cdb_streams::{Sink, Source};
