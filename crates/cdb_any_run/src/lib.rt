@@ -20,6 +20,7 @@ macro_rules! by_machine {
 mod any;
 mod runs;
 mod shown;
+mod telling;
 
 pub use any::AnyRun;
 pub use cdb_rules::Runs;

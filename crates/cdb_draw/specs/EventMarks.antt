@@ -1,7 +1,8 @@
 -- The marks of a picture: one for each event, on the lane of its process, with its name and its whole text. What stands
--- at a mark is at most as wide as a column: three rows above it, and below it the value that it carries, or the leader.
--- A write has the value that its register then holds on the lane of the register.
-use Rattle.std.specs.Prelude.{ℕ, ◌-◌, Bool, List, [], ◌∷◌, ◌++◌, codes, decimal, Option, None, Some, nat_eq, if◌then◌else◌}
+-- at a mark is at most as wide as a column: three rows above it, and two below it, with the value that it carries, the
+-- leader and the round, or what it did in two words. A write has the value that its register then holds on the lane of the
+-- register.
+use Rattle.std.specs.Prelude.{ℕ, Bool, List, [], ◌∷◌, ◌++◌, codes, decimal, Option, None, Some, nat_eq, if◌then◌else◌}
 use Rattle.std.specs.List.{concat}
 use Rattle.std.specs.Option.{option_map_or}
 use Rattle.cdb_base.specs.Positions.{nth}
@@ -15,14 +16,17 @@ use Rattle.cdb_base.specs.declared.register.Cell.{Cell}
 use Rattle.cdb_base.specs.declared.register.Reg.{Reg}
 use Rattle.cdb_base.specs.NameTexts.{message_text, register_text, step_text}
 use Rattle.cdb_control.specs.Commands.{decides}
-use Rattle.cdb_explain.specs.Explanations.{run_after, whole_text}
+use Rattle.cdb_deeds.specs.declared.deed.Deed.{Deed}
+use Rattle.cdb_deeds.specs.declared.deed.Deed.TheVariants.{Nothing, Round, Votes, VotesNone, Settles, Adopts, Keeps, Learns}
+use Rattle.cdb_deeds.specs.declared.deed.Deed.TheVariants.{SettlesRegister, SettlesInput, GivesUp, Carries}
+use Rattle.cdb_explain.specs.Explanations.{deed_at, run_after, whole_text}
+use Rattle.cdb_explain.specs.Rounds.{round_before, round_by}
 use Rattle.cdb_explain.specs.Flagged.{is_flagged}
 use Rattle.cdb_explain.specs.declared.line.Causes.TheVariants.{Shown}
 use Rattle.cdb_message.specs.Mail.{MailState, message_name, payload_of}
 use Rattle.cdb_rules.specs.ByRules.{cell_in, mail_in}
 use Rattle.cdb_rules.specs.RunView.{RunView}
 use Rattle.cdb_rules.specs.Rules.{Rules}
-use Rattle.cdb_rules.specs.Views.{round_of}
 use Rattle.cdb_setup.specs.Parts.{Parts}
 use Rattle.cdb_text.specs.Reports.{value_text}
 use Rattle.cdb_draw.specs.Arrows.{register_spot, weight_text}
@@ -80,21 +84,55 @@ abbrev pub carried_text : Option Payload → List ℕ
 carried_text None = []
 carried_text (Some payload) = value_text (value_of payload)
 
-abbrev pub kind_below : MailState → ℕ → Kind → List ℕ
-kind_below mail p (Query leader) = codes "leader " ++ decimal leader
-kind_below mail p (Send m) = carried_text (payload_of mail (message_name p m))
-kind_below mail p (Recv s m) = carried_text (payload_of mail (message_name s m))
-kind_below mail p kind = []
+-- what a step did, and with which value or round
 
-abbrev pub event_below : MailState → Event → List ℕ
-event_below mail (Step p k kind) = kind_below mail p kind
-event_below mail (Lost copy) = []
+abbrev pub deed_word : Deed → List ℕ
+deed_word Nothing = []
+deed_word (Round round) = []
+deed_word (Votes source leader by) = codes "votes"
+deed_word (VotesNone by) = codes "votes"
+deed_word (Settles source by) = codes "settles"
+deed_word (Adopts source by) = codes "adopts"
+deed_word (Keeps value by) = codes "keeps"
+deed_word (Learns source) = codes "learns"
+deed_word (SettlesRegister value register) = codes "settles"
+deed_word (SettlesInput value) = codes "settles"
+deed_word (GivesUp round register) = codes "gives up"
+deed_word (Carries round) = codes "carries"
+
+abbrev pub deed_with : Deed → List ℕ
+deed_with Nothing = []
+deed_with (Round round) = []
+deed_with (Votes source leader by) = decimal source.value
+deed_with (VotesNone by) = codes "none"
+deed_with (Settles source by) = decimal source.value
+deed_with (Adopts source by) = decimal source.value
+deed_with (Keeps value by) = decimal value
+deed_with (Learns source) = decimal source.value
+deed_with (SettlesRegister value register) = decimal value
+deed_with (SettlesInput value) = decimal value
+deed_with (GivesUp round register) = codes "round " ++ decimal round
+deed_with (Carries round) = codes "round " ++ decimal round
+
+-- the first row: the value, the leader, or what a step by itself did
+
+abbrev pub kind_below : MailState → Deed → ℕ → Kind → List ℕ
+kind_below mail did p (Query leader) = codes "leader " ++ decimal leader
+kind_below mail did p (Send m) = carried_text (payload_of mail (message_name p m))
+kind_below mail did p (Recv s m) = carried_text (payload_of mail (message_name s m))
+kind_below mail did p Local = deed_word did
+kind_below mail did p Learn = deed_word did
+kind_below mail did p kind = []
+
+abbrev pub event_below : MailState → Deed → Event → List ℕ
+event_below mail did (Step p k kind) = kind_below mail did p kind
+event_below mail did (Lost copy) = []
 
 -- a decision has its value there, a ring round the mark, and `decides` above it
 
-abbrev pub below_text : Option ℕ → MailState → Event → List ℕ
-below_text None mail event = event_below mail event
-below_text (Some v) mail event = decimal v
+abbrev pub below_text : Option ℕ → MailState → Deed → Event → List ℕ
+below_text None mail did event = event_below mail did event
+below_text (Some v) mail did event = decimal v
 
 -- where: from a read and a write an arrow runs straight down, so that the value stands beside it
 
@@ -113,25 +151,31 @@ decided_text (Some v) = codes "<use href='#decided'/><text class='decision' y='-
 
 -- ---- the round that it begins
 
--- the round of the process of a step
-abbrev pub round_by : (Parts → Rules) → RunView → Event → ℕ
-round_by rules run (Step p k kind) = round_of (rules run.setup) run.history p
-round_by rules run (Lost copy) = 0
-
 -- a query begins the round in which its process then is, where it was in another one before
 abbrev pub begun : ℕ → ℕ → Event → Option ℕ
 begun before after (Step p k (Query leader)) = if nat_eq before after then None else Some after
 begun before after event = None
 
--- a tick on the lane, left of the mark, and the round in a row of its own
+-- a tick on the lane, left of the mark
 
 abbrev pub tick_text : Option ℕ → List ℕ
 tick_text None = []
 tick_text (Some round) = codes "<path d='M-15,-5v10'/>"
 
-abbrev pub round_text : Option ℕ → List ℕ
-round_text None = []
-round_text (Some round) = codes "round " ++ decimal round
+-- the second row: that round, or with what a step by itself did what it did
+
+abbrev pub kind_note : Deed → Kind → List ℕ
+kind_note did Local = deed_with did
+kind_note did Learn = deed_with did
+kind_note did kind = []
+
+abbrev pub event_note : Deed → Event → List ℕ
+event_note did (Step p k kind) = kind_note did kind
+event_note did (Lost copy) = []
+
+abbrev pub note_text : Option ℕ → Deed → Event → List ℕ
+note_text None did event = event_note did event
+note_text (Some round) did event = codes "round " ++ decimal round
 
 -- ---- the mark
 
@@ -140,10 +184,10 @@ abbrev pub lane_of : Event → ℕ
 lane_of (Step p k kind) = p
 lane_of (Lost copy) = copy.to
 
--- the mark of an event at that position, where its process was in that round before it, and the run stands so after it,
--- with its whole text
-unfoldable pub marked_text : (Parts → Rules) → Grid → ℕ → RunView → Bool → ℕ → Event → List ℕ → List ℕ
-marked_text rules grid before after full position event whole =
+-- the mark of an event at that position, where its process was in that round before it, it did that, and the run stands
+-- so after it, with its whole text
+unfoldable pub marked_text : (Parts → Rules) → Grid → ℕ → Deed → RunView → Bool → ℕ → Event → List ℕ → List ℕ
+marked_text rules grid before did after full position event whole =
     let decided = decides (rules after.setup) after.history event in
     let round = begun before (round_by rules after event) event in
     concat
@@ -152,8 +196,8 @@ marked_text rules grid before after full position event whole =
     ∷ codes "</title>" ∷ decided_text decided ∷ tick_text round ∷ codes "<use href='#" ∷ shape_of event
     ∷ codes "'/><text y='-37'>" ∷ first_row event ∷ codes "</text><text y='-26'>" ∷ second_row event
     ∷ codes "</text><text y='-15'>" ∷ third_row event ∷ codes "</text><text " ∷ below_place decided event
-    ∷ codes ">" ∷ below_text decided (mail_in rules after) event ∷ codes "</text><text class='note' y='33'>"
-    ∷ round_text round ∷ codes "</text></g>\n" ∷ [])
+    ∷ codes ">" ∷ below_text decided (mail_in rules after) did event ∷ codes "</text><text class='note' y='33'>"
+    ∷ note_text round did event ∷ codes "</text></g>\n" ∷ [])
 
 -- ---- what a register holds
 
@@ -177,18 +221,14 @@ written_text rules grid after full position event = []
 
 -- ---- with its whole text, which is shown where a pointer rests on the mark
 
-abbrev pub mark_text : (Parts → Rules) → Grid → RunView → ℕ → RunView → Bool → ℕ → Event → List ℕ
-mark_text rules grid run before after full position event =
-    marked_text rules grid before after full position event (whole_text rules Shown run after event)
+abbrev pub mark_text : (Parts → Rules) → Grid → RunView → ℕ → Deed → RunView → Bool → ℕ → Event → List ℕ
+mark_text rules grid run before did after full position event =
+    marked_text rules grid before did after full position event (whole_text rules Shown run did after event)
     ++ written_text rules grid after full position event
-
--- the round of the process of the event at that position, before the event
-abbrev pub round_before : (Parts → Rules) → RunView → ℕ → ℕ
-round_before rules run position =
-    option_map_or (round_by rules (run_after run (position - 1))) (nth run.history position) 0
 
 abbrev pub mark_at : (Parts → Rules) → Grid → RunView → List Bool → ℕ → List ℕ
 mark_at rules grid run flags position =
     let before = round_before rules run position in
-    let mark = mark_text rules grid run before (run_after run position) (is_flagged flags position) position in
+    let did = deed_at run position in
+    let mark = mark_text rules grid run before did (run_after run position) (is_flagged flags position) position in
     option_map_or mark (nth run.history position) []

@@ -10,7 +10,8 @@ use crate::layout::grid_of;
 use crate::picture::write_picture;
 use cdb_base::NoMemory;
 use cdb_base::limits::MAX_ENTRIES;
-use cdb_rules::{Runs, Trace};
+use cdb_deeds::Telling;
+use cdb_rules::Trace;
 use cdb_streams::{OutputFault, Sink};
 use std::alloc::Global;
 
@@ -34,11 +35,11 @@ fn flags_of(alloc: Global, run: &Trace, position: Option<usize>) -> Result<Vec<b
 /// pieces of 65,536 bytes.
 ///
 /// Promise: A picture has one mark for each standing event, on its lane and in the order of the history, with its name,
-/// its whole text, the value that it carries and the round that it begins; what each write leaves in its register; a
-/// stub with the receivers that wait at each send whose copies were not all received or lost; one arrow to each receive
-/// and each lost copy, from the first event that sends its message; one from or to the register of each read and write;
-/// a lane that ends at its crash; and exactly what led to the event that is asked for is in full.
-pub fn draw_run<T: Runs, W: Sink>(
+/// its whole text, the value that it carries, the round that it begins or what it did; what each write leaves in its
+/// register; a stub with the receivers that wait at each send whose copies were not all received or lost; one arrow to
+/// each receive and each lost copy, from the first event that sends its message; one from or to the register of each
+/// read and write; a lane that ends at its crash; and exactly what led to the event that is asked for is in full.
+pub fn draw_run<T: Telling, W: Sink>(
     alloc: Global,
     run: &Trace,
     columns: u32,

@@ -1,7 +1,7 @@
 //! The marks of a picture.
 
 ghost use Rattle.std.specs.Prelude.{◌≡◌, ◌≤◌, [], option_copied, string_bytes};
-ghost use Rattle.cdb_draw.specs.EventMarks.{begun, below_place, below_text, carried_text, decided_text, decision_place, event_below, first_row, kind_below, kind_with, kind_word, lane_of, mark_text, marked_text, round_by, round_text, second_row, shape_of, third_row, tick_text, value_of};
+ghost use Rattle.cdb_draw.specs.EventMarks.{begun, below_place, below_text, carried_text, decided_text, decision_place, deed_with, deed_word, event_below, event_note, first_row, kind_with, kind_word, lane_of, mark_text, marked_text, note_text, second_row, shape_of, third_row, tick_text, value_of};
 ghost use Rattle.cdb_draw.specs.Layout.{IsGrid};
 ghost use Rattle.cdb_explain.specs.Explanations.{whole_text};
 ghost use Rattle.cdb_explain.specs.declared.line.Causes.TheVariants.{Shown};
@@ -19,7 +19,8 @@ use crate::piece::Piece::{After, Between, Number, Text};
 use crate::piece::{Piece, put_each};
 use cdb_base::limits::MAX_ENTRIES;
 use cdb_base::{Event, Kind, MsgName, Payload, Proc, Reg, Val};
-use cdb_explain::{Causes, decision_by, push_whole};
+use cdb_deeds::Deed;
+use cdb_explain::{Causes, decision_by, push_whole, round_by};
 use cdb_rules::Runs;
 use cdb_streams::{Buffer, OutputFault, Sink};
 use std::alloc::Global;
@@ -143,29 +144,67 @@ fn carried<T: Runs>(run: &T, name: MsgName) -> Piece<'static>
     }
 }
 
-/// What stands below the mark of an event that decides nothing.
-fn event_below<T: Runs>(run: &T, event: &Event) -> Piece<'static>
-    ensures { piece_text result ≡ event_below (mail_in T.rules (T.run run.now)) event.now }
+/// What a step did, in a word.
+fn deed_word(deed: &Deed) -> &'static str
+    ensures { result.now ≡ deed_word deed.now }
+{
+    match deed {
+        Deed::Nothing | Deed::Round(_) => "",
+        Deed::Votes { .. } | Deed::VotesNone { .. } => "votes",
+        Deed::Settles { .. } | Deed::SettlesRegister { .. } | Deed::SettlesInput(_) => "settles",
+        Deed::Adopts { .. } => "adopts",
+        Deed::Keeps { .. } => "keeps",
+        Deed::Learns(_) => "learns",
+        Deed::GivesUp { .. } => "gives up",
+        Deed::Carries(_) => "carries",
+    }
+}
+
+/// With which value or round it did it.
+fn deed_with(deed: &Deed) -> Piece<'static>
+    ensures { piece_text result ≡ deed_with deed.now }
+{
+    match deed {
+        Deed::Nothing | Deed::Round(_) => Text(""),
+        Deed::VotesNone { .. } => Text("none"),
+        Deed::Votes { source, .. } | Deed::Settles { source, .. } | Deed::Adopts { source, .. } => {
+            Number(source.value.number() as usize)
+        }
+        Deed::Learns(source) => Number(source.value.number() as usize),
+        Deed::Keeps { value, .. } | Deed::SettlesRegister { value, .. } => {
+            Number(value.number() as usize)
+        }
+        Deed::SettlesInput(value) => Number(value.number() as usize),
+        Deed::GivesUp { round, .. } => After("round ", *round as usize),
+        Deed::Carries(round) => After("round ", *round as usize),
+    }
+}
+
+/// What stands in the first row below the mark of an event that decides nothing.
+fn event_below<T: Runs>(run: &T, deed: &Deed, event: &Event) -> Piece<'static>
+    ensures { piece_text result
+        ≡ event_below (mail_in T.rules (T.run run.now)) deed.now event.now }
 {
     match *event {
         Event::Step { p, kind, .. } => match kind {
             Kind::Query(leader) => After("leader ", usize::from(leader.number())),
             Kind::Send(m) => carried(run, MsgName { s: p, m }),
             Kind::Recv(s, m) => carried(run, MsgName { s, m }),
+            Kind::Local | Kind::Learn => Text(deed_word(deed)),
             _ => Text(""),
         },
         Event::Lost(_) => Text(""),
     }
 }
 
-/// What stands below the mark of an event.
-fn below<T: Runs>(run: &T, event: &Event, decided: Option<Val>) -> Piece<'static>
+/// What stands in the first row below the mark of an event.
+fn below<T: Runs>(run: &T, deed: &Deed, event: &Event, decided: Option<Val>) -> Piece<'static>
     ensures { piece_text result
-        ≡ below_text decided (mail_in T.rules (T.run run.now)) event.now }
+        ≡ below_text decided (mail_in T.rules (T.run run.now)) deed.now event.now }
 {
     match decided {
         Some(value) => Number(value.number() as usize),
-        None => event_below(run, event),
+        None => event_below(run, deed, event),
     }
 }
 
@@ -202,18 +241,6 @@ fn ring(decided: Option<Val>) -> &'static str
     }
 }
 
-/// The round of the process of a step.
-pub(crate) fn round_by<T: Runs>(run: &T, event: &Event) -> u32
-    ensures { result ≡ round_by T.rules (T.run run.now) event.now }
-{
-    match *event {
-        Event::Step { p, .. } => run
-            .view(u32::from(p.number()))
-            .map_or(0, |process| process.round),
-        Event::Lost(_) => 0,
-    }
-}
-
 /// The round that an event begins, where its process was in round `before` before it and is in round `after` after it.
 fn begun(event: &Event, before: u32, after: u32) -> Option<u32>
     ensures { result ≡ begun before after event.now }
@@ -237,13 +264,26 @@ fn tick(round: Option<u32>) -> &'static str
     }
 }
 
-/// A round that begins.
-fn round(round: Option<u32>) -> Piece<'static>
-    ensures { piece_text result ≡ round_text round }
+/// What stands in the second row below the mark of an event that begins no round.
+fn event_note(deed: &Deed, event: &Event) -> Piece<'static>
+    ensures { piece_text result ≡ event_note deed.now event.now }
+{
+    match *event {
+        Event::Step {
+            kind: Kind::Local | Kind::Learn,
+            ..
+        } => deed_with(deed),
+        _ => Text(""),
+    }
+}
+
+/// What stands in the second row below the mark of an event.
+fn note(round: Option<u32>, deed: &Deed, event: &Event) -> Piece<'static>
+    ensures { piece_text result ≡ note_text round deed.now event.now }
 {
     match round {
         Some(round) => After("round ", round as usize),
-        None => Text(""),
+        None => event_note(deed, event),
     }
 }
 
@@ -257,12 +297,13 @@ fn lane_of(event: &Event) -> Proc
     }
 }
 
-/// The mark of the last event of a run, which stands at a position, from 1, and before which its process was in round
-/// `before`.
+/// The mark of the last event of a run, which stands at a position, from 1, did that, and before which its process was in
+/// round `before`.
 #[tactic(auto, unfolding(crate::specs::EventMarks::marked_text))]
 fn mark<'a, T: Runs>(
     grid: Grid,
     before: u32,
+    deed: &Deed,
     run: &T,
     full: bool,
     position: usize,
@@ -272,15 +313,16 @@ fn mark<'a, T: Runs>(
     requires grid { IsGrid grid }
     requires position { position ≤ MAX_ENTRIES }
     ensures { pieces_text result
-        ≡ marked_text T.rules grid before (T.run run.now) full position event.now whole.entry.now }
+        ≡ marked_text T.rules grid before deed.now (T.run run.now) full position event.now
+        whole.entry.now }
 {
     let decided = decision_by(run, event);
     let (first, second) = (decided, decided);
     let (ring, place) = (ring(first), below_place(event, second));
-    let below = below(run, event, decided);
+    let below = below(run, deed, event, decided);
     let begun = begun(event, before, round_by(run, event));
     let again = begun;
-    let (tick, round) = (tick(begun), round(again));
+    let (tick, note) = (tick(begun), note(again, deed, event));
     let at = spot(grid, position, lane_of(event));
     [
         Text("<g class='"),
@@ -305,7 +347,7 @@ fn mark<'a, T: Runs>(
         Text(">"),
         below,
         Text("</text><text class='note' y='33'>"),
-        round,
+        note,
         Text("</text></g>\n"),
     ]
 }
@@ -315,6 +357,7 @@ fn put_marked<T: Runs, W: Sink>(
     alloc: Global,
     grid: Grid,
     before: u32,
+    deed: &Deed,
     run: &T,
     full: bool,
     position: usize,
@@ -326,13 +369,22 @@ fn put_marked<T: Runs, W: Sink>(
     requires grid { IsGrid grid }
     requires position { position ≤ MAX_ENTRIES }
     ensures { Puts W.stream result out.old buffer.old out.new buffer.new
-        (marked_text T.rules grid before (T.run run.now) full position event.now
-        (whole_text T.rules Shown (T.run run.now) (T.run run.now) event.now)) }
+        (marked_text T.rules grid before deed.now (T.run run.now) full position event.now
+        (whole_text T.rules Shown (T.run run.now) deed.now (T.run run.now) event.now)) }
 {
     whole.clear();
-    push_whole(alloc, whole, Causes::Shown, run, event)?;
+    push_whole(alloc, whole, Causes::Shown, deed, run, event)?;
     put_each(
-        &mark(grid, before, run, full, position, event, whole.as_str()),
+        &mark(
+            grid,
+            before,
+            deed,
+            run,
+            full,
+            position,
+            event,
+            whole.as_str(),
+        ),
         buffer,
         out,
     )
@@ -343,6 +395,7 @@ pub(crate) fn put_mark<T: Runs, W: Sink>(
     alloc: Global,
     grid: Grid,
     before: u32,
+    deed: &Deed,
     run: &T,
     full: bool,
     position: usize,
@@ -354,10 +407,10 @@ pub(crate) fn put_mark<T: Runs, W: Sink>(
     requires grid { IsGrid grid }
     requires position { position ≤ MAX_ENTRIES }
     ensures { Puts W.stream result out.old buffer.old out.new buffer.new
-        (mark_text T.rules grid (T.run run.now) before (T.run run.now) full position event.now) }
+        (mark_text T.rules grid (T.run run.now) before deed.now (T.run run.now) full position event.now) }
 {
     put_marked(
-        alloc, grid, before, run, full, position, event, whole, buffer, out,
+        alloc, grid, before, deed, run, full, position, event, whole, buffer, out,
     )?;
     put_written(grid, run, full, position, event, buffer, out)
 }

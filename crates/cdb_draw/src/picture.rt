@@ -3,12 +3,13 @@
 ghost use Rattle.std.specs.Prelude.{◌≡◌, [], ◌≤◌, length};
 ghost use Rattle.cdb_causal.specs.Standing.{IsStanding};
 ghost use Rattle.cdb_draw.specs.Arrows.{arrow_at};
-ghost use Rattle.cdb_draw.specs.EventMarks.{mark_at, round_before};
+ghost use Rattle.cdb_draw.specs.EventMarks.{mark_at};
 ghost use Rattle.cdb_draw.specs.Layout.{IsGrid};
 ghost use Rattle.cdb_draw.specs.Picture.{arrows_text, document_text, head_text, heading_text, marks_text, picture_text};
 ghost use Rattle.cdb_draw.specs.Pieces.{piece_text, pieces_text};
 ghost use Rattle.cdb_draw.specs.Sends.{AreSendsOf, AreTakesOf};
-ghost use Rattle.cdb_explain.specs.Explanations.{run_after};
+ghost use Rattle.cdb_explain.specs.Explanations.{deed_at, run_after};
+ghost use Rattle.cdb_explain.specs.Rounds.{round_before};
 ghost use Rattle.cdb_streams.specs.Putting.{Puts};
 ghost use Rattle.cdb_streams.specs.Endings.{pieces_ending};
 ghost use Rattle.cdb_streams.specs.Written.{IsWritten, Only};
@@ -17,13 +18,14 @@ ghost use Rattle.cdb_rules.specs.ByRules.{IsInOrder};
 use crate::arrow::put_arrow;
 use crate::lanes::put_lanes;
 use crate::layout::{Grid, height, width};
-use crate::mark::{put_mark, round_by};
+use crate::mark::put_mark;
 use crate::piece::Piece::{After, Number, Text};
 use crate::piece::{Piece, put_each};
 use crate::sends::{Sends, Takes, sends_of, takes_of};
 use crate::style::{NAMESPACE, SHAPES, STYLE};
 use cdb_base::limits::MAX_ENTRIES;
-use cdb_explain::{fresh, take_next};
+use cdb_deeds::{Deed, Telling};
+use cdb_explain::{fresh, round_by, take_next};
 use cdb_rules::{Runs, Trace};
 use cdb_setup::Algorithm;
 use cdb_streams::{Buffer, OutputFault, Sink};
@@ -133,13 +135,14 @@ fn put_arrows<W: Sink>(
     Ok(())
 }
 
-/// Puts the mark of the event at a position, from 1, where its process was in round `before` before it, and `after` is
-/// the run once it had come to that event.
+/// Puts the mark of the event at a position, from 1, where its process was in round `before` before it, it did that, and
+/// `after` is the run once it had come to that event.
 fn put_mark_at<T: Runs, W: Sink>(
     alloc: Global,
     grid: Grid,
     run: &Trace,
     before: u32,
+    deed: &Deed,
     after: &T,
     flags: &[bool],
     position: usize,
@@ -154,6 +157,7 @@ fn put_mark_at<T: Runs, W: Sink>(
     requires to_len { position ≤ length run.now.history }
     requires standing { IsStanding run.now.history }
     requires before { before ≡ round_before T.rules run.now position }
+    requires did { deed.now ≡ deed_at run.now position }
     requires after { T.run after.now ≡ run_after run.now position }
     ensures { Puts W.stream result out.old buffer.old out.new buffer.new
         (mark_at T.rules grid run.now flags.now position) }
@@ -162,13 +166,12 @@ fn put_mark_at<T: Runs, W: Sink>(
     let event = &events[position - 1];
     let full = flags[position - 1];
     put_mark(
-        alloc, grid, before, after, full, position, event, whole, buffer, out,
+        alloc, grid, before, deed, after, full, position, event, whole, buffer, out,
     )
 }
 
-/// Puts the marks of all events. The run is played again, event by event, and asked after each one, when that is
-/// soonest answered.
-fn put_marks<T: Runs, W: Sink>(
+/// Puts the marks of all events. The run is played again, event by event, and asked when that is soonest answered.
+fn put_marks<T: Telling, W: Sink>(
     alloc: Global,
     grid: Grid,
     run: &Trace,
@@ -191,12 +194,14 @@ fn put_marks<T: Runs, W: Sink>(
     for i in 0..events.len() {
         let event = &events[i];
         let before = round_by(&again, event);
+        let deed = again.deed(alloc, &events[..i], event)?;
         take_next(alloc, &mut again, event)?;
         put_mark_at(
             alloc,
             grid,
             run,
             before,
+            &deed,
             &again,
             flags,
             i + 1,
@@ -209,7 +214,7 @@ fn put_marks<T: Runs, W: Sink>(
 }
 
 /// Puts the whole picture.
-fn put_picture<T: Runs, W: Sink>(
+fn put_picture<T: Telling, W: Sink>(
     alloc: Global,
     grid: Grid,
     run: &Trace,
@@ -233,7 +238,7 @@ fn put_picture<T: Runs, W: Sink>(
 }
 
 /// Puts the picture into an empty buffer, and writes what is left in it.
-fn write_pieces<T: Runs, W: Sink>(
+fn write_pieces<T: Telling, W: Sink>(
     alloc: Global,
     grid: Grid,
     run: &Trace,
@@ -257,7 +262,7 @@ fn write_pieces<T: Runs, W: Sink>(
 
 /// Writes the picture in which the flagged events are drawn in full, and the rest pale. After `Write` what was
 /// written is a beginning of the picture, and after `NoMemory` one of whole pieces of 65,536 bytes.
-pub(crate) fn write_picture<T: Runs, W: Sink>(
+pub(crate) fn write_picture<T: Telling, W: Sink>(
     alloc: Global,
     grid: Grid,
     run: &Trace,

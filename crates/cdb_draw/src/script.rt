@@ -14,8 +14,9 @@ ghost use Rattle.cdb_setup.specs.declared.fault.SetupFault.{SetupFault as SetupF
 use crate::draws::draw_run;
 use cdb_base::limits::MAX_ENTRIES;
 use cdb_base::{Event, StepAsked};
+use cdb_deeds::Telling;
 use cdb_explain::{ExplainFault, position_of_step, run_left_by};
-use cdb_rules::{Runs, Trace};
+use cdb_rules::Trace;
 use cdb_streams::{Sink, Source};
 use std::alloc::Global;
 
@@ -36,7 +37,7 @@ fn position_for(events: &[Event], step: Option<StepAsked>) -> Result<Option<usiz
 }
 
 /// Writes the picture of a run. The step is looked for before anything is written.
-fn write_drawing<T: Runs, W: Sink>(
+fn write_drawing<T: Telling, W: Sink>(
     alloc: Global,
     run: &Trace,
     columns: u32,
@@ -61,7 +62,7 @@ fn write_drawing<T: Runs, W: Sink>(
 /// written. So after `Write` what was written is a beginning of the picture; after `NoMemory` nothing was, or whole
 /// pieces of 65,536 bytes; and after any other fault nothing. After `Setup` the script is not read; `Read` comes only
 /// where the reader failed in this call, and `Write` only where the writer did.
-pub fn draw<T: Runs, R: Source, W: Sink>(
+pub fn draw<T: Telling, R: Source, W: Sink>(
     alloc: Global,
     setup: &[u8],
     script: &mut R,

@@ -1,5 +1,6 @@
 -- A run that is played again along its history.
-use Rattle.std.proofs.Common.{◌≡◌, ℕ, suc, ◌+◌, List, [], ◌∷◌, ◌++◌, take, drop, Some, slice_get, IsTrue, codes, refl, sym, ap, ◌∙◌, subst, add-one}
+use Rattle.std.proofs.Common.{◌≡◌, ℕ, suc, ◌+◌, ◌-◌, arith, List, [], ◌∷◌, ◌++◌, take, drop, Some, slice_get, IsTrue, codes, refl, sym, ap, ◌∙◌, subst, add-one}
+use Rattle.std.specs.Option.{option_map_or}
 use Rattle.std.proofs.lemmas.List.{take-append-drop}
 use Rattle.cdb_base.specs.declared.event.Event.{Event}
 use Rattle.cdb_causal.specs.Standing.{IsStanding}
@@ -13,7 +14,10 @@ use Rattle.cdb_setup.specs.Parts.{Parts, AreInRange}
 use Rattle.cdb_text.specs.Events.{event_text}
 use Rattle.cdb_text.specs.Texts.{decides_text}
 use Rattle.cdb_explain.proofs.SameCauses.{same_causes}
-use Rattle.cdb_explain.specs.Explanations.{because_text, detail_text, line_at, line_text, run_after, whole_text}
+use Rattle.cdb_deeds.specs.Deeds.{deed_in}
+use Rattle.cdb_deeds.specs.declared.deed.Deed.{Deed}
+use Rattle.cdb_explain.specs.DeedTexts.{deed_text}
+use Rattle.cdb_explain.specs.Explanations.{because_text, deed_at, detail_text, line_at, line_text, run_after, whole_text}
 use Rattle.cdb_explain.specs.declared.line.Causes.{Causes}
 use Rattle.cdb_explain.specs.declared.line.Causes.TheVariants.{Shown, Hidden}
 
@@ -32,19 +36,25 @@ module _ (rules : Parts → Rules) (SameState : Parts → List Event → List Ev
   next_along later is = is ∙ ap (λ r. with_event r event) along ∙ ap (with_history run) (one_more run.history i event at)
 
   -- its whole text is that of the last event of the run once it had come to it
-  pub whole_of_last : (causes : Causes) → IsStanding run.history → whole_text rules causes run (run_after run (suc i)) event ≡ whole_text rules causes (run_after run (suc i)) (run_after run (suc i)) event
-  whole_of_last Hidden standing = refl
-  whole_of_last Shown standing =
+  pub whole_of_last : (causes : Causes) (did : Deed) → IsStanding run.history → whole_text rules causes run did (run_after run (suc i)) event ≡ whole_text rules causes (run_after run (suc i)) did (run_after run (suc i)) event
+  whole_of_last Hidden did standing = refl
+  whole_of_last Shown did standing =
       let after = run_after run (suc i) in
       let same = same_causes run.setup.processes run.history standing i event at in
-      ap (λ causes. event_text event ++ detail_text rules after event ++ decides_text (decides (rules after.setup) after.history event) ++ because_text causes) (sym same)
+      ap (λ causes. event_text event ++ detail_text rules after event ++ decides_text (decides (rules after.setup) after.history event) ++ deed_text did ++ because_text causes) (sym same)
 
   pub next_is_after : (later : RunView) → later ≡ with_event again event → later ≡ run_after run (suc i)
   next_is_after later is = next_along later is ∙ ap (λ (n : ℕ). with_history run (take n run.history)) (add-one i)
 
-  pub its_line : (causes : Causes) → IsStanding run.history → (later : RunView) → later ≡ with_event again event → line_at rules causes run (suc i) ≡ line_text rules causes later later event
+  -- what it does is asked for before it is taken
+  pub deed_along : deed_at run (suc i) ≡ deed_in again event
+  deed_along = let last : suc i - 1 ≡ i = omega arith in rw (at, last) (ap (λ r. deed_in r event) (sym along))
+
+  pub its_line : (causes : Causes) → IsStanding run.history → (later : RunView) → later ≡ with_event again event → line_at rules causes run (suc i) ≡ line_text rules causes later (deed_in again event) later event
   its_line causes standing later is =
-      line_there ∙ ap (λ (t : List ℕ). t ++ codes "\n") (whole_of_last causes standing) ∙ ap (λ r. line_text rules causes r r event) (sym (next_is_after later is))
+      line_there ∙ ap (λ did. line_text rules causes run did (run_after run (suc i)) event) deed_along
+      ∙ ap (λ (t : List ℕ). t ++ codes "\n") (whole_of_last causes (deed_in again event) standing)
+      ∙ ap (λ r. line_text rules causes r (deed_in again event) r event) (sym (next_is_after later is))
     where
-      line_there : line_at rules causes run (suc i) ≡ line_text rules causes run (run_after run (suc i)) event
-      line_there = rw at refl
+      line_there : line_at rules causes run (suc i) ≡ line_text rules causes run (deed_at run (suc i)) (run_after run (suc i)) event
+      line_there = ap (λ o. option_map_or (line_text rules causes run (deed_at run (suc i)) (run_after run (suc i))) o []) at

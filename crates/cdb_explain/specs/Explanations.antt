@@ -1,5 +1,5 @@
 -- The explanation of a step: what led to it, as text.
-use Rattle.std.specs.Prelude.{◌≡◌, ℕ, List, [], ◌++◌, codes, decimal, length, take, Option, Some, None, Result, Ok, Err, Bool, Vec}
+use Rattle.std.specs.Prelude.{◌≡◌, ℕ, ◌-◌, List, [], ◌++◌, codes, decimal, length, take, Option, Some, None, Result, Ok, Err, Bool, Vec}
 use Rattle.std.specs.Global.{Global}
 use Rattle.std.specs.List.{flat_map}
 use Rattle.std.specs.Option.{option_map_or}
@@ -16,7 +16,11 @@ use Rattle.cdb_base.specs.declared.register.Cell.{Cell}
 use Rattle.cdb_base.specs.declared.register.Reg.{Reg}
 use Rattle.cdb_base.specs.declared.register.Reg.TheVariants.{R, Dec}
 use Rattle.cdb_control.specs.Commands.{decides}
+use Rattle.cdb_deeds.specs.Deeds.{deed_in}
+use Rattle.cdb_deeds.specs.declared.deed.Deed.{Deed}
+use Rattle.cdb_deeds.specs.declared.deed.Deed.TheVariants.{Nothing}
 use Rattle.cdb_explain.specs.Asked.{IsStepAsked, StandsNoStep}
+use Rattle.cdb_explain.specs.DeedTexts.{deed_text}
 use Rattle.cdb_explain.specs.Flagged.{flagged_of_first}
 use Rattle.cdb_explain.specs.declared.line.Causes.{Causes}
 use Rattle.cdb_explain.specs.declared.line.Causes.TheVariants.{Shown, Hidden}
@@ -74,35 +78,43 @@ shown_causes Hidden run event = []
 abbrev pub run_after : RunView → ℕ → RunView
 run_after run position = with_history run (take position run.history)
 
--- the whole text of an event, where the run stands so after it: as `show history` prints it, what it carries
--- and decides, and its direct causes where they are shown
-abbrev pub whole_text : (Parts → Rules) → Causes → RunView → RunView → Event → List ℕ
-whole_text rules causes run after event =
+-- what that event did, in the run before it
+abbrev pub deed_at : RunView → ℕ → Deed
+deed_at run position = option_map_or (deed_in (run_after run (position - 1))) (nth run.history position) Nothing
+
+-- the whole text of an event that did that, where the run stands so after it: as `show history` prints it, what it
+-- carries and decides, what it did, and its direct causes where they are shown
+abbrev pub whole_text : (Parts → Rules) → Causes → RunView → Deed → RunView → Event → List ℕ
+whole_text rules causes run did after event =
     event_text event ++ detail_text rules after event
-    ++ decides_text (decides (rules after.setup) after.history event) ++ shown_causes causes run event
+    ++ decides_text (decides (rules after.setup) after.history event) ++ deed_text did ++ shown_causes causes run event
 
 -- the same as a line
-abbrev pub line_text : (Parts → Rules) → Causes → RunView → RunView → Event → List ℕ
-line_text rules causes run after event = whole_text rules causes run after event ++ codes "\n"
+abbrev pub line_text : (Parts → Rules) → Causes → RunView → Deed → RunView → Event → List ℕ
+line_text rules causes run did after event = whole_text rules causes run did after event ++ codes "\n"
 
 -- the line of the event at that position, where one stands there
 abbrev pub line_at : (Parts → Rules) → Causes → RunView → ℕ → List ℕ
 line_at rules causes run position =
-    option_map_or (line_text rules causes run (run_after run position)) (nth run.history position) []
+    option_map_or (line_text rules causes run (deed_at run position) (run_after run position)) (nth run.history position) []
 
 -- `N of M standing events`
 abbrev pub count_text : ℕ → ℕ → List ℕ
 count_text count all =
     decimal count ++ codes " of " ++ decimal all ++ codes " standing" ++ codes " events\n"
 
--- the lines of the flagged events, in the order of the history, and then how many they are of how many
+-- the lines of the flagged events, in the order of the history, and how many they are of how many
+abbrev pub events_text : (Parts → Rules) → Causes → RunView → List Bool → List ℕ
+events_text rules causes run flags = flat_map (line_at rules causes run) (flagged_of_first (length run.history) flags)
+
+abbrev pub flagged_text : RunView → List Bool → List ℕ
+flagged_text run flags = count_text (length (flagged_of_first (length run.history) flags)) (length run.history)
+
 abbrev pub lines_text : (Parts → Rules) → Causes → RunView → List Bool → List ℕ
-lines_text rules causes run flags =
-    let positions = flagged_of_first (length run.history) flags in
-    flat_map (line_at rules causes run) positions ++ count_text (length positions) (length run.history)
+lines_text rules causes run flags = events_text rules causes run flags ++ flagged_text run flags
 
 -- The text is that of what led to the event at that position: of that event, and of each from which a
--- chain of dependences leads to it, with their causes.
+-- chain of dependences leads to it, with what they did and their causes.
 abbrev pub IsExplanation : (Parts → Rules) → RunView → ℕ → List ℕ → Type 0
 IsExplanation rules run position text =
     (flags : List Bool) × FlagsPast run.history position flags × (text ≡ lines_text rules Shown run flags)

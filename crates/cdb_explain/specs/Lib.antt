@@ -1,7 +1,9 @@
 -- what the public contracts name
 pub mod Asked
 pub mod Flagged
+pub mod DeedTexts
 pub mod Explanations
+pub mod Rounds
 pub mod Left
 pub mod StepFaults
 pub mod Explained

@@ -15,13 +15,14 @@ ghost use Rattle.cdb_setup.specs.declared.fault.SetupFault.{SetupFault as SetupF
 use crate::fault::ExplainFault;
 use crate::left::run_left_by;
 use crate::step::explain_step;
-use cdb_rules::{Runs, Trace};
+use cdb_deeds::Telling;
+use cdb_rules::Trace;
 use cdb_streams::{Sink, Source, write_text};
 use std::alloc::Global;
 
 /// Writes the explanation of a step of this run, which is whole before any of it is written. `NoStep` where no such
 /// step stands.
-fn write_explanation<T: Runs, W: Sink>(
+fn write_explanation<T: Telling, W: Sink>(
     alloc: Global,
     run: &Trace,
     p: u32,
@@ -49,9 +50,10 @@ fn write_explanation<T: Runs, W: Sink>(
 /// this call, and `Write` only where the writer did.
 ///
 /// Promise: An explanation has a line for each event that has led to the step and for no other, in the order of the
-/// history, each with what it carries and decides and with its direct causes, and counts them. `NoStep` comes only
-/// where no such step stands. After a fault nothing was written, but after a failed write a beginning.
-pub fn explain<T: Runs, R: Source, W: Sink>(
+/// history, each with what it carries and decides, what it did by the table of its machine, and its direct causes, and
+/// counts them. `NoStep` comes only where no such step stands. After a fault nothing was written, but after a failed
+/// write a beginning.
+pub fn explain<T: Telling, R: Source, W: Sink>(
     alloc: Global,
     setup: &[u8],
     script: &mut R,

@@ -7,6 +7,7 @@
 #![tactic(auto)]
 
 mod asked;
+mod deed;
 mod detail;
 mod explains;
 mod fault;
@@ -14,6 +15,7 @@ mod left;
 mod line;
 mod lines;
 mod replay;
+mod round;
 mod step;
 mod trace;
 
@@ -22,6 +24,7 @@ pub use explains::explain;
 pub use fault::ExplainFault;
 pub use left::run_left_by;
 pub use line::{Causes, decision_by, push_whole};
-pub use lines::{explanation, push_flagged};
+pub use lines::{explanation, push_count, push_flagged, push_lines};
 pub use replay::{fresh, take_next};
+pub use round::round_by;
 pub use step::explain_step;

@@ -1,4 +1,4 @@
-//! The line of an event: the event, what it carries and decides, and its direct causes where they are shown.
+//! The line of an event: the event, what it carries and decides, what it did, and its direct causes where they are shown.
 
 ghost use Rattle.cdb_base.specs.Event.{event_name};
 ghost use Rattle.cdb_control.specs.Commands.{decides};
@@ -8,8 +8,10 @@ ghost use Rattle.cdb_rules.specs.Runs.{causes_in};
 ghost use Rattle.cdb_text.specs.Pushes.{Pushes};
 ghost use Rattle.std.specs.Prelude.{◌≡◌};
 
+use crate::deed::push_deed;
 use crate::detail::push_detail;
 use cdb_base::{CopyName, Event, MsgName, Val};
+use cdb_deeds::Deed;
 use cdb_rules::{EventRef, Runs};
 use cdb_text::{push_causes, push_decides, push_event};
 use std::alloc::{AllocError, Global};
@@ -81,21 +83,23 @@ fn push_shown<T: Runs>(
     }
 }
 
-/// Adds the whole text of the last event of a run. In a longer run it is the same, since nothing that comes later
-/// changes direct causes. Only out of memory is an error.
+/// Adds the whole text of the last event of a run, which did that. In a longer run it is the same, since nothing that
+/// comes later changes direct causes. Only out of memory is an error.
 pub fn push_whole<T: Runs>(
     alloc: Global,
     text: &mut String,
     causes: Causes,
+    deed: &Deed,
     run: &T,
     event: &Event,
 ) -> Result<(), AllocError>
     ensures { Pushes result text.old text.new
-        (whole_text T.rules causes (T.run run.now) (T.run run.now) event.now) }
+        (whole_text T.rules causes (T.run run.now) deed.now (T.run run.now) event.now) }
 {
     push_event(text, event)?;
     push_detail(text, run, event)?;
     push_decides(text, decision_by(run, event))?;
+    push_deed(text, deed)?;
     push_shown(alloc, text, causes, run, event)
 }
 
@@ -104,12 +108,13 @@ pub(crate) fn push_line<T: Runs>(
     alloc: Global,
     text: &mut String,
     causes: Causes,
+    deed: &Deed,
     run: &T,
     event: &Event,
 ) -> Result<(), AllocError>
     ensures { Pushes result text.old text.new
-        (line_text T.rules causes (T.run run.now) (T.run run.now) event.now) }
+        (line_text T.rules causes (T.run run.now) deed.now (T.run run.now) event.now) }
 {
-    push_whole(alloc, text, causes, run, event)?;
+    push_whole(alloc, text, causes, deed, run, event)?;
     text.push_str("\n")
 }

@@ -1,22 +1,47 @@
 //! The lines of the flagged events.
 
-ghost use Rattle.cdb_explain.specs.Explanations.{count_text, line_at, lines_text, IsExplanation};
+ghost use Rattle.cdb_deeds.specs.Deeds.{deed_in};
+ghost use Rattle.cdb_explain.specs.Explanations.{count_text, events_text, line_text, lines_text, IsExplanation};
 ghost use Rattle.cdb_explain.specs.Flagged.{flagged_of_first};
 ghost use Rattle.cdb_explain.specs.declared.line.Causes.TheVariants.{Shown};
 ghost use Rattle.cdb_rules.specs.ByRules.{IsInOrder};
+ghost use Rattle.cdb_rules.specs.Runs.{with_event};
 ghost use Rattle.cdb_text.specs.Pushes.{Pushes};
-ghost use Rattle.std.specs.List.{flat_map};
-ghost use Rattle.std.specs.Prelude.{◌≡◌, ◌≤◌, length, IfOk};
+ghost use Rattle.std.specs.Prelude.{◌≡◌, ◌≤◌, length, IfOk, OnOk};
 
 use crate::line::{Causes, push_line};
 use crate::replay::{fresh, take_next};
-use cdb_base::NoMemory;
-use cdb_rules::{Runs, Trace};
+use cdb_base::{Event, NoMemory};
+use cdb_deeds::Telling;
+use cdb_rules::Trace;
 use std::alloc::{AllocError, Global};
 
-/// Adds the lines of the flagged events, in the order of the history, and returns how many they are.
-/// It plays the run again, event by event, and asks it after each one, when that is soonest answered.
-fn push_lines<T: Runs>(
+/// Takes the next event of a run that is played again, and adds its line. The run is asked before the event for what the
+/// event does, and after it for all else.
+fn push_next<T: Telling>(
+    alloc: Global,
+    text: &mut String,
+    causes: Causes,
+    again: &mut T,
+    history: &[Event],
+    event: &Event,
+) -> Result<(), NoMemory>
+    requires history { history.now ≡ (T.run again.old).history }
+    requires next { IsInOrder T.rules (with_event (T.run again.old) event.now) }
+    ensures taken { OnOk result (T.run again.new ≡ with_event (T.run again.old) event.now) }
+    ensures line { Pushes result text.old text.new
+        (line_text T.rules causes (T.run again.new) (deed_in (T.run again.old) event.now) (T.run again.new) event.now) }
+{
+    let deed = again.deed(alloc, history, event)?;
+    take_next(alloc, again, event)?;
+    push_line(alloc, text, causes, &deed, again, event)?;
+    Ok(())
+}
+
+/// Adds the lines of the flagged events, in the order of the history, with their causes or without, and returns how many
+/// they are. There is a flag for each event. `NoMemory` if an allocation fails. It plays the run again, event by event, and
+/// asks it when that is soonest answered.
+pub fn push_lines<T: Telling>(
     alloc: Global,
     text: &mut String,
     causes: Causes,
@@ -25,8 +50,7 @@ fn push_lines<T: Runs>(
 ) -> Result<usize, NoMemory>
     requires valid { IsInOrder T.rules run.now }
     requires a_flag_each { length flags.now ≡ length run.now.history }
-    ensures lines { Pushes result text.old text.new
-        (flat_map (line_at T.rules causes run.now) (flagged_of_first (length run.now.history) flags.now)) }
+    ensures lines { Pushes result text.old text.new (events_text T.rules causes run.now flags.now) }
     ensures count { IfOk result (λ count.
         count ≡ length (flagged_of_first (length run.now.history) flags.now)) }
 {
@@ -37,17 +61,18 @@ fn push_lines<T: Runs>(
     let mut count = 0;
     for i in 0..events.len() {
         let event = &events[i];
-        take_next(alloc, &mut again, event)?;
         if flags[i] {
-            push_line(alloc, text, causes, &again, event)?;
+            push_next(alloc, text, causes, &mut again, &events[..i], event)?;
             count += 1;
+        } else {
+            take_next(alloc, &mut again, event)?;
         }
     }
     Ok(count)
 }
 
-/// Adds how many of how many events.
-fn push_count(text: &mut String, count: usize, all: usize) -> Result<(), AllocError>
+/// Adds how many of how many events, in a line. Only out of memory is an error.
+pub fn push_count(text: &mut String, count: usize, all: usize) -> Result<(), AllocError>
     ensures { Pushes result text.old text.new (count_text count all) }
 {
     write!(text, "{count} of {all}")?;
@@ -58,7 +83,7 @@ fn push_count(text: &mut String, count: usize, all: usize) -> Result<(), AllocEr
 
 /// Adds the lines of the flagged events, with their causes or without, and then how many they are of how many. There is a
 /// flag for each event. `NoMemory` if an allocation fails.
-pub fn push_flagged<T: Runs>(
+pub fn push_flagged<T: Telling>(
     alloc: Global,
     text: &mut String,
     causes: Causes,
@@ -75,7 +100,11 @@ pub fn push_flagged<T: Runs>(
 }
 
 /// The lines of the flagged events, with their causes, and then how many they are of how many.
-fn text_of_flagged<T: Runs>(alloc: Global, run: &Trace, flags: &[bool]) -> Result<Vec<u8>, NoMemory>
+fn text_of_flagged<T: Telling>(
+    alloc: Global,
+    run: &Trace,
+    flags: &[bool],
+) -> Result<Vec<u8>, NoMemory>
     requires valid { IsInOrder T.rules run.now }
     requires a_flag_each { length flags.now ≡ length run.now.history }
     ensures { IfOk result (λ text. text.items ≡ lines_text T.rules Shown run.now flags.now) }
@@ -87,7 +116,7 @@ fn text_of_flagged<T: Runs>(alloc: Global, run: &Trace, flags: &[bool]) -> Resul
 
 /// The explanation of the event at a position of the history, from 1: a line for each event that led to it, in
 /// the order of the history, and then how many they are. `NoMemory` if an allocation fails.
-pub fn explanation<T: Runs>(
+pub fn explanation<T: Telling>(
     alloc: Global,
     run: &Trace,
     position: usize,

@@ -22,7 +22,8 @@ use Rattle.cdb_alpha.specs.Seen.{greatest_write, latest, value_seen, chosen_valu
 use Rattle.cdb_alpha.specs.Table.{Row, asks, reads, writes, goes_on, rests, row_at, wish_by, next_state, next_round, judge, see_decision, entered, with_value, decision_cell, begin_pass}
 use Rattle.cdb_alpha.proofs.Leads.{Leads, leads}
 use Rattle.cdb_rules.proofs.Positions.{nth_push_other, nth_push_back}
-use Rattle.cdb_trail.specs.Flow.{Spot, slot, register, Flow, still, moves, number_of, MayTake, MaySet}
+use Rattle.cdb_trail.specs.Flow.{Spot, slot, register, Flow, still, moves, MayTake, MaySet}
+use Rattle.cdb_deeds.specs.Numbers.{number_of}
 use Rattle.cdb_trail.specs.AlphaFlow as flows
 use Rattle.cdb_trail.specs.AlphaFlow.{Slot, slot_value, has_settled, settled_from, read_flow, write_flow, local_flow, flow, alpha_flows}
 use Rattle.cdb_trail.proofs.Numbers.{IsNumbered, numbered}
@@ -264,10 +265,10 @@ module _ (p : ℕ) (s : LocalState) where
 
       by_seen : (o : Option ℕ) → value_seen s.seen ≡ o → slot_value s (settled_from s) ≡ Some (chosen_value s.input s.seen)
       by_seen None is =
-          ap (λ (x : Option ℕ). slot_value s (if is_some x then unwrap_or (option_map flows.seen (number_of (λ (c : Cell). c.lrww == greatest_write s.seen) s.seen)) flows.input else flows.input)) is
+          ap (λ (x : Option ℕ). slot_value s (unwrap_or (option_map flows.seen (if is_some x then number_of (λ (c : Cell). c.lrww == greatest_write s.seen) s.seen else None)) flows.input)) is
           ∙ sym (ap (λ x. Some (unwrap_or x s.input)) is)
       by_seen (Some v) is =
-          ap (λ (x : Option ℕ). slot_value s (if is_some x then unwrap_or (option_map flows.seen (number_of (λ (c : Cell). c.lrww == greatest_write s.seen) s.seen)) flows.input else flows.input)) is
+          ap (λ (x : Option ℕ). slot_value s (unwrap_or (option_map flows.seen (if is_some x then number_of (λ (c : Cell). c.lrww == greatest_write s.seen) s.seen else None)) flows.input)) is
           ∙ (by_cell v is ∙ sym (ap (λ x. Some (unwrap_or x s.input)) is))
 
   settles : (i : Input) → IsTrueRow i (record s { value = chosen_value s.input s.seen; place = A5 }) (moves (slot p (settled_from s)) (slot p flows.value ∷ []))

@@ -24,8 +24,10 @@ use Rattle.cdb_leader.specs.LocalState.{LocalState, first_state}
 use Rattle.cdb_leader.specs.Machine.{leader_table}
 use Rattle.cdb_leader.specs.Table.{heard_first_phase, heard_second_phase, heard_lead, is_lead, set_aux, end_round, query_at, payload_at, after_sending_at, send_at, local_at, adopt, learn_at, recv_at, next_state}
 use Rattle.cdb_rules.proofs.Positions.{nth_push_other, nth_push_back}
-use Rattle.cdb_trail.specs.Flow.{Spot, slot, message, Flow, still, moves, number_of, MayTake, MaySet}
-use Rattle.cdb_trail.specs.LeaderFlow.{Slot, received, estimate, aux, decision, slot_value, number_from, number_of_estimate, number_of_proposal, number_of_learnt, sets_aux, sets_estimate, send_flow, query_flow, local_flow, flow, leader_flows}
+use Rattle.cdb_trail.specs.Flow.{Spot, slot, message, Flow, still, moves, MayTake, MaySet}
+use Rattle.cdb_deeds.specs.Numbers.{number_of}
+use Rattle.cdb_deeds.specs.LeaderDeeds.{number_from, number_of_estimate, number_of_proposal, number_of_learnt}
+use Rattle.cdb_trail.specs.LeaderFlow.{Slot, received, estimate, aux, decision, slot_value, sets_aux, sets_estimate, send_flow, query_flow, local_flow, flow, leader_flows}
 use Rattle.cdb_trail.proofs.Numbers.{IsNumbered, numbered, given_found, given_none, found_passes}
 use Rattle.cdb_trail.proofs.RunFlows.{Fits, taken, AreTrueOfOne}
 use Rattle.cdb_trail.proofs.Trailing.{AreTold}

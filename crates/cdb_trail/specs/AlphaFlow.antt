@@ -1,5 +1,5 @@
 -- How values go through the Alpha machine.
-use Rattle.std.specs.Prelude.{ℕ, Bool, true, false, ◌+◌, ◌==◌, [], ◌∷◌, length, Option, Some, None, is_some, if◌then◌else◌}
+use Rattle.std.specs.Prelude.{ℕ, Bool, true, false, ◌+◌, [], ◌∷◌, length, Option, Some, None, if◌then◌else◌}
 use Rattle.std.specs.Option.{option_and_then, option_map, unwrap_or}
 use Rattle.cdb_base.specs.Positions.{nth}
 use Rattle.cdb_base.specs.declared.event.Kind.{Kind}
@@ -8,12 +8,13 @@ use Rattle.cdb_base.specs.declared.register.Reg.{Reg}
 use Rattle.cdb_alpha.specs.declared.place.Place.{Place}
 use Rattle.cdb_alpha.specs.declared.place.Place.TheVariants.{A0, A2, A3, A4, A5, A6, A7, A8}
 use Rattle.cdb_alpha.specs.LocalState.{LocalState}
-use Rattle.cdb_alpha.specs.Seen.{greatest_write, value_seen, is_overtaken}
+use Rattle.cdb_alpha.specs.Seen.{is_overtaken}
+use Rattle.cdb_deeds.specs.AlphaDeeds.{register_of_value}
 -- the input of a process, the cell of register i that it saw, the value that it has settled in its round, the one in the cell that it
 -- wrote last, and its decision
 pub use Rattle.cdb_trail.specs.declared.alpha_flow.Slot.{Slot}
 pub use Rattle.cdb_trail.specs.declared.alpha_flow.Slot.TheVariants.{Input as input, Seen as seen, Value as value, Own as own, Decision as decision}
-use Rattle.cdb_trail.specs.Flow.{slot, register, Flow, still, moves, Flows, number_of}
+use Rattle.cdb_trail.specs.Flow.{slot, register, Flow, still, moves, Flows}
 
 -- the process has settled the value of its round
 abbrev pub has_settled : Place → Bool
@@ -30,11 +31,9 @@ slot_value s value = if has_settled s.place then Some s.value else None
 slot_value s own = s.own.val
 slot_value s decision = s.decision
 
--- which slot the value that is settled comes from: the cell that was written in the latest round, that of the least register where
--- several were, and where no cell with a value was written the input
+-- which slot the value that is settled comes from: the cell of the register whose value it is, or else the input
 abbrev pub settled_from : LocalState → Slot
-settled_from s =
-    if is_some (value_seen s.seen) then unwrap_or (option_map seen (number_of (λ cell. cell.lrww == greatest_write s.seen) s.seen)) input else input
+settled_from s = unwrap_or (option_map seen (register_of_value s)) input
 
 -- ---- the flow of each row
 

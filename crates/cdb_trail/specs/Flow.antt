@@ -1,6 +1,6 @@
 -- Where a value lies in a run, and how a step moves it.
-use Rattle.std.specs.Prelude.{◌≡◌, ℕ, suc, Bool, List, [], ◌∷◌, Contains, Option, Some, None, if◌then◌else◌}
-use Rattle.std.specs.Option.{option_and_then, option_map}
+use Rattle.std.specs.Prelude.{◌≡◌, ℕ, List, [], ◌∷◌, Contains, Option, Some, None}
+use Rattle.std.specs.Option.{option_and_then}
 use Rattle.cdb_base.specs.Positions.{nth}
 use Rattle.cdb_base.specs.declared.event.Event.{Event}
 use Rattle.cdb_base.specs.declared.event.Event.TheVariants.{Step, Lost}
@@ -86,10 +86,3 @@ pub record FlowsAreTrue {L S : Type 0} (machine : Machine L) (flows : Flows L S)
   -- a step takes and sets what it may
   pub takes_own : (p : ℕ) (s : L) (kind : Kind) (spot : Spot S) → (flows.flow p s kind).takes ≡ Some spot → MayTake p kind spot
   pub sets_own : (p : ℕ) (s : L) (kind : Kind) (spot : Spot S) → Contains (flows.flow p s kind).sets spot → MaySet p kind spot
-
--- ---- lists
-
--- the number, from 1 on, of the first element that passes the test
-abbrev pub number_of : {A : Type 0} → (A → Bool) → List A → Option ℕ
-number_of test [] = None
-number_of test (x ∷ xs) = if test x then Some 1 else option_map suc (number_of test xs)

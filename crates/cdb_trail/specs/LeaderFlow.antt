@@ -1,48 +1,25 @@
 -- How values go through the leader machine.
-use Rattle.std.specs.Prelude.{ℕ, ◌+◌, not, ◌&&◌, List, [], ◌∷◌, length, find, Option, Some, None, is_some, if◌then◌else◌}
-use Rattle.std.specs.Option.{option_map, option_and_then, option_flatten}
+use Rattle.std.specs.Prelude.{ℕ, ◌+◌, not, ◌&&◌, [], ◌∷◌, length, Option, Some, None, if◌then◌else◌}
+use Rattle.std.specs.Option.{option_map, option_and_then}
 use Rattle.cdb_base.specs.Positions.{nth}
-use Rattle.cdb_base.specs.Processes.{all_processes}
 use Rattle.cdb_base.specs.declared.event.Kind.{Kind}
 use Rattle.cdb_base.specs.declared.event.Kind.TheVariants.{Query, Send, Recv, Local, Learn}
-use Rattle.cdb_base.specs.declared.payload.Payload.{Payload}
 use Rattle.cdb_process.specs.Values.{payload_value}
-use Rattle.cdb_leader.specs.declared.inbox.Received.{Received}
 use Rattle.cdb_leader.specs.declared.place.Place.{Place}
 use Rattle.cdb_leader.specs.declared.place.Place.TheVariants.{L1, L2, L3, L4, L5}
-use Rattle.cdb_leader.specs.Inbox.{first_phase, second_phase, second_phase_from, as_decision, decision_from, if_from, agreed_leader}
+use Rattle.cdb_deeds.specs.LeaderDeeds.{number_of_estimate, number_of_proposal, number_of_learnt}
 use Rattle.cdb_leader.specs.LocalState.{LocalState}
 use Rattle.cdb_leader.specs.Table.{heard_first_phase, is_lead}
 -- the i-th message that a process received, its estimate, what came of the first phase, and its decision
 pub use Rattle.cdb_trail.specs.declared.leader_flow.Slot.{Slot}
 pub use Rattle.cdb_trail.specs.declared.leader_flow.Slot.TheVariants.{Received as received, Estimate as estimate, Aux as aux, Decision as decision}
-use Rattle.cdb_trail.specs.Flow.{slot, message, Flow, still, moves, Flows, number_of}
+use Rattle.cdb_trail.specs.Flow.{slot, message, Flow, still, moves, Flows}
 
 abbrev pub slot_value : LocalState → Slot → Option ℕ
 slot_value s (received i) = option_and_then (λ it. payload_value it.payload) (nth s.inbox i)
 slot_value s estimate = Some s.estimate
 slot_value s aux = s.aux
 slot_value s decision = s.decision
-
--- ---- which message of the inbox a step takes its value from
-
--- the first message from m that reads as something, by its number in the inbox
-abbrev pub number_from : {A : Type 0} → ℕ → (Payload → Option A) → List Received → Option ℕ
-number_from m reading inbox = number_of (λ it. is_some (if_from m reading it)) inbox
-
--- where aux is set: the first-phase message of the round from the leader that the senders agreed on
-abbrev pub number_of_estimate : LocalState → Option ℕ
-number_of_estimate s = option_and_then (λ m. number_from m (first_phase s.round) s.inbox) (agreed_leader s.quorum s.round s.inbox)
-
--- where the round ends: the second-phase message of the round from the least sender whose message has a value
-abbrev pub number_of_proposal : LocalState → Option ℕ
-number_of_proposal s =
-    option_and_then (λ m. number_from m (second_phase s.round) s.inbox)
-    (find (λ m. is_some (option_flatten (second_phase_from s.round m s.inbox))) all_processes)
-
--- where a decision is adopted: the first decision of the least sender that sent one
-abbrev pub number_of_learnt : LocalState → Option ℕ
-number_of_learnt s = option_and_then (λ m. number_from m as_decision s.inbox) (find (λ m. is_some (decision_from m s.inbox)) all_processes)
 
 -- ---- the flow of each row
 

@@ -1,16 +1,15 @@
 //! How values go through the Alpha machine.
 
-ghost use Rattle.std.specs.Prelude.{◌≡◌, ◌==◌};
+ghost use Rattle.std.specs.Prelude.{◌≡◌};
 ghost use Rattle.std.specs.Option.{option_and_then};
 ghost use Rattle.cdb_base.specs.Positions.{nth};
-ghost use Rattle.cdb_trail.specs.Flow.{number_of};
 ghost use Rattle.cdb_trail.specs.AlphaFlow.{alpha_flows, settled_from, has_settled, read_flow, write_flow, local_flow};
 
 use crate::flow::{Flow, Spot};
 use crate::flowing::Flowing;
-use cdb_alpha::seen::{find_greatest_write, find_value};
 use cdb_alpha::{Alpha, Place};
-use cdb_base::{Cell, Kind, Proc, Reg, Val};
+use cdb_base::{Kind, Proc, Reg, Val};
+use cdb_deeds::register_of_value;
 use cdb_process::Process;
 
 /// A slot of a process of the Alpha machine.
@@ -28,27 +27,11 @@ pub enum Slot {
     Decision,
 }
 
-/// The number, from 1 on, of the first cell that was written in that round.
-fn number_of_write(cells: &[Cell], round: u32) -> Option<usize>
-    ensures { result ≡ number_of (λ cell. cell.lrww == round) cells.now }
-{
-    for i in 0..cells.len() {
-        if cells[i].lrww == round {
-            return Some(i + 1);
-        }
-    }
-    None
-}
-
 /// The slot from which the value comes that is settled.
 fn settled_from(machine: &Alpha) -> Slot
     ensures { result ≡ settled_from machine.now }
 {
-    let cells = machine.seen();
-    if find_value(cells).is_none() {
-        return Slot::Input;
-    }
-    match number_of_write(cells, find_greatest_write(cells)) {
+    match register_of_value(machine) {
         Some(number) => Slot::Seen(number),
         None => Slot::Input,
     }

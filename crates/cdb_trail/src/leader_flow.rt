@@ -1,19 +1,14 @@
 //! How values go through the leader machine.
 
-ghost use Rattle.std.specs.Prelude.{◌≡◌, ◌+◌, [], ◌∷◌, length, is_some, find};
-ghost use Rattle.std.specs.Option.{option_and_then, option_flatten};
-ghost use Rattle.cdb_base.specs.Positions.{nth};
-ghost use Rattle.cdb_base.specs.Processes.{all_processes};
-ghost use Rattle.cdb_leader.specs.Inbox.{first_phase, second_phase, as_decision, is_agreed, agreed_leader, backers, second_phase_from, decision_from};
-ghost use Rattle.cdb_process.specs.Values.{payload_value};
+ghost use Rattle.std.specs.Prelude.{◌≡◌, ◌+◌, [], ◌∷◌, length};
 ghost use Rattle.cdb_trail.specs.Flow.{slot, message, moves};
-ghost use Rattle.cdb_trail.specs.LeaderFlow.{received, leader_flows, number_from, number_of_estimate, number_of_proposal, number_of_learnt, sets_aux, sets_estimate, send_flow, query_flow, local_flow};
+ghost use Rattle.cdb_trail.specs.LeaderFlow.{received, leader_flows, sets_aux, sets_estimate, send_flow, query_flow, local_flow};
 
 use crate::flow::{Flow, Spot};
 use crate::flowing::Flowing;
-use crate::payload::value_of;
 use cdb_base::{Kind, Proc, Val};
-use cdb_leader::{Leader, Place, Received, find_decision, find_first_phase, find_second_phase};
+use cdb_deeds::{number_of_estimate, number_of_learnt, number_of_proposal, value_received};
+use cdb_leader::{Leader, Place};
 use cdb_process::Process;
 
 /// A slot of a process of the leader machine.
@@ -27,143 +22,6 @@ pub enum Slot {
     Aux,
     /// Its decision.
     Decision,
-}
-
-/// The number, from 1 on, of the first message of the first phase of that round from that sender.
-fn number_of_first_phase(inbox: &[Received], round: u32, sender: Proc) -> Option<usize>
-    ensures { result ≡ number_from sender (first_phase round) inbox.now }
-{
-    for i in 0..inbox.len() {
-        if inbox[i].first_phase(round, sender).is_some() {
-            return Some(i + 1);
-        }
-    }
-    None
-}
-
-/// The number, from 1 on, of the first message of the second phase of that round from that sender.
-fn number_of_second_phase(inbox: &[Received], round: u32, sender: Proc) -> Option<usize>
-    ensures { result ≡ number_from sender (second_phase round) inbox.now }
-{
-    for i in 0..inbox.len() {
-        if inbox[i].second_phase(round, sender).is_some() {
-            return Some(i + 1);
-        }
-    }
-    None
-}
-
-/// The number, from 1 on, of the first message with a decision from that sender.
-fn number_of_decision(inbox: &[Received], sender: Proc) -> Option<usize>
-    ensures { result ≡ number_from sender as_decision inbox.now }
-{
-    for i in 0..inbox.len() {
-        if inbox[i].decision(sender).is_some() {
-            return Some(i + 1);
-        }
-    }
-    None
-}
-
-/// How many senders name that process as the leader of the machine's round.
-fn count_backers(machine: &Leader, leader: Proc) -> usize
-    ensures { result ≡ backers machine.now.round leader machine.now.inbox }
-{
-    let round = machine.round();
-    Proc::all()
-        .iter()
-        .filter(|sender| {
-            find_first_phase(machine.received(), round, **sender).is_some_and(|said| said.lead
-                == leader)
-        })
-        .count()
-}
-
-/// Whether a quorum names that process as leader, and its own first-phase message came.
-fn is_agreed(machine: &Leader, leader: Proc) -> bool
-    ensures { result ≡ is_agreed machine.now.quorum machine.now.round machine.now.inbox leader }
-{
-    usize::from(machine.quorum()) <= count_backers(machine, leader)
-        && find_first_phase(machine.received(), machine.round(), leader).is_some()
-}
-
-/// The leader that the senders of the first phase agreed on.
-fn agreed_leader(machine: &Leader) -> Option<Proc>
-    ensures { result ≡ agreed_leader machine.now.quorum machine.now.round machine.now.inbox }
-{
-    for leader in Proc::all() {
-        if is_agreed(machine, leader) {
-            return Some(leader);
-        }
-    }
-    None
-}
-
-/// The number, from 1 on, of the message that a process received from its leader where the first phase ends.
-fn number_of_estimate(machine: &Leader) -> Option<usize>
-    ensures { result ≡ number_of_estimate machine.now }
-{
-    let leader = agreed_leader(machine)?;
-    number_of_first_phase(machine.received(), machine.round(), leader)
-}
-
-/// Whether the second-phase message of the round from that sender came, and has a value.
-fn proposes(machine: &Leader, sender: Proc) -> bool
-    ensures { result ≡ is_some (option_flatten
-        (second_phase_from machine.now.round sender machine.now.inbox)) }
-{
-    find_second_phase(machine.received(), machine.round(), sender)
-        .flatten()
-        .is_some()
-}
-
-/// The least sender whose second-phase message of the round came and has a value.
-fn proposer(machine: &Leader) -> Option<Proc>
-    ensures { result ≡ find
-        (λ m. is_some (option_flatten (second_phase_from machine.now.round m machine.now.inbox)))
-        all_processes }
-{
-    for sender in Proc::all() {
-        if proposes(machine, sender) {
-            return Some(sender);
-        }
-    }
-    None
-}
-
-/// The number of the message whose value a process adopts where the second phase ends.
-fn number_of_proposal(machine: &Leader) -> Option<usize>
-    ensures { result ≡ number_of_proposal machine.now }
-{
-    let sender = proposer(machine)?;
-    number_of_second_phase(machine.received(), machine.round(), sender)
-}
-
-/// Whether a decision of that sender came.
-fn has_decided(machine: &Leader, sender: Proc) -> bool
-    ensures { result ≡ is_some (decision_from sender machine.now.inbox) }
-{
-    find_decision(machine.received(), sender).is_some()
-}
-
-/// The least sender of which a decision came.
-fn decider(machine: &Leader) -> Option<Proc>
-    ensures { result ≡ find (λ m. is_some (decision_from m machine.now.inbox)) all_processes }
-{
-    for sender in Proc::all() {
-        if has_decided(machine, sender) {
-            return Some(sender);
-        }
-    }
-    None
-}
-
-/// The number of the message whose decision a process adopts.
-fn number_of_learnt(machine: &Leader) -> Option<usize>
-    ensures { result ≡ number_of_learnt machine.now }
-{
-    let sender = decider(machine)?;
-    number_of_decision(machine.received(), sender)
 }
 
 /// The flow of the end of the first phase.
@@ -232,15 +90,6 @@ fn local_flow(machine: &Leader, p: Proc) -> Flow<Slot>
         Place::L4 => sets_estimate(p, number_of_proposal(machine)),
         _ => Flow::still(),
     }
-}
-
-/// The value of the message that the process received as the one of that number.
-fn value_received(machine: &Leader, number: usize) -> Option<Val>
-    ensures { result ≡ option_and_then (λ it. payload_value it.payload) (nth machine.now.inbox number) }
-{
-    let index = number.checked_sub(1)?;
-    let message = machine.received().get(index)?;
-    value_of(&message.payload)
 }
 
 impl Flowing for Leader {

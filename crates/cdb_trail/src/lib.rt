@@ -11,7 +11,6 @@ mod flow;
 mod flowing;
 pub mod laws;
 mod leader_flow;
-mod payload;
 mod played;
 mod trail;
 mod walk;

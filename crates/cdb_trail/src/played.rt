@@ -7,8 +7,8 @@ ghost use Rattle.cdb_trail.specs.Played.{AreFirstFlows};
 
 use crate::flow::{Flow, Spot};
 use crate::flowing::Flowing;
-use crate::payload::value_of;
 use cdb_base::{Event, Kind, MsgName, NoMemory, Proc, Val};
+use cdb_deeds::value_of;
 use cdb_process::Process;
 use cdb_rules::Trace;
 use cdb_run::Run;

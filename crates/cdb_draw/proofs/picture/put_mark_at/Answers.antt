@@ -2,9 +2,10 @@ use Rattle.std.proofs.Common.{◌≡◌, ◌<◌, ◌-◌, false, get_or, length
 use Rattle.cdb_causal.proofs.Lists.{by_next}
 use Rattle.cdb_rules.proofs.Flagged.{item_at}
 use Rattle.cdb_explain.proofs.Flagging.{flag_read}
-use Rattle.cdb_explain.specs.Explanations.{run_after}
+use Rattle.cdb_explain.specs.Explanations.{deed_at, run_after}
 use Rattle.cdb_explain.specs.Flagged.{is_flagged}
-use Rattle.cdb_draw.specs.EventMarks.{mark_at, mark_text, round_before}
+use Rattle.cdb_explain.specs.Rounds.{round_before}
+use Rattle.cdb_draw.specs.EventMarks.{mark_at, mark_text}
 use Rattle.cdb_draw.proofs.LastMarks.{mark_of_last}
 use Rattle.cdb_draw.proofs.picture.put_mark_at.Goals as goal
 
@@ -19,10 +20,11 @@ returns g c =
     let rules = g.T.Runs.rules in
     let after = g.T.Runs.run c.args.after.now in
     let before = c.args.before in
+    let did = c.args.deed.now in
     let within : i < length flags = omega arith in
     let at = item_at c.events-events.ensures i event (omega (arith, ap length c.events-events.ensures)) c.index-events-position.is in
     let flagged = by_next (λ n. is_flagged flags n ≡ full) c.args.position c.requires.from_one
     (flag_read flags i false full within refl) in
     rw (by_next
-    (λ n. after ≡ run_after run n → before ≡ round_before rules run n → is_flagged flags n ≡ full → mark_text rules grid after before after full n event ≡ mark_at rules grid run flags n) c.args.position c.requires.from_one
-    (λ is was marked. mark_of_last rules grid g.T.Runs.same_state g.met.T.Runs.histories run flags i event c.requires.standing at after is before was full marked) c.requires.after c.requires.before flagged) at c.put_mark.ensures
+    (λ n. after ≡ run_after run n → before ≡ round_before rules run n → did ≡ deed_at run n → is_flagged flags n ≡ full → mark_text rules grid after before did after full n event ≡ mark_at rules grid run flags n) c.args.position c.requires.from_one
+    (λ is was done marked. mark_of_last rules grid g.T.Runs.same_state g.met.T.Runs.histories run flags i event c.requires.standing at after is before was did done full marked) c.requires.after c.requires.before c.requires.did flagged) at c.put_mark.ensures

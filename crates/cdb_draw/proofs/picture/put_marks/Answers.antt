@@ -6,9 +6,11 @@ use Rattle.cdb_rules.specs.RunView.{RunView}
 use Rattle.cdb_rules.specs.Rules.{Rules}
 use Rattle.cdb_rules.specs.Runs.{with_history}
 use Rattle.cdb_setup.specs.Parts.{Parts}
-use Rattle.cdb_draw.specs.EventMarks.{mark_at, round_before, round_by}
+use Rattle.cdb_explain.specs.Rounds.{round_before, round_by}
+use Rattle.cdb_draw.specs.EventMarks.{mark_at}
 use Rattle.cdb_rules.proofs.Flagged.{item_at}
-use Rattle.cdb_explain.proofs.Along.{next_along, next_valid}
+use Rattle.cdb_explain.proofs.Along.{deed_along, next_along, next_valid}
+use Rattle.cdb_explain.specs.Explanations.{deed_at}
 use Rattle.cdb_streams.specs.declared.buffer.OutputFault.TheVariants.{NoMemory}
 use Rattle.cdb_streams.proofs.Putting.{put_nothing, puts_nothing}
 use Rattle.cdb_draw.proofs.Parted.{cut_one, put_one}
@@ -49,6 +51,23 @@ pub put_mark_at-requires-clause-before : goal.put_mark_at-requires-clause-before
 put_mark_at-requires-clause-before g c =
     let at = item_at c.events-events.ensures c.loop-i.i c.index-events-i.result (omega arith) c.index-events-i.is in
     was g.T.Runs.rules c.args.run.now c.loop-i.i c.index-events-i.result at _ c.loop-i.invariant.again _ c.round_by-before.ensures
+
+pub put_mark_at-requires-clause-did : goal.put_mark_at-requires-clause-did
+put_mark_at-requires-clause-did g c =
+    let i = c.loop-i.i in
+    let at = item_at c.events-events.ensures i c.index-events-i.result (omega arith) c.index-events-i.is in
+    let next : suc i ≡ i + 1 = omega arith in
+    c.in_ok-deed.ensures ∙ sym (deed_along g.T.Runs.rules g.T.Runs.same_state g.met.T.Runs.histories c.args.run.now i c.index-events-i.result at _ c.loop-i.invariant.again)
+    ∙ ap (deed_at c.args.run.now) next
+
+pub returns-in_err-deed : goal.returns-in_err-deed
+returns-in_err-deed g c =
+    let p = err_from_is_err_and c.from_residual-in_err-deed.result c.from_residual-in_err-deed.ensures.1 in
+    let below : c.loop-i.i < length c.args.run.now.history = omega (arith, ap length c.events-events.ensures) in
+    rw (p.1, p.2)
+    (cut_one g.W.Sink.stream (Unit {0}) (NoMemory no_memory)
+    (mark_at g.T.Runs.rules c.args.grid c.args.run.now c.args.flags.now) _ _ 1 _ c.loop-i.i {k = c.loop-i.i + 1}
+    (omega arith) below c.loop-i.invariant.put (puts_nothing g.W.Sink.stream _ _ _))
 
 pub loop-i-init : goal.loop-i-init
 loop-i-init g c = record { again = c.in_ok-again.ensures; put = put_nothing g.W.Sink.stream _ _ }

@@ -1,0 +1,394 @@
+//! What a step of the leader machine did.
+
+ghost use Rattle.std.specs.Prelude.{◌≡◌, ◌+◌, is_some, find, IfOk};
+ghost use Rattle.std.specs.Option.{option_and_then, option_flatten};
+ghost use Rattle.cdb_base.specs.Positions.{nth};
+ghost use Rattle.cdb_base.specs.Processes.{all_processes};
+ghost use Rattle.cdb_leader.specs.Inbox.{first_phase, second_phase, as_decision, is_agreed, agreed_leader, backers, second_phase_from, decision_from, is_only_proposal, first_phase_from, names as is_named};
+ghost use Rattle.cdb_process.specs.Values.{payload_value};
+ghost use Rattle.cdb_deeds.specs.Deeds.{received_names};
+ghost use Rattle.cdb_deeds.specs.LeaderDeeds.{number_from, number_of_estimate, number_of_proposal, number_of_learnt, number_in, messages_in, source_with, source_at, votes, sets_aux, ends, query_deed, local_deed, learn_deed, leader_deed};
+
+use crate::deed::{Deed, Messages, Source};
+use crate::received::received_names;
+use cdb_base::limits::MAX_ROUND;
+use cdb_base::{Event, Kind, MsgName, NoMemory, Payload, Proc, Val};
+use cdb_leader::{Leader, Place, Received, find_decision, find_first_phase, find_second_phase};
+use cdb_process::Process;
+use std::alloc::Global;
+
+/// Which messages of the round count.
+#[derive(Clone, Copy)]
+pub(crate) enum Phase {
+    /// Those of the first phase.
+    First,
+    /// Those of the first phase that name that leader.
+    Naming(Proc),
+    /// Those of the second phase.
+    Second,
+}
+
+/// The number, from 1 on, of the first message of the first phase of that round from that sender.
+fn number_of_first_phase(inbox: &[Received], round: u32, sender: Proc) -> Option<usize>
+    ensures { result ≡ number_from sender (first_phase round) inbox.now }
+{
+    for i in 0..inbox.len() {
+        if inbox[i].first_phase(round, sender).is_some() {
+            return Some(i + 1);
+        }
+    }
+    None
+}
+
+/// The number, from 1 on, of the first message of the second phase of that round from that sender.
+fn number_of_second_phase(inbox: &[Received], round: u32, sender: Proc) -> Option<usize>
+    ensures { result ≡ number_from sender (second_phase round) inbox.now }
+{
+    for i in 0..inbox.len() {
+        if inbox[i].second_phase(round, sender).is_some() {
+            return Some(i + 1);
+        }
+    }
+    None
+}
+
+/// The number, from 1 on, of the first message with a decision from that sender.
+fn number_of_decision(inbox: &[Received], sender: Proc) -> Option<usize>
+    ensures { result ≡ number_from sender as_decision inbox.now }
+{
+    for i in 0..inbox.len() {
+        if inbox[i].decision(sender).is_some() {
+            return Some(i + 1);
+        }
+    }
+    None
+}
+
+/// How many senders name that process as the leader of the machine's round.
+fn count_backers(machine: &Leader, leader: Proc) -> usize
+    ensures { result ≡ backers machine.now.round leader machine.now.inbox }
+{
+    let round = machine.round();
+    Proc::all()
+        .iter()
+        .filter(|sender| {
+            find_first_phase(machine.received(), round, **sender).is_some_and(|said| said.lead
+                == leader)
+        })
+        .count()
+}
+
+/// Whether a quorum names that process as leader, and its own first-phase message came.
+fn is_agreed(machine: &Leader, leader: Proc) -> bool
+    ensures { result ≡ is_agreed machine.now.quorum machine.now.round machine.now.inbox leader }
+{
+    usize::from(machine.quorum()) <= count_backers(machine, leader)
+        && find_first_phase(machine.received(), machine.round(), leader).is_some()
+}
+
+/// The leader that the senders of the first phase agreed on.
+fn agreed_leader(machine: &Leader) -> Option<Proc>
+    ensures { result ≡ agreed_leader machine.now.quorum machine.now.round machine.now.inbox }
+{
+    for leader in Proc::all() {
+        if is_agreed(machine, leader) {
+            return Some(leader);
+        }
+    }
+    None
+}
+
+/// The number, from 1 on, of the message that a process received from its leader where the first phase ends: of those in
+/// its inbox, in the order of receipt; none where the senders agree on no leader.
+pub fn number_of_estimate(machine: &Leader) -> Option<usize>
+    ensures { result ≡ number_of_estimate machine.now }
+{
+    let leader = agreed_leader(machine)?;
+    number_of_first_phase(machine.received(), machine.round(), leader)
+}
+
+/// Whether the second-phase message of the round from that sender came, and has a value.
+fn proposes(machine: &Leader, sender: Proc) -> bool
+    ensures { result ≡ is_some (option_flatten
+        (second_phase_from machine.now.round sender machine.now.inbox)) }
+{
+    find_second_phase(machine.received(), machine.round(), sender)
+        .flatten()
+        .is_some()
+}
+
+/// The least sender whose second-phase message of the round came and has a value.
+fn proposer(machine: &Leader) -> Option<Proc>
+    ensures { result ≡ find
+        (λ m. is_some (option_flatten (second_phase_from machine.now.round m machine.now.inbox)))
+        all_processes }
+{
+    for sender in Proc::all() {
+        if proposes(machine, sender) {
+            return Some(sender);
+        }
+    }
+    None
+}
+
+/// The number of the message whose value a process adopts where the second phase ends; none where no message has a value.
+pub fn number_of_proposal(machine: &Leader) -> Option<usize>
+    ensures { result ≡ number_of_proposal machine.now }
+{
+    let sender = proposer(machine)?;
+    number_of_second_phase(machine.received(), machine.round(), sender)
+}
+
+/// Whether a decision of that sender came.
+fn has_decided(machine: &Leader, sender: Proc) -> bool
+    ensures { result ≡ is_some (decision_from sender machine.now.inbox) }
+{
+    find_decision(machine.received(), sender).is_some()
+}
+
+/// The least sender of which a decision came.
+fn decider(machine: &Leader) -> Option<Proc>
+    ensures { result ≡ find (λ m. is_some (decision_from m machine.now.inbox)) all_processes }
+{
+    for sender in Proc::all() {
+        if has_decided(machine, sender) {
+            return Some(sender);
+        }
+    }
+    None
+}
+
+/// The number of the message whose decision a process adopts; none where no decision came.
+pub fn number_of_learnt(machine: &Leader) -> Option<usize>
+    ensures { result ≡ number_of_learnt machine.now }
+{
+    let sender = decider(machine)?;
+    number_of_decision(machine.received(), sender)
+}
+
+/// The value that a payload carries, if it carries one.
+pub fn value_of(payload: &Payload) -> Option<Val>
+    ensures { result ≡ payload_value payload.now }
+{
+    match *payload {
+        Payload::P1 { est, .. } | Payload::D { est } => Some(est),
+        Payload::P2 { aux, .. } => aux,
+    }
+}
+
+/// The value of the message that the process received as the one of that number, from 1 on, where there is one with a
+/// value.
+pub fn value_received(machine: &Leader, number: usize) -> Option<Val>
+    ensures { result ≡ option_and_then (λ it. payload_value it.payload) (nth machine.now.inbox number) }
+{
+    let index = number.checked_sub(1)?;
+    let message = machine.received().get(index)?;
+    value_of(&message.payload)
+}
+
+/// Whether the first-phase message of the round from that sender names that leader.
+fn names_leader(machine: &Leader, leader: Proc, sender: Proc) -> bool
+    ensures { result ≡ is_named leader (first_phase_from machine.now.round sender machine.now.inbox) }
+{
+    find_first_phase(machine.received(), machine.round(), sender).is_some_and(|said| said.lead
+        == leader)
+}
+
+/// The number of the message of that sender that counts.
+fn number_in(machine: &Leader, phase: &Phase, sender: Proc) -> Option<usize>
+    ensures { result ≡ number_in phase.now machine.now sender }
+{
+    let inbox = machine.received();
+    let round = machine.round();
+    match *phase {
+        Phase::First => number_of_first_phase(inbox, round, sender),
+        Phase::Naming(leader) if names_leader(machine, leader, sender) => {
+            number_of_first_phase(inbox, round, sender)
+        }
+        Phase::Naming(_) => None,
+        Phase::Second => number_of_second_phase(inbox, round, sender),
+    }
+}
+
+/// The name of that number, from 1 on.
+fn name_at(names: &[MsgName], number: usize) -> Option<MsgName>
+    ensures { result ≡ nth names.now number }
+{
+    names.get(number.checked_sub(1)?).copied()
+}
+
+/// The name of the message of that sender that counts.
+fn name_in(machine: &Leader, names: &[MsgName], phase: &Phase, sender: Proc) -> Option<MsgName>
+    ensures { result ≡ option_and_then (nth names.now) (number_in phase.now machine.now sender) }
+{
+    name_at(names, number_in(machine, phase, sender)?)
+}
+
+/// The messages that count, by sender.
+fn messages_in(
+    alloc: Global,
+    machine: &Leader,
+    names: &[MsgName],
+    phase: &Phase,
+) -> Result<Messages, NoMemory>
+    ensures { IfOk result (λ by. by ≡ messages_in phase.now machine.now names.now) }
+{
+    let mut by = Messages::none(alloc);
+    for sender in Proc::all() {
+        if let Some(name) = name_in(machine, names, phase, sender) {
+            by.push(name)?;
+        }
+    }
+    Ok(by)
+}
+
+/// The value of the message of that number, with its name.
+fn source_at(machine: &Leader, names: &[MsgName], number: usize) -> Option<Source>
+    ensures { result ≡ source_at machine.now names.now number }
+{
+    let message = name_at(names, number)?;
+    let value = value_received(machine, number)?;
+    Some(Source { value, message })
+}
+
+/// The source of the value with which the first phase ends.
+fn source_of_estimate(machine: &Leader, names: &[MsgName]) -> Option<Source>
+    ensures { result
+        ≡ option_and_then (source_at machine.now names.now) (number_of_estimate machine.now) }
+{
+    source_at(machine, names, number_of_estimate(machine)?)
+}
+
+/// The source of the value with which the second phase ends.
+fn source_of_proposal(machine: &Leader, names: &[MsgName]) -> Option<Source>
+    ensures { result
+        ≡ option_and_then (source_at machine.now names.now) (number_of_proposal machine.now) }
+{
+    source_at(machine, names, number_of_proposal(machine)?)
+}
+
+/// The source of the decision that is adopted.
+fn source_of_learnt(machine: &Leader, names: &[MsgName]) -> Option<Source>
+    ensures { result
+        ≡ option_and_then (source_at machine.now names.now) (number_of_learnt machine.now) }
+{
+    source_at(machine, names, number_of_learnt(machine)?)
+}
+
+/// What the end of the first phase did.
+fn sets_aux(alloc: Global, machine: &Leader, names: &[MsgName]) -> Result<Deed, NoMemory>
+    ensures { IfOk result (λ deed. deed ≡ sets_aux machine.now names.now) }
+{
+    match (agreed_leader(machine), source_of_estimate(machine, names)) {
+        (Some(leader), Some(source)) => {
+            let by = messages_in(alloc, machine, names, &Phase::Naming(leader))?;
+            Ok(Deed::Votes { source, leader, by })
+        }
+        _ => {
+            let by = messages_in(alloc, machine, names, &Phase::First)?;
+            Ok(Deed::VotesNone { by })
+        }
+    }
+}
+
+/// Whether each second-phase message of the round carries the value.
+fn is_only_proposal(machine: &Leader, value: Val) -> bool
+    ensures { result ≡ is_only_proposal machine.now.round value machine.now.inbox }
+{
+    let round = machine.round();
+    for message in machine.received() {
+        let vote = message.second_phase(round, message.from);
+        if vote.is_some_and(|aux| aux != Some(value)) {
+            return false;
+        }
+    }
+    true
+}
+
+/// What the end of the second phase did.
+fn ends(alloc: Global, machine: &Leader, names: &[MsgName]) -> Result<Deed, NoMemory>
+    ensures { IfOk result (λ deed. deed ≡ ends machine.now names.now
+        (option_and_then (source_at machine.now names.now) (number_of_proposal machine.now))) }
+{
+    let by = messages_in(alloc, machine, names, &Phase::Second)?;
+    match source_of_proposal(machine, names) {
+        Some(source) if is_only_proposal(machine, source.value) => {
+            Ok(Deed::Settles { source, by })
+        }
+        Some(source) => Ok(Deed::Adopts { source, by }),
+        None => Ok(Deed::Keeps {
+            value: machine.estimate(),
+            by,
+        }),
+    }
+}
+
+/// What a query did.
+fn query_deed(
+    alloc: Global,
+    machine: &Leader,
+    p: Proc,
+    history: &[Event],
+    leader: Proc,
+) -> Result<Deed, NoMemory>
+    ensures { IfOk result (λ deed.
+        deed ≡ query_deed machine.now.place machine.now (received_names p history.now) leader) }
+{
+    match machine.stands_at() {
+        Place::L0 if machine.round() < MAX_ROUND => Ok(Deed::Round(machine.round() + 1)),
+        Place::L2 if machine.heard_first_phase() && machine.lead() != Some(leader) => {
+            let names = received_names(alloc, p, history)?;
+            sets_aux(alloc, machine, &names)
+        }
+        _ => Ok(Deed::Nothing),
+    }
+}
+
+/// What a local step did.
+fn local_deed(alloc: Global, machine: &Leader, p: Proc, history: &[Event]) -> Result<Deed, NoMemory>
+    ensures { IfOk result (λ deed.
+        deed ≡ local_deed machine.now.place machine.now (received_names p history.now)) }
+{
+    match machine.stands_at() {
+        Place::L2 => {
+            let names = received_names(alloc, p, history)?;
+            sets_aux(alloc, machine, &names)
+        }
+        Place::L4 => {
+            let names = received_names(alloc, p, history)?;
+            ends(alloc, machine, &names)
+        }
+        _ => Ok(Deed::Nothing),
+    }
+}
+
+/// What the adoption of a decision did.
+fn learn_deed(alloc: Global, machine: &Leader, p: Proc, history: &[Event]) -> Result<Deed, NoMemory>
+    ensures { IfOk result (λ deed. deed ≡ learn_deed machine.now (received_names p history.now)) }
+{
+    let names = received_names(alloc, p, history)?;
+    match source_of_learnt(machine, &names) {
+        Some(source) => Ok(Deed::Learns(source)),
+        None => Ok(Deed::Nothing),
+    }
+}
+
+/// What a step of that kind does, which process `p` takes next after these events, where its machine stands so.
+/// `NoMemory` if an allocation fails.
+pub fn leader_deed(
+    alloc: Global,
+    machine: &Leader,
+    p: Proc,
+    history: &[Event],
+    kind: &Kind,
+) -> Result<Deed, NoMemory>
+    ensures { IfOk result (λ deed.
+        deed ≡ leader_deed machine.now (received_names p history.now) kind.now) }
+{
+    match *kind {
+        Kind::Query(leader) => query_deed(alloc, machine, p, history, leader),
+        Kind::Local => local_deed(alloc, machine, p, history),
+        Kind::Learn => learn_deed(alloc, machine, p, history),
+        _ => Ok(Deed::Nothing),
+    }
+}
