@@ -1,5 +1,5 @@
 -- The edge to the system: what its errors tell, and the names of seats.
-use Rattle.std.specs.Prelude.{◌≡◌, ◌==◌, ℕ, Bool, List}
+use Rattle.std.specs.Prelude.{◌≡◌, ◌==◌, ℕ, Bool, List, codes, bytes_eq, if◌then◌else◌}
 use Rattle.std.specs.List.{after_first, before_first}
 use Rattle.std.specs.declared.io.ErrorKind.{ErrorKind}
 use Rattle.std.specs.declared.io.ErrorKind.TheVariants as kind
@@ -11,6 +11,10 @@ use Rattle.cdb_streams.specs.declared.source.ReadFault.TheVariants.{Failed, NoMe
 abbrev pub read_fault_of : ErrorKind → ReadFault
 read_fault_of kind.OutOfMemory = NoMemory no_memory
 read_fault_of its = Failed
+
+-- the path of what is read where this name is given: a hyphen is standard input
+abbrev pub path_of : List ℕ → List ℕ
+path_of name = if bytes_eq name (codes "-") then codes "/dev/stdin" else name
 
 abbrev pub is_colon : ℕ → Bool
 is_colon byte = byte == 58

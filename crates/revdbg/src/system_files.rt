@@ -4,21 +4,21 @@ ghost use Rattle.std.specs.Prelude.{◌≡◌};
 ghost use Rattle.std.specs.IoError.{error_kind};
 ghost use Rattle.revdbg.specs.System.{read_fault_of};
 
-use crate::seats::{pair_of, prompt_at};
+use crate::seats::{pair_of, path_of, prompt_at};
 use cdb_base::NoMemory;
 use cdb_program::Files;
 use cdb_session::Streams;
 use cdb_shared_session::Endpoint;
 use cdb_streams::{Input, Output, ReadFault, read_up_to};
 use std::alloc::Global;
-use std::fs::File;
+use std::fs::{File, OpenFile};
 use std::io;
 use std::io::{ErrorKind, IsTerminal};
 
 /// What the session of a seat reads from and writes to.
 type SeatConsole = Streams<Input<File>, Output<File>>;
 
-/// The files of the system. Nothing is known of them but how many could not be read.
+/// The files of the system, of which `-` is standard input. Nothing is known of them but how many could not be read.
 #[derive(Drop)]
 pub struct SystemFiles<'a> {
     rt: &'a HostRuntime,
@@ -41,11 +41,25 @@ fn terminal(rt: &HostRuntime, name: &str) -> io::Result<(File, File)> {
     Ok((input, File::options().write(true).open(rt, name)?))
 }
 
+/// The file of this name to write to, which is made where it is not there. A file that has something in it is refused, so
+/// that none is emptied.
+fn empty_file(rt: &HostRuntime, name: &str) -> io::Result<File> {
+    let file = File::options().write(true).create(true).open(rt, name)?;
+    let about = file.metadata()?;
+    if about.is_file() && about.len() > 0 {
+        return Err(io::Error::from(ErrorKind::AlreadyExists));
+    }
+    Ok(file)
+}
+
 /// The seat of this name: a terminal device, or `IN:OUT`, a pair of files or pipes. The file that is written to is made where
-/// it is not there, and emptied where it is.
+/// it is not there, and refused where it has something in it.
 fn seat_of(rt: &HostRuntime, name: &str) -> io::Result<Endpoint<SeatConsole>> {
     let (input, output) = match pair_of(name) {
-        Some((input, output)) => (File::open(rt, input)?, File::create(rt, output)?),
+        Some((input, output)) => (
+            File::open(rt, path_of(input))?,
+            empty_file(rt, output)?,
+        ),
         None => terminal(rt, name)?,
     };
     let prompt = prompt_at(input.is_terminal()).as_bytes();
@@ -76,7 +90,7 @@ impl<'a> Files for SystemFiles<'a> {
     } };
 
     fn read(&mut self, alloc: Global, name: &str, most: usize) -> Result<Vec<u8>, ReadFault> {
-        let read = match File::open(self.rt, name) {
+        let read = match File::open(self.rt, path_of(name)) {
             Ok(file) => read_up_to(alloc, &mut Input::new(file), most),
             Err(error) => Err(fault_of(&error)),
         };
