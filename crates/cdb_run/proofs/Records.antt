@@ -102,10 +102,12 @@ module _ {L : Type 0} (machine : Machine L) where
     recorded_exchange state between to first second independent one two =
         let turned = sym (symmetric first.event second.event) ∙ independent in
         let both = two_taken (after machine) depends symmetric state between to first.event second.event one.leads two.leads in
-        let swapped = two_parts (after machine) depends symmetric first.event to (after machine state second.event) (sym (after_commutes machine state first.event second.event independent) ∙ both) in
+        let commuted = sym (after_commutes machine state first.event second.event independent) ∙ both in
+        let swapped = two_parts (after machine) depends symmetric first.event to (after machine state second.event) commuted in
         let other = swapped.0 in (
           other,
-          recorded_kept between to state other second (alike state between first.event second.event independent one.leads) (alike other to first.event second.event independent swapped.2) swapped.1 two,
+          recorded_kept between to state other second (alike state between first.event second.event independent one.leads)
+              (alike other to first.event second.event independent swapped.2) swapped.1 two,
           recorded_kept state between other to first
               (flipped state other first.event (alike state other second.event first.event turned swapped.1))
               (flipped between to first.event (alike between to second.event first.event turned two.leads))
