@@ -21,7 +21,8 @@ free_or_needed history at =
     within : (j : ℕ) → IsLink depends history at j → j < suc (length history)
     within j link = let low = nth_within history j link.effect link.at_effect in omega (arith, low)
 
-    first : (k : ℕ) (link : IsLink depends history at k) → ((j : ℕ) → j < k → IsLink depends history at j → ⊥) → IsFirstDependent history at (event_name link.effect)
+    first : (k : ℕ) (link : IsLink depends history at k) → ((j : ℕ) → j < k → IsLink depends history at j → ⊥)
+        → IsFirstDependent history at (event_name link.effect)
     first k link none =
         record {
           position = k;

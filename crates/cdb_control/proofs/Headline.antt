@@ -119,7 +119,8 @@ module _ (rules : Rules) (SameState : List Event → List Event → Type 0) (t :
       granted-keeps (rollback_of t.setup.processes t.history name) _
       (λ removed h.
       let u = rolled_back_where_ok t.setup.processes t.history name removed.0 removed.1 h in
-      let longer = keeps.exchanged t.history (remaining depends t.history u.0 ++ rolled_back depends t.history u.0) (rollback_to_end depends t.history u.0) valid in
+      let again : List Event = remaining depends t.history u.0 ++ rolled_back depends t.history u.0 in
+      let longer = keeps.exchanged t.history again (rollback_to_end depends t.history u.0) valid in
       record {
         valid_after = subst (λ (l : List Event). IsTrue (rules.valid l)) (sym u.5) (keeps.beginning (remaining depends t.history u.0) (rolled_back depends t.history u.0) longer);
         setup = refl;

@@ -239,15 +239,3 @@ keeps_other_lists rules old seat command is other two =
     ap (λ (c : Journaled). redo_of (control_state rules c) other) is
     ∙ ap (λ (t : State). redo_of t other) (state_extended rules old seat command)
     ∙ other_lists_stay (rules old.setup) (control_state rules old) seat other command two.0 two.1 two.2
-
--- the same of a result
-pub all_kept_if_refused : (rules : Parts → Rules) (old new : Journaled) (seat : ℕ) (command : Command) (result : Result Reply CallFault)
-    → IfOk result (λ _. new ≡ extended rules old seat command) → IfOk result (λ r. told r ≡ reply_in rules old seat command)
-    → IfOk result (λ r. IsKeptIfRefused rules old new (told r))
-all_kept_if_refused rules old new seat command (Ok reply) is same = kept_if_refused rules old seat command is same
-all_kept_if_refused rules old new seat command (Err fault) is same = tt
-
-pub all_keep_other_lists : (rules : Parts → Rules) (old new : Journaled) (seat : ℕ) (command : Command) (result : Result Reply CallFault)
-    → IfOk result (λ _. new ≡ extended rules old seat command) → OnOk result (KeepsOtherLists rules old new seat)
-all_keep_other_lists rules old new seat command (Ok reply) is = keeps_other_lists rules old seat command is
-all_keep_other_lists rules old new seat command (Err fault) is = tt

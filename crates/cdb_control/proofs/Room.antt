@@ -81,14 +81,6 @@ rooms-lowered (m ∷ ms) (suc i) n c one low =
     let rest = rooms-lowered ms i n c one (omega (arith, low)) in
     ap (λ (x : ℕ). x ∷ set (map (λ r. r - 1) (map (λ m. m - n) ms)) i (get_or (map (λ m. m - n) ms) i 0 - c)) head ∙ ap (λ (xs : List ℕ). (m - (n + 1)) ∷ xs) rest
 
--- the rooms after a command of one event: its room is what its entry takes
-pub rooms-entered : (room_ends : List ℕ) (i n : ℕ) → i < length room_ends
-    → set (map (λ r. r - 1) (map (λ m. m - n) room_ends)) i (get_or (map (λ m. m - n) room_ends) i 0 - 1) ≡ map (λ m. m - (n + 1)) room_ends
-rooms-entered room_ends i n low =
-    let same : get_or room_ends i 0 - (1 - 1) ≡ get_or room_ends i 0 = omega arith in
-    rooms-lowered room_ends i n 1 (omega arith) low
-    ∙ ap (λ (l : List ℕ). map (λ m. m - (n + 1)) l) (ap (λ (m : ℕ). set room_ends i m) same ∙ set-get_or room_ends i 0)
-
 pub rooms-raised : (room_ends : List ℕ) (i n count : ℕ) → i < length room_ends
     → map (λ m. m - n) (set room_ends i (max (n + count) (get_or room_ends i 0))) ≡ set (map (λ m. m - n) room_ends) i (max count (get_or (map (λ m. m - n) room_ends) i 0))
 rooms-raised [] i n count low = absurd (omega (arith, low))

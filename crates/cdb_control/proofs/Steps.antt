@@ -120,17 +120,6 @@ pub alone_ok : {A : Type 0} (x : Result (A × List Event) Refusal) → IsOk (res
 alone_ok (Ok done) ok = refl
 alone_ok (Err why) ok = ok
 
-pub auto_granted : (rules : Rules) (t : State) (seat p : ℕ) (act : Act) → choice rules t.history p ≡ Ok act → t.pause ≡ None → is_refused (step rules t p act).reply ≡ false → is_refused (reply_of rules t seat (command.Auto p)) ≡ false
-unfolding outcome
-auto_granted rules t seat p act chosen unpaused_now taken =
-    ap (λ (x : Result Act Refusal). is_refused (granted x t (λ act. unpaused t.pause t (step rules t p act))).reply) chosen
-    ∙ ap (λ (o : Option ℕ). is_refused (unpaused o t (step rules t p act)).reply) unpaused_now
-    ∙ taken
-
-pub on_err : {A E P Q : Type 0} (r : Result A E) → (P → Q) → OnErr r P → OnErr r Q
-on_err (Ok a) go events_kept = events_kept
-on_err (Err e) go events_kept = go events_kept
-
 -- what holds anyway holds on an error
 pub on_error : {A E P : Type 0} (r : Result A E) → P → OnErr r P
 on_error (Ok a) holds = tt

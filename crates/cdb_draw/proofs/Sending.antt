@@ -1,10 +1,9 @@
 -- The tables of sends and of copies that were received or lost, when the history grows.
-use Rattle.std.proofs.Common.{◌≡◌, ℕ, suc, ◌+◌, ◌*◌, ◌^◌, ◌<◌, ◌≤◌, Bool, true, false, ◌&&◌, List, [], ◌∷◌, ◌++◌, length, Option, Some, None, Result, Ok, Err, OnOk, cond, nat_eq, nat_lt, option_map, refl, sym, ap, subst, ◌∙◌, arith}
+use Rattle.std.proofs.Common.{◌≡◌, ℕ, suc, ◌+◌, ◌*◌, ◌^◌, ◌<◌, Bool, true, false, ◌&&◌, List, [], ◌∷◌, ◌++◌, length, Option, Some, None, Result, Ok, Err, OnOk, cond, nat_eq, option_map, refl, sym, ap, ◌∙◌, arith}
 use Rattle.std.specs.HashMap.{HashMap, get}
-use Rattle.std.specs.List.{position_from, position_or_len}
+use Rattle.std.specs.List.{position_from}
 use Rattle.std.specs.Prelude.{position}
 use Rattle.std.proofs.lemmas.Bool.Decides.{nat_tests}
-use Rattle.std.proofs.lemmas.Option.{none-some, same_Some}
 use Rattle.std.proofs.lemmas.Iterator.Adapters.{position_from-zero}
 use Rattle.cdb_base.specs.declared.event.Event.{Event}
 use Rattle.cdb_base.specs.declared.event.Event.TheVariants.{Step, Lost}
@@ -44,17 +43,6 @@ kept_next None false n = refl
 sent_push : (name : MsgName) (before : List Event) (event : Event) → sent_at (before ++ event ∷ []) name ≡ kept_or_noted (sent_at before name) (is_send_of name event) (suc (length before))
 sent_push name before event =
     ap (option_map suc) (position_push (is_send_of name) before event) ∙ sym (kept_next (position (is_send_of name) before) (is_send_of name event) (length before))
-
--- a position that is found is one of the list
-pub found_within : {X : Type 0} (test : X → Bool) (xs : List X) (n : ℕ) → option_map suc (position test xs) ≡ Some n → n ≤ length xs
-found_within test xs n = go (nat_lt (position_or_len test xs) (length xs)) refl
-  where
-    is_below : (k n : ℕ) → nat_lt k n ≡ true → suc k ≤ n
-    is_below k n h = grind (arith, nat_tests, h)
-
-    go : (b : Bool) → nat_lt (position_or_len test xs) (length xs) ≡ b → option_map suc (cond b (Some (position_or_len test xs)) None) ≡ Some n → n ≤ length xs
-    go true less h = subst (λ m. m ≤ length xs) (same_Some (suc (position_or_len test xs)) n h) (is_below (position_or_len test xs) (length xs) less)
-    go false less h = absurd (none-some n h)
 
 kept_false : (o : Option ℕ) (n : ℕ) → kept_or_noted o false n ≡ o
 kept_false (Some x) n = refl

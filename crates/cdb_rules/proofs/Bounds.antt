@@ -58,10 +58,6 @@ queries_few : (queries steps : ℕ) (kind : Kind) → queries ≤ steps → quer
 queries_few queries steps (Query leader) few = omega (arith, few)
 queries_few queries steps _ few = omega (arith, few)
 
-option_few : {A : Type 0} (o : Option A) → length (option_to_list o) ≤ 1
-option_few None = omega arith
-option_few (Some a) = omega arith
-
 written_more : (cell : Cell) (o : Option RegisterState) (stands : RegisterState) (most : ℕ) → ((old : RegisterState) → o ≡ Some old → old.writes ≤ most) → option_map (put_cell cell) o ≡ Some stands → stands.writes ≤ most + 1
 written_more cell o stands most h1 h2 = grind (arith, common_steps, gets)
 
@@ -155,9 +151,6 @@ module _ {L : Type 0} where
     fresh_at [] i process at = absurd (none-some process at)
     fresh_at (x ∷ xs) zero process at = subst IsBounded (same_Some (fresh_process x) process at) (record { steps = omega arith; queries = omega arith; sends = omega arith })
     fresh_at (x ∷ xs) (suc i) process at = fresh_at xs i process at
-
-    fresh_replicated : (n i : ℕ) (stands : RegisterState) → slice_get (replicate n fresh_register) i ≡ Some stands → stands.writes ≡ 0
-    fresh_replicated n i stands h1 = grind (arith, common_steps, gets)
 
     unwritten : (n : ℕ) (register : Reg) (stands : RegisterState) → register_of (fresh_registers n) register ≡ Some stands → stands.writes ≡ 0
     unwritten n register stands h1 = grind (arith, common_steps, gets)

@@ -113,10 +113,6 @@ module _ {L : Type 0} (machine : Machine L) where
   pub next_number : (process : ProcessState L) (k m : ℕ) (around : Sight) (next : L) → accepted machine process k (Send m) around ≡ Some next → m ≡ length process.sent + 1
   next_number process k m around next h1 = grind (arith, common_steps, gets)
 
-  push_option_other : (sent : List Payload) (o : Option Payload) (m : ℕ) → m ≢ length sent + 1 → nth (sent ++ option_to_list o) m ≡ nth sent m
-  push_option_other sent None m other = ap (λ l. nth l m) (append-nil sent)
-  push_option_other sent (Some payload) m other = nth_push_other sent payload m other
-
   -- a step that does not send the m-th message leaves it as it is
   sent_other : (process : ProcessState L) (k : ℕ) (kind : Kind) (around : Sight) (next : L) → accepted machine process k kind around ≡ Some next → (m : ℕ) → (kind ≡ Send m → ⊥) → nth (sent_after machine process kind) m ≡ nth process.sent m
   sent_other process k kind around next h1 m h2 = grind (arith, common_steps, gets)

@@ -228,9 +228,6 @@ module _ {L : Type 0} (machine : Machine L) (state to : RunState L) (p k : ℕ) 
       cases in
       (cases, met.0, met.1)
 
-  noted_writes : (register : Reg) (stands : RegisterState) → register_of state.registers register ≡ Some stands → option_map (λ (s : RegisterState). s.writes) (register_of state.registers register) ≡ Some (writes_of state register)
-  noted_writes register stands at = ap (option_map (λ (s : RegisterState). s.writes)) at ∙ sym (ap (λ o. Some (of_register o)) at)
-
   pub access_noted : (register : Reg) → accesses register kind ≡ true → noted.writes_before ≡ Some (writes_of state register)
   access_noted register h1 = grind (arith, common_steps, gets)
 

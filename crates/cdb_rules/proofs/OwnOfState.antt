@@ -33,10 +33,6 @@ steps_behind writes p events = filter (λ own. is_step_of p own.event) (as_own_e
 fresh_at : (n i : ℕ) → of_register (slice_get (replicate n fresh_register) i) ≡ 0
 fresh_at n i = grind (arith, common_steps, gets)
 
-fresh_of_process : (n p : ℕ) → of_register (nth (replicate n fresh_register) p) ≡ 0
-fresh_of_process n zero = refl
-fresh_of_process n (suc i) = fresh_at n i
-
 -- nobody has written at the start
 fresh_writes : (n : ℕ) (register : Reg) → of_register (register_of (fresh_registers n) register) ≡ 0
 fresh_writes n register = grind (arith, common_steps, gets)

@@ -5,9 +5,6 @@ use Rattle.std.proofs.lemmas.Option.{gets, none-some, slice_get_within}
 use Rattle.cdb_base.specs.Positions.{nth, set_nth, update, update_nth}
 
 module _ {A : Type 0} where
-  slice_get-slice_set_other : (xs : List A) (i j : ℕ) (a : A) → i ≢ j → slice_get (slice_set xs i a) j ≡ slice_get xs j
-  slice_get-slice_set_other xs i j a h1 = grind (arith, common_steps, gets)
-
   slice_get-slice_set_same : (xs : List A) (i : ℕ) (a old : A) → slice_get xs i ≡ Some old → slice_get (slice_set xs i a) i ≡ Some a
   slice_get-slice_set_same xs i a old h1 = grind (arith, common_steps, gets)
 
@@ -72,26 +69,12 @@ module _ {A : Type 0} where
   nth-update_nth_same f xs zero = refl
   nth-update_nth_same f xs (suc i) = update-same f xs i
 
-  slice_get_push_front : (xs : List A) (a x : A) (j : ℕ) → slice_get xs j ≡ Some x → slice_get (xs ++ a ∷ []) j ≡ Some x
-  slice_get_push_front xs a x j h1 = grind (arith, common_steps, gets)
-
-  pub nth_push_front : (xs : List A) (a x : A) (j : ℕ) → nth xs j ≡ Some x → nth (xs ++ a ∷ []) j ≡ Some x
-  nth_push_front xs a x zero h = h
-  nth_push_front xs a x (suc j) h = slice_get_push_front xs a x j h
-
   slice_get_push_back : (xs : List A) (a : A) → slice_get (xs ++ a ∷ []) (length xs) ≡ Some a
   slice_get_push_back [] a = refl
   slice_get_push_back (y ∷ ys) a = slice_get_push_back ys a
 
   pub nth_push_back : (xs : List A) (a : A) (j : ℕ) → j ≡ length xs + 1 → nth (xs ++ a ∷ []) j ≡ Some a
   nth_push_back xs a j e = subst (λ j. nth (xs ++ a ∷ []) j ≡ Some a) (sym (e ∙ add-one (length xs))) (slice_get_push_back xs a)
-
-  slice_get_push_cases : (xs : List A) (a x : A) (j : ℕ) → slice_get (xs ++ a ∷ []) j ≡ Some x → (slice_get xs j ≡ Some x) ⊎ (a ≡ x)
-  slice_get_push_cases xs a x j h1 = grind (arith, common_steps, gets)
-
-  pub nth_push_cases : (xs : List A) (a x : A) (j : ℕ) → nth (xs ++ a ∷ []) j ≡ Some x → (nth xs j ≡ Some x) ⊎ (a ≡ x)
-  nth_push_cases xs a x zero h = inl h
-  nth_push_cases xs a x (suc j) h = slice_get_push_cases xs a x j h
 
   pub nth_within : (xs : List A) (j : ℕ) (x : A) → nth xs j ≡ Some x → j ≤ length xs
   nth_within xs zero x h = absurd (none-some x h)

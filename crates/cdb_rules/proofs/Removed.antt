@@ -93,7 +93,8 @@ module _ (P : Event → Type 0) where
       result_cases (Parted history (undone.0 ∷ []) undone.1) (event_named n history name)
       (λ found is. option_cases (Parted history (undone.0 ∷ []) undone.1) (find (depends found.event) found.later)
       (λ none. let f : undo_of n history name ≡ Ok undone → Parted history (undone.0 ∷ []) undone.1 =
-      rw (is, none) (λ k. subst (λ (u : Event × List Event). Parted history (u.0 ∷ []) u.1) (ok_same _ undone k) (without-parted history found.position found.event (standing-at n history name found is)))
+      rw (is, none) (λ k. subst (λ (u : Event × List Event). Parted history (u.0 ∷ []) u.1) (ok_same _ undone k)
+      (without-parted history found.position found.event (standing-at n history name found is)))
       in
       f h)
       (λ dependent some. let f : undo_of n history name ≡ Ok undone → Parted history (undone.0 ∷ []) undone.1 = rw (is, some) (λ k. absurd (cc)) in f h))

@@ -35,9 +35,6 @@ pub sends_it : (s m p : ℕ) (kind : Kind) → sends s m p kind ≡ true → (p 
 sends_it s m p (Send n) h = let q = both (nat_eq p s) (nat_eq n m) h in (nat_eq-is p s q.0, ap Send (nat_eq-is n m q.1))
 sends_it s m p _ h = absurd (true≢false (sym h))
 
-affects_cases : (p : ℕ) (kind other : Kind) → kind_affects p kind other ≡ true → ((m : ℕ) × (kind ≡ Send m) × (other ≡ Recv p m)) ⊎ ((register : Reg) × (kind ≡ Write register) × (accesses register other ≡ true))
-affects_cases p kind other h1 = grind (arith, common_steps, gets)
-
 -- of two events of a list, the one stands before the other, or they are one
 pub stand_apart : (x y : Event) (events : List Event) → IsIn x events → IsIn y events → IsBefore x y events ⊎ ((x ≡ y) ⊎ IsBefore y x events)
 stand_apart x y [] i j = elim i [ ]
@@ -47,17 +44,8 @@ stand_apart x y (e ∷ es) (there i) here = inr (inr (here i))
 stand_apart x y (e ∷ es) (there i) (there j) =
     ⊎_elim (λ b. inl (there b)) (⊎_elim (λ s. inr (inl s)) (λ b. inr (inr (there b)))) (stand_apart x y es i j)
 
-noted_number : (x : Event) (a b : ℕ) → ◌≡◌ {A = Option OwnEvent} (Some (record { event = x; writes_before = Some a })) (Some (record { event = x; writes_before = Some b })) → a ≡ b
-noted_number x a b h = same_Some a b (ap (λ (o : OwnEvent). o.writes_before) (same_Some (record { event = x; writes_before = Some a }) (record { event = x; writes_before = Some b }) h))
-
 module _ {L : Type 0} (machine : Machine L) where
   module _ (to : RunState L) where
-    clash : (register : Reg) (p k : ℕ) (kind : Kind) (q l : ℕ) (other : Kind) → kind ≡ Write register → accesses register other ≡ true → AreStepsOrdered machine to p k kind q l other → AreStepsOrdered machine to q l other p k kind → ⊥
-    clash register p k kind q l other h1 h2 h3 h4 = grind (arith, common_steps, gets)
-
-    steps_not_both : (p k : ℕ) (kind : Kind) (q l : ℕ) (other : Kind) → depends (Step p k kind) (Step q l other) ≡ true → AreStepsOrdered machine to p k kind q l other → AreStepsOrdered machine to q l other p k kind → ⊥
-    steps_not_both p k kind q l other h1 h2 h3 = grind (arith, common_steps, gets)
-
     pub step_loss_not_both : (p k : ℕ) (kind : Kind) (copy : CopyName) → depends (Step p k kind) (Lost copy) ≡ true → IsOrdered machine to (Lost copy) (Step p k kind) → ⊥
     step_loss_not_both p k kind copy h1 h2 = grind (arith, common_steps, gets)
 

@@ -78,7 +78,8 @@ last_only history event name new (suc i) named = ⊎_elim (λ old. absurd (new (
 -- and it can be undone, which leaves what stood before it
 module _ (n : ℕ) (history : List Event) (event : Event) (there : names_processes n (event_name event) ≡ true) (new : IsNewName history (event_name event)) where
   last_named : IsEventNamed n (history ++ event ∷ []) (event_name event) (suc (length history)) event
-  last_named = named_alone n (history ++ event ∷ []) (suc (length history)) event there (push_back history event) (last_only history event (event_name event) new)
+  last_named =
+      named_alone n (history ++ event ∷ []) (suc (length history)) event there (push_back history event) (last_only history event (event_name event) new)
 
   pub last_undone : undo_of n (history ++ event ∷ []) (event_name event) ≡ Ok (event, history)
   last_undone =

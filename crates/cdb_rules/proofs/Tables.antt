@@ -20,10 +20,6 @@ use Rattle.cdb_rules.proofs.Stages.{sight_in, accepted, state_after}
 
 -- where all that is asked for is there, in either form
 module _ {L T : Type 0} (next : L → Input → Option L) (local : L) (to : L → T) where
-  unasked : (may : Bool) (o : Option L) → (if may then option_map to o else None) ≡ option_map to (if may && true && true then o else None)
-  unasked true o = refl
-  unasked false o = refl
-
   asked : (may due : Bool) (o : Option L) → (if may then option_map to (if due then o else None) else None) ≡ option_map to (if may && due && true then o else None)
   asked may due o = grind (arith, common_steps, gets)
 

@@ -1,9 +1,10 @@
 -- What the answer of an undo says.
-use Rattle.std.proofs.Common.{◌≡◌, ℕ, zero, suc, ◌+◌, ◌-◌, Bool, true, false, List, [], ◌∷◌, ◌++◌, Option, option_map, Some, None, Result, Ok, Err, cond, find, drop, reverse, slice_get, if◌then◌else◌, refl, sym, ap, ap₂, ◌∙◌, subst, true≢false, arith}
+use Rattle.std.proofs.Common.{◌≡◌, inl, inr, ℕ, zero, suc, ◌+◌, ◌-◌, Bool, true, false, List, [], ◌∷◌, ◌++◌, Option, option_map, Some, None, Result, Ok, Err, cond, find, drop, reverse, slice_get, if◌then◌else◌, refl, sym, ap, ap₂, ◌∙◌, subst, true≢false, arith}
+use Rattle.std.proofs.lemmas.Bool.{cases_Bool}
 use Rattle.std.proofs.lemmas.List.{reverse-reverse}
 use Rattle.std.proofs.lemmas.Option.{none-some, same_Some, get_or_from_slice_get}
 use Rattle.std.proofs.lemmas.List.Quantifiers.{position-Some}
-use Rattle.std.specs.List.{position}
+use Rattle.std.specs.List.{AllByRecursion, position}
 use Rattle.std.specs.Option.{option_map_or}
 use Rattle.cdb_base.specs.Event.{event_name}
 use Rattle.cdb_base.specs.Positions.{nth}
@@ -17,18 +18,17 @@ use Rattle.cdb_causal.specs.Rollback.{events_before, events_behind, without, rem
 use Rattle.cdb_rules.specs.Undo.{Found, position_of, found_at, event_named, for_standing, undo_found, undo_of, rollback_of, names_processes, is_named}
 use Rattle.cdb_rules.specs.State.{Machine}
 use Rattle.cdb_rules.specs.Step.{IsValid, after, fold, state_of}
-use Rattle.cdb_causal.proofs.Lists.{nth_drop}
+use Rattle.cdb_causal.proofs.Walks.{free_behind}
 use Rattle.cdb_rules.proofs.Histories.{undo_valid, undo_again, rollback_valid, rollback_redo}
 
 -- where none is found, the test holds of none
-all_fail : {E : Type 0} (test : E → Bool) (xs : List E) → find test xs ≡ None → (k : ℕ) (x : E) → slice_get xs k ≡ Some x → test x ≡ false
-all_fail test [] none k x at = absurd (none-some x at)
-all_fail test (y ∷ ys) none k x at = go (test y) refl none (λ h l at_l. all_fail test ys h l x at_l) k at
-  where
-    go : (b : Bool) → test y ≡ b → cond b (Some y) (find test ys) ≡ None → (find test ys ≡ None → (l : ℕ) → slice_get ys l ≡ Some x → test x ≡ false) → (k : ℕ) → slice_get (y ∷ ys) k ≡ Some x → test x ≡ false
-    go true e h rest k at = absurd (none-some y (sym h))
-    go false e h rest zero at = subst (λ z. test z ≡ false) (same_Some y x at) e
-    go false e h rest (suc k) at = rest h k at
+all_fail : {E : Type 0} (test : E → Bool) (xs : List E) → find test xs ≡ None → AllByRecursion (λ x. test x ≡ false) xs
+all_fail test [] none = tt
+all_fail test (y ∷ ys) none =
+    elim (cases_Bool (test y)) [
+      | inl e ↦ absurd (none-some y (sym (rw e at none)))
+      | inr e ↦ (e, all_fail test ys (rw e at none))
+    ]
 
 -- the event at a position, with what stood before and came later
 abbrev found : List Event → ℕ → Event → Found
@@ -68,12 +68,7 @@ module _ {A : Type 0} (history : List Event) (name : StepId) (returned : Found �
 
 module _ (history : List Event) (at : ℕ) (event : Event) (stands : nth history at ≡ Some event) where
   free_if : find (depends event) (drop at history) ≡ None → IsFree depends history at
-  free_if none j l =
-      let later = l.later in
-      let k = j - suc at in
-      let e : suc (at + k) ≡ j = omega (arith, later) in
-      let same = same_Some l.cause event (sym l.at_cause ∙ stands) in
-      true≢false (sym l.linked ∙ ap (λ c. depends c l.effect) same ∙ all_fail (depends event) (drop at history) none k l.effect (nth_drop history at k ∙ ap (nth history) e ∙ l.at_effect))
+  free_if none = free_behind depends history at event stands (all_fail (depends event) (drop at history) none)
 
   by_find : (done : Event × List Event) (o : Option Event) → find (depends event) (drop at history) ≡ o
       → ◌≡◌ {A = Result (Event × List Event) Refusal} (option_map_or (λ dependent. Err (refusal.NeededBy (event_name dependent))) o (Ok (event, without history at))) (Ok done)

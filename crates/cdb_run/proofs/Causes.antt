@@ -1,6 +1,6 @@
 -- The direct causes of an event, sought by process, are those that are looked for in the history.
-use Rattle.std.proofs.Common.{◌≡◌, ℕ, zero, suc, ◌+◌, ◌<◌, ◌≤◌, true, false, not, ◌&&◌, ◌||◌, ◌==◌, inl, inr, ⊎_elim, List, [], ◌∷◌, ◌++◌, Some, length, take}
-use Rattle.std.proofs.Common.{drop, map, filter, cond, nat_eq, slice_get, if◌then◌else◌, refl, sym, ap, ap₂, ◌∙◌, subst, true≢false, arith}
+use Rattle.std.proofs.Common.{◌≡◌, ℕ, zero, suc, ◌+◌, ◌<◌, ◌≤◌, true, not, ◌&&◌, ◌||◌, ◌==◌, inl, inr, ⊎_elim, List, [], ◌∷◌, ◌++◌, Some, length, take}
+use Rattle.std.proofs.Common.{drop, map, filter, nat_eq, slice_get, if◌then◌else◌, refl, sym, ap, ap₂, ◌∙◌, subst, true≢false, arith}
 use Rattle.std.proofs.lemmas.Bool.{cases_Bool}
 use Rattle.std.proofs.lemmas.Bool.Decides.{nat_tests}
 use Rattle.std.proofs.lemmas.Option.{none-some, same_Some}
@@ -43,6 +43,9 @@ not_both (named.Step a) (named.Step b) one two = omega (arith, one, two)
 not_both (named.Step a) (named.Lost b) one two = two
 not_both (named.Lost a) b one two = one
 
+after_itself : (name : StepId) {other : StepId} → other ≡ name → ComesBefore name other → ⊥
+after_itself name same before = let itself = subst (ComesBefore name) same before in not_both name name itself itself
+
 same_names : (xs ys : List StepId) → IsRising xs → IsRising ys → ((z : StepId) → IsIn z xs → IsIn z ys) → ((z : StepId) → IsIn z ys → IsIn z xs) → xs ≡ ys
 same_names [] [] a b to from = refl
 same_names [] (y ∷ ys) a b to from = absurd (nothing_in y (from y here))
@@ -50,8 +53,8 @@ same_names (x ∷ xs) [] a b to from = absurd (nothing_in x (to x here))
 same_names (x ∷ xs) (y ∷ ys) a b to from =
     ap₂ (λ z zs. z ∷ zs) heads
     (same_names xs ys a.1 b.1
-    (λ z i. ⊎_elim (λ e. absurd (let itself = subst (ComesBefore x) (e ∙ sym heads) (a.0 z i) in not_both x x itself itself)) (λ later. later) (in_cases z y ys (to z (there i))))
-    (λ z i. ⊎_elim (λ e. absurd (let itself = subst (ComesBefore y) (e ∙ heads) (b.0 z i) in not_both y y itself itself)) (λ later. later) (in_cases z x xs (from z (there i)))))
+    (λ z i. ⊎_elim (λ e. absurd (after_itself x (e ∙ sym heads) (a.0 z i))) (λ later. later) (in_cases z y ys (to z (there i))))
+    (λ z i. ⊎_elim (λ e. absurd (after_itself y (e ∙ heads) (b.0 z i))) (λ later. later) (in_cases z x xs (from z (there i)))))
   where
     heads : x ≡ y
     heads =
@@ -87,7 +90,7 @@ module _ (effect : Event) where
       (subst (λ y. IsIn cause (y ∷ direct_among xs effect)) (sym same) here)
   direct_in (x ∷ xs) (suc (suc i)) cause stands direct =
       let rest = direct_in xs (suc i) cause stands direct in
-      elim (is_direct depends x xs effect) as (λ b. IsIn cause (if b then x ∷ direct_among xs effect else direct_among xs effect)) [ true ↦ there rest | false ↦ rest ]
+      elim (cases_Bool (is_direct depends x xs effect)) [ inl e ↦ rw e (there rest) | inr e ↦ rw e rest ]
 
   in_direct : (earlier : List Event) (cause : Event) → IsIn cause (direct_among earlier effect)
       → (i : ℕ) × (nth earlier (suc i) ≡ Some cause) × (is_direct depends cause (drop (suc i) earlier) effect ≡ true)
@@ -119,7 +122,8 @@ module _ (effect : Event) where
       (λ other i.
       let d = in_direct between other i in
       let linked = (both (depends other effect) (not (list_any (λ x. depends other x && depends x effect) (drop (suc d.0) between))) d.2).0 in
-      let none = not_true (list_any (λ x. depends cause x && depends x effect) between) (both (depends cause effect) (not (list_any (λ x. depends cause x && depends x effect) between)) direct).1 in
+      let none = not_true (list_any (λ x. depends cause x && depends x effect) between)
+      (both (depends cause effect) (not (list_any (λ x. depends cause x && depends x effect) between)) direct).1 in
       is_false (is_step_of p other)
       (λ of_p_too. true≢false
       (sym (ap₂ (λ a b. a && b) (same_process_depends p cause other of_p of_p_too) linked)
@@ -128,14 +132,13 @@ module _ (effect : Event) where
   one_of_process : (p : ℕ) (earlier : List Event) → IsShort (filter (is_step_of p) (direct_among earlier effect))
   one_of_process p [] = tt
   one_of_process p (cause ∷ between) =
-      elim (is_direct depends cause between effect) as (λ b. is_direct depends cause between effect ≡ b → IsShort (filter (is_step_of p) (if b then cause ∷ direct_among between effect else direct_among between effect))) [
-        | true ↦ λ direct.
-            elim (is_step_of p cause) as (λ b. is_step_of p cause ≡ b → IsShort (cond b (cause ∷ filter (is_step_of p) (direct_among between effect)) (filter (is_step_of p) (direct_among between effect)))) [
-              | true ↦ λ of_p. subst (λ l. IsShort (cause ∷ l)) (sym (no_other p cause between of_p direct)) tt
-              | false ↦ λ other. one_of_process p between
-            ] refl
-        | false ↦ λ indirect. one_of_process p between
-      ] refl
+      elim (cases_Bool (is_direct depends cause between effect)) [
+        | inl direct ↦ rw direct (elim (cases_Bool (is_step_of p cause)) [
+          | inl of_p ↦ rw (of_p, no_other p cause between of_p direct) tt
+          | inr other ↦ rw other (one_of_process p between)
+        ])
+        | inr indirect ↦ rw indirect (one_of_process p between)
+      ]
 
 -- The rows of the processes, one behind the other.
 

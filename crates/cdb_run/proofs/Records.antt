@@ -1,7 +1,6 @@
 -- Recorded events that do not depend on each other may be exchanged with the records that they have, so that a free one
 -- may be taken last.
-use Rattle.std.proofs.Common.{◌≡◌, ℕ, zero, suc, Bool, false, List, Option, Some, option_map, refl, sym, ap, ◌∙◌}
-use Rattle.std.proofs.lemmas.Option.{none-some, slice_get-map}
+use Rattle.std.proofs.Common.{◌≡◌, ℕ, Bool, false, List, Option, Some, option_map, refl, sym, ap, ◌∙◌}
 use Rattle.cdb_base.specs.Positions.{nth}
 use Rattle.cdb_base.specs.declared.event.Event.{Event}
 use Rattle.cdb_base.specs.declared.event.Event.TheVariants.{Step, Lost}
@@ -14,7 +13,7 @@ use Rattle.cdb_causal.specs.Causality.{IsFree}
 use Rattle.cdb_causal.specs.Paths.{IsPath}
 use Rattle.cdb_causal.specs.Exchanging.{IsExchangeable}
 use Rattle.cdb_causal.specs.Rollback.{without}
-use Rattle.cdb_causal.proofs.Lists.{map-without}
+use Rattle.cdb_causal.proofs.Lists.{map-without, nth_map}
 use Rattle.cdb_causal.proofs.Paths.{free_last}
 use Rattle.cdb_causal.proofs.Reaches.{two_parts, two_taken}
 use Rattle.cdb_causal.proofs.Symmetry.{symmetric, other_process, unaffected}
@@ -33,8 +32,7 @@ use Rattle.cdb_rules.proofs.Taken.{IsTaken, taken_from}
 -- the events of a list of records, and of one without a record
 module _ {B : Type 0} (entries : List (Recorded B)) where
   pub nth_events : (at : ℕ) (entry : Recorded B) → nth entries at ≡ Some entry → nth (events_of entries) at ≡ Some entry.event
-  nth_events zero entry stands = absurd (none-some entry stands)
-  nth_events (suc i) entry stands = slice_get-map (λ (x : Recorded B). x.event) entries i ∙ ap (option_map (λ (x : Recorded B). x.event)) stands
+  nth_events at entry stands = nth_map (λ (x : Recorded B). x.event) entries at entry stands
 
   pub events_without : (at : ℕ) → events_of (without entries at) ≡ without (events_of entries) at
   events_without at = map-without (λ (x : Recorded B). x.event) entries at
@@ -102,10 +100,12 @@ module _ {L : Type 0} (machine : Machine L) where
     recorded_exchange state between to first second independent one two =
         let turned = sym (symmetric first.event second.event) ∙ independent in
         let both = two_taken (after machine) depends symmetric state between to first.event second.event one.leads two.leads in
-        let swapped = two_parts (after machine) depends symmetric first.event to (after machine state second.event) (sym (after_commutes machine state first.event second.event independent) ∙ both) in
+        let commuted = sym (after_commutes machine state first.event second.event independent) ∙ both in
+        let swapped = two_parts (after machine) depends symmetric first.event to (after machine state second.event) commuted in
         let other = swapped.0 in (
           other,
-          recorded_kept between to state other second (alike state between first.event second.event independent one.leads) (alike other to first.event second.event independent swapped.2) swapped.1 two,
+          recorded_kept between to state other second (alike state between first.event second.event independent one.leads)
+              (alike other to first.event second.event independent swapped.2) swapped.1 two,
           recorded_kept state between other to first
               (flipped state other first.event (alike state other second.event first.event turned swapped.1))
               (flipped between to first.event (alike between to second.event first.event turned two.leads))

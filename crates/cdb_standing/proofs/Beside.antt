@@ -1,6 +1,7 @@
 -- What the standing steps left, beside them.
-use Rattle.std.proofs.Common.{◌≡◌, ◌≢◌, ℕ, zero, suc, ◌+◌, ◌-◌, ◌<◌, ◌≤◌, List, [], ◌∷◌, ◌++◌, length, map, Some, unwrap_or, ◌⊎◌, inl, inr, ⊎_elim, length-append, refl, sym, ap, ap₂, ◌∙◌, arith}
-use Rattle.std.proofs.lemmas.Option.{none-some, same_Some}
+use Rattle.std.proofs.Common.{◌≡◌, ◌≢◌, ℕ, zero, suc, ◌+◌, ◌-◌, ◌<◌, ◌≤◌, List, [], ◌∷◌, ◌++◌, length, Some, unwrap_or, ◌⊎◌, inl, inr, ⊎_elim}
+use Rattle.std.proofs.Common.{length-append, refl, sym, ap, ap₂, ◌∙◌, arith}
+use Rattle.std.proofs.lemmas.Option.{none-some}
 use Rattle.std.proofs.lemmas.List.{map-append}
 use Rattle.cdb_base.specs.Event.{event_name}
 use Rattle.cdb_base.specs.Positions.{nth}
@@ -11,7 +12,7 @@ use Rattle.cdb_base.specs.declared.name.CopyName.{CopyName}
 use Rattle.cdb_base.specs.declared.name.StepId.TheVariants as named
 use Rattle.cdb_base.specs.declared.name.StepName.{StepName}
 use Rattle.cdb_causal.specs.Rollback.{without}
-use Rattle.cdb_causal.proofs.Lists.{map-without}
+use Rattle.cdb_causal.proofs.Lists.{map-without, nth_map}
 use Rattle.cdb_standing.specs.InOrder.{Has}
 use Rattle.cdb_standing.specs.Lefts.{left_of, recorded_with, AreBeside}
 use Rattle.cdb_standing.specs.Moves.{StandsIn, HasStep, IsNextStep, IsEndOf, IsFreeAlone, IsTakenOut}
@@ -50,19 +51,14 @@ module _ (history : List Event) (at : ℕ) (gone : Event) (there : nth history a
 
 -- ---- lists of what is recorded
 
-nth_map : {A B : Type 0} (f : A → B) (xs : List A) (at : ℕ) (x : A) → nth xs at ≡ Some x → nth (map f xs) at ≡ Some (f x)
-nth_map f xs zero x there = absurd (none-some x there)
-nth_map f [] (suc i) x there = absurd (none-some x there)
-nth_map f (y ∷ xs) (suc zero) x there = ap (λ a. Some (f a)) (same_Some y x there)
-nth_map f (y ∷ xs) (suc (suc i)) x there = nth_map f xs (suc i) x there
-
 module _ {B : Type 0} where
   pub events_recorded : (lefts : List (List (Left B))) (history : List Event) → events_of (recorded_with lefts history) ≡ history
   events_recorded lefts [] = refl
   events_recorded lefts (x ∷ xs) = ap (λ l. x ∷ l) (events_recorded lefts xs)
 
   -- the events that a contract sees
-  pub history_seen : (lefts : List (List (Left B))) (history : List Event) {records : List (Recorded B)} → recorded_with lefts history ≡ records → history ≡ events_of records
+  pub history_seen : (lefts : List (List (Left B))) (history : List Event) {records : List (Recorded B)} → recorded_with lefts history ≡ records
+      → history ≡ events_of records
   history_seen lefts history is = sym (events_recorded lefts history) ∙ ap events_of is
 
   -- the loss of a copy at the end
@@ -70,7 +66,8 @@ module _ {B : Type 0} where
       → recorded_with lefts (history ++ Lost copy ∷ []) ≡ recorded_with lefts history ++ recorded_of (Lost copy) nothing ∷ []
   loss_recorded lefts history copy = map-append _ history (Lost copy ∷ [])
 
-  same_recorded : (low high : List (List (Left B))) (history : List Event) → ((it : Event) → Has history it → left_of high it ≡ left_of low it) → recorded_with high history ≡ recorded_with low history
+  same_recorded : (low high : List (List (Left B))) (history : List Event) → ((it : Event) → Has history it → left_of high it ≡ left_of low it)
+      → recorded_with high history ≡ recorded_with low history
   same_recorded low high [] same = refl
   same_recorded low high (x ∷ xs) same = ap₂ (λ l rest. recorded_of x l ∷ rest) (same x (inl refl)) (same_recorded low high xs (λ it h. same it (inr h)))
 
@@ -125,7 +122,8 @@ module _ {B : Type 0} (low high : List (List (Left B))) (p : ℕ) (left : Left B
   left_otherwise k last (Step q l kind) other = ⊎_elim own (λ no. ap (λ row. unwrap_or (nth row l) nothing) (put.others q no)) (same_or_not q p)
     where
       own : q ≡ p → left_of high (Step q l kind) ≡ left_of low (Step q l kind)
-      own e = rw e (ap (λ row. unwrap_or (nth row l) nothing) put.more ∙ ap (λ o. unwrap_or o nothing) (other_nth (row_of low p) l (λ i. other kind (λ j. Step (e j) ((i ∙ sym last) j) kind))))
+      own e =
+          rw e (ap (λ row. unwrap_or (nth row l) nothing) put.more ∙ ap (λ o. unwrap_or o nothing) (other_nth (row_of low p) l (λ i. other kind (λ j. Step (e j) ((i ∙ sym last) j) kind))))
 
   top_left : (k : ℕ) (kind : Kind) → k ≡ length (row_of low p) + 1 → left_of high (Step p k kind) ≡ left
   top_left k kind last = ap (λ o. unwrap_or o nothing) (put_joins p low left high put k last)
@@ -177,7 +175,8 @@ module _ {B : Type 0} (low high : List (List (Left B))) (p : ℕ) (left : Left B
             was q l one w = let h = beside.standing q l one w in (h.0, stands_front history (Step p k kind) (Step q l h.0) h.1)
 
             last : q ≡ p → l ≡ k → HasStep (history ++ Step p k kind ∷ []) q l
-            last e is = (kind, rw (e, is) (has_stands (history ++ Step p k kind ∷ []) (Step p k kind) (has_right history (Step p k kind ∷ []) (Step p k kind) (inl refl))))
+            last e is =
+                (kind, rw (e, is) (has_stands (history ++ Step p k kind ∷ []) (Step p k kind) (has_right history (Step p k kind ∷ []) (Step p k kind) (inl refl))))
 
             own : q ≡ p → HasStep (history ++ Step p k kind ∷ []) q l
             own e =
@@ -239,7 +238,8 @@ module _ {B : Type 0} (low high : List (List (Left B))) (p : ℕ) (left : Left B
     step_taken at h =
         let out = taken at (rw (events_recorded high history) at h) in (
           nth_map _ history at (Step p k kind) out.0 ∙ ap (λ l. Some (recorded_of (Step p k kind) l)) (top_left k kind last_left),
-          sym (same_recorded low high new (λ it s. left_otherwise k last_left it (gone it (has_stands new it s)))) ∙ ap (recorded_with high) out.1 ∙ map-without _ history at,
+          sym (same_recorded low high new (λ it s. left_otherwise k last_left it (gone it (has_stands new it s)))) ∙ ap (recorded_with high) out.1
+              ∙ map-without _ history at,
         )
 
 -- the loss of a copy less

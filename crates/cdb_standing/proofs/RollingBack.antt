@@ -15,6 +15,7 @@ use Rattle.cdb_causal.specs.Names.{IsNamedAt}
 use Rattle.cdb_causal.specs.Rollback.{IsParted, done, kept, gone, IsRolledBack, rolled_back}
 use Rattle.cdb_causal.proofs.Chains.{parted, rolled_back_split}
 use Rattle.cdb_causal.proofs.LeastSet.{consequences_parted}
+use Rattle.cdb_causal.proofs.Lists.{nth_map}
 use Rattle.cdb_standing.specs.Cuts.{cut_of, IsCut, AreConsequencesCut}
 use Rattle.cdb_standing.specs.Gathered.{AreInOrder}
 use Rattle.cdb_standing.specs.InOrder.{Marked, Has, IsRising, events_of}
@@ -27,7 +28,7 @@ use Rattle.cdb_standing.specs.declared.tables.Tables.{Tables}
 use Rattle.cdb_standing.proofs.Firsts.{first_of_loss}
 use Rattle.cdb_standing.proofs.Listed.{standing_rising, standing_only, standing_has}
 use Rattle.cdb_standing.proofs.Merging.{IsOf, step, loss, of_stands, all_only, all_has}
-use Rattle.cdb_standing.proofs.Ordered.{has_at, at_has, same_list, event_at}
+use Rattle.cdb_standing.proofs.Ordered.{has_at, at_has, same_list}
 use Rattle.cdb_standing.proofs.Places.{stands_in, in_stands}
 use Rattle.cdb_standing.proofs.Rows.{same_at}
 
@@ -156,13 +157,15 @@ module _ (next : ℕ) (steps : List (List Entry)) (sent : List (List Sent)) (sou
       let of = of_all x h in
       let found = has_at (standing steps sent) x (standing_has steps sent sound.single x.mark x.event (of_stands next steps sent sound of.3)) in
       let number : suc found.0 ≡ 1 + found.0 = omega arith in
+      let there = nth_map (λ (m : Marked). m.event) (standing steps sent) (suc found.0) x found.1 in
       part.all found.0 x found.1
-      (subst (IsRolledBack depends (history_of steps sent) at) number ((are at named (suc found.0) x.event (event_at (standing steps sent) found.0 x found.1)).0 (cut_in of.3 of.2))))
+      (subst (IsRolledBack depends (history_of steps sent) at) number ((are at named (suc found.0) x.event there).0 (cut_in of.3 of.2))))
       (λ x h.
       let found = part.only x h in
       let number : 1 + found.0 ≡ suc found.0 = omega arith in
       let of = origin x.mark x.event (standing_only steps sent x (at_has (standing steps sent) found.0 x found.1)) in
-      let cut = (are at named (suc found.0) x.event (event_at (standing steps sent) found.0 x found.1)).1 (subst (IsRolledBack depends (history_of steps sent) at) number found.2) in
+      let there = nth_map (λ (m : Marked). m.event) (standing steps sent) (suc found.0) x found.1 in
+      let cut = (are at named (suc found.0) x.event there).1 (subst (IsRolledBack depends (history_of steps sent) at) number found.2) in
       in_all x of (in_cut of.4 cut)))
       ∙ part.are
 

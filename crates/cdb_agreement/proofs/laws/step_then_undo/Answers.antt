@@ -5,14 +5,15 @@ use Rattle.cdb_causal.specs.Dependence.{depends}
 use Rattle.cdb_causal.specs.Names.{IsNewName}
 use Rattle.cdb_causal.specs.Rollback.{without}
 use Rattle.cdb_rules.specs.Undo.{names_processes, undo_of}
-use Rattle.cdb_rules.proofs.Standing.{last_taken_free, last_undone, without_last}
+use Rattle.cdb_causal.proofs.Dependents.{last_free, without_push_back}
+use Rattle.cdb_rules.proofs.Standing.{last_undone}
 use Rattle.cdb_agreement.proofs.laws.step_then_undo.Goals as goal
 
 pub returns-clause-free : goal.returns-clause-free
-returns-clause-free c = λ history event. subst (IsFree depends (history ++ event ∷ [])) (sym (add-one (length history))) (last_taken_free _ _)
+returns-clause-free c = λ history event. subst (IsFree depends (history ++ event ∷ [])) (sym (add-one (length history))) (last_free depends _ _)
 
 pub returns-clause-history : goal.returns-clause-history
-returns-clause-history c = λ history event. ap (without (history ++ event ∷ [])) (add-one (length history)) ∙ without_last _ _
+returns-clause-history c = λ history event. ap (without (history ++ event ∷ [])) (add-one (length history)) ∙ without_push_back _ _
 
 pub returns-clause-undone : goal.returns-clause-undone
 returns-clause-undone c =
