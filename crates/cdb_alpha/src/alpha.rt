@@ -420,6 +420,7 @@ impl Process for Alpha {
         }
     }
 
+    #[inline(always)]
     fn take(&mut self, alloc: Global, i: Input) -> Result<Back, NoMemory> {
         match i {
             Input::Query(leader) => Ok(self.query(leader)),

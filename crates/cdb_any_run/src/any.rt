@@ -79,6 +79,7 @@ impl AnyRun {
 
     /// Takes the first step of process `p`, from 1 to their number, that `auto` tries and that is not refused, or
     /// returns `Idle`. After a refusal and after `NoMemory` the run is as it was.
+    #[inline(always)]
     pub fn step_first(&mut self, alloc: Global, p: u32) -> Result<Result<Event, Refusal>, NoMemory>
         requires { is_among self.old.setup.processes p ≡ true }
         ensures returns { IfOk result (λ r. r ≡ first_step_by rules self.old p) }

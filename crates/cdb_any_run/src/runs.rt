@@ -75,6 +75,7 @@ impl Runs for AnyRun {
         AnyRun::step(self, alloc, p, act)
     }
 
+    #[inline(always)]
     fn step_first(&mut self, alloc: Global, p: u32) -> Result<Result<Event, Refusal>, NoMemory> {
         AnyRun::step_first(self, alloc, p)
     }

@@ -387,6 +387,7 @@ impl Process for Leader {
         }
     }
 
+    #[inline(always)]
     fn take(&mut self, _alloc: Global, i: Input) -> Result<Back, NoMemory> {
         match i {
             Input::Query(leader) => Ok(self.query(leader)),

@@ -69,6 +69,7 @@ impl<P: Process> Run<P> {
     }
 
     /// Takes an enabled step. A refused growth changes nothing.
+    #[inline(always)]
     fn take_step(&mut self, alloc: Global, p: Proc, k: u16, kind: &Kind) -> Result<(), NoMemory>
         requires { IsNext P.table self.old (Event.Step p k kind.now) }
         ensures ok { OnOk result (self.new ≡ with_event self.old (Event.Step p k kind.now)) }
@@ -247,6 +248,7 @@ impl<P: Process> Run<P> {
 
     /// Takes the first step of process `p`, from 1 to their number, that `auto` tries and that is not refused, or
     /// returns `Idle`. After a refusal and after `NoMemory` the run is as it was.
+    #[inline(always)]
     pub fn step_first(&mut self, alloc: Global, p: u32) -> Result<Result<Event, Refusal>, NoMemory>
         requires { is_among self.old.setup.processes p ≡ true }
         ensures returns { IfOk result (λ r. r ≡ first_step_in P.table self.old p) }
