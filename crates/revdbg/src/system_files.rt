@@ -11,7 +11,7 @@ use cdb_session::Streams;
 use cdb_shared_session::Endpoint;
 use cdb_streams::{Input, Output, ReadFault, read_up_to};
 use std::alloc::Global;
-use std::fs::{File, OpenFile};
+use std::fs::File;
 use std::io;
 use std::io::{ErrorKind, IsTerminal};
 
