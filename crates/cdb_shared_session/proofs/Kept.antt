@@ -1,5 +1,5 @@
 -- From what a thread promised to what it has done.
-use Rattle.std.proofs.Common.{ℕ, ◌<◌, List, [], ◌∷◌, length, subst, arith}
+use Rattle.std.proofs.Common.{◌<◌, List, [], ◌∷◌, length, subst, arith}
 use Rattle.cdb_rules.specs.Rules.{Rules}
 use Rattle.cdb_session.specs.Moves.{Known}
 use Rattle.cdb_setup.specs.Parts.{Parts}

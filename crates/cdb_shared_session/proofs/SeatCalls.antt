@@ -1,5 +1,5 @@
 -- What one call adds to what the journal has of a seat.
-use Rattle.std.proofs.Common.{◌≡◌, ◌↔◌, ℕ, ◌+◌, ◌≤◌, true, List, [], ◌∷◌, ◌++◌, length, map, refl, sym, ap, subst, ◌∙◌, arith, length-append}
+use Rattle.std.proofs.Common.{◌≡◌, ◌↔◌, ℕ, ◌≤◌, true, List, [], ◌∷◌, ◌++◌, length, map, refl, ap, ◌∙◌, arith, length-append}
 use Rattle.std.specs.Prelude.{Result, Ok, Err, IfOk, IfErr, OnErr}
 use Rattle.cdb_base.specs.Limits.{MAX_ENTRIES}
 use Rattle.cdb_commands.specs.ToldReply.{ToldReply, told}
@@ -8,14 +8,13 @@ use Rattle.cdb_commands.specs.declared.reply.Reply.{Reply}
 use Rattle.cdb_control.specs.Journal.{entry}
 use Rattle.cdb_control.specs.declared.control.CallFault.{CallFault}
 use Rattle.cdb_control.specs.declared.control.CallFault.TheVariants.{JournalFull, NoMemory}
-use Rattle.cdb_control.specs.declared.control.Entry.{Entry}
 use Rattle.cdb_control.proofs.Own.{Begins-refl}
 use Rattle.cdb_rules.specs.Rules.{Rules}
 use Rattle.cdb_setup.specs.Parts.{Parts, IsWithin}
 use Rattle.cdb_shared.specs.Seats.{SeatView, IsLater, IsCall, SameCalls, SeesFull}
-use Rattle.cdb_shared.specs.Sessions.{calls_of, replies_to}
+use Rattle.cdb_shared.specs.Sessions.{calls_of}
 use Rattle.cdb_shared.proofs.Steps.{calls_of-call, calls_of-fault, replies_to-call, replies_to-fault, IsLater-trans}
-use Rattle.cdb_session.specs.Styles.{Part, IsCalled, MakesNone, Calls, Onward, stays, goes}
+use Rattle.cdb_session.specs.Styles.{MakesNone, Calls, Onward, stays, goes}
 use Rattle.cdb_shared_session.specs.SeatParts.{part_seen}
 
 map-more : {A B : Type 0} (f : A → B) (xs : List A) (x : A) → map f (xs ++ x ∷ []) ≡ map f xs ++ f x ∷ []

@@ -1,5 +1,5 @@
 -- The journal of sessions has commands of lines alone, so it can be written.
-use Rattle.std.proofs.Common.{◌≡◌, ℕ, ◌+◌, ◌-◌, ◌<◌, ◌≤◌, ◌==◌, Bool, true, false, cond, List, [], ◌∷◌, ◌++◌, length, map, get_or, refl, sym, ap, subst, ◌∙◌, inl, inr, arith}
+use Rattle.std.proofs.Common.{◌≡◌, ℕ, ◌+◌, ◌-◌, ◌<◌, ◌≤◌, ◌==◌, Bool, true, false, cond, List, [], ◌∷◌, ◌++◌, length, map, get_or, sym, subst, inl, inr, arith}
 use Rattle.std.specs.List.{AllByRecursion, AllZip}
 use Rattle.std.specs.Prelude.{Result, Ok, Err}
 use Rattle.cdb_base.specs.Limits.{MAX_ENTRIES, MAX_SEATS}
@@ -8,14 +8,15 @@ use Rattle.cdb_control.specs.Journal.{Journaled, AreOfSeats, entry, own}
 use Rattle.cdb_control.specs.declared.control.Entry.{Entry}
 use Rattle.cdb_journal.specs.Journals.{IsWritable}
 use Rattle.cdb_rules.specs.Rules.{Rules}
-use Rattle.cdb_session.specs.Moves.{Known, Move}
+use Rattle.cdb_session.specs.Moves.{Known, Move, read_in}
 use Rattle.cdb_session.specs.Parts.{HasCommands, all_asked, seat_next}
-use Rattle.cdb_session.specs.Requests.{Asks, AreAsked, up_to_quit}
+use Rattle.cdb_session.specs.Requests.{Asks, AreAsked, ended_lines, up_to_quit}
 use Rattle.cdb_session.specs.Served.{IsSession}
 use Rattle.cdb_session.specs.Styles.{Part, StyleView}
 use Rattle.cdb_session.specs.declared.request.Request.{Request}
 use Rattle.cdb_session.specs.declared.request.Request.TheVariants.{Call, Seat, Help, Quit, Fault, TooLong}
 use Rattle.cdb_setup.specs.Parts.{Parts}
+use Rattle.cdb_streams.specs.Lines.{lines_of}
 use Rattle.cdb_streams.specs.declared.fault.PlayFault.{PlayFault}
 use Rattle.cdb_streams.specs.declared.fault.PlayFault.TheVariants as fault
 use Rattle.cdb_text.specs.Grammar.{HasNumbersInRange}
@@ -56,10 +57,10 @@ module _ (style : StyleView) (part : Part) where
       ]
 
   session_has_lines : (returned : Result (Unit {0}) PlayFault) (moves : List Move) → IsSession style part returned moves → HaveLines part.calls
-  session_has_lines (Ok done) moves s = let r = s.ends.responded in calls_have_lines r.0 _ r.1 r.3
-  session_has_lines (Err fault.Read) moves s = let r = s.ends.0.responded in calls_have_lines r.0 _ r.1 r.3
-  session_has_lines (Err fault.Write) moves s = let r = s.ends.0.responded in calls_have_lines r.0 _ r.1 r.3
-  session_has_lines (Err (fault.NoMemory refused)) moves s = let r = s.ends.commands in calls_have_lines r.0 _ r.1 r.2
+  session_has_lines (Ok done) moves s = let r = s.ends.responded in calls_have_lines r.0 (lines_of (read_in moves)) r.1 r.3
+  session_has_lines (Err fault.Read) moves s = let r = s.ends.0.responded in calls_have_lines r.0 (ended_lines (read_in moves)) r.1 r.3
+  session_has_lines (Err fault.Write) moves s = let r = s.ends.0.responded in calls_have_lines r.0 s.ends.0.lines r.1 r.3
+  session_has_lines (Err (fault.NoMemory refused)) moves s = let r = s.ends.commands in calls_have_lines r.0 (s.ends.lines ++ s.ends.next) r.1 r.2
   session_has_lines (Err (fault.Setup why)) moves s = absurd s.ends
   session_has_lines (Err (fault.Line script line why)) moves s = absurd s.ends
   session_has_lines (Err (fault.ScriptTooLong script)) moves s = absurd s.ends

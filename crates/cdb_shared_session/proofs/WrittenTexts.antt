@@ -1,5 +1,5 @@
 -- Texts that are written one after the other.
-use Rattle.std.proofs.Common.{◌≡◌, ℕ, List, ◌++◌, refl, sym, ap, ◌∙◌, append_assoc}
+use Rattle.std.proofs.Common.{ℕ, List, ◌++◌, sym, ap, ◌∙◌, append_assoc}
 use Rattle.std.proofs.KnownBytes.{Appends-trans}
 use Rattle.std.specs.Prelude.{Result, Ok, Err}
 use Rattle.cdb_streams.specs.Streams.{Stream, Takes, Fails, Writes, one_more}

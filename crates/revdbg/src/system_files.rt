@@ -11,7 +11,7 @@ use cdb_session::Streams;
 use cdb_shared_session::Endpoint;
 use cdb_streams::{Input, Output, ReadFault, read_up_to};
 use std::alloc::Global;
-use std::fs::{File, OpenFile};
+use std::fs::File;
 use std::io;
 use std::io::{ErrorKind, IsTerminal};
 
@@ -56,10 +56,7 @@ fn empty_file(rt: &HostRuntime, name: &str) -> io::Result<File> {
 /// it is not there, and refused where it has something in it.
 fn seat_of(rt: &HostRuntime, name: &str) -> io::Result<Endpoint<SeatConsole>> {
     let (input, output) = match pair_of(name) {
-        Some((input, output)) => (
-            File::open(rt, path_of(input))?,
-            empty_file(rt, output)?,
-        ),
+        Some((input, output)) => (File::open(rt, path_of(input))?, empty_file(rt, output)?),
         None => terminal(rt, name)?,
     };
     let prompt = prompt_at(input.is_terminal()).as_bytes();

@@ -1,8 +1,5 @@
 use Rattle.std.proofs.Common.{◌≡◌, ℕ, ◌-◌, get_or, vec_len, length, subst, arith}
-use Rattle.std.specs.declared.thread.PromisedHandle.{PromisedHandle}
-use Rattle.cdb_shared.specs.Seats.{SeatView}
 use Rattle.cdb_shared_session.specs.Promises.{IsSeatPromise}
-use Rattle.cdb_shared_session.specs.declared.endpoint.Endpoint.{Endpoint}
 use Rattle.cdb_shared_session.proofs.Kept.{kept, some_of}
 use Rattle.cdb_shared_session.proofs.threads.join_all.Goals as goal
 

@@ -1,4 +1,4 @@
-use Rattle.std.proofs.Common.{◌≡◌, ℕ, ◌+◌, ◌-◌, ◌<◌, ◌≤◌, ◌++◌, List, length, get_or, vec_len, vec_capacity}
+use Rattle.std.proofs.Common.{◌≡◌, ℕ, ◌+◌, ◌-◌, ◌≤◌, ◌++◌, List, length, get_or, vec_len, vec_capacity}
 use Rattle.cdb_shared_session.specs.Promises.{HasRun}
 use Rattle.cdb_shared.proofs.Ends.{EachPair}
 use Rattle.cdb_shared_session.proofs.threads.join_each.Given as goal
