@@ -1,6 +1,7 @@
 -- What the standing steps left, beside them.
-use Rattle.std.proofs.Common.{◌≡◌, ◌≢◌, ℕ, zero, suc, ◌+◌, ◌-◌, ◌<◌, ◌≤◌, List, [], ◌∷◌, ◌++◌, length, Some, unwrap_or, ◌⊎◌, inl, inr, ⊎_elim}
+use Rattle.std.proofs.Common.{◌≡◌, ◌≢◌, ℕ, zero, suc, ◌+◌, ◌-◌, ◌<◌, ◌≤◌, List, [], ◌∷◌, ◌++◌, length, Some, unwrap_or, inl, inr, ⊎_elim}
 use Rattle.std.proofs.Common.{length-append, refl, sym, ap, ap₂, ◌∙◌, arith}
+use Rattle.std.proofs.lemmas.Bool.{cases_eq, cases_lt}
 use Rattle.std.proofs.lemmas.Option.{none-some}
 use Rattle.std.proofs.lemmas.List.{map-append}
 use Rattle.cdb_base.specs.Event.{event_name}
@@ -23,12 +24,6 @@ use Rattle.cdb_standing.specs.declared.recorded.Recorded.{Recorded}
 use Rattle.cdb_standing.proofs.Ordered.{has_at, at_has, has_left, has_right, has_cases, without_keeps, without_only}
 use Rattle.cdb_standing.proofs.Places.{step_named}
 use Rattle.cdb_standing.proofs.Rows.{put_joins}
-
-same_or_not : (m n : ℕ) → (m ≡ n) ⊎ (m ≢ n)
-same_or_not m n = grind arith
-
-cases_le_lt : (m n : ℕ) → (m ≤ n) ⊎ (n < m)
-cases_le_lt m n = grind arith
 
 -- ---- what stands in a list, and in one without an event
 
@@ -119,7 +114,7 @@ module _ {B : Type 0} (low high : List (List (Left B))) (p : ℕ) (left : Left B
 
   left_otherwise : (k : ℕ) → k ≡ length (row_of low p) + 1 → (it : Event) → ((kind : Kind) → it ≢ Step p k kind) → left_of high it ≡ left_of low it
   left_otherwise k last (Lost copy) other = refl
-  left_otherwise k last (Step q l kind) other = ⊎_elim own (λ no. ap (λ row. unwrap_or (nth row l) nothing) (put.others q no)) (same_or_not q p)
+  left_otherwise k last (Step q l kind) other = ⊎_elim own (λ no. ap (λ row. unwrap_or (nth row l) nothing) (put.others q no)) (cases_eq q p)
     where
       own : q ≡ p → left_of high (Step q l kind) ≡ left_of low (Step q l kind)
       own e =
@@ -139,9 +134,9 @@ module _ {B : Type 0} (low high : List (List (Left B))) (p : ℕ) (left : Left B
     pub next_left : k ≡ length (row_of low p) + 1
     next_left =
         ⊎_elim
-        (λ within. absurd (next.new (beside.standing p k next.from_one within)))
         (λ past. ⊎_elim (λ first. omega arith) (λ behind. let w = (beside.within p (k - 1) behind).1 in let one = next.from_one in omega arith) next.behind)
-        (cases_le_lt k (length (row_of low p)))
+        (λ within. absurd (next.new (beside.standing p k next.from_one within)))
+        (cases_lt (length (row_of low p)) k)
 
     new_step : (it : Event) → StandsIn history it → (other : Kind) → it ≢ Step p k other
     new_step it h other e = next.new (other, rw (← e) h)
@@ -155,7 +150,7 @@ module _ {B : Type 0} (low high : List (List (Left B))) (p : ℕ) (left : Left B
         }
       where
         grown : (q : ℕ) → length (row_of low q) ≤ length (row_of high q)
-        grown q = ⊎_elim (λ e. rw e (let h = high_length in omega arith)) (λ no. let h = low_length q no in omega arith) (same_or_not q p)
+        grown q = ⊎_elim (λ e. rw e (let h = high_length in omega arith)) (λ no. let h = low_length q no in omega arith) (cases_eq q p)
 
         within : (q l : ℕ) (x : Kind) → Has history (Step q l x) → (1 ≤ l) × (l ≤ length (row_of high q))
         within q l x h =
@@ -169,7 +164,7 @@ module _ {B : Type 0} (low high : List (List (Left B))) (p : ℕ) (left : Left B
             (omega arith, rw (← p_is) (let h = high_length in let n = next_left in omega arith))
 
         standing : (q l : ℕ) → 1 ≤ l → l ≤ length (row_of high q) → HasStep (history ++ Step p k kind ∷ []) q l
-        standing q l one w = ⊎_elim own (λ no. was q l one (let h = low_length q no in omega arith)) (same_or_not q p)
+        standing q l one w = ⊎_elim own (λ no. was q l one (let h = low_length q no in omega arith)) (cases_eq q p)
           where
             was : (q l : ℕ) → 1 ≤ l → l ≤ length (row_of low q) → HasStep (history ++ Step p k kind ∷ []) q l
             was q l one w = let h = beside.standing q l one w in (h.0, stands_front history (Step p k kind) (Step q l h.0) h.1)
@@ -183,7 +178,7 @@ module _ {B : Type 0} (low high : List (List (Left B))) (p : ℕ) (left : Left B
                 let w' : l ≤ length (row_of high p) = rw e at w in
                 let h = high_length in
                 let n = next_left in
-                ⊎_elim (λ low'. was q l one (rw e low')) (λ more. last e (omega arith)) (cases_le_lt l (length (row_of low p)))
+                ⊎_elim (λ more. last e (omega arith)) (λ low'. was q l one (rw e low')) (cases_lt (length (row_of low p)) l)
 
     pub step_recorded : recorded_with high (history ++ Step p k kind ∷ []) ≡ recorded_with low history ++ recorded_of (Step p k kind) left ∷ []
     step_recorded =
@@ -218,7 +213,7 @@ module _ {B : Type 0} (low high : List (List (Left B))) (p : ℕ) (left : Left B
           within = λ q l h.
               let w = beside.within q l (old_step q l h) in
               let many = w.1 in
-              (w.0, ⊎_elim (λ e. let less = last l (rw e at h) in let n = last_left in rw e (omega arith)) (λ no. let e = low_length q no in omega arith) (same_or_not q p));
+              (w.0, ⊎_elim (λ e. let less = last l (rw e at h) in let n = last_left in rw e (omega arith)) (λ no. let e = low_length q no in omega arith) (cases_eq q p));
           standing = standing;
         }
       where
@@ -227,7 +222,7 @@ module _ {B : Type 0} (low high : List (List (Left B))) (p : ℕ) (left : Left B
             ⊎_elim
             (λ e. kept (λ i. let n = last_left in let w' : l ≤ length (row_of low p) = rw e at w in absurd (omega arith)) (rw e (let w' : l ≤ length (row_of low p) = rw e at w in let h = high_length in omega arith)))
             (λ no. kept (λ i. absurd (no i.0)) (let e = low_length q no in omega arith))
-            (same_or_not q p)
+            (cases_eq q p)
           where
             kept : ((q ≡ p) × (l ≡ k) → ⊥) → l ≤ length (row_of high q) → HasStep new q l
             kept other w =

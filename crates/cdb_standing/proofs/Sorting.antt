@@ -3,6 +3,7 @@ use Rattle.std.proofs.Common.{◌≡◌, ◌≢◌, ℕ, suc, ◌+◌, ◌<◌, 
 use Rattle.std.specs.List.{sum_by}
 use Rattle.std.specs.Prelude.{IsPermutation}
 use Rattle.std.specs.List.Sorted.{IsNonDecreasingBy}
+use Rattle.std.proofs.lemmas.Bool.{cases_eq}
 use Rattle.std.proofs.lemmas.List.Sums.{sum_by-cons, sum_by-append}
 use Rattle.std.proofs.lemmas.List.Sorted.{Contains-permutation, IsPermutation-sym, sum_by-IsPermutation}
 use Rattle.std.proofs.lemmas.Option.{slice_get_within, get_or_from_slice_get, slice_get-get_or}
@@ -27,9 +28,6 @@ is_at_other m x other = by (nat_eq x.mark m) (eqb-true x.mark m)
 
 is_at_same : (m : ℕ) (x : Marked) → x.mark ≡ m → is_at m x ≡ 1
 is_at_same m x e = ap one_if (eq-eqb x.mark m e)
-
-same_or_not : (m n : ℕ) → (m ≡ n) ⊎ (m ≢ n)
-same_or_not m n = grind arith
 
 none_or_some : (n : ℕ) → (n ≡ 0) ⊎ (1 ≤ n)
 none_or_some n = grind arith
@@ -58,7 +56,7 @@ found_at_mark m (x ∷ xs) some =
     let both = sum_by-cons (is_at m) x xs in
     let more : 1 ≤ sum_by (is_at m) xs = omega arith in
     let found = found_at_mark m xs more in (found.0, inr found.1, found.2))
-    (same_or_not x.mark m)
+    (cases_eq x.mark m)
 
 -- ---- lists in which no mark is twice
 
@@ -66,7 +64,7 @@ pub once_none : IsOnce []
 once_none m = omega arith
 
 pub once_one : (x : Marked) → IsOnce (x ∷ [])
-once_one x m = ⊎_elim (λ e. let here = is_at_same m x e in omega arith) (λ no. let here = is_at_other m x no in omega arith) (same_or_not x.mark m)
+once_one x m = ⊎_elim (λ e. let here = is_at_same m x e in omega arith) (λ no. let here = is_at_other m x no in omega arith) (cases_eq x.mark m)
 
 pub once_append : (xs ys : List Marked) → IsOnce xs → IsOnce ys → ((x y : Marked) → Has xs x → Has ys y → x.mark ≢ y.mark) → IsOnce (xs ++ ys)
 once_append xs ys one other apart m =
@@ -149,7 +147,7 @@ sorted_rises (x ∷ xs) sorted once = (after, sorted_rises xs (λ i j d le less.
         let two = sum_by-cons (is_at x.mark) x xs in
         let one = is_at_same x.mark x refl in
         let all = once x.mark in
-        ⊎_elim (λ e. let more = some_at_mark x.mark xs y h (sym e) in absurd (omega arith)) (λ no. omega (arith, up, no)) (same_or_not x.mark y.mark)
+        ⊎_elim (λ e. let more = some_at_mark x.mark xs y h (sym e) in absurd (omega arith)) (λ no. omega (arith, up, no)) (cases_eq x.mark y.mark)
 
 has_contains : (xs ys : List Marked) (x : Marked) → IsPermutation xs ys → Has xs x → Has ys x
 has_contains xs ys x same h =
