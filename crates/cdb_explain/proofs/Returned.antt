@@ -1,9 +1,11 @@
 -- A step that was asked for, and what was answered.
-use Rattle.std.proofs.Common.{◌≡◌, ℕ, List, Result, Ok, Err, ap, sym, subst}
+use Rattle.std.proofs.Common.{◌≡◌, ℕ, List, Result, Ok, Err, refl, ap, sym, subst}
 use Rattle.std.specs.Prelude.{[], IfErr}
 use Rattle.cdb_base.specs.declared.name.StepId.{StepId}
 use Rattle.cdb_base.specs.declared.refusal.Refusal.{Refusal}
+use Rattle.cdb_explain.specs.Explained.{explain_ending}
 use Rattle.cdb_explain.specs.Explanations.{because_text}
+use Rattle.cdb_streams.specs.Endings.{whole_ending}
 use Rattle.cdb_streams.specs.Faults.{IsFaultOfPlay, IsSetup, of_output}
 use Rattle.cdb_explain.specs.Left.{Leaves}
 use Rattle.cdb_streams.specs.Streams.{Stream}
@@ -32,6 +34,11 @@ fault_left rules json old new Missing Valueless run left (Err NoStep) missing = 
 fault_left rules json old new Missing Valueless run left (Err NoValue) none = (run, left, none)
 fault_left rules json old new Missing Valueless run left (Err (Play fault)) (why, is) =
     subst (IsFaultOfPlay json old new) (sym is) (output_fault why json old new (left.2.setup, left.2.encodes))
+
+-- the text is whole before any of it is written
+pub text_ends : (A : Type 0) (why : OutputFault) → explain_ending {A = A} (Err (Play (of_output why))) ≡ whole_ending {A = A} (Err why)
+text_ends A output.Write = refl
+text_ends A (output.NoMemory refused) = refl
 
 -- what is said of a fault after the run stood: it is none of reading
 module _ (Missing Valueless : Type 0) where
