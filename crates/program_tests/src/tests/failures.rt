@@ -76,9 +76,9 @@ fn each_write_of_output_fails_in_turn(rt: HostRuntime) {
         (Request::Script, 37),
         (PLAY, 107),
         (RACE, 90),
-        (EXPLAIN, 82),
-        (TRAIL, 66),
-        (DRAW, 4_590),
+        (EXPLAIN, 90),
+        (TRAIL, 86),
+        (DRAW, 4_671),
         (Request::Print("help\n"), 5),
     ];
     for (request, length) in &requests {
