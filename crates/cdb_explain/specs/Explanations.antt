@@ -110,14 +110,14 @@ events_text rules causes run flags = flat_map (line_at rules causes run) (flagge
 abbrev pub flagged_text : RunView → List Bool → List ℕ
 flagged_text run flags = count_text (length (flagged_of_first (length run.history) flags)) (length run.history)
 
-abbrev pub lines_text : (Parts → Rules) → Causes → RunView → List Bool → List ℕ
-lines_text rules causes run flags = events_text rules causes run flags ++ flagged_text run flags
+abbrev pub lines_text : (Parts → Rules) → RunView → List Bool → List ℕ
+lines_text rules run flags = events_text rules Shown run flags ++ flagged_text run flags
 
 -- The text is that of what led to the event at that position: of that event, and of each from which a
 -- chain of dependences leads to it, with what they did and their causes.
 abbrev pub IsExplanation : (Parts → Rules) → RunView → ℕ → List ℕ → Type 0
 IsExplanation rules run position text =
-    (flags : List Bool) × FlagsPast run.history position flags × (text ≡ lines_text rules Shown run flags)
+    (flags : List Bool) × FlagsPast run.history position flags × (text ≡ lines_text rules run flags)
 
 -- the text is the explanation of that step: of p.k, or without k of the last standing step of p
 abbrev pub IsStepExplained : (Parts → Rules) → RunView → ℕ → Option ℕ → List ℕ → Type 0

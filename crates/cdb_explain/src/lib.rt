@@ -24,7 +24,7 @@ pub use explains::explain;
 pub use fault::ExplainFault;
 pub use left::run_left_by;
 pub use line::{Causes, decision_by, push_whole};
-pub use lines::{explanation, push_count, push_flagged, push_lines};
+pub use lines::{explanation, push_count, push_lines};
 pub use replay::{fresh, take_next};
 pub use round::round_by;
 pub use step::explain_step;

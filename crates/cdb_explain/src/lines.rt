@@ -3,7 +3,6 @@
 ghost use Rattle.cdb_deeds.specs.Deeds.{deed_in};
 ghost use Rattle.cdb_explain.specs.Explanations.{count_text, events_text, line_text, lines_text, IsExplanation};
 ghost use Rattle.cdb_explain.specs.Flagged.{flagged_of_first};
-ghost use Rattle.cdb_explain.specs.declared.line.Causes.TheVariants.{Shown};
 ghost use Rattle.cdb_rules.specs.ByRules.{IsInOrder};
 ghost use Rattle.cdb_rules.specs.Runs.{with_event};
 ghost use Rattle.cdb_text.specs.Pushes.{Pushes};
@@ -81,20 +80,18 @@ pub fn push_count(text: &mut String, count: usize, all: usize) -> Result<(), All
     text.push_str(" events\n")
 }
 
-/// Adds the lines of the flagged events, with their causes or without, and then how many they are of how many. There is a
-/// flag for each event. `NoMemory` if an allocation fails.
-pub fn push_flagged<T: Telling>(
+/// Adds the lines of the flagged events, with their causes, and then how many they are of how many.
+fn push_flagged<T: Telling>(
     alloc: Global,
     text: &mut String,
-    causes: Causes,
     run: &Trace,
     flags: &[bool],
 ) -> Result<(), NoMemory>
     requires valid { IsInOrder T.rules run.now }
     requires a_flag_each { length flags.now ≡ length run.now.history }
-    ensures { Pushes result text.old text.new (lines_text T.rules causes run.now flags.now) }
+    ensures { Pushes result text.old text.new (lines_text T.rules run.now flags.now) }
 {
-    let count = push_lines::<T>(alloc, text, causes, run, flags)?;
+    let count = push_lines::<T>(alloc, text, Causes::Shown, run, flags)?;
     push_count(text, count, run.events().len())?;
     Ok(())
 }
@@ -107,10 +104,10 @@ fn text_of_flagged<T: Telling>(
 ) -> Result<Vec<u8>, NoMemory>
     requires valid { IsInOrder T.rules run.now }
     requires a_flag_each { length flags.now ≡ length run.now.history }
-    ensures { IfOk result (λ text. text.items ≡ lines_text T.rules Shown run.now flags.now) }
+    ensures { IfOk result (λ text. text.items ≡ lines_text T.rules run.now flags.now) }
 {
     let mut text = String::new(alloc);
-    push_flagged::<T>(alloc, &mut text, Causes::Shown, run, flags)?;
+    push_flagged::<T>(alloc, &mut text, run, flags)?;
     Ok(text.into_bytes())
 }
 

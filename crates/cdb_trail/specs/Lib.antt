@@ -4,6 +4,7 @@ pub mod LeaderFlow
 pub mod AlphaFlow
 pub mod Trails
 pub mod Trailed
+pub mod Oracle
 pub mod Written
 -- what the code keeps for itself
 pub mod Played

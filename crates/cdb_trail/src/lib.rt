@@ -11,6 +11,7 @@ mod flow;
 mod flowing;
 pub mod laws;
 mod leader_flow;
+mod oracle;
 mod played;
 mod trail;
 mod walk;

@@ -1,24 +1,28 @@
 //! A script is carried out without its replies, and the trail to a step of the run that it leaves is written.
 
-ghost use Rattle.std.specs.Prelude.{◌≡◌, ◌≤◌, length, None, Err, IfErr, IfOk, MatchOption};
+ghost use Rattle.std.specs.Prelude.{◌≡◌, ◌≤◌, ◌++◌, length, None, Err, IfErr, IfOk, MatchOption};
 ghost use Rattle.cdb_agreement.specs.Algorithms.{rules};
 ghost use Rattle.cdb_explain.specs.Asked.{StandsNoStep};
 ghost use Rattle.cdb_explain.specs.Explained.{explain_ending};
+ghost use Rattle.cdb_explain.specs.Explanations.{events_text, flagged_text};
 ghost use Rattle.cdb_explain.specs.StepFaults.{IsFaultOfStep};
 ghost use Rattle.cdb_explain.specs.declared.fault.ExplainFault.TheVariants.{Play as of_play};
+ghost use Rattle.cdb_explain.specs.declared.line.Causes.TheVariants.{Hidden};
 ghost use Rattle.cdb_rules.specs.ByRules.{IsInOrder};
 ghost use Rattle.cdb_setup.specs.declared.fault.SetupFault.{SetupFault as SetupFaultName};
 ghost use Rattle.cdb_streams.specs.Streams.{FailsWhere};
 ghost use Rattle.cdb_streams.specs.Written.{IsWritten};
 ghost use Rattle.cdb_streams.specs.declared.fault.PlayFault.TheVariants as play;
 ghost use Rattle.cdb_text.specs.Pushes.{Pushes};
+ghost use Rattle.cdb_trail.specs.Oracle.{answers_in, answers_text};
 ghost use Rattle.cdb_trail.specs.Trailed.{IsTrailIn};
 ghost use Rattle.cdb_trail.specs.Written.{proposal_text, trail_text, IsFaultOfTrail, IsTrailText, IsTrailToStep, TakesNoValue, WritesTrail};
 
+use crate::oracle::{answers_in, push_answers};
 use crate::trail::{Trail, trail_of};
 use cdb_any_run::AnyRun;
 use cdb_base::{NoMemory, Proc, Val};
-use cdb_explain::{Causes, ExplainFault, position_of_step, push_flagged, run_left_by};
+use cdb_explain::{Causes, ExplainFault, position_of_step, push_count, push_lines, run_left_by};
 use cdb_rules::Trace;
 use cdb_streams::{Sink, Source, write_text};
 use std::alloc::{AllocError, Global};
@@ -33,6 +37,29 @@ fn push_proposal(text: &mut String, proposer: Proc, value: Val) -> Result<(), Al
     write!(text, "{value}\n")
 }
 
+/// Adds the text of a trail of this run, whose events are flagged.
+fn push_trail(
+    alloc: Global,
+    text: &mut String,
+    run: &Trace,
+    proposer: Proc,
+    value: Val,
+    flags: &[bool],
+) -> Result<(), NoMemory>
+    requires valid { IsInOrder rules run.now }
+    requires a_flag_each { length flags.now ≡ length run.now.history }
+    ensures { Pushes result text.old text.new (proposal_text proposer value
+        ++ events_text rules Hidden run.now flags.now ++ answers_text (answers_in run.now flags.now)
+        ++ flagged_text run.now flags.now) }
+{
+    push_proposal(text, proposer, value)?;
+    let count = push_lines::<AnyRun>(alloc, text, Causes::Hidden, run, flags)?;
+    let names = answers_in(alloc, run, flags)?;
+    push_answers(text, names.as_slice())?;
+    push_count(text, count, run.events().len())?;
+    Ok(())
+}
+
 /// The text of a trail of this run.
 fn text_of_trail(alloc: Global, run: &Trace, trail: &Trail) -> Result<Vec<u8>, NoMemory>
     requires valid { IsInOrder rules run.now }
@@ -40,14 +67,8 @@ fn text_of_trail(alloc: Global, run: &Trace, trail: &Trail) -> Result<Vec<u8>, N
     ensures { IfOk result (λ text. text.items ≡ trail_text run.now trail.now) }
 {
     let mut text = String::new(alloc);
-    push_proposal(&mut text, trail.proposer, trail.value)?;
-    push_flagged::<AnyRun>(
-        alloc,
-        &mut text,
-        Causes::Hidden,
-        run,
-        trail.flags.as_slice(),
-    )?;
+    let flags = trail.flags.as_slice();
+    push_trail(alloc, &mut text, run, trail.proposer, trail.value, flags)?;
     Ok(text.into_bytes())
 }
 
@@ -96,7 +117,7 @@ fn write_trail_to<W: Sink>(
 
 /// Writes the trail of a value to a step of the run that a script leaves: to the `k`-th standing step of process `p`;
 /// without `k` to its last one, which is its decision where it has decided. First the process whose input the value was,
-/// then each event along which it went, and how many they are.
+/// then each event along which it went, the oracle's answers on which they rest, and how many events they are.
 ///
 /// The setup is read first, then the whole script, then all its lines; the text is whole before any of it is
 /// written. So after `Write` what was written is a beginning of the text, and after any other fault nothing was
@@ -104,7 +125,7 @@ fn write_trail_to<W: Sink>(
 /// not read; `Read` comes only where the reader failed in this call, and `Write` only where the writer did.
 ///
 /// Promise: A trail has the process whose input the value was, a line for each event on the trail to the step and for
-/// no other, and counts them. `NoStep` comes only where no such step stands, `NoValue` only where it takes no value.
+/// no other, and the oracle's answers on which it rests, and counts them. `NoStep` comes only where no such step stands, `NoValue` only where it takes no value.
 /// After a fault nothing was written, but after a failed write a beginning.
 pub fn write_trail<R: Source, W: Sink>(
     alloc: Global,

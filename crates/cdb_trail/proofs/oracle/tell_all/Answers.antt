@@ -1,0 +1,39 @@
+use Rattle.std.proofs.Common.{ℕ, ◌+◌, ◌<◌, Bool, List, [], ◌∷◌, ◌++◌, length, refl, sym, ap, ◌∙◌, arith}
+use Rattle.cdb_agreement.proofs.KeptHistories.{rules_keep_histories}
+use Rattle.cdb_agreement.specs.Algorithms.{rules}
+use Rattle.cdb_agreement.specs.SameState.{ReachSameState}
+use Rattle.cdb_base.specs.declared.event.Event.{Event}
+use Rattle.cdb_explain.proofs.Along.{next_along, next_valid}
+use Rattle.cdb_explain.proofs.Flagging.{flag_read}
+use Rattle.cdb_rules.proofs.Flagged.{item_at}
+use Rattle.cdb_rules.specs.RunView.{RunView}
+use Rattle.cdb_setup.specs.Parts.{AreInRange}
+use Rattle.cdb_trail.specs.Oracle.{told_first}
+use Rattle.cdb_trail.specs.declared.oracle.Told.{Told}
+use Rattle.cdb_trail.proofs.Telling.{told_is, told_more}
+use Rattle.cdb_trail.proofs.oracle.tell_all.Goals as goal
+
+pub take_next-requires : goal.take_next-requires
+take_next-requires c =
+    let run : RunView = c.args.run.now in
+    let i : ℕ = c.loop-i.i in
+    let event : Event = c.index-events-i.result in
+    let at = item_at c.events-events.ensures i event (omega arith) c.index-events-i.is in
+    let range : AreInRange run.setup = rw c.setup.ensures at c.n-ranges.ensures.ranges in
+    next_valid rules ReachSameState rules_keep_histories run i event at _ c.loop-i.invariant.again range c.requires.valid
+
+pub loop-i-preserved : goal.loop-i-preserved
+loop-i-preserved c =
+    let run : RunView = c.args.run.now in
+    let flags = c.args.flags.now in
+    let i : ℕ = c.loop-i.i in
+    let event : Event = c.index-events-i.result in
+    let so = c.loop-i.invariant in
+    let at = item_at c.events-events.ensures i event (omega arith) c.index-events-i.is in
+    let within : i < length flags = omega (arith, ap length c.events-events.ensures) in
+    let told = told_is run flags i event at _ so.again _ (flag_read flags i _ _ within refl) in
+    record {
+      again = next_along rules ReachSameState rules_keep_histories run i event at _ so.again _ c.in_ok-take_next.ensures;
+      all = c.in_ok-push.ensures.items ∙ ap (λ (ts : List Told). ts ++ c.in_ok-tell.field-0 ∷ []) so.all
+          ∙ ap (λ (t : Told). told_first run flags i ++ t ∷ []) (c.in_ok-tell.ensures ∙ told) ∙ sym (told_more run flags i event at);
+    }

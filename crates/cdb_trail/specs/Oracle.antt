@@ -1,0 +1,74 @@
+-- The oracle's answers on which a trail rests: the queries whose answers its votes count, and that began the rounds in which its values
+-- were settled.
+use Rattle.std.specs.Prelude.{ℕ, Bool, false, ◌==◌, ◌&&◌, List, [], ◌∷◌, ◌++◌, codes, length, filter, map, Option, option_map, option_to_list}
+use Rattle.std.specs.List.{flat_map, list_any, range_with_len}
+use Rattle.cdb_agreement.specs.Algorithms.{rules}
+use Rattle.cdb_base.specs.Event.{event_name}
+use Rattle.cdb_base.specs.Positions.{nth}
+use Rattle.cdb_base.specs.declared.event.Event.{Event}
+use Rattle.cdb_base.specs.declared.event.Event.TheVariants.{Step, Lost}
+use Rattle.cdb_base.specs.declared.name.StepId.{StepId}
+use Rattle.cdb_deeds.specs.declared.deed.Deed.{Deed}
+use Rattle.cdb_deeds.specs.declared.deed.Deed.TheVariants.{Round, Votes, SettlesRegister, SettlesInput}
+use Rattle.cdb_explain.specs.Explanations.{deed_at}
+use Rattle.cdb_explain.specs.Flagged.{is_flagged}
+use Rattle.cdb_explain.specs.Rounds.{round_before}
+use Rattle.cdb_rules.specs.RunView.{RunView}
+use Rattle.cdb_text.specs.Reports.{causes_text}
+use Rattle.cdb_trail.specs.declared.oracle.Told.{Told}
+
+-- the event at that position, what it did, the round of its process before it, and whether it is flagged
+abbrev pub told_at : RunView → List Bool → ℕ → Event → Told
+told_at run flags position event = record {
+  event = event;
+  deed = deed_at run position;
+  round = round_before rules run position;
+  on_trail = is_flagged flags position;
+}
+
+-- the first events, count of them
+abbrev pub told_first : RunView → List Bool → ℕ → List Told
+told_first run flags count =
+    flat_map (λ position. option_to_list (option_map (told_at run flags position) (nth run.history position))) (range_with_len 1 count)
+
+abbrev pub all_told : RunView → List Bool → List Told
+all_told run flags = told_first run flags (length run.history)
+
+-- a step of process p that did that counts an answer to process q: a vote those to the senders that name the leader, and what
+-- settles the value of a round of Alpha the one to its own process
+abbrev pub counts : Deed → ℕ → ℕ → Bool
+counts (Votes source leader by) p q = list_any (λ name. name.s == q) by
+counts (SettlesRegister value register) p q = q == p
+counts (SettlesInput value) p q = q == p
+counts deed p q = false
+
+-- the step began that round
+abbrev pub began : Deed → ℕ → Bool
+began (Round r) round = r == round
+began deed round = false
+
+-- the query began the round of the vote, and the vote, which is on the trail, counts its answer
+abbrev pub rests_by : Told → Told → Event → Event → Bool
+rests_by vote query (Step p k kind) (Step q l other) = vote.on_trail && counts vote.deed p q && began query.deed vote.round
+rests_by vote query event other = false
+
+abbrev pub rests : Told → Told → Bool
+rests vote query = rests_by vote query vote.event query.event
+
+-- some vote rests on the query
+abbrev pub is_answer : List Told → Told → Bool
+is_answer all query = list_any (λ vote. rests vote query) all
+
+-- the names of those of these queries, in order
+abbrev pub answers_among : List Told → List Told → List StepId
+answers_among all queries = map (λ query. event_name query.event) (filter (is_answer all) queries)
+
+abbrev pub answers_in : RunView → List Bool → List StepId
+answers_in run flags = answers_among (all_told run flags) (all_told run flags)
+
+-- `oracle answers P.K ..`, or `oracle answers none`
+unfoldable pub answers_word : List ℕ
+answers_word = codes "oracle answers"
+
+abbrev pub answers_text : List StepId → List ℕ
+answers_text names = answers_word ++ causes_text names ++ codes "\n"

@@ -1,0 +1,167 @@
+//! The oracle's answers on which a trail rests.
+
+ghost use Rattle.cdb_agreement.specs.Algorithms.{rules};
+ghost use Rattle.cdb_deeds.specs.Deeds.{deed_in};
+ghost use Rattle.cdb_explain.specs.Rounds.{round_by};
+ghost use Rattle.cdb_rules.specs.ByRules.{IsInOrder};
+ghost use Rattle.cdb_text.specs.Pushes.{Pushes};
+ghost use Rattle.cdb_trail.specs.Oracle.{all_told, answers_among, answers_in, answers_text, answers_word, began, counts, is_answer, rests};
+ghost use Rattle.std.specs.List.{list_any};
+ghost use Rattle.std.specs.Prelude.{◌≡◌, ◌==◌, length, IfOk};
+
+use cdb_any_run::AnyRun;
+use cdb_base::{Event, MsgName, NoMemory, Proc, StepId};
+use cdb_deeds::{Deed, Telling};
+use cdb_explain::{fresh, round_by, take_next};
+use cdb_rules::Trace;
+use cdb_text::push_causes;
+use std::alloc::{AllocError, Global};
+
+/// An event of a run, what it did, the round of its process before it, and whether it is on the trail.
+#[derive(Drop)]
+pub struct Told {
+    event: Event,
+    deed: Deed,
+    round: u32,
+    on_trail: bool,
+}
+
+/// Whether one of the messages is of that sender.
+fn has_sender(names: &[MsgName], sender: Proc) -> bool
+    ensures { result ≡ list_any (λ name. name.s == sender) names.now }
+{
+    names.iter().any(|name| name.s == sender)
+}
+
+/// Whether a step of process `p` that did that counts an answer to process `q`.
+fn counts(deed: &Deed, p: Proc, q: Proc) -> bool
+    ensures { result ≡ counts deed.now p q }
+{
+    match deed {
+        Deed::Votes { by, .. } => has_sender(by.names(), q),
+        Deed::SettlesRegister { .. } | Deed::SettlesInput(_) => q == p,
+        _ => false,
+    }
+}
+
+/// Whether the step began that round.
+fn began(deed: &Deed, round: u32) -> bool
+    ensures { result ≡ began deed.now round }
+{
+    match deed {
+        Deed::Round(r) => *r == round,
+        _ => false,
+    }
+}
+
+/// Whether the query began the round of the vote, and the vote, which is on the trail, counts its answer.
+fn rests(vote: &Told, query: &Told) -> bool
+    ensures { result ≡ rests vote.now query.now }
+{
+    match vote.event {
+        Event::Step { p, .. } => match query.event {
+            Event::Step { p: q, .. } => {
+                vote.on_trail && counts(&vote.deed, p, q) && began(&query.deed, vote.round)
+            }
+            Event::Lost(_) => false,
+        },
+        Event::Lost(_) => false,
+    }
+}
+
+/// Whether some vote rests on the query.
+fn is_answer(all: &[Told], query: &Told) -> bool
+    ensures { result ≡ is_answer all.now query.now }
+{
+    for vote in all {
+        if rests(vote, query) {
+            return true;
+        }
+    }
+    false
+}
+
+/// The names of the queries on which some vote rests, in order.
+fn answers(alloc: Global, all: &[Told]) -> Result<Vec<StepId>, NoMemory>
+    ensures { IfOk result (λ names. names.items ≡ answers_among all.now all.now) }
+{
+    let mut names = Vec::new(alloc);
+    for query in all {
+        if is_answer(all, query) {
+            names.push(query.event.name())?;
+        }
+    }
+    Ok(names)
+}
+
+/// What is told of the event that comes next.
+fn tell(
+    alloc: Global,
+    again: &AnyRun,
+    history: &[Event],
+    event: &Event,
+    on_trail: bool,
+) -> Result<Told, NoMemory>
+    requires { history.now ≡ again.now.history }
+    ensures { IfOk result (λ it. it
+        ≡ record { event = event.now; deed = deed_in again.now event.now; round = round_by rules again.now event.now; on_trail = on_trail }) }
+{
+    let deed = again.deed(alloc, history, event)?;
+    Ok(Told {
+        event: *event,
+        deed,
+        round: round_by(again, event),
+        on_trail,
+    })
+}
+
+/// What is told of all events of the run, where those on the trail are flagged.
+fn tell_all(alloc: Global, run: &Trace, flags: &[bool]) -> Result<Vec<Told>, NoMemory>
+    requires valid { IsInOrder rules run.now }
+    requires a_flag_each { length flags.now ≡ length run.now.history }
+    ensures { IfOk result (λ all. all.items ≡ all_told run.now flags.now) }
+{
+    let mut again = fresh::<AnyRun>(alloc, run)?;
+    // Its clause says that the parts of the setup are in range.
+    let _ranges = run.setup().n();
+    let events = run.events();
+    let mut all = Vec::new(alloc);
+    for i in 0..events.len() {
+        let event = &events[i];
+        all.push(tell(alloc, &again, &events[..i], event, flags[i])?)?;
+        take_next(alloc, &mut again, event)?;
+    }
+    Ok(all)
+}
+
+/// The names of the queries whose answers a trail rests on, whose events are flagged.
+pub(crate) fn answers_in(
+    alloc: Global,
+    run: &Trace,
+    flags: &[bool],
+) -> Result<Vec<StepId>, NoMemory>
+    requires valid { IsInOrder rules run.now }
+    requires a_flag_each { length flags.now ≡ length run.now.history }
+    ensures { IfOk result (λ names. names.items ≡ answers_in run.now flags.now) }
+{
+    let all = tell_all(alloc, run, flags)?;
+    let names = answers(alloc, all.as_slice())?;
+    Ok(names)
+}
+
+/// Adds the words before the oracle's answers.
+#[tactic(auto, unfolding(crate::specs::Oracle::answers_word))]
+fn push_word(text: &mut String) -> Result<(), AllocError>
+    ensures { Pushes result text.old text.new answers_word }
+{
+    text.push_str("oracle answers")
+}
+
+/// Adds the line of the oracle's answers.
+pub(crate) fn push_answers(text: &mut String, names: &[StepId]) -> Result<(), AllocError>
+    ensures { Pushes result text.old text.new (answers_text names.now) }
+{
+    push_word(text)?;
+    push_causes(text, names)?;
+    text.push_str("\n")
+}
