@@ -8,5 +8,4 @@ pub mod AlphaTrue
 pub mod Promised
 pub mod WalkBack
 pub mod Playing
-pub mod Texts
 pub mod Telling
