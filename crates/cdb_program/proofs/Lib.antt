@@ -2,5 +2,5 @@ pub mod Opening
 pub mod Seen
 pub mod Raced
 pub mod Reported
-pub mod Questions
+pub mod Answered
 pub mod Seated

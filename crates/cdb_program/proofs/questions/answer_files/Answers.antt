@@ -1,7 +1,7 @@
 use Rattle.std.proofs.Common.{◌≡◌, ◌∙◌, ℕ, List, Some, Bor, ap, refl, inl, inr, ◌∷◌, []}
 use Rattle.cdb_streams.specs.declared.input.Bytes.{Bytes}
 use Rattle.std.proofs.lemmas.Result.{err_from_is_err_and}
-use Rattle.cdb_program.proofs.Questions.{text_seen}
+use Rattle.cdb_program.proofs.Answered.{text_seen}
 use Rattle.cdb_program.specs.Known.{in_memory}
 use Rattle.cdb_program.proofs.questions.answer_files.Goals as goal
 
