@@ -24,7 +24,7 @@ use crate::piece::{Piece, put_each};
 use crate::sends::{Sends, Takes, sends_of, takes_of};
 use crate::style::{NAMESPACE, SHAPES, STYLE};
 use cdb_base::limits::MAX_ENTRIES;
-use cdb_deeds::{Deed, Telling};
+use cdb_deeds::{Deed, ReceivedNames, Telling};
 use cdb_explain::{fresh, round_by, take_next};
 use cdb_rules::{Runs, Trace};
 use cdb_setup::Algorithm;
@@ -188,14 +188,16 @@ fn put_marks<T: Telling, W: Sink>(
 {
     let mut whole = String::new(alloc);
     let mut again = fresh::<T>(alloc, run)?;
+    let mut names = ReceivedNames::none(alloc)?;
     // Its clause says that the parts of the setup are in range.
     let _ranges = run.setup().n();
     let events = run.events();
     for i in 0..events.len() {
         let event = &events[i];
         let before = round_by(&again, event);
-        let deed = again.deed(alloc, &events[..i], event)?;
+        let deed = again.deed(alloc, &names, event)?;
         take_next(alloc, &mut again, event)?;
+        names.add(event)?;
         put_mark_at(
             alloc,
             grid,
