@@ -187,11 +187,11 @@ lane_of (Lost copy) = copy.to
 -- the mark of an event at that position, where its process was in that round before it, it did that, and the run stands
 -- so after it, with its whole text
 unfoldable pub marked_text : (Parts → Rules) → Grid → ℕ → Deed → RunView → Bool → ℕ → Event → List ℕ → List ℕ
-marked_text rules grid before did after full position event whole =
+marked_text rules grid before did after weight position event whole =
     let decided = decides (rules after.setup) after.history event in
     let round = begun before (round_by rules after event) event in
     concat
-    (codes "<g class='" ∷ weight_text full ∷ codes "' transform='translate("
+    (codes "<g class='" ∷ weight_text weight ∷ codes "' transform='translate("
     ∷ point_text (spot grid position (lane_of event)) ∷ codes ")'><title>" ∷ whole
     ∷ codes "</title>" ∷ decided_text decided ∷ tick_text round ∷ codes "<use href='#" ∷ shape_of event
     ∷ codes "'/><text y='-37'>" ∷ first_row event ∷ codes "</text><text y='-26'>" ∷ second_row event
@@ -207,28 +207,28 @@ held_text (Some cell) = value_text cell.val
 
 -- that value on the lane of a register, to the right of the head of the arrow at that position
 unfoldable pub holding_text : Grid → Bool → ℕ → Reg → List ℕ → List ℕ
-holding_text grid full position register value =
+holding_text grid weight position register value =
     concat
-    (codes "<g class='holds " ∷ weight_text full ∷ codes "' transform='translate("
+    (codes "<g class='holds " ∷ weight_text weight ∷ codes "' transform='translate("
     ∷ point_text (register_spot grid position register) ∷ codes ")'><text x='6' y='-3'>" ∷ value
     ∷ codes "</text></g>\n" ∷ [])
 
 -- what a write leaves in its register
 abbrev pub written_text : (Parts → Rules) → Grid → RunView → Bool → ℕ → Event → List ℕ
-written_text rules grid after full position (Step p k (Write register)) =
-    holding_text grid full position register (held_text (cell_in rules after register))
-written_text rules grid after full position event = []
+written_text rules grid after weight position (Step p k (Write register)) =
+    holding_text grid weight position register (held_text (cell_in rules after register))
+written_text rules grid after weight position event = []
 
 -- ---- with its whole text, which is shown where a pointer rests on the mark
 
 abbrev pub mark_text : (Parts → Rules) → Grid → RunView → ℕ → Deed → RunView → Bool → ℕ → Event → List ℕ
-mark_text rules grid run before did after full position event =
-    marked_text rules grid before did after full position event (whole_text rules Shown run did after event)
-    ++ written_text rules grid after full position event
+mark_text rules grid run before did after weight position event =
+    marked_text rules grid before did after weight position event (whole_text rules Shown run did after event)
+    ++ written_text rules grid after weight position event
 
 abbrev pub mark_at : (Parts → Rules) → Grid → RunView → List Bool → ℕ → List ℕ
-mark_at rules grid run flags position =
+mark_at rules grid run weights position =
     let before = round_before rules run position in
     let did = deed_at run position in
-    let mark = mark_text rules grid run before did (run_after run position) (is_flagged flags position) position in
+    let mark = mark_text rules grid run before did (run_after run position) (weight_at weights position) position in
     option_map_or mark (nth run.history position) []

@@ -40,25 +40,25 @@ positions history = range_with_len 1 (length history)
 
 -- the arrows of all events, and their marks, each in the order of the history
 abbrev pub arrows_text : Grid → RunView → List Bool → List ℕ
-arrows_text grid run flags = flat_map (arrow_at grid run.history flags) (positions run.history)
+arrows_text grid run weights = flat_map (arrow_at grid run.history weights) (positions run.history)
 
 abbrev pub marks_text : (Parts → Rules) → Grid → RunView → List Bool → List ℕ
-marks_text rules grid run flags = flat_map (mark_at rules grid run flags) (positions run.history)
+marks_text rules grid run weights = flat_map (mark_at rules grid run weights) (positions run.history)
 
 -- Lanes first, then the arrows, and then the marks, so that no arrow hides one; what is flagged is drawn in full, the
 -- rest pale.
 abbrev pub picture_text : (Parts → Rules) → Grid → RunView → List Bool → List ℕ
-picture_text rules grid run flags =
-    head_text grid run ++ lanes_text grid run ++ arrows_text grid run flags ++ marks_text rules grid run flags
+picture_text rules grid run weights =
+    head_text grid run ++ lanes_text grid run ++ arrows_text grid run weights ++ marks_text rules grid run weights
     ++ codes "</svg>\n"
 
--- everything is in full, or exactly what led to the event at that position
+-- everything is in weight, or exactly what led to the event at that position
 abbrev pub AreInFull : Option ℕ → List Event → List Bool → Type 0
-AreInFull None history flags = flags ≡ replicate (length history) true
-AreInFull (Some position) history flags = FlagsPast history position flags
+AreInFull None history weights = weights ≡ replicate (length history) true
+AreInFull (Some position) history weights = FlagsPast history position weights
 
 -- the text is the picture of the run, with that number of columns to a row; with a position, of what led to the event there
 abbrev pub IsPicture : (Parts → Rules) → RunView → ℕ → Option ℕ → List ℕ → Type 0
 IsPicture rules run columns position text =
-    (flags : List Bool) × AreInFull position run.history flags
-    × (text ≡ picture_text rules (grid_of run.setup columns (length run.history)) run flags)
+    (weights : List Bool) × AreInFull position run.history weights
+    × (text ≡ picture_text rules (grid_of run.setup columns (length run.history)) run weights)

@@ -31,7 +31,7 @@ fn held<T: Runs>(run: &T, register: Reg) -> Piece<'static>
 #[tactic(auto, unfolding(crate::specs::EventMarks::holding_text))]
 fn holding(
     grid: Grid,
-    full: bool,
+    weight: Weight,
     position: usize,
     register: Reg,
     value: Piece<'static>,
@@ -44,7 +44,7 @@ fn holding(
     let at = register_spot(grid, position, register);
     [
         Text("<g class='holds "),
-        Text(weight(full)),
+        Text(weight.class()),
         Text("' transform='translate("),
         Between(at.x, ",", at.y),
         Text(")'><text x='6' y='-3'>"),
@@ -57,7 +57,7 @@ fn holding(
 pub(crate) fn put_written<T: Runs, W: Sink>(
     grid: Grid,
     run: &T,
-    full: bool,
+    weight: Weight,
     position: usize,
     event: &Event,
     buffer: &mut Buffer,
@@ -73,7 +73,7 @@ pub(crate) fn put_written<T: Runs, W: Sink>(
             Kind::Write(register) => {
                 let again = register;
                 let value = held(run, again);
-                let pieces = holding(grid, full, position, register, value);
+                let pieces = holding(grid, weight, position, register, value);
                 put_each(&pieces, buffer, out)
             }
             _ => Ok(()),

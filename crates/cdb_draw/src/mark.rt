@@ -305,7 +305,7 @@ fn mark<'a, T: Runs>(
     before: u32,
     deed: &Deed,
     run: &T,
-    full: bool,
+    weight: Weight,
     position: usize,
     event: &Event,
     whole: &'a str,
@@ -326,7 +326,7 @@ fn mark<'a, T: Runs>(
     let at = spot(grid, position, lane_of(event));
     [
         Text("<g class='"),
-        Text(weight(full)),
+        Text(weight.class()),
         Text("' transform='translate("),
         Between(at.x, ",", at.y),
         Text(")'><title>"),
@@ -359,7 +359,7 @@ fn put_marked<T: Runs, W: Sink>(
     before: u32,
     deed: &Deed,
     run: &T,
-    full: bool,
+    weight: Weight,
     position: usize,
     event: &Event,
     whole: &mut String,
@@ -380,7 +380,7 @@ fn put_marked<T: Runs, W: Sink>(
             before,
             deed,
             run,
-            full,
+            weight,
             position,
             event,
             whole.as_str(),
@@ -397,7 +397,7 @@ pub(crate) fn put_mark<T: Runs, W: Sink>(
     before: u32,
     deed: &Deed,
     run: &T,
-    full: bool,
+    weight: Weight,
     position: usize,
     event: &Event,
     whole: &mut String,
@@ -410,7 +410,7 @@ pub(crate) fn put_mark<T: Runs, W: Sink>(
         (mark_text T.rules grid (T.run run.now) before deed.now (T.run run.now) full position event.now) }
 {
     put_marked(
-        alloc, grid, before, deed, run, full, position, event, whole, buffer, out,
+        alloc, grid, before, deed, run, weight, position, event, whole, buffer, out,
     )?;
-    put_written(grid, run, full, position, event, buffer, out)
+    put_written(grid, run, weight, position, event, buffer, out)
 }

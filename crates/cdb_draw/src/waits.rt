@@ -66,7 +66,7 @@ fn stub(
     grid: Grid,
     events: &[Event],
     takes: &Takes,
-    full: bool,
+    weight: Weight,
     position: usize,
     name: &MsgName,
 ) -> [Piece<'static>; 16]
@@ -78,7 +78,7 @@ fn stub(
     let at = spot(grid, position, name.s);
     [
         Text("<g class='wait "),
-        Text(weight(full)),
+        Text(weight.class()),
         Text("' transform='translate("),
         Between(at.x, ",", at.y),
         Text(")'><path d='M0,0L22,9'/><text class='note' y='33'>to"),
@@ -101,7 +101,7 @@ pub(crate) fn put_on_way<W: Sink>(
     grid: Grid,
     events: &[Event],
     takes: &Takes,
-    full: bool,
+    weight: Weight,
     position: usize,
     name: &MsgName,
     buffer: &mut Buffer,
@@ -114,7 +114,7 @@ pub(crate) fn put_on_way<W: Sink>(
         (on_way_text grid events.now full position name.now) }
 {
     if some_wait(grid, events, takes, name) {
-        let pieces = stub(grid, events, takes, full, position, name);
+        let pieces = stub(grid, events, takes, weight, position, name);
         put_each(&pieces, buffer, out)
     } else {
         Ok(())

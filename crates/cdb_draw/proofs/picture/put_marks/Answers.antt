@@ -66,7 +66,7 @@ returns-in_err-deed g c =
     let below : c.loop-i.i < length c.args.run.now.history = omega (arith, ap length c.events-events.ensures) in
     rw (p.1, p.2)
     (cut_one g.W.Sink.stream (Unit {0}) (NoMemory no_memory)
-    (mark_at g.T.Runs.rules c.args.grid c.args.run.now c.args.flags.now) _ _ 1 _ c.loop-i.i {k = c.loop-i.i + 1}
+    (mark_at g.T.Runs.rules c.args.grid c.args.run.now c.args.weights.now) _ _ 1 _ c.loop-i.i {k = c.loop-i.i + 1}
     (omega arith) below c.loop-i.invariant.put (puts_nothing g.W.Sink.stream _ _ _))
 
 pub loop-i-init : goal.loop-i-init
@@ -79,7 +79,7 @@ loop-i-preserved g c = record {
       (item_at c.events-events.ensures c.loop-i.i c.index-events-i.result (omega arith) c.index-events-i.is) _ c.loop-i.invariant.again _
       c.in_ok-take_next.ensures;
   put =
-      put_one g.W.Sink.stream (mark_at g.T.Runs.rules c.args.grid c.args.run.now c.args.flags.now) 1 c.loop-i.i (omega arith)
+      put_one g.W.Sink.stream (mark_at g.T.Runs.rules c.args.grid c.args.run.now c.args.weights.now) 1 c.loop-i.i (omega arith)
       c.loop-i.invariant.put c.in_ok-put_mark_at.ensures;
 }
 
@@ -89,7 +89,7 @@ returns-in_err-take_next g c =
     let below : c.loop-i.i < length c.args.run.now.history = omega (arith, ap length c.events-events.ensures) in
     rw (p.1, p.2)
     (cut_one g.W.Sink.stream (Unit {0}) (NoMemory no_memory)
-    (mark_at g.T.Runs.rules c.args.grid c.args.run.now c.args.flags.now) _ _ 1 _ c.loop-i.i {k = c.loop-i.i + 1}
+    (mark_at g.T.Runs.rules c.args.grid c.args.run.now c.args.weights.now) _ _ 1 _ c.loop-i.i {k = c.loop-i.i + 1}
     (omega arith) below c.loop-i.invariant.put (puts_nothing g.W.Sink.stream _ _ _))
 
 pub returns-in_err-put_mark_at : goal.returns-in_err-put_mark_at
@@ -98,7 +98,7 @@ returns-in_err-put_mark_at g c =
     let below : c.loop-i.i < length c.args.run.now.history = omega (arith, ap length c.events-events.ensures) in
     rw (p.1, p.2)
     (cut_one g.W.Sink.stream (Unit {0}) _
-    (mark_at g.T.Runs.rules c.args.grid c.args.run.now c.args.flags.now) _ _ 1 _ c.loop-i.i
+    (mark_at g.T.Runs.rules c.args.grid c.args.run.now c.args.weights.now) _ _ 1 _ c.loop-i.i
     (omega arith) below c.loop-i.invariant.put c.in_err-put_mark_at.ensures)
 
 pub returns : goal.returns

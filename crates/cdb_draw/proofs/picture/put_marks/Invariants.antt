@@ -8,5 +8,5 @@ use Rattle.cdb_draw.proofs.picture.put_marks.Given as goal
 abbrev pub invariant-loop-i : goal.invariant-loop-i
 invariant-loop-i g l = record {
   again : g.T.Runs.run l.again ≡ with_history l.run (take l.i l.run.history);
-  put : IsPut g.W.Sink.stream l.initial.out l.initial.buffer l.out l.buffer (flat_map (mark_at g.T.Runs.rules l.grid l.run l.flags) (range_with_len 1 l.i));
+  put : IsPut g.W.Sink.stream l.initial.out l.initial.buffer l.out l.buffer (flat_map (mark_at g.T.Runs.rules l.grid l.run l.weights) (range_with_len 1 l.i));
 }
