@@ -2,7 +2,7 @@
 
 ghost use Rattle.std.specs.Prelude.{◌≡◌, ◌≤◌, length};
 ghost use Rattle.cdb_draw.specs.Arrows.{arrow_at, arrow_text, copy_arrow, event_arrow, register_lane, register_spot, step_arrow};
-ghost use Rattle.cdb_draw.specs.Arrows.{upright, weight_text};
+ghost use Rattle.cdb_draw.specs.Arrows.{upright};
 ghost use Rattle.cdb_draw.specs.Layout.{end_x, IsGrid, IsOnPage};
 ghost use Rattle.cdb_draw.specs.Pieces.{pieces_text};
 ghost use Rattle.cdb_draw.specs.Sends.{AreSendsOf, AreTakesOf};
@@ -15,16 +15,10 @@ use crate::piece::{Piece, put_each};
 use crate::sends::{Sends, Takes, position_of_send};
 use crate::waits::put_on_way;
 use crate::way::{Side, coming, leaving, passing, side_of};
+use crate::weight::Weight;
 use cdb_base::limits::MAX_ENTRIES;
 use cdb_base::{Event, Kind, MsgName, Proc, Reg};
 use cdb_streams::{Buffer, OutputFault, Sink};
-
-/// How what is flagged is drawn, and the rest.
-pub(crate) fn weight(weight: Weight) -> &'static str
-    ensures { result.now ≡ weight_text weight }
-{
-    if weight { "weight" } else { "pale" }
-}
 
 /// The arrow of a copy in one row.
 #[tactic(auto, unfolding(crate::specs::Arrows::arrow_text))]
@@ -176,7 +170,7 @@ fn put_copy<W: Sink>(
     requires position { position ≤ MAX_ENTRIES }
     requires sends { AreSendsOf sends.now events.now }
     ensures { Puts W.stream result out.old buffer.old out.new buffer.new
-        (copy_arrow grid events.now class.now full name position p) }
+        (copy_arrow grid events.now class.now weight name position p) }
 {
     let sender = name.s;
     match position_of_send(sends, name) {
@@ -229,7 +223,7 @@ fn put_step<W: Sink>(
     requires sends { AreSendsOf sends.now events.now }
     requires takes { AreTakesOf takes.now events.now }
     ensures { Puts W.stream result out.old buffer.old out.new buffer.new
-        (step_arrow grid events.now full position p kind) }
+        (step_arrow grid events.now weight position p kind) }
 {
     let row = row_of(grid, position);
     match kind {
@@ -275,7 +269,7 @@ pub(crate) fn put_arrow<W: Sink>(
     requires sends { AreSendsOf sends.now events.now }
     requires takes { AreTakesOf takes.now events.now }
     ensures { Puts W.stream result out.old buffer.old out.new buffer.new
-        (event_arrow grid events.now full position event.now) }
+        (event_arrow grid events.now weight position event.now) }
 {
     match *event {
         Event::Step { p, kind, .. } => {

@@ -7,11 +7,12 @@ ghost use Rattle.cdb_draw.specs.Pieces.{piece_text, pieces_text};
 ghost use Rattle.cdb_rules.specs.ByRules.{cell_in};
 ghost use Rattle.cdb_streams.specs.Putting.{Puts};
 
-use crate::arrow::{register_spot, weight};
+use crate::arrow::register_spot;
 use crate::layout::Grid;
 use crate::mark::value;
 use crate::piece::Piece::{Between, Text};
 use crate::piece::{Piece, put_each};
+use crate::weight::Weight;
 use cdb_base::limits::MAX_ENTRIES;
 use cdb_base::{Event, Kind, Reg};
 use cdb_rules::Runs;
@@ -39,7 +40,7 @@ fn holding(
     requires grid { IsGrid grid }
     requires position { position ≤ MAX_ENTRIES }
     ensures { pieces_text result
-        ≡ holding_text grid full position register (piece_text value.entry) }
+        ≡ holding_text grid weight position register (piece_text value.entry) }
 {
     let at = register_spot(grid, position, register);
     [
@@ -66,7 +67,7 @@ pub(crate) fn put_written<T: Runs, W: Sink>(
     requires grid { IsGrid grid }
     requires position { position ≤ MAX_ENTRIES }
     ensures { Puts W.stream result out.old buffer.old out.new buffer.new
-        (written_text T.rules grid (T.run run.now) full position event.now) }
+        (written_text T.rules grid (T.run run.now) weight position event.now) }
 {
     match *event {
         Event::Step { kind, .. } => match kind {

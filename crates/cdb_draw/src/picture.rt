@@ -23,6 +23,7 @@ use crate::piece::Piece::{After, Number, Text};
 use crate::piece::{Piece, put_each};
 use crate::sends::{Sends, Takes, sends_of, takes_of};
 use crate::style::{NAMESPACE, SHAPES, STYLE};
+use crate::weight::Weight;
 use cdb_base::limits::MAX_ENTRIES;
 use cdb_deeds::{Deed, ReceivedNames, Telling};
 use cdb_explain::{fresh, round_by, take_next};
@@ -262,7 +263,7 @@ fn write_pieces<T: Telling, W: Sink>(
     Ok(())
 }
 
-/// Writes the picture in which the flagged events are drawn in weight, and the rest pale. After `Write` what was
+/// Writes the picture in which the events are drawn in these weights. After `Write` what was
 /// written is a beginning of the picture, and after `NoMemory` one of whole pieces of 65,536 bytes.
 pub(crate) fn write_picture<T: Telling, W: Sink>(
     alloc: Global,

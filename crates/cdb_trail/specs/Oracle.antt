@@ -1,12 +1,12 @@
 -- The oracle's answers on which a trail rests: the queries whose answers its votes count, and that began the rounds in which its values
 -- were settled.
-use Rattle.std.specs.Prelude.{ℕ, Bool, false, ◌==◌, ◌&&◌, List, [], ◌∷◌, ◌++◌, codes, length, filter, map, Option, option_map, option_to_list}
+use Rattle.std.specs.Prelude.{ℕ, Bool, false, ◌==◌, ◌&&◌, List, ◌++◌, codes, length, filter, map, option_map, option_to_list}
 use Rattle.std.specs.List.{flat_map, list_any, range_with_len}
 use Rattle.cdb_agreement.specs.Algorithms.{rules}
 use Rattle.cdb_base.specs.Event.{event_name}
 use Rattle.cdb_base.specs.Positions.{nth}
 use Rattle.cdb_base.specs.declared.event.Event.{Event}
-use Rattle.cdb_base.specs.declared.event.Event.TheVariants.{Step, Lost}
+use Rattle.cdb_base.specs.declared.event.Event.TheVariants.{Step}
 use Rattle.cdb_base.specs.declared.name.StepId.{StepId}
 use Rattle.cdb_deeds.specs.declared.deed.Deed.{Deed}
 use Rattle.cdb_deeds.specs.declared.deed.Deed.TheVariants.{Round, Votes, SettlesRegister, SettlesInput}
