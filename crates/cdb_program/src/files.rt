@@ -40,6 +40,13 @@ pub trait Files {
     /// opened.
     fn open_seat(&mut self, alloc: Global, name: &str) -> Result<Endpoint<Self::Seat>, ReadFault>
         ensures { OpensSeat Self.Seat.known (seen self.old) (seen self.new) name.now result };
+
+    /// Shows that so many of so many walks are done, in a line that is written over, where standard error is a terminal. Of that line
+    /// nothing is known, and what can't be shown is left out.
+    fn show_progress(&self, done: u32, all: u32);
+
+    /// Clears that line.
+    fn clear_progress(&self);
 }
 
 /// The bytes of the file of this name, at most 1,048,577 of them.

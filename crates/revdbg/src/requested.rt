@@ -82,6 +82,17 @@ fn request_of<'a>(asked: &'a Asked<'a>, prompt: &'a str) -> Request<'a>
             question: *question,
         },
         Asked::Replay { setup, journal } => Request::Replay { setup, journal },
+        Asked::Search {
+            setup,
+            goal,
+            seed,
+            walks,
+        } => Request::Search {
+            setup,
+            goal,
+            seed: *seed,
+            walks: *walks,
+        },
         Asked::Debug { setup, seats } if seats.is_empty() => Request::Debug { setup, prompt },
         Asked::Debug { setup, seats } => Request::DebugShared {
             setup,

@@ -103,4 +103,8 @@ impl Files for Folder {
             prompt: b"",
         })
     }
+
+    fn show_progress(&self, _done: u32, _all: u32) {}
+
+    fn clear_progress(&self) {}
 }
