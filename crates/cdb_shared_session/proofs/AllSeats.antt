@@ -1,11 +1,10 @@
 -- What the final journal has of all seats.
-use Rattle.std.proofs.Common.{◌≡◌, ℕ, ◌+◌, ◌<◌, ◌≤◌, List, [], All, length, get_or, refl, sym, ap, ◌∙◌, subst, arith}
+use Rattle.std.proofs.Common.{◌≡◌, ℕ, ◌+◌, ◌<◌, ◌≤◌, List, All, length, get_or, refl, sym, ap, ◌∙◌, subst, arith}
 use Rattle.std.specs.Prelude.{Result, Option, Some, None, option_map}
 use Rattle.atomic_table.specs.Seated.{TableId}
 use Rattle.cdb_base.specs.Limits.{MAX_ENTRIES}
 use Rattle.cdb_control.specs.Journal.{Journaled, opened, own, AreOfSeats}
 use Rattle.cdb_session.specs.Moves.{Known}
-use Rattle.cdb_session.specs.Served.{IsSession}
 use Rattle.cdb_rules.specs.Rules.{Rules}
 use Rattle.cdb_setup.specs.Parts.{Parts}
 use Rattle.cdb_shared.specs.Seats.{SeatView, AreFresh, RestsAt, IsKnownBy, fresh_seat}
@@ -13,7 +12,7 @@ use Rattle.cdb_streams.specs.declared.fault.PlayFault.{PlayFault}
 use Rattle.cdb_streams.specs.declared.source.ReadFault.{ReadFault}
 use Rattle.cdb_shared_session.specs.Openings.{SeatSeen}
 use Rattle.cdb_shared_session.specs.SharedSessions.{HasEnded, IsFinished, AreSessions}
-use Rattle.cdb_shared_session.specs.SeatParts.{part_seen, seat_style}
+use Rattle.cdb_shared_session.specs.SeatParts.{seat_style}
 use Rattle.cdb_shared_session.specs.Promises.{IsUnused, HasServed, HasRun, AllHaveRun}
 use Rattle.cdb_shared_session.specs.declared.endpoint.Finished.{Finished}
 use Rattle.cdb_shared_session.proofs.Kept.{some_of}
@@ -27,7 +26,7 @@ all_ready shared setup count seats new k d low =
 -- what a seat's thread has done, by the final journal
 ended_known : (rules : Parts → Rules) (c : Journaled) (Opens : Result SeatSeen ReadFault → Type 0) (seat : SeatView) (n : ℕ) → seat.number ≡ n → IsKnownBy c seat → length c.journal ≤ MAX_ENTRIES
     → (ended : Option Known) (outcome : Result (Unit {0}) PlayFault) → HasServed rules Opens n seat ended outcome → HasEnded rules c n Opens ended outcome
-ended_known rules c Opens seat n is by few (Some ended) outcome (opening, opens, made, makes, session) =
+ended_known rules c Opens seat n is by few (Some ended) outcome (opening, opens, (made, makes, session)) =
     (opening, opens, record { made = made; makes = makes; session = session_known rules (seat_style opening.prompt n) c seat n is by few outcome made session })
 ended_known rules c Opens seat n is by few None outcome (fault, opens, failed, unseen) = (
   fault,
