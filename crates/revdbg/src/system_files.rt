@@ -12,8 +12,8 @@ use cdb_shared_session::{Endpoint, Opener};
 use cdb_streams::{Input, Output, ReadFault, read_up_to};
 use std::alloc::Global;
 use std::fs::{File, Metadata};
-use std::{fs, io};
 use std::io::{ErrorKind, IsTerminal};
+use std::{fs, io};
 
 /// What the session of a seat reads from and writes to.
 type SeatConsole = Streams<Input<File>, Output<File>>;
