@@ -151,7 +151,7 @@ fn perform_one<
 /// Promise: A request reads the files that it names, in order and no others, up to the first that can't be read; its
 /// text goes to standard output. How it ended is reported: nothing and status 0 where it is well, else the fault's
 /// text, with the name of what can't be read, on standard error, and its status. The K-th session is held at the
-/// endpoint of the K-th name.
+/// seat of the K-th name, which its own thread opens.
 pub fn perform<
     R: Threads + Wait + Sync,
     F: Files + Drop,
