@@ -1,0 +1,5 @@
+pub mod Ranks
+pub mod Counted
+pub mod Standing
+pub mod Before
+pub mod Behind
