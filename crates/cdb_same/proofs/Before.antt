@@ -1,10 +1,10 @@
 -- Which event stands before which, by positions.
-use Rattle.std.proofs.Common.{◌≡◌, ℕ, zero, suc, ◌+◌, ◌<◌, ◌≤◌, List, [], ◌∷◌, Some, refl, sym, subst, arith}
+use Rattle.std.proofs.Common.{◌≡◌, ℕ, zero, suc, ◌<◌, List, [], ◌∷◌, Some, refl, sym, subst, arith}
 use Rattle.std.proofs.lemmas.Option.{none-some, same_Some}
 use Rattle.cdb_base.specs.Event.{event_name}
 use Rattle.cdb_base.specs.Positions.{nth}
 use Rattle.cdb_base.specs.declared.event.Event.{Event}
-use Rattle.cdb_causal.specs.Exchange.{IsIn, here, there, IsBefore, IsEachOnce}
+use Rattle.cdb_causal.specs.Exchange.{here, there, IsBefore, IsEachOnce}
 use Rattle.cdb_causal.specs.Standing.{IsStanding}
 use Rattle.cdb_rules.proofs.ListMembers.{position_in}
 use Rattle.cdb_rules.proofs.Naming.{in_position}

@@ -1,5 +1,5 @@
 -- Where each event stands behind its direct causes, dependent events stand in the same order.
-use Rattle.std.proofs.Common.{◌≡◌, ℕ, zero, suc, ◌+◌, ◌<◌, ◌≤◌, ◌⊎◌, inl, inr, ⊎_elim, List, Option, None, Some, MatchOption, refl, sym, ap, ◌∙◌, subst, arith}
+use Rattle.std.proofs.Common.{◌≡◌, ℕ, zero, suc, ◌+◌, ◌<◌, ◌≤◌, ⊎_elim, List, Option, None, Some, MatchOption, refl, sym, ap, ◌∙◌, subst, arith}
 use Rattle.std.proofs.lemmas.Option.{same_Some}
 use Rattle.std.proofs.lemmas.Bool.{cases_eq, cases_lt}
 use Rattle.cdb_base.specs.Event.{event_name}
@@ -7,14 +7,12 @@ use Rattle.cdb_base.specs.Positions.{nth}
 use Rattle.cdb_base.specs.declared.event.Event.{Event}
 use Rattle.cdb_base.specs.declared.event.Event.TheVariants.{Step, Lost}
 use Rattle.cdb_base.specs.declared.name.StepId.{StepId}
-use Rattle.cdb_base.specs.declared.name.StepId.TheVariants as named
 use Rattle.cdb_causal.proofs.PastLaws.{by_direct_causes}
 use Rattle.cdb_causal.proofs.Walks.{linked_events}
 use Rattle.cdb_causal.specs.Causality.{IsDirectCause, IsLink}
 use Rattle.cdb_causal.specs.Dependence.{depends}
 use Rattle.cdb_causal.specs.DirectCauses.{AreDirectCauses}
-use Rattle.cdb_causal.specs.Exchange.{IsBefore, IsIn, KeepsOrder}
-use Rattle.cdb_causal.specs.Names.{IsNamedAt}
+use Rattle.cdb_causal.specs.Exchange.{IsBefore, KeepsOrder}
 use Rattle.cdb_causal.specs.Past.{IsInPast, one_link, link_before}
 use Rattle.cdb_rules.proofs.ListMembers.{position_in}
 use Rattle.cdb_rules.proofs.Naming.{in_position}

@@ -1,8 +1,19 @@
-//! Whether two scripts leave the same run, and else what tells their runs apart.
+//! Whether two scripts leave the same run, and else what tells their runs apart. The functions of `laws` do nothing: the
+//! contract of each is the law.
+//!
+//! ```text
+//! let is_same = same::<AnyRun, _>(alloc, setup, first, second, &mut output)?;
+//! ```
 #![tactic(auto)]
 
 mod alone;
 mod compare;
+pub mod laws;
 mod order;
+mod runs;
+mod text;
+mod writes;
 
 pub use compare::{Comparison, Which};
+pub use runs::compare_runs;
+pub use writes::same;

@@ -1,6 +1,5 @@
-use Rattle.std.proofs.Common.{◌≡◌, ℕ, suc, Some, slice_get, refl, sym, ◌∙◌, subst, true≢false, below_more, arith}
+use Rattle.std.proofs.Common.{ℕ, suc, refl, sym, ◌∙◌, subst, true≢false, below_more, arith}
 use Rattle.std.proofs.lemmas.Option.{same_Some, slice_get_within}
-use Rattle.std.proofs.lemmas.Bool.{not-true}
 use Rattle.cdb_base.specs.declared.event.Event.{Event}
 use Rattle.cdb_causal.specs.Exchange.{IsIn}
 use Rattle.cdb_rules.proofs.Flagged.{item_at}

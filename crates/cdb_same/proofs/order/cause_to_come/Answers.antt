@@ -1,4 +1,4 @@
-use Rattle.std.proofs.Common.{◌∙◌, sym, ap}
+use Rattle.std.proofs.Common.{sym}
 use Rattle.cdb_same.proofs.Behind.{causes_to_come}
 use Rattle.cdb_same.proofs.order.cause_to_come.Goals as goal
 

@@ -1,4 +1,4 @@
-use Rattle.std.proofs.Common.{◌≡◌, suc, ◌∙◌, sym, arith}
+use Rattle.std.proofs.Common.{arith}
 use Rattle.cdb_same.proofs.Counted.{counts_step}
 use Rattle.cdb_same.proofs.order.count.Goals as goal
 
