@@ -83,3 +83,7 @@ IsDebugLine words setup seats = IsSubcommandLine (codes "debug") (setup ∷ seat
 -- `replay SETUP JOURNAL`
 abbrev pub IsReplayLine : List Text → Text → Text → Type 0
 IsReplayLine words setup journal = IsSubcommandLine (codes "replay") (setup ∷ journal ∷ []) words
+
+-- `same SETUP FIRST SECOND`
+abbrev pub IsSameLine : List Text → Text → Text → Text → Type 0
+IsSameLine words setup first second = IsSubcommandLine (codes "same") (setup ∷ first ∷ second ∷ []) words

@@ -37,6 +37,9 @@ const DEBUG: &str = "Carries each command out before the next is read, for one u
 
 const REPLAY: &str = "Plays a journal again, and prints each reply behind the number of its seat";
 
+const SAME: &str =
+    "Plays two scripts, and tells whether they leave the same run; else what tells the runs apart";
+
 const LINES: &str =
     "Without a subcommand it plays the script on standard input, on one process that proposes 7.
 
@@ -90,6 +93,9 @@ pub(crate) enum Argument {
     Step,
     Seats,
     Journal,
+    /// The script that leaves the first of two runs, and the one that leaves the second.
+    First,
+    Second,
 }
 
 /// A subcommand of the program.
@@ -102,11 +108,12 @@ pub(crate) enum Subcommand {
     Slice,
     Debug,
     Replay,
+    Same,
 }
 
 impl Subcommand {
     /// The subcommands, in the order in which help lists them.
-    pub(crate) const ALL: [Subcommand; 8] = [
+    pub(crate) const ALL: [Subcommand; 9] = [
         Subcommand::Play,
         Subcommand::Race,
         Subcommand::Explain,
@@ -115,6 +122,7 @@ impl Subcommand {
         Subcommand::Slice,
         Subcommand::Debug,
         Subcommand::Replay,
+        Subcommand::Same,
     ];
 
     fn name<'a>(&self) -> &'a str
@@ -129,6 +137,7 @@ impl Subcommand {
             Subcommand::Slice => "slice",
             Subcommand::Debug => "debug",
             Subcommand::Replay => "replay",
+            Subcommand::Same => "same",
         }
     }
 
@@ -142,6 +151,7 @@ impl Subcommand {
             Subcommand::Slice => SLICE,
             Subcommand::Debug => DEBUG,
             Subcommand::Replay => REPLAY,
+            Subcommand::Same => SAME,
         }
     }
 
@@ -166,6 +176,7 @@ impl Subcommand {
             ],
             Subcommand::Debug => &[Argument::Setup, Argument::Seats],
             Subcommand::Replay => &[Argument::Setup, Argument::Journal],
+            Subcommand::Same => &[Argument::Setup, Argument::First, Argument::Second],
         }
     }
 }
@@ -256,6 +267,16 @@ fn argument_of<'a>(alloc: Global, argument: &Argument) -> Arg<'a>
             alloc,
             "JOURNAL",
             "The file of the journal, one entry a line: its seat, and its command",
+        ),
+        Argument::First => required(
+            alloc,
+            "FIRST",
+            "The file of the script that leaves the first run",
+        ),
+        Argument::Second => required(
+            alloc,
+            "SECOND",
+            "The file of the script that leaves the second run",
         ),
     }
 }
