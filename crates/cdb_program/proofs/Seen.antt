@@ -1,6 +1,6 @@
 -- What is known of readers and writers, as streams.
-use Rattle.std.proofs.Common.{◌≡◌, ℕ, List, Result, Ok, Err, ap, inl, inr}
-use Rattle.std.specs.Prelude.{IfErr}
+use Rattle.std.proofs.Common.{◌≡◌, ℕ, Bool, List, Result, Ok, Err, ap, inl, inr}
+use Rattle.std.specs.Prelude.{IfErr, IfOk}
 use Rattle.cdb_streams.specs.Endings.{Ending, Complete, WriterFailed, CutShort, NotBegun, play_ending}
 use Rattle.cdb_streams.specs.Faults.{IsFaultOfPlay}
 use Rattle.cdb_streams.specs.Streams.{FailsWhere, Stream, Writes}
@@ -12,6 +12,8 @@ use Rattle.cdb_agreement.specs.Algorithms.{rules}
 use Rattle.cdb_agreement.specs.SameState.{ReachSameState}
 use Rattle.cdb_setup.specs.declared.fault.SetupFault.{SetupFault}
 use Rattle.cdb_journal.specs.Replays.{IsFaultOfReplay, Replays, TellsAgain}
+use Rattle.cdb_same.specs.Same.{same_ending, ComparesText, IsFaultOfSame, TellsSame}
+use Rattle.cdb_program.specs.Comparing.{IsCompared}
 use Rattle.cdb_program.specs.Playing.{IsPlay}
 use Rattle.cdb_program.specs.Replaying.{IsReplay}
 
@@ -53,3 +55,9 @@ replay_seen reader writer json replayed journal rest old new wrote again fault s
   unread = λ why is. ap reader (same why is);
   read = read;
 }
+
+-- what a comparison of runs says of its writer
+pub compared_seen : {W : Type 0} (writer : W → Stream) (json first second : List ℕ) (told : Result Bool PlayFault) (old new : W) → IsWritten writer (same_ending told) old new (ComparesText rules json first second)
+    → IfOk told (TellsSame rules json first second) → IfErr told (IsFaultOfSame json first second) → IsCompared json first second told (writer old) (writer new)
+compared_seen writer json first second told old new wrote same fault =
+    record { wrote = stream_written writer (same_ending told) old new (ComparesText rules json first second) wrote; same = same; fault = fault }

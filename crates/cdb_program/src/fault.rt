@@ -1,6 +1,6 @@
 //! Why a request was not carried out to its end.
 
-ghost use Rattle.cdb_program.specs.Outcomes.{IsOfExplain, IsOfPlay, IsOfRace};
+ghost use Rattle.cdb_program.specs.Outcomes.{IsOfExplain, IsOfPlay, IsOfRace, IsOfSame};
 
 use cdb_explain::ExplainFault;
 use cdb_streams::{PlayFault, RaceFault};
@@ -17,6 +17,8 @@ pub enum Fault<'a> {
     NoStep,
     /// The step whose trail was asked for takes no value.
     NoValue,
+    /// The runs that were compared differ, as the output tells. Nothing else is reported.
+    Different,
     /// A race of more than 64 processes and scripts.
     TooManySeats,
     /// Nothing was asked for that can be done, and this text says why.
@@ -37,6 +39,7 @@ impl fmt::Display for Fault<'_> {
             Fault::Race(fault) => writeln!(f, "{fault}"),
             Fault::NoStep => f.write_str("refused 10 NoStep\n"),
             Fault::NoValue => f.write_str("no value\n"),
+            Fault::Different => Ok(()),
             Fault::TooManySeats => f.write_str("too many seats\n"),
             Fault::Refused(reason) => f.write_str(reason),
         }
@@ -74,5 +77,16 @@ pub fn of_explain<'a>(explained: Result<(), ExplainFault>, name: &'a str) -> Res
         Err(ExplainFault::NoStep) => Err(Fault::NoStep),
         Err(ExplainFault::NoValue) => Err(Fault::NoValue),
         Err(ExplainFault::Play(fault)) => Err(Fault::Play(fault, name)),
+    }
+}
+
+/// How a request ended that was a comparison of runs.
+pub fn of_same<'a>(told: Result<bool, PlayFault>) -> Result<(), Fault<'a>>
+    ensures { IsOfSame told result }
+{
+    match told {
+        Ok(true) => Ok(()),
+        Ok(false) => Err(Fault::Different),
+        Err(fault) => Err(Fault::Play(fault, "")),
     }
 }

@@ -3,6 +3,7 @@
 ghost use Rattle.std.specs.Prelude.{◌≡◌, ◌≤◌};
 ghost use Rattle.cdb_program.specs.Requests.{Does, IsAlone, Performs, PerformsAlone, Prints, HasTurns};
 
+use crate::compares::compare_files;
 use crate::debugs::debug_file;
 use crate::fault::Fault;
 use crate::files::Files;
@@ -61,6 +62,12 @@ pub enum Request<'a> {
         setup: &'a str,
         journal: &'a str,
     },
+    /// Tells whether two script files leave the same run on a setup file.
+    Same {
+        setup: &'a str,
+        first: &'a str,
+        second: &'a str,
+    },
     /// Writes a text to standard output.
     Print(&'a str),
     /// Does nothing, and reports this fault.
@@ -109,6 +116,11 @@ fn carry_out<
         Request::Debug { setup, prompt } => debug_file(alloc, setup, prompt, outside),
         Request::DebugShared { .. } => unreachable!(),
         Request::Replay { setup, journal } => replay_files(alloc, setup, journal, outside),
+        Request::Same {
+            setup,
+            first,
+            second,
+        } => compare_files(alloc, setup, first, second, outside),
         Request::Print(text) => print(text, &mut outside.streams.output),
         Request::Refuse(fault) => Err(fault),
     }
@@ -131,8 +143,8 @@ fn perform_one<
 }
 
 /// Carries a request out, reports on standard error how it ended, and returns the status with which the program
-/// ends: 0 where all went well, else 1 to 9. A fault has one line on standard error, and each seat that failed has one; nothing
-/// else is written there.
+/// ends: 0 where all went well, else 1 to 9. A fault has one line on standard error, but that two runs differ has none, which
+/// standard output tells; and each seat that failed has one. Nothing else is written there.
 ///
 /// Promise: A request reads the files that it names, in order and no others, up to the first that can't be read; its
 /// text goes to standard output. How it ended is reported: nothing and status 0 where it is well, else the fault's

@@ -82,6 +82,15 @@ fn request_of<'a>(asked: &'a Asked<'a>, prompt: &'a str) -> Request<'a>
             question: *question,
         },
         Asked::Replay { setup, journal } => Request::Replay { setup, journal },
+        Asked::Same {
+            setup,
+            first,
+            second,
+        } => Request::Same {
+            setup,
+            first,
+            second,
+        },
         Asked::Debug { setup, seats } if seats.is_empty() => Request::Debug { setup, prompt },
         Asked::Debug { setup, seats } => Request::DebugShared {
             setup,
