@@ -10,4 +10,4 @@ mod clock;
 pub mod laws;
 mod rows;
 
-pub use clock::{Clock, clocks_of};
+pub use clock::Clock;

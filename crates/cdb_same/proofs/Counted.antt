@@ -8,26 +8,26 @@ use Rattle.cdb_base.specs.declared.event.Event.TheVariants.{Step, Lost}
 use Rattle.cdb_base.specs.declared.event.Kind.{Kind}
 use Rattle.cdb_standing.specs.Cuts.{cut_of as count_of}
 use Rattle.cdb_same.proofs.Ranks.{from_one, in_order}
-use Rattle.cdb_same.specs.Come.{AreCounts, AreNumberedUpTo}
-use Rattle.cdb_same.specs.Comparing.{IsComparable}
+use Rattle.cdb_same.specs.Come.{AreCounts}
+use Rattle.cdb_same.specs.Comparing.{AreNumberedUpTo, IsComparable}
 
 -- the process of a step, and 0 for a loss
 abbrev process_of : Event → ℕ
 process_of (Step p k kind) = p
 process_of (Lost copy) = 0
 
-none_counted : (n q : ℕ) → count_of (replicate n 0) q ≡ 0
+pub none_counted : (n q : ℕ) → count_of (replicate n 0) q ≡ 0
 none_counted n zero = refl
 none_counted zero (suc i) = refl
 none_counted (suc n) (suc zero) = refl
 none_counted (suc n) (suc (suc i)) = none_counted n (suc i)
 
-count_set : (counts : List ℕ) (i k : ℕ) → i < length counts → count_of (slice_set counts i k) (suc i) ≡ k
+pub count_set : (counts : List ℕ) (i k : ℕ) → i < length counts → count_of (slice_set counts i k) (suc i) ≡ k
 count_set [] i k less = absurd (omega (arith, less))
 count_set (x ∷ xs) zero k less = refl
 count_set (x ∷ xs) (suc i) k less = count_set xs i k (omega (arith, less))
 
-count_other : (counts : List ℕ) (i k q : ℕ) → (q ≡ suc i → ⊥) → count_of (slice_set counts i k) q ≡ count_of counts q
+pub count_other : (counts : List ℕ) (i k q : ℕ) → (q ≡ suc i → ⊥) → count_of (slice_set counts i k) q ≡ count_of counts q
 count_other counts i k zero other = refl
 count_other [] i k (suc j) other = refl
 count_other (x ∷ xs) zero k (suc zero) other = absurd (other refl)

@@ -10,7 +10,6 @@ use Rattle.cdb_causal.specs.Causality.{IsDirectCause}
 use Rattle.cdb_causal.specs.Dependence.{depends}
 use Rattle.cdb_causal.specs.DirectCauses.{NamesDirectCause}
 use Rattle.cdb_causal.specs.Exchange.{IsIn, IsBefore}
-use Rattle.cdb_standing.specs.Comparing.{AreNumbered}
 use Rattle.cdb_standing.specs.Cuts.{cut_of as count_of}
 
 -- the events stand in the history
@@ -40,10 +39,6 @@ IsCauseToCome history at counts name = NamesDirectCause history at name × (HasC
 abbrev pub AreCounts : List Event → ℕ → List ℕ → Type 0
 AreCounts history end counts =
     (at q l : ℕ) (kind : Kind) → nth history at ≡ Some (Step q l kind) → (l ≤ count_of counts q) ↔ (at ≤ end)
-
--- the steps of the processes up to one are numbered in the order of the history
-abbrev pub AreNumberedUpTo : List Event → ℕ → Type 0
-AreNumberedUpTo history top = (q : ℕ) → 1 ≤ q → q ≤ top → AreNumbered q history
 
 -- the event stands in the other history behind each of its direct causes in the one
 abbrev pub HasCausesBefore : List Event → List Event → Event → Type 0

@@ -1,5 +1,5 @@
 -- How two histories compare.
-use Rattle.std.specs.Prelude.{◌≡◌, ℕ, true, List, Some}
+use Rattle.std.specs.Prelude.{◌≡◌, ℕ, ◌≤◌, true, List, Some}
 use Rattle.cdb_base.specs.Positions.{nth}
 use Rattle.cdb_base.specs.declared.event.Event.{Event}
 use Rattle.cdb_base.specs.declared.event.Event.TheVariants.{Lost}
@@ -8,6 +8,7 @@ use Rattle.cdb_causal.specs.Causality.{IsFree}
 use Rattle.cdb_causal.specs.Dependence.{depends}
 use Rattle.cdb_causal.specs.Exchange.{IsExchanged, IsIn, IsBefore}
 use Rattle.cdb_causal.specs.Standing.{IsStanding}
+use Rattle.cdb_standing.specs.Comparing.{AreNumbered}
 use Rattle.cdb_same.specs.declared.compare.Comparison.{Comparison}
 use Rattle.cdb_same.specs.declared.compare.Comparison.TheVariants.{Same, Alone, OtherOrder}
 use Rattle.cdb_same.specs.declared.compare.Which.TheVariants.{First, Second}
@@ -34,3 +35,7 @@ IsComparison history other (OtherOrder first second) = AreTurned history other f
 pub record IsComparable (history : List Event) : Type 0 where
   pub standing : IsStanding history
   pub losses_free : (at : ℕ) (copy : CopyName) → nth history at ≡ Some (Lost copy) → IsFree depends history at
+
+-- the steps of the processes up to one are numbered in the order of the history
+abbrev pub AreNumberedUpTo : List Event → ℕ → Type 0
+AreNumberedUpTo history top = (q : ℕ) → 1 ≤ q → q ≤ top → AreNumbered q history

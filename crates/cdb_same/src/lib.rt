@@ -15,5 +15,6 @@ mod text;
 mod writes;
 
 pub use compare::{Comparison, Which};
-pub use runs::compare_runs;
-pub use writes::same;
+pub use order::numbered;
+pub use runs::{compare_runs, history_of};
+pub use writes::{run_of, same};

@@ -6,8 +6,8 @@ ghost use Rattle.cdb_base.specs.Event.{event_name};
 ghost use Rattle.cdb_base.specs.Positions.{nth};
 ghost use Rattle.cdb_causal.specs.Dependence.{depends as depends_of};
 ghost use Rattle.cdb_causal.specs.Exchange.{KeepsOrder};
-ghost use Rattle.cdb_same.specs.Come.{AreCounts, AreNumberedUpTo, CausesHaveCome, HasCome, HaveCome, IsCauseToCome, IsNotCome, StandWithin};
-ghost use Rattle.cdb_same.specs.Comparing.{AreTurned, IsComparable};
+ghost use Rattle.cdb_same.specs.Come.{AreCounts, CausesHaveCome, HasCome, HaveCome, IsCauseToCome, IsNotCome, StandWithin};
+ghost use Rattle.cdb_same.specs.Comparing.{AreNumberedUpTo, AreTurned, IsComparable};
 ghost use Rattle.cdb_standing.specs.Moves.{IsStandingName};
 
 use cdb_base::{Event, Proc, StepId};
@@ -54,7 +54,7 @@ fn cause_to_come(
 }
 
 /// The steps of each process are numbered in the order of the history. It does nothing: its contract is what is known.
-fn numbered(history: &History)
+pub fn numbered(history: &History)
     ensures { AreNumberedUpTo history.now 9 }
 {
     for i in 0..9u8 {

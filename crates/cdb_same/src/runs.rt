@@ -14,7 +14,7 @@ use cdb_standing::History;
 use std::alloc::Global;
 
 /// The history of a run, in which events are looked for by their names: the run is played again.
-fn history_of<T: Runs>(alloc: Global, run: &Trace) -> Result<History, NoMemory>
+pub fn history_of<T: Runs>(alloc: Global, run: &Trace) -> Result<History, NoMemory>
     requires { IsInOrder T.rules run.now }
     ensures history { IfOk result (λ history. history ≡ run.now.history) }
     ensures comparable { IfOk result IsComparable }

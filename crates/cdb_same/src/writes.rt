@@ -17,7 +17,7 @@ use cdb_streams::{Bytes, PlayFault, Sink, write_text};
 use std::alloc::Global;
 
 /// The run that a script in memory leaves.
-fn run_of<T: Runs>(alloc: Global, setup: &[u8], script: &[u8]) -> Result<Trace, PlayFault>
+pub fn run_of<T: Runs>(alloc: Global, setup: &[u8], script: &[u8]) -> Result<Trace, PlayFault>
     ensures left { IfOk result (IsRunLeft T.rules setup.now script.now) }
     ensures valid { IfOk result (IsInOrder T.rules) }
     ensures fault { IfErr result (IsFaultOfRun setup.now script.now) }
