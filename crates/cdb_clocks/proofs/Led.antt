@@ -6,12 +6,20 @@ use Rattle.cdb_base.specs.declared.event.Event.TheVariants.{Step}
 use Rattle.cdb_base.specs.declared.event.Kind.{Kind}
 use Rattle.cdb_causal.proofs.PastLaws.{by_direct_causes, turned_round}
 use Rattle.cdb_causal.specs.Causality.{IsDirectCause, IsLink, onward}
-use Rattle.cdb_causal.specs.Dependence.{depends}
+use Rattle.cdb_causal.specs.Dependence.{are_a, depends, loss_and_receive, same_process, send_and_loss, send_and_receive, write_and_access}
 use Rattle.cdb_causal.specs.Past.{HasLedTo, IsInPast, one_link, link_before}
 
-or_true : (a b : Bool) → a ≡ true → (a || b) ≡ true
-or_true true b is = refl
-or_true false b is = absurd (true≢false (sym is))
+first_of_five : (a b c d e : Bool) → a ≡ true → (a || b || c || d || e) ≡ true
+first_of_five true b c d e is = refl
+first_of_five false b c d e is = absurd (true≢false (sym is))
+
+-- two steps of one process depend on each other
+own_depends : (p l k : ℕ) (kind its : Kind) → depends (Step p l kind) (Step p k its) ≡ true
+own_depends p l k kind its =
+    let one : Event = Step p l kind in
+    let other : Event = Step p k its in
+    first_of_five (same_process one other) (are_a send_and_receive one other) (are_a write_and_access one other) (are_a send_and_loss one other) (are_a loss_and_receive one other)
+    (eq-eqb p p refl)
 
 module _ (history : List Event) where
   pub earlier : {j i : ℕ} → IsInPast depends history j i → i < j
@@ -28,7 +36,7 @@ module _ (history : List Event) where
   led_back x k y link (inr past) = inr (link_before link past)
 
   -- a direct cause of an event that something before has led to
-  pub LastCause : ℕ → ℕ → Type 0
+  abbrev pub LastCause : ℕ → ℕ → Type 0
   LastCause at x = (y : ℕ) × IsDirectCause depends history y at × HasLedTo depends history y x
 
   by_last : (n x at : ℕ) → at ≤ x + n → IsInPast depends history at x → LastCause at x
@@ -49,7 +57,4 @@ module _ (history : List Event) where
 
   -- an earlier step of the process has led to a later one
   pub own_led : (x at p l k : ℕ) (kind its : Kind) → x < at → nth history x ≡ Some (Step p l kind) → nth history at ≡ Some (Step p k its) → HasLedTo depends history at x
-  own_led x at p l k kind its less at_x at_it = inr (one_link (record { cause = Step p l kind; effect = Step p k its; later = less; at_cause = at_x; at_effect = at_it; linked = own }))
-    where
-      own : depends (Step p l kind) (Step p k its) ≡ true
-      own = or_true _ _ (eq-eqb p p refl)
+  own_led x at p l k kind its less at_x at_it = inr (one_link (record { cause = Step p l kind; effect = Step p k its; later = less; at_cause = at_x; at_effect = at_it; linked = own_depends p l k kind its }))

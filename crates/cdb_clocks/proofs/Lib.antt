@@ -1,2 +1,4 @@
 pub mod Led
 pub mod Raised
+pub mod Next
+pub mod Told

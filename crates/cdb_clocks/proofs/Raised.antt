@@ -37,7 +37,7 @@ above_second l a b m is less = omega (arith, is, less)
 one_of : (a b m : ℕ) → m ≡ max a b → (m ≡ a) ⊎ (m ≡ b)
 one_of a b m is = grind arith
 
-abbrev name_of_step : Event → ℕ × ℕ
+abbrev pub name_of_step : Event → ℕ × ℕ
 name_of_step (Step p k kind) = (p, k)
 name_of_step (Lost copy) = (0, 0)
 
@@ -109,7 +109,7 @@ module _ (history : List Event) (comparable : IsComparable history) (numbered : 
     past_counted other q l its there apart (inr past) =
         let last = last_cause history other at past in
         let cause = (last.1).link.cause in
-        let named = (cause, (last.1).link.at_cause, refl) in
+        let named : IsNamedAt history last.0 (event_name cause) = (cause, (last.1).link.at_cause, refl) in
         let listed = causes.each (event_name cause) (last.0, last.1, named) in
         has.each listed.0 last.0 (event_name cause) listed.1 named other q l its there last.2
 

@@ -5,11 +5,10 @@ ghost use Rattle.cdb_base.specs.Event.{event_name};
 ghost use Rattle.cdb_base.specs.Positions.{nth};
 ghost use Rattle.cdb_base.specs.declared.event.Event.TheVariants.{Step};
 ghost use Rattle.cdb_base.specs.declared.event.Kind.{Kind};
+ghost use Rattle.cdb_base.specs.declared.name.StepId.TheVariants as named;
 ghost use Rattle.cdb_clocks.specs.Clocks.{AreClocks, IsClock};
 ghost use Rattle.cdb_clocks.specs.Rows.{clock_named, AreKept, GivesNext, IsRaised, IsRaisedBy};
 ghost use Rattle.cdb_same.specs.Comparing.{AreNumberedUpTo, IsComparable};
-
-
 ghost use Rattle.cdb_standing.specs.Moves.{IsStandingName};
 ghost use Rattle.cdb_standing.specs.Tables.{rows_in};
 
@@ -46,25 +45,20 @@ fn raise_to(clock: &mut Clock, rows: &Vec<Vec<Clock>>, name: &StepId)
 }
 
 /// The clock of the next step: it has what has led to its direct causes, and the step itself.
-fn next_clock(
-    alloc: Global,
-    history: &History,
-    rows: &Vec<Vec<Clock>>,
-    step: StepName,
-) -> Clock
+fn next_clock(alloc: Global, history: &History, rows: &Vec<Vec<Clock>>, p: Proc, k: u16) -> Clock
     requires comparable { IsComparable history.now }
     requires numbered { AreNumberedUpTo history.now 9 }
-    requires stands { IsStandingName history.now (StepId.Step step) }
+    requires stands { IsStandingName history.now (named.Step (record { p = p; k = k })) }
     requires rows { length rows.now.items ≡ 9 }
-    ensures { (end : ℕ) (kind : Kind) → nth history.now (suc end) ≡ Some (Step step.p step.k kind) →
+    ensures { (end : ℕ) (kind : Kind) → nth history.now (suc end) ≡ Some (Step p k kind) →
         AreKept history.now end (rows_in rows.now.items) → IsClock history.now (suc end) result }
 {
     let mut clock = [0; 9];
-    let causes = history.direct_causes(alloc, StepId::Step(step));
+    let causes = history.direct_causes(alloc, StepId::Step(StepName { p, k }));
     for cause in causes.as_slice() {
         raise_to(&mut clock, rows, cause);
     }
-    clock[step.p.index()] = step.k;
+    clock[p.index()] = k;
     clock
 }
 
@@ -84,7 +78,7 @@ fn add_next(
 {
     match *event {
         Event::Step { p, k, .. } => {
-            let clock = next_clock(alloc, history, rows, StepName { p, k });
+            let clock = next_clock(alloc, history, rows, p, k);
             add_clock(rows, p, clock)?;
             Ok(clock)
         }

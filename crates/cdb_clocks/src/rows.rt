@@ -1,7 +1,6 @@
 //! The clocks of the steps so far, a row for each process.
 
-ghost use Rattle.std.specs.Prelude.{◌≡◌, ◌<◌, ◌≤◌, Some, length, IfOk, OnOk, MatchOption};
-ghost use Rattle.std.specs.Option.{option_copied};
+ghost use Rattle.std.specs.Prelude.{◌≡◌, ℕ, [], length, IfOk, OnOk};
 ghost use Rattle.cdb_base.specs.Positions.{nth};
 ghost use Rattle.cdb_clocks.specs.Rows.{IsAddedTo};
 ghost use Rattle.cdb_standing.specs.Tables.{rows_in, row_of};
@@ -16,7 +15,7 @@ pub(crate) fn empty_rows(alloc: Global) -> Result<Vec<Vec<Clock>>, NoMemory>
     ensures empty { IfOk result (λ rows. (q : ℕ) → row_of (rows_in rows.items) q ≡ []) }
 {
     let mut rows = Vec::new(alloc);
-    for _i in 0..9 {
+    for _i in 0..9usize {
         rows.push(Vec::new(alloc))?;
     }
     Ok(rows)

@@ -64,11 +64,11 @@ abbrev number_of : StepId → ℕ
 number_of (named.Step step) = step.k
 number_of (named.Lost copy) = 0
 
-its_own : (q l : ℕ) (kind : Kind) → is_step_of q (Step q l kind) ≡ true
+pub its_own : (q l : ℕ) (kind : Kind) → is_step_of q (Step q l kind) ≡ true
 its_own q l kind = eq-eqb q q refl
 
 module _ (history : List Event) (q : ℕ) (numbered : AreNumbered q history) where
-  number_is : (at l : ℕ) (kind : Kind) → nth history at ≡ Some (Step q l kind) → l ≡ rank (is_step_of q) history at
+  pub number_is : (at l : ℕ) (kind : Kind) → nth history at ≡ Some (Step q l kind) → l ≡ rank (is_step_of q) history at
   number_is at l kind stands =
       ap number_of (numbered (rank (is_step_of q) history at) (Step q l kind) (at_rank (is_step_of q) history at (Step q l kind) stands (its_own q l kind)))
 
