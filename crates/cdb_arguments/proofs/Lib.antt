@@ -5,6 +5,7 @@ pub mod PlainWords
 pub mod Values
 pub mod JournalLines
 pub mod SameLines
+pub mod ClockLines
 pub mod Lines
 pub mod Subcommands
 pub mod StepLines

@@ -87,3 +87,7 @@ IsReplayLine words setup journal = IsSubcommandLine (codes "replay") (setup ∷ 
 -- `same SETUP FIRST SECOND`
 abbrev pub IsSameLine : List Text → Text → Text → Text → Type 0
 IsSameLine words setup first second = IsSubcommandLine (codes "same") (setup ∷ first ∷ second ∷ []) words
+
+-- `clocks SETUP SCRIPT`
+abbrev pub IsClocksLine : List Text → Text → Text → Type 0
+IsClocksLine words setup script = IsSubcommandLine (codes "clocks") (setup ∷ script ∷ []) words

@@ -40,6 +40,8 @@ const REPLAY: &str = "Plays a journal again, and prints each reply behind the nu
 const SAME: &str =
     "Plays two scripts, and tells whether they leave the same run; else what tells the runs apart";
 
+const CLOCKS: &str = "Plays a script, and prints what stands with its vector clocks, for ShiViz";
+
 const LINES: &str =
     "Without a subcommand it plays the script on standard input, on one process that proposes 7.
 
@@ -109,11 +111,12 @@ pub(crate) enum Subcommand {
     Debug,
     Replay,
     Same,
+    Clocks,
 }
 
 impl Subcommand {
     /// The subcommands, in the order in which help lists them.
-    pub(crate) const ALL: [Subcommand; 9] = [
+    pub(crate) const ALL: [Subcommand; 10] = [
         Subcommand::Play,
         Subcommand::Race,
         Subcommand::Explain,
@@ -123,6 +126,7 @@ impl Subcommand {
         Subcommand::Debug,
         Subcommand::Replay,
         Subcommand::Same,
+        Subcommand::Clocks,
     ];
 
     fn name<'a>(&self) -> &'a str
@@ -138,6 +142,7 @@ impl Subcommand {
             Subcommand::Debug => "debug",
             Subcommand::Replay => "replay",
             Subcommand::Same => "same",
+            Subcommand::Clocks => "clocks",
         }
     }
 
@@ -152,6 +157,7 @@ impl Subcommand {
             Subcommand::Debug => DEBUG,
             Subcommand::Replay => REPLAY,
             Subcommand::Same => SAME,
+            Subcommand::Clocks => CLOCKS,
         }
     }
 
@@ -160,7 +166,7 @@ impl Subcommand {
         ensures { fold with_argument (new_app (name_of self.now)) result.now ≡ app_named self.now }
     {
         match self {
-            Subcommand::Play => &[Argument::Setup, Argument::Script],
+            Subcommand::Play | Subcommand::Clocks => &[Argument::Setup, Argument::Script],
             Subcommand::Race => &[Argument::Setup, Argument::Turns, Argument::Scripts],
             Subcommand::Explain | Subcommand::Trail => &[
                 Argument::Setup,

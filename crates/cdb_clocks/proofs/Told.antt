@@ -1,11 +1,9 @@
 -- What two clocks tell of their events.
-use Rattle.std.proofs.Common.{◌≡◌, ℕ, ◌≤◌, ◌↔◌, inl, inr, ⊎_elim, List, Some, refl, arith}
+use Rattle.std.proofs.Common.{◌≡◌, ℕ, ◌↔◌, inl, inr, ⊎_elim, List, Some, refl, arith}
 use Rattle.cdb_base.specs.Positions.{nth}
 use Rattle.cdb_base.specs.declared.event.Event.{Event}
 use Rattle.cdb_base.specs.declared.event.Event.TheVariants.{Step}
 use Rattle.cdb_base.specs.declared.event.Kind.{Kind}
-use Rattle.cdb_causal.proofs.PastLaws.{turned_round}
-use Rattle.cdb_causal.specs.Causality.{IsConsequence, IsLink, direct, onward}
 use Rattle.cdb_causal.specs.Dependence.{depends}
 use Rattle.cdb_causal.specs.Past.{HasLedTo, IsInPast, one_link, link_before}
 use Rattle.cdb_clocks.specs.Clocks.{IsClock, IsUpTo}

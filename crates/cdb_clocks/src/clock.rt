@@ -89,7 +89,8 @@ fn add_next(
 /// The clocks of the events of a history, each by those of its direct causes; that of a loss has nothing.
 pub(crate) fn clocks_of(alloc: Global, history: &History) -> Result<Vec<Clock>, NoMemory>
     requires { IsComparable history.now }
-    ensures { IfOk result (λ clocks. AreClocks history.now clocks.items) }
+    ensures clocks { IfOk result (λ clocks. AreClocks history.now clocks.items) }
+    ensures number { IfOk result (λ clocks. length clocks.items ≡ length history.now) }
 {
     numbered(history);
     let events = history.to_vec(alloc)?;

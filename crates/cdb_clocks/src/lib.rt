@@ -9,5 +9,8 @@
 mod clock;
 pub mod laws;
 mod rows;
+mod text;
+mod writes;
 
 pub use clock::Clock;
+pub use writes::clocks;

@@ -13,6 +13,8 @@ use Rattle.cdb_agreement.specs.SameState.{ReachSameState}
 use Rattle.cdb_setup.specs.declared.fault.SetupFault.{SetupFault}
 use Rattle.cdb_journal.specs.Replays.{IsFaultOfReplay, Replays, TellsAgain}
 use Rattle.cdb_same.specs.Same.{same_ending, ComparesText, IsFaultOfSame, TellsSame}
+use Rattle.cdb_clocks.specs.Told.{clocks_ending, IsFaultOfClocks, WritesClocks}
+use Rattle.cdb_program.specs.Clocks.{AreWritten}
 use Rattle.cdb_program.specs.Comparing.{IsCompared}
 use Rattle.cdb_program.specs.Playing.{IsPlay}
 use Rattle.cdb_program.specs.Replaying.{IsReplay}
@@ -61,3 +63,9 @@ pub compared_seen : {W : Type 0} (writer : W → Stream) (json first second : Li
     → IfOk told (TellsSame rules json first second) → IfErr told (IsFaultOfSame json first second) → IsCompared json first second told (writer old) (writer new)
 compared_seen writer json first second told old new wrote same fault =
     record { wrote = stream_written writer (same_ending told) old new (ComparesText rules json first second) wrote; same = same; fault = fault }
+
+-- and what the writing of clocks says of it
+pub clocks_seen : {W : Type 0} (writer : W → Stream) (json script : List ℕ) (written : Result (Unit {0}) PlayFault) (old new : W) → IsWritten writer (clocks_ending written) old new (WritesClocks rules json script)
+    → IfErr written (IsFaultOfClocks json script) → AreWritten json script written (writer old) (writer new)
+clocks_seen writer json script written old new wrote fault =
+    record { wrote = stream_written writer (clocks_ending written) old new (WritesClocks rules json script) wrote; fault = fault }

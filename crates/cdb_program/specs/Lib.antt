@@ -9,6 +9,7 @@ pub mod Racing
 pub mod Questions
 pub mod Replaying
 pub mod Comparing
+pub mod Clocks
 pub mod Debugging
 pub mod Seating
 pub mod Requests

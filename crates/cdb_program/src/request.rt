@@ -3,6 +3,7 @@
 ghost use Rattle.std.specs.Prelude.{◌≡◌, ◌≤◌};
 ghost use Rattle.cdb_program.specs.Requests.{Does, IsAlone, Performs, PerformsAlone, Prints, HasTurns};
 
+use crate::clocks::clock_files;
 use crate::compares::compare_files;
 use crate::debugs::debug_file;
 use crate::fault::Fault;
@@ -68,6 +69,11 @@ pub enum Request<'a> {
         first: &'a str,
         second: &'a str,
     },
+    /// Writes the clocks of the run that a script file leaves on a setup file.
+    Clocks {
+        setup: &'a str,
+        script: &'a str,
+    },
     /// Writes a text to standard output.
     Print(&'a str),
     /// Does nothing, and reports this fault.
@@ -121,6 +127,7 @@ fn carry_out<
             first,
             second,
         } => compare_files(alloc, setup, first, second, outside),
+        Request::Clocks { setup, script } => clock_files(alloc, setup, script, outside),
         Request::Print(text) => print(text, &mut outside.streams.output),
         Request::Refuse(fault) => Err(fault),
     }

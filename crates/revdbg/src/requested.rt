@@ -91,6 +91,7 @@ fn request_of<'a>(asked: &'a Asked<'a>, prompt: &'a str) -> Request<'a>
             first,
             second,
         },
+        Asked::Clocks { setup, script } => Request::Clocks { setup, script },
         Asked::Debug { setup, seats } if seats.is_empty() => Request::Debug { setup, prompt },
         Asked::Debug { setup, seats } => Request::DebugShared {
             setup,

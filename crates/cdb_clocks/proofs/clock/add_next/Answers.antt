@@ -1,6 +1,6 @@
-use Rattle.std.proofs.Common.{◌≡◌, ℕ, suc, List, Some, replicate, refl, sym, ap, ◌∙◌, subst}
+use Rattle.std.proofs.Common.{◌≡◌, suc, Some, replicate, sym, ap, ◌∙◌, subst}
 use Rattle.cdb_base.specs.Positions.{nth}
-use Rattle.cdb_base.specs.declared.event.Event.TheVariants.{Step, Lost}
+use Rattle.cdb_base.specs.declared.event.Event.TheVariants.{Step}
 use Rattle.cdb_clocks.proofs.Next.{kept_at_loss, kept_at_step}
 use Rattle.cdb_clocks.specs.Rows.{IsClockIfStep}
 use Rattle.cdb_standing.specs.Tables.{rows_in}

@@ -1,9 +1,8 @@
-use Rattle.std.proofs.Common.{◌≡◌, ℕ, suc, ◌+◌, ◌≤◌, List, [], ◌∷◌, ◌++◌, Some, length, slice_get, refl, sym, ap, ◌∙◌, subst, ⊎_elim, length-append, arith}
-use Rattle.std.proofs.lemmas.Option.{same_Some, slice_get_within}
+use Rattle.std.proofs.Common.{◌≡◌, ℕ, suc, ◌+◌, List, [], ◌∷◌, ◌++◌, Some, length, refl, sym, ap, ◌∙◌, subst, ⊎_elim, length-append, arith}
+use Rattle.std.proofs.lemmas.Option.{same_Some}
 use Rattle.cdb_base.specs.Positions.{nth}
 use Rattle.cdb_base.specs.declared.event.Event.{Event}
 use Rattle.cdb_base.specs.declared.event.Event.TheVariants.{Step}
-use Rattle.cdb_base.specs.declared.event.Kind.{Kind}
 use Rattle.cdb_causal.proofs.Lists.{nth_front, nth_within}
 use Rattle.cdb_clocks.proofs.Next.{at_end, last_position, no_rows_kept, stands_from}
 use Rattle.cdb_clocks.specs.Clocks.{IsClock}
@@ -53,9 +52,16 @@ loop-event-preserved c =
           (last_position at i (omega (arith, few)));
     }
 
-pub returns : goal.returns
-returns c = λ at p k kind there.
+pub returns-clause-clocks : goal.returns-clause-clocks
+returns-clause-clocks c = λ at p k kind there.
     let within = nth_within c.args.history.now at (Step p k kind) there in
     let end = c.loop-event-test.false in
     let same = ap length (c.as_slice-event-items.ensures.value ∙ c.in_ok-events.ensures) in
     c.loop-event.invariant.clocks at p k kind there (omega (arith, within, end, same))
+
+pub returns-clause-number : goal.returns-clause-number
+returns-clause-number c =
+    let end = c.loop-event-test.false in
+    let most = c.loop-event.auto.event-index-end in
+    let number = c.loop-event.invariant.number in
+    omega (arith, end, most, number, ap length (c.as_slice-event-items.ensures.value ∙ c.in_ok-events.ensures))

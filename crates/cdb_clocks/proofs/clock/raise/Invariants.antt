@@ -1,4 +1,4 @@
-use Rattle.std.proofs.Common.{◌≡◌, ℕ, ◌<◌, ◌≤◌, length, max}
+use Rattle.std.proofs.Common.{◌≡◌, ℕ, ◌<◌, ◌≤◌, max}
 use Rattle.cdb_standing.specs.Cuts.{cut_of as count_of}
 use Rattle.cdb_clocks.proofs.clock.raise.Given as goal
 

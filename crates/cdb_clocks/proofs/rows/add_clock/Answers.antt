@@ -1,4 +1,4 @@
-use Rattle.std.proofs.Common.{◌≡◌, ℕ, ◌<◌, length, subst, arith}
+use Rattle.std.proofs.Common.{ℕ, ◌<◌, length, subst, arith}
 use Rattle.cdb_standing.specs.Tables.{rows_in, IsPutOn}
 use Rattle.cdb_standing.proofs.Setting.{put_set}
 use Rattle.std.specs.Prelude.{slice_set}
