@@ -3,5 +3,6 @@ pub mod Led
 pub mod Raised
 pub mod Next
 pub mod Told
+pub mod Counts
 -- the text
 pub mod Lines

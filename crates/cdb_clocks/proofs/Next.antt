@@ -18,10 +18,10 @@ use Rattle.cdb_standing.specs.Tables.{row_of, IsPutOn}
 
 module _ {E : Type 0} (test : E → Bool) where
   -- how many of the first ones pass
-  abbrev passing : List E → ℕ → ℕ
+  abbrev pub passing : List E → ℕ → ℕ
   passing xs i = length (filter test (take i xs))
 
-  next_passes : (xs : List E) (i : ℕ) (x : E) → slice_get xs i ≡ Some x → test x ≡ true → passing xs (suc i) ≡ suc (passing xs i)
+  pub next_passes : (xs : List E) (i : ℕ) (x : E) → slice_get xs i ≡ Some x → test x ≡ true → passing xs (suc i) ≡ suc (passing xs i)
   next_passes [] i x stands passes = absurd (none-some x stands)
   next_passes (y ∷ ys) zero x stands passes = rw (ap test (same_Some y x stands) ∙ passes) refl
   next_passes (y ∷ ys) (suc i) x stands passes =
@@ -31,7 +31,7 @@ module _ {E : Type 0} (test : E → Bool) where
         | inr is ↦ rw is again
       ]
 
-  next_fails : (xs : List E) (i : ℕ) (x : E) → slice_get xs i ≡ Some x → test x ≡ false → passing xs (suc i) ≡ passing xs i
+  pub next_fails : (xs : List E) (i : ℕ) (x : E) → slice_get xs i ≡ Some x → test x ≡ false → passing xs (suc i) ≡ passing xs i
   next_fails [] i x stands fails = absurd (none-some x stands)
   next_fails (y ∷ ys) zero x stands fails = rw (ap test (same_Some y x stands) ∙ fails) refl
   next_fails (y ∷ ys) (suc i) x stands fails =
