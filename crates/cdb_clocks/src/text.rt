@@ -3,14 +3,14 @@
 ghost use Rattle.std.specs.Prelude.{◌≡◌, ◌≤◌, ◌++◌, Bool, suc, IfOk, OnOk, length};
 ghost use Rattle.cdb_clocks.specs.Clocks.{AreClocks};
 ghost use Rattle.cdb_clocks.specs.Texts.{clock_text, comma_text, entries_text, entry_text, first_lines, step_text, IsClocksText};
-ghost use Rattle.cdb_deeds.specs.Deeds.{deed_in};
+ghost use Rattle.cdb_deeds.specs.Deeds.{deed_in, received_by_each};
 ghost use Rattle.cdb_rules.specs.ByRules.{IsInOrder};
 ghost use Rattle.cdb_rules.specs.Runs.{with_event};
 ghost use Rattle.cdb_text.specs.Pushes.{Pushes};
 
 use crate::clock::{Clock, clocks_of};
 use cdb_base::{Event, NoMemory, Proc};
-use cdb_deeds::{Deed, Telling};
+use cdb_deeds::{Deed, ReceivedNames, Telling};
 use cdb_explain::{Causes, fresh, push_whole, take_next};
 use cdb_rules::{Runs, Trace};
 use cdb_same::history_of;
@@ -82,17 +82,17 @@ fn push_next<T: Telling>(
     alloc: Global,
     text: &mut String,
     again: &mut T,
-    history: &[Event],
+    names: &ReceivedNames,
     event: &Event,
     clock: &Clock,
 ) -> Result<(), NoMemory>
-    requires history { history.now ≡ (T.run again.old).history }
+    requires names { names.now ≡ received_by_each (T.run again.old).history }
     requires next { IsInOrder T.rules (with_event (T.run again.old) event.now) }
     ensures taken { OnOk result (T.run again.new ≡ with_event (T.run again.old) event.now) }
     ensures lines { Pushes result text.old text.new
         (step_text T.rules (T.run again.new) (deed_in (T.run again.old) event.now) clock.now event.now) }
 {
-    let deed = again.deed(alloc, history, event)?;
+    let deed = again.deed(alloc, names, event)?;
     take_next(alloc, again, event)?;
     push_step(alloc, text, &deed, again, event, clock)?;
     Ok(())
@@ -113,15 +113,11 @@ fn push_lines<T: Telling>(
     // Its clause says that the parts of the setup are in range.
     let _ranges = run.setup().n();
     let events = run.events();
+    let mut names = ReceivedNames::none(alloc)?;
     for i in 0..events.len() {
-        push_next(
-            alloc,
-            text,
-            &mut again,
-            &events[..i],
-            &events[i],
-            &clocks[i],
-        )?;
+        let event = &events[i];
+        push_next(alloc, text, &mut again, &names, event, &clocks[i])?;
+        names.add(event)?;
     }
     Ok(())
 }

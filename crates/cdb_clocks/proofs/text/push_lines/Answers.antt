@@ -1,7 +1,7 @@
 use Rattle.std.proofs.lemmas.Option.{slice_get-get_or}
-use Rattle.std.proofs.Common.{ℕ, List, [], get_or, ◌<◌, length, string_bytes, ap, arith}
+use Rattle.std.proofs.Common.{ℕ, List, [], ◌∙◌, get_or, ◌<◌, length, string_bytes, sym, ap, arith}
 use Rattle.cdb_base.specs.declared.event.Event.{Event}
-use Rattle.cdb_deeds.specs.Deeds.{deed_in}
+use Rattle.cdb_deeds.specs.Deeds.{deed_in, received_by_each}
 use Rattle.cdb_explain.proofs.Along.{next_valid, next_along, its_line}
 use Rattle.cdb_explain.specs.declared.line.Causes.TheVariants.{Shown}
 use Rattle.cdb_rules.proofs.Flagged.{item_at}
@@ -33,7 +33,9 @@ loop-i-preserved g c =
     let added = c.in_ok-push_next.ensures.lines in
     let within : i < length c.args.clocks.now = (let test = c.loop-i-test.true in omega (arith, test, ap length c.events-events.ensures, c.requires.a_clock_each)) in
     let clock : List ℕ = get_or c.args.clocks.now i [] in
+    let kept = c.in_ok-add.ensures (g.T.Runs.run c.loop-i.again).history so.names in
     record {
+      names = kept ∙ ap (λ (r : RunView). received_by_each r.history) (sym taken);
       again = next_along g.T.Runs.rules g.T.Runs.same_state g.met.T.Runs.histories run i event at _ so.again later taken;
       text =
           text_more g.T.Runs.rules run c.args.clocks.now i (string_bytes c.args.text.now) (string_bytes c.loop-i.text) (string_bytes c.push_next.new.text) _ so.text added
