@@ -10,7 +10,7 @@ use Rattle.std.proofs.lemmas.Option.{none-some}
 use Rattle.clap.specs.Values.{IsSignedIn}
 use Rattle.cdb_arguments.proofs.PlainWords.{is_no_minus}
 use Rattle.std.proofs.lemmas.Result.{IfOk-weaker}
-use Rattle.clap.specs.Words.{Row, Text, first_of, subcommand_of, takes}
+use Rattle.clap.specs.Words.{Row, Text, subcommand_of, takes}
 use Rattle.clap.specs.declared.builder.value_parser.ValueParser.TheVariants as vp
 use Rattle.clap.proofs.ValueTestLemmas.{Accepts-accepts}
 use Rattle.cdb_arguments.specs.Asking.{HasStepOf, IsAnyStepIn, IsStepIn, NamesAsked, IsRequest, IsPlayOf, IsQuestionOf, IsRaceOf, IsDebugOf, IsReplayOf, IsSameOf, IsClocksOf, IsSearchOf, IsTurns, IsNumber, IsNumberOf, text_at, texts_at}
@@ -80,17 +80,77 @@ record Differs (question : Question) : Type 0 where
 
 differs : (question : Question) → Differs question
 differs (Explain step) =
-    record { play = refl; race = refl; debug = refl; replay = refl; search = refl; same = refl; clocks = refl; from_play = refl; from_race = refl; from_debug = refl;
-      from_replay = refl; from_search = refl; from_same = refl; from_clocks = refl; own = refl }
+    record {
+      play = refl;
+      race = refl;
+      debug = refl;
+      replay = refl;
+      search = refl;
+      same = refl;
+      clocks = refl;
+      from_play = refl;
+      from_race = refl;
+      from_debug = refl;
+      from_replay = refl;
+      from_search = refl;
+      from_same = refl;
+      from_clocks = refl;
+      own = refl;
+    }
 differs (Trail step) =
-    record { play = refl; race = refl; debug = refl; replay = refl; search = refl; same = refl; clocks = refl; from_play = refl; from_race = refl; from_debug = refl;
-      from_replay = refl; from_search = refl; from_same = refl; from_clocks = refl; own = refl }
+    record {
+      play = refl;
+      race = refl;
+      debug = refl;
+      replay = refl;
+      search = refl;
+      same = refl;
+      clocks = refl;
+      from_play = refl;
+      from_race = refl;
+      from_debug = refl;
+      from_replay = refl;
+      from_search = refl;
+      from_same = refl;
+      from_clocks = refl;
+      own = refl;
+    }
 differs (Draw step) =
-    record { play = refl; race = refl; debug = refl; replay = refl; search = refl; same = refl; clocks = refl; from_play = refl; from_race = refl; from_debug = refl;
-      from_replay = refl; from_search = refl; from_same = refl; from_clocks = refl; own = refl }
+    record {
+      play = refl;
+      race = refl;
+      debug = refl;
+      replay = refl;
+      search = refl;
+      same = refl;
+      clocks = refl;
+      from_play = refl;
+      from_race = refl;
+      from_debug = refl;
+      from_replay = refl;
+      from_search = refl;
+      from_same = refl;
+      from_clocks = refl;
+      own = refl;
+    }
 differs (Slice step) =
-    record { play = refl; race = refl; debug = refl; replay = refl; search = refl; same = refl; clocks = refl; from_play = refl; from_race = refl; from_debug = refl;
-      from_replay = refl; from_search = refl; from_same = refl; from_clocks = refl; own = refl }
+    record {
+      play = refl;
+      race = refl;
+      debug = refl;
+      replay = refl;
+      search = refl;
+      same = refl;
+      clocks = refl;
+      from_play = refl;
+      from_race = refl;
+      from_debug = refl;
+      from_replay = refl;
+      from_search = refl;
+      from_same = refl;
+      from_clocks = refl;
+      own = refl;
+    }
 
 play_is : (found : Option (Text × List Row)) (rows : List Row) (setup script : Text) (asked : Asked) → found ≡ Some (codes "play", rows)
     → PlayRows setup script rows → NamesAsked found asked → IsPlayOf setup script asked
