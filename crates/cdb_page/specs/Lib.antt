@@ -1,0 +1,5 @@
+-- what a reader of the contracts believes
+pub mod Listed
+pub mod Entries
+pub mod Pages
+pub mod Written
