@@ -10,8 +10,8 @@ use Rattle.cdb_arguments.specs.declared.request.AskFault.{AskFault}
 use Rattle.cdb_base.specs.Memory.{no_memory}
 use Rattle.cdb_arguments.specs.declared.request.AskFault.TheVariants.{Words, NoMemory}
 use Rattle.cdb_arguments.specs.declared.request.Asked.{Asked}
-use Rattle.cdb_arguments.specs.declared.request.Asked.TheVariants.{Script, Play, Race, Ask, Debug, Replay}
-use Rattle.cdb_arguments.specs.Plain.{IsDebugLine, IsPlayLine, IsQuestionLine, IsRaceLine, IsReplayLine, WritesNumber, question_name}
+use Rattle.cdb_arguments.specs.declared.request.Asked.TheVariants.{Script, Play, Race, Ask, Debug, Replay, Page}
+use Rattle.cdb_arguments.specs.Plain.{IsDebugLine, IsPageLine, IsPlayLine, IsQuestionLine, IsRaceLine, IsReplayLine, WritesNumber, question_name}
 use Rattle.cdb_base.specs.declared.question.Question.{Question}
 use Rattle.cdb_base.specs.declared.question.Question.TheVariants.{Explain, Trail, Draw, Slice}
 use Rattle.cdb_base.specs.declared.question.StepAsked.{StepAsked}
@@ -25,7 +25,7 @@ abbrev pub NamesOne : Option (Text × List Row) → Type 0
 NamesOne None = Unit {0}
 NamesOne (Some found) = (found.0 ≡ codes "play") ⊎ ((found.0 ≡ codes "race")
     ⊎ ((found.0 ≡ codes "explain") ⊎ ((found.0 ≡ codes "trail") ⊎ ((found.0 ≡ codes "draw")
-    ⊎ ((found.0 ≡ codes "slice") ⊎ ((found.0 ≡ codes "debug") ⊎ (found.0 ≡ codes "replay")))))))
+    ⊎ ((found.0 ≡ codes "slice") ⊎ ((found.0 ≡ codes "debug") ⊎ ((found.0 ≡ codes "replay") ⊎ (found.0 ≡ codes "page"))))))))
 
 -- the text of an argument, which is empty where the matches have none
 abbrev pub text_at : Text → List Row → Text
@@ -85,6 +85,8 @@ NamesAsked found (Debug setup seats) =
 NamesAsked found (Replay setup journal) =
     (rows : List Row) × (found ≡ Some (codes "replay", rows)) × (setup.now ≡ text_at (codes "SETUP") rows)
     × (journal.now ≡ text_at (codes "JOURNAL") rows)
+NamesAsked found (Page setup script) =
+    (rows : List Row) × (found ≡ Some (codes "page", rows)) × (setup.now ≡ text_at (codes "SETUP") rows) × (script.now ≡ text_at (codes "SCRIPT") rows)
 
 -- a play of these two files
 abbrev pub IsPlayOf : Text → Text → Asked → Type 0
@@ -113,6 +115,11 @@ abbrev pub IsReplayOf : Text → Text → Asked → Type 0
 IsReplayOf setup journal (Replay its_setup its_journal) = (its_setup.now ≡ setup) × (its_journal.now ≡ journal)
 IsReplayOf setup journal asked = ⊥
 
+-- a page of the run of these two files
+abbrev pub IsPageOf : Text → Text → Asked → Type 0
+IsPageOf setup script (Page its_setup its_script) = (its_setup.now ≡ setup) × (its_script.now ≡ script)
+IsPageOf setup script asked = ⊥
+
 -- what was asked for, or no memory to say it
 abbrev pub IsRequest : Result Asked AskFault → (Asked → Type 0) → Type 0
 IsRequest result IsIt = IfOk result IsIt × IfErr result (λ fault. fault ≡ NoMemory no_memory)
@@ -138,6 +145,10 @@ AsksForDebug result words =
 abbrev pub AsksForReplay : Result Asked AskFault → List Text → Type 0
 AsksForReplay result words =
     (setup journal : Text) → IsReplayLine words setup journal → IsRequest result (IsReplayOf setup journal)
+
+abbrev pub AsksForPage : Result Asked AskFault → List Text → Type 0
+AsksForPage result words =
+    (setup script : Text) → IsPageLine words setup script → IsRequest result (IsPageOf setup script)
 
 -- out of memory, or an error of one of the kinds
 abbrev pub IsOfKinds : Kinds → AskFault → Type 0

@@ -83,3 +83,7 @@ IsDebugLine words setup seats = IsSubcommandLine (codes "debug") (setup ∷ seat
 -- `replay SETUP JOURNAL`
 abbrev pub IsReplayLine : List Text → Text → Text → Type 0
 IsReplayLine words setup journal = IsSubcommandLine (codes "replay") (setup ∷ journal ∷ []) words
+
+-- `page SETUP SCRIPT`
+abbrev pub IsPageLine : List Text → Text → Text → Type 0
+IsPageLine words setup script = IsSubcommandLine (codes "page") (setup ∷ script ∷ []) words

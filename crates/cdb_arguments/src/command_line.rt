@@ -37,6 +37,8 @@ const DEBUG: &str = "Carries each command out before the next is read, for one u
 
 const REPLAY: &str = "Plays a journal again, and prints each reply behind the number of its seat";
 
+const PAGE: &str = "Plays a script, and prints a page of the run for a browser, with each event's past and trail";
+
 const LINES: &str =
     "Without a subcommand it plays the script on standard input, on one process that proposes 7.
 
@@ -102,11 +104,12 @@ pub(crate) enum Subcommand {
     Slice,
     Debug,
     Replay,
+    Page,
 }
 
 impl Subcommand {
     /// The subcommands, in the order in which help lists them.
-    pub(crate) const ALL: [Subcommand; 8] = [
+    pub(crate) const ALL: [Subcommand; 9] = [
         Subcommand::Play,
         Subcommand::Race,
         Subcommand::Explain,
@@ -115,6 +118,7 @@ impl Subcommand {
         Subcommand::Slice,
         Subcommand::Debug,
         Subcommand::Replay,
+        Subcommand::Page,
     ];
 
     fn name<'a>(&self) -> &'a str
@@ -129,6 +133,7 @@ impl Subcommand {
             Subcommand::Slice => "slice",
             Subcommand::Debug => "debug",
             Subcommand::Replay => "replay",
+            Subcommand::Page => "page",
         }
     }
 
@@ -142,6 +147,7 @@ impl Subcommand {
             Subcommand::Slice => SLICE,
             Subcommand::Debug => DEBUG,
             Subcommand::Replay => REPLAY,
+            Subcommand::Page => PAGE,
         }
     }
 
@@ -150,7 +156,7 @@ impl Subcommand {
         ensures { fold with_argument (new_app (name_of self.now)) result.now ≡ app_named self.now }
     {
         match self {
-            Subcommand::Play => &[Argument::Setup, Argument::Script],
+            Subcommand::Play | Subcommand::Page => &[Argument::Setup, Argument::Script],
             Subcommand::Race => &[Argument::Setup, Argument::Turns, Argument::Scripts],
             Subcommand::Explain | Subcommand::Trail => &[
                 Argument::Setup,

@@ -4,7 +4,7 @@ ghost use Rattle.std.specs.Prelude.{◌≡◌, OnOk, IfOk, IfErr, Some, [], true
 ghost use Rattle.clap.specs.Words.{Kinds, Text, HasKind, fault_of, found_of, kind_of, rows_of, subcommand_of, subcommand_rows_of, takes};
 ghost use Rattle.cdb_base.specs.Memory.{no_memory};
 ghost use Rattle.cdb_arguments.specs.CommandLine.{program};
-ghost use Rattle.cdb_arguments.specs.Asking.{HasStepOf, IsAnyStepIn, IsStepIn, NamesOne, IsTurns, IsNumber, IsNumberAt, text_at, texts, texts_at, NamesAsked, IsOfKinds, IsRequest, AsksForPlay, AsksForRace, AsksQuestion, AsksForDebug, AsksForReplay, ask_status_of, words_status};
+ghost use Rattle.cdb_arguments.specs.Asking.{HasStepOf, IsAnyStepIn, IsStepIn, NamesOne, IsTurns, IsNumber, IsNumberAt, text_at, texts, texts_at, NamesAsked, IsOfKinds, IsRequest, AsksForPlay, AsksForRace, AsksQuestion, AsksForDebug, AsksForReplay, AsksForPage, ask_status_of, words_status};
 ghost use Rattle.cdb_arguments.specs.Plain.{IsNameAlone, question_name};
 
 use crate::command_line::program;
@@ -171,6 +171,16 @@ fn replay_of<'a>(found: &ArgMatches<'a>) -> Asked<'a>
     }
 }
 
+/// A page of the run of two files.
+fn page_of<'a>(found: &ArgMatches<'a>) -> Asked<'a>
+    ensures { NamesAsked (Some (codes "page", rows_of (found_of found.now))) result }
+{
+    Asked::Page {
+        setup: text_of(found, "SETUP"),
+        script: text_of(found, "SCRIPT"),
+    }
+}
+
 /// What the matches of a subcommand of this name ask for.
 fn asked_under<'a>(
     alloc: Global,
@@ -188,6 +198,7 @@ fn asked_under<'a>(
         "slice" => Ok(question_of(found, Question::Slice(any_step_of(found)))),
         "debug" => debug_of(alloc, found),
         "replay" => Ok(replay_of(found)),
+        "page" => Ok(page_of(found)),
         _ => race_of(alloc, found),
     }
 }
@@ -241,8 +252,8 @@ fn read<'a>(alloc: Global, words: &'a [&'a str]) -> Result<Asked<'a>, AskFault>
 /// script on standard input, `play SETUP SCRIPT` for a play, `race SETUP TURNS SCRIPT..` for a race,
 /// `explain SETUP SCRIPT P [K]` for what led to a step, `trail SETUP SCRIPT P [K]` for the trail of a value to it,
 /// `draw SETUP SCRIPT [P [K]]` for a picture, `slice SETUP SCRIPT [P [K]]` for a script, `debug SETUP [SEAT..]` for a
-/// session that goes on line by line, `replay SETUP JOURNAL` for a journal that is played again. P and K are numbers of 1
-/// to 999,999.
+/// session that goes on line by line, `replay SETUP JOURNAL` for a journal that is played again, `page SETUP SCRIPT` for a
+/// page. P and K are numbers of 1 to 999,999.
 ///
 /// # Errors
 /// `Words` with `clap`'s error for arguments that the command line does not take, and for those alone; the error is
@@ -266,6 +277,7 @@ pub fn asked<'a>(alloc: Global, words: &'a [&'a str]) -> Result<Asked<'a>, AskFa
     ensures question { AsksQuestion result (texts words.entry.now) }
     ensures debug { AsksForDebug result (texts words.entry.now) }
     ensures replay { AsksForReplay result (texts words.entry.now) }
+    ensures page { AsksForPage result (texts words.entry.now) }
 {
     read(alloc, words)
 }
