@@ -3,3 +3,4 @@ pub mod Listed
 pub mod Entries
 pub mod Pages
 pub mod Written
+pub mod Followed

@@ -5,6 +5,7 @@ use Rattle.cdb_streams.specs.declared.fault.PlayFault.TheVariants.{Write}
 use Rattle.cdb_program.specs.Debugging.{DebugsFile}
 use Rattle.cdb_program.specs.Known.{Seen}
 use Rattle.cdb_program.specs.Outcomes.{RequestEnd}
+use Rattle.cdb_program.specs.Paging.{PagesFiles}
 use Rattle.cdb_program.specs.Playing.{PlaysInput, PlaysFiles}
 use Rattle.cdb_program.specs.Questions.{AsksFiles}
 use Rattle.cdb_program.specs.Racing.{RacesFiles}
@@ -47,6 +48,7 @@ Does (request.Ask setup script question) old new outcome = AsksFiles setup.now s
 Does (request.Debug setup prompt) old new outcome = DebugsFile setup.now prompt.now old new outcome
 Does (request.DebugShared setup seats) old new outcome = ⊥
 Does (request.Replay setup journal) old new outcome = ReplaysFiles setup.now journal.now old new outcome
+Does (request.Page setup script) old new outcome = PagesFiles setup.now script.now old new outcome
 Does (request.Print text) old new outcome = ReadsNothing old new × Prints text.now old.output new.output outcome
 Does (request.Refuse fault) old new outcome = ReadsNothing old new × (new.output ≡ old.output) × (outcome ≡ Err fault)
 

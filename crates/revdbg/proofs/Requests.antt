@@ -5,7 +5,7 @@ use Rattle.revdbg.specs.declared.requested.Unread.{Unread}
 use Rattle.revdbg.specs.declared.requested.Unread.TheVariants as unread
 use Rattle.cdb_base.specs.declared.question.Question.{Question}
 use Rattle.clap.specs.Words.{Text}
-use Rattle.cdb_arguments.specs.Asking.{IsDebugOf, IsOfKinds, IsPlayOf, IsQuestionOf, IsRaceOf, IsReplayOf}
+use Rattle.cdb_arguments.specs.Asking.{IsDebugOf, IsOfKinds, IsPageOf, IsPlayOf, IsQuestionOf, IsRaceOf, IsReplayOf}
 use Rattle.cdb_arguments.specs.declared.request.AskFault.{AskFault}
 use Rattle.cdb_arguments.specs.declared.request.AskFault.TheVariants as fault_of_asking
 use Rattle.cdb_arguments.specs.declared.request.Asked.{Asked}
@@ -14,8 +14,8 @@ use Rattle.cdb_streams.specs.declared.fault.PlayFault.TheVariants as play
 use Rattle.cdb_program.specs.Known.{Seen}
 use Rattle.cdb_program.specs.declared.fault.Fault.TheVariants as fault
 use Rattle.cdb_program.specs.declared.request.Request.{Request}
-use Rattle.cdb_program.specs.declared.request.Request.TheVariants.{Script, Play, Race, Ask, Debug, DebugShared, Replay, Print, Refuse}
-use Rattle.revdbg.specs.Requested.{IsAskedBy, IsDebugRequest, IsOutOfMemory, IsPlayRequest, IsQuestionRequest, IsRaceRequest, IsReplayRequest, IsRequestOf, IsRefusal, IsUnread, OrOutOfMemory, PerformsOne}
+use Rattle.cdb_program.specs.declared.request.Request.TheVariants.{Script, Play, Race, Ask, Debug, DebugShared, Replay, Page, Print, Refuse}
+use Rattle.revdbg.specs.Requested.{IsAskedBy, IsDebugRequest, IsOutOfMemory, IsPageRequest, IsPlayRequest, IsQuestionRequest, IsRaceRequest, IsReplayRequest, IsRequestOf, IsRefusal, IsUnread, OrOutOfMemory, PerformsOne}
 
 -- where nothing can be wrong with the arguments, an allocation failed
 no_refusal : (request : Request) → IsRefusal [] request → ⊥
@@ -31,6 +31,7 @@ no_refusal (Ask setup script question) is = is
 no_refusal (Debug setup prompt) is = is
 no_refusal (DebugShared setup seats) is = is
 no_refusal (Replay setup journal) is = is
+no_refusal (Page setup script) is = is
 no_refusal (Refuse fault.NoStep) is = is
 no_refusal (Refuse fault.NoValue) is = is
 
@@ -52,6 +53,7 @@ module _ (prompt : Text) where
   play_request setup script asked.Script is request of_it = absurd is
   play_request setup script (asked.Debug a seats) is request of_it = absurd is
   play_request setup script (asked.Replay a b) is request of_it = absurd is
+  play_request setup script (asked.Page a b) is request of_it = absurd is
   play_request setup script (asked.Race a n b) is request of_it = absurd is
   play_request setup script (asked.Ask a b q) is request of_it = absurd is
 
@@ -60,6 +62,7 @@ module _ (prompt : Text) where
   race_request setup turns scripts asked.Script is request of_it = absurd is
   race_request setup turns scripts (asked.Debug a seats) is request of_it = absurd is
   race_request setup turns scripts (asked.Replay a b) is request of_it = absurd is
+  race_request setup turns scripts (asked.Page a b) is request of_it = absurd is
   race_request setup turns scripts (asked.Play a b) is request of_it = absurd is
   race_request setup turns scripts (asked.Ask a b q) is request of_it = absurd is
 
@@ -70,12 +73,14 @@ module _ (prompt : Text) where
   question_request setup script question (asked.Race a n b) is request of_it = absurd is
   question_request setup script question (asked.Debug a seats) is request of_it = absurd is
   question_request setup script question (asked.Replay a b) is request of_it = absurd is
+  question_request setup script question (asked.Page a b) is request of_it = absurd is
 
   pub debug_request : (setup : Text) (seats : List Text) (it : Asked) → IsDebugOf setup seats it → (request : Request) → IsRequestOf prompt it request → IsDebugRequest prompt setup seats request
   debug_request setup seats (asked.Debug a b) is request of_it = rw (← is.0, ← is.1) of_it
   debug_request setup seats asked.Script is request of_it = absurd is
   debug_request setup seats (asked.Play a b) is request of_it = absurd is
   debug_request setup seats (asked.Replay a b) is request of_it = absurd is
+  debug_request setup seats (asked.Page a b) is request of_it = absurd is
   debug_request setup seats (asked.Race a n b) is request of_it = absurd is
   debug_request setup seats (asked.Ask a b q) is request of_it = absurd is
 
@@ -86,6 +91,16 @@ module _ (prompt : Text) where
   replay_request setup journal (asked.Race a n b) is request of_it = absurd is
   replay_request setup journal (asked.Ask a b q) is request of_it = absurd is
   replay_request setup journal (asked.Debug a b) is request of_it = absurd is
+  replay_request setup journal (asked.Page a b) is request of_it = absurd is
+
+  pub page_request : (setup script : Text) (it : Asked) → IsPageOf setup script it → (request : Request) → IsRequestOf prompt it request → IsPageRequest setup script request
+  page_request setup script (asked.Page a b) is request of_it = rw (← is.0, ← is.1) of_it
+  page_request setup script asked.Script is request of_it = absurd is
+  page_request setup script (asked.Play a b) is request of_it = absurd is
+  page_request setup script (asked.Race a n b) is request of_it = absurd is
+  page_request setup script (asked.Ask a b q) is request of_it = absurd is
+  page_request setup script (asked.Debug a b) is request of_it = absurd is
+  page_request setup script (asked.Replay a b) is request of_it = absurd is
 
 -- ---- an allocation failed before it was known what is asked for
 
@@ -97,6 +112,7 @@ memory_is_asked prompt words request is = record {
   question = λ setup script question line. inr is;
   debug = λ setup seats line. inr is;
   replay = λ setup journal line. inr is;
+  page = λ setup script line. inr is;
   taken = λ none. inr is;
   refused = λ some. inr is;
 }

@@ -82,6 +82,7 @@ fn request_of<'a>(asked: &'a Asked<'a>, prompt: &'a str) -> Request<'a>
             question: *question,
         },
         Asked::Replay { setup, journal } => Request::Replay { setup, journal },
+        Asked::Page { setup, script } => Request::Page { setup, script },
         Asked::Debug { setup, seats } if seats.is_empty() => Request::Debug { setup, prompt },
         Asked::Debug { setup, seats } => Request::DebugShared {
             setup,
