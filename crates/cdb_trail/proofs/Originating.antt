@@ -1,13 +1,13 @@
 -- From where the value of a step came, told by the flows of the events before it.
-use Rattle.std.proofs.Common.{◌≡◌, ℕ, zero, suc, ◌+◌, ◌<◌, List, [], ◌∷◌, ◌++◌, Contains, Option, Some, length, slice_get, sym, ap, subst, ◌∙◌, arith}
+use Rattle.std.proofs.Common.{◌≡◌, ℕ, zero, suc, ◌<◌, ◌≤◌, ◌⊎◌, inl, inr, ◌↔◌, Bool, false, IsTrue, true≢false, List, [], ◌∷◌, ◌++◌, Contains, Option, Some, length, slice_get, sym, ap, subst, ◌∙◌, arith}
+use Rattle.std.proofs.lemmas.Bool.{cases_lt}
 use Rattle.std.proofs.lemmas.Option.{same_Some, slice_get_within}
-use Rattle.cdb_base.specs.declared.event.Event.{Event}
+use Rattle.cdb_causal.proofs.Lists.{push_cases}
 use Rattle.cdb_process.proofs.Members.{contained_in}
 use Rattle.cdb_process.specs.Table.{Table}
 use Rattle.cdb_rules.specs.RunView.{RunView}
 use Rattle.cdb_rules.specs.Runs.{machine_in}
 use Rattle.cdb_trail.specs.Flow.{Spot, slot, Flow, Flows}
-use Rattle.cdb_trail.specs.Origins.{AreOrigins}
 use Rattle.cdb_trail.specs.Played.{AreFirstFlows, IsLastSetter, SetNone}
 use Rattle.cdb_trail.specs.Trails.{flow_at, Takes, Sets, IsFed, TakesInput, IsTrail, begins, goes_on}
 use Rattle.cdb_trail.specs.declared.origins.Origin.{Origin}
@@ -53,3 +53,26 @@ module _ {L S : Type 0} (table : Table L) (flows : Flows L S) (run : RunView) (f
   pub its_slot : (spot : Spot S) → Takes (machine_in table run) flows run.history (suc (length found)) spot → (q : ℕ)
       → TakesInput (machine_in table run) flows run.history q (suc (length found)) → spot ≡ slot q flows.input
   its_slot spot takes q it = same_Some spot (slot q flows.input) (sym takes ∙ it.takes)
+
+-- the flow at the next position does not set the spot, and none behind it does
+pub unset_before : {S : Type 0} (flows : List (Flow S)) (spot : Spot S) (n i : ℕ) → n ≡ suc i → (here : Flow S) → slice_get flows i ≡ Some here → (b : Bool) → b ≡ false
+    → IsTrue b ↔ Contains here.sets spot → ((k : ℕ) (flow : Flow S) → n ≤ k → slice_get flows k ≡ Some flow → Contains flow.sets spot → ⊥)
+    → (k : ℕ) (flow : Flow S) → i ≤ k → slice_get flows k ≡ Some flow → Contains flow.sets spot → ⊥
+unset_before {S} flows spot n i next here at b not tells behind k flow low is sets = by (cases_lt i k)
+  where
+    by : (i < k) ⊎ (k ≤ i) → ⊥
+    by (inl more) = behind k flow (omega (arith, more, next)) is sets
+    by (inr less) =
+        let same : k ≡ i = omega (arith, low, less) in
+        let its = same_Some flow here (sym is ∙ ap (slice_get flows) same ∙ at) in
+        true≢false (sym (tells.1 (subst (λ (f : Flow S). Contains f.sets spot) its sets)) ∙ not)
+
+-- an origin more
+pub one_origin_more : (IsIts : ℕ → Option Origin → Type 0) (origins : List (Option Origin)) (n : ℕ) (origin : Option Origin) → length origins ≡ n → IsIts (suc n) origin
+    → ((k : ℕ) (it : Option Origin) → slice_get origins k ≡ Some it → IsIts (suc k) it)
+    → (k : ℕ) (it : Option Origin) → slice_get (origins ++ origin ∷ []) k ≡ Some it → IsIts (suc k) it
+one_origin_more IsIts origins n origin number is each k it stands = by (push_cases origins origin it k stands)
+  where
+    by : ((slice_get origins k ≡ Some it) × (k < length origins)) ⊎ ((origin ≡ it) × (k ≡ length origins)) → IsIts (suc k) it
+    by (inl old) = each k it old.0
+    by (inr (same, last)) = subst (λ m. IsIts (suc m) it) (sym (last ∙ number)) (subst (IsIts (suc n)) same is)

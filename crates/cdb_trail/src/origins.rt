@@ -1,6 +1,6 @@
 //! From where the value of each step of a run came.
 
-ghost use Rattle.std.specs.Prelude.{◌≡◌, ◌+◌, ◌<◌, length, take, IfOk, MatchOption};
+ghost use Rattle.std.specs.Prelude.{◌≡◌, ◌+◌, ◌<◌, length, take, IfOk, IfSome, MatchOption};
 ghost use Rattle.cdb_agreement.specs.Algorithms.{rules};
 ghost use Rattle.cdb_rules.specs.ByRules.{IsInOrder};
 ghost use Rattle.cdb_rules.specs.Runs.{IsInOrder as is_in_order, machine_in, with_history};
@@ -31,7 +31,8 @@ pub enum Origin {
 
 /// The last of the flows that sets the spot, counted from 0.
 fn last_setter<P: Flowing>(flows: &[Flow<P::Slot>], spot: &Spot<P::Slot>) -> Option<usize>
-    ensures { MatchOption result (SetNone flows.now spot.now) (IsLastSetter flows.now spot.now) }
+    ensures last { MatchOption result (SetNone flows.now spot.now) (IsLastSetter flows.now spot.now) }
+    ensures within { IfSome result (λ i. i < length flows.now) }
 {
     for i in (0..flows.len()).rev() {
         if sets::<P>(&flows[i], spot) {
@@ -55,13 +56,20 @@ fn origin_behind<P: Flowing>(
     ensures { IsOrigin (machine_in P.table run.now) P.flows run.now.history (length flows.now + 1) result }
 {
     let events = run.events();
-    let from = flow_of(before, &events[flows.len()]).takes()?;
-    let _value = value_at(before, &from)?;
-    match (last_setter::<P>(flows, &from), from) {
-        (Some(i), _) => Some(Origin::Step(i + 1)),
-        (None, Spot::Slot(q, _)) => Some(Origin::Input(q)),
-        (None, Spot::Message(_, _)) => unreachable!(),
-        (None, Spot::Register(_)) => unreachable!(),
+    let flow = flow_of(before, &events[flows.len()]);
+    let Some(from) = flow.takes() else {
+        return None;
+    };
+    let Some(_value) = value_at(before, &from) else {
+        return None;
+    };
+    if let Some(i) = last_setter::<P>(flows, &from) {
+        return Some(Origin::Step(i + 1));
+    }
+    match from {
+        Spot::Slot(q, _) => Some(Origin::Input(q)),
+        Spot::Message(_, _) => unreachable!(),
+        Spot::Register(_) => unreachable!(),
     }
 }
 
