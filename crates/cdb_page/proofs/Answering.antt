@@ -1,10 +1,7 @@
 -- What undo answers, by the entry of an event.
-use Rattle.std.proofs.Common.{◌≡◌, ℕ, ◌≤◌, List, Option, Some, None, Result, Ok, Err, IsTrue, refl, sym, ap, ◌∙◌}
+use Rattle.std.proofs.Common.{ℕ, Option, Some, None, refl, ap}
 use Rattle.cdb_base.specs.Event.{event_name}
-use Rattle.cdb_base.specs.Positions.{nth}
 use Rattle.cdb_base.specs.declared.event.Event.{Event}
-use Rattle.cdb_causal.specs.Causality.{IsLink}
-use Rattle.cdb_causal.specs.Dependence.{depends}
 use Rattle.cdb_rules.proofs.Standing.{free_undone, needed_refused}
 use Rattle.cdb_rules.specs.RunView.{RunView}
 use Rattle.cdb_rules.specs.Undo.{IsEventNamed, result_alone}
@@ -19,5 +16,5 @@ answers run at event named (Some first) is =
       link.effect,
       link.at_effect,
       ap result_alone (needed_refused run.setup.processes run.history (event_name event) at event named (event_name link.effect)
-      (record { position = first; named = (link.effect, link.at_effect, refl); link = link; first = is.1 })),
+          (record { position = first; named = (link.effect, link.at_effect, refl); link = link; first = is.1 })),
     )

@@ -1,5 +1,5 @@
 -- Where the causes and the dependents of entries lead.
-use Rattle.std.proofs.Common.{◌≡◌, ℕ, zero, suc, ◌+◌, ◌<◌, ◌≤◌, ◌⊎◌, inl, inr, ◌↔◌, List, [], ◌∷◌, ◌++◌, Contains, Option, Some, None, length, slice_get, refl, sym, ap, ◌∙◌, subst, arith}
+use Rattle.std.proofs.Common.{◌≡◌, ℕ, zero, suc, ◌+◌, ◌<◌, ◌≤◌, inl, inr, ◌↔◌, List, [], ◌∷◌, Contains, Some, length, refl, sym, ap, ◌∙◌, subst, arith}
 use Rattle.std.specs.List.{range_with_len}
 use Rattle.std.proofs.lemmas.Bool.{cases_eq}
 use Rattle.std.proofs.lemmas.Option.{none-some}
@@ -7,11 +7,10 @@ use Rattle.cdb_base.specs.Positions.{nth}
 use Rattle.cdb_base.specs.declared.event.Event.{Event}
 use Rattle.cdb_causal.proofs.Lists.{nth_within}
 use Rattle.cdb_causal.proofs.PastLaws.{by_direct_causes, turned_round}
-use Rattle.cdb_causal.specs.Causality.{IsConsequence, IsDirectCause, IsLink, direct, onward}
+use Rattle.cdb_causal.specs.Causality.{IsDirectCause, IsLink, direct, onward}
 use Rattle.cdb_causal.specs.Dependence.{depends}
-use Rattle.cdb_causal.specs.Laws.{LeadsThrough}
 use Rattle.cdb_causal.specs.Past.{HasLedTo, IsInPast, one_link, link_before}
-use Rattle.cdb_causal.specs.Rollback.{IsParted, IsRolledBack, done, kept, gone}
+use Rattle.cdb_causal.specs.Rollback.{IsParted, IsRolledBack, kept, gone}
 use Rattle.cdb_process.proofs.Members.{IsIn, contained_in, in_contained}
 use Rattle.cdb_rules.specs.RunView.{RunView}
 use Rattle.cdb_page.specs.Entries.{AreEntries, IsEntry}
@@ -21,27 +20,42 @@ use Rattle.cdb_page.specs.declared.entries.Entry.{Entry}
 
 -- ---- what is listed of a set
 
-module _ (InSet : ℕ → Type 0) where
-  listed_only : (a n : ℕ) (others found : List ℕ) → IsParted InSet a (range_with_len a n) others found → (i : ℕ) → IsIn i found → InSet i
-  listed_only a zero others [] parted i here = elim here [ ]
-  listed_only a zero [] (_ ∷ _) parted i here = elim parted [ ]
-  listed_only a zero (_ ∷ _) (_ ∷ _) parted i here = elim parted [ ]
-  listed_only a (suc n) others found (kept out rest) i here = listed_only (suc a) n _ found rest i here
-  listed_only a (suc n) others found (gone is rest) i (inl same) = subst InSet (sym same) is
-  listed_only a (suc n) others found (gone is rest) i (inr here) = listed_only (suc a) n others _ rest i here
+-- the numbers from one on, so many
+abbrev from : ℕ → ℕ → List ℕ
+from a zero = []
+from a (suc n) = a ∷ from (suc a) n
 
-  listed_each : (a n : ℕ) (others found : List ℕ) → IsParted InSet a (range_with_len a n) others found → (i : ℕ) → InSet i → a ≤ i → i < a + n → IsIn i found
-  listed_each a zero others found parted i is low high = absurd (omega (arith, low, high))
-  listed_each a (suc n) others found (kept out rest) i is low high = by (cases_eq i a)
-    where
-      by : (i ≡ a) ⊎ (i ≡ a → ⊥) → IsIn i found
-      by (inl same) = absurd (out (subst InSet same is))
-      by (inr other) = listed_each (suc a) n _ found rest i is (omega (arith, low, other)) (omega (arith, high))
-  listed_each a (suc n) others found (gone here rest) i is low high = by (cases_eq i a)
-    where
-      by : (i ≡ a) ⊎ (i ≡ a → ⊥) → IsIn i (_ ∷ _)
-      by (inl same) = inl same
-      by (inr other) = inr (listed_each (suc a) n others _ rest i is (omega (arith, low, other)) (omega (arith, high)))
+range_from : (a n : ℕ) → range_with_len a n ≡ from a n
+range_from a zero = refl
+range_from a (suc n) =
+    let next : a + 1 ≡ suc a = omega arith in
+    ap (λ xs. a ∷ xs) (ap (λ b. range_with_len b n) next ∙ range_from (suc a) n)
+
+module _ (InSet : ℕ → Type 0) where
+  only : (a n : ℕ) (others found : List ℕ) → IsParted InSet a (from a n) others found → (i : ℕ) → IsIn i found → InSet i
+  only a zero others [] parted i here = elim here [ ]
+  only a zero [] (_ ∷ _) parted i here = elim parted [ ]
+  only a zero (_ ∷ _) (_ ∷ _) parted i here = elim parted [ ]
+  only a (suc n) others found (kept out rest) i here = only (suc a) n _ found rest i here
+  only a (suc n) others found (gone is rest) i (inl same) = subst InSet (sym same) is
+  only a (suc n) others found (gone is rest) i (inr here) = only (suc a) n others _ rest i here
+
+  each : (a n : ℕ) (others found : List ℕ) → IsParted InSet a (from a n) others found → (i : ℕ) → InSet i → a ≤ i → i < a + n → IsIn i found
+  each a zero others found parted i is low high = absurd (omega (arith, low, high))
+  each a (suc n) others found (kept out rest) i is low high = elim (cases_eq i a) [
+    | inl same ↦ absurd (out (subst InSet same is))
+    | inr other ↦ each (suc a) n _ found rest i is (omega (arith, low, other)) (omega (arith, high))
+  ]
+  each a (suc n) others (x ∷ found) (gone here rest) i is low high = elim (cases_eq i a) [
+    | inl same ↦ inl same
+    | inr other ↦ inr (each (suc a) n others found rest i is (omega (arith, low, other)) (omega (arith, high)))
+  ]
+
+  listed_only : (n : ℕ) (others found : List ℕ) → IsParted InSet 1 (range_with_len 1 n) others found → (i : ℕ) → IsIn i found → InSet i
+  listed_only n others found parted = only 1 n others found (subst (λ (xs : List ℕ). IsParted InSet 1 xs others found) (range_from 1 n) parted)
+
+  listed_each : (n : ℕ) (others found : List ℕ) → IsParted InSet 1 (range_with_len 1 n) others found → (i : ℕ) → InSet i → 1 ≤ i → i < 1 + n → IsIn i found
+  listed_each n others found parted = each 1 n others found (subst (λ (xs : List ℕ). IsParted InSet 1 xs others found) (range_from 1 n) parted)
 
 -- ---- positions
 
@@ -84,7 +98,7 @@ module _ (run : RunView) (entries : List Entry) (are : AreEntries run entries) w
   is_cause : (at other : ℕ) (entry : Entry) → nth entries at ≡ Some entry → Contains (its_causes entry) other → IsDirect other at
   is_cause at other entry is here =
       let listed = (entry_of at entry is).causes in
-      listed_only (λ it. IsDirect it at) 1 (length run.history) listed.0 (its_causes entry) listed.1 other (contained_in (its_causes entry) other here)
+      listed_only (λ it. IsDirect it at) (length run.history) listed.0 (its_causes entry) listed.1 other (contained_in (its_causes entry) other here)
 
   has_cause : (at other : ℕ) (entry : Entry) → nth entries at ≡ Some entry → IsDirect other at → Contains (its_causes entry) other
   has_cause at other entry is cause =
@@ -92,12 +106,12 @@ module _ (run : RunView) (entries : List Entry) (are : AreEntries run entries) w
       let low = from_one run.history other cause.link.cause cause.link.at_cause in
       let high = nth_within run.history other cause.link.cause cause.link.at_cause in
       in_contained (its_causes entry) other
-      (listed_each (λ it. IsDirect it at) 1 (length run.history) listed.0 (its_causes entry) listed.1 other cause low (omega (arith, high)))
+      (listed_each (λ it. IsDirect it at) (length run.history) listed.0 (its_causes entry) listed.1 other cause low (omega (arith, high)))
 
   is_dependent : (at other : ℕ) (entry : Entry) → nth entries at ≡ Some entry → Contains (its_dependents entry) other → IsDirect at other
   is_dependent at other entry is here =
       let listed = (entry_of at entry is).dependents in
-      listed_only (λ it. IsDirect at it) 1 (length run.history) listed.0 (its_dependents entry) listed.1 other (contained_in (its_dependents entry) other here)
+      listed_only (λ it. IsDirect at it) (length run.history) listed.0 (its_dependents entry) listed.1 other (contained_in (its_dependents entry) other here)
 
   has_dependent : (at other : ℕ) (entry : Entry) → nth entries at ≡ Some entry → IsDirect at other → Contains (its_dependents entry) other
   has_dependent at other entry is cause =
@@ -105,7 +119,7 @@ module _ (run : RunView) (entries : List Entry) (are : AreEntries run entries) w
       let low = from_one run.history other cause.link.effect cause.link.at_effect in
       let high = nth_within run.history other cause.link.effect cause.link.at_effect in
       in_contained (its_dependents entry) other
-      (listed_each (λ it. IsDirect at it) 1 (length run.history) listed.0 (its_dependents entry) listed.1 other cause low (omega (arith, high)))
+      (listed_each (λ it. IsDirect at it) (length run.history) listed.0 (its_dependents entry) listed.1 other cause low (omega (arith, high)))
 
   -- ---- the past
 

@@ -1,11 +1,11 @@
 -- The positions of a set, found one after another.
-use Rattle.std.proofs.Common.{◌≡◌, ℕ, suc, ◌+◌, ◌-◌, ◌<◌, ◌≤◌, ◌⊎◌, inl, inr, Bool, false, true≢false, List, [], ◌∷◌, ◌++◌, IsTrue, ◌↔◌, Some, get_or, length, refl, sym, ap, ap₂, ◌∙◌, subst, arith}
+use Rattle.std.proofs.Common.{◌≡◌, ℕ, suc, ◌+◌, ◌-◌, ◌<◌, ◌≤◌, ◌⊎◌, inl, inr, Bool, false, true≢false, List, [], ◌∷◌, ◌++◌, IsTrue, ◌↔◌, Some, get_or, slice_get, length, refl, sym, ap, ap₂, ◌∙◌, subst, arith}
 use Rattle.std.proofs.lemmas.Option.{same_Some, slice_get-get_or}
 use Rattle.cdb_base.specs.declared.event.Event.{Event}
 use Rattle.cdb_causal.specs.Causality.{IsLink}
 use Rattle.cdb_causal.specs.Dependence.{depends}
 use Rattle.cdb_base.specs.Positions.{nth}
-use Rattle.cdb_causal.proofs.Lists.{by_next, nth_within}
+use Rattle.cdb_causal.proofs.Lists.{by_next, nth_within, push_cases}
 use Rattle.std.proofs.lemmas.Bool.{cases_lt}
 use Rattle.std.specs.List.{range_with_len}
 use Rattle.std.proofs.lemmas.List.{map-id}
@@ -90,3 +90,12 @@ first_link events at n none other link = by (cases_lt other (n + 1))
 
 pub link_within : (events : List Event) (i j : ℕ) → IsLink depends events i j → j ≤ length events
 link_within events i j link = nth_within events j link.effect link.at_effect
+
+-- an element more, each of which is of its position
+pub one_more : {A : Type 0} (IsIts : ℕ → A → Type 0) (xs : List A) (n : ℕ) (x : A) → length xs ≡ n → IsIts (suc n) x
+    → ((k : ℕ) (it : A) → slice_get xs k ≡ Some it → IsIts (suc k) it) → (k : ℕ) (it : A) → slice_get (xs ++ x ∷ []) k ≡ Some it → IsIts (suc k) it
+one_more {A} IsIts xs n x number is each k it stands = by (push_cases xs x it k stands)
+  where
+    by : ((slice_get xs k ≡ Some it) × (k < length xs)) ⊎ ((x ≡ it) × (k ≡ length xs)) → IsIts (suc k) it
+    by (inl old) = each k it old.0
+    by (inr (same, last)) = subst (λ m. IsIts (suc m) it) (sym (last ∙ number)) (subst (IsIts (suc n)) same is)

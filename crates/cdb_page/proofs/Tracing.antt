@@ -1,5 +1,5 @@
 -- Where the origins of entries lead.
-use Rattle.std.proofs.Common.{◌≡◌, ℕ, zero, suc, ◌<◌, ◌≤◌, ◌⊎◌, inl, inr, List, [], ◌∷◌, ◌++◌, Contains, Option, Some, None, refl, sym, ap, ◌∙◌, subst, arith}
+use Rattle.std.proofs.Common.{◌≡◌, ℕ, ◌<◌, ◌≤◌, ◌⊎◌, inl, inr, List, [], ◌∷◌, ◌++◌, Contains, Option, Some, None, refl, sym, ap, ◌∙◌, subst, arith}
 use Rattle.std.proofs.lemmas.Bool.{cases_lt}
 use Rattle.std.proofs.lemmas.Option.{none-some, same_Some}
 use Rattle.cdb_agreement.specs.Algorithms.{leader_machine, alpha_machine}
@@ -11,11 +11,13 @@ use Rattle.cdb_rules.specs.State.{Machine}
 use Rattle.cdb_setup.specs.declared.setup.Algorithm.{Algorithm}
 use Rattle.cdb_setup.specs.declared.setup.Algorithm.TheVariants.{Leader, Alpha}
 use Rattle.cdb_trail.specs.AlphaFlow.{alpha_flows}
-use Rattle.cdb_trail.specs.Flow.{Flows, Spot, slot}
+use Rattle.cdb_trail.specs.Flow.{Flows}
 use Rattle.cdb_trail.specs.LeaderFlow.{leader_flows}
 use Rattle.cdb_trail.specs.Origins.{IsOrigin, IsOriginBy}
 use Rattle.cdb_trail.specs.Trails.{Carries, IsFed, IsTrail, Sets, Takes, TakesInput, TakesValue, flow_in, state_before}
 use Rattle.cdb_trail.specs.Trails as trails
+use Rattle.cdb_trail.specs.declared.flow.Spot.{Spot}
+use Rattle.cdb_trail.specs.declared.flow.Spot.TheVariants.{Slot as slot}
 use Rattle.cdb_trail.specs.declared.origins.Origin.{Origin}
 use Rattle.cdb_trail.specs.declared.origins.Origin.TheVariants.{Step, Input}
 use Rattle.cdb_page.specs.Entries.{AreEntries}

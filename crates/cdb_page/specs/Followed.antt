@@ -1,5 +1,5 @@
 -- Where the entries of a page lead, followed one after another as its script does.
-use Rattle.std.specs.Prelude.{◌≡◌, ℕ, List, [], ◌∷◌, ◌++◌, Contains, Option, Some, None, Result, Ok, Err}
+use Rattle.std.specs.Prelude.{◌≡◌, ℕ, List, [], ◌∷◌, ◌++◌, Contains, Option, Some, None, Ok, Err}
 use Rattle.cdb_agreement.specs.Algorithms.{leader_machine, alpha_machine}
 use Rattle.cdb_base.specs.Event.{event_name}
 use Rattle.cdb_base.specs.Positions.{nth}

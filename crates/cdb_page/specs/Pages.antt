@@ -1,5 +1,5 @@
 -- The page of a run, as text: an HTML document.
-use Rattle.std.specs.Prelude.{◌≡◌, ℕ, List, ◌++◌, codes, decimal, Option, Some, None, unwrap_or}
+use Rattle.std.specs.Prelude.{◌≡◌, ℕ, List, ◌++◌, codes, decimal, Option, None, Some, unwrap_or}
 use Rattle.std.specs.List.{flat_map}
 use Rattle.cdb_agreement.specs.Algorithms.{rules}
 use Rattle.cdb_draw.specs.Picture.{IsPicture}
@@ -16,16 +16,30 @@ abbrev pub positions_text : List ℕ → List ℕ
 positions_text positions = flat_map (λ position. decimal position ++ codes ",") positions
 
 -- the step from which a value came, and the process whose input it is; 0 where there is none
-abbrev pub origin_text : Option Origin → List ℕ
-origin_text (Some (Step i)) = codes ",from:" ++ decimal i ++ codes ",input:0"
-origin_text (Some (Input q)) = codes ",from:0,input:" ++ decimal q
-origin_text None = codes ",from:0,input:0"
 
--- an entry as an object of the script, `needed` with 0 where none needs the event
+abbrev pub from_of : Option Origin → ℕ
+from_of (Some (Step i)) = i
+from_of origin = 0
+
+abbrev pub input_of : Option Origin → ℕ
+input_of (Some (Input q)) = q
+input_of origin = 0
+
+-- positions, behind what they are
+abbrev pub listed_text : List ℕ → List ℕ → List ℕ
+listed_text label positions = label ++ positions_text positions ++ codes "],"
+
+-- which event needs the one of the entry first, 0 where none does, and from where its value came
+abbrev pub sources_text : Entry → List ℕ
+sources_text entry =
+    codes "needed:" ++ decimal (unwrap_or entry.needed 0) ++ codes ",from:" ++ decimal (from_of entry.origin)
+    ++ codes ",input:" ++ decimal (input_of entry.origin)
+
+-- an entry as an object of the script
 abbrev pub entry_text : Entry → List ℕ
 entry_text entry =
-    codes "{causes:[" ++ positions_text entry.causes.items ++ codes "],dependents:[" ++ positions_text entry.dependents.items
-    ++ codes "],needed:" ++ decimal (unwrap_or entry.needed 0) ++ origin_text entry.origin ++ codes "},\n"
+    listed_text (codes "{causes:[") entry.causes.items ++ listed_text (codes "dependents:[") entry.dependents.items
+    ++ sources_text entry ++ codes "},\n"
 
 -- the entries, one a line
 abbrev pub entries_text : List Entry → List ℕ

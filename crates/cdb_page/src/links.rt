@@ -47,7 +47,11 @@ fn is_direct_cause(events: &[Event], i: usize, j: usize) -> bool
 }
 
 /// The direct causes of the event at a position.
-pub(crate) fn direct_causes(alloc: Global, events: &[Event], at: usize) -> Result<Vec<usize>, NoMemory>
+pub(crate) fn direct_causes(
+    alloc: Global,
+    events: &[Event],
+    at: usize,
+) -> Result<Vec<usize>, NoMemory>
     requires to_len { at ≤ length events.now }
     ensures { IfOk result (λ found. AreAllIn events.now
         (λ other. IsDirectCause depends_of events.now other at) found.items) }
@@ -62,7 +66,11 @@ pub(crate) fn direct_causes(alloc: Global, events: &[Event], at: usize) -> Resul
 }
 
 /// Those of which it is one.
-pub(crate) fn direct_dependents(alloc: Global, events: &[Event], at: usize) -> Result<Vec<usize>, NoMemory>
+pub(crate) fn direct_dependents(
+    alloc: Global,
+    events: &[Event],
+    at: usize,
+) -> Result<Vec<usize>, NoMemory>
     requires from_one { 1 ≤ at }
     ensures { IfOk result (λ found. AreAllIn events.now
         (λ other. IsDirectCause depends_of events.now at other) found.items) }

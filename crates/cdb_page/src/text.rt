@@ -1,7 +1,7 @@
 //! The entries of a page as text.
 
 ghost use Rattle.std.specs.Prelude.{◌≡◌, ◌++◌, codes, decimal, IfOk};
-ghost use Rattle.cdb_page.specs.Pages.{entries_text, entry_text, origin_text, positions_text};
+ghost use Rattle.cdb_page.specs.Pages.{entries_text, entry_text, from_of, input_of, listed_text, positions_text, sources_text};
 ghost use Rattle.cdb_text.specs.Pushes.{Pushes};
 
 use crate::entries::Entry;
@@ -26,31 +26,51 @@ fn push_positions(text: &mut String, positions: &[usize]) -> Result<(), AllocErr
     Ok(())
 }
 
-/// Adds from where a value came.
-fn push_origin(text: &mut String, origin: Option<Origin>) -> Result<(), AllocError>
-    ensures { Pushes result text.old text.new (origin_text origin) }
+/// The step from which a value came, if it came from one.
+fn from_of(origin: &Option<Origin>) -> usize
+    ensures { result ≡ from_of origin.now }
 {
     match origin {
-        Some(Origin::Step(i)) => write!(text, ",from:{i},input:0"),
-        Some(Origin::Input(q)) => {
-            let q = q.number();
-            write!(text, ",from:0,input:{q}")
-        }
-        None => text.push_str(",from:0,input:0"),
+        Some(Origin::Step(i)) => *i,
+        _ => 0,
     }
+}
+
+/// The process whose input it is, if it is one.
+fn input_of(origin: &Option<Origin>) -> u8
+    ensures { result ≡ input_of origin.now }
+{
+    match origin {
+        Some(Origin::Input(q)) => q.number(),
+        _ => 0,
+    }
+}
+
+/// Adds positions, behind what they are.
+fn push_listed(text: &mut String, label: &str, positions: &[usize]) -> Result<(), AllocError>
+    ensures { Pushes result text.old text.new (listed_text label.now positions.now) }
+{
+    text.push_str(label)?;
+    push_positions(text, positions)?;
+    text.push_str("],")
+}
+
+/// Adds which event needs the one of the entry first, and from where its value came.
+fn push_sources(text: &mut String, entry: &Entry) -> Result<(), AllocError>
+    ensures { Pushes result text.old text.new (sources_text entry.now) }
+{
+    let needed = entry.needed.unwrap_or(0);
+    let (from, input) = (from_of(&entry.origin), input_of(&entry.origin));
+    write!(text, "needed:{needed},from:{from},input:{input}")
 }
 
 /// Adds an entry.
 fn push_entry(text: &mut String, entry: &Entry) -> Result<(), AllocError>
     ensures { Pushes result text.old text.new (entry_text entry.now) }
 {
-    let needed = entry.needed.unwrap_or(0);
-    text.push_str("{causes:[")?;
-    push_positions(text, entry.causes.as_slice())?;
-    text.push_str("],dependents:[")?;
-    push_positions(text, entry.dependents.as_slice())?;
-    write!(text, "],needed:{needed}")?;
-    push_origin(text, entry.origin)?;
+    push_listed(text, "{causes:[", entry.causes.as_slice())?;
+    push_listed(text, "dependents:[", entry.dependents.as_slice())?;
+    push_sources(text, entry)?;
     text.push_str("},\n")
 }
 
