@@ -1,5 +1,5 @@
-//! The fixed parts of a page: how it looks, what stands below the picture, and its script. Nothing in it is loaded from elsewhere,
-//! and nothing rests on colours.
+//! The fixed parts of a page: how it looks, what stands below the picture, and its script. Nothing in it is loaded from
+//! elsewhere, and nothing rests on colours.
 
 /// What comes before the picture.
 pub const HEAD: &str = "\
@@ -13,12 +13,11 @@ pub const HEAD: &str = "\
 body{margin:8px;font:15px Arial,Helvetica,sans-serif;color:black;background:white}
 #picture svg{display:block;max-width:100%;height:auto}
 #picture [role=button]{cursor:pointer;outline:none}
-#picture [role=button]:focus-visible .box{display:inline;stroke-width:4px}
-rect.box{display:none;fill:none;stroke:black}
-.here .box,.beside-it .box,.removed .box{display:inline;stroke-width:1.5px}
-.here .box{stroke-width:3px}
-.removed .box{stroke-dasharray:5 3}
-.beside-it .box{stroke-dasharray:1 3;stroke-width:3px}
+rect.box{fill:none;stroke:none;pointer-events:visible}
+.removed .box{stroke:black;stroke-width:1.5px;stroke-dasharray:5 3}
+.beside-it .box{stroke:black;stroke-width:3px;stroke-dasharray:1 3}
+.here .box{stroke:black;stroke-width:3px;stroke-dasharray:none}
+#picture [role=button]:focus-visible .box{stroke:black;stroke-width:5px;stroke-dasharray:none}
 .off{opacity:.3}
 .later{visibility:hidden}
 path.moves,.moves use{stroke-width:3px}
@@ -111,7 +110,8 @@ const undoOf = at => {
   if (needed > 0 && needed <= shown) return `refused 11 NeededBy ${nameOf(needed)}`;
   return `undone ${nameOf(at)}`;
 };
-const decisions = texts.map((text, i) => [i + 1, (text.match(/ decides ([0-9]+)/) || [])[1]]).filter(it => it[1]);
+const decides = text => (text.match(/ decides ([0-9]+)/) || [])[1];
+const decisions = texts.map((text, i) => [i + 1, decides(text)]).filter(it => it[1]);
 const differing = decisions.find(it => it[1] !== decisions[0][1]);
 
 // ---- what is written of an event
@@ -131,14 +131,18 @@ const listOf = (label, positions, first) => {
   return [made('h3', label), list];
 };
 const write = (section, at) => {
-  if (!at) return section.replaceChildren(made('p', last ? 'Click an event, or go with the arrow keys.' : 'No event stands.'));
+  if (!at) {
+    const what = last ? 'Click an event, or go with the arrow keys.' : 'No event stands.';
+    return section.replaceChildren(made('p', what));
+  }
   const [past, gone, trail] = [pastOf(at), removedBy(at), trailOf(at)];
   const input = trail.length ? EVENTS[trail[0] - 1].input : 0;
+  const label = input ? 'trail of its value' : 'trail: it takes no value';
   section.replaceChildren(
     made('h2', texts[at - 1]),
     made('p', `undo would answer: ${undoOf(at)}`, {className: 'undo'}),
     ...listOf(`rollback would remove ${gone.length}`, gone),
-    ...listOf(trail.length ? 'trail of its value' : 'trail: it takes no value', trail, input && `process ${input}, ${inputOf(input)}`),
+    ...listOf(label, trail, input && `process ${input}, ${inputOf(input)}`),
     ...listOf(`past: ${past.length} of ${shown} events`, past));
 };
 
@@ -162,8 +166,9 @@ const draw = () => {
   byId('keep').disabled = !asked && !kept;
   byId('keep').textContent = kept ? 'Keep none beside' : 'Keep beside';
   byId('kept').hidden = !kept;
-  byId('legend').textContent = asked
-    ? 'Bold box: the event. Thick: the trail of its value. Dashed boxes: what a rollback would remove with it. Pale: the rest.' : '';
+  byId('legend').textContent = !asked && !kept ? ''
+    : 'Bold box: the event; dotted: the one kept beside. Thick: the trail of the value. '
+    + 'Dashed: what a rollback would remove too. Pale: the rest.';
   write(byId('kept'), kept);
   write(byId('event'), asked);
 };
@@ -181,7 +186,8 @@ const go = at => {
 };
 marks.forEach((mark, i) => {
   const box = document.createElementNS('http://www.w3.org/2000/svg', 'rect');
-  [['class', 'box'], ['x', -25], ['y', -57], ['width', 50], ['height', 93]].forEach(([name, value]) => box.setAttribute(name, value));
+  const place = {class: 'box', x: -25, y: -57, width: 50, height: 93};
+  Object.entries(place).forEach(([name, value]) => box.setAttribute(name, value));
   mark.append(box);
   mark.setAttribute('role', 'button');
   mark.setAttribute('aria-label', texts[i]);
