@@ -7,7 +7,6 @@ ghost use Rattle.cdb_draw.specs.Picture.{IsPicture};
 ghost use Rattle.cdb_draw.specs.declared.layout.TheConstants.{COLUMNS as columns};
 ghost use Rattle.cdb_rules.specs.ByRules.{IsInOrder};
 
-use cdb_any_run::AnyRun;
 use cdb_base::NoMemory;
 use cdb_draw::{COLUMNS, draw_run};
 use cdb_rules::Trace;
@@ -45,7 +44,7 @@ pub(crate) fn picture_of(alloc: Global, run: &Trace) -> Result<Vec<u8>, NoMemory
         held: Vec::new(alloc),
         failures: 0,
     };
-    match draw_run::<AnyRun, Memory>(alloc, run, COLUMNS, None, &mut memory) {
+    match draw_run(alloc, run, COLUMNS, None, &mut memory) {
         Ok(()) => Ok(memory.held),
         Err(OutputFault::NoMemory(refused)) => Err(refused),
         Err(OutputFault::Write) => Err(NoMemory::from(AllocError)),

@@ -19,4 +19,5 @@ mod walk;
 mod writes;
 
 pub use origins::{Origin, origins_of};
+pub use trail::{Trail, trail_of};
 pub use writes::write_trail;
