@@ -21,7 +21,7 @@ use Rattle.cdb_trail.specs.declared.flow.Spot.TheVariants.{Slot as slot}
 use Rattle.cdb_trail.specs.declared.origins.Origin.{Origin}
 use Rattle.cdb_trail.specs.declared.origins.Origin.TheVariants.{Step, Input}
 use Rattle.cdb_page.specs.Entries.{AreEntries}
-use Rattle.cdb_page.specs.Followed.{IsTraced, IsTrailBy, IsTrailOfBy, begins, goes_on}
+use Rattle.cdb_page.specs.Followed.{IsTraced, IsTrailOfRunBy, IsTrailOfValueBy, begins, goes_on}
 use Rattle.cdb_page.specs.declared.entries.Entry.{Entry}
 use Rattle.cdb_page.proofs.Following.{entry_of, has_entry}
 
@@ -115,11 +115,11 @@ module _ (run : RunView) (entries : List Entry) (are : AreEntries run entries) w
   its_origins : HaveOriginsBy run.setup.algorithm
   its_origins at entry is = (entry_of run entries are at entry is).origin
 
-  sound_by : (algorithm : Algorithm) → HaveOriginsBy algorithm → (q at : ℕ) (trail : List ℕ) → IsTraced entries q at trail → IsTrailBy algorithm run q at trail
+  sound_by : (algorithm : Algorithm) → HaveOriginsBy algorithm → (q at : ℕ) (trail : List ℕ) → IsTraced entries q at trail → IsTrailOfRunBy algorithm run q at trail
   sound_by Leader have = traced (leader_machine run.setup) leader_flows run.history entries have
   sound_by Alpha have = traced (alpha_machine run.setup) alpha_flows run.history entries have
 
-  whole_by : (algorithm : Algorithm) → HaveOriginsBy algorithm → (q v at : ℕ) (trail : List ℕ) → IsTrailOfBy algorithm run q v at trail → IsTraced entries q at trail
+  whole_by : (algorithm : Algorithm) → HaveOriginsBy algorithm → (q v at : ℕ) (trail : List ℕ) → IsTrailOfValueBy algorithm run q v at trail → IsTraced entries q at trail
   whole_by Leader have q v at trail it =
       followed (leader_machine run.setup) leader_flows run.history entries have (has_entry run entries are) q at trail it.is_trail
       (λ k here. let moves = it.carries k here in (v, record { from = moves.from; takes = moves.takes; taken = moves.taken }))
@@ -127,8 +127,8 @@ module _ (run : RunView) (entries : List Entry) (are : AreEntries run entries) w
       followed (alpha_machine run.setup) alpha_flows run.history entries have (has_entry run entries are) q at trail it.is_trail
       (λ k here. let moves = it.carries k here in (v, record { from = moves.from; takes = moves.takes; taken = moves.taken }))
 
-  pub sound : (q at : ℕ) (trail : List ℕ) → IsTraced entries q at trail → IsTrailBy run.setup.algorithm run q at trail
+  pub sound : (q at : ℕ) (trail : List ℕ) → IsTraced entries q at trail → IsTrailOfRunBy run.setup.algorithm run q at trail
   sound = sound_by run.setup.algorithm its_origins
 
-  pub whole : (q v at : ℕ) (trail : List ℕ) → IsTrailOfBy run.setup.algorithm run q v at trail → IsTraced entries q at trail
+  pub whole : (q v at : ℕ) (trail : List ℕ) → IsTrailOfValueBy run.setup.algorithm run q v at trail → IsTraced entries q at trail
   whole = whole_by run.setup.algorithm its_origins

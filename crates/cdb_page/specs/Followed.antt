@@ -34,20 +34,20 @@ pub data IsTraced (entries : List Entry) (q : ℕ) : ℕ → List ℕ → Type 0
       → IsTraced entries q at (trail ++ at ∷ [])
 
 -- a trail from the input of process q to that position, by the algorithm of the run
-abbrev pub IsTrailBy : Algorithm → RunView → ℕ → ℕ → List ℕ → Type 0
-IsTrailBy Leader run = IsTrail (leader_machine run.setup) leader_flows run.history
-IsTrailBy Alpha run = IsTrail (alpha_machine run.setup) alpha_flows run.history
+abbrev pub IsTrailOfRunBy : Algorithm → RunView → ℕ → ℕ → List ℕ → Type 0
+IsTrailOfRunBy Leader run = IsTrail (leader_machine run.setup) leader_flows run.history
+IsTrailOfRunBy Alpha run = IsTrail (alpha_machine run.setup) alpha_flows run.history
 
-abbrev pub IsTrailIn : RunView → ℕ → ℕ → List ℕ → Type 0
-IsTrailIn run = IsTrailBy run.setup.algorithm run
+abbrev pub IsTrailOfRun : RunView → ℕ → ℕ → List ℕ → Type 0
+IsTrailOfRun run = IsTrailOfRunBy run.setup.algorithm run
 
 -- the trail of the value v
-abbrev pub IsTrailOfBy : Algorithm → RunView → ℕ → ℕ → ℕ → List ℕ → Type 0
-IsTrailOfBy Leader run = IsTrailOf (leader_machine run.setup) leader_flows run.setup.inputs run.history
-IsTrailOfBy Alpha run = IsTrailOf (alpha_machine run.setup) alpha_flows run.setup.inputs run.history
+abbrev pub IsTrailOfValueBy : Algorithm → RunView → ℕ → ℕ → ℕ → List ℕ → Type 0
+IsTrailOfValueBy Leader run = IsTrailOf (leader_machine run.setup) leader_flows run.setup.inputs run.history
+IsTrailOfValueBy Alpha run = IsTrailOf (alpha_machine run.setup) alpha_flows run.setup.inputs run.history
 
-abbrev pub IsTrailOfIn : RunView → ℕ → ℕ → ℕ → List ℕ → Type 0
-IsTrailOfIn run = IsTrailOfBy run.setup.algorithm run
+abbrev pub IsTrailOfValue : RunView → ℕ → ℕ → ℕ → List ℕ → Type 0
+IsTrailOfValue run = IsTrailOfValueBy run.setup.algorithm run
 
 -- undo of the event is refused, needed by the event at that position; or is granted, where there is none
 abbrev pub AnswersUndo : RunView → Event → Option ℕ → Type 0

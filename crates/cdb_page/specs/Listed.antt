@@ -1,14 +1,10 @@
 -- Positions of a history that are asked for, from 1.
-use Rattle.std.specs.Prelude.{ℕ, ◌≤◌, List, length, Option, Some, None}
-use Rattle.std.specs.List.{range_with_len}
+use Rattle.std.specs.Prelude.{ℕ, ◌≤◌, List, Option, Some, None}
 use Rattle.cdb_base.specs.declared.event.Event.{Event}
 use Rattle.cdb_causal.specs.Causality.{IsFree, IsLink}
 use Rattle.cdb_causal.specs.Dependence.{depends}
 use Rattle.cdb_causal.specs.Rollback.{IsParted}
-
--- the positions of a history
-abbrev pub positions : List Event → List ℕ
-positions history = range_with_len 1 (length history)
+use Rattle.cdb_draw.specs.Picture.{positions}
 
 -- those positions of a history that are in the set, in order
 abbrev pub AreAllIn : List Event → (ℕ → Type 0) → List ℕ → Type 0

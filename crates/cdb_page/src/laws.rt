@@ -7,7 +7,7 @@ ghost use Rattle.cdb_causal.specs.Dependence.{depends};
 ghost use Rattle.cdb_causal.specs.Past.{HasLedTo};
 ghost use Rattle.cdb_causal.specs.Rollback.{IsRolledBack};
 ghost use Rattle.cdb_page.specs.Entries.{AreEntries};
-ghost use Rattle.cdb_page.specs.Followed.{AnswersUndo, IsReached, IsTraced, IsTrailIn, IsTrailOfIn, its_causes, its_dependents};
+ghost use Rattle.cdb_page.specs.Followed.{AnswersUndo, IsReached, IsTraced, IsTrailOfRun, IsTrailOfValue, its_causes, its_dependents};
 ghost use Rattle.cdb_page.specs.declared.entries.Entry.{Entry};
 ghost use Rattle.cdb_rules.specs.ByRules.{IsInOrder};
 ghost use Rattle.cdb_rules.specs.RunView.{RunView};
@@ -30,9 +30,9 @@ pub fn dependents_lead_to_all_consequences()
 /// Origins lead back along a trail, and along each trail of a value.
 pub fn origins_lead_along_trails()
     ensures sound { (run : RunView) (entries : List Entry) → AreEntries run entries → (q at : ℕ) (trail : List ℕ) →
-        IsTraced entries q at trail → IsTrailIn run q at trail }
+        IsTraced entries q at trail → IsTrailOfRun run q at trail }
     ensures whole { (run : RunView) (entries : List Entry) → AreEntries run entries → (q v at : ℕ) (trail : List ℕ) →
-        IsTrailOfIn run q v at trail → IsTraced entries q at trail }
+        IsTrailOfValue run q v at trail → IsTraced entries q at trail }
 {}
 
 /// The event that an entry says is needed first is the one for which undo is refused, by the rules of any run; where it says
