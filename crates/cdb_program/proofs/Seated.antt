@@ -15,7 +15,7 @@ use Rattle.cdb_streams.specs.declared.fault.PlayFault.TheVariants as play
 use Rattle.cdb_program.specs.Known.{FilesSeen, after_opening, after_failing}
 use Rattle.cdb_program.specs.Reading.{FailsToRead, file_names}
 use Rattle.cdb_program.specs.declared.fault.Fault.{Fault}
-use Rattle.cdb_program.specs.declared.fault.Fault.TheVariants.{Play, Race, NoStep, NoValue, TooManySeats, Refused}
+use Rattle.cdb_program.specs.declared.fault.Fault.TheVariants.{Play, Race, NoStep, NoValue, TooManyEvents, TooManySeats, Refused}
 use Rattle.cdb_streams.specs.Faults.{of_reading}
 use Rattle.cdb_streams.specs.declared.source.ReadFault.{ReadFault}
 use Rattle.cdb_streams.specs.declared.source.ReadFault.TheVariants as reading
@@ -40,6 +40,7 @@ as_fault setup seats old new (Play why name) fails = fails
 as_fault setup seats old new (Race why) fails = absurd fails
 as_fault setup seats old new NoStep fails = fails
 as_fault setup seats old new NoValue fails = fails
+as_fault setup seats old new TooManyEvents fails = fails
 as_fault setup seats old new TooManySeats fails = absurd fails
 as_fault setup seats old new (Refused reason) fails = fails
 
@@ -64,6 +65,7 @@ fails_later old mid new first second (Play play.Write name) before fails = absur
 fails_later old mid new first second (Race fault) before fails = absurd fails
 fails_later old mid new first second NoStep before fails = absurd fails
 fails_later old mid new first second NoValue before fails = absurd fails
+fails_later old mid new first second TooManyEvents before fails = absurd fails
 fails_later old mid new first second TooManySeats before fails = absurd fails
 fails_later old mid new first second (Refused reason) before fails = absurd fails
 

@@ -5,7 +5,7 @@ use Rattle.cdb_explain.specs.declared.fault.ExplainFault.TheVariants as explain
 use Rattle.cdb_streams.specs.declared.fault.PlayFault.{PlayFault}
 use Rattle.cdb_streams.specs.declared.fault.RaceFault.{RaceFault}
 use Rattle.cdb_program.specs.declared.fault.Fault.{Fault}
-use Rattle.cdb_program.specs.declared.fault.Fault.TheVariants.{Play, Race, NoStep, NoValue}
+use Rattle.cdb_program.specs.declared.fault.Fault.TheVariants.{Play, Race, NoStep, NoValue, TooManyEvents}
 
 -- how a request ended
 abbrev pub RequestEnd : Type 0
@@ -28,5 +28,6 @@ abbrev pub IsOfExplain : List ℕ → Result (Unit {0}) ExplainFault → Request
 IsOfExplain name (Ok done) (Ok its_done) = Unit {0}
 IsOfExplain name (Err explain.NoStep) (Err NoStep) = Unit {0}
 IsOfExplain name (Err explain.NoValue) (Err NoValue) = Unit {0}
+IsOfExplain name (Err explain.TooManyEvents) (Err TooManyEvents) = Unit {0}
 IsOfExplain name (Err (explain.Play fault)) (Err (Play its_fault its_name)) = (its_fault ≡ fault) × (its_name.now ≡ name)
 IsOfExplain name explained outcome = ⊥

@@ -5,7 +5,7 @@ use Rattle.cdb_streams.specs.Statuses.{play_status, race_status}
 use Rattle.cdb_streams.specs.Streams.{Stream, Writes, itself}
 use Rattle.cdb_streams.specs.declared.sink.Failed.{Failed}
 use Rattle.cdb_program.specs.declared.fault.Fault.{Fault}
-use Rattle.cdb_program.specs.declared.fault.Fault.TheVariants.{Play, Race, NoStep, NoValue, TooManySeats, Refused}
+use Rattle.cdb_program.specs.declared.fault.Fault.TheVariants.{Play, Race, NoStep, NoValue, TooManyEvents, TooManySeats, Refused}
 
 -- what is reported; a reason is a text of whole lines
 abbrev pub fault_text : Fault → List ℕ
@@ -13,6 +13,7 @@ fault_text (Play fault name) = as_line (play_fault_text fault name.now)
 fault_text (Race fault) = as_line (race_fault_text fault)
 fault_text NoStep = codes "refused 10 NoStep\n"
 fault_text NoValue = codes "no value\n"
+fault_text TooManyEvents = codes "too many events to draw; name a step\n"
 fault_text TooManySeats = codes "too many seats\n"
 fault_text (Refused reason) = reason.now
 
@@ -22,6 +23,7 @@ fault_status (Play fault name) = play_status fault
 fault_status (Race fault) = race_status fault
 fault_status NoStep = 1
 fault_status NoValue = 1
+fault_status TooManyEvents = 1
 fault_status TooManySeats = 2
 fault_status (Refused reason) = 2
 

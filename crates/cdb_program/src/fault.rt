@@ -17,6 +17,8 @@ pub enum Fault<'a> {
     NoStep,
     /// The step whose trail was asked for takes no value.
     NoValue,
+    /// More events stand than are drawn, and no step was asked for.
+    TooManyEvents,
     /// A race of more than 64 processes and scripts.
     TooManySeats,
     /// Nothing was asked for that can be done, and this text says why.
@@ -37,6 +39,7 @@ impl fmt::Display for Fault<'_> {
             Fault::Race(fault) => writeln!(f, "{fault}"),
             Fault::NoStep => f.write_str("refused 10 NoStep\n"),
             Fault::NoValue => f.write_str("no value\n"),
+            Fault::TooManyEvents => f.write_str("too many events to draw; name a step\n"),
             Fault::TooManySeats => f.write_str("too many seats\n"),
             Fault::Refused(reason) => f.write_str(reason),
         }
@@ -73,6 +76,7 @@ pub fn of_explain<'a>(explained: Result<(), ExplainFault>, name: &'a str) -> Res
         Ok(()) => Ok(()),
         Err(ExplainFault::NoStep) => Err(Fault::NoStep),
         Err(ExplainFault::NoValue) => Err(Fault::NoValue),
+        Err(ExplainFault::TooManyEvents) => Err(Fault::TooManyEvents),
         Err(ExplainFault::Play(fault)) => Err(Fault::Play(fault, name)),
     }
 }

@@ -9,7 +9,7 @@ use cdb_streams::{
     Failed, Sink, race_status_of, status_of, write_all, write_fault, write_race_fault,
 };
 
-/// The status after a step that doesn't stand, or takes no value.
+/// The status after a step that doesn't stand, takes no value, or has to be named.
 const NO_STEP: u8 = 1;
 
 /// The status after arguments that can't be carried out.
@@ -22,7 +22,7 @@ fn status_after(fault: &Fault<'_>) -> u8
     match fault {
         Fault::Play(fault, _) => status_of(fault),
         Fault::Race(fault) => race_status_of(fault),
-        Fault::NoStep | Fault::NoValue => NO_STEP,
+        Fault::NoStep | Fault::NoValue | Fault::TooManyEvents => NO_STEP,
         Fault::TooManySeats | Fault::Refused(_) => USAGE,
     }
 }
@@ -36,6 +36,7 @@ fn write_text<E: Sink>(fault: &Fault<'_>, error: &mut E) -> Result<(), Failed>
         Fault::Race(fault) => write_race_fault(fault, error),
         Fault::NoStep => write_all(error, b"refused 10 NoStep\n"),
         Fault::NoValue => write_all(error, b"no value\n"),
+        Fault::TooManyEvents => write_all(error, b"too many events to draw; name a step\n"),
         Fault::TooManySeats => write_all(error, b"too many seats\n"),
         Fault::Refused(reason) => write_all(error, reason.as_bytes()),
     }

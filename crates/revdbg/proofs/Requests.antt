@@ -34,6 +34,7 @@ no_refusal (Replay setup journal) is = is
 no_refusal (Page setup script) is = is
 no_refusal (Refuse fault.NoStep) is = is
 no_refusal (Refuse fault.NoValue) is = is
+no_refusal (Refuse fault.TooManyEvents) is = is
 
 pub only_memory : (request : Request) → OrOutOfMemory (IsRefusal []) request → IsOutOfMemory request
 only_memory request (inl refusal) = absurd (no_refusal request refusal)
