@@ -11,4 +11,5 @@ pub mod Subcommands
 pub mod StepLines
 pub mod SeatLines
 pub mod SearchLines
+pub mod PageLines
 pub mod Requests

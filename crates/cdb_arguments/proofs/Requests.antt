@@ -13,13 +13,13 @@ use Rattle.std.proofs.lemmas.Result.{IfOk-weaker}
 use Rattle.clap.specs.Words.{Row, Text, subcommand_of, takes}
 use Rattle.clap.specs.declared.builder.value_parser.ValueParser.TheVariants as vp
 use Rattle.clap.proofs.ValueTestLemmas.{Accepts-accepts}
-use Rattle.cdb_arguments.specs.Asking.{HasStepOf, IsAnyStepIn, IsStepIn, NamesAsked, IsRequest, IsPlayOf, IsQuestionOf, IsRaceOf, IsDebugOf, IsReplayOf, IsSameOf, IsClocksOf, IsSearchOf, IsTurns, IsNumber, IsNumberOf, text_at, texts_at}
+use Rattle.cdb_arguments.specs.Asking.{HasStepOf, IsAnyStepIn, IsStepIn, NamesAsked, IsRequest, IsPlayOf, IsQuestionOf, IsRaceOf, IsDebugOf, IsPageOf, IsReplayOf, IsSameOf, IsClocksOf, IsSearchOf, IsTurns, IsNumber, IsNumberOf, text_at, texts_at}
 use Rattle.cdb_arguments.specs.CommandLine.{program}
-use Rattle.cdb_arguments.specs.Plain.{IsNameAlone, IsNumberOfTurns, IsPlain, IsPlayLine, IsQuestionLine, IsRaceLine, IsDebugLine, IsReplayLine, IsSameLine, IsClocksLine, IsSearchLine, WritesNumber, question_name}
+use Rattle.cdb_arguments.specs.Plain.{IsNameAlone, IsNumberOfTurns, IsPlain, IsPlayLine, IsQuestionLine, IsRaceLine, IsDebugLine, IsPageLine, IsReplayLine, IsSameLine, IsClocksLine, IsSearchLine, WritesNumber, question_name}
 use Rattle.cdb_arguments.specs.declared.request.AskFault.{AskFault}
 use Rattle.cdb_arguments.specs.declared.request.AskFault.TheVariants.{NoMemory}
 use Rattle.cdb_arguments.specs.declared.request.Asked.{Asked}
-use Rattle.cdb_arguments.specs.declared.request.Asked.TheVariants.{Script, Play, Race, Ask, Debug, Replay, Same, Clocks, Search}
+use Rattle.cdb_arguments.specs.declared.request.Asked.TheVariants.{Script, Play, Race, Ask, Debug, Replay, Page, Same, Clocks, Search}
 use Rattle.cdb_base.specs.declared.question.Question.{Question}
 use Rattle.cdb_base.specs.declared.question.Question.TheVariants.{Explain, Trail, Draw, Slice}
 use Rattle.cdb_base.specs.declared.question.StepAsked.{StepAsked}
@@ -28,6 +28,7 @@ use Rattle.cdb_arguments.proofs.StepLines.{OptionWritesNumber, QuestionLine, Ste
 use Rattle.cdb_arguments.proofs.JournalLines.{JournalLine, replay_line}
 use Rattle.cdb_arguments.proofs.SameLines.{SameLine, same_line}
 use Rattle.cdb_arguments.proofs.ClockLines.{ClockLine, clocks_line}
+use Rattle.cdb_arguments.proofs.PageLines.{PageLine, page_line}
 use Rattle.cdb_arguments.proofs.SeatLines.{SeatLine, debug_line}
 use Rattle.cdb_arguments.proofs.SearchLines.{SearchLine, search_line}
 use Rattle.cdb_arguments.proofs.Lines.{nothing_asked, nothing_taken, play_asked, play_taken, PlayRows, race_asked, race_taken, RaceRows, AcceptsTurns}
@@ -44,6 +45,7 @@ script_is found (Replay a b) none asks = absurd (none-some _ (sym none ∙ asks.
 script_is found (Search a g n w) none asks = absurd (none-some _ (sym none ∙ asks.1))
 script_is found (Same a b d) none asks = absurd (none-some _ (sym none ∙ asks.1))
 script_is found (Clocks a b) none asks = absurd (none-some _ (sym none ∙ asks.1))
+script_is found (Page a b) none asks = absurd (none-some _ (sym none ∙ asks.1))
 
 some_same : {X : Type 0} (a b : X) → Some a ≡ Some b → a ≡ b
 some_same a b same = ap (λ found. unwrap_or found a) same
@@ -69,6 +71,7 @@ record Differs (question : Question) : Type 0 where
   search : bytes_eq (question_name question) (codes "search") ≡ false
   same : bytes_eq (question_name question) (codes "same") ≡ false
   clocks : bytes_eq (question_name question) (codes "clocks") ≡ false
+  page : bytes_eq (question_name question) (codes "page") ≡ false
   from_play : bytes_eq (codes "play") (question_name question) ≡ false
   from_race : bytes_eq (codes "race") (question_name question) ≡ false
   from_debug : bytes_eq (codes "debug") (question_name question) ≡ false
@@ -76,81 +79,22 @@ record Differs (question : Question) : Type 0 where
   from_search : bytes_eq (codes "search") (question_name question) ≡ false
   from_same : bytes_eq (codes "same") (question_name question) ≡ false
   from_clocks : bytes_eq (codes "clocks") (question_name question) ≡ false
+  from_page : bytes_eq (codes "page") (question_name question) ≡ false
   own : bytes_eq (question_name question) (question_name question) ≡ true
 
 differs : (question : Question) → Differs question
 differs (Explain step) =
-    record {
-      play = refl;
-      race = refl;
-      debug = refl;
-      replay = refl;
-      search = refl;
-      same = refl;
-      clocks = refl;
-      from_play = refl;
-      from_race = refl;
-      from_debug = refl;
-      from_replay = refl;
-      from_search = refl;
-      from_same = refl;
-      from_clocks = refl;
-      own = refl;
-    }
+    record { play = refl; race = refl; debug = refl; replay = refl; search = refl; same = refl; clocks = refl; page = refl; from_play = refl; from_race = refl;
+      from_debug = refl; from_replay = refl; from_search = refl; from_same = refl; from_clocks = refl; from_page = refl; own = refl }
 differs (Trail step) =
-    record {
-      play = refl;
-      race = refl;
-      debug = refl;
-      replay = refl;
-      search = refl;
-      same = refl;
-      clocks = refl;
-      from_play = refl;
-      from_race = refl;
-      from_debug = refl;
-      from_replay = refl;
-      from_search = refl;
-      from_same = refl;
-      from_clocks = refl;
-      own = refl;
-    }
+    record { play = refl; race = refl; debug = refl; replay = refl; search = refl; same = refl; clocks = refl; page = refl; from_play = refl; from_race = refl;
+      from_debug = refl; from_replay = refl; from_search = refl; from_same = refl; from_clocks = refl; from_page = refl; own = refl }
 differs (Draw step) =
-    record {
-      play = refl;
-      race = refl;
-      debug = refl;
-      replay = refl;
-      search = refl;
-      same = refl;
-      clocks = refl;
-      from_play = refl;
-      from_race = refl;
-      from_debug = refl;
-      from_replay = refl;
-      from_search = refl;
-      from_same = refl;
-      from_clocks = refl;
-      own = refl;
-    }
+    record { play = refl; race = refl; debug = refl; replay = refl; search = refl; same = refl; clocks = refl; page = refl; from_play = refl; from_race = refl;
+      from_debug = refl; from_replay = refl; from_search = refl; from_same = refl; from_clocks = refl; from_page = refl; own = refl }
 differs (Slice step) =
-    record {
-      play = refl;
-      race = refl;
-      debug = refl;
-      replay = refl;
-      search = refl;
-      same = refl;
-      clocks = refl;
-      from_play = refl;
-      from_race = refl;
-      from_debug = refl;
-      from_replay = refl;
-      from_search = refl;
-      from_same = refl;
-      from_clocks = refl;
-      own = refl;
-    }
+    record { play = refl; race = refl; debug = refl; replay = refl; search = refl; same = refl; clocks = refl; page = refl; from_play = refl; from_race = refl;
+      from_debug = refl; from_replay = refl; from_search = refl; from_same = refl; from_clocks = refl; from_page = refl; own = refl }
 
 play_is : (found : Option (Text × List Row)) (rows : List Row) (setup script : Text) (asked : Asked) → found ≡ Some (codes "play", rows)
     → PlayRows setup script rows → NamesAsked found asked → IsPlayOf setup script asked
@@ -167,6 +111,7 @@ play_is found rows setup script (Search a g n w) is have asks = absurd (other_na
 play_is found rows setup script (Same a b d) is have asks = absurd (other_name found _ (codes "same") rows asks.0 is asks.1 refl refl)
 play_is found rows setup script (Clocks a b) is have asks = absurd (other_name found _ (codes "clocks") rows asks.0 is asks.1 refl refl)
 play_is found rows setup script (Debug a b) is have asks = absurd (other_name found _ (codes "debug") rows asks.0 is asks.1 refl refl)
+play_is found rows setup script (Page a b) is have asks = absurd (other_name found _ (codes "page") rows asks.0 is asks.1 refl refl)
 
 race_is : (found : Option (Text × List Row)) (rows : List Row) (setup text : Text) (turns : ℕ) (scripts : List Text) (asked : Asked)
     → found ≡ Some (codes "race", rows) → RaceRows setup text scripts rows → IsNumberOfTurns text turns → NamesAsked found asked → IsRaceOf setup turns scripts asked
@@ -178,6 +123,7 @@ race_is found rows setup text turns scripts (Search a g n w) is have number asks
 race_is found rows setup text turns scripts (Same a b d) is have number asks = absurd (other_name found _ (codes "same") rows asks.0 is asks.1 refl refl)
 race_is found rows setup text turns scripts (Clocks a b) is have number asks = absurd (other_name found _ (codes "clocks") rows asks.0 is asks.1 refl refl)
 race_is found rows setup text turns scripts (Debug a b) is have number asks = absurd (other_name found _ (codes "debug") rows asks.0 is asks.1 refl refl)
+race_is found rows setup text turns scripts (Page a b) is have number asks = absurd (other_name found _ (codes "page") rows asks.0 is asks.1 refl refl)
 race_is found rows setup text turns scripts (Race a n b) is have number asks =
     let same = same_rows found (codes "race") (codes "race") rows asks.0 is asks.1 in
     let its_text : text_at (codes "TURNS") asks.0 ≡ text = ap (text_at (codes "TURNS")) same ∙ ap (λ t. unwrap_or t []) have.1 in
@@ -262,6 +208,7 @@ question_is setup script question words (Search a g n w) line asks = absurd (oth
 question_is setup script question words (Same a b d) line asks = absurd (other_name _ _ (codes "same") line.rows asks.0 line.asked asks.1 (differs question).from_same (differs question).own)
 question_is setup script question words (Clocks a b) line asks = absurd (other_name _ _ (codes "clocks") line.rows asks.0 line.asked asks.1 (differs question).from_clocks (differs question).own)
 question_is setup script question words (Debug a b) line asks = absurd (other_name _ _ (codes "debug") line.rows asks.0 line.asked asks.1 (differs question).from_debug (differs question).own)
+question_is setup script question words (Page a b) line asks = absurd (other_name _ _ (codes "page") line.rows asks.0 line.asked asks.1 (differs question).from_page (differs question).own)
 question_is setup script question words (Ask a b its) line asks =
     let same = same_rows _ (question_name question) (question_name its) line.rows asks.0 line.asked asks.1 in
     let names = same_names _ (question_name question) (question_name its) line.rows asks.0 line.asked asks.1 in (
@@ -280,6 +227,7 @@ debug_is setup seats words (Search a g n w) line asks = absurd (other_name _ _ (
 debug_is setup seats words (Replay a b) line asks = absurd (other_name _ _ (codes "replay") line.rows asks.0 line.asked asks.1 refl refl)
 debug_is setup seats words (Same a b d) line asks = absurd (other_name _ _ (codes "same") line.rows asks.0 line.asked asks.1 refl refl)
 debug_is setup seats words (Clocks a b) line asks = absurd (other_name _ _ (codes "clocks") line.rows asks.0 line.asked asks.1 refl refl)
+debug_is setup seats words (Page a b) line asks = absurd (other_name _ _ (codes "page") line.rows asks.0 line.asked asks.1 refl refl)
 debug_is setup seats words (Debug a b) line asks =
     let same = same_rows _ (codes "debug") (codes "debug") line.rows asks.0 line.asked asks.1 in (
       asks.2 ∙ ap (text_at (codes "SETUP")) same ∙ ap (λ t. unwrap_or t []) line.setup_at,
@@ -295,6 +243,7 @@ replay_is setup journal words (Search a g n w) line asks = absurd (other_name _ 
 replay_is setup journal words (Debug a b) line asks = absurd (other_name _ _ (codes "debug") line.rows asks.0 line.asked asks.1 refl refl)
 replay_is setup journal words (Same a b d) line asks = absurd (other_name _ _ (codes "same") line.rows asks.0 line.asked asks.1 refl refl)
 replay_is setup journal words (Clocks a b) line asks = absurd (other_name _ _ (codes "clocks") line.rows asks.0 line.asked asks.1 refl refl)
+replay_is setup journal words (Page a b) line asks = absurd (other_name _ _ (codes "page") line.rows asks.0 line.asked asks.1 refl refl)
 replay_is setup journal words (Replay a b) line asks =
     let same = same_rows _ (codes "replay") (codes "replay") line.rows asks.0 line.asked asks.1 in (
       asks.2 ∙ ap (text_at (codes "SETUP")) same ∙ ap (λ t. unwrap_or t []) line.setup_at,
@@ -311,6 +260,7 @@ search_is setup goal first second seed walks words (Debug c d) a b line asks = a
 search_is setup goal first second seed walks words (Replay c d) a b line asks = absurd (other_name _ _ (codes "replay") line.rows asks.0 line.asked asks.1 refl refl)
 search_is setup goal first second seed walks words (Same c d e) a b line asks = absurd (other_name _ _ (codes "same") line.rows asks.0 line.asked asks.1 refl refl)
 search_is setup goal first second seed walks words (Clocks c d) a b line asks = absurd (other_name _ _ (codes "clocks") line.rows asks.0 line.asked asks.1 refl refl)
+search_is setup goal first second seed walks words (Page c d) a b line asks = absurd (other_name _ _ (codes "page") line.rows asks.0 line.asked asks.1 refl refl)
 search_is setup goal first second seed walks words (Search c h n w) a b line asks =
     let same = same_rows _ (codes "search") (codes "search") line.rows asks.0 line.asked asks.1 in
     let its_seed : text_at (codes "SEED") asks.0 ≡ first = ap (text_at (codes "SEED")) same ∙ ap (λ t. unwrap_or t []) line.seed_at in
@@ -329,6 +279,7 @@ same_is setup first second words (Ask a b q) line asks = absurd (other_name _ _ 
 same_is setup first second words (Debug a b) line asks = absurd (other_name _ _ (codes "debug") line.rows asks.0 line.asked asks.1 refl refl)
 same_is setup first second words (Replay a b) line asks = absurd (other_name _ _ (codes "replay") line.rows asks.0 line.asked asks.1 refl refl)
 same_is setup first second words (Search a g n w) line asks = absurd (other_name _ _ (codes "search") line.rows asks.0 line.asked asks.1 refl refl)
+same_is setup first second words (Page a b) line asks = absurd (other_name _ _ (codes "page") line.rows asks.0 line.asked asks.1 refl refl)
 same_is setup first second words (Clocks a b) line asks = absurd (other_name _ _ (codes "clocks") line.rows asks.0 line.asked asks.1 refl refl)
 same_is setup first second words (Same a b d) line asks =
     let same = same_rows _ (codes "same") (codes "same") line.rows asks.0 line.asked asks.1 in (
@@ -344,10 +295,27 @@ clocks_is setup script words (Race a n b) line asks = absurd (other_name _ _ (co
 clocks_is setup script words (Ask a b q) line asks = absurd (other_name _ _ (question_name q) line.rows asks.0 line.asked asks.1 (differs q).clocks refl)
 clocks_is setup script words (Debug a b) line asks = absurd (other_name _ _ (codes "debug") line.rows asks.0 line.asked asks.1 refl refl)
 clocks_is setup script words (Search a g n w) line asks = absurd (other_name _ _ (codes "search") line.rows asks.0 line.asked asks.1 refl refl)
+clocks_is setup script words (Page a b) line asks = absurd (other_name _ _ (codes "page") line.rows asks.0 line.asked asks.1 refl refl)
 clocks_is setup script words (Same a b d) line asks = absurd (other_name _ _ (codes "same") line.rows asks.0 line.asked asks.1 refl refl)
 clocks_is setup script words (Replay a b) line asks = absurd (other_name _ _ (codes "replay") line.rows asks.0 line.asked asks.1 refl refl)
 clocks_is setup script words (Clocks a b) line asks =
     let same = same_rows _ (codes "clocks") (codes "clocks") line.rows asks.0 line.asked asks.1 in (
+      asks.2 ∙ ap (text_at (codes "SETUP")) same ∙ ap (λ t. unwrap_or t []) line.setup_at,
+      asks.3 ∙ ap (text_at (codes "SCRIPT")) same ∙ ap (λ t. unwrap_or t []) line.script_at,
+    )
+
+page_is : (setup script : Text) (words : List Text) (asked : Asked) → PageLine setup script words → NamesAsked (subcommand_of program words) asked → IsPageOf setup script asked
+page_is setup script words Script line asks = absurd (none-some _ (sym asks ∙ line.asked))
+page_is setup script words (Play a b) line asks = absurd (other_name _ _ (codes "play") line.rows asks.0 line.asked asks.1 refl refl)
+page_is setup script words (Race a n b) line asks = absurd (other_name _ _ (codes "race") line.rows asks.0 line.asked asks.1 refl refl)
+page_is setup script words (Ask a b q) line asks = absurd (other_name _ _ (question_name q) line.rows asks.0 line.asked asks.1 (differs q).page refl)
+page_is setup script words (Debug a b) line asks = absurd (other_name _ _ (codes "debug") line.rows asks.0 line.asked asks.1 refl refl)
+page_is setup script words (Replay a b) line asks = absurd (other_name _ _ (codes "replay") line.rows asks.0 line.asked asks.1 refl refl)
+page_is setup script words (Search a g n w) line asks = absurd (other_name _ _ (codes "search") line.rows asks.0 line.asked asks.1 refl refl)
+page_is setup script words (Same a b d) line asks = absurd (other_name _ _ (codes "same") line.rows asks.0 line.asked asks.1 refl refl)
+page_is setup script words (Clocks a b) line asks = absurd (other_name _ _ (codes "clocks") line.rows asks.0 line.asked asks.1 refl refl)
+page_is setup script words (Page a b) line asks =
+    let same = same_rows _ (codes "page") (codes "page") line.rows asks.0 line.asked asks.1 in (
       asks.2 ∙ ap (text_at (codes "SETUP")) same ∙ ap (λ t. unwrap_or t []) line.setup_at,
       asks.3 ∙ ap (text_at (codes "SCRIPT")) same ∙ ap (λ t. unwrap_or t []) line.script_at,
     )
@@ -452,5 +420,15 @@ clocks_asked_for words result ok taken setup script line =
     let its = clocks_line line.0.0 setup script line.1 in
     let its_words : ClockLine setup script words = subst (ClockLine setup script) (sym line.0.1) its in (
       IfOk-weaker result _ _ (λ asked asks. clocks_is setup script words asked its_words asks) ok,
+      taken its_words.taken,
+    )
+
+pub page_asked_for : (words : List Text) (result : Result Asked AskFault) → IfOk result (NamesAsked (subcommand_of program words))
+    → (takes program words ≡ true → IfErr result (λ fault. fault ≡ NoMemory no_memory)) → (setup script : Text) → IsPageLine words setup script
+    → IsRequest result (IsPageOf setup script)
+page_asked_for words result ok taken setup script line =
+    let its = page_line line.0.0 setup script line.1 in
+    let its_words : PageLine setup script words = subst (PageLine setup script) (sym line.0.1) its in (
+      IfOk-weaker result _ _ (λ asked asks. page_is setup script words asked its_words asks) ok,
       taken its_words.taken,
     )

@@ -84,6 +84,10 @@ same_app = with_arguments (codes "same") (required_rule (codes "SETUP") ∷ requ
 abbrev pub clocks_app : App
 clocks_app = on_files (codes "clocks") []
 
+-- `page SETUP SCRIPT`
+abbrev pub page_app : App
+page_app = on_files (codes "page") []
+
 -- the program with these subcommands too
 abbrev pub with_subcommands : App → List App → App
 with_subcommands = fold (λ app sub. with_subcommand app sub.top)
@@ -95,4 +99,4 @@ playing = with_subcommands (on_top (λ s. record s { has_version = true; disable
 -- the program with its subcommands
 unfoldable pub program : App
 program = with_subcommands playing (explain_app ∷ trail_app ∷ draw_app ∷ slice_app ∷ debug_app ∷ replay_app ∷ search_app
-    ∷ same_app ∷ clocks_app ∷ [])
+    ∷ same_app ∷ clocks_app ∷ page_app ∷ [])

@@ -6,7 +6,7 @@ use Rattle.cdb_arguments.specs.declared.command_line.Argument.{Argument}
 use Rattle.cdb_arguments.specs.declared.command_line.Argument.TheVariants as arg
 use Rattle.cdb_arguments.specs.declared.command_line.Subcommand.{Subcommand}
 use Rattle.cdb_arguments.specs.declared.command_line.Subcommand.TheVariants as sub
-use Rattle.cdb_arguments.specs.CommandLine.{required_rule, turns_rule, numbered, several, play_app, race_app, explain_app, trail_app, draw_app, slice_app, debug_app, replay_app, same_app, clocks_app, search_app}
+use Rattle.cdb_arguments.specs.CommandLine.{required_rule, turns_rule, numbered, several, play_app, race_app, explain_app, trail_app, draw_app, slice_app, debug_app, replay_app, page_app, same_app, clocks_app, search_app}
 
 abbrev pub rule_named : Argument → Rule
 rule_named arg.Setup = required_rule (codes "SETUP")
@@ -39,6 +39,7 @@ name_of sub.Replay = codes "replay"
 name_of sub.Search = codes "search"
 name_of sub.Same = codes "same"
 name_of sub.Clocks = codes "clocks"
+name_of sub.Page = codes "page"
 
 abbrev pub app_named : Subcommand → App
 app_named sub.Play = play_app
@@ -52,6 +53,7 @@ app_named sub.Replay = replay_app
 app_named sub.Search = search_app
 app_named sub.Same = same_app
 app_named sub.Clocks = clocks_app
+app_named sub.Page = page_app
 
 abbrev pub with_named : App → Subcommand → App
 with_named app subcommand = with_subcommand app (app_named subcommand).top

@@ -97,3 +97,7 @@ IsSameLine words setup first second = IsSubcommandLine (codes "same") (setup ∷
 -- `clocks SETUP SCRIPT`
 abbrev pub IsClocksLine : List Text → Text → Text → Type 0
 IsClocksLine words setup script = IsSubcommandLine (codes "clocks") (setup ∷ script ∷ []) words
+
+-- `page SETUP SCRIPT`
+abbrev pub IsPageLine : List Text → Text → Text → Type 0
+IsPageLine words setup script = IsSubcommandLine (codes "page") (setup ∷ script ∷ []) words

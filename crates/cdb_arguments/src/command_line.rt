@@ -45,6 +45,9 @@ const SAME: &str =
 
 const CLOCKS: &str = "Plays a script, and prints what stands with its vector clocks, for ShiViz";
 
+const PAGE: &str =
+    "Plays a script, and prints a page of the run for a browser, with each event's past and trail";
+
 const LINES: &str =
     "Without a subcommand it plays the script on standard input, on one process that proposes 7.
 
@@ -119,11 +122,12 @@ pub(crate) enum Subcommand {
     Search,
     Same,
     Clocks,
+    Page,
 }
 
 impl Subcommand {
     /// The subcommands, in the order in which help lists them.
-    pub(crate) const ALL: [Subcommand; 11] = [
+    pub(crate) const ALL: [Subcommand; 12] = [
         Subcommand::Play,
         Subcommand::Race,
         Subcommand::Explain,
@@ -135,6 +139,7 @@ impl Subcommand {
         Subcommand::Search,
         Subcommand::Same,
         Subcommand::Clocks,
+        Subcommand::Page,
     ];
 
     fn name<'a>(&self) -> &'a str
@@ -152,6 +157,7 @@ impl Subcommand {
             Subcommand::Search => "search",
             Subcommand::Same => "same",
             Subcommand::Clocks => "clocks",
+            Subcommand::Page => "page",
         }
     }
 
@@ -168,6 +174,7 @@ impl Subcommand {
             Subcommand::Search => SEARCH,
             Subcommand::Same => SAME,
             Subcommand::Clocks => CLOCKS,
+            Subcommand::Page => PAGE,
         }
     }
 
@@ -176,7 +183,9 @@ impl Subcommand {
         ensures { fold with_argument (new_app (name_of self.now)) result.now ≡ app_named self.now }
     {
         match self {
-            Subcommand::Play | Subcommand::Clocks => &[Argument::Setup, Argument::Script],
+            Subcommand::Play | Subcommand::Clocks | Subcommand::Page => {
+                &[Argument::Setup, Argument::Script]
+            }
             Subcommand::Race => &[Argument::Setup, Argument::Turns, Argument::Scripts],
             Subcommand::Explain | Subcommand::Trail => &[
                 Argument::Setup,

@@ -7,6 +7,7 @@ pub mod Reports
 pub mod Playing
 pub mod Racing
 pub mod Questions
+pub mod Paging
 pub mod Replaying
 pub mod Searching
 pub mod Comparing

@@ -7,6 +7,7 @@ use Rattle.cdb_program.specs.Comparing.{ComparesFiles}
 use Rattle.cdb_program.specs.Debugging.{DebugsFile}
 use Rattle.cdb_program.specs.Known.{Seen}
 use Rattle.cdb_program.specs.Outcomes.{RequestEnd}
+use Rattle.cdb_program.specs.Paging.{PagesFiles}
 use Rattle.cdb_program.specs.Playing.{PlaysInput, PlaysFiles}
 use Rattle.cdb_program.specs.Questions.{AsksFiles}
 use Rattle.cdb_program.specs.Racing.{RacesFiles}
@@ -53,6 +54,7 @@ Does (request.Replay setup journal) old new outcome = ReplaysFiles setup.now jou
 Does (request.Search setup goal seed walks) old new outcome = SearchesFile setup.now goal.now walks old new outcome
 Does (request.Same setup first second) old new outcome = ComparesFiles setup.now first.now second.now old new outcome
 Does (request.Clocks setup script) old new outcome = ClocksFiles setup.now script.now old new outcome
+Does (request.Page setup script) old new outcome = PagesFiles setup.now script.now old new outcome
 Does (request.Print text) old new outcome = ReadsNothing old new × Prints text.now old.output new.output outcome
 Does (request.Refuse fault) old new outcome = ReadsNothing old new × (new.output ≡ old.output) × (outcome ≡ Err fault)
 

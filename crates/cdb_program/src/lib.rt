@@ -7,6 +7,7 @@ mod debugs;
 mod fault;
 mod files;
 mod outside;
+mod pages;
 mod plays;
 mod questions;
 mod races;

@@ -9,6 +9,7 @@ use crate::debugs::debug_file;
 use crate::fault::Fault;
 use crate::files::Files;
 use crate::outside::Outside;
+use crate::pages::page_files;
 use crate::plays::{play_files, play_input};
 use crate::questions::answer_files;
 use crate::races::race_files;
@@ -82,6 +83,11 @@ pub enum Request<'a> {
         setup: &'a str,
         script: &'a str,
     },
+    /// Writes the page of the run that a script file leaves on a setup file.
+    Page {
+        setup: &'a str,
+        script: &'a str,
+    },
     /// Writes a text to standard output.
     Print(&'a str),
     /// Does nothing, and reports this fault.
@@ -142,6 +148,7 @@ fn carry_out<
             second,
         } => compare_files(alloc, setup, first, second, outside),
         Request::Clocks { setup, script } => clock_files(alloc, setup, script, outside),
+        Request::Page { setup, script } => page_files(alloc, setup, script, outside),
         Request::Print(text) => print(text, &mut outside.streams.output),
         Request::Refuse(fault) => Err(fault),
     }

@@ -9,3 +9,4 @@ pub mod Promised
 pub mod WalkBack
 pub mod Playing
 pub mod Telling
+pub mod Originating

@@ -6,5 +6,6 @@ pub mod Trails
 pub mod Trailed
 pub mod Oracle
 pub mod Written
+pub mod Origins
 -- what the code keeps for itself
 pub mod Played

@@ -12,10 +12,12 @@ mod flowing;
 pub mod laws;
 mod leader_flow;
 mod oracle;
+mod origins;
 mod played;
 mod trail;
 mod walk;
 mod writes;
 
+pub use origins::{Origin, origins_of};
 pub use trail::{Trail, trail_of};
 pub use writes::write_trail;

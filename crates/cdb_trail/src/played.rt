@@ -55,7 +55,11 @@ pub(crate) fn value_at<P: Flowing>(run: &Run<P>, spot: &Spot<P::Slot>) -> Option
 }
 
 /// Takes the next event of the run that is played again.
-fn take_next<P: Process>(alloc: Global, again: &mut Run<P>, event: &Event) -> Result<(), NoMemory>
+pub(crate) fn take_next<P: Process>(
+    alloc: Global,
+    again: &mut Run<P>,
+    event: &Event,
+) -> Result<(), NoMemory>
     requires { IsInOrder P.table (with_event again.old event.now) }
     ensures { OnOk result (again.new ≡ with_event again.old event.now) }
 {

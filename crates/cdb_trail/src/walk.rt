@@ -33,7 +33,7 @@ fn is_it<P: Flowing>(found: &Option<Spot<P::Slot>>, spot: &Spot<P::Slot>) -> boo
 }
 
 /// Whether a step of that flow sets the spot.
-fn sets<P: Flowing>(flow: &Flow<P::Slot>, spot: &Spot<P::Slot>) -> bool
+pub(crate) fn sets<P: Flowing>(flow: &Flow<P::Slot>, spot: &Spot<P::Slot>) -> bool
     ensures { IsTrue result ↔ Contains flow.now.sets spot.now }
 {
     let (first, second) = flow.spots_set();

@@ -7,7 +7,7 @@ use Rattle.clap.specs.declared.error.kind.ErrorKind.{ErrorKind}
 use Rattle.cdb_base.specs.Memory.{no_memory}
 use Rattle.cdb_arguments.specs.Asking.{NamesAsked, texts, words_status}
 use Rattle.cdb_arguments.specs.CommandLine.{program}
-use Rattle.cdb_arguments.specs.Plain.{IsNameAlone, IsPlayLine, IsQuestionLine, IsRaceLine, IsDebugLine, IsReplayLine, IsSameLine, IsClocksLine, IsSearchLine}
+use Rattle.cdb_arguments.specs.Plain.{IsNameAlone, IsPlayLine, IsQuestionLine, IsRaceLine, IsDebugLine, IsReplayLine, IsPageLine, IsSameLine, IsClocksLine, IsSearchLine}
 use Rattle.cdb_arguments.specs.declared.request.Asked.{Asked}
 use Rattle.cdb_arguments.specs.declared.request.Asked.TheVariants as asked
 use Rattle.cdb_base.specs.declared.question.Question.{Question}
@@ -18,7 +18,7 @@ use Rattle.cdb_program.specs.Known.{Seen}
 use Rattle.cdb_program.specs.Requests.{Performs}
 use Rattle.cdb_program.specs.declared.fault.Fault.TheVariants as fault
 use Rattle.cdb_program.specs.declared.request.Request.{Request}
-use Rattle.cdb_program.specs.declared.request.Request.TheVariants.{Script, Play, Race, Ask, Debug, DebugShared, Replay, Same, Clocks, Search, Print, Refuse}
+use Rattle.cdb_program.specs.declared.request.Request.TheVariants.{Script, Play, Race, Ask, Debug, DebugShared, Replay, Page, Same, Clocks, Search, Print, Refuse}
 
 -- a play of these two files
 abbrev pub IsPlayRequest : Text → Text → Request → Type 0
@@ -65,6 +65,11 @@ abbrev pub IsClocksRequest : Text → Text → Request → Type 0
 IsClocksRequest setup script (Clocks its_setup its_script) = (its_setup.now ≡ setup) × (its_script.now ≡ script)
 IsClocksRequest setup script request = ⊥
 
+-- a page of the run of these two files
+abbrev pub IsPageRequest : Text → Text → Request → Type 0
+IsPageRequest setup script (Page its_setup its_script) = (its_setup.now ≡ setup) × (its_script.now ≡ script)
+IsPageRequest setup script request = ⊥
+
 -- the request for what was asked for, where sessions have this prompt
 abbrev pub IsRequestOf : Text → Asked → Request → Type 0
 IsRequestOf prompt asked.Script request = request ≡ Script
@@ -76,6 +81,7 @@ IsRequestOf prompt (asked.Replay setup journal) request = IsReplayRequest setup.
 IsRequestOf prompt (asked.Search setup goal seed walks) request = IsSearchRequest setup.now goal.now seed walks request
 IsRequestOf prompt (asked.Same setup first second) request = IsSameRequest setup.now first.now second.now request
 IsRequestOf prompt (asked.Clocks setup script) request = IsClocksRequest setup.now script.now request
+IsRequestOf prompt (asked.Page setup script) request = IsPageRequest setup.now script.now request
 
 -- the request for what the subcommand that `clap` found asks for
 abbrev pub IsRequested : Text → Option (Text × List Row) → Request → Type 0
@@ -112,6 +118,7 @@ pub record IsAskedBy (prompt : Text) (words : List Text) (request : Request) : T
       → IsSearchLine words setup goal seed walks → OrOutOfMemory (IsSearchRequest setup goal seed walks) request
   pub same : (setup first second : Text) → IsSameLine words setup first second → OrOutOfMemory (IsSameRequest setup first second) request
   pub clocks : (setup script : Text) → IsClocksLine words setup script → OrOutOfMemory (IsClocksRequest setup script) request
+  pub page : (setup script : Text) → IsPageLine words setup script → OrOutOfMemory (IsPageRequest setup script) request
   pub taken : fault_of program words ≡ [] → OrOutOfMemory (IsRequested prompt (subcommand_of program words)) request
   pub refused : fault_of program words ≢ [] → OrOutOfMemory (IsRefusal (fault_of program words)) request
 

@@ -103,6 +103,7 @@ fn request_of<'a>(asked: &'a Asked<'a>, prompt: &'a str) -> Request<'a>
             second,
         },
         Asked::Clocks { setup, script } => Request::Clocks { setup, script },
+        Asked::Page { setup, script } => Request::Page { setup, script },
         Asked::Debug { setup, seats } if seats.is_empty() => Request::Debug { setup, prompt },
         Asked::Debug { setup, seats } => Request::DebugShared {
             setup,

@@ -45,6 +45,11 @@ const SLICE: Request<'static> = Request::Ask {
     question: Question::Slice(Some(STEP)),
 };
 
+const PAGE: Request<'static> = Request::Page {
+    setup: "one.json",
+    script: "eight.txt",
+};
+
 const REPLAY: Request<'static> = Request::Replay {
     setup: "one.json",
     journal: "journal.txt",
@@ -181,6 +186,7 @@ const UNREAD: &[(Request<'static>, &'static [&'static str])] = &[
         SLICE,
         &["cannot read one.json\n", "cannot read eight.txt\n"],
     ),
+    (PAGE, &["cannot read one.json\n", "cannot read eight.txt\n"]),
     (
         REPLAY,
         &["cannot read one.json\n", "cannot read journal.txt\n"],

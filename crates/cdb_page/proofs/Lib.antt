@@ -1,0 +1,4 @@
+pub mod Listing
+pub mod Following
+pub mod Tracing
+pub mod Answering

@@ -1,0 +1,9 @@
+use Rattle.cdb_page.proofs.entries.entry_at.Goals as goal
+
+pub returns : goal.returns
+returns c = record {
+  causes = rw c.events-events.ensures at c.in_ok-direct_causes.ensures;
+  dependents = rw c.events-events.ensures at c.in_ok-direct_dependents.ensures;
+  needed = rw c.events-events.ensures at c.needed_by.ensures;
+  origin = c.requires.origin;
+}

@@ -1,0 +1,6 @@
+-- what a reader of the contracts believes
+pub mod Listed
+pub mod Entries
+pub mod Pages
+pub mod Written
+pub mod Followed
