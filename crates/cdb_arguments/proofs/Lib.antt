@@ -4,9 +4,12 @@ pub mod Named
 pub mod PlainWords
 pub mod Values
 pub mod JournalLines
+pub mod SameLines
+pub mod ClockLines
+pub mod PageLines
 pub mod Lines
 pub mod Subcommands
 pub mod StepLines
 pub mod SeatLines
-pub mod PageLines
+pub mod SearchLines
 pub mod Requests

@@ -10,8 +10,8 @@ use Rattle.cdb_arguments.specs.declared.request.AskFault.{AskFault}
 use Rattle.cdb_base.specs.Memory.{no_memory}
 use Rattle.cdb_arguments.specs.declared.request.AskFault.TheVariants.{Words, NoMemory}
 use Rattle.cdb_arguments.specs.declared.request.Asked.{Asked}
-use Rattle.cdb_arguments.specs.declared.request.Asked.TheVariants.{Script, Play, Race, Ask, Debug, Replay, Page}
-use Rattle.cdb_arguments.specs.Plain.{IsDebugLine, IsPageLine, IsPlayLine, IsQuestionLine, IsRaceLine, IsReplayLine, WritesNumber, question_name}
+use Rattle.cdb_arguments.specs.declared.request.Asked.TheVariants.{Script, Play, Race, Ask, Debug, Replay, Same, Clocks, Page, Search}
+use Rattle.cdb_arguments.specs.Plain.{IsDebugLine, IsPlayLine, IsQuestionLine, IsRaceLine, IsReplayLine, IsSameLine, IsClocksLine, IsPageLine, IsSearchLine, WritesNumber, question_name}
 use Rattle.cdb_base.specs.declared.question.Question.{Question}
 use Rattle.cdb_base.specs.declared.question.Question.TheVariants.{Explain, Trail, Draw, Slice}
 use Rattle.cdb_base.specs.declared.question.StepAsked.{StepAsked}
@@ -25,7 +25,8 @@ abbrev pub NamesOne : Option (Text × List Row) → Type 0
 NamesOne None = Unit {0}
 NamesOne (Some found) = (found.0 ≡ codes "play") ⊎ ((found.0 ≡ codes "race")
     ⊎ ((found.0 ≡ codes "explain") ⊎ ((found.0 ≡ codes "trail") ⊎ ((found.0 ≡ codes "draw")
-    ⊎ ((found.0 ≡ codes "slice") ⊎ ((found.0 ≡ codes "debug") ⊎ ((found.0 ≡ codes "replay") ⊎ (found.0 ≡ codes "page"))))))))
+    ⊎ ((found.0 ≡ codes "slice") ⊎ ((found.0 ≡ codes "debug") ⊎ ((found.0 ≡ codes "replay")
+    ⊎ ((found.0 ≡ codes "search") ⊎ ((found.0 ≡ codes "same") ⊎ ((found.0 ≡ codes "clocks") ⊎ (found.0 ≡ codes "page")))))))))))
 
 -- the text of an argument, which is empty where the matches have none
 abbrev pub text_at : Text → List Row → Text
@@ -85,8 +86,18 @@ NamesAsked found (Debug setup seats) =
 NamesAsked found (Replay setup journal) =
     (rows : List Row) × (found ≡ Some (codes "replay", rows)) × (setup.now ≡ text_at (codes "SETUP") rows)
     × (journal.now ≡ text_at (codes "JOURNAL") rows)
+NamesAsked found (Search setup goal seed walks) =
+    (rows : List Row) × (found ≡ Some (codes "search", rows)) × (setup.now ≡ text_at (codes "SETUP") rows)
+    × (goal.now ≡ text_at (codes "GOAL") rows) × IsNumber (text_at (codes "SEED") rows) seed × IsNumber (text_at (codes "WALKS") rows) walks
+NamesAsked found (Same setup first second) =
+    (rows : List Row) × (found ≡ Some (codes "same", rows)) × (setup.now ≡ text_at (codes "SETUP") rows)
+    × (first.now ≡ text_at (codes "FIRST") rows) × (second.now ≡ text_at (codes "SECOND") rows)
+NamesAsked found (Clocks setup script) =
+    (rows : List Row) × (found ≡ Some (codes "clocks", rows)) × (setup.now ≡ text_at (codes "SETUP") rows)
+    × (script.now ≡ text_at (codes "SCRIPT") rows)
 NamesAsked found (Page setup script) =
-    (rows : List Row) × (found ≡ Some (codes "page", rows)) × (setup.now ≡ text_at (codes "SETUP") rows) × (script.now ≡ text_at (codes "SCRIPT") rows)
+    (rows : List Row) × (found ≡ Some (codes "page", rows)) × (setup.now ≡ text_at (codes "SETUP") rows)
+    × (script.now ≡ text_at (codes "SCRIPT") rows)
 
 -- a play of these two files
 abbrev pub IsPlayOf : Text → Text → Asked → Type 0
@@ -115,7 +126,24 @@ abbrev pub IsReplayOf : Text → Text → Asked → Type 0
 IsReplayOf setup journal (Replay its_setup its_journal) = (its_setup.now ≡ setup) × (its_journal.now ≡ journal)
 IsReplayOf setup journal asked = ⊥
 
--- a page of the run of these two files
+-- a search for a run of this setup in which the goal of this word holds, with this seed and so many walks
+abbrev pub IsSearchOf : Text → Text → ℕ → ℕ → Asked → Type 0
+IsSearchOf setup goal seed walks (Search its_setup its_goal its_seed its_walks) =
+    (its_setup.now ≡ setup) × (its_goal.now ≡ goal) × (its_seed ≡ seed) × (its_walks ≡ walks)
+IsSearchOf setup goal seed walks asked = ⊥
+
+-- whether these two scripts leave the same run on this setup
+abbrev pub IsSameOf : Text → Text → Text → Asked → Type 0
+IsSameOf setup first second (Same its_setup its_first its_second) =
+    (its_setup.now ≡ setup) × (its_first.now ≡ first) × (its_second.now ≡ second)
+IsSameOf setup first second asked = ⊥
+
+-- the clocks of the run that this script leaves on this setup
+abbrev pub IsClocksOf : Text → Text → Asked → Type 0
+IsClocksOf setup script (Clocks its_setup its_script) = (its_setup.now ≡ setup) × (its_script.now ≡ script)
+IsClocksOf setup script asked = ⊥
+
+-- the page of the run that this script leaves on this setup
 abbrev pub IsPageOf : Text → Text → Asked → Type 0
 IsPageOf setup script (Page its_setup its_script) = (its_setup.now ≡ setup) × (its_script.now ≡ script)
 IsPageOf setup script asked = ⊥
@@ -145,6 +173,18 @@ AsksForDebug result words =
 abbrev pub AsksForReplay : Result Asked AskFault → List Text → Type 0
 AsksForReplay result words =
     (setup journal : Text) → IsReplayLine words setup journal → IsRequest result (IsReplayOf setup journal)
+
+abbrev pub AsksForSearch : Result Asked AskFault → List Text → Type 0
+AsksForSearch result words =
+    (setup goal : Text) (seed walks : ℕ) → IsSearchLine words setup goal seed walks → IsRequest result (IsSearchOf setup goal seed walks)
+
+abbrev pub AsksForSame : Result Asked AskFault → List Text → Type 0
+AsksForSame result words =
+    (setup first second : Text) → IsSameLine words setup first second → IsRequest result (IsSameOf setup first second)
+
+abbrev pub AsksForClocks : Result Asked AskFault → List Text → Type 0
+AsksForClocks result words =
+    (setup script : Text) → IsClocksLine words setup script → IsRequest result (IsClocksOf setup script)
 
 abbrev pub AsksForPage : Result Asked AskFault → List Text → Type 0
 AsksForPage result words =

@@ -70,6 +70,20 @@ debug_app = with_arguments (codes "debug") (required_rule (codes "SETUP") ∷ se
 abbrev pub replay_app : App
 replay_app = with_arguments (codes "replay") (required_rule (codes "SETUP") ∷ required_rule (codes "JOURNAL") ∷ [])
 
+-- `search SETUP GOAL SEED WALKS`
+abbrev pub search_app : App
+search_app =
+    with_arguments (codes "search")
+    (required_rule (codes "SETUP") ∷ required_rule (codes "GOAL") ∷ numbered (required_rule (codes "SEED")) ∷ numbered (required_rule (codes "WALKS")) ∷ [])
+
+-- `same SETUP FIRST SECOND`
+abbrev pub same_app : App
+same_app = with_arguments (codes "same") (required_rule (codes "SETUP") ∷ required_rule (codes "FIRST") ∷ required_rule (codes "SECOND") ∷ [])
+
+-- `clocks SETUP SCRIPT`
+abbrev pub clocks_app : App
+clocks_app = on_files (codes "clocks") []
+
 -- `page SETUP SCRIPT`
 abbrev pub page_app : App
 page_app = on_files (codes "page") []
@@ -84,4 +98,5 @@ playing = with_subcommands (on_top (λ s. record s { has_version = true; disable
 
 -- the program with its subcommands
 unfoldable pub program : App
-program = with_subcommands playing (explain_app ∷ trail_app ∷ draw_app ∷ slice_app ∷ debug_app ∷ replay_app ∷ page_app ∷ [])
+program = with_subcommands playing (explain_app ∷ trail_app ∷ draw_app ∷ slice_app ∷ debug_app ∷ replay_app ∷ search_app
+    ∷ same_app ∷ clocks_app ∷ page_app ∷ [])

@@ -35,9 +35,18 @@ const SLICE: &str =
 
 const DEBUG: &str = "Carries each command out before the next is read, for one user or for several";
 
+const SEARCH: &str =
+    "Walks at random until a goal holds, and prints a script of the run in which it does";
+
 const REPLAY: &str = "Plays a journal again, and prints each reply behind the number of its seat";
 
-const PAGE: &str = "Plays a script, and prints a page of the run for a browser, with each event's past and trail";
+const SAME: &str =
+    "Plays two scripts, and tells whether they leave the same run; else what tells the runs apart";
+
+const CLOCKS: &str = "Plays a script, and prints what stands with its vector clocks, for ShiViz";
+
+const PAGE: &str =
+    "Plays a script, and prints a page of the run for a browser, with each event's past and trail";
 
 const LINES: &str =
     "Without a subcommand it plays the script on standard input, on one process that proposes 7.
@@ -92,6 +101,12 @@ pub(crate) enum Argument {
     Step,
     Seats,
     Journal,
+    Goal,
+    Seed,
+    Walks,
+    /// The script that leaves the first of two runs, and the one that leaves the second.
+    First,
+    Second,
 }
 
 /// A subcommand of the program.
@@ -104,12 +119,15 @@ pub(crate) enum Subcommand {
     Slice,
     Debug,
     Replay,
+    Search,
+    Same,
+    Clocks,
     Page,
 }
 
 impl Subcommand {
     /// The subcommands, in the order in which help lists them.
-    pub(crate) const ALL: [Subcommand; 9] = [
+    pub(crate) const ALL: [Subcommand; 12] = [
         Subcommand::Play,
         Subcommand::Race,
         Subcommand::Explain,
@@ -118,6 +136,9 @@ impl Subcommand {
         Subcommand::Slice,
         Subcommand::Debug,
         Subcommand::Replay,
+        Subcommand::Search,
+        Subcommand::Same,
+        Subcommand::Clocks,
         Subcommand::Page,
     ];
 
@@ -133,6 +154,9 @@ impl Subcommand {
             Subcommand::Slice => "slice",
             Subcommand::Debug => "debug",
             Subcommand::Replay => "replay",
+            Subcommand::Search => "search",
+            Subcommand::Same => "same",
+            Subcommand::Clocks => "clocks",
             Subcommand::Page => "page",
         }
     }
@@ -147,6 +171,9 @@ impl Subcommand {
             Subcommand::Slice => SLICE,
             Subcommand::Debug => DEBUG,
             Subcommand::Replay => REPLAY,
+            Subcommand::Search => SEARCH,
+            Subcommand::Same => SAME,
+            Subcommand::Clocks => CLOCKS,
             Subcommand::Page => PAGE,
         }
     }
@@ -156,7 +183,10 @@ impl Subcommand {
         ensures { fold with_argument (new_app (name_of self.now)) result.now ≡ app_named self.now }
     {
         match self {
-            Subcommand::Play | Subcommand::Page => &[Argument::Setup, Argument::Script],
+            Subcommand::Play | Subcommand::Clocks | Subcommand::Page => &[
+                Argument::Setup,
+                Argument::Script,
+            ],
             Subcommand::Race => &[Argument::Setup, Argument::Turns, Argument::Scripts],
             Subcommand::Explain | Subcommand::Trail => &[
                 Argument::Setup,
@@ -172,6 +202,13 @@ impl Subcommand {
             ],
             Subcommand::Debug => &[Argument::Setup, Argument::Seats],
             Subcommand::Replay => &[Argument::Setup, Argument::Journal],
+            Subcommand::Search => &[
+                Argument::Setup,
+                Argument::Goal,
+                Argument::Seed,
+                Argument::Walks,
+            ],
+            Subcommand::Same => &[Argument::Setup, Argument::First, Argument::Second],
         }
     }
 }
@@ -262,6 +299,31 @@ fn argument_of<'a>(alloc: Global, argument: &Argument) -> Arg<'a>
             alloc,
             "JOURNAL",
             "The file of the journal, one entry a line: its seat, and its command",
+        ),
+        Argument::Goal => required(
+            alloc,
+            "GOAL",
+            "differ, all, stuck:R or decides:P:V: what has to hold",
+        ),
+        Argument::Seed => numbered(required(
+            alloc,
+            "SEED",
+            "What the walks depend on, 1 to 999999",
+        )),
+        Argument::Walks => numbered(required(
+            alloc,
+            "WALKS",
+            "How many walks there are at most, 1 to 999999",
+        )),
+        Argument::First => required(
+            alloc,
+            "FIRST",
+            "The file of the script that leaves the first run",
+        ),
+        Argument::Second => required(
+            alloc,
+            "SECOND",
+            "The file of the script that leaves the second run",
         ),
     }
 }

@@ -4,7 +4,7 @@ ghost use Rattle.std.specs.Prelude.{◌≡◌, OnOk, IfOk, IfErr, Some, [], true
 ghost use Rattle.clap.specs.Words.{Kinds, Text, HasKind, fault_of, found_of, kind_of, rows_of, subcommand_of, subcommand_rows_of, takes};
 ghost use Rattle.cdb_base.specs.Memory.{no_memory};
 ghost use Rattle.cdb_arguments.specs.CommandLine.{program};
-ghost use Rattle.cdb_arguments.specs.Asking.{HasStepOf, IsAnyStepIn, IsStepIn, NamesOne, IsTurns, IsNumber, IsNumberAt, text_at, texts, texts_at, NamesAsked, IsOfKinds, IsRequest, AsksForPlay, AsksForRace, AsksQuestion, AsksForDebug, AsksForReplay, AsksForPage, ask_status_of, words_status};
+ghost use Rattle.cdb_arguments.specs.Asking.{HasStepOf, IsAnyStepIn, IsStepIn, NamesOne, IsTurns, IsNumber, IsNumberAt, text_at, texts, texts_at, NamesAsked, IsOfKinds, IsRequest, AsksForPlay, AsksForRace, AsksQuestion, AsksForDebug, AsksForReplay, AsksForSame, AsksForClocks, AsksForPage, AsksForSearch, ask_status_of, words_status};
 ghost use Rattle.cdb_arguments.specs.Plain.{IsNameAlone, question_name};
 
 use crate::command_line::program;
@@ -171,7 +171,40 @@ fn replay_of<'a>(found: &ArgMatches<'a>) -> Asked<'a>
     }
 }
 
-/// A page of the run of two files.
+/// A search for a run in which a goal holds.
+fn search_of<'a>(found: &ArgMatches<'a>) -> Asked<'a>
+    ensures { NamesAsked (Some (codes "search", rows_of (found_of found.now))) result }
+{
+    Asked::Search {
+        setup: text_of(found, "SETUP"),
+        goal: text_of(found, "GOAL"),
+        seed: number_of(text_of(found, "SEED")),
+        walks: number_of(text_of(found, "WALKS")),
+    }
+}
+
+/// Whether two scripts leave the same run.
+fn same_of<'a>(found: &ArgMatches<'a>) -> Asked<'a>
+    ensures { NamesAsked (Some (codes "same", rows_of (found_of found.now))) result }
+{
+    Asked::Same {
+        setup: text_of(found, "SETUP"),
+        first: text_of(found, "FIRST"),
+        second: text_of(found, "SECOND"),
+    }
+}
+
+/// The clocks of the run that a script leaves.
+fn clocks_of<'a>(found: &ArgMatches<'a>) -> Asked<'a>
+    ensures { NamesAsked (Some (codes "clocks", rows_of (found_of found.now))) result }
+{
+    Asked::Clocks {
+        setup: text_of(found, "SETUP"),
+        script: text_of(found, "SCRIPT"),
+    }
+}
+
+/// A page of the run that a script leaves.
 fn page_of<'a>(found: &ArgMatches<'a>) -> Asked<'a>
     ensures { NamesAsked (Some (codes "page", rows_of (found_of found.now))) result }
 {
@@ -198,6 +231,9 @@ fn asked_under<'a>(
         "slice" => Ok(question_of(found, Question::Slice(any_step_of(found)))),
         "debug" => debug_of(alloc, found),
         "replay" => Ok(replay_of(found)),
+        "search" => Ok(search_of(found)),
+        "same" => Ok(same_of(found)),
+        "clocks" => Ok(clocks_of(found)),
         "page" => Ok(page_of(found)),
         _ => race_of(alloc, found),
     }
@@ -252,8 +288,9 @@ fn read<'a>(alloc: Global, words: &'a [&'a str]) -> Result<Asked<'a>, AskFault>
 /// script on standard input, `play SETUP SCRIPT` for a play, `race SETUP TURNS SCRIPT..` for a race,
 /// `explain SETUP SCRIPT P [K]` for what led to a step, `trail SETUP SCRIPT P [K]` for the trail of a value to it,
 /// `draw SETUP SCRIPT [P [K]]` for a picture, `slice SETUP SCRIPT [P [K]]` for a script, `debug SETUP [SEAT..]` for a
-/// session that goes on line by line, `replay SETUP JOURNAL` for a journal that is played again, `page SETUP SCRIPT` for a
-/// page. P and K are numbers of 1 to 999,999.
+/// session that goes on line by line, `replay SETUP JOURNAL` for a journal that is played again, `search SETUP GOAL SEED WALKS` for
+/// a search, `same SETUP FIRST SECOND` for whether two scripts leave the same run, `clocks SETUP SCRIPT` for clocks, `page SETUP SCRIPT` for a page. P, K,
+/// SEED and WALKS are numbers of 1 to 999,999.
 ///
 /// # Errors
 /// `Words` with `clap`'s error for arguments that the command line does not take, and for those alone; the error is
@@ -277,6 +314,9 @@ pub fn asked<'a>(alloc: Global, words: &'a [&'a str]) -> Result<Asked<'a>, AskFa
     ensures question { AsksQuestion result (texts words.entry.now) }
     ensures debug { AsksForDebug result (texts words.entry.now) }
     ensures replay { AsksForReplay result (texts words.entry.now) }
+    ensures search { AsksForSearch result (texts words.entry.now) }
+    ensures same { AsksForSame result (texts words.entry.now) }
+    ensures clocks { AsksForClocks result (texts words.entry.now) }
     ensures page { AsksForPage result (texts words.entry.now) }
 {
     read(alloc, words)

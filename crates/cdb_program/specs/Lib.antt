@@ -9,6 +9,9 @@ pub mod Racing
 pub mod Questions
 pub mod Paging
 pub mod Replaying
+pub mod Searching
+pub mod Comparing
+pub mod Clocks
 pub mod Debugging
 pub mod Seating
 pub mod Requests

@@ -13,4 +13,5 @@ mod script;
 mod slices;
 
 pub use past::past_of;
+pub use script::script_of;
 pub use slices::slice;

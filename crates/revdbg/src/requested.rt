@@ -82,6 +82,27 @@ fn request_of<'a>(asked: &'a Asked<'a>, prompt: &'a str) -> Request<'a>
             question: *question,
         },
         Asked::Replay { setup, journal } => Request::Replay { setup, journal },
+        Asked::Search {
+            setup,
+            goal,
+            seed,
+            walks,
+        } => Request::Search {
+            setup,
+            goal,
+            seed: *seed,
+            walks: *walks,
+        },
+        Asked::Same {
+            setup,
+            first,
+            second,
+        } => Request::Same {
+            setup,
+            first,
+            second,
+        },
+        Asked::Clocks { setup, script } => Request::Clocks { setup, script },
         Asked::Page { setup, script } => Request::Page { setup, script },
         Asked::Debug { setup, seats } if seats.is_empty() => Request::Debug { setup, prompt },
         Asked::Debug { setup, seats } => Request::DebugShared {
