@@ -11,5 +11,5 @@ pub mod laws;
 mod script;
 mod slices;
 
-pub use script::script_of;
+pub use script::{command_for, script_of};
 pub use slices::slice;
