@@ -21,7 +21,7 @@ IsPositionFor history None None = Unit {0}
 IsPositionFor history (Some step) (Some position) = IsStepAsked history step.p step.k position
 IsPositionFor history step position = ⊥
 
--- the text is the picture of the run, in which what led to the step is in full
+-- the text is the picture of the run, in which the trail to the step is bold and what else has led to it in full
 abbrev pub IsPictureFor : (Parts → Rules) → RunView → ℕ → Option StepAsked → List ℕ → Type 0
 IsPictureFor rules run columns step text =
     (position : Option ℕ) × IsPositionFor run.history step position × IsPicture rules run columns position text

@@ -15,6 +15,7 @@ mod sends;
 pub mod style;
 mod waits;
 mod way;
+mod weight;
 
 pub use draws::draw_run;
 pub use laws::arrows_keep_off_marks;

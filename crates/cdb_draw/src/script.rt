@@ -1,6 +1,7 @@
 //! A script is carried out without its replies, and the run that it leaves is drawn.
 
 ghost use Rattle.std.specs.Prelude.{◌≡◌, ◌<◌, ◌≤◌, length, Err, IfErr, IfOk, IfSome};
+ghost use Rattle.cdb_agreement.specs.Algorithms.{rules};
 ghost use Rattle.cdb_draw.specs.Drawn.{draw_ending, Draws, IsFaultOfDraw, IsPictureFor, IsPositionFor};
 ghost use Rattle.cdb_explain.specs.Asked.{IsMissing};
 ghost use Rattle.cdb_explain.specs.StepFaults.{IsFaultOfStep};
@@ -12,9 +13,9 @@ ghost use Rattle.cdb_rules.specs.ByRules.{IsInOrder};
 ghost use Rattle.cdb_setup.specs.declared.fault.SetupFault.{SetupFault as SetupFaultName};
 
 use crate::draws::draw_run;
+use cdb_any_run::AnyRun;
 use cdb_base::limits::MAX_ENTRIES;
 use cdb_base::{Event, StepAsked};
-use cdb_deeds::Telling;
 use cdb_explain::{ExplainFault, position_of_step, run_left_by};
 use cdb_rules::Trace;
 use cdb_streams::{Sink, Source};
@@ -37,32 +38,33 @@ fn position_for(events: &[Event], step: Option<StepAsked>) -> Result<Option<usiz
 }
 
 /// Writes the picture of a run. The step is looked for before anything is written.
-fn write_drawing<T: Telling, W: Sink>(
+fn write_drawing<W: Sink>(
     alloc: Global,
     run: &Trace,
     columns: u32,
     step: Option<StepAsked>,
     out: &mut W,
 ) -> Result<(), ExplainFault>
-    requires valid { IsInOrder T.rules run.now }
+    requires valid { IsInOrder rules run.now }
     requires few { length run.now.history ≤ MAX_ENTRIES }
     ensures wrote { IsWritten W.stream (draw_ending result) out.old out.new
-        (IsPictureFor T.rules run.now columns step) }
+        (IsPictureFor rules run.now columns step) }
     ensures fault { IfErr result (IsFaultOfStep (IsMissing run.now.history step) ⊥) }
 {
     let position = position_for(run.events(), step)?;
-    draw_run::<T, W>(alloc, run, columns, position, out)?;
+    draw_run(alloc, run, columns, position, out)?;
     Ok(())
 }
 
 /// Draws the run that a script leaves, and writes the picture as SVG, with `columns` columns to a row; with 0 all are in
-/// one row. With a step what led to it is drawn in full and the rest pale; without one everything is in full.
+/// one row. With a step the trail to it is drawn bold, what else has led to it in full, and the rest pale; without one
+/// everything is in full.
 ///
 /// The setup is read first, then the whole script, then all its lines, and the step is looked for before anything is
 /// written. So after `Write` what was written is a beginning of the picture; after `NoMemory` nothing was, or whole
 /// pieces of 65,536 bytes; and after any other fault nothing. After `Setup` the script is not read; `Read` comes only
 /// where the reader failed in this call, and `Write` only where the writer did.
-pub fn draw<T: Telling, R: Source, W: Sink>(
+pub fn draw<R: Source, W: Sink>(
     alloc: Global,
     setup: &[u8],
     script: &mut R,
@@ -71,13 +73,13 @@ pub fn draw<T: Telling, R: Source, W: Sink>(
     out: &mut W,
 ) -> Result<(), ExplainFault>
     ensures wrote { IsWritten W.stream (draw_ending result) out.old out.new
-        (Draws T.rules setup.now columns step (R.stream script.old) (R.stream script.new)) }
+        (Draws rules setup.now columns step (R.stream script.old) (R.stream script.new)) }
     ensures fault { IfErr result
-        (IsFaultOfDraw T.rules setup.now step (R.stream script.old) (R.stream script.new)) }
+        (IsFaultOfDraw rules setup.now step (R.stream script.old) (R.stream script.new)) }
     ensures unread { (fault : SetupFaultName) →
         result ≡ Err (of_play (play.Setup fault)) → script.new ≡ script.old }
     ensures read { FailsWhere R.stream (result ≡ Err (of_play play.Read)) script.old script.new }
 {
-    let run = run_left_by::<T, R>(alloc, setup, script)?;
-    write_drawing::<T, W>(alloc, &run, columns, step, out)
+    let run = run_left_by::<AnyRun, R>(alloc, setup, script)?;
+    write_drawing(alloc, &run, columns, step, out)
 }

@@ -1,5 +1,6 @@
 use Rattle.std.proofs.Common.{Err}
 use Rattle.std.proofs.lemmas.Result.{err_from_is_err_and}
+use Rattle.cdb_agreement.specs.Algorithms.{rules}
 use Rattle.cdb_streams.proofs.Ending.{written_as}
 use Rattle.cdb_streams.specs.Endings.{pieces_ending}
 use Rattle.cdb_rules.specs.RunView.{RunView}
@@ -17,5 +18,5 @@ returns-in_err-draw_run-clause-wrote g c =
     let why = c.in_err-draw_run.field-0.0 in
     rw (p.1, p.2, draw_ends (Unit {0}) why)
     (written_as g.W.Sink.stream (pieces_ending {A = Unit {0}} (Err why)) c.args.out.now c.draw_run.new.out
-    (IsPicture g.T.Runs.rules run c.args.columns position) (IsPictureFor g.T.Runs.rules run c.args.columns c.args.step)
+    (IsPicture rules run c.args.columns position) (IsPictureFor rules run c.args.columns c.args.step)
     (λ text picture. (position, at, picture)) c.in_err-draw_run.ensures)
