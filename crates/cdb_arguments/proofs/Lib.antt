@@ -9,4 +9,5 @@ pub mod Subcommands
 pub mod StepLines
 pub mod SeatLines
 pub mod SearchLines
+pub mod ShrinkLines
 pub mod Requests

@@ -13,13 +13,13 @@ use Rattle.std.proofs.lemmas.Result.{IfOk-weaker}
 use Rattle.clap.specs.Words.{Row, Text, first_of, subcommand_of, takes}
 use Rattle.clap.specs.declared.builder.value_parser.ValueParser.TheVariants as vp
 use Rattle.clap.proofs.ValueTestLemmas.{Accepts-accepts}
-use Rattle.cdb_arguments.specs.Asking.{HasStepOf, IsAnyStepIn, IsStepIn, NamesAsked, IsRequest, IsPlayOf, IsQuestionOf, IsRaceOf, IsDebugOf, IsReplayOf, IsSearchOf, IsTurns, IsNumber, IsNumberOf, text_at, texts_at}
+use Rattle.cdb_arguments.specs.Asking.{HasStepOf, IsAnyStepIn, IsStepIn, NamesAsked, IsRequest, IsPlayOf, IsQuestionOf, IsRaceOf, IsDebugOf, IsReplayOf, IsSearchOf, IsShrinkOf, IsTurns, IsNumber, IsNumberOf, text_at, texts_at}
 use Rattle.cdb_arguments.specs.CommandLine.{program}
-use Rattle.cdb_arguments.specs.Plain.{IsNameAlone, IsNumberOfTurns, IsPlain, IsPlayLine, IsQuestionLine, IsRaceLine, IsDebugLine, IsReplayLine, IsSearchLine, WritesNumber, question_name}
+use Rattle.cdb_arguments.specs.Plain.{IsNameAlone, IsNumberOfTurns, IsPlain, IsPlayLine, IsQuestionLine, IsRaceLine, IsDebugLine, IsReplayLine, IsSearchLine, IsShrinkLine, WritesNumber, question_name}
 use Rattle.cdb_arguments.specs.declared.request.AskFault.{AskFault}
 use Rattle.cdb_arguments.specs.declared.request.AskFault.TheVariants.{NoMemory}
 use Rattle.cdb_arguments.specs.declared.request.Asked.{Asked}
-use Rattle.cdb_arguments.specs.declared.request.Asked.TheVariants.{Script, Play, Race, Ask, Debug, Replay, Search}
+use Rattle.cdb_arguments.specs.declared.request.Asked.TheVariants.{Script, Play, Race, Ask, Debug, Replay, Search, Shrink}
 use Rattle.cdb_base.specs.declared.question.Question.{Question}
 use Rattle.cdb_base.specs.declared.question.Question.TheVariants.{Explain, Trail, Draw, Slice}
 use Rattle.cdb_base.specs.declared.question.StepAsked.{StepAsked}
@@ -28,6 +28,7 @@ use Rattle.cdb_arguments.proofs.StepLines.{OptionWritesNumber, QuestionLine, Ste
 use Rattle.cdb_arguments.proofs.JournalLines.{JournalLine, replay_line}
 use Rattle.cdb_arguments.proofs.SeatLines.{SeatLine, debug_line}
 use Rattle.cdb_arguments.proofs.SearchLines.{SearchLine, search_line}
+use Rattle.cdb_arguments.proofs.ShrinkLines.{ShrinkLine, shrink_line}
 use Rattle.cdb_arguments.proofs.Lines.{nothing_asked, nothing_taken, play_asked, play_taken, PlayRows, race_asked, race_taken, RaceRows, AcceptsTurns}
 
 -- ---- what is asked for where clap has these matches
@@ -40,6 +41,7 @@ script_is found (Ask a b q) none asks = absurd (none-some _ (sym none ∙ asks.1
 script_is found (Debug a b) none asks = absurd (none-some _ (sym none ∙ asks.1))
 script_is found (Replay a b) none asks = absurd (none-some _ (sym none ∙ asks.1))
 script_is found (Search a g n w) none asks = absurd (none-some _ (sym none ∙ asks.1))
+script_is found (Shrink a b g) none asks = absurd (none-some _ (sym none ∙ asks.1))
 
 some_same : {X : Type 0} (a b : X) → Some a ≡ Some b → a ≡ b
 some_same a b same = ap (λ found. unwrap_or found a) same
@@ -63,11 +65,13 @@ record Differs (question : Question) : Type 0 where
   debug : bytes_eq (question_name question) (codes "debug") ≡ false
   replay : bytes_eq (question_name question) (codes "replay") ≡ false
   search : bytes_eq (question_name question) (codes "search") ≡ false
+  shrink : bytes_eq (question_name question) (codes "shrink") ≡ false
   from_play : bytes_eq (codes "play") (question_name question) ≡ false
   from_race : bytes_eq (codes "race") (question_name question) ≡ false
   from_debug : bytes_eq (codes "debug") (question_name question) ≡ false
   from_replay : bytes_eq (codes "replay") (question_name question) ≡ false
   from_search : bytes_eq (codes "search") (question_name question) ≡ false
+  from_shrink : bytes_eq (codes "shrink") (question_name question) ≡ false
   own : bytes_eq (question_name question) (question_name question) ≡ true
 
 differs : (question : Question) → Differs question
@@ -78,11 +82,13 @@ differs (Explain step) =
       debug = refl;
       replay = refl;
       search = refl;
+      shrink = refl;
       from_play = refl;
       from_race = refl;
       from_debug = refl;
       from_replay = refl;
       from_search = refl;
+      from_shrink = refl;
       own = refl;
     }
 differs (Trail step) =
@@ -92,11 +98,13 @@ differs (Trail step) =
       debug = refl;
       replay = refl;
       search = refl;
+      shrink = refl;
       from_play = refl;
       from_race = refl;
       from_debug = refl;
       from_replay = refl;
       from_search = refl;
+      from_shrink = refl;
       own = refl;
     }
 differs (Draw step) =
@@ -106,11 +114,13 @@ differs (Draw step) =
       debug = refl;
       replay = refl;
       search = refl;
+      shrink = refl;
       from_play = refl;
       from_race = refl;
       from_debug = refl;
       from_replay = refl;
       from_search = refl;
+      from_shrink = refl;
       own = refl;
     }
 differs (Slice step) =
@@ -120,11 +130,13 @@ differs (Slice step) =
       debug = refl;
       replay = refl;
       search = refl;
+      shrink = refl;
       from_play = refl;
       from_race = refl;
       from_debug = refl;
       from_replay = refl;
       from_search = refl;
+      from_shrink = refl;
       own = refl;
     }
 
@@ -140,6 +152,7 @@ play_is found rows setup script (Race a n b) is have asks = absurd (other_name f
 play_is found rows setup script (Ask a b q) is have asks = absurd (other_name found _ (question_name q) rows asks.0 is asks.1 (differs q).play refl)
 play_is found rows setup script (Replay a b) is have asks = absurd (other_name found _ (codes "replay") rows asks.0 is asks.1 refl refl)
 play_is found rows setup script (Search a g n w) is have asks = absurd (other_name found _ (codes "search") rows asks.0 is asks.1 refl refl)
+play_is found rows setup script (Shrink a b g) is have asks = absurd (other_name found _ (codes "shrink") rows asks.0 is asks.1 refl refl)
 play_is found rows setup script (Debug a b) is have asks = absurd (other_name found _ (codes "debug") rows asks.0 is asks.1 refl refl)
 
 race_is : (found : Option (Text × List Row)) (rows : List Row) (setup text : Text) (turns : ℕ) (scripts : List Text) (asked : Asked)
@@ -149,6 +162,7 @@ race_is found rows setup text turns scripts (Play a b) is have number asks = abs
 race_is found rows setup text turns scripts (Ask a b q) is have number asks = absurd (other_name found _ (question_name q) rows asks.0 is asks.1 (differs q).race refl)
 race_is found rows setup text turns scripts (Replay a b) is have number asks = absurd (other_name found _ (codes "replay") rows asks.0 is asks.1 refl refl)
 race_is found rows setup text turns scripts (Search a g n w) is have number asks = absurd (other_name found _ (codes "search") rows asks.0 is asks.1 refl refl)
+race_is found rows setup text turns scripts (Shrink a b g) is have number asks = absurd (other_name found _ (codes "shrink") rows asks.0 is asks.1 refl refl)
 race_is found rows setup text turns scripts (Debug a b) is have number asks = absurd (other_name found _ (codes "debug") rows asks.0 is asks.1 refl refl)
 race_is found rows setup text turns scripts (Race a n b) is have number asks =
     let same = same_rows found (codes "race") (codes "race") rows asks.0 is asks.1 in
@@ -231,6 +245,7 @@ question_is setup script question words (Play a b) line asks = absurd (other_nam
 question_is setup script question words (Race a n b) line asks = absurd (other_name _ _ (codes "race") line.rows asks.0 line.asked asks.1 (differs question).from_race (differs question).own)
 question_is setup script question words (Replay a b) line asks = absurd (other_name _ _ (codes "replay") line.rows asks.0 line.asked asks.1 (differs question).from_replay (differs question).own)
 question_is setup script question words (Search a g n w) line asks = absurd (other_name _ _ (codes "search") line.rows asks.0 line.asked asks.1 (differs question).from_search (differs question).own)
+question_is setup script question words (Shrink a b g) line asks = absurd (other_name _ _ (codes "shrink") line.rows asks.0 line.asked asks.1 (differs question).from_shrink (differs question).own)
 question_is setup script question words (Debug a b) line asks = absurd (other_name _ _ (codes "debug") line.rows asks.0 line.asked asks.1 (differs question).from_debug (differs question).own)
 question_is setup script question words (Ask a b its) line asks =
     let same = same_rows _ (question_name question) (question_name its) line.rows asks.0 line.asked asks.1 in
@@ -247,6 +262,7 @@ debug_is setup seats words (Play a b) line asks = absurd (other_name _ _ (codes 
 debug_is setup seats words (Race a n b) line asks = absurd (other_name _ _ (codes "race") line.rows asks.0 line.asked asks.1 refl refl)
 debug_is setup seats words (Ask a b q) line asks = absurd (other_name _ _ (question_name q) line.rows asks.0 line.asked asks.1 (differs q).debug refl)
 debug_is setup seats words (Search a g n w) line asks = absurd (other_name _ _ (codes "search") line.rows asks.0 line.asked asks.1 refl refl)
+debug_is setup seats words (Shrink a b g) line asks = absurd (other_name _ _ (codes "shrink") line.rows asks.0 line.asked asks.1 refl refl)
 debug_is setup seats words (Replay a b) line asks = absurd (other_name _ _ (codes "replay") line.rows asks.0 line.asked asks.1 refl refl)
 debug_is setup seats words (Debug a b) line asks =
     let same = same_rows _ (codes "debug") (codes "debug") line.rows asks.0 line.asked asks.1 in (
@@ -260,6 +276,7 @@ replay_is setup journal words (Play a b) line asks = absurd (other_name _ _ (cod
 replay_is setup journal words (Race a n b) line asks = absurd (other_name _ _ (codes "race") line.rows asks.0 line.asked asks.1 refl refl)
 replay_is setup journal words (Ask a b q) line asks = absurd (other_name _ _ (question_name q) line.rows asks.0 line.asked asks.1 (differs q).replay refl)
 replay_is setup journal words (Search a g n w) line asks = absurd (other_name _ _ (codes "search") line.rows asks.0 line.asked asks.1 refl refl)
+replay_is setup journal words (Shrink a b g) line asks = absurd (other_name _ _ (codes "shrink") line.rows asks.0 line.asked asks.1 refl refl)
 replay_is setup journal words (Debug a b) line asks = absurd (other_name _ _ (codes "debug") line.rows asks.0 line.asked asks.1 refl refl)
 replay_is setup journal words (Replay a b) line asks =
     let same = same_rows _ (codes "replay") (codes "replay") line.rows asks.0 line.asked asks.1 in (
@@ -275,6 +292,7 @@ search_is setup goal first second seed walks words (Race c n d) a b line asks = 
 search_is setup goal first second seed walks words (Ask c d q) a b line asks = absurd (other_name _ _ (question_name q) line.rows asks.0 line.asked asks.1 (differs q).search refl)
 search_is setup goal first second seed walks words (Debug c d) a b line asks = absurd (other_name _ _ (codes "debug") line.rows asks.0 line.asked asks.1 refl refl)
 search_is setup goal first second seed walks words (Replay c d) a b line asks = absurd (other_name _ _ (codes "replay") line.rows asks.0 line.asked asks.1 refl refl)
+search_is setup goal first second seed walks words (Shrink c d h) a b line asks = absurd (other_name _ _ (codes "shrink") line.rows asks.0 line.asked asks.1 refl refl)
 search_is setup goal first second seed walks words (Search c h n w) a b line asks =
     let same = same_rows _ (codes "search") (codes "search") line.rows asks.0 line.asked asks.1 in
     let its_seed : text_at (codes "SEED") asks.0 ≡ first = ap (text_at (codes "SEED")) same ∙ ap (λ t. unwrap_or t []) line.seed_at in
@@ -283,6 +301,22 @@ search_is setup goal first second seed walks words (Search c h n w) a b line ask
       asks.3 ∙ ap (text_at (codes "GOAL")) same ∙ ap (λ t. unwrap_or t []) line.goal_at,
       (subst (λ t. IsNumber t n) its_seed asks.4).2 seed a,
       (subst (λ t. IsNumber t w) its_walks asks.5).2 walks b,
+    )
+
+shrink_is : (setup script goal : Text) (words : List Text) (asked : Asked) → ShrinkLine setup script goal words → NamesAsked (subcommand_of program words) asked
+    → IsShrinkOf setup script goal asked
+shrink_is setup script goal words Script line asks = absurd (none-some _ (sym asks ∙ line.asked))
+shrink_is setup script goal words (Play a b) line asks = absurd (other_name _ _ (codes "play") line.rows asks.0 line.asked asks.1 refl refl)
+shrink_is setup script goal words (Race a n b) line asks = absurd (other_name _ _ (codes "race") line.rows asks.0 line.asked asks.1 refl refl)
+shrink_is setup script goal words (Ask a b q) line asks = absurd (other_name _ _ (question_name q) line.rows asks.0 line.asked asks.1 (differs q).shrink refl)
+shrink_is setup script goal words (Debug a b) line asks = absurd (other_name _ _ (codes "debug") line.rows asks.0 line.asked asks.1 refl refl)
+shrink_is setup script goal words (Replay a b) line asks = absurd (other_name _ _ (codes "replay") line.rows asks.0 line.asked asks.1 refl refl)
+shrink_is setup script goal words (Search a g n w) line asks = absurd (other_name _ _ (codes "search") line.rows asks.0 line.asked asks.1 refl refl)
+shrink_is setup script goal words (Shrink a b g) line asks =
+    let same = same_rows _ (codes "shrink") (codes "shrink") line.rows asks.0 line.asked asks.1 in (
+      asks.2 ∙ ap (text_at (codes "SETUP")) same ∙ ap (λ t. unwrap_or t []) line.setup_at,
+      asks.3 ∙ ap (text_at (codes "SCRIPT")) same ∙ ap (λ t. unwrap_or t []) line.script_at,
+      asks.4 ∙ ap (text_at (codes "GOAL")) same ∙ ap (λ t. unwrap_or t []) line.goal_at,
     )
 
 -- ---- the answers
@@ -365,5 +399,15 @@ search_asked_for words result ok taken setup goal seed walks (first, second, a, 
     let its = search_line line.0.0 setup goal first second seed walks a b line.1 in
     let its_words : SearchLine setup goal first second words = subst (SearchLine setup goal first second) (sym line.0.1) its in (
       IfOk-weaker result _ _ (λ asked asks. search_is setup goal first second seed walks words asked a b its_words asks) ok,
+      taken its_words.taken,
+    )
+
+pub shrink_asked_for : (words : List Text) (result : Result Asked AskFault) → IfOk result (NamesAsked (subcommand_of program words))
+    → (takes program words ≡ true → IfErr result (λ fault. fault ≡ NoMemory no_memory)) → (setup script goal : Text) → IsShrinkLine words setup script goal
+    → IsRequest result (IsShrinkOf setup script goal)
+shrink_asked_for words result ok taken setup script goal line =
+    let its = shrink_line line.0.0 setup script goal line.1 in
+    let its_words : ShrinkLine setup script goal words = subst (ShrinkLine setup script goal) (sym line.0.1) its in (
+      IfOk-weaker result _ _ (λ asked asks. shrink_is setup script goal words asked its_words asks) ok,
       taken its_words.taken,
     )

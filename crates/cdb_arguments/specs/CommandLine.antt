@@ -76,6 +76,10 @@ search_app =
     with_arguments (codes "search")
     (required_rule (codes "SETUP") ∷ required_rule (codes "GOAL") ∷ numbered (required_rule (codes "SEED")) ∷ numbered (required_rule (codes "WALKS")) ∷ [])
 
+-- `shrink SETUP SCRIPT GOAL`
+abbrev pub shrink_app : App
+shrink_app = on_files (codes "shrink") (required_rule (codes "GOAL") ∷ [])
+
 -- the program with these subcommands too
 abbrev pub with_subcommands : App → List App → App
 with_subcommands = fold (λ app sub. with_subcommand app sub.top)
@@ -86,4 +90,4 @@ playing = with_subcommands (on_top (λ s. record s { has_version = true; disable
 
 -- the program with its subcommands
 unfoldable pub program : App
-program = with_subcommands playing (explain_app ∷ trail_app ∷ draw_app ∷ slice_app ∷ debug_app ∷ replay_app ∷ search_app ∷ [])
+program = with_subcommands playing (explain_app ∷ trail_app ∷ draw_app ∷ slice_app ∷ debug_app ∷ replay_app ∷ search_app ∷ shrink_app ∷ [])

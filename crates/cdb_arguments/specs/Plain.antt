@@ -89,3 +89,7 @@ abbrev pub IsSearchLine : List Text → Text → Text → ℕ → ℕ → Type 0
 IsSearchLine words setup goal seed walks =
     (first second : Text) × WritesNumber first seed × WritesNumber second walks
     × IsSubcommandLine (codes "search") (setup ∷ goal ∷ first ∷ second ∷ []) words
+
+-- `shrink SETUP SCRIPT GOAL`
+abbrev pub IsShrinkLine : List Text → Text → Text → Text → Type 0
+IsShrinkLine words setup script goal = IsSubcommandLine (codes "shrink") (setup ∷ script ∷ goal ∷ []) words

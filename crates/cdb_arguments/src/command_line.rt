@@ -38,6 +38,9 @@ const DEBUG: &str = "Carries each command out before the next is read, for one u
 const SEARCH: &str =
     "Walks at random until a goal holds, and prints a script of the run in which it does";
 
+const SHRINK: &str =
+    "Plays a script, and prints as few lines as it can after which the goal holds still";
+
 const REPLAY: &str = "Plays a journal again, and prints each reply behind the number of its seat";
 
 const LINES: &str =
@@ -109,11 +112,12 @@ pub(crate) enum Subcommand {
     Debug,
     Replay,
     Search,
+    Shrink,
 }
 
 impl Subcommand {
     /// The subcommands, in the order in which help lists them.
-    pub(crate) const ALL: [Subcommand; 9] = [
+    pub(crate) const ALL: [Subcommand; 10] = [
         Subcommand::Play,
         Subcommand::Race,
         Subcommand::Explain,
@@ -123,6 +127,7 @@ impl Subcommand {
         Subcommand::Debug,
         Subcommand::Replay,
         Subcommand::Search,
+        Subcommand::Shrink,
     ];
 
     fn name<'a>(&self) -> &'a str
@@ -138,6 +143,7 @@ impl Subcommand {
             Subcommand::Debug => "debug",
             Subcommand::Replay => "replay",
             Subcommand::Search => "search",
+            Subcommand::Shrink => "shrink",
         }
     }
 
@@ -152,6 +158,7 @@ impl Subcommand {
             Subcommand::Debug => DEBUG,
             Subcommand::Replay => REPLAY,
             Subcommand::Search => SEARCH,
+            Subcommand::Shrink => SHRINK,
         }
     }
 
@@ -182,6 +189,7 @@ impl Subcommand {
                 Argument::Seed,
                 Argument::Walks,
             ],
+            Subcommand::Shrink => &[Argument::Setup, Argument::Script, Argument::Goal],
         }
     }
 }

@@ -5,7 +5,7 @@ use Rattle.revdbg.specs.declared.requested.Unread.{Unread}
 use Rattle.revdbg.specs.declared.requested.Unread.TheVariants as unread
 use Rattle.cdb_base.specs.declared.question.Question.{Question}
 use Rattle.clap.specs.Words.{Text}
-use Rattle.cdb_arguments.specs.Asking.{IsDebugOf, IsOfKinds, IsPlayOf, IsQuestionOf, IsRaceOf, IsReplayOf, IsSearchOf}
+use Rattle.cdb_arguments.specs.Asking.{IsDebugOf, IsOfKinds, IsPlayOf, IsQuestionOf, IsRaceOf, IsReplayOf, IsSearchOf, IsShrinkOf}
 use Rattle.cdb_arguments.specs.declared.request.AskFault.{AskFault}
 use Rattle.cdb_arguments.specs.declared.request.AskFault.TheVariants as fault_of_asking
 use Rattle.cdb_arguments.specs.declared.request.Asked.{Asked}
@@ -14,8 +14,8 @@ use Rattle.cdb_streams.specs.declared.fault.PlayFault.TheVariants as play
 use Rattle.cdb_program.specs.Known.{Seen}
 use Rattle.cdb_program.specs.declared.fault.Fault.TheVariants as fault
 use Rattle.cdb_program.specs.declared.request.Request.{Request}
-use Rattle.cdb_program.specs.declared.request.Request.TheVariants.{Script, Play, Race, Ask, Debug, DebugShared, Replay, Search, Print, Refuse}
-use Rattle.revdbg.specs.Requested.{IsAskedBy, IsDebugRequest, IsOutOfMemory, IsPlayRequest, IsQuestionRequest, IsRaceRequest, IsReplayRequest, IsSearchRequest, IsRequestOf, IsRefusal, IsUnread, OrOutOfMemory, PerformsOne}
+use Rattle.cdb_program.specs.declared.request.Request.TheVariants.{Script, Play, Race, Ask, Debug, DebugShared, Replay, Search, Shrink, Print, Refuse}
+use Rattle.revdbg.specs.Requested.{IsAskedBy, IsDebugRequest, IsOutOfMemory, IsPlayRequest, IsQuestionRequest, IsRaceRequest, IsReplayRequest, IsSearchRequest, IsShrinkRequest, IsRequestOf, IsRefusal, IsUnread, OrOutOfMemory, PerformsOne}
 
 -- where nothing can be wrong with the arguments, an allocation failed
 no_refusal : (request : Request) → IsRefusal [] request → ⊥
@@ -32,6 +32,7 @@ no_refusal (Debug setup prompt) is = is
 no_refusal (DebugShared setup seats) is = is
 no_refusal (Replay setup journal) is = is
 no_refusal (Search setup goal seed walks) is = is
+no_refusal (Shrink setup script goal) is = is
 no_refusal (Refuse fault.NoStep) is = is
 no_refusal (Refuse fault.NoValue) is = is
 no_refusal (Refuse fault.TooManyEvents) is = is
@@ -58,6 +59,7 @@ module _ (prompt : Text) where
   play_request setup script (asked.Debug a seats) is request of_it = absurd is
   play_request setup script (asked.Replay a b) is request of_it = absurd is
   play_request setup script (asked.Search a h n w) is request of_it = absurd is
+  play_request setup script (asked.Shrink a b h) is request of_it = absurd is
   play_request setup script (asked.Race a n b) is request of_it = absurd is
   play_request setup script (asked.Ask a b q) is request of_it = absurd is
 
@@ -67,6 +69,7 @@ module _ (prompt : Text) where
   race_request setup turns scripts (asked.Debug a seats) is request of_it = absurd is
   race_request setup turns scripts (asked.Replay a b) is request of_it = absurd is
   race_request setup turns scripts (asked.Search a h n w) is request of_it = absurd is
+  race_request setup turns scripts (asked.Shrink a b h) is request of_it = absurd is
   race_request setup turns scripts (asked.Play a b) is request of_it = absurd is
   race_request setup turns scripts (asked.Ask a b q) is request of_it = absurd is
 
@@ -78,6 +81,7 @@ module _ (prompt : Text) where
   question_request setup script question (asked.Debug a seats) is request of_it = absurd is
   question_request setup script question (asked.Replay a b) is request of_it = absurd is
   question_request setup script question (asked.Search a h n w) is request of_it = absurd is
+  question_request setup script question (asked.Shrink a b h) is request of_it = absurd is
 
   pub debug_request : (setup : Text) (seats : List Text) (it : Asked) → IsDebugOf setup seats it → (request : Request) → IsRequestOf prompt it request → IsDebugRequest prompt setup seats request
   debug_request setup seats (asked.Debug a b) is request of_it = rw (← is.0, ← is.1) of_it
@@ -85,6 +89,7 @@ module _ (prompt : Text) where
   debug_request setup seats (asked.Play a b) is request of_it = absurd is
   debug_request setup seats (asked.Replay a b) is request of_it = absurd is
   debug_request setup seats (asked.Search a h n w) is request of_it = absurd is
+  debug_request setup seats (asked.Shrink a b h) is request of_it = absurd is
   debug_request setup seats (asked.Race a n b) is request of_it = absurd is
   debug_request setup seats (asked.Ask a b q) is request of_it = absurd is
 
@@ -96,6 +101,7 @@ module _ (prompt : Text) where
   replay_request setup journal (asked.Ask a b q) is request of_it = absurd is
   replay_request setup journal (asked.Debug a b) is request of_it = absurd is
   replay_request setup journal (asked.Search a h n w) is request of_it = absurd is
+  replay_request setup journal (asked.Shrink a b h) is request of_it = absurd is
 
   pub search_request : (setup goal : Text) (seed walks : ℕ) (it : Asked) → IsSearchOf setup goal seed walks it → (request : Request) → IsRequestOf prompt it request → IsSearchRequest setup goal seed walks request
   search_request setup goal seed walks (asked.Search a h n w) is request of_it = rw (← is.0, ← is.1, ← is.2, ← is.3) of_it
@@ -105,6 +111,18 @@ module _ (prompt : Text) where
   search_request setup goal seed walks (asked.Ask a b q) is request of_it = absurd is
   search_request setup goal seed walks (asked.Debug a b) is request of_it = absurd is
   search_request setup goal seed walks (asked.Replay a b) is request of_it = absurd is
+  search_request setup goal seed walks (asked.Shrink a b h) is request of_it = absurd is
+
+  pub shrink_request : (setup script goal : Text) (it : Asked) → IsShrinkOf setup script goal it → (request : Request) → IsRequestOf prompt it request
+      → IsShrinkRequest setup script goal request
+  shrink_request setup script goal (asked.Shrink a b h) is request of_it = rw (← is.0, ← is.1, ← is.2) of_it
+  shrink_request setup script goal asked.Script is request of_it = absurd is
+  shrink_request setup script goal (asked.Play a b) is request of_it = absurd is
+  shrink_request setup script goal (asked.Race a n b) is request of_it = absurd is
+  shrink_request setup script goal (asked.Ask a b q) is request of_it = absurd is
+  shrink_request setup script goal (asked.Debug a b) is request of_it = absurd is
+  shrink_request setup script goal (asked.Replay a b) is request of_it = absurd is
+  shrink_request setup script goal (asked.Search a h n w) is request of_it = absurd is
 
 -- ---- an allocation failed before it was known what is asked for
 
@@ -117,6 +135,7 @@ memory_is_asked prompt words request is = record {
   debug = λ setup seats line. inr is;
   replay = λ setup journal line. inr is;
   search = λ setup goal seed walks line. inr is;
+  shrink = λ setup script goal line. inr is;
   taken = λ none. inr is;
   refused = λ some. inr is;
 }
