@@ -12,7 +12,7 @@ use Rattle.cdb_arguments.proofs.Subcommands.{IsSub, line_asked, line_taken}
 use Rattle.cdb_arguments.proofs.Values.{ValuesPass}
 
 shrink_shape : Shape
-shrink_shape = unwrap_or (slice_get (built program).subs 9) (new_shape [])
+shrink_shape = unwrap_or (slice_get (built program).subs 11) (new_shape [])
 
 shrink_sub : IsSub (codes "shrink") shrink_shape
 unfolding clap_on_literals program shrink_shape

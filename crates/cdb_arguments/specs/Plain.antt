@@ -90,6 +90,14 @@ IsSearchLine words setup goal seed walks =
     (first second : Text) × WritesNumber first seed × WritesNumber second walks
     × IsSubcommandLine (codes "search") (setup ∷ goal ∷ first ∷ second ∷ []) words
 
+-- `same SETUP FIRST SECOND`
+abbrev pub IsSameLine : List Text → Text → Text → Text → Type 0
+IsSameLine words setup first second = IsSubcommandLine (codes "same") (setup ∷ first ∷ second ∷ []) words
+
+-- `clocks SETUP SCRIPT`
+abbrev pub IsClocksLine : List Text → Text → Text → Type 0
+IsClocksLine words setup script = IsSubcommandLine (codes "clocks") (setup ∷ script ∷ []) words
+
 -- `shrink SETUP SCRIPT GOAL`
 abbrev pub IsShrinkLine : List Text → Text → Text → Text → Type 0
 IsShrinkLine words setup script goal = IsSubcommandLine (codes "shrink") (setup ∷ script ∷ goal ∷ []) words

@@ -43,6 +43,11 @@ const SHRINK: &str =
 
 const REPLAY: &str = "Plays a journal again, and prints each reply behind the number of its seat";
 
+const SAME: &str =
+    "Plays two scripts, and tells whether they leave the same run; else what tells the runs apart";
+
+const CLOCKS: &str = "Plays a script, and prints what stands with its vector clocks, for ShiViz";
+
 const LINES: &str =
     "Without a subcommand it plays the script on standard input, on one process that proposes 7.
 
@@ -99,6 +104,9 @@ pub(crate) enum Argument {
     Goal,
     Seed,
     Walks,
+    /// The script that leaves the first of two runs, and the one that leaves the second.
+    First,
+    Second,
 }
 
 /// A subcommand of the program.
@@ -112,12 +120,14 @@ pub(crate) enum Subcommand {
     Debug,
     Replay,
     Search,
+    Same,
+    Clocks,
     Shrink,
 }
 
 impl Subcommand {
     /// The subcommands, in the order in which help lists them.
-    pub(crate) const ALL: [Subcommand; 10] = [
+    pub(crate) const ALL: [Subcommand; 12] = [
         Subcommand::Play,
         Subcommand::Race,
         Subcommand::Explain,
@@ -127,6 +137,8 @@ impl Subcommand {
         Subcommand::Debug,
         Subcommand::Replay,
         Subcommand::Search,
+        Subcommand::Same,
+        Subcommand::Clocks,
         Subcommand::Shrink,
     ];
 
@@ -144,6 +156,8 @@ impl Subcommand {
             Subcommand::Replay => "replay",
             Subcommand::Search => "search",
             Subcommand::Shrink => "shrink",
+            Subcommand::Same => "same",
+            Subcommand::Clocks => "clocks",
         }
     }
 
@@ -159,6 +173,8 @@ impl Subcommand {
             Subcommand::Replay => REPLAY,
             Subcommand::Search => SEARCH,
             Subcommand::Shrink => SHRINK,
+            Subcommand::Same => SAME,
+            Subcommand::Clocks => CLOCKS,
         }
     }
 
@@ -167,7 +183,7 @@ impl Subcommand {
         ensures { fold with_argument (new_app (name_of self.now)) result.now ≡ app_named self.now }
     {
         match self {
-            Subcommand::Play => &[Argument::Setup, Argument::Script],
+            Subcommand::Play | Subcommand::Clocks => &[Argument::Setup, Argument::Script],
             Subcommand::Race => &[Argument::Setup, Argument::Turns, Argument::Scripts],
             Subcommand::Explain | Subcommand::Trail => &[
                 Argument::Setup,
@@ -183,13 +199,14 @@ impl Subcommand {
             ],
             Subcommand::Debug => &[Argument::Setup, Argument::Seats],
             Subcommand::Replay => &[Argument::Setup, Argument::Journal],
+            Subcommand::Shrink => &[Argument::Setup, Argument::Script, Argument::Goal],
             Subcommand::Search => &[
                 Argument::Setup,
                 Argument::Goal,
                 Argument::Seed,
                 Argument::Walks,
             ],
-            Subcommand::Shrink => &[Argument::Setup, Argument::Script, Argument::Goal],
+            Subcommand::Same => &[Argument::Setup, Argument::First, Argument::Second],
         }
     }
 }
@@ -296,6 +313,16 @@ fn argument_of<'a>(alloc: Global, argument: &Argument) -> Arg<'a>
             "WALKS",
             "How many walks there are at most, 1 to 999999",
         )),
+        Argument::First => required(
+            alloc,
+            "FIRST",
+            "The file of the script that leaves the first run",
+        ),
+        Argument::Second => required(
+            alloc,
+            "SECOND",
+            "The file of the script that leaves the second run",
+        ),
     }
 }
 

@@ -1,13 +1,14 @@
--- Seats are opened one after the other, and what is known of their sessions.
-use Rattle.std.proofs.Common.{◌≡◌, ℕ, ◌+◌, ◌<◌, List, [], ◌∷◌, ◌++◌, length, get_or, take, drop, map, Bor, refl, sym, ap, subst, ◌∙◌, append_assoc, arith}
-use Rattle.std.specs.Prelude.{Result, Err}
+-- Seats are found one after the other, and what is known of their sessions.
+use Rattle.std.proofs.Common.{◌≡◌, ℕ, zero, suc, ◌+◌, ◌<◌, List, [], ◌∷◌, ◌++◌, length, get_or, take, drop, map, Bor, refl, sym, ap, subst, ◌∙◌, append_assoc, arith}
+use Rattle.std.specs.Prelude.{Option, Some, None, option_map, Result, Err}
 use Rattle.std.proofs.lemmas.List.{length-map, get_or-map}
 use Rattle.cdb_session.specs.Moves.{Known}
-use Rattle.cdb_shared_session.specs.SharedSessions.{IsFinished}
+use Rattle.cdb_shared_session.specs.Openings.{SeatSeen}
+use Rattle.cdb_shared_session.specs.SharedSessions.{HasEnded, IsFinished}
 use Rattle.cdb_shared_session.specs.Reported.{RunsSessions}
 use Rattle.cdb_shared_session.specs.Reports.{outcomes, failures_text, status_of}
-use Rattle.cdb_shared_session.specs.declared.endpoint.Endpoint.{Endpoint}
 use Rattle.cdb_shared_session.specs.declared.endpoint.Finished.{Finished}
+use Rattle.cdb_shared_session.proofs.Ended.{ended_by}
 use Rattle.cdb_rules.specs.Rules.{Rules}
 use Rattle.cdb_setup.specs.Parts.{Parts}
 use Rattle.cdb_streams.specs.declared.fault.PlayFault.{PlayFault}
@@ -15,24 +16,23 @@ use Rattle.cdb_streams.specs.declared.fault.PlayFault.TheVariants as play
 use Rattle.cdb_program.specs.Known.{FilesSeen, after_opening, after_failing}
 use Rattle.cdb_program.specs.Reading.{FailsToRead, file_names}
 use Rattle.cdb_program.specs.declared.fault.Fault.{Fault}
-use Rattle.cdb_program.specs.declared.fault.Fault.TheVariants.{Play, Race, NoStep, NoValue, NoGoal, NotFound, DoesNotHold, TooManyEvents, TooManySeats, Refused}
+use Rattle.cdb_program.specs.declared.fault.Fault.TheVariants.{Play, Race, NoStep, NoValue, Different, NoGoal, NotFound, DoesNotHold, TooManyEvents, TooManySeats, Refused}
 use Rattle.cdb_streams.specs.Faults.{of_reading}
 use Rattle.cdb_streams.specs.declared.source.ReadFault.{ReadFault}
 use Rattle.cdb_streams.specs.declared.source.ReadFault.TheVariants as reading
-use Rattle.cdb_program.specs.Seating.{AreEndpointsOf, IsFaultOfSeats, IsEndpointOf, OpensSeat}
+use Rattle.cdb_program.specs.Seating.{AreOpenersOf, CanOpenSeat, FindsSeat, IsFaultOfSeats, IsOpenerOf}
 use Rattle.cdb_streams.specs.Endings.{whole_ending}
 use Rattle.cdb_streams.specs.Streams.{Stream, Writes}
 use Rattle.cdb_streams.specs.declared.sink.Failed.{Failed}
-use Rattle.cdb_streams.specs.Written.{IsWritten, Only}
 use Rattle.cdb_program.proofs.Seen.{stream_written, stream_writes}
 use Rattle.cdb_program.proofs.Opening.{read_none, opened_then, failed_then, fails_before, one_more_name, taken_and_left}
 
--- ---- seats that are opened
+-- ---- seats that are found
 
--- it can't be opened
-pub one_fails : (T : Type 0) (known : T → Known) (old new : FilesSeen) (name : Bor (List ℕ)) (fault : ReadFault) → (let opened : Result (Endpoint T) ReadFault = Err fault in OpensSeat known old new name.now opened) → FailsToRead old new (name.now ∷ []) (Play (of_reading fault) name)
-one_fails T known old new name reading.Failed is = ([], [], refl, is)
-one_fails T known old new name (reading.NoMemory refused) is = ([], name.now ∷ [], refl, is ∙ (read_none old).0)
+-- it is refused
+pub one_fails : (P : Type 0) (opens : P → Result SeatSeen ReadFault → Type 0) (old new : FilesSeen) (name : Bor (List ℕ)) (fault : ReadFault) → (let found : Result P ReadFault = Err fault in FindsSeat opens old new name.now found) → FailsToRead old new (name.now ∷ []) (Play (of_reading fault) name)
+one_fails P opens old new name reading.Failed is = ([], [], refl, is)
+one_fails P opens old new name (reading.NoMemory refused) is = ([], name.now ∷ [], refl, is ∙ (read_none old).0)
 
 -- what can't be read or opened is why there are no sessions
 pub as_fault : (setup : List ℕ) (seats : List (List ℕ)) (old new : FilesSeen) (fault : Fault) → FailsToRead old new (setup ∷ seats) fault → IsFaultOfSeats setup seats old new fault
@@ -44,6 +44,7 @@ as_fault setup seats old new TooManyEvents fails = fails
 as_fault setup seats old new NoGoal fails = fails
 as_fault setup seats old new (NotFound walks) fails = fails
 as_fault setup seats old new DoesNotHold fails = fails
+as_fault setup seats old new Different fails = fails
 as_fault setup seats old new TooManySeats fails = absurd fails
 as_fault setup seats old new (Refused reason) fails = fails
 
@@ -72,10 +73,11 @@ fails_later old mid new first second TooManyEvents before fails = absurd fails
 fails_later old mid new first second NoGoal before fails = absurd fails
 fails_later old mid new first second (NotFound walks) before fails = absurd fails
 fails_later old mid new first second DoesNotHold before fails = absurd fails
+fails_later old mid new first second Different before fails = absurd fails
 fails_later old mid new first second TooManySeats before fails = absurd fails
 fails_later old mid new first second (Refused reason) before fails = absurd fails
 
--- the seat at this position of a list can't be opened
+-- the seat at this position of a list is refused
 pub seat_fails : (old mid new : FilesSeen) (names : List (Bor (List ℕ))) (i : ℕ) (d : Bor (List ℕ)) (fault : Fault) → i < length names → mid ≡ after_opening old (file_names (take i names))
     → FailsToRead mid new ((get_or names i d).now ∷ []) fault → FailsToRead old new (file_names names) fault
 seat_fails old mid new names i d fault below before fails =
@@ -83,27 +85,44 @@ seat_fails old mid new names i d fault below before fails =
     (fails_before old new (file_names (take (i + 1) names)) (file_names (drop (i + 1) names)) fault
     (subst (λ (l : List (List ℕ)). FailsToRead old new l fault) (sym (one_more_name names i d below)) (fails_later old mid new (file_names (take i names)) ((get_or names i d).now ∷ []) fault before fails)))
 
--- one seat more is opened
+-- one seat more is found
 pub seat_opened : (old mid new : FilesSeen) (names : List (Bor (List ℕ))) (i : ℕ) (d : Bor (List ℕ)) → i < length names → mid ≡ after_opening old (file_names (take i names)) → new ≡ after_opening mid ((get_or names i d).now ∷ [])
     → new ≡ after_opening old (file_names (take (i + 1) names))
 seat_opened old mid new names i d below before after =
     opened_then old mid new (file_names (take i names)) ((get_or names i d).now ∷ []) before after ∙ ap (after_opening old) (sym (one_more_name names i d below))
 
-module _ {T : Type 0} (known : T → Known) where
-  one_more_seat : (files : FilesSeen) (names : List (List ℕ)) (endpoints : List (Endpoint T)) (name : List ℕ) (endpoint : Endpoint T)
-      → AreEndpointsOf known files names endpoints → IsEndpointOf known files name endpoint → AreEndpointsOf known files (names ++ name ∷ []) (endpoints ++ endpoint ∷ [])
-  one_more_seat files [] [] name endpoint before its = (its, tt)
-  one_more_seat files [] (p ∷ endpoints) name endpoint before its = absurd before
-  one_more_seat files (n ∷ names) [] name endpoint before its = absurd before
-  one_more_seat files (n ∷ names) (p ∷ endpoints) name endpoint before its = (before.0, one_more_seat files names endpoints name endpoint before.1 its)
+module _ {P : Type 0} (opens : P → Result SeatSeen ReadFault → Type 0) where
+  one_more_seat : (files : FilesSeen) (names : List (List ℕ)) (openers : List P) (name : List ℕ) (opener : P)
+      → AreOpenersOf opens files names openers → IsOpenerOf opens files name opener → AreOpenersOf opens files (names ++ name ∷ []) (openers ++ opener ∷ [])
+  one_more_seat files [] [] name opener before its = (its, tt)
+  one_more_seat files [] (p ∷ openers) name opener before its = absurd before
+  one_more_seat files (n ∷ names) [] name opener before its = absurd before
+  one_more_seat files (n ∷ names) (p ∷ openers) name opener before its = (before.0, one_more_seat files names openers name opener before.1 its)
 
-  -- and its endpoint is that of its name
-  pub seat_endpoints : (old mid : FilesSeen) (names : List (Bor (List ℕ))) (i : ℕ) (d : Bor (List ℕ)) (endpoints : List (Endpoint T)) (endpoint : Endpoint T) → i < length names → mid ≡ after_opening old (file_names (take i names))
-      → AreEndpointsOf known old (file_names (take i names)) endpoints → IsEndpointOf known mid (get_or names i d).now endpoint → AreEndpointsOf known old (file_names (take (i + 1) names)) (endpoints ++ endpoint ∷ [])
-  seat_endpoints old mid names i d endpoints endpoint below before seats its =
+  -- and its opener is that of its name
+  pub seat_openers : (old mid : FilesSeen) (names : List (Bor (List ℕ))) (i : ℕ) (d : Bor (List ℕ)) (openers : List P) (opener : P) → i < length names → mid ≡ after_opening old (file_names (take i names))
+      → AreOpenersOf opens old (file_names (take i names)) openers → IsOpenerOf opens mid (get_or names i d).now opener → AreOpenersOf opens old (file_names (take (i + 1) names)) (openers ++ opener ∷ [])
+  seat_openers old mid names i d openers opener below before seats its =
       let name = (get_or names i d).now in
-      subst (λ (l : List (List ℕ)). AreEndpointsOf known old l (endpoints ++ endpoint ∷ [])) (sym (one_more_name names i d below))
-      (one_more_seat old (file_names (take i names)) endpoints name endpoint seats (subst (λ (f : FilesSeen). IsEndpointOf known f name endpoint) before its))
+      subst (λ (l : List (List ℕ)). AreOpenersOf opens old l (openers ++ opener ∷ [])) (sym (one_more_name names i d below))
+      (one_more_seat old (file_names (take i names)) openers name opener seats (subst (λ (f : FilesSeen). IsOpenerOf opens f name opener) before its))
+
+  -- the openers are those of the names, whatever was opened before
+  pub seats_known : (old mid : FilesSeen) (first names : List (List ℕ)) (openers : List P) → mid ≡ after_opening old first → AreOpenersOf opens mid names openers → AreOpenersOf opens old names openers
+  seats_known old mid first names openers before are = subst (λ (f : FilesSeen). AreOpenersOf opens f names openers) before are
+
+  pub as_many : (files : FilesSeen) (names : List (List ℕ)) (openers : List P) → AreOpenersOf opens files names openers → length names ≡ length openers
+  as_many files [] [] are = refl
+  as_many files [] (opener ∷ openers) are = absurd are
+  as_many files (name ∷ names) [] are = absurd are
+  as_many files (name ∷ names) (opener ∷ openers) are = ap suc (as_many files names openers are.1)
+
+  opener_at : (files : FilesSeen) (names : List (List ℕ)) (openers : List P) (k : ℕ) (n : List ℕ) (p : P) → AreOpenersOf opens files names openers → k < length openers → IsOpenerOf opens files (get_or names k n) (get_or openers k p)
+  opener_at files [] [] k n p are low = absurd (omega arith)
+  opener_at files [] (opener ∷ openers) k n p are low = absurd are
+  opener_at files (name ∷ names) [] k n p are low = absurd are
+  opener_at files (name ∷ names) (opener ∷ openers) zero n p are low = are.0
+  opener_at files (name ∷ names) (opener ∷ openers) (suc k) n p are low = opener_at files names openers k n p are.1 (omega arith)
 
 -- ---- what is known of their sessions
 
@@ -111,60 +130,52 @@ some_of : {A : Type 0} (xs : List A) → 0 < length xs → A
 some_of [] low = absurd (omega arith)
 some_of (x ∷ xs) low = x
 
+same_known : (ended : Option Known) → option_map (λ (k : Known). k) ended ≡ ended
+same_known (Some ended) = refl
+same_known None = refl
+
 module _ {T : Type 0} (known : T → Known) where
-  abbrev pub known_endpoint : Endpoint T → Endpoint Known
-  known_endpoint endpoint = record { console = known endpoint.console; prompt = endpoint.prompt }
-
-  same_seats : (files : FilesSeen) (names : List (List ℕ)) (endpoints : List (Endpoint T)) → AreEndpointsOf known files names endpoints → AreEndpointsOf (λ (k : Known). k) files names (map known_endpoint endpoints)
-  same_seats files [] [] are = are
-  same_seats files [] (endpoint ∷ endpoints) are = absurd are
-  same_seats files (name ∷ names) [] are = absurd are
-  same_seats files (name ∷ names) (endpoint ∷ endpoints) are = (are.0, same_seats files names endpoints are.1)
-
-  -- the endpoints are those of the names, whatever was opened before, and by what is known of what each reads and writes
-  pub seats_known : (old mid : FilesSeen) (first names : List (List ℕ)) (endpoints : List (Endpoint T)) → mid ≡ after_opening old first
-      → AreEndpointsOf known mid names endpoints → AreEndpointsOf (λ (k : Known). k) old names (map known_endpoint endpoints)
-  seats_known old mid first names endpoints before are = same_seats old names endpoints (subst (λ (f : FilesSeen). AreEndpointsOf known f names endpoints) before are)
-
   abbrev known_finished : Finished T → Finished Known
-  known_finished finished = record { console = known finished.console; outcome = finished.outcome }
+  known_finished finished = record { console = option_map known finished.console; outcome = finished.outcome }
 
   same_outcomes : (finished : List (Finished T)) → outcomes (map known_finished finished) ≡ outcomes finished
   same_outcomes [] = refl
   same_outcomes (its ∷ finished) = ap (λ (l : List (Result (Unit {0}) PlayFault)). its.outcome ∷ l) (same_outcomes finished)
 
--- sessions that took place, by what is known of what each read and wrote and of the streams
-pub holds_seen : {T O E : Type 0} (rules : Parts → Rules) (known : T → Known) (output_stream : O → Stream) (error_stream : E → Stream) (json : List ℕ) (endpoints : List (Endpoint T)) (output output_after : O) (error error_after : E) (status : ℕ)
-    → RunsSessions rules known output_stream error_stream json endpoints output output_after error error_after status
-    → RunsSessions rules (λ (k : Known). k) (λ (s : Stream). s) (λ (s : Stream). s) json (map (known_endpoint known) endpoints) (output_stream output) (output_stream output_after) (error_stream error) (error_stream error_after) status
-holds_seen rules known output_stream error_stream json endpoints output output_after error error_after status h =
-    let same = same_outcomes known h.finished in
-    record {
-      setup = h.setup;
-      encodes = h.encodes;
-      control = h.control;
-      finished = map (known_finished known) h.finished;
-      writable = h.writable;
-      sessions = record {
-        setup_is = h.sessions.setup_is;
-        seats_are = h.sessions.seats_are ∙ sym (length-map endpoints (known_endpoint known));
-        entries = h.sessions.entries;
-        many = length-map h.finished (known_finished known) ∙ h.sessions.many ∙ sym (length-map endpoints (known_endpoint known));
-        each = λ k p a low.
-            let below : k < length endpoints = omega (arith, low, length-map endpoints (known_endpoint known)) in
-            let d = some_of endpoints (omega (arith, below)) in
-            let e = some_of h.finished (omega (arith, below, h.sessions.many)) in
-            let its = h.sessions.each k d e below in
-            let endpoint = sym (get_or-map (known_endpoint known) endpoints k d p below) in
-            let finished = sym (get_or-map (known_finished known) h.finished k e a (omega (arith, below, h.sessions.many))) in
-            subst (λ (x : Endpoint Known × Finished Known). IsFinished rules (λ (k : Known). k) h.control (k + 1) x.0 x.1) (λ i. (endpoint i, finished i))
-            (record { made = its.made; makes = its.makes; session = its.session });
-      };
-      written = h.written;
-      journal = stream_written output_stream (whole_ending h.written) output output_after _ h.journal;
-      reported = h.reported;
-      lines =
-          subst (λ (o : List (Result (Unit {0}) PlayFault)). Writes (λ (s : Stream). s) h.reported (error_stream error) (error_stream error_after) (failures_text h.written o)) (sym same)
-          (stream_writes error_stream (Unit {0}) Failed h.reported error error_after _ h.lines);
-      status_is = h.status_is ∙ ap (status_of h.written) (sym same);
-    }
+-- sessions that took place, by what is known of their seats, of what each read and wrote, and of the streams
+module _ {P T O E : Type 0} (rules : Parts → Rules) (known : T → Known) (opens : P → Result SeatSeen ReadFault → Type 0) (output_stream : O → Stream) (error_stream : E → Stream) where
+  pub holds_seen : (files : FilesSeen) (names : List (List ℕ)) (json : List ℕ) (openers : List P) (output output_after : O) (error error_after : E) (status : ℕ)
+      → AreOpenersOf opens files names openers → RunsSessions rules known opens output_stream error_stream json openers output output_after error error_after status
+      → RunsSessions rules (λ (k : Known). k) (CanOpenSeat files) (λ (s : Stream). s) (λ (s : Stream). s) json names (output_stream output) (output_stream output_after) (error_stream error) (error_stream error_after) status
+  holds_seen files names json openers output output_after error error_after status are h =
+      let same = same_outcomes known h.finished in
+      let many = as_many opens files names openers are in
+      record {
+        setup = h.setup;
+        encodes = h.encodes;
+        control = h.control;
+        finished = map (known_finished known) h.finished;
+        writable = h.writable;
+        sessions = record {
+          setup_is = h.sessions.setup_is;
+          seats_are = h.sessions.seats_are ∙ sym many;
+          entries = h.sessions.entries;
+          many = length-map h.finished (known_finished known) ∙ h.sessions.many ∙ sym many;
+          each = λ k n a low.
+              let below : k < length openers = omega (arith, low, many) in
+              let d = some_of openers (omega (arith, below)) in
+              let e = some_of h.finished (omega (arith, below, h.sessions.many)) in
+              let ended = get_or h.finished k e in
+              let its = ended_by rules h.control (k + 1) (opens (get_or openers k d)) (CanOpenSeat files (get_or names k n)) (opener_at opens files names openers k n d are below) (option_map known ended.console) ended.outcome (h.sessions.each k d e below) in
+              let finished = sym (get_or-map (known_finished known) h.finished k e a (omega (arith, below, h.sessions.many))) in
+              subst (λ (x : Finished Known). IsFinished rules (λ (k : Known). k) h.control (k + 1) (CanOpenSeat files (get_or names k n)) x) finished
+              (subst (λ (o : Option Known). HasEnded rules h.control (k + 1) (CanOpenSeat files (get_or names k n)) o ended.outcome) (sym (same_known (option_map known ended.console))) its);
+        };
+        written = h.written;
+        journal = stream_written output_stream (whole_ending h.written) output output_after _ h.journal;
+        reported = h.reported;
+        lines =
+            subst (λ (o : List (Result (Unit {0}) PlayFault)). Writes (λ (s : Stream). s) h.reported (error_stream error) (error_stream error_after) (failures_text h.written o)) (sym same)
+            (stream_writes error_stream (Unit {0}) Failed h.reported error error_after _ h.lines);
+        status_is = h.status_is ∙ ap (status_of h.written) (sym same);
+      }

@@ -1,21 +1,17 @@
 -- What is known of the outside of the program.
 use Rattle.std.specs.Prelude.{ℕ, List, ◌++◌, Option, option_map, bytes_eq}
 use Rattle.std.specs.List.{find}
-use Rattle.cdb_session.specs.Moves.{Known}
+use Rattle.cdb_shared_session.specs.Openings.{SeatSeen}
 use Rattle.cdb_streams.specs.Streams.{Stream, one_more}
 
--- What the session of a seat has: what it reads from and writes to, and the prompt before each line
-pub record SeatSeen : Type 0 where
-  pub console : Known
-  pub prompt : List ℕ
-
 -- Files: those that are known, each a name and its bytes; the names of those that were opened, in order, where these are known;
--- how many could not be read, in 64 bits; and the seats that are known, each a name and what its session has
+-- how many could not be read, in 64 bits; and the seats that are known, each a name and what it has when its streams are open,
+-- none where they can't be opened
 pub record FilesSeen : Type 0 where
   pub known : List (List ℕ × List ℕ)
   pub opened : Option (List (List ℕ))
   pub failures : ℕ
-  pub seats : List (List ℕ × SeatSeen)
+  pub seats : List (List ℕ × Option SeatSeen)
 
 -- all of the outside
 pub record Seen : Type 0 where
@@ -32,8 +28,8 @@ in_memory bytes = record { bytes = bytes; failures = 0 }
 abbrev pub content_of : FilesSeen → List ℕ → Option (List ℕ)
 content_of files name = option_map (λ file. file.1) (find (λ file. bytes_eq file.0 name) files.known)
 
--- what the session of the seat of this name has, where that is known
-abbrev pub seat_of : FilesSeen → List ℕ → Option SeatSeen
+-- what the seat of this name has when its streams are open, where that is known
+abbrev pub seat_of : FilesSeen → List ℕ → Option (Option SeatSeen)
 seat_of files name = option_map (λ seat. seat.1) (find (λ seat. bytes_eq seat.0 name) files.seats)
 
 -- files once these were opened too, one after the other

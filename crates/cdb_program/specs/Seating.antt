@@ -1,10 +1,9 @@
 -- What sessions of several seats do.
-use Rattle.std.specs.Prelude.{◌≡◌, ◌⊎◌, ℕ, ◌<◌, List, [], ◌∷◌, length, Result, Ok, Err, IfSome}
+use Rattle.std.specs.Prelude.{◌≡◌, ◌⊎◌, ℕ, ◌<◌, List, [], ◌∷◌, length, Option, Some, None, Result, Ok, Err, IfSome}
 use Rattle.std.specs.List.{AllZip}
 use Rattle.cdb_base.specs.Limits.{MAX_SEATS}
-use Rattle.cdb_session.specs.Moves.{Known}
 use Rattle.cdb_shared_session.specs.Reported.{RunsSessions, IsFaultOfSessions}
-use Rattle.cdb_shared_session.specs.declared.endpoint.Endpoint.{Endpoint}
+use Rattle.cdb_shared_session.specs.Openings.{SeatSeen}
 use Rattle.cdb_streams.specs.Streams.{itself}
 use Rattle.cdb_streams.specs.declared.source.ReadFault.{ReadFault}
 use Rattle.cdb_streams.specs.declared.source.ReadFault.TheVariants as reading
@@ -15,26 +14,37 @@ use Rattle.cdb_program.specs.Reports.{IsReported}
 use Rattle.cdb_program.specs.declared.fault.Fault.{Fault}
 use Rattle.cdb_program.specs.declared.fault.Fault.TheVariants.{Race, TooManySeats}
 
--- the endpoint is that of the seat of this name, and has its prompt, where these are known
-abbrev pub IsEndpointOf : {T : Type 0} → (T → Known) → FilesSeen → List ℕ → Endpoint T → Type 0
-IsEndpointOf known files name endpoint = IfSome (seat_of files name) (λ its. (known endpoint.console ≡ its.console) × (endpoint.prompt.now ≡ its.prompt))
+-- how the streams of a seat can be opened that then has this, or can't be opened; memory may always be out
+abbrev pub CanOpen : Option SeatSeen → Result SeatSeen ReadFault → Type 0
+CanOpen (Some its) (Ok opened) = opened ≡ its
+CanOpen None (Err reading.Failed) = Unit {0}
+CanOpen its (Err (reading.NoMemory refused)) = Unit {0}
+CanOpen its opened = ⊥
 
--- the k-th endpoint is that of the k-th name, and there are as many
-abbrev pub AreEndpointsOf : {T : Type 0} → (T → Known) → FilesSeen → List (List ℕ) → List (Endpoint T) → Type 0
-AreEndpointsOf known files names endpoints = AllZip (IsEndpointOf known files) names endpoints
+-- how those of the seat of this name can be opened, as far as it is known
+abbrev pub CanOpenSeat : FilesSeen → List ℕ → Result SeatSeen ReadFault → Type 0
+CanOpenSeat files name opened = IfSome (seat_of files name) (λ its. CanOpen its opened)
 
--- One seat is opened, by how that ended. Where an allocation failed it counts as not opened.
-abbrev pub OpensSeat : {T : Type 0} → (T → Known) → FilesSeen → FilesSeen → List ℕ → Result (Endpoint T) ReadFault → Type 0
-OpensSeat known old new name (Ok endpoint) = (new ≡ after_opening old (name ∷ [])) × IsEndpointOf known old name endpoint
-OpensSeat known old new name (Err reading.Failed) = new ≡ after_failing old (name ∷ [])
-OpensSeat known old new name (Err (reading.NoMemory refused)) = new ≡ old
+-- the opener opens the seat of this name
+abbrev pub IsOpenerOf : {P : Type 0} → (P → Result SeatSeen ReadFault → Type 0) → FilesSeen → List ℕ → P → Type 0
+IsOpenerOf opens files name opener = (opened : Result SeatSeen ReadFault) → opens opener opened → CanOpenSeat files name opened
 
--- the file of the setup was read, and gave these bytes, and then these seats were opened, in order
+-- the k-th opener opens the seat of the k-th name, and there are as many
+abbrev pub AreOpenersOf : {P : Type 0} → (P → Result SeatSeen ReadFault → Type 0) → FilesSeen → List (List ℕ) → List P → Type 0
+AreOpenersOf opens files names openers = AllZip (IsOpenerOf opens files) names openers
+
+-- One seat is found, by how that ended. Where an allocation failed it counts as not opened.
+abbrev pub FindsSeat : {P : Type 0} → (P → Result SeatSeen ReadFault → Type 0) → FilesSeen → FilesSeen → List ℕ → Result P ReadFault → Type 0
+FindsSeat opens old new name (Ok opener) = (new ≡ after_opening old (name ∷ [])) × IsOpenerOf opens old name opener
+FindsSeat opens old new name (Err reading.Failed) = new ≡ after_failing old (name ∷ [])
+FindsSeat opens old new name (Err (reading.NoMemory refused)) = new ≡ old
+
+-- the file of the setup was read, and gave these bytes, and then these seats were found, in order
 abbrev pub HasSeated : FilesSeen → FilesSeen → List ℕ → List (List ℕ) → List ℕ → Type 0
 HasSeated old new setup seats json = (new ≡ after_opening old (setup ∷ seats)) × AreFirstBytes old most_read setup json
 
 -- Why there were no sessions: there are too many seats, and then no file was opened; the setup has a fault, or memory or threads
--- are out; or the setup or a seat can't be opened, and then nothing after it was.
+-- are out; or the setup can't be opened, or a seat is refused, and then nothing after it was opened.
 abbrev pub IsFaultOfSeats : List ℕ → List (List ℕ) → FilesSeen → FilesSeen → Fault → Type 0
 IsFaultOfSeats setup seats old new TooManySeats = (MAX_SEATS < length seats) × (new ≡ old)
 IsFaultOfSeats setup seats old new (Race why) = (json : List ℕ) × HasSeated old new setup seats json × IsFaultOfSessions json why
@@ -45,13 +55,12 @@ abbrev pub RefusesSeats : List ℕ → List (List ℕ) → Seen → Seen → ℕ
 RefusesSeats setup seats old new status =
     (fault : Fault) × IsFaultOfSeats setup seats old.files new.files fault × (new.output ≡ old.output) × IsReported (Err fault) old.error new.error status
 
--- There were sessions, the k-th at the endpoint of the k-th seat, of which it is known what each read and wrote. The
--- journal was written to standard output, and what failed was reported.
+-- There were sessions, the k-th at the k-th seat, of which it is known what each read and wrote. The journal was written to
+-- standard output, and what failed was reported.
 abbrev pub HoldsSeats : List ℕ → List (List ℕ) → Seen → Seen → ℕ → Type 0
 HoldsSeats setup seats old new status =
     (json : List ℕ) × HasSeated old.files new.files setup seats json
-    × ((endpoints : List (Endpoint Known)) × AreEndpointsOf (λ known. known) old.files seats endpoints
-    × RunsSessions rules (λ known. known) itself itself json endpoints old.output new.output old.error new.error status)
+    × RunsSessions rules (λ known. known) (CanOpenSeat old.files) itself itself json seats old.output new.output old.error new.error status
 
 -- there were sessions of these seats, or not; standard input is left as it is
 abbrev pub PerformsShared : List ℕ → List (List ℕ) → Seen → Seen → ℕ → Type 0

@@ -2,14 +2,13 @@
 
 ghost use Rattle.std.specs.Prelude.{[], ◌∷◌};
 ghost use Rattle.cdb_program.specs.Known.{FilesSeen};
-ghost use Rattle.cdb_program.specs.Reading.{both, many, single, file_names, Reads, ReadsFile};
-ghost use Rattle.cdb_program.specs.Seating.{OpensSeat};
+ghost use Rattle.cdb_program.specs.Reading.{both, many, single, three, file_names, Reads, ReadsFile};
+ghost use Rattle.cdb_program.specs.Seating.{FindsSeat};
 
 use crate::fault::Fault;
 use cdb_base::NoMemory;
 use cdb_base::limits::MAX_BYTES;
-use cdb_session::Console;
-use cdb_shared_session::Endpoint;
+use cdb_shared_session::Opener;
 use cdb_streams::{PlayFault, ReadFault};
 use std::alloc::Global;
 
@@ -18,11 +17,11 @@ const MOST_READ: usize = MAX_BYTES + 1;
 
 /// Files that can be read by their names.
 pub trait Files {
-    /// What the session of a seat reads from and writes to.
-    type Seat: Console + Drop + Send;
+    /// What opens the streams of a seat.
+    type Seat: Opener + Send;
 
     /// What is known of the files: their bytes, the names of those that were opened, how many could not be read, and
-    /// what the session of the seat of a name reads from and writes to, and its prompt.
+    /// what the seat of a name has when its streams are open.
     ghost seen: { Self → FilesSeen };
 
     /// Reads the file of this name to its end, or this many bytes where it has more.
@@ -33,13 +32,14 @@ pub trait Files {
     fn read(&mut self, alloc: Global, name: &str, most: usize) -> Result<Vec<u8>, ReadFault>
         ensures { ReadsFile (seen self.old) (seen self.new) name.now most result };
 
-    /// Opens the seat of this name: a terminal device, or `IN:OUT`, a pair of files or pipes.
+    /// Finds the seat of this name: a terminal device, or `IN:OUT`, a pair of files or pipes. Its streams are not opened
+    /// yet, and so it doesn't wait.
     ///
     /// # Errors
-    /// `Failed` where it can't be opened, and `NoMemory` where an allocation fails, which counts as if it had not been
-    /// opened.
-    fn open_seat(&mut self, alloc: Global, name: &str) -> Result<Endpoint<Self::Seat>, ReadFault>
-        ensures { OpensSeat Self.Seat.known (seen self.old) (seen self.new) name.now result };
+    /// `Failed` where what it would write has something in it, and `NoMemory` where an allocation fails, which counts as
+    /// if it had not been opened.
+    fn find_seat(&mut self, alloc: Global, name: &str) -> Result<Self::Seat, ReadFault>
+        ensures { FindsSeat Self.Seat.opens (seen self.old) (seen self.new) name.now result };
 
     /// Shows that so many of so many walks are done, in a line that is written over, where standard error is a terminal. Of that line
     /// nothing is known, and what can't be shown is left out.
@@ -82,6 +82,25 @@ pub fn read_two<'a, F: Files>(
     let json = read_file(alloc, files, setup)?;
     let bytes = read_file(alloc, files, script)?;
     Ok((json, bytes))
+}
+
+/// The bytes of the file of a setup and then of those of two scripts.
+///
+/// # Errors
+/// Those of `read_file`, of the first file that can't be read; those after it are not opened.
+pub fn read_three<'a, F: Files>(
+    alloc: Global,
+    files: &mut F,
+    setup: &'a str,
+    first: &'a str,
+    second: &'a str,
+) -> Result<(Vec<u8>, Vec<u8>, Vec<u8>), Fault<'a>>
+    ensures { Reads three (F.seen files.old) (F.seen files.new)
+        (setup.entry.now ∷ first.entry.now ∷ second.entry.now ∷ []) result }
+{
+    let (json, one) = read_two(alloc, files, setup, first)?;
+    let other = read_file(alloc, files, second)?;
+    Ok((json, one, other))
 }
 
 /// The bytes of the files of these names, which are read one after the other as `read_file` does.

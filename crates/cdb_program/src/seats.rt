@@ -3,7 +3,7 @@
 ghost use Rattle.std.specs.Prelude.{◌≡◌, ◌≤◌, ◌∷◌, [], length, vec_len, IfOk, IfErr};
 ghost use Rattle.cdb_program.specs.Known.{after_opening};
 ghost use Rattle.cdb_program.specs.Reading.{file_names, FailsToRead};
-ghost use Rattle.cdb_program.specs.Seating.{AreEndpointsOf, HoldsSeats, IsFaultOfSeats, IsEndpointOf, PerformsShared};
+ghost use Rattle.cdb_program.specs.Seating.{AreOpenersOf, HoldsSeats, IsFaultOfSeats, IsOpenerOf, PerformsShared};
 
 use crate::fault::Fault;
 use crate::files::{Files, read_file};
@@ -12,61 +12,57 @@ use crate::reports::report;
 use cdb_any_run::AnyRun;
 use cdb_base::NoMemory;
 use cdb_base::limits::MAX_SEATS;
-use cdb_shared_session::{Endpoint, debug_shared};
+use cdb_shared_session::debug_shared;
 use cdb_streams::{PlayFault, Sink, Source};
 use std::alloc::Global;
 use std::sync::Wait;
 use std::thread::Threads;
 
-/// The endpoint of the seat of this name.
+/// What opens the seat of this name.
 ///
 /// # Errors
-/// `Play(Read, name)` where it can't be opened, and `Play(NoMemory, name)` where an allocation fails.
-fn open_one<'a, F: Files>(
-    alloc: Global,
-    files: &mut F,
-    name: &'a str,
-) -> Result<Endpoint<F::Seat>, Fault<'a>>
+/// `Play(Read, name)` where it is refused, and `Play(NoMemory, name)` where an allocation fails.
+fn find_one<'a, F: Files>(alloc: Global, files: &mut F, name: &'a str) -> Result<F::Seat, Fault<'a>>
     ensures opened { IfOk result
         (λ _. F.seen files.new ≡ after_opening (F.seen files.old) (name.entry.now ∷ [])) }
-    ensures seat { IfOk result (IsEndpointOf F.Seat.known (F.seen files.old) name.entry.now) }
+    ensures seat { IfOk result (IsOpenerOf F.Seat.opens (F.seen files.old) name.entry.now) }
     ensures fault { IfErr result
         (FailsToRead (F.seen files.old) (F.seen files.new) (name.entry.now ∷ [])) }
 {
-    match files.open_seat(alloc, name) {
-        Ok(endpoint) => Ok(endpoint),
+    match files.find_seat(alloc, name) {
+        Ok(opener) => Ok(opener),
         Err(fault) => Err(Fault::Play(PlayFault::from(fault), name)),
     }
 }
 
-/// The endpoints of the seats of these names, in their order, which are opened one after the other.
+/// What opens the seats of these names, in their order, which are found one after the other.
 ///
 /// # Errors
-/// `Play(Read, name)` with the name of the first seat that can't be opened; those after it are not opened.
+/// `Play(Read, name)` with the name of the first seat that is refused; those after it are not looked at.
 /// `Play(NoMemory, _)` where an allocation fails.
-fn open_each<'a, F: Files>(
+fn find_each<'a, F: Files>(
     alloc: Global,
     files: &mut F,
     names: &[&'a str],
-) -> Result<Vec<Endpoint<F::Seat>>, Fault<'a>>
+) -> Result<Vec<F::Seat>, Fault<'a>>
     ensures opened { IfOk result
         (λ _. F.seen files.new ≡ after_opening (F.seen files.old) (file_names names.now)) }
     ensures seats { IfOk result
-        (λ endpoints. AreEndpointsOf F.Seat.known (F.seen files.old) (file_names names.now)
-        endpoints.items) }
-    ensures count { IfOk result (λ endpoints. vec_len endpoints ≡ length names.now) }
+        (λ openers. AreOpenersOf F.Seat.opens (F.seen files.old) (file_names names.now)
+        openers.items) }
+    ensures count { IfOk result (λ openers. vec_len openers ≡ length names.now) }
     ensures fault { IfErr result
         (FailsToRead (F.seen files.old) (F.seen files.new) (file_names names.now)) }
 {
-    let mut endpoints = Vec::new(alloc);
+    let mut openers = Vec::new(alloc);
     for name in names {
-        let endpoint = open_one(alloc, files, name)?;
-        if let Err(error) = endpoints.push(endpoint) {
+        let opener = find_one(alloc, files, name)?;
+        if let Err(error) = openers.push(opener) {
             let refused = NoMemory::from(error);
             return Err(Fault::Play(PlayFault::NoMemory(refused), name));
         }
     }
-    Ok(endpoints)
+    Ok(openers)
 }
 
 /// Holds sessions of these seats over one run of a setup file, and returns the status. A fault is not reported yet.
@@ -97,13 +93,13 @@ fn hold_seats<
         return Err(Fault::TooManySeats);
     }
     let json = read_file(alloc, &mut outside.files, setup)?;
-    let endpoints = open_each(alloc, &mut outside.files, seats)?;
+    let openers = find_each(alloc, &mut outside.files, seats)?;
     let (output, error) = (&mut outside.streams.output, &mut outside.error);
     match debug_shared::<AnyRun, _, R, O, E>(
         threads,
         alloc,
         json.as_slice(),
-        endpoints,
+        openers,
         output,
         error,
     ) {

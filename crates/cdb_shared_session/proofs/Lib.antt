@@ -2,6 +2,7 @@ pub mod FinalJournal
 pub mod Kept
 pub mod SetupFaults
 pub mod AllSeats
+pub mod Ended
 pub mod FailureLines
 pub mod SeatCalls
 pub mod Writable

@@ -1,7 +1,7 @@
 -- The journal of sessions has commands of lines alone, so it can be written.
 use Rattle.std.proofs.Common.{◌≡◌, ℕ, ◌+◌, ◌-◌, ◌<◌, ◌≤◌, ◌==◌, Bool, true, false, cond, List, [], ◌∷◌, ◌++◌, length, map, get_or, sym, subst, inl, inr, arith}
 use Rattle.std.specs.List.{AllByRecursion, AllZip}
-use Rattle.std.specs.Prelude.{Result, Ok, Err}
+use Rattle.std.specs.Prelude.{Result, Ok, Err, Option, Some, None, option_map}
 use Rattle.cdb_base.specs.Limits.{MAX_ENTRIES, MAX_SEATS}
 use Rattle.cdb_commands.specs.declared.command.Command.{Command}
 use Rattle.cdb_control.specs.Journal.{Journaled, AreOfSeats, entry, own}
@@ -18,11 +18,12 @@ use Rattle.cdb_session.specs.declared.request.Request.TheVariants.{Call, Seat, H
 use Rattle.cdb_setup.specs.Parts.{Parts}
 use Rattle.cdb_streams.specs.Lines.{lines_of}
 use Rattle.cdb_streams.specs.declared.fault.PlayFault.{PlayFault}
+use Rattle.cdb_streams.specs.declared.source.ReadFault.{ReadFault}
+use Rattle.cdb_shared_session.specs.Openings.{SeatSeen}
 use Rattle.cdb_streams.specs.declared.fault.PlayFault.TheVariants as fault
 use Rattle.cdb_text.specs.Grammar.{HasNumbersInRange}
 use Rattle.cdb_shared_session.specs.SeatParts.{part_in, seat_style}
-use Rattle.cdb_shared_session.specs.SharedSessions.{AreSessions}
-use Rattle.cdb_shared_session.specs.declared.endpoint.Endpoint.{Endpoint}
+use Rattle.cdb_shared_session.specs.SharedSessions.{HasEnded, AreSessions}
 use Rattle.cdb_shared_session.specs.declared.endpoint.Finished.{Finished}
 use Rattle.cdb_shared_session.proofs.Kept.{some_of}
 
@@ -92,20 +93,26 @@ of_each_seat seats (e ∷ es) of_seats each = (
   of_each_seat seats es of_seats.1 (λ seat low high. own_tail (e.seat == seat) e.command (own seat es) (each seat low high)),
 )
 
-pub writable : {T : Type 0} (rules : Parts → Rules) (known : T → Known) (setup : Parts) (endpoints : List (Endpoint T)) (c : Journaled) (finished : List (Finished T)) → AreSessions rules known setup endpoints c finished
-    → length endpoints ≤ MAX_SEATS → length c.journal ≤ MAX_ENTRIES → IsWritable c
-writable rules known setup endpoints c finished all fits few =
+-- what came of a seat has commands of lines alone
+ended_in_range : (rules : Parts → Rules) (c : Journaled) (seat : ℕ) (Opens : Result SeatSeen ReadFault → Type 0) (ended : Option Known) (outcome : Result (Unit {0}) PlayFault) → HasEnded rules c seat Opens ended outcome → InRange (own seat c.journal)
+ended_in_range rules c seat Opens (Some ended) outcome (opening, opens, held) =
+    commands_of seat (own seat c.journal) (session_has_lines (seat_style opening.prompt seat) (part_in rules c seat) outcome held.made held.session)
+ended_in_range rules c seat Opens None outcome (fault, opens, unopened) = subst InRange (sym unopened.none) tt
+
+pub writable : {P T : Type 0} (rules : Parts → Rules) (known : T → Known) (opens : P → Result SeatSeen ReadFault → Type 0) (setup : Parts) (openers : List P) (c : Journaled) (finished : List (Finished T)) → AreSessions rules known opens setup openers c finished
+    → length openers ≤ MAX_SEATS → length c.journal ≤ MAX_ENTRIES → IsWritable c
+writable rules known opens setup openers c finished all fits few =
     record {
       seats = omega (arith, all.seats_are, fits);
       of_seats = all.entries;
       ranges = of_each_seat c.seats c.journal all.entries (λ seat low high.
           let k = seat - 1 in
-          let below : k < length endpoints = omega (arith, all.seats_are, low, high) in
-          let p = some_of endpoints (omega (arith, below)) in
+          let below : k < length openers = omega (arith, all.seats_are, low, high) in
+          let p = some_of openers (omega (arith, below)) in
           let a = some_of finished (omega (arith, below, all.many)) in
           let number : k + 1 ≡ seat = omega (arith, low) in
-          let its = all.each k p a below in
-          let calls = session_has_lines (seat_style (get_or endpoints k p).prompt.now (k + 1)) (part_in rules c (k + 1)) (get_or finished k a).outcome its.made its.session in
-          subst (λ (n : ℕ). InRange (own n c.journal)) number (commands_of (k + 1) (own (k + 1) c.journal) calls));
+          let ended = get_or finished k a in
+          subst (λ (n : ℕ). InRange (own n c.journal)) number
+          (ended_in_range rules c (k + 1) (opens (get_or openers k p)) (option_map known ended.console) ended.outcome (all.each k p a below)));
       few = few;
     }

@@ -1,4 +1,5 @@
 -- ---- what the public contracts name
+pub mod Openings
 pub mod SeatParts
 pub mod SharedSessions
 pub mod Reports

@@ -1,17 +1,19 @@
 -- What the thread of a seat promises, and what it hands back.
-use Rattle.std.specs.Prelude.{◌≡◌, ℕ, ◌-◌, ◌<◌, List, [], length, slice_index_or, Result, Vec, vec_len}
+use Rattle.std.specs.Prelude.{◌≡◌, ℕ, ◌-◌, ◌<◌, List, [], length, slice_index_or, Result, Ok, Err, Vec, vec_len, Option, Some, None, option_map}
 use Rattle.std.specs.Global.{Global}
 use Rattle.std.specs.declared.thread.PromisedHandle.{PromisedHandle}
 use Rattle.atomic_table.specs.Seated.{TableId}
 use Rattle.cdb_session.specs.Moves.{Known, Move, Makes}
 use Rattle.cdb_session.specs.Served.{IsSession}
 use Rattle.cdb_session.specs.Styles.{StyleView}
+use Rattle.cdb_streams.specs.Faults.{of_reading}
 use Rattle.cdb_streams.specs.declared.fault.PlayFault.{PlayFault}
+use Rattle.cdb_streams.specs.declared.source.ReadFault.{ReadFault}
 use Rattle.cdb_rules.specs.Rules.{Rules}
 use Rattle.cdb_setup.specs.Parts.{Parts}
 use Rattle.cdb_shared.specs.Seats.{SeatView, RestsAt, IsLater}
+use Rattle.cdb_shared_session.specs.Openings.{SeatSeen}
 use Rattle.cdb_shared_session.specs.SeatParts.{part_seen, seat_style}
-use Rattle.cdb_shared_session.specs.declared.endpoint.Endpoint.{Endpoint}
 use Rattle.cdb_shared_session.specs.declared.endpoint.Finished.{Finished}
 use Rattle.cdb_shared_session.specs.declared.seat.SeatResult.{SeatResult}
 use Rattle.cdb_shared_session.specs.declared.seat.SeatPromise.{SeatPromise}
@@ -27,44 +29,52 @@ abbrev pub RunsSeat : {A : Type 0} → (Parts → Rules) → StyleView → SeatV
 RunsSeat rules style seat returned old new =
     (made : List Move) × Makes old new made × IsSession style (part_seen rules seat) returned made
 
--- what the seat's thread hands back, the seat and how its session ended, says what the seat has done at its endpoint
-pub record HasRun {T : Type 0} (rules : Parts → Rules) (known : T → Known) (before : SeatView) (endpoint : Endpoint T)
-    (seat : SeatView) (finished : Finished T) : Type 0 where
+-- what the thread of the seat of this number has done, by the seat that it hands back and by what the streams were at the
+-- end, if they could be opened
+abbrev pub HasServed : (Parts → Rules) → (Result SeatSeen ReadFault → Type 0) → ℕ → SeatView → Option Known
+    → Result (Unit {0}) PlayFault → Type 0
+HasServed rules Opens number seat (Some ended) outcome =
+    (opened : SeatSeen) × Opens (Ok opened)
+    × RunsSeat rules (seat_style opened.prompt number) seat outcome opened.console ended
+HasServed rules Opens number seat None outcome =
+    (fault : ReadFault) × Opens (Err fault) × (outcome ≡ Err (of_reading fault)) × (seat.seen ≡ [])
+
+-- what the seat's thread hands back, the seat and how its session ended, says what the seat has done with its opener
+pub record HasRun {P T : Type 0} (rules : Parts → Rules) (known : T → Known)
+    (opens : P → Result SeatSeen ReadFault → Type 0) (before : SeatView) (opener : P) (seat : SeatView)
+    (finished : Finished T) : Type 0 where
   pub later : IsLater before seat
-  pub made : List Move
-  pub makes : Makes (known endpoint.console) (known finished.console) made
-  pub session : IsSession (seat_style endpoint.prompt.now before.number) (part_seen rules seat) finished.outcome made
+  pub served : HasServed rules (opens opener) before.number seat (option_map known finished.console) finished.outcome
 
--- a promise of this seat at this endpoint
-pub record IsSeatPromise {R T : Type 0} (seat : SeatView) (endpoint : Endpoint T)
-    (promise : SeatPromise R T) : Type 0 where
+-- a promise of this seat and this opener
+pub record IsSeatPromise {R P : Type 0} (seat : SeatView) (opener : P) (promise : SeatPromise R P) : Type 0 where
   pub seat_is : promise.seat.value ≡ seat
-  pub endpoint_is : promise.endpoint.value ≡ endpoint
+  pub opener_is : promise.opener.value ≡ opener
 
--- each handle promises that of a seat and its endpoint, the last seat's first
-abbrev pub AreSeatPromises : {R T : Type 0} → Vec SeatView Global → Vec (Endpoint T) Global
-    → Vec (PromisedHandle (SeatResult R T) (SeatPromise R T)) Global → Type 0
-AreSeatPromises {R} {T} seats endpoints handles =
-    (k : ℕ) (before : SeatView) (endpoint : Endpoint T) (handle : PromisedHandle (SeatResult R T) (SeatPromise R T))
+-- each handle promises that of a seat and its opener, the last seat's first
+abbrev pub AreSeatPromises : {R P T : Type 0} → Vec SeatView Global → Vec P Global
+    → Vec (PromisedHandle (SeatResult R T) (SeatPromise R P)) Global → Type 0
+AreSeatPromises {R} {P} {T} seats openers handles =
+    (k : ℕ) (before : SeatView) (opener : P) (handle : PromisedHandle (SeatResult R T) (SeatPromise R P))
     → k < vec_len seats
     → IsSeatPromise (slice_index_or seats.items (vec_len seats - 1 - k) before)
-    (slice_index_or endpoints.items (vec_len endpoints - 1 - k) endpoint) (slice_index_or handles.items k handle).promise
+    (slice_index_or openers.items (vec_len openers - 1 - k) opener) (slice_index_or handles.items k handle).promise
 
 -- What the threads hand back, the first seat's first: each keeps the promise of its handle, of which the last seat's
 -- comes first.
-abbrev pub AllKept : {R T : Type 0} → (Parts → Rules) → (T → Known)
-    → List (PromisedHandle (SeatResult R T) (SeatPromise R T)) → List SeatView → List (Finished T) → Type 0
-AllKept {R} {T} rules known handles seats finished =
+abbrev pub AllKept : {R P T : Type 0} → (Parts → Rules) → (T → Known) → (P → Result SeatSeen ReadFault → Type 0)
+    → List (PromisedHandle (SeatResult R T) (SeatPromise R P)) → List SeatView → List (Finished T) → Type 0
+AllKept {R} {P} {T} rules known opens handles seats finished =
     (k : ℕ) (seat : SeatView) (its : Finished T) → k < length seats
-    → (handle : PromisedHandle (SeatResult R T) (SeatPromise R T))
+    → (handle : PromisedHandle (SeatResult R T) (SeatPromise R P))
     → let there = slice_index_or handles (length handles - 1 - k) handle in
-    HasRun rules known there.promise.seat.value there.promise.endpoint.value
+    HasRun rules known opens there.promise.seat.value there.promise.opener.value
     (slice_index_or seats k seat) (slice_index_or finished k its)
 
--- each seat has run at its endpoint
-abbrev pub AllHaveRun : {T : Type 0} → (Parts → Rules) → (T → Known) → List SeatView → List (Endpoint T)
-    → List SeatView → List (Finished T) → Type 0
-AllHaveRun {T} rules known before endpoints seats finished =
-    (k : ℕ) (seat : SeatView) (its : Finished T) → k < length seats → (first : SeatView) (endpoint : Endpoint T)
-    → HasRun rules known (slice_index_or before k first) (slice_index_or endpoints k endpoint)
+-- each seat has run with its opener
+abbrev pub AllHaveRun : {P T : Type 0} → (Parts → Rules) → (T → Known) → (P → Result SeatSeen ReadFault → Type 0)
+    → List SeatView → List P → List SeatView → List (Finished T) → Type 0
+AllHaveRun {P} {T} rules known opens before openers seats finished =
+    (k : ℕ) (seat : SeatView) (its : Finished T) → k < length seats → (first : SeatView) (opener : P)
+    → HasRun rules known opens (slice_index_or before k first) (slice_index_or openers k opener)
     (slice_index_or seats k seat) (slice_index_or finished k its)

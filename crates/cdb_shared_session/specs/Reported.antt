@@ -7,6 +7,7 @@ use Rattle.cdb_streams.specs.Streams.{Stream, Writes}
 use Rattle.cdb_streams.specs.Written.{IsWritten, Only}
 use Rattle.cdb_streams.specs.declared.buffer.OutputFault.{OutputFault}
 use Rattle.cdb_streams.specs.declared.sink.Failed.{Failed}
+use Rattle.cdb_streams.specs.declared.source.ReadFault.{ReadFault}
 use Rattle.cdb_streams.specs.declared.fault.RaceFault.{RaceFault}
 use Rattle.cdb_streams.specs.declared.fault.RaceFault.TheVariants as fault
 use Rattle.cdb_rules.specs.Rules.{Rules}
@@ -14,21 +15,21 @@ use Rattle.cdb_setup.specs.Format.{Encodes, longest}
 use Rattle.cdb_setup.specs.Order.{IsFirstFault}
 use Rattle.cdb_setup.specs.Parts.{Parts}
 use Rattle.cdb_journal.specs.Journals.{IsWritable, journal_text}
+use Rattle.cdb_shared_session.specs.Openings.{SeatSeen}
 use Rattle.cdb_shared_session.specs.SharedSessions.{AreSessions}
 use Rattle.cdb_shared_session.specs.Reports.{outcomes, failures_text, status_of}
-use Rattle.cdb_shared_session.specs.declared.endpoint.Endpoint.{Endpoint}
 use Rattle.cdb_shared_session.specs.declared.endpoint.Finished.{Finished}
 
 -- the sessions have ended, the journal was written and what failed was reported, as far as that went, and this is the
 -- status
-pub record RunsSessions {T O E : Type 0} (rules : Parts → Rules) (known : T → Known)
-    (output_stream : O → Stream) (error_stream : E → Stream) (json : List ℕ) (endpoints : List (Endpoint T))
-    (output output_after : O) (error error_after : E) (status : ℕ) : Type 0 where
+pub record RunsSessions {P T O E : Type 0} (rules : Parts → Rules) (known : T → Known)
+    (opens : P → Result SeatSeen ReadFault → Type 0) (output_stream : O → Stream) (error_stream : E → Stream)
+    (json : List ℕ) (openers : List P) (output output_after : O) (error error_after : E) (status : ℕ) : Type 0 where
   pub setup : Parts
   pub encodes : Encodes json setup
   pub control : Journaled
   pub finished : List (Finished T)
-  pub sessions : AreSessions rules known setup endpoints control finished
+  pub sessions : AreSessions rules known opens setup openers control finished
   -- so a replay of what is written tells each seat what it was told
   pub writable : IsWritable control
   pub written : Result (Unit {0}) OutputFault

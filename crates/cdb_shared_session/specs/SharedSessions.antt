@@ -1,27 +1,51 @@
 -- Sessions of several seats over one run.
-use Rattle.std.specs.Prelude.{◌≡◌, ℕ, ◌+◌, ◌<◌, List, length, slice_index_or}
-use Rattle.cdb_control.specs.Journal.{Journaled, AreOfSeats}
+use Rattle.std.specs.Prelude.{◌≡◌, ℕ, ◌+◌, ◌<◌, List, [], length, slice_index_or, Option, Some, None, option_map, Result, Ok, Err}
+use Rattle.cdb_control.specs.Journal.{Journaled, AreOfSeats, own}
 use Rattle.cdb_session.specs.Moves.{Known, Move, Makes}
 use Rattle.cdb_session.specs.Served.{IsSession}
 use Rattle.cdb_rules.specs.Rules.{Rules}
 use Rattle.cdb_setup.specs.Parts.{Parts}
+use Rattle.cdb_streams.specs.Faults.{of_reading}
+use Rattle.cdb_streams.specs.declared.fault.PlayFault.{PlayFault}
+use Rattle.cdb_streams.specs.declared.source.ReadFault.{ReadFault}
+use Rattle.cdb_shared_session.specs.Openings.{SeatSeen}
 use Rattle.cdb_shared_session.specs.SeatParts.{part_in, seat_style}
-use Rattle.cdb_shared_session.specs.declared.endpoint.Endpoint.{Endpoint}
 use Rattle.cdb_shared_session.specs.declared.endpoint.Finished.{Finished}
 
--- the session of the seat of this number, by the final journal
-pub record IsFinished {T : Type 0} (rules : Parts → Rules) (known : T → Known) (c : Journaled) (seat : ℕ)
-    (endpoint : Endpoint T) (finished : Finished T) : Type 0 where
+-- the session of the seat of this number, by the final journal, from what its streams were when they were open to what
+-- they were at its end
+pub record IsHeld (rules : Parts → Rules) (c : Journaled) (seat : ℕ) (opened : SeatSeen) (ended : Known)
+    (outcome : Result (Unit {0}) PlayFault) : Type 0 where
   pub made : List Move
-  pub makes : Makes (known endpoint.console) (known finished.console) made
-  pub session : IsSession (seat_style endpoint.prompt.now seat) (part_in rules c seat) finished.outcome made
+  pub makes : Makes opened.console ended made
+  pub session : IsSession (seat_style opened.prompt seat) (part_in rules c seat) outcome made
 
--- One journal explains the responses to all seats: each console is that of its seat, and no entry is of another.
-pub record AreSessions {T : Type 0} (rules : Parts → Rules) (known : T → Known) (setup : Parts)
-    (endpoints : List (Endpoint T)) (c : Journaled) (finished : List (Finished T)) : Type 0 where
+-- the seat could not be opened, and so the journal has no entry of it
+pub record IsUnopened (c : Journaled) (seat : ℕ) (fault : ReadFault) (outcome : Result (Unit {0}) PlayFault) : Type 0 where
+  pub none : own seat c.journal ≡ []
+  pub outcome_is : outcome ≡ Err (of_reading fault)
+
+-- what came of a seat whose streams can be opened so, by what they were at the end of its session, if there was one
+abbrev pub HasEnded : (Parts → Rules) → Journaled → ℕ → (Result SeatSeen ReadFault → Type 0) → Option Known
+    → Result (Unit {0}) PlayFault → Type 0
+HasEnded rules c seat Opens (Some ended) outcome =
+    (opened : SeatSeen) × Opens (Ok opened) × IsHeld rules c seat opened ended outcome
+HasEnded rules c seat Opens None outcome =
+    (fault : ReadFault) × Opens (Err fault) × IsUnopened c seat fault outcome
+
+abbrev pub IsFinished : {T : Type 0} → (Parts → Rules) → (T → Known) → Journaled → ℕ
+    → (Result SeatSeen ReadFault → Type 0) → Finished T → Type 0
+IsFinished rules known c seat Opens finished =
+    HasEnded rules c seat Opens (option_map known finished.console) finished.outcome
+
+-- One journal explains the responses to all seats: what came of each is what comes of its opener, and no entry is of
+-- another.
+pub record AreSessions {P T : Type 0} (rules : Parts → Rules) (known : T → Known)
+    (opens : P → Result SeatSeen ReadFault → Type 0) (setup : Parts) (openers : List P) (c : Journaled)
+    (finished : List (Finished T)) : Type 0 where
   pub setup_is : c.setup ≡ setup
-  pub seats_are : c.seats ≡ length endpoints
+  pub seats_are : c.seats ≡ length openers
   pub entries : AreOfSeats c.seats c.journal
-  pub many : length finished ≡ length endpoints
-  pub each : (k : ℕ) (p : Endpoint T) (a : Finished T) → k < length endpoints
-      → IsFinished rules known c (k + 1) (slice_index_or endpoints k p) (slice_index_or finished k a)
+  pub many : length finished ≡ length openers
+  pub each : (k : ℕ) (p : P) (a : Finished T) → k < length openers
+      → IsFinished rules known c (k + 1) (opens (slice_index_or openers k p)) (slice_index_or finished k a)

@@ -2,8 +2,8 @@
 //! until all inputs have ended; one journal then explains the responses to each.
 //!
 //! ```text
-//! let endpoints = vec![in alloc; Endpoint { console, prompt: b"> " }]?;
-//! let (control, finished) = debug_seats::<R, _, _>(rt, alloc, setup, endpoints)?;
+//! let openers = vec![in alloc; opener]?;
+//! let (control, finished) = debug_seats::<R, _, _>(rt, alloc, setup, openers)?;
 //! let text = cdb_journal::journal_text(alloc, control.journal())?;
 //! ```
 #![tactic(auto)]
@@ -14,7 +14,7 @@ mod seat;
 mod shared;
 mod threads;
 
-pub use endpoint::{Endpoint, Finished};
+pub use endpoint::{Endpoint, Finished, Opener};
 pub use reports::{status_after, write_failures, write_journal};
 pub use shared::debug_shared;
 pub use threads::{SessionsFault, debug_seats};

@@ -4,7 +4,7 @@ ghost use Rattle.std.specs.Prelude.{◌≡◌, false};
 ghost use Rattle.cdb_shared.specs.Seats.{IsLater};
 ghost use Rattle.cdb_shared_session.specs.Promises.{IsUnused, RunsSeat, HasRun};
 
-use crate::endpoint::{Endpoint, Finished};
+use crate::endpoint::{Endpoint, Finished, Opener};
 use cdb_control::{CallFault, Command, Reply};
 use cdb_rules::Runs;
 use cdb_session::{Caller, Console, Session, Style, run};
@@ -58,15 +58,15 @@ pub(crate) struct SeatResult<R: Runs, T> {
 
 /// What the thread of a seat promises.
 #[derive(Drop)]
-pub(crate) struct SeatPromise<R: Runs, T> {
+pub(crate) struct SeatPromise<R: Runs, P> {
     pub(crate) seat: Snapshot<Seat<R>>,
-    pub(crate) endpoint: Snapshot<Endpoint<T>>,
+    pub(crate) opener: Snapshot<P>,
 }
 
-impl<R: Runs, T: Console> Promise<SeatResult<R, T>> for SeatPromise<R, T> {
+impl<R: Runs, P: Opener> Promise<SeatResult<R, P::Seat>> for SeatPromise<R, P> {
     ghost use Rattle.cdb_shared_session.specs.Promises.{HasRun};
 
-    ghost kept_by = { λ p r. HasRun R.rules T.known p.seat.value p.endpoint.value r.seat r.finished };
+    ghost kept_by = { λ p r. HasRun R.rules P.Seat.known P.opens p.seat.value p.opener.value r.seat r.finished };
 }
 
 /// A seat's session in a style by which no line chooses a seat, from its first line to its last. Hands the seat back.
@@ -91,21 +91,30 @@ fn run_styled<R: Runs, T: Console, Rt: Wait>(
     (seat, outcome)
 }
 
-/// A seat's session at its endpoint.
-pub(crate) fn run_seat<R: Runs, T: Console + Drop, Rt: Wait>(
+/// A seat's session, once its streams are open; where they can't be opened, there is none.
+pub(crate) fn run_seat<R: Runs, P: Opener, Rt: Wait>(
     shared: &Shared<R>,
     rt: &Rt,
     alloc: Global,
     seat: Seat<R>,
-    endpoint: Endpoint<T>,
-) -> SeatResult<R, T>
+    opener: P,
+) -> SeatResult<R, P::Seat>
     requires { IsUnused shared.now seat }
-    ensures { HasRun R.rules T.known seat endpoint result.seat result.finished }
+    ensures { HasRun R.rules P.Seat.known P.opens seat opener result.seat result.finished }
 {
     let Endpoint {
         mut console,
         prompt,
-    } = endpoint;
+    } = match opener.open(alloc) {
+        Ok(endpoint) => endpoint,
+        Err(fault) => {
+            let finished = Finished {
+                console: None,
+                outcome: Err(PlayFault::from(fault)),
+            };
+            return SeatResult { seat, finished };
+        }
+    };
     let style = Style {
         prompt,
         first: seat.number(),
@@ -114,6 +123,9 @@ pub(crate) fn run_seat<R: Runs, T: Console + Drop, Rt: Wait>(
     let (seat, outcome) = run_styled(shared, rt, alloc, &style, seat, &mut console);
     SeatResult {
         seat,
-        finished: Finished { console, outcome },
+        finished: Finished {
+            console: Some(console),
+            outcome,
+        },
     }
 }

@@ -4,12 +4,11 @@ ghost use Rattle.std.specs.Prelude.{◌≡◌, ◌≤◌, vec_len, IfOk, IfErr, 
 ghost use Rattle.cdb_shared_session.specs.Faults.{of_sessions};
 ghost use Rattle.cdb_shared_session.specs.Reported.{RunsSessions, IsFaultOfSessions};
 
-use crate::endpoint::Endpoint;
+use crate::endpoint::Opener;
 use crate::reports::{status_after, write_failures, write_journal};
 use crate::threads::{SessionsFault, debug_seats};
 use cdb_base::limits::MAX_SEATS;
 use cdb_rules::Runs;
-use cdb_session::Console;
 use cdb_setup::Setup;
 use cdb_streams::{RaceFault, Sink};
 use std::alloc::Global;
@@ -26,8 +25,8 @@ fn of_sessions(fault: SessionsFault) -> RaceFault
     }
 }
 
-/// Holds sessions of as many seats as there are endpoints, from 1 to 64, over one run of the setup, until all have
-/// ended. Then the journal is written to the output, a line for each entry, and to the other output a line for each
+/// Holds sessions of as many seats as there are openers, from 1 to 64, over one run of the setup, until all have ended;
+/// each seat is opened in its own thread, and one that can't be opened has failed. Then the journal is written to the output, a line for each entry, and to the other output a line for each
 /// seat that failed, and one where the journal could not be written; these lines take no memory. Returned is the
 /// status: 6 or 7 where the journal could not be written, else that of the least seat that failed, and 0 where none
 /// did.
@@ -38,24 +37,18 @@ fn of_sessions(fault: SessionsFault) -> RaceFault
 ///
 /// Promise: That journal is written, `S LINE` for each entry, and a line for each seat that failed, which takes no
 /// memory; the status is that of a journal that was not written, else of the least seat that failed.
-pub fn debug_shared<
-    R: Runs + Send,
-    T: Console + Drop + Send,
-    Rt: Threads + Wait + Sync,
-    O: Sink,
-    E: Sink,
->(
+pub fn debug_shared<R: Runs + Send, P: Opener + Send, Rt: Threads + Wait + Sync, O: Sink, E: Sink>(
     rt: &Rt,
     alloc: Global,
     setup: &[u8],
-    endpoints: Vec<Endpoint<T>>,
+    openers: Vec<P>,
     output: &mut O,
     error: &mut E,
 ) -> Result<u8, RaceFault>
-    requires some { 1 ≤ vec_len endpoints }
-    requires fits { vec_len endpoints ≤ MAX_SEATS }
-    ensures sessions { IfOk result (RunsSessions R.rules T.known O.stream E.stream
-        setup.now endpoints.items output.old output.new error.old error.new) }
+    requires some { 1 ≤ vec_len openers }
+    requires fits { vec_len openers ≤ MAX_SEATS }
+    ensures sessions { IfOk result (RunsSessions R.rules P.Seat.known P.opens O.stream E.stream
+        setup.now openers.items output.old output.new error.old error.new) }
     ensures fault { IfErr result (IsFaultOfSessions setup.now) }
     ensures unwritten { OnErr result ((output.new ≡ output.old) × (error.new ≡ error.old)) }
 {
@@ -63,7 +56,7 @@ pub fn debug_shared<
         Ok(setup) => setup,
         Err(fault) => return Err(RaceFault::from(fault)),
     };
-    let (control, finished) = match debug_seats::<R, T, Rt>(rt, alloc, setup, endpoints) {
+    let (control, finished) = match debug_seats::<R, P, Rt>(rt, alloc, setup, openers) {
         Ok(sessions) => sessions,
         Err(fault) => return Err(of_sessions(fault)),
     };

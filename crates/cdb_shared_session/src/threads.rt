@@ -8,14 +8,13 @@ ghost use Rattle.cdb_shared_session.specs.Promises.{IsUnused, IsSeatPromise, Are
 ghost use Rattle.cdb_shared_session.specs.Promises.{AllKept, AllHaveRun, HasRun};
 ghost use Rattle.cdb_shared.specs.Seats.{fresh_seats, HasHeadline};
 
-use crate::endpoint::{Endpoint, Finished};
+use crate::endpoint::{Finished, Opener};
 use crate::seat::{SeatPromise, SeatResult, run_seat};
 use cdb_base::NoMemory;
 use cdb_base::limits::MAX_SEATS;
 use cdb_base::start::{RefusedStart, start};
 use cdb_control::{Control, OpenFault};
 use cdb_rules::Runs;
-use cdb_session::Console;
 use cdb_setup::Setup;
 use cdb_shared::{Seat, Shared};
 use std::alloc::Global;
@@ -51,55 +50,55 @@ impl fmt::Display for SessionsFault {
 impl Error for SessionsFault {}
 
 /// Starts a thread for one seat.
-fn start_one<'s, E, R: Runs + Send + 's, T: Console + Drop + Send + 's, Rt: Threads + Wait + Sync>(
+fn start_one<'s, E, R: Runs + Send + 's, P: Opener + Send + 's, Rt: Threads + Wait + Sync>(
     scope: &Scope<'s, E>,
     rt: &'s Rt,
     alloc: Global,
     shared: &'s Shared<R>,
     seat: Seat<R>,
-    endpoint: Endpoint<T>,
-) -> Result<PromisedHandle<SeatResult<R, T>, SeatPromise<R, T>>, SessionsFault>
+    opener: P,
+) -> Result<PromisedHandle<SeatResult<R, P::Seat>, SeatPromise<R, P>>, SessionsFault>
     requires { IsUnused shared.now seat }
-    ensures { IfOk result (λ handle. IsSeatPromise seat endpoint handle.promise) }
+    ensures { IfOk result (λ handle. IsSeatPromise seat opener handle.promise) }
 {
     let promise = SeatPromise {
         seat: Snapshot::of(&seat),
-        endpoint: Snapshot::of(&endpoint),
+        opener: Snapshot::of(&opener),
     };
     let started = start(
         scope,
         promise,
-        move || -> SeatResult<R, T>
+        move || -> SeatResult<R, P::Seat>
             requires { IsUnused shared.now seat }
-            ensures { HasRun R.rules T.known seat endpoint result.seat result.finished }
-        { run_seat(shared, rt, alloc, seat, endpoint) },
+            ensures { HasRun R.rules P.Seat.known P.opens seat opener result.seat result.finished }
+        { run_seat(shared, rt, alloc, seat, opener) },
     );
     started.map_err(SessionsFault::Spawn)
 }
 
 /// Starts a thread for each seat, the last seat's first.
-fn start_all<'s, E, R: Runs + Send + 's, T: Console + Drop + Send + 's, Rt: Threads + Wait + Sync>(
+fn start_all<'s, E, R: Runs + Send + 's, P: Opener + Send + 's, Rt: Threads + Wait + Sync>(
     scope: &Scope<'s, E>,
     rt: &'s Rt,
     alloc: Global,
     shared: &'s Shared<R>,
     mut seats: Vec<Seat<R>>,
-    mut endpoints: Vec<Endpoint<T>>,
-) -> Result<Vec<PromisedHandle<SeatResult<R, T>, SeatPromise<R, T>>>, SessionsFault>
+    mut openers: Vec<P>,
+) -> Result<Vec<PromisedHandle<SeatResult<R, P::Seat>, SeatPromise<R, P>>>, SessionsFault>
     requires ready { All (λ seat. IsUnused shared.now seat) seats.items }
-    requires endpoints { vec_len endpoints ≡ vec_len seats }
+    requires openers { vec_len openers ≡ vec_len seats }
     ensures count { IfOk result (λ handles. vec_len handles ≡ vec_len seats) }
-    ensures each { IfOk result (λ handles. AreSeatPromises seats endpoints handles) }
+    ensures each { IfOk result (λ handles. AreSeatPromises seats openers handles) }
 {
     let mut handles = match Vec::with_capacity(alloc, seats.len()) {
         Ok(handles) => handles,
         Err(error) => return Err(SessionsFault::NoMemory(NoMemory::from(error))),
     };
     while let Some(seat) = seats.pop() {
-        let Some(endpoint) = endpoints.pop() else {
+        let Some(opener) = openers.pop() else {
             unreachable!()
         };
-        let handle = start_one(scope, rt, alloc, shared, seat, endpoint)?;
+        let handle = start_one(scope, rt, alloc, shared, seat, opener)?;
         handles.push_reserved(handle);
     }
     Ok(handles)
@@ -107,16 +106,16 @@ fn start_all<'s, E, R: Runs + Send + 's, T: Console + Drop + Send + 's, Rt: Thre
 
 /// Joins the threads, of which the last seat's comes first, and adds the seats and how their sessions ended, the first
 /// seat's first, to lists that have room for them.
-fn join_each<R: Runs, T: Console + Drop, Rt: Threads>(
+fn join_each<R: Runs, P: Opener, Rt: Threads>(
     rt: &Rt,
-    mut handles: Vec<PromisedHandle<SeatResult<R, T>, SeatPromise<R, T>>>,
+    mut handles: Vec<PromisedHandle<SeatResult<R, P::Seat>, SeatPromise<R, P>>>,
     mut seats: Vec<Seat<R>>,
-    mut all: Vec<Finished<T>>,
-) -> (Vec<Seat<R>>, Vec<Finished<T>>)
+    mut all: Vec<Finished<P::Seat>>,
+) -> (Vec<Seat<R>>, Vec<Finished<P::Seat>>)
     requires empty { (vec_len seats ≡ 0) × (vec_len all ≡ 0) }
     requires room { (vec_len handles ≤ vec_capacity seats) × (vec_len handles ≤ vec_capacity all) }
     ensures count { (vec_len result.0 ≡ vec_len handles) × (vec_len result.1 ≡ vec_len handles) }
-    ensures each { AllKept R.rules T.known handles.items result.0.items result.1.items }
+    ensures each { AllKept R.rules P.Seat.known P.opens handles.items result.0.items result.1.items }
 {
     while let Some(handle) = handles.pop() {
         let SeatResult { seat, finished } = handle.join(rt);
@@ -128,58 +127,58 @@ fn join_each<R: Runs, T: Console + Drop, Rt: Threads>(
 
 /// Starts a thread for each seat in this scope, and joins them all; the seats and how their sessions ended are added to
 /// lists that have room for them.
-fn join_all<'s, E, R: Runs + Send + 's, T: Console + Drop + Send + 's, Rt: Threads + Wait + Sync>(
+fn join_all<'s, E, R: Runs + Send + 's, P: Opener + Send + 's, Rt: Threads + Wait + Sync>(
     scope: &Scope<'s, E>,
     rt: &'s Rt,
     alloc: Global,
     shared: &'s Shared<R>,
     seats: Vec<Seat<R>>,
-    endpoints: Vec<Endpoint<T>>,
+    openers: Vec<P>,
     done: Vec<Seat<R>>,
-    all: Vec<Finished<T>>,
-) -> Result<(Vec<Seat<R>>, Vec<Finished<T>>), SessionsFault>
+    all: Vec<Finished<P::Seat>>,
+) -> Result<(Vec<Seat<R>>, Vec<Finished<P::Seat>>), SessionsFault>
     requires ready { All (λ seat. IsUnused shared.now seat) seats.items }
-    requires endpoints { vec_len endpoints ≡ vec_len seats }
+    requires openers { vec_len openers ≡ vec_len seats }
     requires empty { (vec_len done ≡ 0) × (vec_len all ≡ 0) }
     requires room { (vec_len seats ≤ vec_capacity done) × (vec_len seats ≤ vec_capacity all) }
     ensures count { IfOk result
         (λ r. (vec_len r.0 ≡ vec_len seats) × (vec_len r.1 ≡ vec_len seats)) }
     ensures each { IfOk result
-        (λ r. AllHaveRun R.rules T.known seats.items endpoints.items r.0.items r.1.items) }
+        (λ r. AllHaveRun R.rules P.Seat.known P.opens seats.items openers.items r.0.items r.1.items) }
 {
-    let handles = start_all(scope, rt, alloc, shared, seats, endpoints)?;
+    let handles = start_all(scope, rt, alloc, shared, seats, openers)?;
     Ok(join_each(rt, handles, done, all))
 }
 
 /// Serves every seat in a thread of its own, and joins them all; the seats and how their sessions ended are added to
 /// lists that have room for them.
-fn run_all<R: Runs + Send, T: Console + Drop + Send, Rt: Threads + Wait + Sync>(
+fn run_all<R: Runs + Send, P: Opener + Send, Rt: Threads + Wait + Sync>(
     rt: &Rt,
     alloc: Global,
     shared: &Shared<R>,
     seats: Vec<Seat<R>>,
-    endpoints: Vec<Endpoint<T>>,
+    openers: Vec<P>,
     done: Vec<Seat<R>>,
-    all: Vec<Finished<T>>,
-) -> Result<(Vec<Seat<R>>, Vec<Finished<T>>), SessionsFault>
+    all: Vec<Finished<P::Seat>>,
+) -> Result<(Vec<Seat<R>>, Vec<Finished<P::Seat>>), SessionsFault>
     requires ready { All (λ seat. IsUnused shared.now seat) seats.items }
-    requires endpoints { vec_len endpoints ≡ vec_len seats }
+    requires openers { vec_len openers ≡ vec_len seats }
     requires empty { (vec_len done ≡ 0) × (vec_len all ≡ 0) }
     requires room { (vec_len seats ≤ vec_capacity done) × (vec_len seats ≤ vec_capacity all) }
     ensures count { IfOk result
         (λ r. (vec_len r.0 ≡ vec_len seats) × (vec_len r.1 ≡ vec_len seats)) }
     ensures each { IfOk result
-        (λ r. AllHaveRun R.rules T.known seats.items endpoints.items r.0.items r.1.items) }
+        (λ r. AllHaveRun R.rules P.Seat.known P.opens seats.items openers.items r.0.items r.1.items) }
 {
     thread::scope(
         thread::scope_env(),
         rt,
-        |scope| -> Result<(Vec<Seat<R>>, Vec<Finished<T>>), SessionsFault>
+        |scope| -> Result<(Vec<Seat<R>>, Vec<Finished<P::Seat>>), SessionsFault>
             requires ready { All (λ seat. IsUnused shared.now seat) seats.items }
-            requires endpoints { vec_len endpoints ≡ vec_len seats }
+            requires openers { vec_len openers ≡ vec_len seats }
             requires empty { (vec_len done ≡ 0) × (vec_len all ≡ 0) }
             requires room { (vec_len seats ≤ vec_capacity done) × (vec_len seats ≤ vec_capacity all) }
-        { join_all(scope, rt, alloc, shared, seats, endpoints, done, all) },
+        { join_all(scope, rt, alloc, shared, seats, openers, done, all) },
     )
 }
 
@@ -219,39 +218,41 @@ fn open_shared<R: Runs, Rt: Wait>(
     }
 }
 
-/// Sessions of as many seats as there are endpoints, from 1 to 64, over one run of the setup, each in a thread of its
-/// own, until all have ended; then the control, whose journal has the commands of all, and the endpoints in the same
-/// order, each with how its session ended. The k-th endpoint is that of seat k. A line has its response as in a session
-/// of one seat, but that no line chooses a seat. A seat whose session ends with a fault ends alone, and the others go
+/// Sessions of as many seats as there are openers, from 1 to 64, over one run of the setup, each in a thread of its
+/// own, until all have ended; then the control, whose journal has the commands of all, and what came of each seat, in the
+/// order of the openers, of which the k-th is that of seat k. Each thread opens its own seat, so a seat begins when its
+/// streams are open, and holds no other until then. A line has its response as in a session of one seat, but that no
+/// line chooses a seat. A seat that can't be opened, or whose session ends with a fault, ends alone, and the others go
 /// on. The journal can be written, and a replay of what was written tells each seat what it was told.
 ///
 /// # Errors
 /// `NoMemory` where the control, the results or the threads find no memory, and then no session was begun. `Spawn`
-/// where a thread can't be started: sessions that were begun by then go on to their ends, but their endpoints and the
+/// where a thread can't be started: sessions that were begun by then go on to their ends, but what they left and the
 /// journal are lost.
 ///
 /// Promise: With several seats one journal explains the responses to each: it has the commands of each seat's lines, in
 /// order and each once, or the first of them and is full; each seat got the replies to them there, in full before it
-/// was asked for more; no entry is of another seat. A seat that fails ends alone; only after out of memory the journal
-/// may have one command more than had its reply.
-pub fn debug_seats<R: Runs + Send, T: Console + Drop + Send, Rt: Threads + Wait + Sync>(
+/// was asked for more; no entry is of another seat. A seat is opened in its own thread; one that can't be opened has no
+/// entry, and ends with that fault. A seat that fails ends alone; only after out of memory the journal may have one
+/// command more than had its reply.
+pub fn debug_seats<R: Runs + Send, P: Opener + Send, Rt: Threads + Wait + Sync>(
     rt: &Rt,
     alloc: Global,
     setup: Setup,
-    endpoints: Vec<Endpoint<T>>,
-) -> Result<(Control<R>, Vec<Finished<T>>), SessionsFault>
-    requires some { 1 ≤ vec_len endpoints }
-    requires fits { vec_len endpoints ≤ MAX_SEATS }
+    openers: Vec<P>,
+) -> Result<(Control<R>, Vec<Finished<P::Seat>>), SessionsFault>
+    requires some { 1 ≤ vec_len openers }
+    requires fits { vec_len openers ≤ MAX_SEATS }
     ensures sessions { IfOk result
-        (λ r. AreSessions R.rules T.known setup endpoints.items r.0 r.1.items) }
+        (λ r. AreSessions R.rules P.Seat.known P.opens setup openers.items r.0 r.1.items) }
     ensures writable { IfOk result (λ r. IsWritable r.0) }
     ensures headline { IfOk result (λ r. HasHeadline R.rules R.same_state r.0) }
 {
-    let count = endpoints.len() as u8;
-    let done = reserve(alloc, endpoints.len())?;
-    let all = reserve(alloc, endpoints.len())?;
+    let count = openers.len() as u8;
+    let done = reserve(alloc, openers.len())?;
+    let all = reserve(alloc, openers.len())?;
     let (shared, seats) = open_shared::<R, Rt>(rt, alloc, setup, count)?;
-    let (seats, finished) = match run_all(rt, alloc, &shared, seats, endpoints, done, all) {
+    let (seats, finished) = match run_all(rt, alloc, &shared, seats, openers, done, all) {
         Ok(joined) => joined,
         Err(fault) => {
             shared.close();

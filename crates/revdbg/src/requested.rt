@@ -102,6 +102,16 @@ fn request_of<'a>(asked: &'a Asked<'a>, prompt: &'a str) -> Request<'a>
             script,
             goal,
         },
+        Asked::Same {
+            setup,
+            first,
+            second,
+        } => Request::Same {
+            setup,
+            first,
+            second,
+        },
+        Asked::Clocks { setup, script } => Request::Clocks { setup, script },
         Asked::Debug { setup, seats } if seats.is_empty() => Request::Debug { setup, prompt },
         Asked::Debug { setup, seats } => Request::DebugShared {
             setup,

@@ -8,12 +8,12 @@ use crate::seats::{pair_of, path_of, prompt_at};
 use cdb_base::NoMemory;
 use cdb_program::Files;
 use cdb_session::Streams;
-use cdb_shared_session::Endpoint;
+use cdb_shared_session::{Endpoint, Opener};
 use cdb_streams::{Input, Output, ReadFault, read_up_to};
 use std::alloc::Global;
-use std::fs::File;
-use std::io;
+use std::fs::{File, Metadata};
 use std::io::{ErrorKind, IsTerminal};
+use std::{fs, io};
 
 /// Of so many walks one is shown.
 const SHOWN_EACH: u32 = 50;
@@ -44,12 +44,16 @@ fn terminal(rt: &HostRuntime, name: &str) -> io::Result<(File, File)> {
     Ok((input, File::options().write(true).open(rt, name)?))
 }
 
+/// Whether this is a file with something in it.
+fn is_used(about: &Metadata) -> bool {
+    about.is_file() && about.len() > 0
+}
+
 /// The file of this name to write to, which is made where it is not there. A file that has something in it is refused, so
 /// that none is emptied.
 fn empty_file(rt: &HostRuntime, name: &str) -> io::Result<File> {
     let file = File::options().write(true).create(true).open(rt, name)?;
-    let about = file.metadata()?;
-    if about.is_file() && about.len() > 0 {
+    if is_used(&file.metadata()?) {
         return Err(io::Error::from(ErrorKind::AlreadyExists));
     }
     Ok(file)
@@ -67,6 +71,14 @@ fn seat_of(rt: &HostRuntime, name: &str) -> io::Result<Endpoint<SeatConsole>> {
     Ok(Endpoint { console, prompt })
 }
 
+/// Whether the seat of this name would write to a file that has something in it.
+fn writes_over(rt: &HostRuntime, name: &str) -> bool {
+    match pair_of(name) {
+        Some((_, output)) => fs::metadata(rt, output).is_ok_and(|about| is_used(&about)),
+        None => false,
+    }
+}
+
 /// The fault of a file that could not be opened, where this is the system's error.
 fn fault_of(error: &io::Error) -> ReadFault
     ensures { result ≡ read_fault_of (error_kind error.now) }
@@ -77,8 +89,28 @@ fn fault_of(error: &io::Error) -> ReadFault
     }
 }
 
-impl<'a> Files for SystemFiles<'a> {
+/// A seat of the system, whose streams are not open yet.
+#[derive(Drop)]
+pub struct SystemSeat {
+    rt: HostRuntime,
+    name: String,
+}
+
+impl Opener for SystemSeat {
     type Seat = SeatConsole;
+
+    ghost opens = { λ seat opened. Unit {0} };
+
+    fn open(self, _alloc: Global) -> Result<Endpoint<SeatConsole>, ReadFault> {
+        match seat_of(&self.rt, self.name.as_str()) {
+            Ok(endpoint) => Ok(endpoint),
+            Err(error) => Err(fault_of(&error)),
+        }
+    }
+}
+
+impl<'a> Files for SystemFiles<'a> {
+    type Seat = SystemSeat;
 
     ghost use Rattle.std.specs.Prelude.{[], None};
 
@@ -100,21 +132,14 @@ impl<'a> Files for SystemFiles<'a> {
         read
     }
 
-    fn open_seat(
-        &mut self,
-        _alloc: Global,
-        name: &str,
-    ) -> Result<Endpoint<SeatConsole>, ReadFault> {
-        match seat_of(self.rt, name) {
-            Ok(endpoint) => Ok(endpoint),
-            Err(error) => {
-                let fault = fault_of(&error);
-                if fault == ReadFault::Failed {
-                    self.failures = self.failures.wrapping_add(1);
-                }
-                Err(fault)
-            }
+    fn find_seat(&mut self, alloc: Global, name: &str) -> Result<SystemSeat, ReadFault> {
+        if writes_over(self.rt, name) {
+            self.failures = self.failures.wrapping_add(1);
+            return Err(ReadFault::Failed);
         }
+        let rt = *self.rt;
+        let name = String::from_str(alloc, name)?;
+        Ok(SystemSeat { rt, name })
     }
 
     fn show_progress(&self, done: u32, all: u32) {

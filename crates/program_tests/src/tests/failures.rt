@@ -304,18 +304,24 @@ fn each_read_of_input_fails_in_turn(rt: HostRuntime) {
 }
 
 #[test]
-fn the_kth_session_is_that_of_the_kth_name(rt: HostRuntime) -> Result<(), Fail> {
+fn the_kth_session_is_that_of_the_kth_name_and_one_that_cannot_be_opened_ends_alone(
+    rt: HostRuntime,
+) -> Result<(), Fail> {
     let shared = Request::DebugShared {
         setup: "two.json",
-        seats: &["decisions.txt", "redo.txt", "decisions.txt"],
+        seats: &["decisions.txt", "redo.txt", "shut", "decisions.txt"],
     };
     let ended = performed(&rt, shared, ALL_GOOD);
     let journal = str::from_utf8(ended.output.as_slice())?;
     // In which order the seats come is not known.
-    for line in &["1 decisions\n", "2 redo\n", "3 decisions\n"] {
+    for line in &["1 decisions\n", "2 redo\n", "4 decisions\n"] {
         assert!(rt; journal.contains(*line));
     }
     assert_eq!(rt; journal.len(), 31);
-    assert_eq!(rt; (ended.status, ended.error.len()), (0, 0));
+    let error = str::from_utf8(ended.error.as_slice())?;
+    assert_eq!(rt;
+        (ended.status, error),
+        (3, "seat 3: cannot read the input\n")
+    );
     Ok(())
 }

@@ -1,8 +1,7 @@
 //! Files in memory.
 
-use super::streams::Visitor;
+use super::streams::Arrival;
 use cdb_program::Files;
-use cdb_shared_session::Endpoint;
 use cdb_streams::ReadFault;
 use std::alloc::{AllocError, Global};
 
@@ -60,7 +59,7 @@ fn content_of(name: &str) -> Option<&'static [u8]> {
 }
 
 impl Files for Folder {
-    type Seat = Visitor;
+    type Seat = Arrival;
 
     ghost use Rattle.std.specs.Prelude.{[], Some};
     ghost use Rattle.cdb_play.specs.Races.{bytes_of};
@@ -87,21 +86,18 @@ impl Files for Folder {
         Ok(bytes)
     }
 
-    /// A seat's input is the file of its name, and its output is lost.
-    fn open_seat(&mut self, alloc: Global, name: &str) -> Result<Endpoint<Self::Seat>, ReadFault> {
+    /// A seat's input is the file of its name, and its output is lost. The seat `shut` is found, but can't be opened.
+    fn find_seat(&mut self, alloc: Global, name: &str) -> Result<Arrival, ReadFault> {
         let copy = Vec::from_slice(alloc, name.as_bytes())?;
         let content = content_of(name);
         let lines = Vec::from_slice(alloc, content.unwrap_or(b""))?;
         self.opened.push(copy).map_err(AllocError::from)?;
-        if content.is_none() {
+        if content.is_none() && name != "shut" {
             self.failures = self.failures.wrapping_add(1);
             return Err(ReadFault::Failed);
         }
-        let console = Visitor::new(lines);
-        Ok(Endpoint {
-            console,
-            prompt: b"",
-        })
+        let lines = if content.is_none() { None } else { Some(lines) };
+        Ok(Arrival { lines })
     }
 
     fn show_progress(&self, _done: u32, _all: u32) {}

@@ -5,8 +5,8 @@ use cdb_any_run::AnyRun;
 use cdb_control::{Control, Entry};
 use cdb_journal::journal_text;
 use cdb_setup::Setup;
-use cdb_shared_session::{Endpoint, Finished, debug_seats, status_after, write_failures};
-use cdb_streams::{Output, PlayFault};
+use cdb_shared_session::{Endpoint, Finished, Opener, debug_seats, status_after, write_failures};
+use cdb_streams::{Output, PlayFault, ReadFault};
 use std::alloc::{AllocError, Global};
 use std::process::Abort;
 use std::sync::Wait;
@@ -15,23 +15,47 @@ use std::thread::Threads;
 const THREE: &[u8] =
     b"{\"algorithm\":\"leader\",\"processes\":3,\"quorum\":2,\"inputs\":[5,6,7],\"oracle\":[[1],[1],[1]]}";
 
+/// A seat at which this person sits, or one that can't be opened.
+#[derive(Drop)]
+struct Place {
+    person: Option<Person>,
+}
+
+impl Opener for Place {
+    type Seat = Person;
+
+    ghost opens = { λ place opened. Unit {0} };
+
+    fn open(self, _alloc: Global) -> Result<Endpoint<Person>, ReadFault> {
+        match self.person {
+            Some(console) => Ok(Endpoint {
+                console,
+                prompt: b"> ",
+            }),
+            None => Err(ReadFault::Failed),
+        }
+    }
+}
+
 /// Each seat drives a process of its own, and nothing is sent, so that what it is answered depends on no other. The
-/// first can't be written to after its prompt, and the third can't be read from after its first line.
-fn three_seats(alloc: Global) -> Result<Vec<Endpoint<Person>>, AllocError> {
+/// first can't be written to after its prompt, the third can't be read from after its first line, and the fourth can't be
+/// opened.
+fn four_seats(alloc: Global) -> Result<Vec<Place>, AllocError> {
     let seats: [(&[u8], usize, usize); 3] = [
         (b"auto 1\nauto 1\n", usize::MAX, 1),
         (b"auto 2\nwhy 2 1\n", usize::MAX, usize::MAX),
         (b"auto 3\nauto 3\n", 1, usize::MAX),
     ];
-    let mut endpoints = Vec::new(alloc);
+    let mut places = Vec::new(alloc);
     for (lines, good_reads, good_writes) in seats {
         let mut console = with_lines(alloc, lines, 7);
         console.good_reads = good_reads;
         console.good_writes = good_writes;
-        let prompt = b"> ";
-        endpoints.push(Endpoint { console, prompt })?;
+        let person = Some(console);
+        places.push(Place { person })?;
     }
-    Ok(endpoints)
+    places.push(Place { person: None })?;
+    Ok(places)
 }
 
 fn check_ends<R: Abort>(rt: &R, seats: &[Finished<Person>]) {
@@ -40,11 +64,14 @@ fn check_ends<R: Abort>(rt: &R, seats: &[Finished<Person>]) {
         (Ok(()), "> 2.1 query 1\n> 2.1 because none\n> "),
         (Err(PlayFault::Read), "> 3.1 query 1\n> "),
     ];
-    assert!(rt; seats.len() == 3);
+    assert!(rt; seats.len() == 4);
     for at in 0..3 {
         assert_eq!(rt; seats[at].outcome, ends[at].0);
-        assert!(rt; seats[at].console.said.as_slice() == ends[at].1.as_bytes());
+        let person = seats[at].console.as_ref().expect(rt, "a console");
+        assert!(rt; person.said.as_slice() == ends[at].1.as_bytes());
     }
+    assert_eq!(rt; seats[3].outcome, Err(PlayFault::Read));
+    assert!(rt; seats[3].console.is_none());
 }
 
 /// The command whose response could not be written is in the journal. In which order the seats come is not known.
@@ -59,29 +86,30 @@ fn check_journal<R: Abort + AllocGlobal>(rt: &R, journal: &[Entry]) {
 
 /// The status is that of the least seat that failed.
 fn check_report<R: Abort + AllocGlobal>(rt: &R, seats: &[Finished<Person>]) {
-    assert!(rt; seats.len() == 3);
+    assert!(rt; seats.len() == 4);
     let mut error = Output::new(Vec::new(rt.alloc()));
     let written = write_failures(seats, &Ok(()), &mut error);
     assert_eq!(rt; written, Ok(()));
-    let text = "seat 1: output failed\nseat 3: cannot read the input\n";
+    let text =
+        "seat 1: output failed\nseat 3: cannot read the input\nseat 4: cannot read the input\n";
     assert!(rt; error.into_inner().as_slice() == text.as_bytes());
     assert_eq!(rt; status_after(seats, &Ok(())), 7);
 }
 
-/// Sessions of one run with these, of whom there are three.
+/// Sessions of one run with these, of whom there are four.
 fn hold<R: Threads + Wait + Sync + Abort + AllocGlobal>(
     rt: &R,
-    endpoints: Vec<Endpoint<Person>>,
+    places: Vec<Place>,
 ) -> (Control<AnyRun>, Vec<Finished<Person>>) {
-    assert!(rt; endpoints.len() == 3);
+    assert!(rt; places.len() == 4);
     let setup = Setup::read(rt.alloc(), THREE).expect(rt, "a setup");
-    debug_seats::<AnyRun, _, _>(rt, rt.alloc(), setup, endpoints).expect(rt, "sessions")
+    debug_seats::<AnyRun, _, _>(rt, rt.alloc(), setup, places).expect(rt, "sessions")
 }
 
 #[test]
 fn a_seat_that_fails_ends_alone(rt: HostRuntime) {
-    let endpoints = three_seats(rt.alloc()).expect(&rt, "seats");
-    let (control, finished) = hold(&rt, endpoints);
+    let places = four_seats(rt.alloc()).expect(&rt, "seats");
+    let (control, finished) = hold(&rt, places);
     check_journal(&rt, control.journal());
     control.close();
     check_ends(&rt, finished.as_slice());

@@ -1,7 +1,8 @@
 //! A reader and a writer over memory, which move few bytes a call, and fail once their good calls are over.
 
 use cdb_session::Console;
-use cdb_streams::{Failed, Sink, Source};
+use cdb_shared_session::{Endpoint, Opener};
+use cdb_streams::{Failed, ReadFault, Sink, Source};
 use std::alloc::Global;
 
 /// How many bytes a call moves at most.
@@ -80,6 +81,28 @@ impl Console for Visitor {
 
     fn write(&mut self, piece: &[u8]) -> Result<usize, Failed> {
         Ok(piece.len())
+    }
+}
+
+/// A seat with these lines, or one that can't be opened.
+#[derive(Drop)]
+pub struct Arrival {
+    pub lines: Option<Vec<u8>>,
+}
+
+impl Opener for Arrival {
+    type Seat = Visitor;
+
+    ghost opens = { λ arrival opened. Unit {0} };
+
+    fn open(self, _alloc: Global) -> Result<Endpoint<Visitor>, ReadFault> {
+        match self.lines {
+            Some(lines) => Ok(Endpoint {
+                console: Visitor::new(lines),
+                prompt: b"",
+            }),
+            None => Err(ReadFault::Failed),
+        }
     }
 }
 

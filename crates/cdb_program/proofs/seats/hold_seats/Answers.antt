@@ -1,10 +1,10 @@
-use Rattle.std.proofs.Common.{ℕ, List, [], ◌∷◌, Bor, map, refl, ap, arith}
+use Rattle.std.proofs.Common.{ℕ, List, [], ◌∷◌, Bor, refl, ap, arith}
 use Rattle.std.proofs.lemmas.List.{length-map}
 use Rattle.std.proofs.lemmas.Result.{err_from_is_err_and}
 use Rattle.cdb_agreement.specs.Algorithms.{rules}
 use Rattle.cdb_program.specs.Reading.{file_names}
 use Rattle.cdb_program.proofs.Opening.{fails_before, opened_then}
-use Rattle.cdb_program.proofs.Seated.{as_fault, fails_later, holds_seen, known_endpoint, seats_known}
+use Rattle.cdb_program.proofs.Seated.{as_fault, fails_later, holds_seen, seats_known}
 use Rattle.cdb_program.proofs.seats.hold_seats.Goals as goal
 
 pub returns-in_err-json-clause-fault : goal.returns-in_err-json-clause-fault
@@ -12,22 +12,22 @@ returns-in_err-json-clause-fault g c =
     let p = err_from_is_err_and c.from_residual.result c.from_residual.ensures.1 in
     rw (p.1, p.2, ← c.outside.view_is) (as_fault _ _ _ _ c.in_err-json.field-0.0 (fails_before _ _ (c.args.setup.now ∷ []) (file_names c.args.seats.now) c.in_err-json.field-0.0 c.in_err-json.ensures))
 
-pub returns-in_err-endpoints-clause-fault : goal.returns-in_err-endpoints-clause-fault
-returns-in_err-endpoints-clause-fault g c =
-    let p = err_from_is_err_and c.from_residual-in_err-endpoints.result c.from_residual-in_err-endpoints.ensures.1 in
+pub returns-in_err-openers-clause-fault : goal.returns-in_err-openers-clause-fault
+returns-in_err-openers-clause-fault g c =
+    let p = err_from_is_err_and c.from_residual-in_err-openers.result c.from_residual-in_err-openers.ensures.1 in
     rw (p.1, p.2, ← c.outside.view_is)
-    (as_fault _ _ _ _ c.in_err-endpoints.field-0.0 (fails_later _ _ _ (c.args.setup.now ∷ []) (file_names c.args.seats.now) c.in_err-endpoints.field-0.0 c.in_ok-json.ensures.0 c.in_err-endpoints.ensures.fault))
+    (as_fault _ _ _ _ c.in_err-openers.field-0.0 (fails_later _ _ _ (c.args.setup.now ∷ []) (file_names c.args.seats.now) c.in_err-openers.field-0.0 c.in_ok-json.ensures.0 c.in_err-openers.ensures.fault))
 
 pub returns-in-Ok-clause-sessions : goal.returns-in-Ok-clause-sessions
 returns-in-Ok-clause-sessions g c =
-    let known = g.F.Seat.Console.known in
-    let endpoints = c.in_ok-endpoints.endpoints.items in
+    let opens = g.F.Seat.Opener.opens in
+    let openers = c.in_ok-openers.openers.items in
     let names = file_names c.args.seats.now in
-    let seats = seats_known known _ _ (c.args.setup.now ∷ []) names endpoints c.in_ok-json.ensures.0 c.in_ok-endpoints.ensures.seats in
+    let seats = seats_known opens _ _ (c.args.setup.now ∷ []) names openers c.in_ok-json.ensures.0 c.in_ok-openers.ensures.seats in
     rw (← c.outside.view_is) (
       c.in_ok-json.json.items,
-      (opened_then _ _ _ (c.args.setup.now ∷ []) names c.in_ok-json.ensures.0 c.in_ok-endpoints.ensures.opened, c.in_ok-json.ensures.1.0),
-      (map (known_endpoint known) endpoints, seats, rw (← c.as_slice.ensures.value) (holds_seen rules known g.O.Sink.stream g.E.Sink.stream _ endpoints _ _ _ _ _ c.in-Ok.ensures.sessions)),
+      (opened_then _ _ _ (c.args.setup.now ∷ []) names c.in_ok-json.ensures.0 c.in_ok-openers.ensures.opened, c.in_ok-json.ensures.1.0),
+      rw (← c.as_slice.ensures.value) (holds_seen rules g.F.Seat.Seat.Console.known opens g.O.Sink.stream g.E.Sink.stream (g.F.Files.seen c.outside.inside.files) names _ openers _ _ _ _ _ seats c.in-Ok.ensures.sessions),
     )
 
 pub returns-clause-fault : goal.returns-clause-fault
@@ -35,7 +35,7 @@ returns-clause-fault g c =
     let names = file_names c.args.seats.now in
     rw (← c.outside.view_is) (
       c.in_ok-json.json.items,
-      (opened_then _ _ _ (c.args.setup.now ∷ []) names c.in_ok-json.ensures.0 c.in_ok-endpoints.ensures.opened, c.in_ok-json.ensures.1.0),
+      (opened_then _ _ _ (c.args.setup.now ∷ []) names c.in_ok-json.ensures.0 c.in_ok-openers.ensures.opened, c.in_ok-json.ensures.1.0),
       rw (← c.as_slice.ensures.value) c.in-Err.ensures.fault,
     )
 

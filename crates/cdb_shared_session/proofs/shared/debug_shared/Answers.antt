@@ -17,7 +17,7 @@ pub returns-in-Err-debug_seats-clause-fault : goal.returns-in-Err-debug_seats-cl
 returns-in-Err-debug_seats-clause-fault g c = subst (IsFaultOfSessions c.args.setup.now) (sym c.of_sessions.ensures) (threads_failed c.args.setup.now c.in-Ok.setup _ c.in-Ok.ensures.found)
 
 pub write_failures-requires : goal.write_failures-requires
-write_failures-requires g c = omega (arith, c.requires.fits, ap length c.as_slice.ensures.value, c.in-Ok-debug_seats.ensures.sessions.many, c.args.endpoints.ok.0)
+write_failures-requires g c = omega (arith, c.requires.fits, ap length c.as_slice.ensures.value, c.in-Ok-debug_seats.ensures.sessions.many, c.args.openers.ok.0)
 
 pub returns-clause-sessions : goal.returns-clause-sessions
 returns-clause-sessions g c =
@@ -32,6 +32,6 @@ returns-clause-sessions g c =
       written = written;
       journal = subst (λ (es : List Entry). IsWritten g.O.Sink.stream (whole_ending written) c.args.output.now c.write_journal-written.new.out (Only (journal_text es))) c.journal.ensures.entries c.write_journal-written.ensures;
       reported = c.write_failures.result;
-      lines = subst (λ (l : List (Finished g.row.T.Denot)). Writes g.E.Sink.stream c.write_failures.result c.args.error.now c.write_failures.new.out (failures_text written (outcomes l))) c.as_slice.ensures.value c.write_failures.ensures;
-      status_is = c.status_after.ensures ∙ ap (λ (l : List (Finished g.row.T.Denot)). status_of written (outcomes l)) c.as_slice-2.ensures.value;
+      lines = subst (λ (l : List (Finished g.row.P-Seat.Denot)). Writes g.E.Sink.stream c.write_failures.result c.args.error.now c.write_failures.new.out (failures_text written (outcomes l))) c.as_slice.ensures.value c.write_failures.ensures;
+      status_is = c.status_after.ensures ∙ ap (λ (l : List (Finished g.row.P-Seat.Denot)). status_of written (outcomes l)) c.as_slice-2.ensures.value;
     }

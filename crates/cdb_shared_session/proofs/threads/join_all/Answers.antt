@@ -6,19 +6,19 @@ use Rattle.cdb_shared_session.proofs.threads.join_all.Goals as goal
 pub returns : goal.returns
 returns g c =
     let before = c.args.seats in
-    let endpoints = c.args.endpoints in
+    let openers = c.args.openers in
     let handles = c.in_ok-handles.handles in
     let seats = c.join_each.result.0 in
     let joined = c.join_each.ensures in
     let started = c.in_ok-handles.ensures in
     record {
       count = (omega (arith, joined.count.0, started.count), omega (arith, joined.count.1, started.count));
-      each = λ k seat its low first endpoint.
+      each = λ k seat its low first opener.
           let j = length handles.items - 1 - k in
           let handle = some_of handles.items (omega (arith, low, joined.count.0, seats.ok.0, handles.ok.0)) in
-          let promise = started.each j first endpoint handle (omega (arith, low, joined.count.0, started.count, seats.ok.0, handles.ok.0)) in
+          let promise = started.each j first opener handle (omega (arith, low, joined.count.0, started.count, seats.ok.0, handles.ok.0)) in
           let seat_at : vec_len before - 1 - j ≡ k = omega (arith, low, joined.count.0, started.count, seats.ok.0, handles.ok.0) in
-          let endpoint_at : vec_len endpoints - 1 - j ≡ k = omega (arith, low, joined.count.0, started.count, seats.ok.0, handles.ok.0, c.requires.endpoints) in
-          let its_promise = subst (λ (x : ℕ × ℕ). IsSeatPromise (get_or before.items x.0 first) (get_or endpoints.items x.1 endpoint) (get_or handles.items j handle).promise) (λ i. (seat_at i, endpoint_at i)) promise in
-          kept _ _ _ its_promise g.R.Runs.rules g.T.Console.known _ _ (joined.each k seat its low handle);
+          let opener_at : vec_len openers - 1 - j ≡ k = omega (arith, low, joined.count.0, started.count, seats.ok.0, handles.ok.0, c.requires.openers) in
+          let its_promise = subst (λ (x : ℕ × ℕ). IsSeatPromise (get_or before.items x.0 first) (get_or openers.items x.1 opener) (get_or handles.items j handle).promise) (λ i. (seat_at i, opener_at i)) promise in
+          kept _ _ _ its_promise g.R.Runs.rules g.P.Seat.Console.known g.P.Opener.opens _ _ (joined.each k seat its low handle);
     }

@@ -30,9 +30,10 @@ loop-handle-preserved g c =
     let whole : all ≡ front ++ (handle ∷ was.joined.0) = was.joined.1 ∙ ap (λ l. l ++ was.joined.0) popped ∙ append_assoc front (handle ∷ []) was.joined.0 in
     let at : length all - 1 - length c.loop-handle.seats.items ≡ length front = omega (arith, c.args.handles.ok.0, was.count, less, c.pop.new.self.ok.0, c.loop-handle.seats.ok.0) in
     let rules = g.R.Runs.rules in
-    let known = g.T.Console.known in
-    let Run : ℕ → SeatView → Finished g.row.T.Denot → Type 0 = λ i s a. ((other : PromisedHandle (SeatResult g.row.R.Denot g.row.T.Denot) (SeatPromise g.row.R.Denot g.row.T.Denot))
-    → HasRun rules known (get_or all (length all - 1 - i) other).promise.seat.value (get_or all (length all - 1 - i) other).promise.endpoint.value s a) in
+    let known = g.P.Seat.Console.known in
+    let opens = g.P.Opener.opens in
+    let Run : ℕ → SeatView → Finished g.row.P-Seat.Denot → Type 0 = λ i s a. ((other : PromisedHandle (SeatResult g.row.R.Denot g.row.P-Seat.Denot) (SeatPromise g.row.R.Denot g.row.P.Denot))
+    → HasRun rules known opens (get_or all (length all - 1 - i) other).promise.seat.value (get_or all (length all - 1 - i) other).promise.opener.value s a) in
     record {
       joined = (handle ∷ was.joined.0, whole);
       count = omega (arith, less, seats.len, was.count);
@@ -40,7 +41,7 @@ loop-handle-preserved g c =
       room = (omega (arith, seats.capacity, was.room.0), omega (arith, ends.capacity, was.room.1));
       each =
           pair_push Run c.loop-handle.seats.items _ c.loop-handle.all.items _ c.join-seat.result.seat c.join-seat.result.finished seats.items ends.items (omega (arith, was.both, c.loop-handle.seats.ok.0, c.loop-handle.all.ok.0)) was.each
-          (λ other. subst (λ (h : PromisedHandle (SeatResult g.row.R.Denot g.row.T.Denot) (SeatPromise g.row.R.Denot g.row.T.Denot)). HasRun rules known h.promise.seat.value h.promise.endpoint.value c.join-seat.result.seat c.join-seat.result.finished) (sym (get_or-middle front was.joined.0 all handle other _ whole at)) c.join-seat.ensures);
+          (λ other. subst (λ (h : PromisedHandle (SeatResult g.row.R.Denot g.row.P-Seat.Denot) (SeatPromise g.row.R.Denot g.row.P.Denot)). HasRun rules known opens h.promise.seat.value h.promise.opener.value c.join-seat.result.seat c.join-seat.result.finished) (sym (get_or-middle front was.joined.0 all handle other _ whole at)) c.join-seat.ensures);
     }
 
 pub returns : goal.returns

@@ -1,7 +1,6 @@
 use Rattle.std.proofs.Common.{◌≡◌, ℕ, ◌-◌, ◌∙◌, sym, ap, subst, arith, [], ◌∷◌, ◌++◌, get_or, append_assoc, append-nil, vec_len, length}
 use Rattle.std.specs.declared.thread.PromisedHandle.{PromisedHandle}
 use Rattle.cdb_shared_session.specs.Promises.{IsUnused, IsSeatPromise}
-use Rattle.cdb_shared_session.specs.declared.endpoint.Endpoint.{Endpoint}
 use Rattle.cdb_shared_session.specs.declared.seat.SeatResult.{SeatResult}
 use Rattle.cdb_shared_session.specs.declared.seat.SeatPromise.{SeatPromise}
 use Rattle.cdb_shared.specs.Seats.{SeatView}
@@ -11,13 +10,13 @@ use Rattle.cdb_shared_session.proofs.threads.start_all.Goals as goal
 pub loop-seat-init : goal.loop-seat-init
 loop-seat-init g c = record {
   ready = c.requires.ready;
-  endpoints = c.requires.endpoints;
-  left_endpoints = ([], sym (append-nil c.args.endpoints.items));
+  openers = c.requires.openers;
+  left_openers = ([], sym (append-nil c.args.openers.items));
   left = ([], sym (append-nil c.args.seats.items));
   count = omega (arith, c.in-Ok.ensures.len);
   room = omega (arith, c.in-Ok.ensures.capacity, c.len.ensures);
-  many_endpoints = c.requires.endpoints;
-  each = λ k before endpoint handle low. absurd (omega (arith, low, c.in-Ok.ensures.len));
+  many_openers = c.requires.openers;
+  each = λ k before opener handle low. absurd (omega (arith, low, c.in-Ok.ensures.len));
 }
 
 pub start_one-requires-after_bounds : goal.start_one-requires-after_bounds
@@ -31,32 +30,32 @@ loop-seat-preserved g c =
     let seat = c.in-Some.seat in
     let popped = c.in-Some.ensures.items in
     let seats = c.in-Some.ensures.cases in
-    let endpoints = c.in-Some-pop.ensures.cases in
+    let openers = c.in-Some-pop.ensures.cases in
     let handles = c.loop-seat.handles.ok.0 in
     let whole : all ≡ front ++ (seat ∷ was.left.0) = was.left.1 ∙ ap (λ l. l ++ was.left.0) {y = front ++ (seat ∷ [])} popped ∙ append_assoc front (seat ∷ []) was.left.0 in
-    let its = c.in-Some-pop.endpoint in
+    let its = c.in-Some-pop.opener in
     let few = c.in-Some-pop.ensures.items in
-    let all_endpoints : c.args.endpoints.items ≡ c.pop-in-Some.new.self.items ++ (its ∷ was.left_endpoints.0) = was.left_endpoints.1 ∙ ap (λ l. l ++ was.left_endpoints.0) {y = c.pop-in-Some.new.self.items ++ (its ∷ [])} few ∙ append_assoc c.pop-in-Some.new.self.items (its ∷ []) was.left_endpoints.0 in
-    let at_endpoint : vec_len c.args.endpoints - 1 - length c.loop-seat.handles.items ≡ length c.pop-in-Some.new.self.items = omega (arith, endpoints, seats, c.pop-in-Some.new.self.ok.0, handles, was.count, was.endpoints, was.many_endpoints) in
+    let all_openers : c.args.openers.items ≡ c.pop-in-Some.new.self.items ++ (its ∷ was.left_openers.0) = was.left_openers.1 ∙ ap (λ l. l ++ was.left_openers.0) {y = c.pop-in-Some.new.self.items ++ (its ∷ [])} few ∙ append_assoc c.pop-in-Some.new.self.items (its ∷ []) was.left_openers.0 in
+    let at_opener : vec_len c.args.openers - 1 - length c.loop-seat.handles.items ≡ length c.pop-in-Some.new.self.items = omega (arith, openers, seats, c.pop-in-Some.new.self.ok.0, handles, was.count, was.openers, was.many_openers) in
     let at : vec_len c.args.seats - 1 - length c.loop-seat.handles.items ≡ length front = omega (arith, seats, c.pop.new.self.ok.0, handles, was.count) in
     record {
       ready = (each_front (λ (k : ℕ) (s : SeatView). IsUnused c.args.shared.now s) _ _ _ popped was.ready).0;
-      endpoints = omega (arith, seats, endpoints);
+      openers = omega (arith, seats, openers);
       left = (seat ∷ was.left.0, whole);
-      left_endpoints = (its ∷ was.left_endpoints.0, all_endpoints);
-      many_endpoints = was.many_endpoints;
+      left_openers = (its ∷ was.left_openers.0, all_openers);
+      many_openers = was.many_openers;
       count = omega (arith, seats);
       room = omega arith;
-      each = λ k before endpoint handle low.
+      each = λ k before opener handle low.
           let here : seat ≡ get_or all (vec_len c.args.seats - 1 - length c.loop-seat.handles.items) before = sym (get_or-middle front was.left.0 all seat before _ whole at) in
-          let there : its ≡ get_or c.args.endpoints.items (vec_len c.args.endpoints - 1 - length c.loop-seat.handles.items) endpoint = sym (get_or-middle c.pop-in-Some.new.self.items was.left_endpoints.0 c.args.endpoints.items its endpoint _ all_endpoints at_endpoint) in
-          let one = subst (λ (x : SeatView × Endpoint g.row.T.Denot). IsSeatPromise x.0 x.1 c.in_ok-handle.handle.promise) (λ i. (here i, there i)) c.in_ok-handle.ensures in
-          each_push (λ (i : ℕ) (h : PromisedHandle (SeatResult g.row.R.Denot g.row.T.Denot) (SeatPromise g.row.R.Denot g.row.T.Denot)). IsSeatPromise (get_or all (vec_len c.args.seats - 1 - i) before) (get_or c.args.endpoints.items (vec_len c.args.endpoints - 1 - i) endpoint) h.promise) c.loop-seat.handles.items c.push_reserved.new.self.items c.in_ok-handle.handle
-          c.push_reserved.ensures.items (λ i h below. was.each i before endpoint h (omega (arith, handles))) one k handle (omega (arith, c.push_reserved.new.self.ok.0));
+          let there : its ≡ get_or c.args.openers.items (vec_len c.args.openers - 1 - length c.loop-seat.handles.items) opener = sym (get_or-middle c.pop-in-Some.new.self.items was.left_openers.0 c.args.openers.items its opener _ all_openers at_opener) in
+          let one = subst (λ (x : SeatView × g.row.P.Denot). IsSeatPromise x.0 x.1 c.in_ok-handle.handle.promise) (λ i. (here i, there i)) c.in_ok-handle.ensures in
+          each_push (λ (i : ℕ) (h : PromisedHandle (SeatResult g.row.R.Denot g.row.P-Seat.Denot) (SeatPromise g.row.R.Denot g.row.P.Denot)). IsSeatPromise (get_or all (vec_len c.args.seats - 1 - i) before) (get_or c.args.openers.items (vec_len c.args.openers - 1 - i) opener) h.promise) c.loop-seat.handles.items c.push_reserved.new.self.items c.in_ok-handle.handle
+          c.push_reserved.ensures.items (λ i h below. was.each i before opener h (omega (arith, handles))) one k handle (omega (arith, c.push_reserved.new.self.ok.0));
     }
 
 pub returns-clause-each : goal.returns-clause-each
-returns-clause-each g c = λ k before endpoint handle low. c.loop-seat.invariant.each k before endpoint handle (omega (arith, c.in_default.ensures.cases.0, c.loop-seat.invariant.count))
+returns-clause-each g c = λ k before opener handle low. c.loop-seat.invariant.each k before opener handle (omega (arith, c.in_default.ensures.cases.0, c.loop-seat.invariant.count))
 
 pub returns-clause-count : goal.returns-clause-count
 returns-clause-count g c = omega (arith, c.in_default.ensures.cases.0, c.loop-seat.invariant.count)

@@ -1,5 +1,0 @@
-use Rattle.cdb_program.proofs.Seated.{one_fails}
-use Rattle.cdb_program.proofs.seats.open_one.Goals as goal
-
-pub returns-in-Err-clause-fault : goal.returns-in-Err-clause-fault
-returns-in-Err-clause-fault g c = rw c.from.ensures (one_fails g.row.F-Seat.Denot g.F.Seat.Console.known _ _ _ c.in-Err.fault c.in-Err.ensures)
