@@ -22,7 +22,7 @@ abbrev IsOne : Shape → Type 0
 IsOne shape = (shape.name ≡ codes "play") ⊎ ((shape.name ≡ codes "race")
     ⊎ ((shape.name ≡ codes "explain") ⊎ ((shape.name ≡ codes "trail") ⊎ ((shape.name ≡ codes "draw")
     ⊎ ((shape.name ≡ codes "slice") ⊎ ((shape.name ≡ codes "debug") ⊎ ((shape.name ≡ codes "replay")
-    ⊎ ((shape.name ≡ codes "search") ⊎ ((shape.name ≡ codes "same") ⊎ ((shape.name ≡ codes "clocks") ⊎ (shape.name ≡ codes "page")))))))))))
+    ⊎ ((shape.name ≡ codes "search") ⊎ ((shape.name ≡ codes "same") ⊎ ((shape.name ≡ codes "clocks") ⊎ ((shape.name ≡ codes "shrink") ⊎ (shape.name ≡ codes "page"))))))))))))
 
 found_is_one : (subs : List Shape) (test : Shape → Bool) (rest : List Text) → AllByRecursion IsOne subs → NamesOne (option_map (λ s. rows_at s rest) (find test subs))
 found_is_one [] test rest all = tt
@@ -52,7 +52,7 @@ subs_are = (
             inr (inr (inr (inr (inr (inl refl))))),
             (
               inr (inr (inr (inr (inr (inr (inl refl)))))),
-              (inr (inr (inr (inr (inr (inr (inr (inl refl))))))), (inr (inr (inr (inr (inr (inr (inr (inr (inl refl)))))))), (inr (inr (inr (inr (inr (inr (inr (inr (inr (inl refl))))))))), (inr (inr (inr (inr (inr (inr (inr (inr (inr (inr (inl refl)))))))))), (inr (inr (inr (inr (inr (inr (inr (inr (inr (inr (inr refl)))))))))), tt))))),
+              (inr (inr (inr (inr (inr (inr (inr (inl refl))))))), (inr (inr (inr (inr (inr (inr (inr (inr (inl refl)))))))), (inr (inr (inr (inr (inr (inr (inr (inr (inr (inl refl))))))))), (inr (inr (inr (inr (inr (inr (inr (inr (inr (inr (inl refl)))))))))), (inr (inr (inr (inr (inr (inr (inr (inr (inr (inr (inr (inl refl))))))))))), (inr (inr (inr (inr (inr (inr (inr (inr (inr (inr (inr (inr refl))))))))))), tt)))))),
             ),
           ),
         ),

@@ -12,4 +12,5 @@ pub mod StepLines
 pub mod SeatLines
 pub mod SearchLines
 pub mod PageLines
+pub mod ShrinkLines
 pub mod Requests

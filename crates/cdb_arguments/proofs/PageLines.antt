@@ -12,7 +12,7 @@ use Rattle.cdb_arguments.proofs.Subcommands.{IsSub, line_asked, line_taken}
 use Rattle.cdb_arguments.proofs.Values.{ValuesPass}
 
 page_shape : Shape
-page_shape = unwrap_or (slice_get (built program).subs 11) (new_shape [])
+page_shape = unwrap_or (slice_get (built program).subs 12) (new_shape [])
 
 page_sub : IsSub (codes "page") page_shape
 unfolding clap_on_literals program page_shape

@@ -13,13 +13,13 @@ use Rattle.std.proofs.lemmas.Result.{IfOk-weaker}
 use Rattle.clap.specs.Words.{Row, Text, subcommand_of, takes}
 use Rattle.clap.specs.declared.builder.value_parser.ValueParser.TheVariants as vp
 use Rattle.clap.proofs.ValueTestLemmas.{Accepts-accepts}
-use Rattle.cdb_arguments.specs.Asking.{HasStepOf, IsAnyStepIn, IsStepIn, NamesAsked, IsRequest, IsPlayOf, IsQuestionOf, IsRaceOf, IsDebugOf, IsPageOf, IsReplayOf, IsSameOf, IsClocksOf, IsSearchOf, IsTurns, IsNumber, IsNumberOf, text_at, texts_at}
+use Rattle.cdb_arguments.specs.Asking.{HasStepOf, IsAnyStepIn, IsStepIn, NamesAsked, IsRequest, IsPlayOf, IsQuestionOf, IsRaceOf, IsDebugOf, IsPageOf, IsReplayOf, IsSameOf, IsClocksOf, IsSearchOf, IsShrinkOf, IsTurns, IsNumber, IsNumberOf, text_at, texts_at}
 use Rattle.cdb_arguments.specs.CommandLine.{program}
-use Rattle.cdb_arguments.specs.Plain.{IsNameAlone, IsNumberOfTurns, IsPlain, IsPlayLine, IsQuestionLine, IsRaceLine, IsDebugLine, IsPageLine, IsReplayLine, IsSameLine, IsClocksLine, IsSearchLine, WritesNumber, question_name}
+use Rattle.cdb_arguments.specs.Plain.{IsNameAlone, IsNumberOfTurns, IsPlain, IsPlayLine, IsQuestionLine, IsRaceLine, IsDebugLine, IsPageLine, IsReplayLine, IsSameLine, IsClocksLine, IsSearchLine, IsShrinkLine, WritesNumber, question_name}
 use Rattle.cdb_arguments.specs.declared.request.AskFault.{AskFault}
 use Rattle.cdb_arguments.specs.declared.request.AskFault.TheVariants.{NoMemory}
 use Rattle.cdb_arguments.specs.declared.request.Asked.{Asked}
-use Rattle.cdb_arguments.specs.declared.request.Asked.TheVariants.{Script, Play, Race, Ask, Debug, Replay, Page, Same, Clocks, Search}
+use Rattle.cdb_arguments.specs.declared.request.Asked.TheVariants.{Script, Play, Race, Ask, Debug, Replay, Page, Same, Clocks, Search, Shrink}
 use Rattle.cdb_base.specs.declared.question.Question.{Question}
 use Rattle.cdb_base.specs.declared.question.Question.TheVariants.{Explain, Trail, Draw, Slice}
 use Rattle.cdb_base.specs.declared.question.StepAsked.{StepAsked}
@@ -31,6 +31,7 @@ use Rattle.cdb_arguments.proofs.ClockLines.{ClockLine, clocks_line}
 use Rattle.cdb_arguments.proofs.PageLines.{PageLine, page_line}
 use Rattle.cdb_arguments.proofs.SeatLines.{SeatLine, debug_line}
 use Rattle.cdb_arguments.proofs.SearchLines.{SearchLine, search_line}
+use Rattle.cdb_arguments.proofs.ShrinkLines.{ShrinkLine, shrink_line}
 use Rattle.cdb_arguments.proofs.Lines.{nothing_asked, nothing_taken, play_asked, play_taken, PlayRows, race_asked, race_taken, RaceRows, AcceptsTurns}
 
 -- ---- what is asked for where clap has these matches
@@ -43,6 +44,7 @@ script_is found (Ask a b q) none asks = absurd (none-some _ (sym none ∙ asks.1
 script_is found (Debug a b) none asks = absurd (none-some _ (sym none ∙ asks.1))
 script_is found (Replay a b) none asks = absurd (none-some _ (sym none ∙ asks.1))
 script_is found (Search a g n w) none asks = absurd (none-some _ (sym none ∙ asks.1))
+script_is found (Shrink a b g) none asks = absurd (none-some _ (sym none ∙ asks.1))
 script_is found (Same a b d) none asks = absurd (none-some _ (sym none ∙ asks.1))
 script_is found (Clocks a b) none asks = absurd (none-some _ (sym none ∙ asks.1))
 script_is found (Page a b) none asks = absurd (none-some _ (sym none ∙ asks.1))
@@ -69,6 +71,7 @@ record Differs (question : Question) : Type 0 where
   debug : bytes_eq (question_name question) (codes "debug") ≡ false
   replay : bytes_eq (question_name question) (codes "replay") ≡ false
   search : bytes_eq (question_name question) (codes "search") ≡ false
+  shrink : bytes_eq (question_name question) (codes "shrink") ≡ false
   same : bytes_eq (question_name question) (codes "same") ≡ false
   clocks : bytes_eq (question_name question) (codes "clocks") ≡ false
   page : bytes_eq (question_name question) (codes "page") ≡ false
@@ -77,6 +80,7 @@ record Differs (question : Question) : Type 0 where
   from_debug : bytes_eq (codes "debug") (question_name question) ≡ false
   from_replay : bytes_eq (codes "replay") (question_name question) ≡ false
   from_search : bytes_eq (codes "search") (question_name question) ≡ false
+  from_shrink : bytes_eq (codes "shrink") (question_name question) ≡ false
   from_same : bytes_eq (codes "same") (question_name question) ≡ false
   from_clocks : bytes_eq (codes "clocks") (question_name question) ≡ false
   from_page : bytes_eq (codes "page") (question_name question) ≡ false
@@ -84,85 +88,17 @@ record Differs (question : Question) : Type 0 where
 
 differs : (question : Question) → Differs question
 differs (Explain step) =
-    record {
-      play = refl;
-      race = refl;
-      debug = refl;
-      replay = refl;
-      search = refl;
-      same = refl;
-      clocks = refl;
-      page = refl;
-      from_play = refl;
-      from_race = refl;
-      from_debug = refl;
-      from_replay = refl;
-      from_search = refl;
-      from_same = refl;
-      from_clocks = refl;
-      from_page = refl;
-      own = refl;
-    }
+    record { play = refl; race = refl; debug = refl; replay = refl; search = refl; same = refl; clocks = refl; shrink = refl; page = refl; from_play = refl;
+      from_race = refl; from_debug = refl; from_replay = refl; from_search = refl; from_same = refl; from_clocks = refl; from_shrink = refl; from_page = refl; own = refl }
 differs (Trail step) =
-    record {
-      play = refl;
-      race = refl;
-      debug = refl;
-      replay = refl;
-      search = refl;
-      same = refl;
-      clocks = refl;
-      page = refl;
-      from_play = refl;
-      from_race = refl;
-      from_debug = refl;
-      from_replay = refl;
-      from_search = refl;
-      from_same = refl;
-      from_clocks = refl;
-      from_page = refl;
-      own = refl;
-    }
+    record { play = refl; race = refl; debug = refl; replay = refl; search = refl; same = refl; clocks = refl; shrink = refl; page = refl; from_play = refl;
+      from_race = refl; from_debug = refl; from_replay = refl; from_search = refl; from_same = refl; from_clocks = refl; from_shrink = refl; from_page = refl; own = refl }
 differs (Draw step) =
-    record {
-      play = refl;
-      race = refl;
-      debug = refl;
-      replay = refl;
-      search = refl;
-      same = refl;
-      clocks = refl;
-      page = refl;
-      from_play = refl;
-      from_race = refl;
-      from_debug = refl;
-      from_replay = refl;
-      from_search = refl;
-      from_same = refl;
-      from_clocks = refl;
-      from_page = refl;
-      own = refl;
-    }
+    record { play = refl; race = refl; debug = refl; replay = refl; search = refl; same = refl; clocks = refl; shrink = refl; page = refl; from_play = refl;
+      from_race = refl; from_debug = refl; from_replay = refl; from_search = refl; from_same = refl; from_clocks = refl; from_shrink = refl; from_page = refl; own = refl }
 differs (Slice step) =
-    record {
-      play = refl;
-      race = refl;
-      debug = refl;
-      replay = refl;
-      search = refl;
-      same = refl;
-      clocks = refl;
-      page = refl;
-      from_play = refl;
-      from_race = refl;
-      from_debug = refl;
-      from_replay = refl;
-      from_search = refl;
-      from_same = refl;
-      from_clocks = refl;
-      from_page = refl;
-      own = refl;
-    }
+    record { play = refl; race = refl; debug = refl; replay = refl; search = refl; same = refl; clocks = refl; shrink = refl; page = refl; from_play = refl;
+      from_race = refl; from_debug = refl; from_replay = refl; from_search = refl; from_same = refl; from_clocks = refl; from_shrink = refl; from_page = refl; own = refl }
 
 play_is : (found : Option (Text × List Row)) (rows : List Row) (setup script : Text) (asked : Asked) → found ≡ Some (codes "play", rows)
     → PlayRows setup script rows → NamesAsked found asked → IsPlayOf setup script asked
@@ -176,6 +112,7 @@ play_is found rows setup script (Race a n b) is have asks = absurd (other_name f
 play_is found rows setup script (Ask a b q) is have asks = absurd (other_name found _ (question_name q) rows asks.0 is asks.1 (differs q).play refl)
 play_is found rows setup script (Replay a b) is have asks = absurd (other_name found _ (codes "replay") rows asks.0 is asks.1 refl refl)
 play_is found rows setup script (Search a g n w) is have asks = absurd (other_name found _ (codes "search") rows asks.0 is asks.1 refl refl)
+play_is found rows setup script (Shrink a b g) is have asks = absurd (other_name found _ (codes "shrink") rows asks.0 is asks.1 refl refl)
 play_is found rows setup script (Same a b d) is have asks = absurd (other_name found _ (codes "same") rows asks.0 is asks.1 refl refl)
 play_is found rows setup script (Clocks a b) is have asks = absurd (other_name found _ (codes "clocks") rows asks.0 is asks.1 refl refl)
 play_is found rows setup script (Debug a b) is have asks = absurd (other_name found _ (codes "debug") rows asks.0 is asks.1 refl refl)
@@ -188,6 +125,7 @@ race_is found rows setup text turns scripts (Play a b) is have number asks = abs
 race_is found rows setup text turns scripts (Ask a b q) is have number asks = absurd (other_name found _ (question_name q) rows asks.0 is asks.1 (differs q).race refl)
 race_is found rows setup text turns scripts (Replay a b) is have number asks = absurd (other_name found _ (codes "replay") rows asks.0 is asks.1 refl refl)
 race_is found rows setup text turns scripts (Search a g n w) is have number asks = absurd (other_name found _ (codes "search") rows asks.0 is asks.1 refl refl)
+race_is found rows setup text turns scripts (Shrink a b g) is have number asks = absurd (other_name found _ (codes "shrink") rows asks.0 is asks.1 refl refl)
 race_is found rows setup text turns scripts (Same a b d) is have number asks = absurd (other_name found _ (codes "same") rows asks.0 is asks.1 refl refl)
 race_is found rows setup text turns scripts (Clocks a b) is have number asks = absurd (other_name found _ (codes "clocks") rows asks.0 is asks.1 refl refl)
 race_is found rows setup text turns scripts (Debug a b) is have number asks = absurd (other_name found _ (codes "debug") rows asks.0 is asks.1 refl refl)
@@ -273,6 +211,7 @@ question_is setup script question words (Play a b) line asks = absurd (other_nam
 question_is setup script question words (Race a n b) line asks = absurd (other_name _ _ (codes "race") line.rows asks.0 line.asked asks.1 (differs question).from_race (differs question).own)
 question_is setup script question words (Replay a b) line asks = absurd (other_name _ _ (codes "replay") line.rows asks.0 line.asked asks.1 (differs question).from_replay (differs question).own)
 question_is setup script question words (Search a g n w) line asks = absurd (other_name _ _ (codes "search") line.rows asks.0 line.asked asks.1 (differs question).from_search (differs question).own)
+question_is setup script question words (Shrink a b g) line asks = absurd (other_name _ _ (codes "shrink") line.rows asks.0 line.asked asks.1 (differs question).from_shrink (differs question).own)
 question_is setup script question words (Same a b d) line asks = absurd (other_name _ _ (codes "same") line.rows asks.0 line.asked asks.1 (differs question).from_same (differs question).own)
 question_is setup script question words (Clocks a b) line asks = absurd (other_name _ _ (codes "clocks") line.rows asks.0 line.asked asks.1 (differs question).from_clocks (differs question).own)
 question_is setup script question words (Debug a b) line asks = absurd (other_name _ _ (codes "debug") line.rows asks.0 line.asked asks.1 (differs question).from_debug (differs question).own)
@@ -292,6 +231,7 @@ debug_is setup seats words (Play a b) line asks = absurd (other_name _ _ (codes 
 debug_is setup seats words (Race a n b) line asks = absurd (other_name _ _ (codes "race") line.rows asks.0 line.asked asks.1 refl refl)
 debug_is setup seats words (Ask a b q) line asks = absurd (other_name _ _ (question_name q) line.rows asks.0 line.asked asks.1 (differs q).debug refl)
 debug_is setup seats words (Search a g n w) line asks = absurd (other_name _ _ (codes "search") line.rows asks.0 line.asked asks.1 refl refl)
+debug_is setup seats words (Shrink a b g) line asks = absurd (other_name _ _ (codes "shrink") line.rows asks.0 line.asked asks.1 refl refl)
 debug_is setup seats words (Replay a b) line asks = absurd (other_name _ _ (codes "replay") line.rows asks.0 line.asked asks.1 refl refl)
 debug_is setup seats words (Same a b d) line asks = absurd (other_name _ _ (codes "same") line.rows asks.0 line.asked asks.1 refl refl)
 debug_is setup seats words (Clocks a b) line asks = absurd (other_name _ _ (codes "clocks") line.rows asks.0 line.asked asks.1 refl refl)
@@ -308,6 +248,7 @@ replay_is setup journal words (Play a b) line asks = absurd (other_name _ _ (cod
 replay_is setup journal words (Race a n b) line asks = absurd (other_name _ _ (codes "race") line.rows asks.0 line.asked asks.1 refl refl)
 replay_is setup journal words (Ask a b q) line asks = absurd (other_name _ _ (question_name q) line.rows asks.0 line.asked asks.1 (differs q).replay refl)
 replay_is setup journal words (Search a g n w) line asks = absurd (other_name _ _ (codes "search") line.rows asks.0 line.asked asks.1 refl refl)
+replay_is setup journal words (Shrink a b g) line asks = absurd (other_name _ _ (codes "shrink") line.rows asks.0 line.asked asks.1 refl refl)
 replay_is setup journal words (Debug a b) line asks = absurd (other_name _ _ (codes "debug") line.rows asks.0 line.asked asks.1 refl refl)
 replay_is setup journal words (Same a b d) line asks = absurd (other_name _ _ (codes "same") line.rows asks.0 line.asked asks.1 refl refl)
 replay_is setup journal words (Clocks a b) line asks = absurd (other_name _ _ (codes "clocks") line.rows asks.0 line.asked asks.1 refl refl)
@@ -326,6 +267,7 @@ search_is setup goal first second seed walks words (Race c n d) a b line asks = 
 search_is setup goal first second seed walks words (Ask c d q) a b line asks = absurd (other_name _ _ (question_name q) line.rows asks.0 line.asked asks.1 (differs q).search refl)
 search_is setup goal first second seed walks words (Debug c d) a b line asks = absurd (other_name _ _ (codes "debug") line.rows asks.0 line.asked asks.1 refl refl)
 search_is setup goal first second seed walks words (Replay c d) a b line asks = absurd (other_name _ _ (codes "replay") line.rows asks.0 line.asked asks.1 refl refl)
+search_is setup goal first second seed walks words (Shrink c d h) a b line asks = absurd (other_name _ _ (codes "shrink") line.rows asks.0 line.asked asks.1 refl refl)
 search_is setup goal first second seed walks words (Same c d e) a b line asks = absurd (other_name _ _ (codes "same") line.rows asks.0 line.asked asks.1 refl refl)
 search_is setup goal first second seed walks words (Clocks c d) a b line asks = absurd (other_name _ _ (codes "clocks") line.rows asks.0 line.asked asks.1 refl refl)
 search_is setup goal first second seed walks words (Page c d) a b line asks = absurd (other_name _ _ (codes "page") line.rows asks.0 line.asked asks.1 refl refl)
@@ -348,6 +290,7 @@ same_is setup first second words (Debug a b) line asks = absurd (other_name _ _ 
 same_is setup first second words (Replay a b) line asks = absurd (other_name _ _ (codes "replay") line.rows asks.0 line.asked asks.1 refl refl)
 same_is setup first second words (Search a g n w) line asks = absurd (other_name _ _ (codes "search") line.rows asks.0 line.asked asks.1 refl refl)
 same_is setup first second words (Page a b) line asks = absurd (other_name _ _ (codes "page") line.rows asks.0 line.asked asks.1 refl refl)
+same_is setup first second words (Shrink a b g) line asks = absurd (other_name _ _ (codes "shrink") line.rows asks.0 line.asked asks.1 refl refl)
 same_is setup first second words (Clocks a b) line asks = absurd (other_name _ _ (codes "clocks") line.rows asks.0 line.asked asks.1 refl refl)
 same_is setup first second words (Same a b d) line asks =
     let same = same_rows _ (codes "same") (codes "same") line.rows asks.0 line.asked asks.1 in (
@@ -364,6 +307,7 @@ clocks_is setup script words (Ask a b q) line asks = absurd (other_name _ _ (que
 clocks_is setup script words (Debug a b) line asks = absurd (other_name _ _ (codes "debug") line.rows asks.0 line.asked asks.1 refl refl)
 clocks_is setup script words (Search a g n w) line asks = absurd (other_name _ _ (codes "search") line.rows asks.0 line.asked asks.1 refl refl)
 clocks_is setup script words (Page a b) line asks = absurd (other_name _ _ (codes "page") line.rows asks.0 line.asked asks.1 refl refl)
+clocks_is setup script words (Shrink a b g) line asks = absurd (other_name _ _ (codes "shrink") line.rows asks.0 line.asked asks.1 refl refl)
 clocks_is setup script words (Same a b d) line asks = absurd (other_name _ _ (codes "same") line.rows asks.0 line.asked asks.1 refl refl)
 clocks_is setup script words (Replay a b) line asks = absurd (other_name _ _ (codes "replay") line.rows asks.0 line.asked asks.1 refl refl)
 clocks_is setup script words (Clocks a b) line asks =
@@ -382,10 +326,30 @@ page_is setup script words (Replay a b) line asks = absurd (other_name _ _ (code
 page_is setup script words (Search a g n w) line asks = absurd (other_name _ _ (codes "search") line.rows asks.0 line.asked asks.1 refl refl)
 page_is setup script words (Same a b d) line asks = absurd (other_name _ _ (codes "same") line.rows asks.0 line.asked asks.1 refl refl)
 page_is setup script words (Clocks a b) line asks = absurd (other_name _ _ (codes "clocks") line.rows asks.0 line.asked asks.1 refl refl)
+page_is setup script words (Shrink a b g) line asks = absurd (other_name _ _ (codes "shrink") line.rows asks.0 line.asked asks.1 refl refl)
 page_is setup script words (Page a b) line asks =
     let same = same_rows _ (codes "page") (codes "page") line.rows asks.0 line.asked asks.1 in (
       asks.2 ∙ ap (text_at (codes "SETUP")) same ∙ ap (λ t. unwrap_or t []) line.setup_at,
       asks.3 ∙ ap (text_at (codes "SCRIPT")) same ∙ ap (λ t. unwrap_or t []) line.script_at,
+    )
+
+shrink_is : (setup script goal : Text) (words : List Text) (asked : Asked) → ShrinkLine setup script goal words → NamesAsked (subcommand_of program words) asked
+    → IsShrinkOf setup script goal asked
+shrink_is setup script goal words Script line asks = absurd (none-some _ (sym asks ∙ line.asked))
+shrink_is setup script goal words (Play a b) line asks = absurd (other_name _ _ (codes "play") line.rows asks.0 line.asked asks.1 refl refl)
+shrink_is setup script goal words (Race a n b) line asks = absurd (other_name _ _ (codes "race") line.rows asks.0 line.asked asks.1 refl refl)
+shrink_is setup script goal words (Ask a b q) line asks = absurd (other_name _ _ (question_name q) line.rows asks.0 line.asked asks.1 (differs q).shrink refl)
+shrink_is setup script goal words (Debug a b) line asks = absurd (other_name _ _ (codes "debug") line.rows asks.0 line.asked asks.1 refl refl)
+shrink_is setup script goal words (Replay a b) line asks = absurd (other_name _ _ (codes "replay") line.rows asks.0 line.asked asks.1 refl refl)
+shrink_is setup script goal words (Same a b d) line asks = absurd (other_name _ _ (codes "same") line.rows asks.0 line.asked asks.1 refl refl)
+shrink_is setup script goal words (Clocks a b) line asks = absurd (other_name _ _ (codes "clocks") line.rows asks.0 line.asked asks.1 refl refl)
+shrink_is setup script goal words (Search a g n w) line asks = absurd (other_name _ _ (codes "search") line.rows asks.0 line.asked asks.1 refl refl)
+shrink_is setup script goal words (Page a b) line asks = absurd (other_name _ _ (codes "page") line.rows asks.0 line.asked asks.1 refl refl)
+shrink_is setup script goal words (Shrink a b g) line asks =
+    let same = same_rows _ (codes "shrink") (codes "shrink") line.rows asks.0 line.asked asks.1 in (
+      asks.2 ∙ ap (text_at (codes "SETUP")) same ∙ ap (λ t. unwrap_or t []) line.setup_at,
+      asks.3 ∙ ap (text_at (codes "SCRIPT")) same ∙ ap (λ t. unwrap_or t []) line.script_at,
+      asks.4 ∙ ap (text_at (codes "GOAL")) same ∙ ap (λ t. unwrap_or t []) line.goal_at,
     )
 
 -- ---- the answers
@@ -498,5 +462,15 @@ page_asked_for words result ok taken setup script line =
     let its = page_line line.0.0 setup script line.1 in
     let its_words : PageLine setup script words = subst (PageLine setup script) (sym line.0.1) its in (
       IfOk-weaker result _ _ (λ asked asks. page_is setup script words asked its_words asks) ok,
+      taken its_words.taken,
+    )
+
+pub shrink_asked_for : (words : List Text) (result : Result Asked AskFault) → IfOk result (NamesAsked (subcommand_of program words))
+    → (takes program words ≡ true → IfErr result (λ fault. fault ≡ NoMemory no_memory)) → (setup script goal : Text) → IsShrinkLine words setup script goal
+    → IsRequest result (IsShrinkOf setup script goal)
+shrink_asked_for words result ok taken setup script goal line =
+    let its = shrink_line line.0.0 setup script goal line.1 in
+    let its_words : ShrinkLine setup script goal words = subst (ShrinkLine setup script goal) (sym line.0.1) its in (
+      IfOk-weaker result _ _ (λ asked asks. shrink_is setup script goal words asked its_words asks) ok,
       taken its_words.taken,
     )

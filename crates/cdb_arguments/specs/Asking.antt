@@ -10,8 +10,8 @@ use Rattle.cdb_arguments.specs.declared.request.AskFault.{AskFault}
 use Rattle.cdb_base.specs.Memory.{no_memory}
 use Rattle.cdb_arguments.specs.declared.request.AskFault.TheVariants.{Words, NoMemory}
 use Rattle.cdb_arguments.specs.declared.request.Asked.{Asked}
-use Rattle.cdb_arguments.specs.declared.request.Asked.TheVariants.{Script, Play, Race, Ask, Debug, Replay, Page, Same, Clocks, Search}
-use Rattle.cdb_arguments.specs.Plain.{IsDebugLine, IsPageLine, IsPlayLine, IsQuestionLine, IsRaceLine, IsReplayLine, IsSameLine, IsClocksLine, IsSearchLine, WritesNumber, question_name}
+use Rattle.cdb_arguments.specs.declared.request.Asked.TheVariants.{Script, Play, Race, Ask, Debug, Replay, Page, Same, Clocks, Search, Shrink}
+use Rattle.cdb_arguments.specs.Plain.{IsDebugLine, IsPageLine, IsPlayLine, IsQuestionLine, IsRaceLine, IsReplayLine, IsSameLine, IsClocksLine, IsSearchLine, IsShrinkLine, WritesNumber, question_name}
 use Rattle.cdb_base.specs.declared.question.Question.{Question}
 use Rattle.cdb_base.specs.declared.question.Question.TheVariants.{Explain, Trail, Draw, Slice}
 use Rattle.cdb_base.specs.declared.question.StepAsked.{StepAsked}
@@ -26,7 +26,7 @@ NamesOne None = Unit {0}
 NamesOne (Some found) = (found.0 ≡ codes "play") ⊎ ((found.0 ≡ codes "race")
     ⊎ ((found.0 ≡ codes "explain") ⊎ ((found.0 ≡ codes "trail") ⊎ ((found.0 ≡ codes "draw")
     ⊎ ((found.0 ≡ codes "slice") ⊎ ((found.0 ≡ codes "debug") ⊎ ((found.0 ≡ codes "replay")
-    ⊎ ((found.0 ≡ codes "search") ⊎ ((found.0 ≡ codes "same") ⊎ ((found.0 ≡ codes "clocks") ⊎ (found.0 ≡ codes "page")))))))))))
+    ⊎ ((found.0 ≡ codes "search") ⊎ ((found.0 ≡ codes "same") ⊎ ((found.0 ≡ codes "clocks") ⊎ ((found.0 ≡ codes "shrink") ⊎ (found.0 ≡ codes "page"))))))))))))
 
 -- the text of an argument, which is empty where the matches have none
 abbrev pub text_at : Text → List Row → Text
@@ -97,6 +97,9 @@ NamesAsked found (Clocks setup script) =
     × (script.now ≡ text_at (codes "SCRIPT") rows)
 NamesAsked found (Page setup script) =
     (rows : List Row) × (found ≡ Some (codes "page", rows)) × (setup.now ≡ text_at (codes "SETUP") rows) × (script.now ≡ text_at (codes "SCRIPT") rows)
+NamesAsked found (Shrink setup script goal) =
+    (rows : List Row) × (found ≡ Some (codes "shrink", rows)) × (setup.now ≡ text_at (codes "SETUP") rows)
+    × (script.now ≡ text_at (codes "SCRIPT") rows) × (goal.now ≡ text_at (codes "GOAL") rows)
 
 -- a play of these two files
 abbrev pub IsPlayOf : Text → Text → Asked → Type 0
@@ -147,6 +150,12 @@ abbrev pub IsPageOf : Text → Text → Asked → Type 0
 IsPageOf setup script (Page its_setup its_script) = (its_setup.now ≡ setup) × (its_script.now ≡ script)
 IsPageOf setup script asked = ⊥
 
+-- this script is made small on this setup, as long as the goal of this word holds
+abbrev pub IsShrinkOf : Text → Text → Text → Asked → Type 0
+IsShrinkOf setup script goal (Shrink its_setup its_script its_goal) =
+    (its_setup.now ≡ setup) × (its_script.now ≡ script) × (its_goal.now ≡ goal)
+IsShrinkOf setup script goal asked = ⊥
+
 -- what was asked for, or no memory to say it
 abbrev pub IsRequest : Result Asked AskFault → (Asked → Type 0) → Type 0
 IsRequest result IsIt = IfOk result IsIt × IfErr result (λ fault. fault ≡ NoMemory no_memory)
@@ -188,6 +197,10 @@ AsksForClocks result words =
 abbrev pub AsksForPage : Result Asked AskFault → List Text → Type 0
 AsksForPage result words =
     (setup script : Text) → IsPageLine words setup script → IsRequest result (IsPageOf setup script)
+
+abbrev pub AsksForShrink : Result Asked AskFault → List Text → Type 0
+AsksForShrink result words =
+    (setup script goal : Text) → IsShrinkLine words setup script goal → IsRequest result (IsShrinkOf setup script goal)
 
 -- out of memory, or an error of one of the kinds
 abbrev pub IsOfKinds : Kinds → AskFault → Type 0

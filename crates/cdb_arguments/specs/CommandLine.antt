@@ -88,6 +88,10 @@ clocks_app = on_files (codes "clocks") []
 abbrev pub page_app : App
 page_app = on_files (codes "page") []
 
+-- `shrink SETUP SCRIPT GOAL`
+abbrev pub shrink_app : App
+shrink_app = on_files (codes "shrink") (required_rule (codes "GOAL") ∷ [])
+
 -- the program with these subcommands too
 abbrev pub with_subcommands : App → List App → App
 with_subcommands = fold (λ app sub. with_subcommand app sub.top)
@@ -99,4 +103,4 @@ playing = with_subcommands (on_top (λ s. record s { has_version = true; disable
 -- the program with its subcommands
 unfoldable pub program : App
 program = with_subcommands playing (explain_app ∷ trail_app ∷ draw_app ∷ slice_app ∷ debug_app ∷ replay_app ∷ search_app
-    ∷ same_app ∷ clocks_app ∷ page_app ∷ [])
+    ∷ same_app ∷ clocks_app ∷ shrink_app ∷ page_app ∷ [])

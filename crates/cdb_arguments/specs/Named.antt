@@ -6,7 +6,7 @@ use Rattle.cdb_arguments.specs.declared.command_line.Argument.{Argument}
 use Rattle.cdb_arguments.specs.declared.command_line.Argument.TheVariants as arg
 use Rattle.cdb_arguments.specs.declared.command_line.Subcommand.{Subcommand}
 use Rattle.cdb_arguments.specs.declared.command_line.Subcommand.TheVariants as sub
-use Rattle.cdb_arguments.specs.CommandLine.{required_rule, turns_rule, numbered, several, play_app, race_app, explain_app, trail_app, draw_app, slice_app, debug_app, replay_app, page_app, same_app, clocks_app, search_app}
+use Rattle.cdb_arguments.specs.CommandLine.{required_rule, turns_rule, numbered, several, play_app, race_app, explain_app, trail_app, draw_app, slice_app, debug_app, replay_app, page_app, same_app, clocks_app, search_app, shrink_app}
 
 abbrev pub rule_named : Argument → Rule
 rule_named arg.Setup = required_rule (codes "SETUP")
@@ -37,6 +37,7 @@ name_of sub.Slice = codes "slice"
 name_of sub.Debug = codes "debug"
 name_of sub.Replay = codes "replay"
 name_of sub.Search = codes "search"
+name_of sub.Shrink = codes "shrink"
 name_of sub.Same = codes "same"
 name_of sub.Clocks = codes "clocks"
 name_of sub.Page = codes "page"
@@ -51,6 +52,7 @@ app_named sub.Slice = slice_app
 app_named sub.Debug = debug_app
 app_named sub.Replay = replay_app
 app_named sub.Search = search_app
+app_named sub.Shrink = shrink_app
 app_named sub.Same = same_app
 app_named sub.Clocks = clocks_app
 app_named sub.Page = page_app

@@ -101,3 +101,7 @@ IsClocksLine words setup script = IsSubcommandLine (codes "clocks") (setup ∷ s
 -- `page SETUP SCRIPT`
 abbrev pub IsPageLine : List Text → Text → Text → Type 0
 IsPageLine words setup script = IsSubcommandLine (codes "page") (setup ∷ script ∷ []) words
+
+-- `shrink SETUP SCRIPT GOAL`
+abbrev pub IsShrinkLine : List Text → Text → Text → Text → Type 0
+IsShrinkLine words setup script goal = IsSubcommandLine (codes "shrink") (setup ∷ script ∷ goal ∷ []) words

@@ -10,7 +10,7 @@ use clap::{Arg, Command};
 use std::alloc::{AllocError, Global};
 
 /// The version that `--version` prints after the program's name.
-const VERSION: &str = "1.3.0";
+const VERSION: &str = "1.4.0";
 
 const ABOUT: &str =
     "A reversible debugger for consensus algorithms: plays the commands of a script on one run, and
@@ -37,6 +37,9 @@ const DEBUG: &str = "Carries each command out before the next is read, for one u
 
 const SEARCH: &str =
     "Walks at random until a goal holds, and prints a script of the run in which it does";
+
+const SHRINK: &str =
+    "Plays a script, and prints as few lines as it can after which the goal holds still";
 
 const REPLAY: &str = "Plays a journal again, and prints each reply behind the number of its seat";
 
@@ -123,11 +126,12 @@ pub(crate) enum Subcommand {
     Same,
     Clocks,
     Page,
+    Shrink,
 }
 
 impl Subcommand {
     /// The subcommands, in the order in which help lists them.
-    pub(crate) const ALL: [Subcommand; 12] = [
+    pub(crate) const ALL: [Subcommand; 13] = [
         Subcommand::Play,
         Subcommand::Race,
         Subcommand::Explain,
@@ -139,6 +143,7 @@ impl Subcommand {
         Subcommand::Search,
         Subcommand::Same,
         Subcommand::Clocks,
+        Subcommand::Shrink,
         Subcommand::Page,
     ];
 
@@ -155,6 +160,7 @@ impl Subcommand {
             Subcommand::Debug => "debug",
             Subcommand::Replay => "replay",
             Subcommand::Search => "search",
+            Subcommand::Shrink => "shrink",
             Subcommand::Same => "same",
             Subcommand::Clocks => "clocks",
             Subcommand::Page => "page",
@@ -172,6 +178,7 @@ impl Subcommand {
             Subcommand::Debug => DEBUG,
             Subcommand::Replay => REPLAY,
             Subcommand::Search => SEARCH,
+            Subcommand::Shrink => SHRINK,
             Subcommand::Same => SAME,
             Subcommand::Clocks => CLOCKS,
             Subcommand::Page => PAGE,
@@ -201,6 +208,7 @@ impl Subcommand {
             ],
             Subcommand::Debug => &[Argument::Setup, Argument::Seats],
             Subcommand::Replay => &[Argument::Setup, Argument::Journal],
+            Subcommand::Shrink => &[Argument::Setup, Argument::Script, Argument::Goal],
             Subcommand::Search => &[
                 Argument::Setup,
                 Argument::Goal,

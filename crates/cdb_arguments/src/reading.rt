@@ -4,7 +4,7 @@ ghost use Rattle.std.specs.Prelude.{◌≡◌, OnOk, IfOk, IfErr, Some, [], true
 ghost use Rattle.clap.specs.Words.{Kinds, Text, HasKind, fault_of, found_of, kind_of, rows_of, subcommand_of, subcommand_rows_of, takes};
 ghost use Rattle.cdb_base.specs.Memory.{no_memory};
 ghost use Rattle.cdb_arguments.specs.CommandLine.{program};
-ghost use Rattle.cdb_arguments.specs.Asking.{HasStepOf, IsAnyStepIn, IsStepIn, NamesOne, IsTurns, IsNumber, IsNumberAt, text_at, texts, texts_at, NamesAsked, IsOfKinds, IsRequest, AsksForPlay, AsksForRace, AsksQuestion, AsksForDebug, AsksForReplay, AsksForPage, AsksForSame, AsksForClocks, AsksForSearch, ask_status_of, words_status};
+ghost use Rattle.cdb_arguments.specs.Asking.{HasStepOf, IsAnyStepIn, IsStepIn, NamesOne, IsTurns, IsNumber, IsNumberAt, text_at, texts, texts_at, NamesAsked, IsOfKinds, IsRequest, AsksForPlay, AsksForRace, AsksQuestion, AsksForDebug, AsksForReplay, AsksForPage, AsksForSame, AsksForClocks, AsksForSearch, AsksForShrink, ask_status_of, words_status};
 ghost use Rattle.cdb_arguments.specs.Plain.{IsNameAlone, question_name};
 
 use crate::command_line::program;
@@ -214,6 +214,17 @@ fn page_of<'a>(found: &ArgMatches<'a>) -> Asked<'a>
     }
 }
 
+/// A script that is made small.
+fn shrink_of<'a>(found: &ArgMatches<'a>) -> Asked<'a>
+    ensures { NamesAsked (Some (codes "shrink", rows_of (found_of found.now))) result }
+{
+    Asked::Shrink {
+        setup: text_of(found, "SETUP"),
+        script: text_of(found, "SCRIPT"),
+        goal: text_of(found, "GOAL"),
+    }
+}
+
 /// What the matches of a subcommand of this name ask for.
 fn asked_under<'a>(
     alloc: Global,
@@ -232,6 +243,7 @@ fn asked_under<'a>(
         "debug" => debug_of(alloc, found),
         "replay" => Ok(replay_of(found)),
         "search" => Ok(search_of(found)),
+        "shrink" => Ok(shrink_of(found)),
         "same" => Ok(same_of(found)),
         "clocks" => Ok(clocks_of(found)),
         "page" => Ok(page_of(found)),
@@ -289,8 +301,8 @@ fn read<'a>(alloc: Global, words: &'a [&'a str]) -> Result<Asked<'a>, AskFault>
 /// `explain SETUP SCRIPT P [K]` for what led to a step, `trail SETUP SCRIPT P [K]` for the trail of a value to it,
 /// `draw SETUP SCRIPT [P [K]]` for a picture, `slice SETUP SCRIPT [P [K]]` for a script, `debug SETUP [SEAT..]` for a
 /// session that goes on line by line, `replay SETUP JOURNAL` for a journal that is played again, `search SETUP GOAL SEED WALKS` for
-/// a search, `same SETUP FIRST SECOND` for whether two scripts leave the same run, `clocks SETUP SCRIPT` for clocks, `page
-/// SETUP SCRIPT` for a page. P, K, SEED and WALKS are numbers of 1 to 999,999.
+/// a search, `same SETUP FIRST SECOND` for whether two scripts leave the same run, `clocks SETUP SCRIPT` for clocks, `shrink
+/// SETUP SCRIPT GOAL` for a small script, `page SETUP SCRIPT` for a page. P, K, SEED and WALKS are numbers of 1 to 999,999.
 ///
 /// # Errors
 /// `Words` with `clap`'s error for arguments that the command line does not take, and for those alone; the error is
@@ -315,6 +327,7 @@ pub fn asked<'a>(alloc: Global, words: &'a [&'a str]) -> Result<Asked<'a>, AskFa
     ensures debug { AsksForDebug result (texts words.entry.now) }
     ensures replay { AsksForReplay result (texts words.entry.now) }
     ensures search { AsksForSearch result (texts words.entry.now) }
+    ensures shrink { AsksForShrink result (texts words.entry.now) }
     ensures same { AsksForSame result (texts words.entry.now) }
     ensures clocks { AsksForClocks result (texts words.entry.now) }
     ensures page { AsksForPage result (texts words.entry.now) }

@@ -44,7 +44,7 @@ fn carry_out_each<T: Runs>(
     control: &mut Control<T>,
     commands: &[Command],
 ) -> Result<(), NoMemory>
-    requires few { length commands.now < MAX_ENTRIES }
+    requires few { length commands.now ≤ MAX_ENTRIES }
     requires new { HasCarriedOut control.old.setup [] control.old }
     ensures { OnOk result (HasCarriedOut control.old.setup commands.now control.new) }
 {
@@ -54,13 +54,14 @@ fn carry_out_each<T: Runs>(
     Ok(())
 }
 
-/// A control that has carried the commands out, one after the other.
-fn control_after<T: Runs>(
+/// A control of one seat that has carried the commands out, one after the other, 999,999 at most. After `NoMemory` the setup is
+/// given up.
+pub fn control_after<T: Runs>(
     alloc: Global,
     setup: Setup,
     commands: &[Command],
 ) -> Result<Control<T>, NoMemory>
-    requires { length commands.now < MAX_ENTRIES }
+    requires { length commands.now ≤ MAX_ENTRIES }
     ensures { IfOk result (HasCarriedOut setup commands.now) }
 {
     let mut control = open_for(alloc, setup, commands.len() as u32)?;

@@ -18,10 +18,12 @@ use Rattle.cdb_program.specs.Clocks.{AreWritten}
 use Rattle.cdb_program.specs.Comparing.{IsCompared}
 use Rattle.cdb_program.specs.Playing.{IsPlay}
 use Rattle.cdb_program.specs.Replaying.{IsReplay}
-use Rattle.cdb_program.specs.Searching.{IsSearch}
+use Rattle.cdb_program.specs.Searching.{IsSearch, IsShrink}
 use Rattle.cdb_goal.specs.declared.goal.Goal.{Goal}
 use Rattle.cdb_search.specs.Found.{IsFaultOfSearch, IsFound, search_ending}
+use Rattle.cdb_search.specs.Shrunk.{IsFaultOfShrink, WritesShrunk}
 use Rattle.cdb_search.specs.declared.fault.SearchFault.{SearchFault}
+use Rattle.cdb_search.specs.declared.fault.SearchFault.TheVariants as search
 
 -- what was written of a text, by the writer's stream
 pub stream_written : {W : Type 0} (stream : W → Stream) (ending : Ending) (old new : W) (IsText : List ℕ → Type 0) → IsWritten stream ending old new IsText → IsWritten (λ (s : Stream). s) ending (stream old) (stream new) IsText
@@ -79,3 +81,15 @@ pub clocks_seen : {W : Type 0} (writer : W → Stream) (json script : List ℕ) 
     → IfErr written (IsFaultOfClocks json script) → AreWritten json script written (writer old) (writer new)
 clocks_seen writer json script written old new wrote fault =
     record { wrote = stream_written writer (clocks_ending written) old new (WritesClocks rules json script) wrote; fault = fault }
+
+-- what the making of a small script says of its reader and its writer
+pub shrink_seen : {R W : Type 0} (reader : R → Stream) (writer : W → Stream) (json : List ℕ) (goal : Goal) (shrunk : Result (Unit {0}) SearchFault) (script rest : R) (old new : W)
+    → IsWritten writer (search_ending shrunk) old new (WritesShrunk rules json goal (reader script) (reader rest)) → IfErr shrunk (IsFaultOfShrink rules json goal (reader script) (reader rest))
+    → ((fault : SetupFault) → shrunk ≡ Err (search.Play (play.Setup fault)) → rest ≡ script) → FailsWhere reader (shrunk ≡ Err (search.Play play.Read)) script rest
+    → IsShrink json goal shrunk (reader script) (reader rest) (writer old) (writer new)
+shrink_seen reader writer json goal shrunk script rest old new wrote fault same read = record {
+  wrote = stream_written writer (search_ending shrunk) old new (WritesShrunk rules json goal (reader script) (reader rest)) wrote;
+  fault = fault;
+  unread = λ why is. ap reader (same why is);
+  read = read;
+}

@@ -14,7 +14,7 @@ use Rattle.cdb_program.specs.Racing.{RacesFiles}
 use Rattle.cdb_program.specs.Reading.{file_names}
 use Rattle.cdb_program.specs.Replaying.{ReplaysFiles}
 use Rattle.cdb_program.specs.Reports.{IsReported}
-use Rattle.cdb_program.specs.Searching.{SearchesFile}
+use Rattle.cdb_program.specs.Searching.{SearchesFile, ShrinksFiles}
 use Rattle.cdb_program.specs.Seating.{PerformsShared}
 use Rattle.cdb_program.specs.declared.fault.Fault.TheVariants.{Play}
 use Rattle.cdb_program.specs.declared.request.Request.{Request}
@@ -55,6 +55,7 @@ Does (request.Search setup goal seed walks) old new outcome = SearchesFile setup
 Does (request.Same setup first second) old new outcome = ComparesFiles setup.now first.now second.now old new outcome
 Does (request.Clocks setup script) old new outcome = ClocksFiles setup.now script.now old new outcome
 Does (request.Page setup script) old new outcome = PagesFiles setup.now script.now old new outcome
+Does (request.Shrink setup script goal) old new outcome = ShrinksFiles setup.now script.now goal.now old new outcome
 Does (request.Print text) old new outcome = ReadsNothing old new × Prints text.now old.output new.output outcome
 Does (request.Refuse fault) old new outcome = ReadsNothing old new × (new.output ≡ old.output) × (outcome ≡ Err fault)
 

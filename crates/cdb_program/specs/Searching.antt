@@ -1,13 +1,17 @@
--- What searches do.
-use Rattle.std.specs.Prelude.{◌≡◌, ◌⊎◌, ℕ, List, [], ◌∷◌, Result, Err, IfErr}
+-- What searches do, and what makes scripts small.
+use Rattle.std.specs.Prelude.{◌≡◌, ◌⊎◌, ℕ, List, [], ◌∷◌, Option, Some, Result, Err, IfErr}
 use Rattle.cdb_agreement.specs.Algorithms.{rules}
 use Rattle.cdb_goal.specs.Words.{IsWordOf}
 use Rattle.cdb_goal.specs.declared.goal.Goal.{Goal}
 use Rattle.cdb_search.specs.Found.{IsFaultOfSearch, IsFound, search_ending}
+use Rattle.cdb_search.specs.Shrunk.{IsFaultOfShrink, WritesShrunk}
 use Rattle.cdb_search.specs.declared.fault.SearchFault.{SearchFault}
-use Rattle.cdb_streams.specs.Streams.{Stream, itself}
+use Rattle.cdb_search.specs.declared.fault.SearchFault.TheVariants.{Play}
+use Rattle.cdb_setup.specs.declared.fault.SetupFault.{SetupFault}
+use Rattle.cdb_streams.specs.Streams.{FailsWhere, Stream, itself}
 use Rattle.cdb_streams.specs.Written.{IsWritten}
-use Rattle.cdb_program.specs.Known.{Seen}
+use Rattle.cdb_streams.specs.declared.fault.PlayFault.TheVariants as play
+use Rattle.cdb_program.specs.Known.{Seen, in_memory}
 use Rattle.cdb_program.specs.Outcomes.{RequestEnd, IsOfSearch}
 use Rattle.cdb_program.specs.Reading.{ReadsThen}
 use Rattle.cdb_program.specs.declared.fault.Fault.TheVariants.{NoGoal}
@@ -37,3 +41,30 @@ SearchesFor setup goal walks old new outcome =
 abbrev pub SearchesFile : List ℕ → List ℕ → ℕ → Seen → Seen → RequestEnd → Type 0
 SearchesFile setup word walks old new outcome =
     RefusesWord word old new outcome ⊎ ((goal : Goal) × IsWordOf goal word × SearchesFor setup goal walks old new outcome)
+
+-- ---- scripts made small
+
+-- A script is made small on the setup of this text, as long as the goal holds, and it ended so. The script's reader and the output are
+-- seen before and after.
+pub record IsShrink (json : List ℕ) (goal : Goal) (shrunk : Result (Unit {0}) SearchFault) (script left old new : Stream) : Type 0 where
+  pub wrote : IsWritten itself (search_ending shrunk) old new (WritesShrunk rules json goal script left)
+  pub fault : IfErr shrunk (IsFaultOfShrink rules json goal script left)
+  pub unread : (fault : SetupFault) → shrunk ≡ Err (Play (play.Setup fault)) → left ≡ script
+  pub read : FailsWhere itself (shrunk ≡ Err (Play play.Read)) script left
+
+-- with the bytes of the setup's file and those of the script's, which has this name
+abbrev pub ShrinksBytes : List ℕ → Goal → Stream → Stream → RequestEnd → List (List ℕ) → Type 0
+ShrinksBytes name goal old new outcome (json ∷ script ∷ []) =
+    (shrunk : Result (Unit {0}) SearchFault) × (left : Option (List ℕ)) × IsOfSearch name shrunk outcome
+    × IsShrink json goal shrunk (in_memory (Some script)) (in_memory left) old new
+ShrinksBytes name goal old new outcome others = ⊥
+
+-- the file of the setup and then that of the script are read, and the script is made small
+abbrev pub ShrinksTo : List ℕ → List ℕ → Goal → Seen → Seen → RequestEnd → Type 0
+ShrinksTo setup script goal old new outcome =
+    ReadsThen (setup ∷ script ∷ []) old new outcome (ShrinksBytes script goal old.output new.output outcome)
+
+-- the same for a goal that the word names, where it names one
+abbrev pub ShrinksFiles : List ℕ → List ℕ → List ℕ → Seen → Seen → RequestEnd → Type 0
+ShrinksFiles setup script word old new outcome =
+    RefusesWord word old new outcome ⊎ ((goal : Goal) × IsWordOf goal word × ShrinksTo setup script goal old new outcome)

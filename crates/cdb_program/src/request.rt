@@ -15,7 +15,7 @@ use crate::questions::answer_files;
 use crate::races::race_files;
 use crate::replays::replay_files;
 use crate::reports::report;
-use crate::searches::search_file;
+use crate::searches::{search_file, shrink_files};
 use crate::seats::perform_shared;
 use cdb_base::Question;
 use cdb_streams::{PlayFault, Sink, Source, write_all};
@@ -71,6 +71,12 @@ pub enum Request<'a> {
         goal: &'a str,
         seed: u32,
         walks: u32,
+    },
+    /// Makes a script file small on a run of a setup file, as long as the goal of this word holds.
+    Shrink {
+        setup: &'a str,
+        script: &'a str,
+        goal: &'a str,
     },
     /// Tells whether two script files leave the same run on a setup file.
     Same {
@@ -142,6 +148,11 @@ fn carry_out<
             seed,
             walks,
         } => search_file(alloc, setup, goal, seed, walks, outside),
+        Request::Shrink {
+            setup,
+            script,
+            goal,
+        } => shrink_files(alloc, setup, script, goal, outside),
         Request::Same {
             setup,
             first,

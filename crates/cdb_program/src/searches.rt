@@ -1,15 +1,15 @@
-//! Searches on what is outside.
+//! Searches on what is outside, and scripts made small.
 
 ghost use Rattle.std.specs.Prelude.{◌≡◌};
-ghost use Rattle.cdb_program.specs.Searching.{SearchesFile, SearchesFor};
+ghost use Rattle.cdb_program.specs.Searching.{SearchesFile, SearchesFor, ShrinksFiles, ShrinksTo};
 
 use crate::fault::{Fault, of_search};
-use crate::files::{Files, read_file};
+use crate::files::{Files, read_file, read_two};
 use crate::outside::Outside;
 use cdb_any_run::AnyRun;
 use cdb_goal::Goal;
-use cdb_search::{Watch, search};
-use cdb_streams::{Sink, Source};
+use cdb_search::{Watch, search, shrink};
+use cdb_streams::{Bytes, Sink, Source};
 use std::alloc::Global;
 
 /// Shows how far a search has come.
@@ -70,6 +70,49 @@ pub fn search_file<'a, F: Files + Drop, I: Source + Drop, O: Sink + Drop, E: Sin
 {
     match Goal::read(goal) {
         Some(goal) => search_for(alloc, setup, goal, seed, walks, outside),
+        None => Err(Fault::NoGoal),
+    }
+}
+
+/// Makes a script file small on a run of a setup file, as long as this goal holds.
+fn shrink_to<'a, F: Files + Drop, I: Source + Drop, O: Sink + Drop, E: Sink + Drop>(
+    alloc: Global,
+    setup: &'a str,
+    script: &'a str,
+    goal: Goal,
+    outside: &mut Outside<F, I, O, E>,
+) -> Result<(), Fault<'a>>
+    ensures does { ShrinksTo setup.entry.now script.entry.now goal
+        outside.old outside.new result }
+    ensures error { outside.new.error ≡ outside.old.error }
+{
+    let (json, bytes) = read_two(alloc, &mut outside.files, setup, script)?;
+    let mut commands = Bytes::new(bytes.as_slice());
+    let shrunk = shrink::<AnyRun, Bytes, O>(
+        alloc,
+        json.as_slice(),
+        &mut commands,
+        goal,
+        &mut outside.streams.output,
+    );
+    of_search(shrunk, script)
+}
+
+/// Makes a script file small on a run of a setup file, as long as the goal of this word holds. A word that names no goal is refused
+/// before a file is opened.
+pub fn shrink_files<'a, F: Files + Drop, I: Source + Drop, O: Sink + Drop, E: Sink + Drop>(
+    alloc: Global,
+    setup: &'a str,
+    script: &'a str,
+    goal: &str,
+    outside: &mut Outside<F, I, O, E>,
+) -> Result<(), Fault<'a>>
+    ensures does { ShrinksFiles setup.entry.now script.entry.now goal.now
+        outside.old outside.new result }
+    ensures error { outside.new.error ≡ outside.old.error }
+{
+    match Goal::read(goal) {
+        Some(goal) => shrink_to(alloc, setup, script, goal, outside),
         None => Err(Fault::NoGoal),
     }
 }

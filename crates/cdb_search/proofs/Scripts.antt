@@ -1,14 +1,16 @@
 -- The script of a run in which a goal holds.
-use Rattle.std.proofs.Common.{◌≡◌, ℕ, List, Result, Ok, Err, IfErr, refl, subst, sym}
+use Rattle.std.proofs.Common.{◌≡◌, ◌↔◌, ℕ, List, Result, Ok, Err, IfErr, map, refl, subst, sym}
 use Rattle.cdb_base.specs.declared.event.Event.{Event}
 use Rattle.cdb_goal.specs.Holds.{Holds}
 use Rattle.cdb_goal.specs.declared.goal.Goal.{Goal}
 use Rattle.cdb_rules.specs.RunView.{RunView}
 use Rattle.cdb_rules.specs.Rules.{Rules}
+use Rattle.cdb_search.specs.Passes.{IsFaultOfSmall}
+use Rattle.cdb_search.specs.Shrunk.{HoldsAfter}
 use Rattle.cdb_search.specs.Found.{IsFaultOfSearch, IsFound, IsScriptTo, after_writing, search_ending}
 use Rattle.cdb_setup.specs.Format.{Encodes}
 use Rattle.cdb_setup.specs.Parts.{Parts}
-use Rattle.cdb_slice.specs.Scripts.{PlaysBack, script_text}
+use Rattle.cdb_slice.specs.Scripts.{PlaysBack, command_for, script_text}
 use Rattle.cdb_streams.specs.Endings.{whole_ending}
 use Rattle.cdb_streams.specs.Faults.{IsSetup}
 use Rattle.cdb_streams.specs.declared.buffer.OutputFault.{OutputFault}
@@ -33,3 +35,15 @@ fault_of_writing (Err (output.NoMemory refused)) json walks setup = setup.1.0
 pub found_so : (rules : Parts → Rules) (json : List ℕ) (goal : Goal) (setup : Parts) → Encodes json setup → (run : RunView) → run.setup ≡ setup
     → (text : List ℕ) → IsScriptTo (rules run.setup) run.setup goal text → IsFound rules json goal text
 found_so rules json goal setup encodes run same text is = (run.setup, subst (Encodes json) (sym same) encodes, is)
+
+-- ---- a script made small
+
+-- the script of what stands leaves it
+pub same_left : (rules : Rules) (setup : Parts) (goal : Goal) (history : List Event) → PlaysBack rules setup history
+    → HoldsAfter rules setup goal (map command_for history) ↔ Holds rules history goal
+same_left rules setup goal history plays =
+    (λ holds. subst (λ (h : List Event). Holds rules h goal) plays.left holds, λ holds. subst (λ (h : List Event). Holds rules h goal) (sym plays.left) holds)
+
+pub fault_of_small : (wrote : Result (Unit {0}) OutputFault) (rules : Parts → Rules) (run : RunView) (goal : Goal) → IfErr (after_writing wrote) (IsFaultOfSmall rules run goal)
+fault_of_small (Ok done) rules run goal = tt
+fault_of_small (Err why) rules run goal = (why, refl)

@@ -1,3 +1,6 @@
 -- what a reader of the contracts believes
 pub mod Found
+pub mod Shrunk
 pub mod FaultTexts
+-- what the code keeps for itself
+pub mod Passes

@@ -39,7 +39,7 @@ fn write_run<T: Runs, W: Sink>(
 }
 
 /// How a search ended that wrote its script so.
-fn after_writing(wrote: Result<(), OutputFault>) -> Result<(), SearchFault>
+pub(crate) fn after_writing(wrote: Result<(), OutputFault>) -> Result<(), SearchFault>
     ensures { result ≡ after_writing wrote }
 {
     match wrote {

@@ -10,16 +10,22 @@ use cdb_setup::Setup;
 use rand_core::Rng;
 use std::alloc::Global;
 
-/// Of so many choices one is that of the other kind: a message of the other half comes through, a process crashes, a copy that
-/// would come is lost, a query asks the file, and one asks any process.
+/// Of so many copies that are taken one comes from the other half.
 const ONE_FROM_AFAR: usize = 50;
 
-const ONE_CRASH: usize = 400;
-
+/// Of so many copies that would be received one is lost, where copies can be.
 const ONE_LOSS: usize = 30;
 
+/// Of so many steps of processes one is a crash.
+const ONE_CRASH: usize = 400;
+
+/// Of so many further steps of processes one is what else there is.
+const ONE_OTHERWISE: usize = 20;
+
+/// Of so many queries one takes the answer of the setup.
 const ONE_FROM_FILE: usize = 16;
 
+/// Of so many further queries one asks for any process.
 const ONE_OF_ANY: usize = 12;
 
 /// How many processes are drawn to lead their halves, the last of each half to stay: so many that each half has most likely one.
@@ -181,20 +187,38 @@ impl Walker {
         }
     }
 
-    /// What a process does next of itself.
-    fn next_of_process<T: Runs, G: Rng>(&self, run: &T, random: &mut G) -> Command {
-        let p = self.active_process(run, random);
+    /// What a process mostly does next of itself: the first of these that it can.
+    fn usual_act<T: Runs, G: Rng>(&self, run: &T, p: Proc, random: &mut G) -> Act {
         let number = u32::from(p.number());
-        let act = if one_in(random, ONE_CRASH) {
-            Act::Crash
-        } else if run.refuses(number, Act::Learn).is_none() {
+        if run.refuses(number, Act::Learn).is_none() {
             Act::Learn
         } else if run.refuses(number, Act::Go).is_none() {
             Act::Go
         } else {
             Act::Query(self.answer(p, random))
+        }
+    }
+
+    /// What a process may do of itself, whatever it mostly does.
+    fn any_act<G: Rng>(&self, p: Proc, random: &mut G) -> Act {
+        match below(random, 3) {
+            0 => Act::Learn,
+            1 => Act::Go,
+            _ => Act::Query(self.answer(p, random)),
+        }
+    }
+
+    /// What a process does next of itself.
+    fn next_of_process<T: Runs, G: Rng>(&self, run: &T, random: &mut G) -> Command {
+        let p = self.active_process(run, random);
+        let act = if one_in(random, ONE_CRASH) {
+            Act::Crash
+        } else if one_in(random, ONE_OTHERWISE) {
+            self.any_act(p, random)
+        } else {
+            self.usual_act(run, p, random)
         };
-        Command::Step(number, act)
+        Command::Step(u32::from(p.number()), act)
     }
 
     /// What the walk tries next. It may be refused.

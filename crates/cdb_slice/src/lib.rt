@@ -13,5 +13,5 @@ mod script;
 mod slices;
 
 pub use past::past_of;
-pub use script::script_of;
+pub use script::{command_for, script_of};
 pub use slices::slice;

@@ -24,7 +24,7 @@ fn act_for(kind: &Kind) -> Act
 }
 
 /// The command that takes an event.
-fn command_for(event: &Event) -> Command
+pub fn command_for(event: &Event) -> Command
     ensures { result ≡ command_for event.now }
 {
     match event {

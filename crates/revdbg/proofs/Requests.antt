@@ -5,7 +5,7 @@ use Rattle.revdbg.specs.declared.requested.Unread.{Unread}
 use Rattle.revdbg.specs.declared.requested.Unread.TheVariants as unread
 use Rattle.cdb_base.specs.declared.question.Question.{Question}
 use Rattle.clap.specs.Words.{Text}
-use Rattle.cdb_arguments.specs.Asking.{IsDebugOf, IsOfKinds, IsPageOf, IsPlayOf, IsQuestionOf, IsRaceOf, IsReplayOf, IsSameOf, IsClocksOf, IsSearchOf}
+use Rattle.cdb_arguments.specs.Asking.{IsDebugOf, IsOfKinds, IsPageOf, IsPlayOf, IsQuestionOf, IsRaceOf, IsReplayOf, IsSameOf, IsClocksOf, IsSearchOf, IsShrinkOf}
 use Rattle.cdb_arguments.specs.declared.request.AskFault.{AskFault}
 use Rattle.cdb_arguments.specs.declared.request.AskFault.TheVariants as fault_of_asking
 use Rattle.cdb_arguments.specs.declared.request.Asked.{Asked}
@@ -14,8 +14,8 @@ use Rattle.cdb_streams.specs.declared.fault.PlayFault.TheVariants as play
 use Rattle.cdb_program.specs.Known.{Seen}
 use Rattle.cdb_program.specs.declared.fault.Fault.TheVariants as fault
 use Rattle.cdb_program.specs.declared.request.Request.{Request}
-use Rattle.cdb_program.specs.declared.request.Request.TheVariants.{Script, Play, Race, Ask, Debug, DebugShared, Replay, Page, Same, Clocks, Search, Print, Refuse}
-use Rattle.revdbg.specs.Requested.{IsAskedBy, IsDebugRequest, IsOutOfMemory, IsPageRequest, IsPlayRequest, IsQuestionRequest, IsRaceRequest, IsReplayRequest, IsSameRequest, IsClocksRequest, IsSearchRequest, IsRequestOf, IsRefusal, IsUnread, OrOutOfMemory, PerformsOne}
+use Rattle.cdb_program.specs.declared.request.Request.TheVariants.{Script, Play, Race, Ask, Debug, DebugShared, Replay, Page, Same, Clocks, Search, Shrink, Print, Refuse}
+use Rattle.revdbg.specs.Requested.{IsAskedBy, IsDebugRequest, IsOutOfMemory, IsPageRequest, IsPlayRequest, IsQuestionRequest, IsRaceRequest, IsReplayRequest, IsSameRequest, IsClocksRequest, IsSearchRequest, IsShrinkRequest, IsRequestOf, IsRefusal, IsUnread, OrOutOfMemory, PerformsOne}
 
 -- where nothing can be wrong with the arguments, an allocation failed
 no_refusal : (request : Request) → IsRefusal [] request → ⊥
@@ -33,6 +33,7 @@ no_refusal (DebugShared setup seats) is = is
 no_refusal (Replay setup journal) is = is
 no_refusal (Search setup goal seed walks) is = is
 no_refusal (Page setup script) is = is
+no_refusal (Shrink setup script goal) is = is
 no_refusal (Refuse fault.NoStep) is = is
 no_refusal (Refuse fault.NoValue) is = is
 no_refusal (Refuse fault.TooManyEvents) is = is
@@ -62,6 +63,7 @@ module _ (prompt : Text) where
   play_request setup script (asked.Debug a seats) is request of_it = absurd is
   play_request setup script (asked.Replay a b) is request of_it = absurd is
   play_request setup script (asked.Search a h n w) is request of_it = absurd is
+  play_request setup script (asked.Shrink a b h) is request of_it = absurd is
   play_request setup script (asked.Same a b d) is request of_it = absurd is
   play_request setup script (asked.Clocks a b) is request of_it = absurd is
   play_request setup script (asked.Page a b) is request of_it = absurd is
@@ -74,6 +76,7 @@ module _ (prompt : Text) where
   race_request setup turns scripts (asked.Debug a seats) is request of_it = absurd is
   race_request setup turns scripts (asked.Replay a b) is request of_it = absurd is
   race_request setup turns scripts (asked.Search a h n w) is request of_it = absurd is
+  race_request setup turns scripts (asked.Shrink a b h) is request of_it = absurd is
   race_request setup turns scripts (asked.Same a b d) is request of_it = absurd is
   race_request setup turns scripts (asked.Clocks a b) is request of_it = absurd is
   race_request setup turns scripts (asked.Page a b) is request of_it = absurd is
@@ -88,6 +91,7 @@ module _ (prompt : Text) where
   question_request setup script question (asked.Debug a seats) is request of_it = absurd is
   question_request setup script question (asked.Replay a b) is request of_it = absurd is
   question_request setup script question (asked.Search a h n w) is request of_it = absurd is
+  question_request setup script question (asked.Shrink a b h) is request of_it = absurd is
   question_request setup script question (asked.Same a b d) is request of_it = absurd is
   question_request setup script question (asked.Clocks a b) is request of_it = absurd is
   question_request setup script question (asked.Page a b) is request of_it = absurd is
@@ -98,6 +102,7 @@ module _ (prompt : Text) where
   debug_request setup seats (asked.Play a b) is request of_it = absurd is
   debug_request setup seats (asked.Replay a b) is request of_it = absurd is
   debug_request setup seats (asked.Search a h n w) is request of_it = absurd is
+  debug_request setup seats (asked.Shrink a b h) is request of_it = absurd is
   debug_request setup seats (asked.Same a b d) is request of_it = absurd is
   debug_request setup seats (asked.Clocks a b) is request of_it = absurd is
   debug_request setup seats (asked.Page a b) is request of_it = absurd is
@@ -112,6 +117,7 @@ module _ (prompt : Text) where
   replay_request setup journal (asked.Ask a b q) is request of_it = absurd is
   replay_request setup journal (asked.Debug a b) is request of_it = absurd is
   replay_request setup journal (asked.Search a h n w) is request of_it = absurd is
+  replay_request setup journal (asked.Shrink a b h) is request of_it = absurd is
   replay_request setup journal (asked.Same a b d) is request of_it = absurd is
   replay_request setup journal (asked.Clocks a b) is request of_it = absurd is
   replay_request setup journal (asked.Page a b) is request of_it = absurd is
@@ -127,6 +133,21 @@ module _ (prompt : Text) where
   search_request setup goal seed walks (asked.Same a b d) is request of_it = absurd is
   search_request setup goal seed walks (asked.Clocks a b) is request of_it = absurd is
   search_request setup goal seed walks (asked.Page a b) is request of_it = absurd is
+  search_request setup goal seed walks (asked.Shrink a b h) is request of_it = absurd is
+
+  pub shrink_request : (setup script goal : Text) (it : Asked) → IsShrinkOf setup script goal it → (request : Request) → IsRequestOf prompt it request
+      → IsShrinkRequest setup script goal request
+  shrink_request setup script goal (asked.Shrink a b h) is request of_it = rw (← is.0, ← is.1, ← is.2) of_it
+  shrink_request setup script goal asked.Script is request of_it = absurd is
+  shrink_request setup script goal (asked.Play a b) is request of_it = absurd is
+  shrink_request setup script goal (asked.Race a n b) is request of_it = absurd is
+  shrink_request setup script goal (asked.Ask a b q) is request of_it = absurd is
+  shrink_request setup script goal (asked.Debug a b) is request of_it = absurd is
+  shrink_request setup script goal (asked.Replay a b) is request of_it = absurd is
+  shrink_request setup script goal (asked.Same a b d) is request of_it = absurd is
+  shrink_request setup script goal (asked.Clocks a b) is request of_it = absurd is
+  shrink_request setup script goal (asked.Page a b) is request of_it = absurd is
+  shrink_request setup script goal (asked.Search a h n w) is request of_it = absurd is
 
   pub same_request : (setup first second : Text) (it : Asked) → IsSameOf setup first second it → (request : Request) → IsRequestOf prompt it request → IsSameRequest setup first second request
   same_request setup first second (asked.Same a b d) is request of_it = rw (← is.0, ← is.1, ← is.2) of_it
@@ -137,6 +158,7 @@ module _ (prompt : Text) where
   same_request setup first second (asked.Debug a b) is request of_it = absurd is
   same_request setup first second (asked.Replay a b) is request of_it = absurd is
   same_request setup first second (asked.Search a h n w) is request of_it = absurd is
+  same_request setup first second (asked.Shrink a b h) is request of_it = absurd is
   same_request setup first second (asked.Clocks a b) is request of_it = absurd is
   same_request setup first second (asked.Page a b) is request of_it = absurd is
 
@@ -149,6 +171,7 @@ module _ (prompt : Text) where
   clocks_request setup script (asked.Debug a b) is request of_it = absurd is
   clocks_request setup script (asked.Replay a b) is request of_it = absurd is
   clocks_request setup script (asked.Search a h n w) is request of_it = absurd is
+  clocks_request setup script (asked.Shrink a b h) is request of_it = absurd is
   clocks_request setup script (asked.Same a b d) is request of_it = absurd is
   clocks_request setup script (asked.Page a b) is request of_it = absurd is
 
@@ -163,6 +186,7 @@ module _ (prompt : Text) where
   page_request setup script (asked.Search a h n w) is request of_it = absurd is
   page_request setup script (asked.Same a b d) is request of_it = absurd is
   page_request setup script (asked.Clocks a b) is request of_it = absurd is
+  page_request setup script (asked.Shrink a b h) is request of_it = absurd is
 
 -- ---- an allocation failed before it was known what is asked for
 
@@ -175,6 +199,7 @@ memory_is_asked prompt words request is = record {
   debug = λ setup seats line. inr is;
   replay = λ setup journal line. inr is;
   search = λ setup goal seed walks line. inr is;
+  shrink = λ setup script goal line. inr is;
   same = λ setup first second line. inr is;
   clocks = λ setup script line. inr is;
   page = λ setup script line. inr is;

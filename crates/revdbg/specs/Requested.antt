@@ -7,7 +7,7 @@ use Rattle.clap.specs.declared.error.kind.ErrorKind.{ErrorKind}
 use Rattle.cdb_base.specs.Memory.{no_memory}
 use Rattle.cdb_arguments.specs.Asking.{NamesAsked, texts, words_status}
 use Rattle.cdb_arguments.specs.CommandLine.{program}
-use Rattle.cdb_arguments.specs.Plain.{IsNameAlone, IsPlayLine, IsQuestionLine, IsRaceLine, IsDebugLine, IsReplayLine, IsPageLine, IsSameLine, IsClocksLine, IsSearchLine}
+use Rattle.cdb_arguments.specs.Plain.{IsNameAlone, IsPlayLine, IsQuestionLine, IsRaceLine, IsDebugLine, IsReplayLine, IsPageLine, IsSameLine, IsClocksLine, IsSearchLine, IsShrinkLine}
 use Rattle.cdb_arguments.specs.declared.request.Asked.{Asked}
 use Rattle.cdb_arguments.specs.declared.request.Asked.TheVariants as asked
 use Rattle.cdb_base.specs.declared.question.Question.{Question}
@@ -18,7 +18,7 @@ use Rattle.cdb_program.specs.Known.{Seen}
 use Rattle.cdb_program.specs.Requests.{Performs}
 use Rattle.cdb_program.specs.declared.fault.Fault.TheVariants as fault
 use Rattle.cdb_program.specs.declared.request.Request.{Request}
-use Rattle.cdb_program.specs.declared.request.Request.TheVariants.{Script, Play, Race, Ask, Debug, DebugShared, Replay, Page, Same, Clocks, Search, Print, Refuse}
+use Rattle.cdb_program.specs.declared.request.Request.TheVariants.{Script, Play, Race, Ask, Debug, DebugShared, Replay, Page, Same, Clocks, Search, Shrink, Print, Refuse}
 
 -- a play of these two files
 abbrev pub IsPlayRequest : Text → Text → Request → Type 0
@@ -70,6 +70,12 @@ abbrev pub IsPageRequest : Text → Text → Request → Type 0
 IsPageRequest setup script (Page its_setup its_script) = (its_setup.now ≡ setup) × (its_script.now ≡ script)
 IsPageRequest setup script request = ⊥
 
+-- this script is made small on this setup, as long as the goal of this word holds
+abbrev pub IsShrinkRequest : Text → Text → Text → Request → Type 0
+IsShrinkRequest setup script goal (Shrink its_setup its_script its_goal) =
+    (its_setup.now ≡ setup) × (its_script.now ≡ script) × (its_goal.now ≡ goal)
+IsShrinkRequest setup script goal request = ⊥
+
 -- the request for what was asked for, where sessions have this prompt
 abbrev pub IsRequestOf : Text → Asked → Request → Type 0
 IsRequestOf prompt asked.Script request = request ≡ Script
@@ -79,6 +85,7 @@ IsRequestOf prompt (asked.Ask setup script question) request = IsQuestionRequest
 IsRequestOf prompt (asked.Debug setup seats) request = IsDebugRequest prompt setup.now (texts seats.items) request
 IsRequestOf prompt (asked.Replay setup journal) request = IsReplayRequest setup.now journal.now request
 IsRequestOf prompt (asked.Search setup goal seed walks) request = IsSearchRequest setup.now goal.now seed walks request
+IsRequestOf prompt (asked.Shrink setup script goal) request = IsShrinkRequest setup.now script.now goal.now request
 IsRequestOf prompt (asked.Same setup first second) request = IsSameRequest setup.now first.now second.now request
 IsRequestOf prompt (asked.Clocks setup script) request = IsClocksRequest setup.now script.now request
 IsRequestOf prompt (asked.Page setup script) request = IsPageRequest setup.now script.now request
@@ -116,6 +123,8 @@ pub record IsAskedBy (prompt : Text) (words : List Text) (request : Request) : T
   pub replay : (setup journal : Text) → IsReplayLine words setup journal → OrOutOfMemory (IsReplayRequest setup journal) request
   pub search : (setup goal : Text) (seed walks : ℕ)
       → IsSearchLine words setup goal seed walks → OrOutOfMemory (IsSearchRequest setup goal seed walks) request
+  pub shrink : (setup script goal : Text)
+      → IsShrinkLine words setup script goal → OrOutOfMemory (IsShrinkRequest setup script goal) request
   pub same : (setup first second : Text) → IsSameLine words setup first second → OrOutOfMemory (IsSameRequest setup first second) request
   pub clocks : (setup script : Text) → IsClocksLine words setup script → OrOutOfMemory (IsClocksRequest setup script) request
   pub page : (setup script : Text) → IsPageLine words setup script → OrOutOfMemory (IsPageRequest setup script) request

@@ -93,6 +93,15 @@ fn request_of<'a>(asked: &'a Asked<'a>, prompt: &'a str) -> Request<'a>
             seed: *seed,
             walks: *walks,
         },
+        Asked::Shrink {
+            setup,
+            script,
+            goal,
+        } => Request::Shrink {
+            setup,
+            script,
+            goal,
+        },
         Asked::Same {
             setup,
             first,

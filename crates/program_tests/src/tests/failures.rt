@@ -55,6 +55,19 @@ const REPLAY: Request<'static> = Request::Replay {
     journal: "journal.txt",
 };
 
+const SEARCH: Request<'static> = Request::Search {
+    setup: "one.json",
+    goal: "stuck:1",
+    seed: 1,
+    walks: 20,
+};
+
+const SHRINK: Request<'static> = Request::Shrink {
+    setup: "one.json",
+    script: "eight.txt",
+    goal: "decides:1:7",
+};
+
 const DEBUG: Request<'static> = Request::Debug {
     setup: "one.json",
     prompt: "> ",
@@ -97,6 +110,8 @@ fn each_write_of_output_fails_in_turn(rt: HostRuntime) {
         (DRAW, 4_671),
         (SLICE, 25),
         (REPLAY, 35),
+        (SEARCH, 15),
+        (SHRINK, 97),
         (Request::Print("help\n"), 5),
     ];
     for (request, length) in &requests {
@@ -160,6 +175,16 @@ fn each_write_of_error_fails_in_turn(rt: HostRuntime) {
             },
             13,
         ),
+        (
+            // Pieces of 13, 2 and 7 bytes.
+            Request::Search {
+                setup: "one.json",
+                goal: "differ",
+                seed: 1,
+                walks: 20,
+            },
+            6,
+        ),
         (Request::Refuse(Fault::Refused("what is wrong\n")), 3),
     ];
     for (request, writes) in &requests {
@@ -190,6 +215,11 @@ const UNREAD: &[(Request<'static>, &'static [&'static str])] = &[
     (
         REPLAY,
         &["cannot read one.json\n", "cannot read journal.txt\n"],
+    ),
+    (SEARCH, &["cannot read one.json\n"]),
+    (
+        SHRINK,
+        &["cannot read one.json\n", "cannot read eight.txt\n"],
     ),
     (DEBUG, &["cannot read one.json\n"]),
     (

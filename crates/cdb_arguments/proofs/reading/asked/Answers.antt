@@ -1,4 +1,4 @@
-use Rattle.cdb_arguments.proofs.Requests.{script_asked_for, play_asked_for, race_asked_for, question_asked_for, debug_asked_for, replay_asked_for, page_asked_for, same_asked_for, clocks_asked_for, search_asked_for}
+use Rattle.cdb_arguments.proofs.Requests.{script_asked_for, play_asked_for, race_asked_for, question_asked_for, debug_asked_for, replay_asked_for, page_asked_for, same_asked_for, clocks_asked_for, search_asked_for, shrink_asked_for}
 use Rattle.cdb_arguments.specs.Asking.{texts}
 use Rattle.cdb_arguments.proofs.reading.asked.Goals as goal
 
@@ -31,3 +31,6 @@ returns-clause-clocks c = clocks_asked_for (texts c.args.words.now) c.read.resul
 
 pub returns-clause-page : goal.returns-clause-page
 returns-clause-page c = page_asked_for (texts c.args.words.now) c.read.result c.read.ensures.ok c.read.ensures.taken
+
+pub returns-clause-shrink : goal.returns-clause-shrink
+returns-clause-shrink c = shrink_asked_for (texts c.args.words.now) c.read.result c.read.ensures.ok c.read.ensures.taken

@@ -1,0 +1,49 @@
+use Rattle.std.proofs.Common.{◌≡◌, ◌-◌, ◌+◌, ◌∙◌, ◌≤◌, ℕ, suc, List, length, ap, sym, subst, arith}
+use Rattle.cdb_commands.specs.declared.command.Command.{Command}
+use Rattle.cdb_causal.specs.Rollback.{without}
+use Rattle.cdb_rules.specs.Rules.{Rules}
+use Rattle.cdb_search.proofs.Spared.{Tried, all_tried, few_left, needed, none_tried, spared}
+use Rattle.cdb_search.specs.Shrunk.{HoldsAfter}
+use Rattle.cdb_search.proofs.sparing.pass.Goals as goal
+
+pub loop-i-init : goal.loop-i-init
+loop-i-init g c = none_tried (g.T.Runs.rules c.args.setup.now) c.args.setup.now c.args.goal c.args.commands.now c.in_ok-lines.lines.items c.in_ok-lines.ensures.items c.requires.holds
+
+pub holds_after-requires : goal.holds_after-requires
+holds_after-requires g c =
+    let rules = g.T.Runs.rules c.args.setup.now in
+    let i : ℕ = c.loop-i.i - 1 in
+    let next : c.loop-i.i ≡ suc i = omega arith in
+    let same_next : i + 1 ≡ suc i = omega arith in
+    let lines = c.loop-i.lines.items in
+    let tried = subst (λ (n : ℕ). Tried rules c.args.setup.now c.args.goal c.args.commands.now n lines) next c.loop-i.invariant in
+    let fewer : c.in_ok-fewer.fewer.items ≡ without lines (suc i) = rw (c.as_slice.ensures.value, same_next) at c.in_ok-fewer.ensures in
+    let few = few_left rules c.args.setup.now c.args.goal c.args.commands.now i lines c.in_ok-fewer.fewer.items tried fewer in
+    rw c.as_slice-in-loop-i.ensures.value (omega (arith, few, c.requires.few))
+
+pub loop-i-preserved-then-branch : goal.loop-i-preserved-then-branch
+loop-i-preserved-then-branch g c =
+    let rules = g.T.Runs.rules c.args.setup.now in
+    let i : ℕ = c.loop-i.i - 1 in
+    let next : c.loop-i.i ≡ suc i = omega arith in
+    let same_next : i + 1 ≡ suc i = omega arith in
+    let lines = c.loop-i.lines.items in
+    let tried = subst (λ (n : ℕ). Tried rules c.args.setup.now c.args.goal c.args.commands.now n lines) next c.loop-i.invariant in
+    let fewer : c.in_ok-fewer.fewer.items ≡ without lines (suc i) = rw (c.as_slice.ensures.value, same_next) at c.in_ok-fewer.ensures in
+    let holds : HoldsAfter rules c.args.setup.now c.args.goal c.in_ok-fewer.fewer.items = rw c.as_slice-in-loop-i.ensures.value at (c.in_ok-holds_after.ensures.0 c.if-branch.true) in
+    spared rules c.args.setup.now c.args.goal c.args.commands.now i lines c.in_ok-fewer.fewer.items tried fewer holds
+
+pub loop-i-preserved : goal.loop-i-preserved
+loop-i-preserved g c =
+    let rules = g.T.Runs.rules c.args.setup.now in
+    let i : ℕ = c.loop-i.i - 1 in
+    let next : c.loop-i.i ≡ suc i = omega arith in
+    let same_next : i + 1 ≡ suc i = omega arith in
+    let lines = c.loop-i.lines.items in
+    let tried = subst (λ (n : ℕ). Tried rules c.args.setup.now c.args.goal c.args.commands.now n lines) next c.loop-i.invariant in
+    let fewer : c.as_slice-in-loop-i.result.now ≡ without lines (suc i) = c.as_slice-in-loop-i.ensures.value ∙ (rw (c.as_slice.ensures.value, same_next) at c.in_ok-fewer.ensures) in
+    needed rules c.args.setup.now c.args.goal c.args.commands.now i lines tried
+    (λ holds. let yes = c.in_ok-holds_after.ensures.1 (subst (HoldsAfter rules c.args.setup.now c.args.goal) (sym fewer) holds) in let no = c.if-branch.false in cc)
+
+pub returns : goal.returns
+returns g c = all_tried (g.T.Runs.rules c.args.setup.now) c.args.setup.now c.args.goal c.args.commands.now c.loop-i.i c.loop-i.lines.items (omega arith) c.loop-i.invariant
