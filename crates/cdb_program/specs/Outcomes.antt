@@ -41,6 +41,7 @@ IsOfSearch name (Err (search.NotFound walks)) (Err (NotFound its_walks)) = its_w
 IsOfSearch name (Err search.DoesNotHold) (Err DoesNotHold) = Unit {0}
 IsOfSearch name (Err (search.Play fault)) (Err (Play its_fault its_name)) = (its_fault ≡ fault) × (its_name.now ≡ name)
 IsOfSearch name searched outcome = ⊥
+
 -- it ended well where the runs are the same, and else that they differ; a fault is that of a play
 abbrev pub IsOfSame : Result Bool PlayFault → RequestEnd → Type 0
 IsOfSame (Ok true) (Ok done) = Unit {0}
