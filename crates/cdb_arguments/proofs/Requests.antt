@@ -88,17 +88,93 @@ record Differs (question : Question) : Type 0 where
 
 differs : (question : Question) → Differs question
 differs (Explain step) =
-    record { play = refl; race = refl; debug = refl; replay = refl; search = refl; same = refl; clocks = refl; shrink = refl; page = refl; from_play = refl;
-      from_race = refl; from_debug = refl; from_replay = refl; from_search = refl; from_same = refl; from_clocks = refl; from_shrink = refl; from_page = refl; own = refl }
+    record {
+      play = refl;
+      race = refl;
+      debug = refl;
+      replay = refl;
+      search = refl;
+      same = refl;
+      clocks = refl;
+      shrink = refl;
+      page = refl;
+      from_play = refl;
+      from_race = refl;
+      from_debug = refl;
+      from_replay = refl;
+      from_search = refl;
+      from_same = refl;
+      from_clocks = refl;
+      from_shrink = refl;
+      from_page = refl;
+      own = refl;
+    }
 differs (Trail step) =
-    record { play = refl; race = refl; debug = refl; replay = refl; search = refl; same = refl; clocks = refl; shrink = refl; page = refl; from_play = refl;
-      from_race = refl; from_debug = refl; from_replay = refl; from_search = refl; from_same = refl; from_clocks = refl; from_shrink = refl; from_page = refl; own = refl }
+    record {
+      play = refl;
+      race = refl;
+      debug = refl;
+      replay = refl;
+      search = refl;
+      same = refl;
+      clocks = refl;
+      shrink = refl;
+      page = refl;
+      from_play = refl;
+      from_race = refl;
+      from_debug = refl;
+      from_replay = refl;
+      from_search = refl;
+      from_same = refl;
+      from_clocks = refl;
+      from_shrink = refl;
+      from_page = refl;
+      own = refl;
+    }
 differs (Draw step) =
-    record { play = refl; race = refl; debug = refl; replay = refl; search = refl; same = refl; clocks = refl; shrink = refl; page = refl; from_play = refl;
-      from_race = refl; from_debug = refl; from_replay = refl; from_search = refl; from_same = refl; from_clocks = refl; from_shrink = refl; from_page = refl; own = refl }
+    record {
+      play = refl;
+      race = refl;
+      debug = refl;
+      replay = refl;
+      search = refl;
+      same = refl;
+      clocks = refl;
+      shrink = refl;
+      page = refl;
+      from_play = refl;
+      from_race = refl;
+      from_debug = refl;
+      from_replay = refl;
+      from_search = refl;
+      from_same = refl;
+      from_clocks = refl;
+      from_shrink = refl;
+      from_page = refl;
+      own = refl;
+    }
 differs (Slice step) =
-    record { play = refl; race = refl; debug = refl; replay = refl; search = refl; same = refl; clocks = refl; shrink = refl; page = refl; from_play = refl;
-      from_race = refl; from_debug = refl; from_replay = refl; from_search = refl; from_same = refl; from_clocks = refl; from_shrink = refl; from_page = refl; own = refl }
+    record {
+      play = refl;
+      race = refl;
+      debug = refl;
+      replay = refl;
+      search = refl;
+      same = refl;
+      clocks = refl;
+      shrink = refl;
+      page = refl;
+      from_play = refl;
+      from_race = refl;
+      from_debug = refl;
+      from_replay = refl;
+      from_search = refl;
+      from_same = refl;
+      from_clocks = refl;
+      from_shrink = refl;
+      from_page = refl;
+      own = refl;
+    }
 
 play_is : (found : Option (Text × List Row)) (rows : List Row) (setup script : Text) (asked : Asked) → found ≡ Some (codes "play", rows)
     → PlayRows setup script rows → NamesAsked found asked → IsPlayOf setup script asked

@@ -40,16 +40,20 @@ pub record AreKept (history : List Event) (end : ℕ) (rows : List (List (List �
 
 -- the clock has what has led to these events, and only what has led to the event at a position
 pub record HasLedOf (history : List Event) (at : ℕ) (names : List StepId) (clock : List ℕ) : Type 0 where
-  pub only : (other q l : ℕ) (kind : Kind) → nth history other ≡ Some (Step q l kind) → l ≤ count_of clock q → HasLedTo depends history at other
+  pub only : (other q l : ℕ) (kind : Kind) → nth history other ≡ Some (Step q l kind)
+      → l ≤ count_of clock q → HasLedTo depends history at other
   pub each : (i cause : ℕ) (name : StepId) → slice_get names i ≡ Some name → IsNamedAt history cause name
-      → (other q l : ℕ) (kind : Kind) → nth history other ≡ Some (Step q l kind) → HasLedTo depends history cause other → l ≤ count_of clock q
+      → (other q l : ℕ) (kind : Kind) → nth history other ≡ Some (Step q l kind)
+      → HasLedTo depends history cause other → l ≤ count_of clock q
   pub last : (q : ℕ) → (count_of clock q ≡ 0) ⊎ HasStep history q (count_of clock q)
 
--- where the event stands behind a position up to which the rows have the clocks, they have its own too, and this is it, if it is a step
+-- where the event stands behind a position up to which the rows have the clocks, they have its own too, and this is
+-- it, if it is a step
 abbrev pub IsClockIfStep : List Event → ℕ → Event → List ℕ → Type 0
 IsClockIfStep history at (Step p k kind) clock = IsClock history at clock
 IsClockIfStep history at (Lost copy) clock = Unit {0}
 
 abbrev pub GivesNext : List Event → Event → List (List (List ℕ)) → List (List (List ℕ)) → List ℕ → Type 0
 GivesNext history event old new clock =
-    (end : ℕ) → nth history (suc end) ≡ Some event → AreKept history end old → AreKept history (suc end) new × IsClockIfStep history (suc end) event clock
+    (end : ℕ) → nth history (suc end) ≡ Some event → AreKept history end old
+    → AreKept history (suc end) new × IsClockIfStep history (suc end) event clock

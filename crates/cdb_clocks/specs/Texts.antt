@@ -25,7 +25,8 @@ comma_text false = codes ","
 abbrev pub entries_text : ℕ → Bool → List ℕ → List ℕ
 entries_text q is_first [] = []
 entries_text q is_first (zero ∷ numbers) = entries_text (suc q) is_first numbers
-entries_text q is_first (suc n ∷ numbers) = comma_text is_first ++ entry_text q (suc n) ++ entries_text (suc q) false numbers
+entries_text q is_first (suc n ∷ numbers) =
+    comma_text is_first ++ entry_text q (suc n) ++ entries_text (suc q) false numbers
 
 -- `pP {"pQ":N,..}`, as a line
 abbrev pub clock_text : ℕ → List ℕ → List ℕ
@@ -51,5 +52,6 @@ IsClocksText rules run text =
 
 -- the lines of an event that did that, where the run stands so after it
 abbrev pub step_text : (Parts → Rules) → RunView → Deed → List ℕ → Event → List ℕ
-step_text rules after did clock (Step p k kind) = clock_text p clock ++ line_text rules Shown after did after (Step p k kind)
+step_text rules after did clock (Step p k kind) =
+    clock_text p clock ++ line_text rules Shown after did after (Step p k kind)
 step_text rules after did clock (Lost copy) = []

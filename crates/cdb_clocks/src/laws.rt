@@ -11,7 +11,8 @@ ghost use Rattle.cdb_clocks.specs.Clocks.{IsClock, IsUpTo};
 ghost use Rattle.cdb_standing.specs.Comparing.{steps_by, AreNumbered};
 ghost use Rattle.cdb_standing.specs.Cuts.{cut_of as count_of};
 
-/// A clock has of each process how many of its steps are among the events that have led to its event, where the steps of the
+/// A clock has of each process how many of its steps are among the events that have led to its event, where the steps
+/// of the
 /// process are numbered in their order, as every history has them.
 pub fn clock_counts_steps()
     ensures { (history : List Event) (at q : ℕ) (clock : List ℕ) (led others : List Event) →

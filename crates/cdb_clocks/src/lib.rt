@@ -1,4 +1,5 @@
-//! Vector clocks of the standing steps of a run: of each process, how many of its steps have led to a step. The functions of
+//! Vector clocks of the standing steps of a run: of each process, how many of its steps have led to a step. The
+//! functions of
 //! `laws` do nothing: the contract of each is the law.
 //!
 //! ```text

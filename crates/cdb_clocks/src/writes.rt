@@ -29,15 +29,19 @@ fn write_clocks<T: Telling, W: Sink>(
     Ok(())
 }
 
-/// Writes the standing steps of the run that a script leaves, in their order, each in two lines: its process with its clock, and
-/// what it did, as an explanation has it. A clock has of each process how many of its steps have led to the step, itself
+/// Writes the standing steps of the run that a script leaves, in their order, each in two lines: its process with its
+/// clock, and
+/// what it did, as an explanation has it. A clock has of each process how many of its steps have led to the step,
+/// itself
 /// included; losses are left out.
 ///
-/// The setup is read first, then the whole script, which is carried out. The text is whole before any of it is written. So after
+/// The setup is read first, then the whole script, which is carried out. The text is whole before any of it is
+/// written. So after
 /// `Write` what was written is a beginning of the text, and after any other fault nothing was written. `Read` never
 /// comes.
 ///
-/// Promise: The clocks that are written have, for each standing step and each process, how many steps of the process have led to
+/// Promise: The clocks that are written have, for each standing step and each process, how many steps of the process
+/// have led to
 /// that step, itself included. After a fault nothing was written, but after a failed write a beginning.
 pub fn clocks<T: Telling, W: Sink>(
     alloc: Global,

@@ -9,7 +9,8 @@ use Rattle.cdb_program.specs.Known.{Seen}
 use Rattle.cdb_program.specs.Outcomes.{RequestEnd, IsOfPlay}
 use Rattle.cdb_program.specs.Reading.{ReadsThen}
 
--- The clocks of the run that a script leaves on the setup of this text were written so. The output is seen before and after.
+-- The clocks of the run that a script leaves on the setup of this text were written so. The output is seen before and
+-- after.
 pub record AreWritten (json script : List ℕ) (written : Result (Unit {0}) PlayFault) (old new : Stream) : Type 0 where
   pub wrote : IsWritten itself (clocks_ending written) old new (WritesClocks rules json script)
   pub fault : IfErr written (IsFaultOfClocks json script)

@@ -9,7 +9,8 @@ use Rattle.cdb_program.specs.Known.{Seen}
 use Rattle.cdb_program.specs.Outcomes.{RequestEnd, IsOfSame}
 use Rattle.cdb_program.specs.Reading.{ReadsThen}
 
--- A comparison of the runs that two scripts leave on the setup of this text ended so. The output is seen before and after.
+-- A comparison of the runs that two scripts leave on the setup of this text ended so. The output is seen before and
+-- after.
 pub record IsCompared (json first second : List ℕ) (told : Result Bool PlayFault) (old new : Stream) : Type 0 where
   pub wrote : IsWritten itself (same_ending told) old new (ComparesText rules json first second)
   pub same : IfOk told (TellsSame rules json first second)

@@ -43,5 +43,5 @@ AreCounts history end counts =
 -- the event stands in the other history behind each of its direct causes in the one
 abbrev pub HasCausesBefore : List Event → List Event → Event → Type 0
 HasCausesBefore history others effect =
-    (x y : ℕ) (cause : Event) → IsDirectCause depends history x y → nth history x ≡ Some cause → nth history y ≡ Some effect
-    → IsBefore cause effect others
+    (x y : ℕ) (cause : Event) → IsDirectCause depends history x y → nth history x ≡ Some cause
+    → nth history y ≡ Some effect → IsBefore cause effect others

@@ -26,7 +26,8 @@ use Rattle.cdb_same.specs.declared.compare.Comparison.{Comparison}
 
 -- the text shows how the two histories compare
 abbrev pub IsTextOfTwo : List Event → List Event → List ℕ → Type 0
-IsTextOfTwo history other text = (found : Comparison) × IsComparison history other found × (text ≡ comparison_text found)
+IsTextOfTwo history other text =
+    (found : Comparison) × IsComparison history other found × (text ≡ comparison_text found)
 
 -- this holds of the runs that the two scripts leave
 abbrev pub OfRunsLeft : (Parts → Rules) → List ℕ → List ℕ → List ℕ → (RunView → RunView → Type 0) → Type 0
@@ -58,7 +59,8 @@ IsFaultOfOutput fault = (why : OutputFault) × (fault ≡ of_output why)
 -- the first fault of the setup, or of the only script; or an allocation failed
 abbrev pub IsFaultOfRun : List ℕ → List ℕ → PlayFault → Type 0
 IsFaultOfRun json bytes (Setup fault) = IsFirstFault fault json
-IsFaultOfRun json bytes (Line number line fault) = (number ≡ 1) × IsSetup json × IsFaultOfScript (script.Line line fault) bytes
+IsFaultOfRun json bytes (Line number line fault) =
+    (number ≡ 1) × IsSetup json × IsFaultOfScript (script.Line line fault) bytes
 IsFaultOfRun json bytes (ScriptTooLong number) = (number ≡ 1) × IsSetup json × IsFaultOfScript script.TooLong bytes
 IsFaultOfRun json bytes Read = ⊥
 IsFaultOfRun json bytes Write = ⊥
@@ -79,8 +81,10 @@ IsFaultOfEither number fault first second =
 -- the first fault of the setup, of the first script, or of the second; or the writer failed, or an allocation
 abbrev pub IsFaultOfSame : List ℕ → List ℕ → List ℕ → PlayFault → Type 0
 IsFaultOfSame json first second (Setup fault) = IsFirstFault fault json
-IsFaultOfSame json first second (Line number line fault) = IsSetup json × IsFaultOfEither number (script.Line line fault) first second
-IsFaultOfSame json first second (ScriptTooLong number) = IsSetup json × IsFaultOfEither number script.TooLong first second
+IsFaultOfSame json first second (Line number line fault) =
+    IsSetup json × IsFaultOfEither number (script.Line line fault) first second
+IsFaultOfSame json first second (ScriptTooLong number) =
+    IsSetup json × IsFaultOfEither number script.TooLong first second
 IsFaultOfSame json first second Read = ⊥
 IsFaultOfSame json first second Write = IsSetup json
 IsFaultOfSame json first second (NoMemory refused) = length json ≤ longest

@@ -16,4 +16,5 @@ comparison_text Same = codes "same run\n"
 comparison_text (Alone which event) =
     codes "different runs\n" ++ which_text which ++ codes " alone " ++ event_text event ++ codes "\n"
 comparison_text (OtherOrder first second) =
-    codes "different runs\n" ++ codes "other order " ++ event_text first ++ codes ", " ++ event_text second ++ codes "\n"
+    codes "different runs\n"
+    ++ codes "other order " ++ event_text first ++ codes ", " ++ event_text second ++ codes "\n"

@@ -23,7 +23,8 @@ pub enum Comparison {
     Same,
     /// The event stands in this run alone.
     Alone(Which, Event),
-    /// The events depend on each other and stand in both runs: in this order in the first, and turned round in the second.
+    /// The events depend on each other and stand in both runs: in this order in the first, and turned round in the
+    /// second.
     OtherOrder(Event, Event),
 }
 

@@ -1,4 +1,5 @@
-//! Whether two scripts leave the same run, and else what tells their runs apart. The functions of `laws` do nothing: the
+//! Whether two scripts leave the same run, and else what tells their runs apart. The functions of `laws` do nothing:
+//! the
 //! contract of each is the law.
 //!
 //! ```text

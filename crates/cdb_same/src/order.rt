@@ -1,4 +1,5 @@
-//! Events that stand in the other order in another history. The other one is gone through in its order, and of each process it is
+//! Events that stand in the other order in another history. The other one is gone through in its order, and of each
+//! process it is
 //! known how many steps have come: the direct causes of the next event have to be among them.
 
 ghost use Rattle.std.specs.Prelude.{◌≡◌, ◌↔◌, ℕ, ◌≤◌, suc, IsTrue, MatchOption, Some};
@@ -14,7 +15,8 @@ use cdb_base::{Event, Proc, StepId};
 use cdb_standing::History;
 use std::alloc::Global;
 
-/// Whether the event of that name has come: a step up to the count of its process. On a loss nothing depends, so none is waited
+/// Whether the event of that name has come: a step up to the count of its process. On a loss nothing depends, so none
+/// is waited
 /// for.
 fn has_come(counts: &[u16; 9], name: &StepId) -> bool
     ensures { IsTrue result ↔ HasCome counts.now name.now }
@@ -75,7 +77,8 @@ fn count(counts: &mut [u16; 9], history: &History, event: &Event)
     }
 }
 
-/// Two events that depend on each other and stand in both histories, in this order in the first, and turned round in the
+/// Two events that depend on each other and stand in both histories, in this order in the first, and turned round in
+/// the
 /// second: of those that come last the first in the second history.
 pub(crate) fn other_order(
     alloc: Global,

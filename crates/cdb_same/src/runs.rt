@@ -30,11 +30,14 @@ pub fn history_of<T: Runs>(alloc: Global, run: &Trace) -> Result<History, NoMemo
     Ok(history)
 }
 
-/// How two runs compare: whether exchanges of independent neighbours lead from the history of one to that of the other, or
+/// How two runs compare: whether exchanges of independent neighbours lead from the history of one to that of the
+/// other, or
 /// which event stands in one alone, or which two that depend on each other stand in other orders. Each is played again.
 ///
-/// Promise: Two runs are shown to be the same exactly where exchanges of independent neighbours lead from one history to the
-/// other. Else an event is named that stands in one alone, or two that depend on each other, in the order of the first, which
+/// Promise: Two runs are shown to be the same exactly where exchanges of independent neighbours lead from one history
+/// to the
+/// other. Else an event is named that stands in one alone, or two that depend on each other, in the order of the
+/// first, which
 /// stand turned round in the second.
 pub fn compare_runs<T: Runs>(
     alloc: Global,

@@ -41,7 +41,8 @@ fn as_second(fault: PlayFault) -> PlayFault
 fn second_run_of<T: Runs>(alloc: Global, setup: &[u8], script: &[u8]) -> Result<Trace, PlayFault>
     ensures left { IfOk result (IsRunLeft T.rules setup.now script.now) }
     ensures valid { IfOk result (IsInOrder T.rules) }
-    ensures fault { IfErr result (λ fault. (its : PlayFault) × (fault ≡ as_second its) × IsFaultOfRun setup.now script.now its) }
+    ensures fault { IfErr result (λ fault.
+        (its : PlayFault) × (fault ≡ as_second its) × IsFaultOfRun setup.now script.now its) }
 {
     match run_of::<T>(alloc, setup, script) {
         Ok(run) => Ok(run),
@@ -71,11 +72,13 @@ fn write_comparison<T: Runs, W: Sink>(
 
 /// Writes how the runs compare that two scripts leave on one setup, and returns whether they are the same run.
 ///
-/// The setup is read first, then the first script, which is carried out, and then the second. The text is whole before any of it
+/// The setup is read first, then the first script, which is carried out, and then the second. The text is whole
+/// before any of it
 /// is written. So after `Write` what was written is a beginning of the text, and after any other fault nothing was
 /// written. A fault of a script has its number, 1 or 2; `Read` never comes.
 ///
-/// Promise: Two scripts are told to leave the same run exactly where exchanges of independent neighbours lead from one history
+/// Promise: Two scripts are told to leave the same run exactly where exchanges of independent neighbours lead from
+/// one history
 /// to the other. Else what is written names an event that stands in one run alone, or two that depend on each other, in
 /// the order of the first run, which stand turned round in the second. After a fault nothing was written, but after a
 /// failed write a beginning.
