@@ -1,7 +1,9 @@
 pub mod FinalJournal
-pub mod Kept
+pub mod Promised
+pub mod KeptEntries
 pub mod SetupFaults
 pub mod AllSeats
+pub mod Ended
 pub mod FailureLines
 pub mod SeatCalls
 pub mod Writable

@@ -9,12 +9,14 @@
 #![tactic(auto)]
 
 mod endpoint;
+mod keeping;
 mod reports;
 mod seat;
 mod shared;
 mod threads;
 
 pub use endpoint::{Endpoint, Finished, Opener};
+pub use keeping::Kept;
 pub use reports::{status_after, write_failures, write_journal};
 pub use shared::debug_shared;
 pub use threads::{SessionsFault, debug_seats};
