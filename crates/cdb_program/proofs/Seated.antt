@@ -1,6 +1,6 @@
 -- Seats are found one after the other, and what is known of their sessions.
-use Rattle.std.proofs.Common.{◌≡◌, ℕ, suc, ◌+◌, ◌<◌, List, [], ◌∷◌, ◌++◌, length, get_or, take, drop, map, Bor, refl, sym, ap, subst, ◌∙◌, append_assoc, arith}
-use Rattle.std.specs.Prelude.{Option, Some, None, option_map, Result, Ok, Err}
+use Rattle.std.proofs.Common.{◌≡◌, ℕ, zero, suc, ◌+◌, ◌<◌, List, [], ◌∷◌, ◌++◌, length, get_or, take, drop, map, Bor, refl, sym, ap, subst, ◌∙◌, append_assoc, arith}
+use Rattle.std.specs.Prelude.{Option, Some, None, option_map, Result, Err}
 use Rattle.std.proofs.lemmas.List.{length-map, get_or-map}
 use Rattle.cdb_session.specs.Moves.{Known}
 use Rattle.cdb_shared_session.specs.Openings.{SeatSeen}
@@ -8,7 +8,7 @@ use Rattle.cdb_shared_session.specs.SharedSessions.{HasEnded, IsFinished}
 use Rattle.cdb_shared_session.specs.Reported.{RunsSessions}
 use Rattle.cdb_shared_session.specs.Reports.{outcomes, failures_text, status_of}
 use Rattle.cdb_shared_session.specs.declared.endpoint.Finished.{Finished}
-use Rattle.cdb_control.specs.Journal.{Journaled}
+use Rattle.cdb_shared_session.proofs.Ended.{ended_by}
 use Rattle.cdb_rules.specs.Rules.{Rules}
 use Rattle.cdb_setup.specs.Parts.{Parts}
 use Rattle.cdb_streams.specs.declared.fault.PlayFault.{PlayFault}
@@ -24,7 +24,6 @@ use Rattle.cdb_program.specs.Seating.{AreOpenersOf, CanOpenSeat, FindsSeat, IsFa
 use Rattle.cdb_streams.specs.Endings.{whole_ending}
 use Rattle.cdb_streams.specs.Streams.{Stream, Writes}
 use Rattle.cdb_streams.specs.declared.sink.Failed.{Failed}
-use Rattle.cdb_streams.specs.Written.{IsWritten, Only}
 use Rattle.cdb_program.proofs.Seen.{stream_written, stream_writes}
 use Rattle.cdb_program.proofs.Opening.{read_none, opened_then, failed_then, fails_before, one_more_name, taken_and_left}
 
@@ -112,7 +111,7 @@ module _ {P : Type 0} (opens : P → Result SeatSeen ReadFault → Type 0) where
   opener_at files [] [] k n p are low = absurd (omega arith)
   opener_at files [] (opener ∷ openers) k n p are low = absurd are
   opener_at files (name ∷ names) [] k n p are low = absurd are
-  opener_at files (name ∷ names) (opener ∷ openers) 0 n p are low = are.0
+  opener_at files (name ∷ names) (opener ∷ openers) zero n p are low = are.0
   opener_at files (name ∷ names) (opener ∷ openers) (suc k) n p are low = opener_at files names openers k n p are.1 (omega arith)
 
 -- ---- what is known of their sessions
@@ -120,12 +119,6 @@ module _ {P : Type 0} (opens : P → Result SeatSeen ReadFault → Type 0) where
 some_of : {A : Type 0} (xs : List A) → 0 < length xs → A
 some_of [] low = absurd (omega arith)
 some_of (x ∷ xs) low = x
-
--- what came of a seat, where all that its opener can give is of this kind
-ended_by : (rules : Parts → Rules) (c : Journaled) (seat : ℕ) (Opens Others : Result SeatSeen ReadFault → Type 0) → ((opened : Result SeatSeen ReadFault) → Opens opened → Others opened)
-    → (ended : Option Known) (outcome : Result (Unit {0}) PlayFault) → HasEnded rules c seat Opens ended outcome → HasEnded rules c seat Others ended outcome
-ended_by rules c seat Opens Others of (Some ended) outcome (opened, opens, held) = (opened, of (Ok opened) opens, held)
-ended_by rules c seat Opens Others of None outcome (fault, opens, unopened) = (fault, of (Err fault) opens, unopened)
 
 same_known : (ended : Option Known) → option_map (λ (k : Known). k) ended ≡ ended
 same_known (Some ended) = refl

@@ -22,11 +22,7 @@ use std::thread::Threads;
 ///
 /// # Errors
 /// `Play(Read, name)` where it is refused, and `Play(NoMemory, name)` where an allocation fails.
-fn find_one<'a, F: Files>(
-    alloc: Global,
-    files: &mut F,
-    name: &'a str,
-) -> Result<F::Seat, Fault<'a>>
+fn find_one<'a, F: Files>(alloc: Global, files: &mut F, name: &'a str) -> Result<F::Seat, Fault<'a>>
     ensures opened { IfOk result
         (λ _. F.seen files.new ≡ after_opening (F.seen files.old) (name.entry.now ∷ [])) }
     ensures seat { IfOk result (IsOpenerOf F.Seat.opens (F.seen files.old) name.entry.now) }

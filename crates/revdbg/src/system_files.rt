@@ -12,8 +12,8 @@ use cdb_shared_session::{Endpoint, Opener};
 use cdb_streams::{Input, Output, ReadFault, read_up_to};
 use std::alloc::Global;
 use std::fs::{File, Metadata};
-use std::{fs, io};
 use std::io::{ErrorKind, IsTerminal};
+use std::{fs, io};
 
 /// What the session of a seat reads from and writes to.
 type SeatConsole = Streams<Input<File>, Output<File>>;
@@ -88,18 +88,18 @@ fn fault_of(error: &io::Error) -> ReadFault
 
 /// A seat of the system, whose streams are not open yet.
 #[derive(Drop)]
-pub struct SystemSeat<'a> {
-    rt: &'a HostRuntime,
+pub struct SystemSeat {
+    rt: HostRuntime,
     name: String,
 }
 
-impl<'a> Opener for SystemSeat<'a> {
+impl Opener for SystemSeat {
     type Seat = SeatConsole;
 
     ghost opens = { λ seat opened. Unit {0} };
 
     fn open(self, _alloc: Global) -> Result<Endpoint<SeatConsole>, ReadFault> {
-        match seat_of(self.rt, self.name.as_str()) {
+        match seat_of(&self.rt, self.name.as_str()) {
             Ok(endpoint) => Ok(endpoint),
             Err(error) => Err(fault_of(&error)),
         }
@@ -107,7 +107,7 @@ impl<'a> Opener for SystemSeat<'a> {
 }
 
 impl<'a> Files for SystemFiles<'a> {
-    type Seat = SystemSeat<'a>;
+    type Seat = SystemSeat;
 
     ghost use Rattle.std.specs.Prelude.{[], None};
 
@@ -129,12 +129,12 @@ impl<'a> Files for SystemFiles<'a> {
         read
     }
 
-    fn find_seat(&mut self, alloc: Global, name: &str) -> Result<SystemSeat<'a>, ReadFault> {
+    fn find_seat(&mut self, alloc: Global, name: &str) -> Result<SystemSeat, ReadFault> {
         if writes_over(self.rt, name) {
             self.failures = self.failures.wrapping_add(1);
             return Err(ReadFault::Failed);
         }
-        let rt = self.rt;
+        let rt = *self.rt;
         let name = String::from_str(alloc, name)?;
         Ok(SystemSeat { rt, name })
     }

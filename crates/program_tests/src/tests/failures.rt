@@ -274,7 +274,9 @@ fn each_read_of_input_fails_in_turn(rt: HostRuntime) {
 }
 
 #[test]
-fn the_kth_session_is_that_of_the_kth_name_and_one_that_cannot_be_opened_ends_alone(rt: HostRuntime) -> Result<(), Fail> {
+fn the_kth_session_is_that_of_the_kth_name_and_one_that_cannot_be_opened_ends_alone(
+    rt: HostRuntime,
+) -> Result<(), Fail> {
     let shared = Request::DebugShared {
         setup: "two.json",
         seats: &["decisions.txt", "redo.txt", "shut", "decisions.txt"],
@@ -287,6 +289,9 @@ fn the_kth_session_is_that_of_the_kth_name_and_one_that_cannot_be_opened_ends_al
     }
     assert_eq!(rt; journal.len(), 31);
     let error = str::from_utf8(ended.error.as_slice())?;
-    assert_eq!(rt; (ended.status, error), (3, "seat 3: cannot read the input\n"));
+    assert_eq!(rt;
+        (ended.status, error),
+        (3, "seat 3: cannot read the input\n")
+    );
     Ok(())
 }

@@ -90,7 +90,8 @@ fn check_report<R: Abort + AllocGlobal>(rt: &R, seats: &[Finished<Person>]) {
     let mut error = Output::new(Vec::new(rt.alloc()));
     let written = write_failures(seats, &Ok(()), &mut error);
     assert_eq!(rt; written, Ok(()));
-    let text = "seat 1: output failed\nseat 3: cannot read the input\nseat 4: cannot read the input\n";
+    let text =
+        "seat 1: output failed\nseat 3: cannot read the input\nseat 4: cannot read the input\n";
     assert!(rt; error.into_inner().as_slice() == text.as_bytes());
     assert_eq!(rt; status_after(seats, &Ok(())), 7);
 }

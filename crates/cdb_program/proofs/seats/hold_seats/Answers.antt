@@ -27,7 +27,7 @@ returns-in-Ok-clause-sessions g c =
     rw (← c.outside.view_is) (
       c.in_ok-json.json.items,
       (opened_then _ _ _ (c.args.setup.now ∷ []) names c.in_ok-json.ensures.0 c.in_ok-openers.ensures.opened, c.in_ok-json.ensures.1.0),
-      rw (← c.as_slice.ensures.value) (holds_seen rules g.F.Seat.Opener.Seat.Console.known opens g.O.Sink.stream g.E.Sink.stream _ names _ openers _ _ _ _ _ seats c.in-Ok.ensures.sessions),
+      rw (← c.as_slice.ensures.value) (holds_seen rules g.F.Seat.Seat.Console.known opens g.O.Sink.stream g.E.Sink.stream (g.F.Files.seen c.outside.inside.files) names _ openers _ _ _ _ _ seats c.in-Ok.ensures.sessions),
     )
 
 pub returns-clause-fault : goal.returns-clause-fault
