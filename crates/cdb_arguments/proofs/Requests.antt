@@ -36,7 +36,7 @@ script_is found Script none asks = refl
 script_is found (Play a b) none asks = absurd (none-some _ (sym none ∙ asks.1))
 script_is found (Race a n b) none asks = absurd (none-some _ (sym none ∙ asks.1))
 script_is found (Ask a b q) none asks = absurd (none-some _ (sym none ∙ asks.1))
-script_is found (Debug a b) none asks = absurd (none-some _ (sym none ∙ asks.1))
+script_is found (Debug a b f) none asks = absurd (none-some _ (sym none ∙ asks.1))
 script_is found (Replay a b) none asks = absurd (none-some _ (sym none ∙ asks.1))
 
 some_same : {X : Type 0} (a b : X) → Some a ≡ Some b → a ≡ b
@@ -87,7 +87,7 @@ play_is found rows setup script (Play a b) is have asks =
 play_is found rows setup script (Race a n b) is have asks = absurd (other_name found _ (codes "race") rows asks.0 is asks.1 refl refl)
 play_is found rows setup script (Ask a b q) is have asks = absurd (other_name found _ (question_name q) rows asks.0 is asks.1 (differs q).play refl)
 play_is found rows setup script (Replay a b) is have asks = absurd (other_name found _ (codes "replay") rows asks.0 is asks.1 refl refl)
-play_is found rows setup script (Debug a b) is have asks = absurd (other_name found _ (codes "debug") rows asks.0 is asks.1 refl refl)
+play_is found rows setup script (Debug a b f) is have asks = absurd (other_name found _ (codes "debug") rows asks.0 is asks.1 refl refl)
 
 race_is : (found : Option (Text × List Row)) (rows : List Row) (setup text : Text) (turns : ℕ) (scripts : List Text) (asked : Asked)
     → found ≡ Some (codes "race", rows) → RaceRows setup text scripts rows → IsNumberOfTurns text turns → NamesAsked found asked → IsRaceOf setup turns scripts asked
@@ -95,7 +95,7 @@ race_is found rows setup text turns scripts Script is have number asks = absurd 
 race_is found rows setup text turns scripts (Play a b) is have number asks = absurd (other_name found _ (codes "play") rows asks.0 is asks.1 refl refl)
 race_is found rows setup text turns scripts (Ask a b q) is have number asks = absurd (other_name found _ (question_name q) rows asks.0 is asks.1 (differs q).race refl)
 race_is found rows setup text turns scripts (Replay a b) is have number asks = absurd (other_name found _ (codes "replay") rows asks.0 is asks.1 refl refl)
-race_is found rows setup text turns scripts (Debug a b) is have number asks = absurd (other_name found _ (codes "debug") rows asks.0 is asks.1 refl refl)
+race_is found rows setup text turns scripts (Debug a b f) is have number asks = absurd (other_name found _ (codes "debug") rows asks.0 is asks.1 refl refl)
 race_is found rows setup text turns scripts (Race a n b) is have number asks =
     let same = same_rows found (codes "race") (codes "race") rows asks.0 is asks.1 in
     let its_text : text_at (codes "TURNS") asks.0 ≡ text = ap (text_at (codes "TURNS")) same ∙ ap (λ t. unwrap_or t []) have.1 in
@@ -176,7 +176,7 @@ question_is setup script question words Script line asks = absurd (none-some _ (
 question_is setup script question words (Play a b) line asks = absurd (other_name _ _ (codes "play") line.rows asks.0 line.asked asks.1 (differs question).from_play (differs question).own)
 question_is setup script question words (Race a n b) line asks = absurd (other_name _ _ (codes "race") line.rows asks.0 line.asked asks.1 (differs question).from_race (differs question).own)
 question_is setup script question words (Replay a b) line asks = absurd (other_name _ _ (codes "replay") line.rows asks.0 line.asked asks.1 (differs question).from_replay (differs question).own)
-question_is setup script question words (Debug a b) line asks = absurd (other_name _ _ (codes "debug") line.rows asks.0 line.asked asks.1 (differs question).from_debug (differs question).own)
+question_is setup script question words (Debug a b f) line asks = absurd (other_name _ _ (codes "debug") line.rows asks.0 line.asked asks.1 (differs question).from_debug (differs question).own)
 question_is setup script question words (Ask a b its) line asks =
     let same = same_rows _ (question_name question) (question_name its) line.rows asks.0 line.asked asks.1 in
     let names = same_names _ (question_name question) (question_name its) line.rows asks.0 line.asked asks.1 in (
@@ -192,10 +192,11 @@ debug_is setup seats words (Play a b) line asks = absurd (other_name _ _ (codes 
 debug_is setup seats words (Race a n b) line asks = absurd (other_name _ _ (codes "race") line.rows asks.0 line.asked asks.1 refl refl)
 debug_is setup seats words (Ask a b q) line asks = absurd (other_name _ _ (question_name q) line.rows asks.0 line.asked asks.1 (differs q).debug refl)
 debug_is setup seats words (Replay a b) line asks = absurd (other_name _ _ (codes "replay") line.rows asks.0 line.asked asks.1 refl refl)
-debug_is setup seats words (Debug a b) line asks =
+debug_is setup seats words (Debug a b f) line asks =
     let same = same_rows _ (codes "debug") (codes "debug") line.rows asks.0 line.asked asks.1 in (
       asks.2 ∙ ap (text_at (codes "SETUP")) same ∙ ap (λ t. unwrap_or t []) line.setup_at,
       asks.3 ∙ ap (texts_at (codes "SEAT")) same ∙ line.seats_at,
+      asks.4 ∙ ap (first_of (codes "FILE")) same ∙ line.file_at,
     )
 
 replay_is : (setup journal : Text) (words : List Text) (asked : Asked) → JournalLine setup journal words → NamesAsked (subcommand_of program words) asked → IsReplayOf setup journal asked
@@ -203,7 +204,7 @@ replay_is setup journal words Script line asks = absurd (none-some _ (sym asks �
 replay_is setup journal words (Play a b) line asks = absurd (other_name _ _ (codes "play") line.rows asks.0 line.asked asks.1 refl refl)
 replay_is setup journal words (Race a n b) line asks = absurd (other_name _ _ (codes "race") line.rows asks.0 line.asked asks.1 refl refl)
 replay_is setup journal words (Ask a b q) line asks = absurd (other_name _ _ (question_name q) line.rows asks.0 line.asked asks.1 (differs q).replay refl)
-replay_is setup journal words (Debug a b) line asks = absurd (other_name _ _ (codes "debug") line.rows asks.0 line.asked asks.1 refl refl)
+replay_is setup journal words (Debug a b f) line asks = absurd (other_name _ _ (codes "debug") line.rows asks.0 line.asked asks.1 refl refl)
 replay_is setup journal words (Replay a b) line asks =
     let same = same_rows _ (codes "replay") (codes "replay") line.rows asks.0 line.asked asks.1 in (
       asks.2 ∙ ap (text_at (codes "SETUP")) same ∙ ap (λ t. unwrap_or t []) line.setup_at,

@@ -220,10 +220,10 @@ impl<T: Runs> Shared<T> {
         ensures headline { HasHeadline T.rules T.same_state result }
     {
         let Shared { turn } = self;
-        let mut pass = gather(&turn, seats);
+        let mut all = gather(&turn, seats);
         let Watch { pass: other } = watch;
-        turn.absorb::<AllSeats>(&mut pass, other);
-        let control = take(rt, &turn, &mut pass);
+        turn.absorb::<AllSeats>(&mut all, other);
+        let control = take(rt, &turn, &mut all);
         // Its clause says that the headline holds of the journal.
         control.journal();
         control

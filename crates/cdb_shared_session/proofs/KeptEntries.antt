@@ -3,7 +3,7 @@ use Rattle.std.proofs.lemmas.Grind.{common_steps, flat_map-append}
 use Rattle.std.proofs.lemmas.Option.{gets}
 use Rattle.std.proofs.Common.{◌≡◌, ℕ, zero, suc, ◌-◌, ◌≤◌, List, [], ◌∷◌, ◌++◌, length, take, drop, refl, sym, ap, subst, ◌∙◌, arith, append-nil, length-append, take-append-drop}
 use Rattle.std.proofs.KnownBytes.{Appends-nil}
-use Rattle.std.specs.Prelude.{Option, Some, None, IfSome, IfOk, Result, Ok, Err}
+use Rattle.std.specs.Prelude.{Option, Some, None, option_map, IfSome, IfOk, Result, Ok, Err}
 use Rattle.cdb_control.specs.Journal.{Begins}
 use Rattle.cdb_control.specs.declared.control.Entry.{Entry}
 use Rattle.cdb_journal.specs.Journals.{entry_line, journal_text}
@@ -14,7 +14,7 @@ use Rattle.cdb_streams.specs.declared.buffer.OutputFault.{OutputFault}
 use Rattle.cdb_streams.specs.declared.buffer.OutputFault.TheVariants as output
 use Rattle.cdb_streams.specs.declared.sink.Failed.{Failed}
 use Rattle.cdb_shared_session.specs.declared.keeping.Kept.{Kept}
-use Rattle.cdb_shared_session.specs.Keeping.{AreKept, HasKept, IsKept, Keeps}
+use Rattle.cdb_shared_session.specs.Keeping.{AreKept, HasKept, IsKept, Keeps, kept_outcome}
 use Rattle.cdb_shared_session.proofs.WrittenTexts.{takes_then, fails_then, fails_first}
 
 -- the entries from one number on, up to another and then those behind it
@@ -127,3 +127,24 @@ module _ {J : Type 0} (stream : J → Stream) where
   pub kept_nowhere : (count : Result ℕ Failed) (journal : List Entry) (old : Option J) (seen : List Entry) → AreKept stream old None count seen → HasKept stream old None journal
   kept_nowhere count journal None seen first = tt
   kept_nowhere count journal (Some old) seen first = absurd first
+
+-- ---- what is known of the file
+
+module _ {J : Type 0} (stream : J → Stream) where
+  abbrev pub seen_kept : Kept J → Kept Stream
+  seen_kept kept = record { file = stream kept.file; outcome = kept.outcome }
+
+  seen_is : (r : Result (Unit {0}) OutputFault) (old new : J) (journal : List Entry) → IsKept stream r old new journal → IsKept (λ (s : Stream). s) r (stream old) (stream new) journal
+  seen_is (Ok done) old new journal kept = kept
+  seen_is (Err output.Write) old new journal kept = kept
+  seen_is (Err (output.NoMemory refused)) old new journal kept = kept
+
+  pub kept_seen : (file : Option J) (kept : Option (Kept J)) (journal : List Entry) → HasKept stream file kept journal → HasKept (λ (s : Stream). s) (option_map stream file) (option_map seen_kept kept) journal
+  kept_seen None None journal has = tt
+  kept_seen None (Some kept) journal has = absurd has
+  kept_seen (Some file) None journal has = absurd has
+  kept_seen (Some file) (Some kept) journal has = seen_is kept.outcome file kept.file journal has
+
+  pub outcome_seen : (kept : Option (Kept J)) → kept_outcome (option_map seen_kept kept) ≡ kept_outcome kept
+  outcome_seen None = refl
+  outcome_seen (Some kept) = refl

@@ -29,7 +29,7 @@ no_refusal (Play setup script) is = is
 no_refusal (Race setup turns scripts) is = is
 no_refusal (Ask setup script question) is = is
 no_refusal (Debug setup prompt) is = is
-no_refusal (DebugShared setup seats) is = is
+no_refusal (DebugShared setup seats file) is = is
 no_refusal (Replay setup journal) is = is
 no_refusal (Refuse fault.NoStep) is = is
 no_refusal (Refuse fault.NoValue) is = is
@@ -50,7 +50,7 @@ module _ (prompt : Text) where
   pub play_request : (setup script : Text) (it : Asked) → IsPlayOf setup script it → (request : Request) → IsRequestOf prompt it request → IsPlayRequest setup script request
   play_request setup script (asked.Play a b) is request of_it = rw (← is.0, ← is.1) of_it
   play_request setup script asked.Script is request of_it = absurd is
-  play_request setup script (asked.Debug a seats) is request of_it = absurd is
+  play_request setup script (asked.Debug a seats file) is request of_it = absurd is
   play_request setup script (asked.Replay a b) is request of_it = absurd is
   play_request setup script (asked.Race a n b) is request of_it = absurd is
   play_request setup script (asked.Ask a b q) is request of_it = absurd is
@@ -58,7 +58,7 @@ module _ (prompt : Text) where
   pub race_request : (setup : Text) (turns : ℕ) (scripts : List Text) (it : Asked) → IsRaceOf setup turns scripts it → (request : Request) → IsRequestOf prompt it request → IsRaceRequest setup turns scripts request
   race_request setup turns scripts (asked.Race a n b) is request of_it = rw (← is.0, ← is.1, ← is.2) of_it
   race_request setup turns scripts asked.Script is request of_it = absurd is
-  race_request setup turns scripts (asked.Debug a seats) is request of_it = absurd is
+  race_request setup turns scripts (asked.Debug a seats file) is request of_it = absurd is
   race_request setup turns scripts (asked.Replay a b) is request of_it = absurd is
   race_request setup turns scripts (asked.Play a b) is request of_it = absurd is
   race_request setup turns scripts (asked.Ask a b q) is request of_it = absurd is
@@ -68,11 +68,11 @@ module _ (prompt : Text) where
   question_request setup script question asked.Script is request of_it = absurd is
   question_request setup script question (asked.Play a b) is request of_it = absurd is
   question_request setup script question (asked.Race a n b) is request of_it = absurd is
-  question_request setup script question (asked.Debug a seats) is request of_it = absurd is
+  question_request setup script question (asked.Debug a seats file) is request of_it = absurd is
   question_request setup script question (asked.Replay a b) is request of_it = absurd is
 
-  pub debug_request : (setup : Text) (seats : List Text) (it : Asked) → IsDebugOf setup seats it → (request : Request) → IsRequestOf prompt it request → IsDebugRequest prompt setup seats request
-  debug_request setup seats (asked.Debug a b) is request of_it = rw (← is.0, ← is.1) of_it
+  pub debug_request : (setup : Text) (seats : List Text) (it : Asked) → IsDebugOf setup seats it → (request : Request) → IsRequestOf prompt it request → IsDebugRequest prompt setup seats None request
+  debug_request setup seats (asked.Debug a b f) is request of_it = rw (← is.0, ← is.1, ← is.2) of_it
   debug_request setup seats asked.Script is request of_it = absurd is
   debug_request setup seats (asked.Play a b) is request of_it = absurd is
   debug_request setup seats (asked.Replay a b) is request of_it = absurd is
@@ -85,7 +85,7 @@ module _ (prompt : Text) where
   replay_request setup journal (asked.Play a b) is request of_it = absurd is
   replay_request setup journal (asked.Race a n b) is request of_it = absurd is
   replay_request setup journal (asked.Ask a b q) is request of_it = absurd is
-  replay_request setup journal (asked.Debug a b) is request of_it = absurd is
+  replay_request setup journal (asked.Debug a b f) is request of_it = absurd is
 
 -- ---- an allocation failed before it was known what is asked for
 
