@@ -22,7 +22,7 @@ use Rattle.cdb_program.specs.declared.fault.Fault.TheVariants.{Play, Race, NoSte
 use Rattle.cdb_streams.specs.Faults.{of_reading}
 use Rattle.cdb_streams.specs.declared.source.ReadFault.{ReadFault}
 use Rattle.cdb_streams.specs.declared.source.ReadFault.TheVariants as reading
-use Rattle.cdb_program.specs.Seating.{AreOpenersOf, CanOpenSeat, FindsSeat, IsEmpty, IsFaultOfSeats, IsNewFile, IsOpenerOf, MakesFile, any_name}
+use Rattle.cdb_program.specs.Seating.{AreOpenersOf, CanOpenSeat, FindsSeat, IsFaultOfSeats, IsOpenerOf, MakesFile, any_name}
 use Rattle.cdb_streams.specs.Endings.{whole_ending}
 use Rattle.cdb_streams.specs.Streams.{Stream, Writes}
 use Rattle.cdb_streams.specs.declared.sink.Failed.{Failed}

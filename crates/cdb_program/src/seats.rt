@@ -4,7 +4,7 @@ ghost use Rattle.std.specs.Prelude.{◌≡◌, ◌≤◌, ◌∷◌, [], length,
 ghost use Rattle.cdb_program.specs.Known.{after_opening};
 ghost use Rattle.cdb_program.specs.Reading.{file_names, FailsToRead};
 ghost use Rattle.cdb_program.specs.Requests.{any_file};
-ghost use Rattle.cdb_program.specs.Seating.{AreOpenersOf, HoldsSeats, IsFaultOfSeats, IsNewFile, IsOpenerOf, PerformsShared, any_name};
+ghost use Rattle.cdb_program.specs.Seating.{AreOpenersOf, HoldsSeats, IsEmpty, IsFaultOfSeats, IsNewFile, IsOpenerOf, PerformsShared, any_name};
 
 use crate::fault::Fault;
 use crate::files::{Files, read_file};
@@ -67,11 +67,28 @@ fn find_each<'a, F: Files>(
     Ok(openers)
 }
 
-/// The file of this name, in which there is nothing; none where there is no name.
+/// The file of this name, in which there is nothing.
 ///
 /// # Errors
 /// `Play(Read, name)` where it has something in it or can't be opened, and `Play(NoMemory, name)` where an allocation
 /// fails.
+fn make_one<'a, F: Files>(alloc: Global, files: &mut F, name: &'a str) -> Result<F::Made, Fault<'a>>
+    ensures opened { IfOk result
+        (λ _. F.seen files.new ≡ after_opening (F.seen files.old) (name.entry.now ∷ [])) }
+    ensures file { IfOk result (λ made. IsEmpty (F.Made.stream made)) }
+    ensures fault { IfErr result
+        (FailsToRead (F.seen files.old) (F.seen files.new) (name.entry.now ∷ [])) }
+{
+    match files.make_file(alloc, name) {
+        Ok(file) => Ok(file),
+        Err(fault) => Err(Fault::Play(PlayFault::from(fault), name)),
+    }
+}
+
+/// The file of this name, in which there is nothing; none where there is no name.
+///
+/// # Errors
+/// Those of `make_one`.
 fn make_any<'a, F: Files>(
     alloc: Global,
     files: &mut F,
@@ -84,12 +101,12 @@ fn make_any<'a, F: Files>(
     ensures fault { IfErr result
         (FailsToRead (F.seen files.old) (F.seen files.new) (any_name (any_file name.entry))) }
 {
-    let Some(name) = name else {
-        return Ok(None);
-    };
-    match files.make_file(alloc, name) {
-        Ok(file) => Ok(Some(file)),
-        Err(fault) => Err(Fault::Play(PlayFault::from(fault), name)),
+    match name {
+        Some(given) => match make_one(alloc, files, given) {
+            Ok(file) => Ok(Some(file)),
+            Err(fault) => Err(fault),
+        },
+        None => Ok(None),
     }
 }
 
