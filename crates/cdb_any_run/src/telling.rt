@@ -1,13 +1,13 @@
 //! What the next event of a run does, by the machine of its algorithm.
 
 ghost use Rattle.std.specs.Prelude.{◌≡◌, IfOk};
-ghost use Rattle.cdb_deeds.specs.Deeds.{deed_by};
+ghost use Rattle.cdb_deeds.specs.Deeds.{deed_by, received_by_each};
 ghost use Rattle.cdb_setup.specs.declared.setup.Algorithm.TheVariants.{Leader as by_leader, Alpha as by_alpha};
 
 use crate::any::{AnyRun, ByMachine};
 use cdb_alpha::Alpha;
 use cdb_base::{Event, Kind, NoMemory, Proc};
-use cdb_deeds::{Deed, Telling, alpha_deed, leader_deed};
+use cdb_deeds::{Deed, ReceivedNames, Telling, alpha_deed, leader_deed};
 use cdb_leader::Leader;
 use cdb_run::Run;
 use std::alloc::Global;
@@ -16,15 +16,15 @@ use std::alloc::Global;
 fn deed_by_leader(
     alloc: Global,
     run: &Run<Leader>,
-    history: &[Event],
+    names: &ReceivedNames,
     p: Proc,
     kind: &Kind,
 ) -> Result<Deed, NoMemory>
-    requires { history.now ≡ run.now.history }
+    requires { names.now ≡ received_by_each run.now.history }
     ensures { IfOk result (λ deed. deed ≡ deed_by by_leader run.now p kind.now) }
 {
     match run.process(u32::from(p.number())) {
-        Some(p) => leader_deed(alloc, run.local(p), p, history, kind),
+        Some(p) => leader_deed(alloc, run.local(p), names.of(p), kind),
         None => Ok(Deed::Nothing),
     }
 }
@@ -40,10 +40,10 @@ fn deed_by_alpha(run: &Run<Alpha>, p: Proc, kind: &Kind) -> Deed
 }
 
 impl Telling for AnyRun {
-    fn deed(&self, alloc: Global, history: &[Event], event: &Event) -> Result<Deed, NoMemory> {
+    fn deed(&self, alloc: Global, names: &ReceivedNames, event: &Event) -> Result<Deed, NoMemory> {
         match event {
             Event::Step { p, kind, .. } => match &self.run {
-                ByMachine::Leader(run) => deed_by_leader(alloc, run, history, *p, kind),
+                ByMachine::Leader(run) => deed_by_leader(alloc, run, names, *p, kind),
                 ByMachine::Alpha(run) => Ok(deed_by_alpha(run, *p, kind)),
             },
             Event::Lost(_) => Ok(Deed::Nothing),

@@ -21,7 +21,7 @@ program_is_free = refl
 abbrev IsOne : Shape → Type 0
 IsOne shape = (shape.name ≡ codes "play") ⊎ ((shape.name ≡ codes "race")
     ⊎ ((shape.name ≡ codes "explain") ⊎ ((shape.name ≡ codes "trail") ⊎ ((shape.name ≡ codes "draw")
-    ⊎ ((shape.name ≡ codes "slice") ⊎ ((shape.name ≡ codes "debug") ⊎ (shape.name ≡ codes "replay")))))))
+    ⊎ ((shape.name ≡ codes "slice") ⊎ ((shape.name ≡ codes "debug") ⊎ ((shape.name ≡ codes "replay") ⊎ (shape.name ≡ codes "search"))))))))
 
 found_is_one : (subs : List Shape) (test : Shape → Bool) (rest : List Text) → AllByRecursion IsOne subs → NamesOne (option_map (λ s. rows_at s rest) (find test subs))
 found_is_one [] test rest all = tt
@@ -47,7 +47,13 @@ subs_are = (
         inr (inr (inr (inl refl))),
         (
           inr (inr (inr (inr (inl refl)))),
-          (inr (inr (inr (inr (inr (inl refl))))), (inr (inr (inr (inr (inr (inr (inl refl)))))), (inr (inr (inr (inr (inr (inr (inr refl)))))), tt))),
+          (
+            inr (inr (inr (inr (inr (inl refl))))),
+            (
+              inr (inr (inr (inr (inr (inr (inl refl)))))),
+              (inr (inr (inr (inr (inr (inr (inr (inl refl))))))), (inr (inr (inr (inr (inr (inr (inr (inr refl))))))), tt)),
+            ),
+          ),
         ),
       ),
     ),

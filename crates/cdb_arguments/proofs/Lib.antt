@@ -8,4 +8,5 @@ pub mod Lines
 pub mod Subcommands
 pub mod StepLines
 pub mod SeatLines
+pub mod SearchLines
 pub mod Requests

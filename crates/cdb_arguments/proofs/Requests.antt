@@ -13,13 +13,13 @@ use Rattle.std.proofs.lemmas.Result.{IfOk-weaker}
 use Rattle.clap.specs.Words.{Row, Text, first_of, subcommand_of, takes}
 use Rattle.clap.specs.declared.builder.value_parser.ValueParser.TheVariants as vp
 use Rattle.clap.proofs.ValueTestLemmas.{Accepts-accepts}
-use Rattle.cdb_arguments.specs.Asking.{HasStepOf, IsAnyStepIn, IsStepIn, NamesAsked, IsRequest, IsPlayOf, IsQuestionOf, IsRaceOf, IsDebugOf, IsReplayOf, IsTurns, IsNumber, IsNumberOf, text_at, texts_at}
+use Rattle.cdb_arguments.specs.Asking.{HasStepOf, IsAnyStepIn, IsStepIn, NamesAsked, IsRequest, IsPlayOf, IsQuestionOf, IsRaceOf, IsDebugOf, IsReplayOf, IsSearchOf, IsTurns, IsNumber, IsNumberOf, text_at, texts_at}
 use Rattle.cdb_arguments.specs.CommandLine.{program}
-use Rattle.cdb_arguments.specs.Plain.{IsNameAlone, IsNumberOfTurns, IsPlain, IsPlayLine, IsQuestionLine, IsRaceLine, IsDebugLine, IsReplayLine, question_name}
+use Rattle.cdb_arguments.specs.Plain.{IsNameAlone, IsNumberOfTurns, IsPlain, IsPlayLine, IsQuestionLine, IsRaceLine, IsDebugLine, IsReplayLine, IsSearchLine, WritesNumber, question_name}
 use Rattle.cdb_arguments.specs.declared.request.AskFault.{AskFault}
 use Rattle.cdb_arguments.specs.declared.request.AskFault.TheVariants.{NoMemory}
 use Rattle.cdb_arguments.specs.declared.request.Asked.{Asked}
-use Rattle.cdb_arguments.specs.declared.request.Asked.TheVariants.{Script, Play, Race, Ask, Debug, Replay}
+use Rattle.cdb_arguments.specs.declared.request.Asked.TheVariants.{Script, Play, Race, Ask, Debug, Replay, Search}
 use Rattle.cdb_base.specs.declared.question.Question.{Question}
 use Rattle.cdb_base.specs.declared.question.Question.TheVariants.{Explain, Trail, Draw, Slice}
 use Rattle.cdb_base.specs.declared.question.StepAsked.{StepAsked}
@@ -27,6 +27,7 @@ use Rattle.cdb_base.specs.Memory.{no_memory}
 use Rattle.cdb_arguments.proofs.StepLines.{OptionWritesNumber, QuestionLine, StepLine, StepWritten, question_line}
 use Rattle.cdb_arguments.proofs.JournalLines.{JournalLine, replay_line}
 use Rattle.cdb_arguments.proofs.SeatLines.{SeatLine, debug_line}
+use Rattle.cdb_arguments.proofs.SearchLines.{SearchLine, search_line}
 use Rattle.cdb_arguments.proofs.Lines.{nothing_asked, nothing_taken, play_asked, play_taken, PlayRows, race_asked, race_taken, RaceRows, AcceptsTurns}
 
 -- ---- what is asked for where clap has these matches
@@ -38,6 +39,7 @@ script_is found (Race a n b) none asks = absurd (none-some _ (sym none ∙ asks.
 script_is found (Ask a b q) none asks = absurd (none-some _ (sym none ∙ asks.1))
 script_is found (Debug a b f) none asks = absurd (none-some _ (sym none ∙ asks.1))
 script_is found (Replay a b) none asks = absurd (none-some _ (sym none ∙ asks.1))
+script_is found (Search a g n w) none asks = absurd (none-some _ (sym none ∙ asks.1))
 
 some_same : {X : Type 0} (a b : X) → Some a ≡ Some b → a ≡ b
 some_same a b same = ap (λ found. unwrap_or found a) same
@@ -60,21 +62,71 @@ record Differs (question : Question) : Type 0 where
   race : bytes_eq (question_name question) (codes "race") ≡ false
   debug : bytes_eq (question_name question) (codes "debug") ≡ false
   replay : bytes_eq (question_name question) (codes "replay") ≡ false
+  search : bytes_eq (question_name question) (codes "search") ≡ false
   from_play : bytes_eq (codes "play") (question_name question) ≡ false
   from_race : bytes_eq (codes "race") (question_name question) ≡ false
   from_debug : bytes_eq (codes "debug") (question_name question) ≡ false
   from_replay : bytes_eq (codes "replay") (question_name question) ≡ false
+  from_search : bytes_eq (codes "search") (question_name question) ≡ false
   own : bytes_eq (question_name question) (question_name question) ≡ true
 
 differs : (question : Question) → Differs question
 differs (Explain step) =
-    record { play = refl; race = refl; debug = refl; replay = refl; from_play = refl; from_race = refl; from_debug = refl; from_replay = refl; own = refl }
+    record {
+      play = refl;
+      race = refl;
+      debug = refl;
+      replay = refl;
+      search = refl;
+      from_play = refl;
+      from_race = refl;
+      from_debug = refl;
+      from_replay = refl;
+      from_search = refl;
+      own = refl;
+    }
 differs (Trail step) =
-    record { play = refl; race = refl; debug = refl; replay = refl; from_play = refl; from_race = refl; from_debug = refl; from_replay = refl; own = refl }
+    record {
+      play = refl;
+      race = refl;
+      debug = refl;
+      replay = refl;
+      search = refl;
+      from_play = refl;
+      from_race = refl;
+      from_debug = refl;
+      from_replay = refl;
+      from_search = refl;
+      own = refl;
+    }
 differs (Draw step) =
-    record { play = refl; race = refl; debug = refl; replay = refl; from_play = refl; from_race = refl; from_debug = refl; from_replay = refl; own = refl }
+    record {
+      play = refl;
+      race = refl;
+      debug = refl;
+      replay = refl;
+      search = refl;
+      from_play = refl;
+      from_race = refl;
+      from_debug = refl;
+      from_replay = refl;
+      from_search = refl;
+      own = refl;
+    }
 differs (Slice step) =
-    record { play = refl; race = refl; debug = refl; replay = refl; from_play = refl; from_race = refl; from_debug = refl; from_replay = refl; own = refl }
+    record {
+      play = refl;
+      race = refl;
+      debug = refl;
+      replay = refl;
+      search = refl;
+      from_play = refl;
+      from_race = refl;
+      from_debug = refl;
+      from_replay = refl;
+      from_search = refl;
+      own = refl;
+    }
 
 play_is : (found : Option (Text × List Row)) (rows : List Row) (setup script : Text) (asked : Asked) → found ≡ Some (codes "play", rows)
     → PlayRows setup script rows → NamesAsked found asked → IsPlayOf setup script asked
@@ -88,6 +140,7 @@ play_is found rows setup script (Race a n b) is have asks = absurd (other_name f
 play_is found rows setup script (Ask a b q) is have asks = absurd (other_name found _ (question_name q) rows asks.0 is asks.1 (differs q).play refl)
 play_is found rows setup script (Replay a b) is have asks = absurd (other_name found _ (codes "replay") rows asks.0 is asks.1 refl refl)
 play_is found rows setup script (Debug a b f) is have asks = absurd (other_name found _ (codes "debug") rows asks.0 is asks.1 refl refl)
+play_is found rows setup script (Search a g n w) is have asks = absurd (other_name found _ (codes "search") rows asks.0 is asks.1 refl refl)
 
 race_is : (found : Option (Text × List Row)) (rows : List Row) (setup text : Text) (turns : ℕ) (scripts : List Text) (asked : Asked)
     → found ≡ Some (codes "race", rows) → RaceRows setup text scripts rows → IsNumberOfTurns text turns → NamesAsked found asked → IsRaceOf setup turns scripts asked
@@ -96,6 +149,7 @@ race_is found rows setup text turns scripts (Play a b) is have number asks = abs
 race_is found rows setup text turns scripts (Ask a b q) is have number asks = absurd (other_name found _ (question_name q) rows asks.0 is asks.1 (differs q).race refl)
 race_is found rows setup text turns scripts (Replay a b) is have number asks = absurd (other_name found _ (codes "replay") rows asks.0 is asks.1 refl refl)
 race_is found rows setup text turns scripts (Debug a b f) is have number asks = absurd (other_name found _ (codes "debug") rows asks.0 is asks.1 refl refl)
+race_is found rows setup text turns scripts (Search a g n w) is have number asks = absurd (other_name found _ (codes "search") rows asks.0 is asks.1 refl refl)
 race_is found rows setup text turns scripts (Race a n b) is have number asks =
     let same = same_rows found (codes "race") (codes "race") rows asks.0 is asks.1 in
     let its_text : text_at (codes "TURNS") asks.0 ≡ text = ap (text_at (codes "TURNS")) same ∙ ap (λ t. unwrap_or t []) have.1 in
@@ -177,6 +231,7 @@ question_is setup script question words (Play a b) line asks = absurd (other_nam
 question_is setup script question words (Race a n b) line asks = absurd (other_name _ _ (codes "race") line.rows asks.0 line.asked asks.1 (differs question).from_race (differs question).own)
 question_is setup script question words (Replay a b) line asks = absurd (other_name _ _ (codes "replay") line.rows asks.0 line.asked asks.1 (differs question).from_replay (differs question).own)
 question_is setup script question words (Debug a b f) line asks = absurd (other_name _ _ (codes "debug") line.rows asks.0 line.asked asks.1 (differs question).from_debug (differs question).own)
+question_is setup script question words (Search a g n w) line asks = absurd (other_name _ _ (codes "search") line.rows asks.0 line.asked asks.1 (differs question).from_search (differs question).own)
 question_is setup script question words (Ask a b its) line asks =
     let same = same_rows _ (question_name question) (question_name its) line.rows asks.0 line.asked asks.1 in
     let names = same_names _ (question_name question) (question_name its) line.rows asks.0 line.asked asks.1 in (
@@ -191,6 +246,7 @@ debug_is setup seats words Script line asks = absurd (none-some _ (sym asks ∙ 
 debug_is setup seats words (Play a b) line asks = absurd (other_name _ _ (codes "play") line.rows asks.0 line.asked asks.1 refl refl)
 debug_is setup seats words (Race a n b) line asks = absurd (other_name _ _ (codes "race") line.rows asks.0 line.asked asks.1 refl refl)
 debug_is setup seats words (Ask a b q) line asks = absurd (other_name _ _ (question_name q) line.rows asks.0 line.asked asks.1 (differs q).debug refl)
+debug_is setup seats words (Search a g n w) line asks = absurd (other_name _ _ (codes "search") line.rows asks.0 line.asked asks.1 refl refl)
 debug_is setup seats words (Replay a b) line asks = absurd (other_name _ _ (codes "replay") line.rows asks.0 line.asked asks.1 refl refl)
 debug_is setup seats words (Debug a b f) line asks =
     let same = same_rows _ (codes "debug") (codes "debug") line.rows asks.0 line.asked asks.1 in (
@@ -205,10 +261,29 @@ replay_is setup journal words (Play a b) line asks = absurd (other_name _ _ (cod
 replay_is setup journal words (Race a n b) line asks = absurd (other_name _ _ (codes "race") line.rows asks.0 line.asked asks.1 refl refl)
 replay_is setup journal words (Ask a b q) line asks = absurd (other_name _ _ (question_name q) line.rows asks.0 line.asked asks.1 (differs q).replay refl)
 replay_is setup journal words (Debug a b f) line asks = absurd (other_name _ _ (codes "debug") line.rows asks.0 line.asked asks.1 refl refl)
+replay_is setup journal words (Search a g n w) line asks = absurd (other_name _ _ (codes "search") line.rows asks.0 line.asked asks.1 refl refl)
 replay_is setup journal words (Replay a b) line asks =
     let same = same_rows _ (codes "replay") (codes "replay") line.rows asks.0 line.asked asks.1 in (
       asks.2 ∙ ap (text_at (codes "SETUP")) same ∙ ap (λ t. unwrap_or t []) line.setup_at,
       asks.3 ∙ ap (text_at (codes "JOURNAL")) same ∙ ap (λ t. unwrap_or t []) line.journal_at,
+    )
+
+search_is : (setup goal first second : Text) (seed walks : ℕ) (words : List Text) (asked : Asked) → WritesNumber first seed → WritesNumber second walks
+    → SearchLine setup goal first second words → NamesAsked (subcommand_of program words) asked → IsSearchOf setup goal seed walks asked
+search_is setup goal first second seed walks words Script a b line asks = absurd (none-some _ (sym asks ∙ line.asked))
+search_is setup goal first second seed walks words (Play c d) a b line asks = absurd (other_name _ _ (codes "play") line.rows asks.0 line.asked asks.1 refl refl)
+search_is setup goal first second seed walks words (Race c n d) a b line asks = absurd (other_name _ _ (codes "race") line.rows asks.0 line.asked asks.1 refl refl)
+search_is setup goal first second seed walks words (Ask c d q) a b line asks = absurd (other_name _ _ (question_name q) line.rows asks.0 line.asked asks.1 (differs q).search refl)
+search_is setup goal first second seed walks words (Debug c d) a b line asks = absurd (other_name _ _ (codes "debug") line.rows asks.0 line.asked asks.1 refl refl)
+search_is setup goal first second seed walks words (Replay c d) a b line asks = absurd (other_name _ _ (codes "replay") line.rows asks.0 line.asked asks.1 refl refl)
+search_is setup goal first second seed walks words (Search c h n w) a b line asks =
+    let same = same_rows _ (codes "search") (codes "search") line.rows asks.0 line.asked asks.1 in
+    let its_seed : text_at (codes "SEED") asks.0 ≡ first = ap (text_at (codes "SEED")) same ∙ ap (λ t. unwrap_or t []) line.seed_at in
+    let its_walks : text_at (codes "WALKS") asks.0 ≡ second = ap (text_at (codes "WALKS")) same ∙ ap (λ t. unwrap_or t []) line.walks_at in (
+      asks.2 ∙ ap (text_at (codes "SETUP")) same ∙ ap (λ t. unwrap_or t []) line.setup_at,
+      asks.3 ∙ ap (text_at (codes "GOAL")) same ∙ ap (λ t. unwrap_or t []) line.goal_at,
+      (subst (λ t. IsNumber t n) its_seed asks.4).2 seed a,
+      (subst (λ t. IsNumber t w) its_walks asks.5).2 walks b,
     )
 
 -- ---- the answers
@@ -281,5 +356,15 @@ replay_asked_for words result ok taken setup journal line =
     let its = replay_line line.0.0 setup journal line.1 in
     let its_words : JournalLine setup journal words = subst (JournalLine setup journal) (sym line.0.1) its in (
       IfOk-weaker result _ _ (λ asked asks. replay_is setup journal words asked its_words asks) ok,
+      taken its_words.taken,
+    )
+
+pub search_asked_for : (words : List Text) (result : Result Asked AskFault) → IfOk result (NamesAsked (subcommand_of program words))
+    → (takes program words ≡ true → IfErr result (λ fault. fault ≡ NoMemory no_memory)) → (setup goal : Text) (seed walks : ℕ) → IsSearchLine words setup goal seed walks
+    → IsRequest result (IsSearchOf setup goal seed walks)
+search_asked_for words result ok taken setup goal seed walks (first, second, a, b, line) =
+    let its = search_line line.0.0 setup goal first second seed walks a b line.1 in
+    let its_words : SearchLine setup goal first second words = subst (SearchLine setup goal first second) (sym line.0.1) its in (
+      IfOk-weaker result _ _ (λ asked asks. search_is setup goal first second seed walks words asked a b its_words asks) ok,
       taken its_words.taken,
     )

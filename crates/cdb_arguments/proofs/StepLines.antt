@@ -23,7 +23,7 @@ use Rattle.cdb_arguments.proofs.Values.{ValuesPass, EndPasses}
 
 -- ---- the text of a number is one that clap takes
 
-abbrev AcceptsNumber : Text → Type 0
+abbrev pub AcceptsNumber : Text → Type 0
 AcceptsNumber text = accepts false (vp.Signed (pos 1) (pos 999999)) text ≡ true
 
 is_signed : (text : Text) (number : ℕ) → IsPlain text → WritesNumber text number → IsSignedIn (pos 1) (pos 999999) text
@@ -33,7 +33,7 @@ is_signed text number plain writes =
     let large : 1 ≤ value = subst (λ n. 1 ≤ n) (sym writes.1) writes.2 in
     rw (is_no_minus text plain) (writes.0, fits_signed_from_abs w64 (pos value) (omega arith), omega (arith, le→leb), omega (arith, le→leb))
 
-accepts_number : (text : Text) (number : ℕ) → IsPlain text → WritesNumber text number → AcceptsNumber text
+pub accepts_number : (text : Text) (number : ℕ) → IsPlain text → WritesNumber text number → AcceptsNumber text
 accepts_number text number plain writes = Accepts-accepts false (vp.Signed (pos 1) (pos 999999)) text (is_signed text number plain writes)
 
 -- ---- what clap's matches have

@@ -10,8 +10,8 @@ use Rattle.cdb_arguments.specs.declared.request.AskFault.{AskFault}
 use Rattle.cdb_base.specs.Memory.{no_memory}
 use Rattle.cdb_arguments.specs.declared.request.AskFault.TheVariants.{Words, NoMemory}
 use Rattle.cdb_arguments.specs.declared.request.Asked.{Asked}
-use Rattle.cdb_arguments.specs.declared.request.Asked.TheVariants.{Script, Play, Race, Ask, Debug, Replay}
-use Rattle.cdb_arguments.specs.Plain.{IsDebugLine, IsPlayLine, IsQuestionLine, IsRaceLine, IsReplayLine, WritesNumber, question_name}
+use Rattle.cdb_arguments.specs.declared.request.Asked.TheVariants.{Script, Play, Race, Ask, Debug, Replay, Search}
+use Rattle.cdb_arguments.specs.Plain.{IsDebugLine, IsPlayLine, IsQuestionLine, IsRaceLine, IsReplayLine, IsSearchLine, WritesNumber, question_name}
 use Rattle.cdb_base.specs.declared.question.Question.{Question}
 use Rattle.cdb_base.specs.declared.question.Question.TheVariants.{Explain, Trail, Draw, Slice}
 use Rattle.cdb_base.specs.declared.question.StepAsked.{StepAsked}
@@ -29,7 +29,7 @@ abbrev pub NamesOne : Option (Text × List Row) → Type 0
 NamesOne None = Unit {0}
 NamesOne (Some found) = (found.0 ≡ codes "play") ⊎ ((found.0 ≡ codes "race")
     ⊎ ((found.0 ≡ codes "explain") ⊎ ((found.0 ≡ codes "trail") ⊎ ((found.0 ≡ codes "draw")
-    ⊎ ((found.0 ≡ codes "slice") ⊎ ((found.0 ≡ codes "debug") ⊎ (found.0 ≡ codes "replay")))))))
+    ⊎ ((found.0 ≡ codes "slice") ⊎ ((found.0 ≡ codes "debug") ⊎ ((found.0 ≡ codes "replay") ⊎ (found.0 ≡ codes "search"))))))))
 
 -- the text of an argument, which is empty where the matches have none
 abbrev pub text_at : Text → List Row → Text
@@ -89,6 +89,9 @@ NamesAsked found (Debug setup seats file) =
 NamesAsked found (Replay setup journal) =
     (rows : List Row) × (found ≡ Some (codes "replay", rows)) × (setup.now ≡ text_at (codes "SETUP") rows)
     × (journal.now ≡ text_at (codes "JOURNAL") rows)
+NamesAsked found (Search setup goal seed walks) =
+    (rows : List Row) × (found ≡ Some (codes "search", rows)) × (setup.now ≡ text_at (codes "SETUP") rows)
+    × (goal.now ≡ text_at (codes "GOAL") rows) × IsNumber (text_at (codes "SEED") rows) seed × IsNumber (text_at (codes "WALKS") rows) walks
 
 -- a play of these two files
 abbrev pub IsPlayOf : Text → Text → Asked → Type 0
@@ -118,6 +121,12 @@ abbrev pub IsReplayOf : Text → Text → Asked → Type 0
 IsReplayOf setup journal (Replay its_setup its_journal) = (its_setup.now ≡ setup) × (its_journal.now ≡ journal)
 IsReplayOf setup journal asked = ⊥
 
+-- a search for a run of this setup in which the goal of this word holds, with this seed and so many walks
+abbrev pub IsSearchOf : Text → Text → ℕ → ℕ → Asked → Type 0
+IsSearchOf setup goal seed walks (Search its_setup its_goal its_seed its_walks) =
+    (its_setup.now ≡ setup) × (its_goal.now ≡ goal) × (its_seed ≡ seed) × (its_walks ≡ walks)
+IsSearchOf setup goal seed walks asked = ⊥
+
 -- what was asked for, or no memory to say it
 abbrev pub IsRequest : Result Asked AskFault → (Asked → Type 0) → Type 0
 IsRequest result IsIt = IfOk result IsIt × IfErr result (λ fault. fault ≡ NoMemory no_memory)
@@ -143,6 +152,10 @@ AsksForDebug result words =
 abbrev pub AsksForReplay : Result Asked AskFault → List Text → Type 0
 AsksForReplay result words =
     (setup journal : Text) → IsReplayLine words setup journal → IsRequest result (IsReplayOf setup journal)
+
+abbrev pub AsksForSearch : Result Asked AskFault → List Text → Type 0
+AsksForSearch result words =
+    (setup goal : Text) (seed walks : ℕ) → IsSearchLine words setup goal seed walks → IsRequest result (IsSearchOf setup goal seed walks)
 
 -- out of memory, or an error of one of the kinds
 abbrev pub IsOfKinds : Kinds → AskFault → Type 0

@@ -74,6 +74,12 @@ debug_app = with_arguments (codes "debug") (required_rule (codes "SETUP") ∷ se
 abbrev pub replay_app : App
 replay_app = with_arguments (codes "replay") (required_rule (codes "SETUP") ∷ required_rule (codes "JOURNAL") ∷ [])
 
+-- `search SETUP GOAL SEED WALKS`
+abbrev pub search_app : App
+search_app =
+    with_arguments (codes "search")
+    (required_rule (codes "SETUP") ∷ required_rule (codes "GOAL") ∷ numbered (required_rule (codes "SEED")) ∷ numbered (required_rule (codes "WALKS")) ∷ [])
+
 -- the program with these subcommands too
 abbrev pub with_subcommands : App → List App → App
 with_subcommands = fold (λ app sub. with_subcommand app sub.top)
@@ -84,4 +90,4 @@ playing = with_subcommands (on_top (λ s. record s { has_version = true; disable
 
 -- the program with its subcommands
 unfoldable pub program : App
-program = with_subcommands playing (explain_app ∷ trail_app ∷ draw_app ∷ slice_app ∷ debug_app ∷ replay_app ∷ [])
+program = with_subcommands playing (explain_app ∷ trail_app ∷ draw_app ∷ slice_app ∷ debug_app ∷ replay_app ∷ search_app ∷ [])

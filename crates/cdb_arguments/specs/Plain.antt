@@ -83,3 +83,9 @@ IsDebugLine words setup seats = IsSubcommandLine (codes "debug") (setup ∷ seat
 -- `replay SETUP JOURNAL`
 abbrev pub IsReplayLine : List Text → Text → Text → Type 0
 IsReplayLine words setup journal = IsSubcommandLine (codes "replay") (setup ∷ journal ∷ []) words
+
+-- `search SETUP GOAL SEED WALKS`
+abbrev pub IsSearchLine : List Text → Text → Text → ℕ → ℕ → Type 0
+IsSearchLine words setup goal seed walks =
+    (first second : Text) × WritesNumber first seed × WritesNumber second walks
+    × IsSubcommandLine (codes "search") (setup ∷ goal ∷ first ∷ second ∷ []) words

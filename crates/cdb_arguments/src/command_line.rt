@@ -35,6 +35,9 @@ const SLICE: &str =
 
 const DEBUG: &str = "Carries each command out before the next is read, for one user or for several";
 
+const SEARCH: &str =
+    "Walks at random until a goal holds, and prints a script of the run in which it does";
+
 const REPLAY: &str = "Plays a journal again, and prints each reply behind the number of its seat";
 
 const LINES: &str =
@@ -90,6 +93,9 @@ pub(crate) enum Argument {
     Step,
     Seats,
     Journal,
+    Goal,
+    Seed,
+    Walks,
     /// The option of the file in which a journal is kept.
     Kept,
 }
@@ -104,11 +110,12 @@ pub(crate) enum Subcommand {
     Slice,
     Debug,
     Replay,
+    Search,
 }
 
 impl Subcommand {
     /// The subcommands, in the order in which help lists them.
-    pub(crate) const ALL: [Subcommand; 8] = [
+    pub(crate) const ALL: [Subcommand; 9] = [
         Subcommand::Play,
         Subcommand::Race,
         Subcommand::Explain,
@@ -117,6 +124,7 @@ impl Subcommand {
         Subcommand::Slice,
         Subcommand::Debug,
         Subcommand::Replay,
+        Subcommand::Search,
     ];
 
     fn name<'a>(&self) -> &'a str
@@ -131,6 +139,7 @@ impl Subcommand {
             Subcommand::Slice => "slice",
             Subcommand::Debug => "debug",
             Subcommand::Replay => "replay",
+            Subcommand::Search => "search",
         }
     }
 
@@ -144,6 +153,7 @@ impl Subcommand {
             Subcommand::Slice => SLICE,
             Subcommand::Debug => DEBUG,
             Subcommand::Replay => REPLAY,
+            Subcommand::Search => SEARCH,
         }
     }
 
@@ -168,6 +178,12 @@ impl Subcommand {
             ],
             Subcommand::Debug => &[Argument::Setup, Argument::Seats, Argument::Kept],
             Subcommand::Replay => &[Argument::Setup, Argument::Journal],
+            Subcommand::Search => &[
+                Argument::Setup,
+                Argument::Goal,
+                Argument::Seed,
+                Argument::Walks,
+            ],
         }
     }
 }
@@ -267,6 +283,21 @@ fn argument_of<'a>(alloc: Global, argument: &Argument) -> Arg<'a>
             "JOURNAL",
             "The file of the journal, one entry a line: its seat, and its command",
         ),
+        Argument::Goal => required(
+            alloc,
+            "GOAL",
+            "differ, all, stuck:R or decides:P:V: what has to hold",
+        ),
+        Argument::Seed => numbered(required(
+            alloc,
+            "SEED",
+            "What the walks depend on, 1 to 999999",
+        )),
+        Argument::Walks => numbered(required(
+            alloc,
+            "WALKS",
+            "How many walks there are at most, 1 to 999999",
+        )),
         Argument::Kept => option(
             alloc,
             "FILE",

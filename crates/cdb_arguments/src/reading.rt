@@ -4,7 +4,7 @@ ghost use Rattle.std.specs.Prelude.{◌≡◌, OnOk, IfOk, IfErr, Some, [], true
 ghost use Rattle.clap.specs.Words.{Kinds, Text, HasKind, fault_of, first_of, found_of, kind_of, rows_of, subcommand_of, subcommand_rows_of, takes};
 ghost use Rattle.cdb_base.specs.Memory.{no_memory};
 ghost use Rattle.cdb_arguments.specs.CommandLine.{program};
-ghost use Rattle.cdb_arguments.specs.Asking.{HasStepOf, IsAnyStepIn, IsStepIn, NamesOne, IsTurns, IsNumber, IsNumberAt, any_text, text_at, texts, texts_at, NamesAsked, IsOfKinds, IsRequest, AsksForPlay, AsksForRace, AsksQuestion, AsksForDebug, AsksForReplay, ask_status_of, words_status};
+ghost use Rattle.cdb_arguments.specs.Asking.{HasStepOf, IsAnyStepIn, IsStepIn, NamesOne, IsTurns, IsNumber, IsNumberAt, any_text, text_at, texts, texts_at, NamesAsked, IsOfKinds, IsRequest, AsksForPlay, AsksForRace, AsksQuestion, AsksForDebug, AsksForReplay, AsksForSearch, ask_status_of, words_status};
 ghost use Rattle.cdb_arguments.specs.Plain.{IsNameAlone, question_name};
 
 use crate::command_line::program;
@@ -179,6 +179,18 @@ fn replay_of<'a>(found: &ArgMatches<'a>) -> Asked<'a>
     }
 }
 
+/// A search for a run in which a goal holds.
+fn search_of<'a>(found: &ArgMatches<'a>) -> Asked<'a>
+    ensures { NamesAsked (Some (codes "search", rows_of (found_of found.now))) result }
+{
+    Asked::Search {
+        setup: text_of(found, "SETUP"),
+        goal: text_of(found, "GOAL"),
+        seed: number_of(text_of(found, "SEED")),
+        walks: number_of(text_of(found, "WALKS")),
+    }
+}
+
 /// What the matches of a subcommand of this name ask for.
 fn asked_under<'a>(
     alloc: Global,
@@ -196,6 +208,7 @@ fn asked_under<'a>(
         "slice" => Ok(question_of(found, Question::Slice(any_step_of(found)))),
         "debug" => debug_of(alloc, found),
         "replay" => Ok(replay_of(found)),
+        "search" => Ok(search_of(found)),
         _ => race_of(alloc, found),
     }
 }
@@ -249,8 +262,9 @@ fn read<'a>(alloc: Global, words: &'a [&'a str]) -> Result<Asked<'a>, AskFault>
 /// script on standard input, `play SETUP SCRIPT` for a play, `race SETUP TURNS SCRIPT..` for a race,
 /// `explain SETUP SCRIPT P [K]` for what led to a step, `trail SETUP SCRIPT P [K]` for the trail of a value to it,
 /// `draw SETUP SCRIPT [P [K]]` for a picture, `slice SETUP SCRIPT [P [K]]` for a script, `debug SETUP [SEAT..]` for a
-/// session that goes on line by line, with `--journal FILE` for one whose journal is kept in a file, `replay SETUP JOURNAL` for a journal that is played again. P and K are numbers of 1
-/// to 999,999.
+/// session that goes on line by line, with `--journal FILE` for one whose journal is kept in a file, `replay SETUP JOURNAL`
+/// for a journal that is played again, `search SETUP GOAL SEED WALKS` for a search. P, K, SEED and WALKS are numbers of 1 to
+/// 999,999.
 ///
 /// # Errors
 /// `Words` with `clap`'s error for arguments that the command line does not take, and for those alone; the error is
@@ -274,6 +288,7 @@ pub fn asked<'a>(alloc: Global, words: &'a [&'a str]) -> Result<Asked<'a>, AskFa
     ensures question { AsksQuestion result (texts words.entry.now) }
     ensures debug { AsksForDebug result (texts words.entry.now) }
     ensures replay { AsksForReplay result (texts words.entry.now) }
+    ensures search { AsksForSearch result (texts words.entry.now) }
 {
     read(alloc, words)
 }

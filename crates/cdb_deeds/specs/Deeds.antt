@@ -1,8 +1,9 @@
 -- What the next event of a run does, by the table of its machine.
-use Rattle.std.specs.Prelude.{ℕ, ◌==◌, List, Option, Some, None, if◌then◌else◌, option_to_list}
+use Rattle.std.specs.Prelude.{ℕ, ◌==◌, List, Option, Some, None, if◌then◌else◌, map, option_to_list}
 use Rattle.std.specs.List.{flat_map}
 use Rattle.std.specs.Option.{option_map_or}
 use Rattle.cdb_alpha.specs.Machine.{alpha_table}
+use Rattle.cdb_base.specs.Processes.{all_processes}
 use Rattle.cdb_base.specs.declared.event.Event.{Event}
 use Rattle.cdb_base.specs.declared.event.Event.TheVariants.{Step, Lost}
 use Rattle.cdb_base.specs.declared.event.Kind.{Kind}
@@ -27,6 +28,10 @@ received_at p event = None
 -- the names of the messages that process p has received, in the order of receipt
 abbrev pub received_names : ℕ → List Event → List MsgName
 received_names p history = flat_map (λ event. option_to_list (received_at p event)) history
+
+-- those of each process that a run can have
+abbrev pub received_by_each : List Event → List (List MsgName)
+received_by_each history = map (λ p. received_names p history) all_processes
 
 -- what a step of process p of that kind does, which comes next in the run
 abbrev pub deed_by : Algorithm → RunView → ℕ → Kind → Deed

@@ -6,13 +6,11 @@ ghost use Rattle.cdb_base.specs.Positions.{nth};
 ghost use Rattle.cdb_base.specs.Processes.{all_processes};
 ghost use Rattle.cdb_leader.specs.Inbox.{first_phase, second_phase, as_decision, is_agreed, agreed_leader, backers, second_phase_from, decision_from, is_only_proposal, first_phase_from, names as is_named};
 ghost use Rattle.cdb_process.specs.Values.{payload_value};
-ghost use Rattle.cdb_deeds.specs.Deeds.{received_names};
 ghost use Rattle.cdb_deeds.specs.LeaderDeeds.{number_from, number_of_estimate, number_of_proposal, number_of_learnt, number_in, messages_in, source_with, source_at, votes, sets_aux, ends, query_deed, local_deed, learn_deed, leader_deed};
 
 use crate::deed::{Deed, Messages, Source};
-use crate::received::received_names;
 use cdb_base::limits::MAX_ROUND;
-use cdb_base::{Event, Kind, MsgName, NoMemory, Payload, Proc, Val};
+use cdb_base::{Kind, MsgName, NoMemory, Payload, Proc, Val};
 use cdb_leader::{Leader, Place, Received, find_decision, find_first_phase, find_second_phase};
 use cdb_process::Process;
 use std::alloc::Global;
@@ -327,68 +325,57 @@ fn ends(alloc: Global, machine: &Leader, names: &[MsgName]) -> Result<Deed, NoMe
 fn query_deed(
     alloc: Global,
     machine: &Leader,
-    p: Proc,
-    history: &[Event],
+    names: &[MsgName],
     leader: Proc,
 ) -> Result<Deed, NoMemory>
     ensures { IfOk result (λ deed.
-        deed ≡ query_deed machine.now.place machine.now (received_names p history.now) leader) }
+        deed ≡ query_deed machine.now.place machine.now names.now leader) }
 {
     match machine.stands_at() {
         Place::L0 if machine.round() < MAX_ROUND => Ok(Deed::Round(machine.round() + 1)),
         Place::L2 if machine.heard_first_phase() && machine.lead() != Some(leader) => {
-            let names = received_names(alloc, p, history)?;
-            sets_aux(alloc, machine, &names)
+            sets_aux(alloc, machine, names)
         }
         _ => Ok(Deed::Nothing),
     }
 }
 
 /// What a local step did.
-fn local_deed(alloc: Global, machine: &Leader, p: Proc, history: &[Event]) -> Result<Deed, NoMemory>
+fn local_deed(alloc: Global, machine: &Leader, names: &[MsgName]) -> Result<Deed, NoMemory>
     ensures { IfOk result (λ deed.
-        deed ≡ local_deed machine.now.place machine.now (received_names p history.now)) }
+        deed ≡ local_deed machine.now.place machine.now names.now) }
 {
     match machine.stands_at() {
-        Place::L2 => {
-            let names = received_names(alloc, p, history)?;
-            sets_aux(alloc, machine, &names)
-        }
-        Place::L4 => {
-            let names = received_names(alloc, p, history)?;
-            ends(alloc, machine, &names)
-        }
+        Place::L2 => sets_aux(alloc, machine, names),
+        Place::L4 => ends(alloc, machine, names),
         _ => Ok(Deed::Nothing),
     }
 }
 
 /// What the adoption of a decision did.
-fn learn_deed(alloc: Global, machine: &Leader, p: Proc, history: &[Event]) -> Result<Deed, NoMemory>
-    ensures { IfOk result (λ deed. deed ≡ learn_deed machine.now (received_names p history.now)) }
+fn learn_deed(machine: &Leader, names: &[MsgName]) -> Deed
+    ensures { result ≡ learn_deed machine.now names.now }
 {
-    let names = received_names(alloc, p, history)?;
-    match source_of_learnt(machine, &names) {
-        Some(source) => Ok(Deed::Learns(source)),
-        None => Ok(Deed::Nothing),
+    match source_of_learnt(machine, names) {
+        Some(source) => Deed::Learns(source),
+        None => Deed::Nothing,
     }
 }
 
-/// What a step of that kind does, which process `p` takes next after these events, where its machine stands so.
-/// `NoMemory` if an allocation fails.
+/// What a step of that kind does, which a process takes next whose machine stands so; the names are those of the messages
+/// that it has received, in the order of receipt. `NoMemory` if an allocation fails.
 pub fn leader_deed(
     alloc: Global,
     machine: &Leader,
-    p: Proc,
-    history: &[Event],
+    names: &[MsgName],
     kind: &Kind,
 ) -> Result<Deed, NoMemory>
-    ensures { IfOk result (λ deed.
-        deed ≡ leader_deed machine.now (received_names p history.now) kind.now) }
+    ensures { IfOk result (λ deed. deed ≡ leader_deed machine.now names.now kind.now) }
 {
     match *kind {
-        Kind::Query(leader) => query_deed(alloc, machine, p, history, leader),
-        Kind::Local => local_deed(alloc, machine, p, history),
-        Kind::Learn => learn_deed(alloc, machine, p, history),
+        Kind::Query(leader) => query_deed(alloc, machine, names, leader),
+        Kind::Local => local_deed(alloc, machine, names),
+        Kind::Learn => Ok(learn_deed(machine, names)),
         _ => Ok(Deed::Nothing),
     }
 }

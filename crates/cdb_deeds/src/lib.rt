@@ -2,7 +2,7 @@
 //! `laws` do nothing: the contract of each is the law.
 //!
 //! ```text
-//! let deed = run.deed(alloc, history, &event)?;
+//! let deed = run.deed(alloc, &names, &event)?;
 //! ```
 #![tactic(auto)]
 
@@ -18,4 +18,5 @@ pub use deed::{Deed, Messages, Source};
 pub use leader::{
     leader_deed, number_of_estimate, number_of_learnt, number_of_proposal, value_of, value_received,
 };
+pub use received::ReceivedNames;
 pub use telling::Telling;

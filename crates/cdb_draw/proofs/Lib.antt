@@ -4,3 +4,4 @@ pub mod Parted
 pub mod Ended
 pub mod LastMarks
 pub mod Keeping
+pub mod Weighing

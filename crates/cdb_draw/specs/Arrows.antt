@@ -10,29 +10,26 @@ use Rattle.cdb_base.specs.declared.event.Kind.TheVariants.{Recv, Read, Send, Wri
 use Rattle.cdb_base.specs.declared.name.MsgName.{MsgName}
 use Rattle.cdb_base.specs.declared.register.Reg.{Reg}
 use Rattle.cdb_base.specs.declared.register.Reg.TheVariants.{R, Dec}
-use Rattle.cdb_explain.specs.Flagged.{is_flagged}
 use Rattle.cdb_message.specs.Mail.{message_name}
 use Rattle.cdb_draw.specs.Layout.{lane_y, register_y, row_of, spot, x_of}
 use Rattle.cdb_draw.specs.Positions.{sent_at, taken_at}
+use Rattle.cdb_draw.specs.Weights.{weight_at, weight_text}
 use Rattle.cdb_draw.specs.Ways.{point_text, way_of, way_parts}
 use Rattle.cdb_draw.specs.declared.layout.Grid.{Grid}
 use Rattle.cdb_draw.specs.declared.layout.Point.{Point}
-
--- how what is flagged is drawn, and the rest
-abbrev pub weight_text : Bool → List ℕ
-weight_text full = if full then codes "full" else codes "pale"
+use Rattle.cdb_draw.specs.declared.weight.Weight.{Weight}
 
 -- an arrow of that class, along these strokes
-unfoldable pub arrow_text : List ℕ → Bool → List (List Point) → List ℕ
-arrow_text class full way =
+unfoldable pub arrow_text : List ℕ → Weight → List (List Point) → List ℕ
+arrow_text class weight way =
     concat
-    (codes "<path class='" ∷ class ∷ codes " " ∷ weight_text full ∷ codes "' d='" ∷ way_parts way
+    (codes "<path class='" ∷ class ∷ codes " " ∷ weight_text weight ∷ codes "' d='" ∷ way_parts way
     ++ codes "'/>\n" ∷ [])
 
 -- that of a copy, from the position where its message was sent to position j on the lane of process p
-abbrev pub copy_arrow : Grid → List Event → List ℕ → Bool → MsgName → ℕ → ℕ → List ℕ
-copy_arrow grid history class full name j p =
-    option_map_or (λ i. arrow_text class full (way_of grid i name.s j p)) (sent_at history name) []
+abbrev pub copy_arrow : Grid → List Event → List ℕ → Weight → MsgName → ℕ → ℕ → List ℕ
+copy_arrow grid history class weight name j p =
+    option_map_or (λ i. arrow_text class weight (way_of grid i name.s j p)) (sent_at history name) []
 
 -- straight down or up at that x
 abbrev pub upright : ℕ → ℕ → ℕ → List (List Point)
@@ -76,39 +73,39 @@ abbrev pub waiter_text : Grid → List Event → MsgName → ℕ → List ℕ
 waiter_text grid history name to = if waits grid history name to then codes " " ++ decimal to else []
 
 -- a short stub from its send, and in two rows the receivers that still wait
-unfoldable pub stub_text : Grid → List Event → Bool → ℕ → MsgName → List ℕ
-stub_text grid history full position name =
+unfoldable pub stub_text : Grid → List Event → Weight → ℕ → MsgName → List ℕ
+stub_text grid history weight position name =
     let waiter = waiter_text grid history name in
     concat
-    (codes "<g class='wait " ∷ weight_text full ∷ codes "' transform='translate("
+    (codes "<g class='wait " ∷ weight_text weight ∷ codes "' transform='translate("
     ∷ point_text (spot grid position name.s) ∷ codes ")'><path d='M0,0L22,9'/><text class='note' y='33'>to"
     ∷ waiter 1 ∷ waiter 2 ∷ waiter 3 ∷ waiter 4 ∷ codes "</text><text class='note' y='44'>" ∷ waiter 5
     ∷ waiter 6 ∷ waiter 7 ∷ waiter 8 ∷ waiter 9 ∷ codes "</text></g>\n" ∷ [])
 
-abbrev pub on_way_text : Grid → List Event → Bool → ℕ → MsgName → List ℕ
-on_way_text grid history full position name =
-    if some_wait grid history name then stub_text grid history full position name else []
+abbrev pub on_way_text : Grid → List Event → Weight → ℕ → MsgName → List ℕ
+on_way_text grid history weight position name =
+    if some_wait grid history name then stub_text grid history weight position name else []
 
 -- ---- the arrow of an event
 
 -- the arrow to a step of process p of that kind: to a receive from its send, to a read from the register; of a write to
 -- the register; and the stub of a send
-abbrev pub step_arrow : Grid → List Event → Bool → ℕ → ℕ → Kind → List ℕ
-step_arrow grid history full position p (Recv s m) =
-    copy_arrow grid history (codes "copy") full (message_name s m) position p
-step_arrow grid history full position p (Read register) =
-    arrow_text (codes "read") full (read_way grid position p register)
-step_arrow grid history full position p (Write register) =
-    arrow_text (codes "write") full (write_way grid position p register)
-step_arrow grid history full position p (Send m) = on_way_text grid history full position (message_name p m)
-step_arrow grid history full position p kind = []
+abbrev pub step_arrow : Grid → List Event → Weight → ℕ → ℕ → Kind → List ℕ
+step_arrow grid history weight position p (Recv s m) =
+    copy_arrow grid history (codes "copy") weight (message_name s m) position p
+step_arrow grid history weight position p (Read register) =
+    arrow_text (codes "read") weight (read_way grid position p register)
+step_arrow grid history weight position p (Write register) =
+    arrow_text (codes "write") weight (write_way grid position p register)
+step_arrow grid history weight position p (Send m) = on_way_text grid history weight position (message_name p m)
+step_arrow grid history weight position p kind = []
 
 -- the arrow of an event; that of a lost copy ends on the lane of its receiver, where its cross stands
-abbrev pub event_arrow : Grid → List Event → Bool → ℕ → Event → List ℕ
-event_arrow grid history full position (Step p k kind) = step_arrow grid history full position p kind
-event_arrow grid history full position (Lost copy) =
-    copy_arrow grid history (codes "lost") full copy.msg position copy.to
+abbrev pub event_arrow : Grid → List Event → Weight → ℕ → Event → List ℕ
+event_arrow grid history weight position (Step p k kind) = step_arrow grid history weight position p kind
+event_arrow grid history weight position (Lost copy) =
+    copy_arrow grid history (codes "lost") weight copy.msg position copy.to
 
-abbrev pub arrow_at : Grid → List Event → List Bool → ℕ → List ℕ
-arrow_at grid history flags position =
-    option_map_or (event_arrow grid history (is_flagged flags position) position) (nth history position) []
+abbrev pub arrow_at : Grid → List Event → List Weight → ℕ → List ℕ
+arrow_at grid history weights position =
+    option_map_or (event_arrow grid history (weight_at weights position) position) (nth history position) []

@@ -2,7 +2,7 @@
 -- at a mark is at most as wide as a column: three rows above it, and two below it, with the value that it carries, the
 -- leader and the round, or what it did in two words. A write has the value that its register then holds on the lane of the
 -- register.
-use Rattle.std.specs.Prelude.{ℕ, Bool, List, [], ◌∷◌, ◌++◌, codes, decimal, Option, None, Some, nat_eq, if◌then◌else◌}
+use Rattle.std.specs.Prelude.{ℕ, List, [], ◌∷◌, ◌++◌, codes, decimal, Option, None, Some, nat_eq, if◌then◌else◌}
 use Rattle.std.specs.List.{concat}
 use Rattle.std.specs.Option.{option_map_or}
 use Rattle.cdb_base.specs.Positions.{nth}
@@ -21,7 +21,6 @@ use Rattle.cdb_deeds.specs.declared.deed.Deed.TheVariants.{Nothing, Round, Votes
 use Rattle.cdb_deeds.specs.declared.deed.Deed.TheVariants.{SettlesRegister, SettlesInput, GivesUp, Carries}
 use Rattle.cdb_explain.specs.Explanations.{deed_at, run_after, whole_text}
 use Rattle.cdb_explain.specs.Rounds.{round_before, round_by}
-use Rattle.cdb_explain.specs.Flagged.{is_flagged}
 use Rattle.cdb_explain.specs.declared.line.Causes.TheVariants.{Shown}
 use Rattle.cdb_message.specs.Mail.{MailState, message_name, payload_of}
 use Rattle.cdb_rules.specs.ByRules.{cell_in, mail_in}
@@ -29,10 +28,12 @@ use Rattle.cdb_rules.specs.RunView.{RunView}
 use Rattle.cdb_rules.specs.Rules.{Rules}
 use Rattle.cdb_setup.specs.Parts.{Parts}
 use Rattle.cdb_text.specs.Reports.{value_text}
-use Rattle.cdb_draw.specs.Arrows.{register_spot, weight_text}
+use Rattle.cdb_draw.specs.Arrows.{register_spot}
 use Rattle.cdb_draw.specs.Layout.{spot}
 use Rattle.cdb_draw.specs.Ways.{point_text}
+use Rattle.cdb_draw.specs.Weights.{weight_at, weight_text}
 use Rattle.cdb_draw.specs.declared.layout.Grid.{Grid}
+use Rattle.cdb_draw.specs.declared.weight.Weight.{Weight}
 
 -- what a step does, in a word: the name of the shape of its mark too
 abbrev pub kind_word : Kind → List ℕ
@@ -186,12 +187,12 @@ lane_of (Lost copy) = copy.to
 
 -- the mark of an event at that position, where its process was in that round before it, it did that, and the run stands
 -- so after it, with its whole text
-unfoldable pub marked_text : (Parts → Rules) → Grid → ℕ → Deed → RunView → Bool → ℕ → Event → List ℕ → List ℕ
-marked_text rules grid before did after full position event whole =
+unfoldable pub marked_text : (Parts → Rules) → Grid → ℕ → Deed → RunView → Weight → ℕ → Event → List ℕ → List ℕ
+marked_text rules grid before did after weight position event whole =
     let decided = decides (rules after.setup) after.history event in
     let round = begun before (round_by rules after event) event in
     concat
-    (codes "<g class='" ∷ weight_text full ∷ codes "' transform='translate("
+    (codes "<g class='" ∷ weight_text weight ∷ codes "' transform='translate("
     ∷ point_text (spot grid position (lane_of event)) ∷ codes ")'><title>" ∷ whole
     ∷ codes "</title>" ∷ decided_text decided ∷ tick_text round ∷ codes "<use href='#" ∷ shape_of event
     ∷ codes "'/><text y='-37'>" ∷ first_row event ∷ codes "</text><text y='-26'>" ∷ second_row event
@@ -206,29 +207,29 @@ held_text None = []
 held_text (Some cell) = value_text cell.val
 
 -- that value on the lane of a register, to the right of the head of the arrow at that position
-unfoldable pub holding_text : Grid → Bool → ℕ → Reg → List ℕ → List ℕ
-holding_text grid full position register value =
+unfoldable pub holding_text : Grid → Weight → ℕ → Reg → List ℕ → List ℕ
+holding_text grid weight position register value =
     concat
-    (codes "<g class='holds " ∷ weight_text full ∷ codes "' transform='translate("
+    (codes "<g class='holds " ∷ weight_text weight ∷ codes "' transform='translate("
     ∷ point_text (register_spot grid position register) ∷ codes ")'><text x='6' y='-3'>" ∷ value
     ∷ codes "</text></g>\n" ∷ [])
 
 -- what a write leaves in its register
-abbrev pub written_text : (Parts → Rules) → Grid → RunView → Bool → ℕ → Event → List ℕ
-written_text rules grid after full position (Step p k (Write register)) =
-    holding_text grid full position register (held_text (cell_in rules after register))
-written_text rules grid after full position event = []
+abbrev pub written_text : (Parts → Rules) → Grid → RunView → Weight → ℕ → Event → List ℕ
+written_text rules grid after weight position (Step p k (Write register)) =
+    holding_text grid weight position register (held_text (cell_in rules after register))
+written_text rules grid after weight position event = []
 
 -- ---- with its whole text, which is shown where a pointer rests on the mark
 
-abbrev pub mark_text : (Parts → Rules) → Grid → RunView → ℕ → Deed → RunView → Bool → ℕ → Event → List ℕ
-mark_text rules grid run before did after full position event =
-    marked_text rules grid before did after full position event (whole_text rules Shown run did after event)
-    ++ written_text rules grid after full position event
+abbrev pub mark_text : (Parts → Rules) → Grid → RunView → ℕ → Deed → RunView → Weight → ℕ → Event → List ℕ
+mark_text rules grid run before did after weight position event =
+    marked_text rules grid before did after weight position event (whole_text rules Shown run did after event)
+    ++ written_text rules grid after weight position event
 
-abbrev pub mark_at : (Parts → Rules) → Grid → RunView → List Bool → ℕ → List ℕ
-mark_at rules grid run flags position =
+abbrev pub mark_at : (Parts → Rules) → Grid → RunView → List Weight → ℕ → List ℕ
+mark_at rules grid run weights position =
     let before = round_before rules run position in
     let did = deed_at run position in
-    let mark = mark_text rules grid run before did (run_after run position) (is_flagged flags position) position in
+    let mark = mark_text rules grid run before did (run_after run position) (weight_at weights position) position in
     option_map_or mark (nth run.history position) []

@@ -5,6 +5,7 @@ pub mod Positions
 pub mod Lanes
 pub mod Ways
 pub mod Apart
+pub mod Weights
 pub mod Arrows
 pub mod EventMarks
 pub mod Picture

@@ -1,9 +1,8 @@
 -- The picture of a run, as text: an SVG document. Every text in it is made of digits, letters, spaces and the signs
 -- `.`, `#` and `=`, so that none has to be escaped.
-use Rattle.std.specs.Prelude.{◌≡◌, ℕ, ◌*◌, Bool, true, List, [], ◌∷◌, ◌++◌, codes, decimal, length, replicate, Option, None, Some}
+use Rattle.std.specs.Prelude.{◌≡◌, ℕ, ◌*◌, List, [], ◌∷◌, ◌++◌, codes, decimal, length, Option}
 use Rattle.std.specs.List.{concat, flat_map, range_with_len}
 use Rattle.cdb_base.specs.declared.event.Event.{Event}
-use Rattle.cdb_rules.specs.Flags.{FlagsPast}
 use Rattle.cdb_rules.specs.RunView.{RunView}
 use Rattle.cdb_rules.specs.Rules.{Rules}
 use Rattle.cdb_setup.specs.Parts.{Parts}
@@ -14,7 +13,9 @@ use Rattle.cdb_draw.specs.Arrows.{arrow_at}
 use Rattle.cdb_draw.specs.EventMarks.{mark_at}
 use Rattle.cdb_draw.specs.Lanes.{lanes_text}
 use Rattle.cdb_draw.specs.Layout.{grid_of, height, width}
+use Rattle.cdb_draw.specs.Weights.{AreWeighed}
 use Rattle.cdb_draw.specs.declared.layout.Grid.{Grid}
+use Rattle.cdb_draw.specs.declared.weight.Weight.{Weight}
 
 -- the algorithm, and the leader's quorum
 abbrev pub heading_text : Algorithm → ℕ → List ℕ
@@ -39,26 +40,20 @@ abbrev pub positions : List Event → List ℕ
 positions history = range_with_len 1 (length history)
 
 -- the arrows of all events, and their marks, each in the order of the history
-abbrev pub arrows_text : Grid → RunView → List Bool → List ℕ
-arrows_text grid run flags = flat_map (arrow_at grid run.history flags) (positions run.history)
+abbrev pub arrows_text : Grid → RunView → List Weight → List ℕ
+arrows_text grid run weights = flat_map (arrow_at grid run.history weights) (positions run.history)
 
-abbrev pub marks_text : (Parts → Rules) → Grid → RunView → List Bool → List ℕ
-marks_text rules grid run flags = flat_map (mark_at rules grid run flags) (positions run.history)
+abbrev pub marks_text : (Parts → Rules) → Grid → RunView → List Weight → List ℕ
+marks_text rules grid run weights = flat_map (mark_at rules grid run weights) (positions run.history)
 
--- Lanes first, then the arrows, and then the marks, so that no arrow hides one; what is flagged is drawn in full, the
--- rest pale.
-abbrev pub picture_text : (Parts → Rules) → Grid → RunView → List Bool → List ℕ
-picture_text rules grid run flags =
-    head_text grid run ++ lanes_text grid run ++ arrows_text grid run flags ++ marks_text rules grid run flags
+-- Lanes first, then the arrows, and then the marks, so that no arrow hides one.
+abbrev pub picture_text : (Parts → Rules) → Grid → RunView → List Weight → List ℕ
+picture_text rules grid run weights =
+    head_text grid run ++ lanes_text grid run ++ arrows_text grid run weights ++ marks_text rules grid run weights
     ++ codes "</svg>\n"
-
--- everything is in full, or exactly what led to the event at that position
-abbrev pub AreInFull : Option ℕ → List Event → List Bool → Type 0
-AreInFull None history flags = flags ≡ replicate (length history) true
-AreInFull (Some position) history flags = FlagsPast history position flags
 
 -- the text is the picture of the run, with that number of columns to a row; with a position, of what led to the event there
 abbrev pub IsPicture : (Parts → Rules) → RunView → ℕ → Option ℕ → List ℕ → Type 0
 IsPicture rules run columns position text =
-    (flags : List Bool) × AreInFull position run.history flags
-    × (text ≡ picture_text rules (grid_of run.setup columns (length run.history)) run flags)
+    (weights : List Weight) × AreWeighed run position weights
+    × (text ≡ picture_text rules (grid_of run.setup columns (length run.history)) run weights)

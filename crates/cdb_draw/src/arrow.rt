@@ -2,7 +2,7 @@
 
 ghost use Rattle.std.specs.Prelude.{◌≡◌, ◌≤◌, length};
 ghost use Rattle.cdb_draw.specs.Arrows.{arrow_at, arrow_text, copy_arrow, event_arrow, register_lane, register_spot, step_arrow};
-ghost use Rattle.cdb_draw.specs.Arrows.{upright, weight_text};
+ghost use Rattle.cdb_draw.specs.Arrows.{upright};
 ghost use Rattle.cdb_draw.specs.Layout.{end_x, IsGrid, IsOnPage};
 ghost use Rattle.cdb_draw.specs.Pieces.{pieces_text};
 ghost use Rattle.cdb_draw.specs.Sends.{AreSendsOf, AreTakesOf};
@@ -15,36 +15,30 @@ use crate::piece::{Piece, put_each};
 use crate::sends::{Sends, Takes, position_of_send};
 use crate::waits::put_on_way;
 use crate::way::{Side, coming, leaving, passing, side_of};
+use crate::weight::Weight;
 use cdb_base::limits::MAX_ENTRIES;
 use cdb_base::{Event, Kind, MsgName, Proc, Reg};
 use cdb_streams::{Buffer, OutputFault, Sink};
-
-/// How what is flagged is drawn, and the rest.
-pub(crate) fn weight(full: bool) -> &'static str
-    ensures { result.now ≡ weight_text full }
-{
-    if full { "full" } else { "pale" }
-}
 
 /// The arrow of a copy in one row.
 #[tactic(auto, unfolding(crate::specs::Arrows::arrow_text))]
 fn whole_arrow(
     class: &'static str,
-    full: bool,
+    weight: Weight,
     side: Side,
     from: Point,
     to: Point,
 ) -> [Piece<'static>; 16]
     requires from { IsOnPage from }
     requires to { IsOnPage to }
-    ensures { pieces_text result ≡ arrow_text class.now full (whole_way side from to) }
+    ensures { pieces_text result ≡ arrow_text class.now weight (whole_way side from to) }
 {
     let (near, before) = (from.x + 26, to.x - 26);
     [
         Text("<path class='"),
         Text(class),
         Text(" "),
-        Text(weight(full)),
+        Text(weight.class()),
         Text("' d='"),
         Text("M"),
         Between(from.x, ",", from.y),
@@ -64,7 +58,7 @@ fn whole_arrow(
 #[tactic(auto, unfolding(crate::specs::Arrows::arrow_text))]
 fn broken_arrow(
     class: &'static str,
-    full: bool,
+    weight: Weight,
     side: Side,
     edge: usize,
     from: Point,
@@ -76,14 +70,14 @@ fn broken_arrow(
     requires within { lane ≤ 820_001_000 }
     requires to { IsOnPage to }
     ensures { pieces_text result
-        ≡ arrow_text class.now full (broken_way side edge from lane to) }
+        ≡ arrow_text class.now weight (broken_way side edge from lane to) }
 {
     let (near, before) = (from.x + 26, to.x - 26);
     [
         Text("<path class='"),
         Text(class),
         Text(" "),
-        Text(weight(full)),
+        Text(weight.class()),
         Text("' d='"),
         Text("M"),
         Between(from.x, ",", from.y),
@@ -107,18 +101,18 @@ fn broken_arrow(
 #[tactic(auto, unfolding(crate::specs::Arrows::arrow_text))]
 fn upright_arrow(
     class: &'static str,
-    full: bool,
+    weight: Weight,
     x: usize,
     from: usize,
     to: usize,
 ) -> [Piece<'static>; 10]
-    ensures { pieces_text result ≡ arrow_text class.now full (upright x from to) }
+    ensures { pieces_text result ≡ arrow_text class.now weight (upright x from to) }
 {
     [
         Text("<path class='"),
         Text(class),
         Text(" "),
-        Text(weight(full)),
+        Text(weight.class()),
         Text("' d='"),
         Text("M"),
         Between(x, ",", from),
@@ -132,7 +126,7 @@ fn upright_arrow(
 fn put_way<W: Sink>(
     grid: Grid,
     class: &'static str,
-    full: bool,
+    weight: Weight,
     i: usize,
     s: Proc,
     j: usize,
@@ -144,16 +138,16 @@ fn put_way<W: Sink>(
     requires sent { i ≤ MAX_ENTRIES }
     requires received { j ≤ MAX_ENTRIES }
     ensures { Puts W.stream result out.old buffer.old out.new buffer.new
-        (arrow_text class.now full (way_of grid i s j p)) }
+        (arrow_text class.now weight (way_of grid i s j p)) }
 {
     let (from, to) = (spot(grid, i, s), spot(grid, j, p));
     let side = side_of(s, p);
     let row = row_of(grid, j);
     if row_of(grid, i) == row {
-        put_each(&whole_arrow(class, full, side, from, to), buffer, out)
+        put_each(&whole_arrow(class, weight, side, from, to), buffer, out)
     } else {
         let lane = lane_y(grid, row, s);
-        let pieces = broken_arrow(class, full, side, end_x(grid), from, lane, to);
+        let pieces = broken_arrow(class, weight, side, end_x(grid), from, lane, to);
         put_each(&pieces, buffer, out)
     }
 }
@@ -164,7 +158,7 @@ fn put_copy<W: Sink>(
     events: &[Event],
     sends: &Sends,
     class: &'static str,
-    full: bool,
+    weight: Weight,
     name: MsgName,
     position: usize,
     p: Proc,
@@ -176,11 +170,11 @@ fn put_copy<W: Sink>(
     requires position { position ≤ MAX_ENTRIES }
     requires sends { AreSendsOf sends.now events.now }
     ensures { Puts W.stream result out.old buffer.old out.new buffer.new
-        (copy_arrow grid events.now class.now full name position p) }
+        (copy_arrow grid events.now class.now weight name position p) }
 {
     let sender = name.s;
     match position_of_send(sends, name) {
-        Some(i) => put_way(grid, class, full, i, sender, position, p, buffer, out),
+        Some(i) => put_way(grid, class, weight, i, sender, position, p, buffer, out),
         None => Ok(()),
     }
 }
@@ -216,7 +210,7 @@ fn put_step<W: Sink>(
     events: &[Event],
     sends: &Sends,
     takes: &Takes,
-    full: bool,
+    weight: Weight,
     position: usize,
     p: Proc,
     kind: Kind,
@@ -229,29 +223,29 @@ fn put_step<W: Sink>(
     requires sends { AreSendsOf sends.now events.now }
     requires takes { AreTakesOf takes.now events.now }
     ensures { Puts W.stream result out.old buffer.old out.new buffer.new
-        (step_arrow grid events.now full position p kind) }
+        (step_arrow grid events.now weight position p kind) }
 {
     let row = row_of(grid, position);
     match kind {
         Kind::Recv(s, m) => {
             let name = MsgName { s, m };
             put_copy(
-                grid, events, sends, "copy", full, name, position, p, buffer, out,
+                grid, events, sends, "copy", weight, name, position, p, buffer, out,
             )
         }
         Kind::Read(register) => {
             let from = register_spot(grid, position, register);
-            let pieces = upright_arrow("read", full, from.x, from.y, lane_y(grid, row, p));
+            let pieces = upright_arrow("read", weight, from.x, from.y, lane_y(grid, row, p));
             put_each(&pieces, buffer, out)
         }
         Kind::Write(register) => {
             let to = register_spot(grid, position, register);
-            let pieces = upright_arrow("write", full, to.x, lane_y(grid, row, p), to.y);
+            let pieces = upright_arrow("write", weight, to.x, lane_y(grid, row, p), to.y);
             put_each(&pieces, buffer, out)
         }
         Kind::Send(m) => {
             let name = MsgName { s: p, m };
-            put_on_way(grid, events, takes, full, position, &name, buffer, out)
+            put_on_way(grid, events, takes, weight, position, &name, buffer, out)
         }
         Kind::Query(_) | Kind::Local | Kind::Learn | Kind::Crash => Ok(()),
     }
@@ -263,7 +257,7 @@ pub(crate) fn put_arrow<W: Sink>(
     events: &[Event],
     sends: &Sends,
     takes: &Takes,
-    full: bool,
+    weight: Weight,
     position: usize,
     event: &Event,
     buffer: &mut Buffer,
@@ -275,18 +269,18 @@ pub(crate) fn put_arrow<W: Sink>(
     requires sends { AreSendsOf sends.now events.now }
     requires takes { AreTakesOf takes.now events.now }
     ensures { Puts W.stream result out.old buffer.old out.new buffer.new
-        (event_arrow grid events.now full position event.now) }
+        (event_arrow grid events.now weight position event.now) }
 {
     match *event {
         Event::Step { p, kind, .. } => {
             put_step(
-                grid, events, sends, takes, full, position, p, kind, buffer, out,
+                grid, events, sends, takes, weight, position, p, kind, buffer, out,
             )
         }
         Event::Lost(copy) => {
             let (name, to) = (copy.msg, copy.to);
             put_copy(
-                grid, events, sends, "lost", full, name, position, to, buffer, out,
+                grid, events, sends, "lost", weight, name, position, to, buffer, out,
             )
         }
     }

@@ -7,11 +7,12 @@ ghost use Rattle.cdb_draw.specs.Pieces.{piece_text, pieces_text};
 ghost use Rattle.cdb_rules.specs.ByRules.{cell_in};
 ghost use Rattle.cdb_streams.specs.Putting.{Puts};
 
-use crate::arrow::{register_spot, weight};
+use crate::arrow::register_spot;
 use crate::layout::Grid;
 use crate::mark::value;
 use crate::piece::Piece::{Between, Text};
 use crate::piece::{Piece, put_each};
+use crate::weight::Weight;
 use cdb_base::limits::MAX_ENTRIES;
 use cdb_base::{Event, Kind, Reg};
 use cdb_rules::Runs;
@@ -31,7 +32,7 @@ fn held<T: Runs>(run: &T, register: Reg) -> Piece<'static>
 #[tactic(auto, unfolding(crate::specs::EventMarks::holding_text))]
 fn holding(
     grid: Grid,
-    full: bool,
+    weight: Weight,
     position: usize,
     register: Reg,
     value: Piece<'static>,
@@ -39,12 +40,12 @@ fn holding(
     requires grid { IsGrid grid }
     requires position { position ≤ MAX_ENTRIES }
     ensures { pieces_text result
-        ≡ holding_text grid full position register (piece_text value.entry) }
+        ≡ holding_text grid weight position register (piece_text value.entry) }
 {
     let at = register_spot(grid, position, register);
     [
         Text("<g class='holds "),
-        Text(weight(full)),
+        Text(weight.class()),
         Text("' transform='translate("),
         Between(at.x, ",", at.y),
         Text(")'><text x='6' y='-3'>"),
@@ -57,7 +58,7 @@ fn holding(
 pub(crate) fn put_written<T: Runs, W: Sink>(
     grid: Grid,
     run: &T,
-    full: bool,
+    weight: Weight,
     position: usize,
     event: &Event,
     buffer: &mut Buffer,
@@ -66,14 +67,14 @@ pub(crate) fn put_written<T: Runs, W: Sink>(
     requires grid { IsGrid grid }
     requires position { position ≤ MAX_ENTRIES }
     ensures { Puts W.stream result out.old buffer.old out.new buffer.new
-        (written_text T.rules grid (T.run run.now) full position event.now) }
+        (written_text T.rules grid (T.run run.now) weight position event.now) }
 {
     match *event {
         Event::Step { kind, .. } => match kind {
             Kind::Write(register) => {
                 let again = register;
                 let value = held(run, again);
-                let pieces = holding(grid, full, position, register, value);
+                let pieces = holding(grid, weight, position, register, value);
                 put_each(&pieces, buffer, out)
             }
             _ => Ok(()),

@@ -10,6 +10,9 @@ use cdb_setup::{Algorithm, Setup};
 /// As many columns to a row fit a page that lies.
 pub const COLUMNS: u32 = 20;
 
+/// Of a run with more events only what led to a step is drawn.
+pub const MOST_DRAWN: usize = 5_000;
+
 /// The columns of a row, and what a row has.
 #[derive(Clone, Copy)]
 pub struct Grid {

@@ -15,8 +15,9 @@ mod sends;
 pub mod style;
 mod waits;
 mod way;
+mod weight;
 
 pub use draws::draw_run;
 pub use laws::arrows_keep_off_marks;
-pub use layout::COLUMNS;
+pub use layout::{COLUMNS, MOST_DRAWN};
 pub use script::draw;

@@ -12,11 +12,11 @@ ghost use Rattle.cdb_rules.specs.ByRules.{mail_in};
 ghost use Rattle.cdb_streams.specs.Putting.{Puts};
 ghost use Rattle.cdb_text.specs.Reports.{value_text};
 
-use crate::arrow::weight;
 use crate::holds::put_written;
 use crate::layout::{Grid, spot};
 use crate::piece::Piece::{After, Between, Number, Text};
 use crate::piece::{Piece, put_each};
+use crate::weight::Weight;
 use cdb_base::limits::MAX_ENTRIES;
 use cdb_base::{Event, Kind, MsgName, Payload, Proc, Reg, Val};
 use cdb_deeds::Deed;
@@ -305,7 +305,7 @@ fn mark<'a, T: Runs>(
     before: u32,
     deed: &Deed,
     run: &T,
-    full: bool,
+    weight: Weight,
     position: usize,
     event: &Event,
     whole: &'a str,
@@ -313,7 +313,7 @@ fn mark<'a, T: Runs>(
     requires grid { IsGrid grid }
     requires position { position ≤ MAX_ENTRIES }
     ensures { pieces_text result
-        ≡ marked_text T.rules grid before deed.now (T.run run.now) full position event.now
+        ≡ marked_text T.rules grid before deed.now (T.run run.now) weight position event.now
         whole.entry.now }
 {
     let decided = decision_by(run, event);
@@ -326,7 +326,7 @@ fn mark<'a, T: Runs>(
     let at = spot(grid, position, lane_of(event));
     [
         Text("<g class='"),
-        Text(weight(full)),
+        Text(weight.class()),
         Text("' transform='translate("),
         Between(at.x, ",", at.y),
         Text(")'><title>"),
@@ -359,7 +359,7 @@ fn put_marked<T: Runs, W: Sink>(
     before: u32,
     deed: &Deed,
     run: &T,
-    full: bool,
+    weight: Weight,
     position: usize,
     event: &Event,
     whole: &mut String,
@@ -369,7 +369,7 @@ fn put_marked<T: Runs, W: Sink>(
     requires grid { IsGrid grid }
     requires position { position ≤ MAX_ENTRIES }
     ensures { Puts W.stream result out.old buffer.old out.new buffer.new
-        (marked_text T.rules grid before deed.now (T.run run.now) full position event.now
+        (marked_text T.rules grid before deed.now (T.run run.now) weight position event.now
         (whole_text T.rules Shown (T.run run.now) deed.now (T.run run.now) event.now)) }
 {
     whole.clear();
@@ -380,7 +380,7 @@ fn put_marked<T: Runs, W: Sink>(
             before,
             deed,
             run,
-            full,
+            weight,
             position,
             event,
             whole.as_str(),
@@ -397,7 +397,7 @@ pub(crate) fn put_mark<T: Runs, W: Sink>(
     before: u32,
     deed: &Deed,
     run: &T,
-    full: bool,
+    weight: Weight,
     position: usize,
     event: &Event,
     whole: &mut String,
@@ -407,10 +407,10 @@ pub(crate) fn put_mark<T: Runs, W: Sink>(
     requires grid { IsGrid grid }
     requires position { position ≤ MAX_ENTRIES }
     ensures { Puts W.stream result out.old buffer.old out.new buffer.new
-        (mark_text T.rules grid (T.run run.now) before deed.now (T.run run.now) full position event.now) }
+        (mark_text T.rules grid (T.run run.now) before deed.now (T.run run.now) weight position event.now) }
 {
     put_marked(
-        alloc, grid, before, deed, run, full, position, event, whole, buffer, out,
+        alloc, grid, before, deed, run, weight, position, event, whole, buffer, out,
     )?;
-    put_written(grid, run, full, position, event, buffer, out)
+    put_written(grid, run, weight, position, event, buffer, out)
 }

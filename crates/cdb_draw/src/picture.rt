@@ -23,8 +23,9 @@ use crate::piece::Piece::{After, Number, Text};
 use crate::piece::{Piece, put_each};
 use crate::sends::{Sends, Takes, sends_of, takes_of};
 use crate::style::{NAMESPACE, SHAPES, STYLE};
+use crate::weight::Weight;
 use cdb_base::limits::MAX_ENTRIES;
-use cdb_deeds::{Deed, Telling};
+use cdb_deeds::{Deed, ReceivedNames, Telling};
 use cdb_explain::{fresh, round_by, take_next};
 use cdb_rules::{Runs, Trace};
 use cdb_setup::Algorithm;
@@ -88,26 +89,26 @@ fn put_arrow_at<W: Sink>(
     run: &Trace,
     sends: &Sends,
     takes: &Takes,
-    flags: &[bool],
+    weights: &[Weight],
     position: usize,
     buffer: &mut Buffer,
     out: &mut W,
 ) -> Result<(), OutputFault>
     requires grid { IsGrid grid }
     requires few { length run.now.history ≤ MAX_ENTRIES }
-    requires a_flag_each { length flags.now ≡ length run.now.history }
+    requires a_weight_each { length weights.now ≡ length run.now.history }
     requires from_one { 1 ≤ position }
     requires to_len { position ≤ length run.now.history }
     requires sends { AreSendsOf sends.now run.now.history }
     requires takes { AreTakesOf takes.now run.now.history }
     ensures { Puts W.stream result out.old buffer.old out.new buffer.new
-        (arrow_at grid run.now.history flags.now position) }
+        (arrow_at grid run.now.history weights.now position) }
 {
     let events = run.events();
     let event = &events[position - 1];
-    let full = flags[position - 1];
+    let weight = weights[position - 1];
     put_arrow(
-        grid, events, sends, takes, full, position, event, buffer, out,
+        grid, events, sends, takes, weight, position, event, buffer, out,
     )
 }
 
@@ -116,21 +117,21 @@ fn put_arrows<W: Sink>(
     alloc: Global,
     grid: Grid,
     run: &Trace,
-    flags: &[bool],
+    weights: &[Weight],
     buffer: &mut Buffer,
     out: &mut W,
 ) -> Result<(), OutputFault>
     requires grid { IsGrid grid }
     requires few { length run.now.history ≤ MAX_ENTRIES }
-    requires a_flag_each { length flags.now ≡ length run.now.history }
+    requires a_weight_each { length weights.now ≡ length run.now.history }
     ensures { Puts W.stream result out.old buffer.old out.new buffer.new
-        (arrows_text grid run.now flags.now) }
+        (arrows_text grid run.now weights.now) }
 {
     let events = run.events();
     let sends = sends_of(alloc, events)?;
     let takes = takes_of(alloc, events)?;
     for i in 0..events.len() {
-        put_arrow_at(grid, run, &sends, &takes, flags, i + 1, buffer, out)?;
+        put_arrow_at(grid, run, &sends, &takes, weights, i + 1, buffer, out)?;
     }
     Ok(())
 }
@@ -144,7 +145,7 @@ fn put_mark_at<T: Runs, W: Sink>(
     before: u32,
     deed: &Deed,
     after: &T,
-    flags: &[bool],
+    weights: &[Weight],
     position: usize,
     whole: &mut String,
     buffer: &mut Buffer,
@@ -152,7 +153,7 @@ fn put_mark_at<T: Runs, W: Sink>(
 ) -> Result<(), OutputFault>
     requires grid { IsGrid grid }
     requires few { length run.now.history ≤ MAX_ENTRIES }
-    requires a_flag_each { length flags.now ≡ length run.now.history }
+    requires a_weight_each { length weights.now ≡ length run.now.history }
     requires from_one { 1 ≤ position }
     requires to_len { position ≤ length run.now.history }
     requires standing { IsStanding run.now.history }
@@ -160,13 +161,13 @@ fn put_mark_at<T: Runs, W: Sink>(
     requires did { deed.now ≡ deed_at run.now position }
     requires after { T.run after.now ≡ run_after run.now position }
     ensures { Puts W.stream result out.old buffer.old out.new buffer.new
-        (mark_at T.rules grid run.now flags.now position) }
+        (mark_at T.rules grid run.now weights.now position) }
 {
     let events = run.events();
     let event = &events[position - 1];
-    let full = flags[position - 1];
+    let weight = weights[position - 1];
     put_mark(
-        alloc, grid, before, deed, after, full, position, event, whole, buffer, out,
+        alloc, grid, before, deed, after, weight, position, event, whole, buffer, out,
     )
 }
 
@@ -175,27 +176,29 @@ fn put_marks<T: Telling, W: Sink>(
     alloc: Global,
     grid: Grid,
     run: &Trace,
-    flags: &[bool],
+    weights: &[Weight],
     buffer: &mut Buffer,
     out: &mut W,
 ) -> Result<(), OutputFault>
     requires valid { IsInOrder T.rules run.now }
     requires grid { IsGrid grid }
     requires few { length run.now.history ≤ MAX_ENTRIES }
-    requires a_flag_each { length flags.now ≡ length run.now.history }
+    requires a_weight_each { length weights.now ≡ length run.now.history }
     ensures { Puts W.stream result out.old buffer.old out.new buffer.new
-        (marks_text T.rules grid run.now flags.now) }
+        (marks_text T.rules grid run.now weights.now) }
 {
     let mut whole = String::new(alloc);
     let mut again = fresh::<T>(alloc, run)?;
+    let mut names = ReceivedNames::none(alloc)?;
     // Its clause says that the parts of the setup are in range.
     let _ranges = run.setup().n();
     let events = run.events();
     for i in 0..events.len() {
         let event = &events[i];
         let before = round_by(&again, event);
-        let deed = again.deed(alloc, &events[..i], event)?;
+        let deed = again.deed(alloc, &names, event)?;
         take_next(alloc, &mut again, event)?;
+        names.add(event)?;
         put_mark_at(
             alloc,
             grid,
@@ -203,7 +206,7 @@ fn put_marks<T: Telling, W: Sink>(
             before,
             &deed,
             &again,
-            flags,
+            weights,
             i + 1,
             &mut whole,
             buffer,
@@ -218,7 +221,7 @@ fn put_picture<T: Telling, W: Sink>(
     alloc: Global,
     grid: Grid,
     run: &Trace,
-    flags: &[bool],
+    weights: &[Weight],
     buffer: &mut Buffer,
     out: &mut W,
 ) -> Result<(), OutputFault>
@@ -226,14 +229,14 @@ fn put_picture<T: Telling, W: Sink>(
     requires grid { IsGrid grid }
     requires processes { grid.processes ≡ run.now.setup.processes }
     requires few { length run.now.history ≤ MAX_ENTRIES }
-    requires a_flag_each { length flags.now ≡ length run.now.history }
+    requires a_weight_each { length weights.now ≡ length run.now.history }
     ensures { Puts W.stream result out.old buffer.old out.new buffer.new
-        (picture_text T.rules grid run.now flags.now) }
+        (picture_text T.rules grid run.now weights.now) }
 {
     put_head(grid, run, buffer, out)?;
     put_lanes(grid, run, buffer, out)?;
-    put_arrows(alloc, grid, run, flags, buffer, out)?;
-    put_marks::<T, W>(alloc, grid, run, flags, buffer, out)?;
+    put_arrows(alloc, grid, run, weights, buffer, out)?;
+    put_marks::<T, W>(alloc, grid, run, weights, buffer, out)?;
     put_each(&[Text("</svg>\n")], buffer, out)
 }
 
@@ -242,7 +245,7 @@ fn write_pieces<T: Telling, W: Sink>(
     alloc: Global,
     grid: Grid,
     run: &Trace,
-    flags: &[bool],
+    weights: &[Weight],
     buffer: &mut Buffer,
     out: &mut W,
 ) -> Result<(), OutputFault>
@@ -250,33 +253,33 @@ fn write_pieces<T: Telling, W: Sink>(
     requires grid { IsGrid grid }
     requires processes { grid.processes ≡ run.now.setup.processes }
     requires few { length run.now.history ≤ MAX_ENTRIES }
-    requires a_flag_each { length flags.now ≡ length run.now.history }
+    requires a_weight_each { length weights.now ≡ length run.now.history }
     requires empty { buffer.old ≡ [] }
     ensures { IsWritten W.stream (pieces_ending result) out.old out.new
-        (Only (picture_text T.rules grid run.now flags.now)) }
+        (Only (picture_text T.rules grid run.now weights.now)) }
 {
-    put_picture::<T, W>(alloc, grid, run, flags, buffer, out)?;
+    put_picture::<T, W>(alloc, grid, run, weights, buffer, out)?;
     buffer.flush(out)?;
     Ok(())
 }
 
-/// Writes the picture in which the flagged events are drawn in full, and the rest pale. After `Write` what was
+/// Writes the picture in which the events are drawn in these weights. After `Write` what was
 /// written is a beginning of the picture, and after `NoMemory` one of whole pieces of 65,536 bytes.
 pub(crate) fn write_picture<T: Telling, W: Sink>(
     alloc: Global,
     grid: Grid,
     run: &Trace,
-    flags: &[bool],
+    weights: &[Weight],
     out: &mut W,
 ) -> Result<(), OutputFault>
     requires valid { IsInOrder T.rules run.now }
     requires grid { IsGrid grid }
     requires processes { grid.processes ≡ run.now.setup.processes }
     requires few { length run.now.history ≤ MAX_ENTRIES }
-    requires a_flag_each { length flags.now ≡ length run.now.history }
+    requires a_weight_each { length weights.now ≡ length run.now.history }
     ensures { IsWritten W.stream (pieces_ending result) out.old out.new
-        (Only (picture_text T.rules grid run.now flags.now)) }
+        (Only (picture_text T.rules grid run.now weights.now)) }
 {
     let mut buffer = Buffer::new(alloc)?;
-    write_pieces::<T, W>(alloc, grid, run, flags, &mut buffer, out)
+    write_pieces::<T, W>(alloc, grid, run, weights, &mut buffer, out)
 }

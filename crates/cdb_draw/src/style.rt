@@ -19,6 +19,8 @@ path,use{fill:none;stroke:black;stroke-width:1.3px}
 .write{marker-end:url(#end)}
 .wait path{stroke-dasharray:2 2}
 .decision,.beside{font-weight:bold}
+.bold text{font-weight:bold}
+path.bold,.bold use{stroke-width:3px}
 .pale{opacity:.5;color:#ccc}
 path.pale,.pale use{stroke-width:.7px;stroke-dasharray:3 2}
 </style>

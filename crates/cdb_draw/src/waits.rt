@@ -7,11 +7,11 @@ ghost use Rattle.cdb_draw.specs.Sends.{AreTakesOf};
 ghost use Rattle.cdb_streams.specs.Putting.{Puts};
 ghost use Rattle.std.specs.Prelude.{◌≡◌, ◌≤◌};
 
-use crate::arrow::weight;
 use crate::layout::{Grid, spot};
 use crate::piece::Piece::{After, Between, Text};
 use crate::piece::{Piece, put_each};
 use crate::sends::{Takes, position_of_take};
+use crate::weight::Weight;
 use cdb_base::limits::MAX_ENTRIES;
 use cdb_base::{CopyName, Event, MsgName, Proc};
 use cdb_streams::{Buffer, OutputFault, Sink};
@@ -66,19 +66,19 @@ fn stub(
     grid: Grid,
     events: &[Event],
     takes: &Takes,
-    full: bool,
+    weight: Weight,
     position: usize,
     name: &MsgName,
 ) -> [Piece<'static>; 16]
     requires grid { IsGrid grid }
     requires position { position ≤ MAX_ENTRIES }
     requires takes { AreTakesOf takes.now events.now }
-    ensures { pieces_text result ≡ stub_text grid events.now full position name.now }
+    ensures { pieces_text result ≡ stub_text grid events.now weight position name.now }
 {
     let at = spot(grid, position, name.s);
     [
         Text("<g class='wait "),
-        Text(weight(full)),
+        Text(weight.class()),
         Text("' transform='translate("),
         Between(at.x, ",", at.y),
         Text(")'><path d='M0,0L22,9'/><text class='note' y='33'>to"),
@@ -101,7 +101,7 @@ pub(crate) fn put_on_way<W: Sink>(
     grid: Grid,
     events: &[Event],
     takes: &Takes,
-    full: bool,
+    weight: Weight,
     position: usize,
     name: &MsgName,
     buffer: &mut Buffer,
@@ -111,10 +111,10 @@ pub(crate) fn put_on_way<W: Sink>(
     requires position { position ≤ MAX_ENTRIES }
     requires takes { AreTakesOf takes.now events.now }
     ensures { Puts W.stream result out.old buffer.old out.new buffer.new
-        (on_way_text grid events.now full position name.now) }
+        (on_way_text grid events.now weight position name.now) }
 {
     if some_wait(grid, events, takes, name) {
-        let pieces = stub(grid, events, takes, full, position, name);
+        let pieces = stub(grid, events, takes, weight, position, name);
         put_each(&pieces, buffer, out)
     } else {
         Ok(())

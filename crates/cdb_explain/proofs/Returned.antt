@@ -13,7 +13,7 @@ use Rattle.cdb_streams.specs.declared.buffer.OutputFault.{OutputFault}
 use Rattle.cdb_streams.specs.declared.buffer.OutputFault.TheVariants as output
 use Rattle.cdb_streams.specs.declared.fault.PlayFault.TheVariants as play
 use Rattle.cdb_explain.specs.declared.fault.ExplainFault.{ExplainFault}
-use Rattle.cdb_explain.specs.declared.fault.ExplainFault.TheVariants.{NoStep, NoValue, Play}
+use Rattle.cdb_explain.specs.declared.fault.ExplainFault.TheVariants.{NoStep, NoValue, TooManyEvents, Play}
 use Rattle.cdb_explain.specs.StepFaults.{IsFaultOfLeft, IsFaultOfStep}
 use Rattle.cdb_setup.specs.declared.fault.SetupFault.{SetupFault}
 use Rattle.cdb_rules.specs.RunView.{RunView}
@@ -32,6 +32,7 @@ pub fault_left : (rules : Parts → Rules) (json : List ℕ) (old new : Stream) 
 fault_left rules json old new Missing Valueless run left (Ok done) none = tt
 fault_left rules json old new Missing Valueless run left (Err NoStep) missing = (run, left, missing)
 fault_left rules json old new Missing Valueless run left (Err NoValue) none = (run, left, none)
+fault_left rules json old new Missing Valueless run left (Err TooManyEvents) none = absurd none
 fault_left rules json old new Missing Valueless run left (Err (Play fault)) (why, is) =
     subst (IsFaultOfPlay json old new) (sym is) (output_fault why json old new (left.2.setup, left.2.encodes))
 
@@ -46,6 +47,7 @@ module _ (Missing Valueless : Type 0) where
   is_no_setup (Ok done) fault is same = cc
   is_no_setup (Err NoStep) fault is same = cc
   is_no_setup (Err NoValue) fault is same = cc
+  is_no_setup (Err TooManyEvents) fault is same = cc
   is_no_setup (Err (Play made)) fault (output.Write, is) same = cc
   is_no_setup (Err (Play made)) fault (output.NoMemory refused, is) same = cc
 
@@ -53,6 +55,7 @@ module _ (Missing Valueless : Type 0) where
   reads_none (Ok done) is same = cc
   reads_none (Err NoStep) is same = cc
   reads_none (Err NoValue) is same = cc
+  reads_none (Err TooManyEvents) is same = cc
   reads_none (Err (Play made)) (output.Write, is) same = cc
   reads_none (Err (Play made)) (output.NoMemory refused, is) same = cc
 

@@ -2,7 +2,7 @@
 use Rattle.std.specs.Prelude.{◌≡◌, ℕ, List}
 use Rattle.cdb_explain.specs.Left.{Leaves}
 use Rattle.cdb_explain.specs.declared.fault.ExplainFault.{ExplainFault}
-use Rattle.cdb_explain.specs.declared.fault.ExplainFault.TheVariants.{NoStep, NoValue, Play}
+use Rattle.cdb_explain.specs.declared.fault.ExplainFault.TheVariants.{NoStep, NoValue, TooManyEvents, Play}
 use Rattle.cdb_rules.specs.RunView.{RunView}
 use Rattle.cdb_rules.specs.Rules.{Rules}
 use Rattle.cdb_setup.specs.Parts.{Parts}
@@ -14,10 +14,12 @@ use Rattle.cdb_streams.specs.declared.buffer.OutputFault.{OutputFault}
 abbrev pub IsFaultOfStep : (Missing Valueless : Type 0) → ExplainFault → Type 0
 IsFaultOfStep Missing Valueless NoStep = Missing
 IsFaultOfStep Missing Valueless NoValue = Valueless
+IsFaultOfStep Missing Valueless TooManyEvents = ⊥
 IsFaultOfStep Missing Valueless (Play fault) = (why : OutputFault) × (fault ≡ of_output why)
 
 -- the step is missing in the run that the script leaves, or has no value there; else as a fault of a play
 abbrev pub IsFaultOfLeft : (Parts → Rules) → List ℕ → Stream → Stream → (Missing Valueless : RunView → Type 0) → ExplainFault → Type 0
 IsFaultOfLeft rules json old new Missing Valueless NoStep = (run : RunView) × Leaves rules json old new run × Missing run
 IsFaultOfLeft rules json old new Missing Valueless NoValue = (run : RunView) × Leaves rules json old new run × Valueless run
+IsFaultOfLeft rules json old new Missing Valueless TooManyEvents = ⊥
 IsFaultOfLeft rules json old new Missing Valueless (Play fault) = IsFaultOfPlay json old new fault

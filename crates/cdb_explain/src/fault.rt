@@ -15,6 +15,8 @@ pub enum ExplainFault {
     NoStep,
     /// The step takes no value, so no trail leads to it.
     NoValue,
+    /// More events stand than are drawn, and no step is asked for.
+    TooManyEvents,
     /// As for a play of the script.
     Play(PlayFault),
 }
@@ -30,6 +32,7 @@ impl fmt::Display for ExplainFault {
                 write!(f, "{refusal}")
             }
             ExplainFault::NoValue => f.write_str("no value"),
+            ExplainFault::TooManyEvents => f.write_str("too many events to draw; name a step"),
             ExplainFault::Play(fault) => write!(f, "{fault}"),
         }
     }

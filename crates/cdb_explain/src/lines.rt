@@ -1,6 +1,6 @@
 //! The lines of the flagged events.
 
-ghost use Rattle.cdb_deeds.specs.Deeds.{deed_in};
+ghost use Rattle.cdb_deeds.specs.Deeds.{deed_in, received_by_each};
 ghost use Rattle.cdb_explain.specs.Explanations.{count_text, events_text, line_text, lines_text, IsExplanation};
 ghost use Rattle.cdb_explain.specs.Flagged.{flagged_of_first};
 ghost use Rattle.cdb_rules.specs.ByRules.{IsInOrder};
@@ -11,7 +11,7 @@ ghost use Rattle.std.specs.Prelude.{◌≡◌, ◌≤◌, length, IfOk, OnOk};
 use crate::line::{Causes, push_line};
 use crate::replay::{fresh, take_next};
 use cdb_base::{Event, NoMemory};
-use cdb_deeds::Telling;
+use cdb_deeds::{ReceivedNames, Telling};
 use cdb_rules::Trace;
 use std::alloc::{AllocError, Global};
 
@@ -22,16 +22,16 @@ fn push_next<T: Telling>(
     text: &mut String,
     causes: Causes,
     again: &mut T,
-    history: &[Event],
+    names: &ReceivedNames,
     event: &Event,
 ) -> Result<(), NoMemory>
-    requires history { history.now ≡ (T.run again.old).history }
+    requires names { names.now ≡ received_by_each (T.run again.old).history }
     requires next { IsInOrder T.rules (with_event (T.run again.old) event.now) }
     ensures taken { OnOk result (T.run again.new ≡ with_event (T.run again.old) event.now) }
     ensures line { Pushes result text.old text.new
         (line_text T.rules causes (T.run again.new) (deed_in (T.run again.old) event.now) (T.run again.new) event.now) }
 {
-    let deed = again.deed(alloc, history, event)?;
+    let deed = again.deed(alloc, names, event)?;
     take_next(alloc, again, event)?;
     push_line(alloc, text, causes, &deed, again, event)?;
     Ok(())
@@ -57,15 +57,17 @@ pub fn push_lines<T: Telling>(
     // Its clause says that the parts of the setup are in range.
     let _ranges = run.setup().n();
     let events = run.events();
+    let mut names = ReceivedNames::none(alloc)?;
     let mut count = 0;
     for i in 0..events.len() {
         let event = &events[i];
         if flags[i] {
-            push_next(alloc, text, causes, &mut again, &events[..i], event)?;
+            push_next(alloc, text, causes, &mut again, &names, event)?;
             count += 1;
         } else {
             take_next(alloc, &mut again, event)?;
         }
+        names.add(event)?;
     }
     Ok(count)
 }

@@ -14,6 +14,10 @@ use Rattle.cdb_setup.specs.declared.fault.SetupFault.{SetupFault}
 use Rattle.cdb_journal.specs.Replays.{IsFaultOfReplay, Replays, TellsAgain}
 use Rattle.cdb_program.specs.Playing.{IsPlay}
 use Rattle.cdb_program.specs.Replaying.{IsReplay}
+use Rattle.cdb_program.specs.Searching.{IsSearch}
+use Rattle.cdb_goal.specs.declared.goal.Goal.{Goal}
+use Rattle.cdb_search.specs.Found.{IsFaultOfSearch, IsFound, search_ending}
+use Rattle.cdb_search.specs.declared.fault.SearchFault.{SearchFault}
 
 -- what was written of a text, by the writer's stream
 pub stream_written : {W : Type 0} (stream : W → Stream) (ending : Ending) (old new : W) (IsText : List ℕ → Type 0) → IsWritten stream ending old new IsText → IsWritten (λ (s : Stream). s) ending (stream old) (stream new) IsText
@@ -53,3 +57,9 @@ replay_seen reader writer json replayed journal rest old new wrote again fault s
   unread = λ why is. ap reader (same why is);
   read = read;
 }
+
+-- what a search says of its writer
+pub search_seen : {W : Type 0} (writer : W → Stream) (json : List ℕ) (goal : Goal) (walks : ℕ) (searched : Result (Unit {0}) SearchFault) (old new : W)
+    → IsWritten writer (search_ending searched) old new (IsFound rules json goal) → IfErr searched (IsFaultOfSearch json walks) → IsSearch json goal walks searched (writer old) (writer new)
+search_seen writer json goal walks searched old new wrote fault =
+    record { wrote = stream_written writer (search_ending searched) old new (IsFound rules json goal) wrote; fault = fault }

@@ -8,6 +8,7 @@ pub mod Playing
 pub mod Racing
 pub mod Questions
 pub mod Replaying
+pub mod Searching
 pub mod Debugging
 pub mod Seating
 pub mod Requests

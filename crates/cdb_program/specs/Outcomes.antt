@@ -2,10 +2,12 @@
 use Rattle.std.specs.Prelude.{◌≡◌, ℕ, List, Result, Ok, Err}
 use Rattle.cdb_explain.specs.declared.fault.ExplainFault.{ExplainFault}
 use Rattle.cdb_explain.specs.declared.fault.ExplainFault.TheVariants as explain
+use Rattle.cdb_search.specs.declared.fault.SearchFault.{SearchFault}
+use Rattle.cdb_search.specs.declared.fault.SearchFault.TheVariants as search
 use Rattle.cdb_streams.specs.declared.fault.PlayFault.{PlayFault}
 use Rattle.cdb_streams.specs.declared.fault.RaceFault.{RaceFault}
 use Rattle.cdb_program.specs.declared.fault.Fault.{Fault}
-use Rattle.cdb_program.specs.declared.fault.Fault.TheVariants.{Play, Race, NoStep, NoValue}
+use Rattle.cdb_program.specs.declared.fault.Fault.TheVariants.{Play, Race, NoStep, NoValue, NotFound, DoesNotHold, TooManyEvents}
 
 -- how a request ended
 abbrev pub RequestEnd : Type 0
@@ -28,5 +30,14 @@ abbrev pub IsOfExplain : List ℕ → Result (Unit {0}) ExplainFault → Request
 IsOfExplain name (Ok done) (Ok its_done) = Unit {0}
 IsOfExplain name (Err explain.NoStep) (Err NoStep) = Unit {0}
 IsOfExplain name (Err explain.NoValue) (Err NoValue) = Unit {0}
+IsOfExplain name (Err explain.TooManyEvents) (Err TooManyEvents) = Unit {0}
 IsOfExplain name (Err (explain.Play fault)) (Err (Play its_fault its_name)) = (its_fault ≡ fault) × (its_name.now ≡ name)
 IsOfExplain name explained outcome = ⊥
+
+-- it ended as the search did, whose fault of a play has that name
+abbrev pub IsOfSearch : List ℕ → Result (Unit {0}) SearchFault → RequestEnd → Type 0
+IsOfSearch name (Ok done) (Ok its_done) = Unit {0}
+IsOfSearch name (Err (search.NotFound walks)) (Err (NotFound its_walks)) = its_walks ≡ walks
+IsOfSearch name (Err search.DoesNotHold) (Err DoesNotHold) = Unit {0}
+IsOfSearch name (Err (search.Play fault)) (Err (Play its_fault its_name)) = (its_fault ≡ fault) × (its_name.now ≡ name)
+IsOfSearch name searched outcome = ⊥

@@ -1,11 +1,15 @@
 -- How the program reports that a request ended.
-use Rattle.std.specs.Prelude.{◌≡◌, ℕ, List, codes, Result, Ok, Err}
+use Rattle.std.specs.Prelude.{◌≡◌, ℕ, List, ◌++◌, codes, decimal, Result, Ok, Err}
 use Rattle.cdb_streams.specs.FaultTexts.{as_line, play_fault_text, race_fault_text}
 use Rattle.cdb_streams.specs.Statuses.{play_status, race_status}
 use Rattle.cdb_streams.specs.Streams.{Stream, Writes, itself}
 use Rattle.cdb_streams.specs.declared.sink.Failed.{Failed}
 use Rattle.cdb_program.specs.declared.fault.Fault.{Fault}
-use Rattle.cdb_program.specs.declared.fault.Fault.TheVariants.{Play, Race, NoStep, NoValue, TooManySeats, Refused}
+use Rattle.cdb_program.specs.declared.fault.Fault.TheVariants.{Play, Race, NoStep, NoValue, NoGoal, NotFound, DoesNotHold, TooManyEvents, TooManySeats, Refused}
+
+-- that a goal held in none of so many walks
+abbrev pub not_found_text : ℕ → List ℕ
+not_found_text walks = codes "not found in " ++ decimal walks ++ codes " walks\n"
 
 -- what is reported; a reason is a text of whole lines
 abbrev pub fault_text : Fault → List ℕ
@@ -13,6 +17,10 @@ fault_text (Play fault name) = as_line (play_fault_text fault name.now)
 fault_text (Race fault) = as_line (race_fault_text fault)
 fault_text NoStep = codes "refused 10 NoStep\n"
 fault_text NoValue = codes "no value\n"
+fault_text TooManyEvents = codes "too many events to draw; name a step\n"
+fault_text NoGoal = codes "the goal is differ, all, stuck:R or decides:P:V\n"
+fault_text (NotFound walks) = not_found_text walks
+fault_text DoesNotHold = codes "the goal does not hold\n"
 fault_text TooManySeats = codes "too many seats\n"
 fault_text (Refused reason) = reason.now
 
@@ -22,6 +30,10 @@ fault_status (Play fault name) = play_status fault
 fault_status (Race fault) = race_status fault
 fault_status NoStep = 1
 fault_status NoValue = 1
+fault_status TooManyEvents = 1
+fault_status NoGoal = 2
+fault_status (NotFound walks) = 1
+fault_status DoesNotHold = 1
 fault_status TooManySeats = 2
 fault_status (Refused reason) = 2
 

@@ -12,6 +12,7 @@ use Rattle.cdb_program.specs.Racing.{RacesFiles}
 use Rattle.cdb_program.specs.Reading.{file_names}
 use Rattle.cdb_program.specs.Replaying.{ReplaysFiles}
 use Rattle.cdb_program.specs.Reports.{IsReported}
+use Rattle.cdb_program.specs.Searching.{SearchesFile}
 use Rattle.cdb_program.specs.Seating.{PerformsShared}
 use Rattle.cdb_program.specs.declared.fault.Fault.TheVariants.{Play}
 use Rattle.cdb_program.specs.declared.request.Request.{Request}
@@ -52,6 +53,7 @@ Does (request.Ask setup script question) old new outcome = AsksFiles setup.now s
 Does (request.Debug setup prompt) old new outcome = DebugsFile setup.now prompt.now old new outcome
 Does (request.DebugShared setup seats file) old new outcome = ⊥
 Does (request.Replay setup journal) old new outcome = ReplaysFiles setup.now journal.now old new outcome
+Does (request.Search setup goal seed walks) old new outcome = SearchesFile setup.now goal.now walks old new outcome
 Does (request.Print text) old new outcome = ReadsNothing old new × Prints text.now old.output new.output outcome
 Does (request.Refuse fault) old new outcome = ReadsNothing old new × (new.output ≡ old.output) × (outcome ≡ Err fault)
 

@@ -1,11 +1,18 @@
 //! Why a request was not carried out to its end.
 
-ghost use Rattle.cdb_program.specs.Outcomes.{IsOfExplain, IsOfPlay, IsOfRace};
+ghost use Rattle.cdb_program.specs.Outcomes.{IsOfExplain, IsOfPlay, IsOfRace, IsOfSearch};
 
 use cdb_explain::ExplainFault;
+use cdb_search::SearchFault;
 use cdb_streams::{PlayFault, RaceFault};
 use std::error::Error;
 use std::fmt;
+
+/// What is reported of a word that names no goal.
+pub(crate) const NO_GOAL: &str = "the goal is differ, all, stuck:R or decides:P:V\n";
+
+/// What is reported of a goal that doesn't hold.
+pub(crate) const DOES_NOT_HOLD: &str = "the goal does not hold\n";
 
 /// Why a request was not carried out to its end.
 #[derive(Clone, Copy, Debug)]
@@ -17,6 +24,14 @@ pub enum Fault<'a> {
     NoStep,
     /// The step whose trail was asked for takes no value.
     NoValue,
+    /// More events stand than are drawn, and no step was asked for.
+    TooManyEvents,
+    /// The word that was given names no goal.
+    NoGoal,
+    /// The goal held in none of this many walks.
+    NotFound(u32),
+    /// The goal doesn't hold of the run that the script leaves.
+    DoesNotHold,
     /// A race of more than 64 processes and scripts.
     TooManySeats,
     /// Nothing was asked for that can be done, and this text says why.
@@ -37,6 +52,10 @@ impl fmt::Display for Fault<'_> {
             Fault::Race(fault) => writeln!(f, "{fault}"),
             Fault::NoStep => f.write_str("refused 10 NoStep\n"),
             Fault::NoValue => f.write_str("no value\n"),
+            Fault::TooManyEvents => f.write_str("too many events to draw; name a step\n"),
+            Fault::NoGoal => f.write_str(NO_GOAL),
+            Fault::NotFound(walks) => writeln!(f, "not found in {walks} walks"),
+            Fault::DoesNotHold => f.write_str(DOES_NOT_HOLD),
             Fault::TooManySeats => f.write_str("too many seats\n"),
             Fault::Refused(reason) => f.write_str(reason),
         }
@@ -73,6 +92,19 @@ pub fn of_explain<'a>(explained: Result<(), ExplainFault>, name: &'a str) -> Res
         Ok(()) => Ok(()),
         Err(ExplainFault::NoStep) => Err(Fault::NoStep),
         Err(ExplainFault::NoValue) => Err(Fault::NoValue),
+        Err(ExplainFault::TooManyEvents) => Err(Fault::TooManyEvents),
         Err(ExplainFault::Play(fault)) => Err(Fault::Play(fault, name)),
+    }
+}
+
+/// How a request ended that searched for a run, with the setup or the script of this name.
+pub fn of_search<'a>(searched: Result<(), SearchFault>, name: &'a str) -> Result<(), Fault<'a>>
+    ensures { IsOfSearch name.entry.now searched result }
+{
+    match searched {
+        Ok(()) => Ok(()),
+        Err(SearchFault::NotFound(walks)) => Err(Fault::NotFound(walks)),
+        Err(SearchFault::DoesNotHold) => Err(Fault::DoesNotHold),
+        Err(SearchFault::Play(fault)) => Err(Fault::Play(fault, name)),
     }
 }

@@ -51,6 +51,13 @@ pub trait Files {
     /// if it had not been opened.
     fn make_file(&mut self, alloc: Global, name: &str) -> Result<Self::Made, ReadFault>
         ensures { MakesFile Self.Made.stream (seen self.old) (seen self.new) name.now result };
+
+    /// Shows that so many of so many walks are done, in a line that is written over, where standard error is a terminal. Of that line
+    /// nothing is known, and what can't be shown is left out.
+    fn show_progress(&self, done: u32, all: u32);
+
+    /// Clears that line.
+    fn clear_progress(&self);
 }
 
 /// The bytes of the file of this name, at most 1,048,577 of them.

@@ -11,6 +11,7 @@ mod races;
 mod replays;
 mod reports;
 mod request;
+mod searches;
 mod seats;
 
 pub use fault::Fault;

@@ -41,7 +41,7 @@ fn answer<R: Source, W: Sink>(
             explain::<AnyRun, R, W>(alloc, setup, script, step.p, step.k, out)
         }
         Question::Trail(step) => write_trail(alloc, setup, script, step.p, step.k, out),
-        Question::Draw(step) => draw::<AnyRun, R, W>(alloc, setup, script, COLUMNS, step, out),
+        Question::Draw(step) => draw::<R, W>(alloc, setup, script, COLUMNS, step, out),
         Question::Slice(step) => slice::<AnyRun, R, W>(alloc, setup, script, step, out),
     }
 }

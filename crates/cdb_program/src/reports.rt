@@ -1,15 +1,16 @@
 //! What is reported of how a request ended.
 
 ghost use Rattle.std.specs.Prelude.{◌≡◌};
-ghost use Rattle.cdb_program.specs.Reports.{fault_text, fault_status, IsReported};
+ghost use Rattle.cdb_program.specs.Reports.{fault_text, fault_status, not_found_text, IsReported};
 ghost use Rattle.cdb_streams.specs.Streams.{Writes};
 
-use crate::fault::Fault;
+use crate::fault::{DOES_NOT_HOLD, Fault, NO_GOAL};
 use cdb_streams::{
-    Failed, Sink, race_status_of, status_of, write_all, write_fault, write_race_fault,
+    Failed, Piece, Sink, race_status_of, status_of, write_all, write_each, write_fault,
+    write_race_fault,
 };
 
-/// The status after a step that doesn't stand, or takes no value.
+/// The status after a step that doesn't stand, takes no value or has to be named, and after a goal that doesn't hold.
 const NO_STEP: u8 = 1;
 
 /// The status after arguments that can't be carried out.
@@ -22,9 +23,24 @@ fn status_after(fault: &Fault<'_>) -> u8
     match fault {
         Fault::Play(fault, _) => status_of(fault),
         Fault::Race(fault) => race_status_of(fault),
-        Fault::NoStep | Fault::NoValue => NO_STEP,
-        Fault::TooManySeats | Fault::Refused(_) => USAGE,
+        Fault::NoStep | Fault::NoValue | Fault::TooManyEvents => NO_STEP,
+        Fault::NotFound(_) | Fault::DoesNotHold => NO_STEP,
+        Fault::NoGoal | Fault::TooManySeats | Fault::Refused(_) => USAGE,
     }
+}
+
+/// Writes that a goal held in none of so many walks.
+fn write_not_found<E: Sink>(walks: u32, error: &mut E) -> Result<(), Failed>
+    ensures { Writes E.stream result error.old error.new (not_found_text walks) }
+{
+    write_each(
+        error,
+        &[
+            Piece::Text("not found in "),
+            Piece::Number(walks as usize),
+            Piece::Text(" walks\n"),
+        ],
+    )
 }
 
 /// Writes the text of a fault. Where the writer fails, what was written is a beginning of it.
@@ -36,6 +52,10 @@ fn write_text<E: Sink>(fault: &Fault<'_>, error: &mut E) -> Result<(), Failed>
         Fault::Race(fault) => write_race_fault(fault, error),
         Fault::NoStep => write_all(error, b"refused 10 NoStep\n"),
         Fault::NoValue => write_all(error, b"no value\n"),
+        Fault::TooManyEvents => write_all(error, b"too many events to draw; name a step\n"),
+        Fault::NoGoal => write_all(error, NO_GOAL.as_bytes()),
+        Fault::NotFound(walks) => write_not_found(*walks, error),
+        Fault::DoesNotHold => write_all(error, DOES_NOT_HOLD.as_bytes()),
         Fault::TooManySeats => write_all(error, b"too many seats\n"),
         Fault::Refused(reason) => write_all(error, reason.as_bytes()),
     }

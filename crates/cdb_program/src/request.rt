@@ -12,6 +12,7 @@ use crate::questions::answer_files;
 use crate::races::race_files;
 use crate::replays::replay_files;
 use crate::reports::report;
+use crate::searches::search_file;
 use crate::seats::perform_shared;
 use cdb_base::Question;
 use cdb_streams::{PlayFault, Sink, Source, write_all};
@@ -63,6 +64,13 @@ pub enum Request<'a> {
         setup: &'a str,
         journal: &'a str,
     },
+    /// Searches for a run of a setup file in which the goal of this word holds, with this seed and at most so many walks.
+    Search {
+        setup: &'a str,
+        goal: &'a str,
+        seed: u32,
+        walks: u32,
+    },
     /// Writes a text to standard output.
     Print(&'a str),
     /// Does nothing, and reports this fault.
@@ -111,6 +119,12 @@ fn carry_out<
         Request::Debug { setup, prompt } => debug_file(alloc, setup, prompt, outside),
         Request::DebugShared { .. } => unreachable!(),
         Request::Replay { setup, journal } => replay_files(alloc, setup, journal, outside),
+        Request::Search {
+            setup,
+            goal,
+            seed,
+            walks,
+        } => search_file(alloc, setup, goal, seed, walks, outside),
         Request::Print(text) => print(text, &mut outside.streams.output),
         Request::Refuse(fault) => Err(fault),
     }

@@ -1,5 +1,5 @@
 -- A list is parted by its flags.
-use Rattle.std.proofs.Common.{◌≡◌, ℕ, zero, suc, ◌+◌, ◌<◌, ⊎_elim, Bool, true, false, List, [], ◌∷◌, ◌++◌, Some, length, slice_get, drop, refl, sym, ap, ◌∙◌, subst, arith, append_assoc}
+use Rattle.std.proofs.Common.{◌≡◌, ℕ, zero, suc, ◌+◌, ◌<◌, ◌≤◌, ⊎_elim, Bool, true, false, List, [], ◌∷◌, ◌++◌, Some, length, slice_get, drop, refl, sym, ap, ◌∙◌, subst, arith, append_assoc}
 use Rattle.std.proofs.lemmas.Option.{slice_get_cases}
 use Rattle.cdb_base.specs.declared.event.Event.{Event}
 use Rattle.cdb_causal.proofs.Lists.{drop_from}
@@ -40,6 +40,23 @@ flags_slice history at flags past =
       to = λ i is. let same : suc i ≡ 1 + i = omega arith in subst (HasLedTo depends history at) same ((past.1 (suc i)).0 is);
       from = λ i led. let same : 1 + i ≡ suc i = omega arith in (past.1 (suc i)).1 (subst (HasLedTo depends history at) same led);
     })
+
+-- ---- how many are flagged
+
+pub some_flagged : {A : Type 0} (flags : List Bool) (xs : List A) (i : ℕ) → i < length xs → slice_get flags i ≡ Some true → 1 ≤ length (flagged flags xs)
+some_flagged [] (x ∷ xs) i within is = absurd (cc)
+some_flagged flags [] i within is = absurd (omega (arith, within))
+some_flagged (true ∷ flags) (x ∷ xs) i within is = omega arith
+some_flagged (false ∷ flags) (x ∷ xs) zero within is = absurd (cc)
+some_flagged (false ∷ flags) (x ∷ xs) (suc i) within is =
+    let less : i < length xs = omega (arith, within) in
+    some_flagged flags xs i less is
+
+pub few_flagged : {A : Type 0} (flags : List Bool) (xs : List A) → length (flagged flags xs) ≤ length xs
+few_flagged [] xs = omega arith
+few_flagged (flag ∷ flags) [] = omega arith
+few_flagged (true ∷ flags) (x ∷ xs) = let rest = few_flagged flags xs in omega (arith, rest)
+few_flagged (false ∷ flags) (x ∷ xs) = let rest = few_flagged flags xs in omega (arith, rest)
 
 -- ---- one element after the other
 

@@ -1,10 +1,11 @@
 -- The script of the events of a valid history plays them back.
-use Rattle.std.proofs.Common.{◌≡◌, List, [], ◌∷◌, ◌++◌, Option, Some, None, Ok, IsTrue, map, refl, sym, ap, ◌∙◌, subst, append-nil, append_assoc}
+use Rattle.std.proofs.Common.{◌≡◌, ℕ, List, [], ◌∷◌, ◌++◌, Option, Some, None, Ok, IsTrue, map, refl, sym, ap, ◌∙◌, subst, append-nil, append_assoc}
 use Rattle.cdb_base.specs.declared.event.Event.{Event}
 use Rattle.cdb_base.specs.declared.event.Event.TheVariants.{Step, Lost}
 use Rattle.cdb_base.specs.declared.question.StepAsked.{StepAsked}
 use Rattle.cdb_causal.proofs.Slices.{slice_to_front}
 use Rattle.cdb_causal.specs.Dependence.{depends}
+use Rattle.cdb_causal.specs.Past.{IsSlice}
 use Rattle.cdb_control.specs.Commands.{Outcome, granted, lost, outcome, obey, reply_of, step_done}
 use Rattle.cdb_control.specs.Headline.{TellsTaken}
 use Rattle.cdb_control.specs.Journal.{replay_from, replay}
@@ -53,8 +54,11 @@ module _ (rules : Rules) (SameState : List Event → List Event → Type 0) (set
       let all = plays events (first_control_state setup 1) valid in
       record { answered = all.0; left = all.1 }
 
-  -- what led to a step of a valid history is one itself
+  -- what led to an event of a valid history is one itself
+  pub past_valid : (history : List Event) (position : ℕ) (events others : List Event) → IsTrue (rules.valid history) → IsSlice depends history position events others → IsTrue (rules.valid events)
+  past_valid history position events others valid slice =
+      keeps.beginning events others (keeps.exchanged history (events ++ others) (slice_to_front depends history position events others slice) valid)
+
   pub sliced_valid : (history : List Event) (step : Option StepAsked) (events : List Event) → IsTrue (rules.valid history) → AreSliced history step events → IsTrue (rules.valid events)
   sliced_valid history None events valid is = subst (λ (h : List Event). IsTrue (rules.valid h)) (sym is) valid
-  sliced_valid history (Some step) events valid (position, asked, others, slice) =
-      keeps.beginning events others (keeps.exchanged history (events ++ others) (slice_to_front depends history position events others slice) valid)
+  sliced_valid history (Some step) events valid (position, asked, others, slice) = past_valid history position events others valid slice

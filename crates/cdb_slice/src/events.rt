@@ -11,7 +11,11 @@ use cdb_rules::Trace;
 use std::alloc::Global;
 
 /// The flagged events, in order.
-fn flagged(alloc: Global, events: &[Event], flags: &[bool]) -> Result<Vec<Event>, NoMemory>
+pub(crate) fn flagged(
+    alloc: Global,
+    events: &[Event],
+    flags: &[bool],
+) -> Result<Vec<Event>, NoMemory>
     requires { length flags.now ≡ length events.now }
     ensures { IfOk result (λ found. found.items ≡ flagged flags.now events.now) }
 {

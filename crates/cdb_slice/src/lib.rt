@@ -8,7 +8,10 @@
 
 mod events;
 pub mod laws;
+mod past;
 mod script;
 mod slices;
 
+pub use past::past_of;
+pub use script::script_of;
 pub use slices::slice;

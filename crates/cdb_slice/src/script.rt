@@ -56,7 +56,7 @@ fn push_script(text: &mut String, events: &[Event]) -> Result<(), AllocError>
 }
 
 /// The script of these events.
-pub(crate) fn script_of(alloc: Global, events: &[Event]) -> Result<Vec<u8>, NoMemory>
+pub fn script_of(alloc: Global, events: &[Event]) -> Result<Vec<u8>, NoMemory>
     ensures { IfOk result (λ text. text.items ≡ script_text events.now) }
 {
     let mut text = String::new(alloc);

@@ -21,6 +21,7 @@ pub use fault_text::{write_fault, write_race_fault};
 pub use input::{Bytes, HeldBytes, Input};
 pub use lines::first_line;
 pub use output::Output;
+pub use piece::{Piece, write_each};
 pub use reply::put_reply;
 pub use script::{ScriptFault, commands_of, read_commands};
 pub use sink::{Failed, Sink, write_all};

@@ -1,8 +1,7 @@
 -- What the number of the first element that passes a test says of the searches of the tables.
-use Rattle.std.proofs.Common.{◌≡◌, ℕ, zero, suc, ◌+◌, ◌<◌, length, slice_get, arith, Bool, true, false, cond, List, [], ◌∷◌, Option, Some, None, is_some, option_map, find, if◌then◌else◌, ◌⊎◌, inl, inr, refl, sym, ap, ◌∙◌}
+use Rattle.std.proofs.Common.{◌≡◌, ℕ, zero, suc, Bool, true, false, cond, List, [], ◌∷◌, Option, Some, None, is_some, option_map, find, if◌then◌else◌, ◌⊎◌, inl, inr, refl, sym, ap, ◌∙◌}
 use Rattle.std.specs.Option.{option_or}
-use Rattle.std.proofs.lemmas.Option.{none-some, same_Some}
-use Rattle.std.proofs.lemmas.Bool.{cases_eq}
+use Rattle.std.proofs.lemmas.Option.{none-some}
 use Rattle.cdb_base.specs.Positions.{nth}
 use Rattle.cdb_leader.specs.Inbox.{first_given}
 use Rattle.cdb_deeds.specs.Numbers.{number_of}

@@ -1,5 +1,5 @@
 -- The walk back from a step along its trail: what is left of the trail leads to the first step that was found.
-use Rattle.std.proofs.Common.{◌≡◌, ◌≢◌, ℕ, zero, suc, ◌+◌, ◌<◌, ◌≤◌, Bool, true, false, List, [], ◌∷◌, ◌++◌, Contains, Option, Some, None, length, replicate, slice_get, slice_set, option_to_list, ◌⊎◌, inl, inr, ◌↔◌, refl, sym, ap, subst, ◌∙◌, arith, true≢false}
+use Rattle.std.proofs.Common.{◌≡◌, ℕ, zero, suc, ◌<◌, ◌≤◌, Bool, true, false, List, [], ◌∷◌, ◌++◌, Contains, Option, Some, None, length, replicate, slice_set, option_to_list, ◌⊎◌, inl, inr, refl, sym, ap, subst, ◌∙◌, arith, true≢false}
 use Rattle.std.proofs.lemmas.Bool.{cases_eq, cases_lt}
 use Rattle.std.proofs.lemmas.List.{length-set, length-replicate, get_or-replicate}
 use Rattle.std.proofs.lemmas.List.Elements.{Contains-push_cases}
@@ -12,7 +12,7 @@ use Rattle.cdb_process.proofs.Members.{IsIn, contained_in, in_contained}
 use Rattle.cdb_rules.specs.State.{Machine}
 use Rattle.cdb_trail.specs.Flow.{Spot, slot, message, register, Flows}
 use Rattle.cdb_trail.specs.Trailed.{FlagsTrail}
-use Rattle.cdb_trail.specs.Trails.{Takes, Sets, IsFed, TakesInput, IsTrail, begins, goes_on}
+use Rattle.cdb_trail.specs.Trails.{Takes, Sets, IsTrail, begins, goes_on}
 
 -- ---- flags
 

@@ -1,12 +1,11 @@
 -- Where a value lies in a run, and how a step moves it.
-use Rattle.std.specs.Prelude.{◌≡◌, ℕ, List, [], ◌∷◌, Contains, Option, Some, None}
+use Rattle.std.specs.Prelude.{◌≡◌, ℕ, List, [], Contains, Option, Some, None}
 use Rattle.std.specs.Option.{option_and_then}
 use Rattle.cdb_base.specs.Positions.{nth}
 use Rattle.cdb_base.specs.declared.event.Event.{Event}
 use Rattle.cdb_base.specs.declared.event.Event.TheVariants.{Step, Lost}
 use Rattle.cdb_base.specs.declared.event.Kind.{Kind}
 use Rattle.cdb_base.specs.declared.event.Kind.TheVariants.{Send, Recv, Read, Write}
-use Rattle.cdb_base.specs.declared.register.Reg.{Reg}
 use Rattle.cdb_message.specs.Mail.{message_name, payload_of}
 use Rattle.cdb_process.specs.Values.{payload_value}
 use Rattle.cdb_register.specs.Registers.{cell_of}

@@ -1,12 +1,12 @@
 -- The oracle's answers on which a trail rests: the queries whose answers its votes count, and that began the rounds in which its values
 -- were settled.
-use Rattle.std.specs.Prelude.{ℕ, Bool, false, ◌==◌, ◌&&◌, List, [], ◌∷◌, ◌++◌, codes, length, filter, map, Option, option_map, option_to_list}
+use Rattle.std.specs.Prelude.{ℕ, Bool, false, ◌==◌, ◌&&◌, List, ◌++◌, codes, length, filter, map, option_map, option_to_list}
 use Rattle.std.specs.List.{flat_map, list_any, range_with_len}
 use Rattle.cdb_agreement.specs.Algorithms.{rules}
 use Rattle.cdb_base.specs.Event.{event_name}
 use Rattle.cdb_base.specs.Positions.{nth}
 use Rattle.cdb_base.specs.declared.event.Event.{Event}
-use Rattle.cdb_base.specs.declared.event.Event.TheVariants.{Step, Lost}
+use Rattle.cdb_base.specs.declared.event.Event.TheVariants.{Step}
 use Rattle.cdb_base.specs.declared.name.StepId.{StepId}
 use Rattle.cdb_deeds.specs.declared.deed.Deed.{Deed}
 use Rattle.cdb_deeds.specs.declared.deed.Deed.TheVariants.{Round, Votes, SettlesRegister, SettlesInput}
@@ -47,24 +47,27 @@ abbrev pub began : Deed → ℕ → Bool
 began (Round r) round = r == round
 began deed round = false
 
--- the query began the round of the vote, and the vote, which is on the trail, counts its answer
+-- the query began the round of the vote, and the vote counts its answer
 abbrev pub rests_by : Told → Told → Event → Event → Bool
-rests_by vote query (Step p k kind) (Step q l other) = vote.on_trail && counts vote.deed p q && began query.deed vote.round
+rests_by vote query (Step p k kind) (Step q l other) = counts vote.deed p q && began query.deed vote.round
 rests_by vote query event other = false
 
 abbrev pub rests : Told → Told → Bool
 rests vote query = rests_by vote query vote.event query.event
 
--- some vote rests on the query
+-- one of the votes rests on the query
 abbrev pub is_answer : List Told → Told → Bool
-is_answer all query = list_any (λ vote. rests vote query) all
+is_answer votes query = list_any (λ vote. rests vote query) votes
 
--- the names of those of these queries, in order
+-- the names of those of the queries on which one of the votes rests, in order
 abbrev pub answers_among : List Told → List Told → List StepId
-answers_among all queries = map (λ query. event_name query.event) (filter (is_answer all) queries)
+answers_among votes queries = map (λ query. event_name query.event) (filter (is_answer votes) queries)
+
+abbrev pub on_trail : List Told → List Told
+on_trail all = filter (λ it. it.on_trail) all
 
 abbrev pub answers_in : RunView → List Bool → List StepId
-answers_in run flags = answers_among (all_told run flags) (all_told run flags)
+answers_in run flags = answers_among (on_trail (all_told run flags)) (all_told run flags)
 
 -- `oracle answers P.K ..`, or `oracle answers none`
 unfoldable pub answers_word : List ℕ

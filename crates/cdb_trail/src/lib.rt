@@ -17,4 +17,5 @@ mod trail;
 mod walk;
 mod writes;
 
+pub use trail::{Trail, trail_of};
 pub use writes::write_trail;

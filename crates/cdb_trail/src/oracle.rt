@@ -1,17 +1,17 @@
 //! The oracle's answers on which a trail rests.
 
 ghost use Rattle.cdb_agreement.specs.Algorithms.{rules};
-ghost use Rattle.cdb_deeds.specs.Deeds.{deed_in};
+ghost use Rattle.cdb_deeds.specs.Deeds.{deed_in, received_by_each};
 ghost use Rattle.cdb_explain.specs.Rounds.{round_by};
 ghost use Rattle.cdb_rules.specs.ByRules.{IsInOrder};
 ghost use Rattle.cdb_text.specs.Pushes.{Pushes};
-ghost use Rattle.cdb_trail.specs.Oracle.{all_told, answers_among, answers_in, answers_text, answers_word, began, counts, is_answer, rests};
+ghost use Rattle.cdb_trail.specs.Oracle.{all_told, answers_among, answers_in, answers_text, answers_word, began, counts, is_answer, on_trail, rests};
 ghost use Rattle.std.specs.List.{list_any};
-ghost use Rattle.std.specs.Prelude.{◌≡◌, ◌==◌, length, IfOk};
+ghost use Rattle.std.specs.Prelude.{◌≡◌, ◌==◌, length, map, IfOk};
 
 use cdb_any_run::AnyRun;
 use cdb_base::{Event, MsgName, NoMemory, Proc, StepId};
-use cdb_deeds::{Deed, Telling};
+use cdb_deeds::{Deed, ReceivedNames, Telling};
 use cdb_explain::{fresh, round_by, take_next};
 use cdb_rules::Trace;
 use cdb_text::push_causes;
@@ -54,14 +54,14 @@ fn began(deed: &Deed, round: u32) -> bool
     }
 }
 
-/// Whether the query began the round of the vote, and the vote, which is on the trail, counts its answer.
+/// Whether the query began the round of the vote, and the vote counts its answer.
 fn rests(vote: &Told, query: &Told) -> bool
     ensures { result ≡ rests vote.now query.now }
 {
     match vote.event {
         Event::Step { p, .. } => match query.event {
             Event::Step { p: q, .. } => {
-                vote.on_trail && counts(&vote.deed, p, q) && began(&query.deed, vote.round)
+                counts(&vote.deed, p, q) && began(&query.deed, vote.round)
             }
             Event::Lost(_) => false,
         },
@@ -69,11 +69,24 @@ fn rests(vote: &Told, query: &Told) -> bool
     }
 }
 
-/// Whether some vote rests on the query.
-fn is_answer(all: &[Told], query: &Told) -> bool
-    ensures { result ≡ is_answer all.now query.now }
+/// Those of the events that are on the trail, in order.
+fn on_trail<'a>(alloc: Global, all: &'a [Told]) -> Result<Vec<&'a Told>, NoMemory>
+    ensures { IfOk result (λ found. map (λ it. it.now) found.items ≡ on_trail all.now) }
 {
-    for vote in all {
+    let mut found = Vec::new(alloc);
+    for it in all {
+        if it.on_trail {
+            found.push(it)?;
+        }
+    }
+    Ok(found)
+}
+
+/// Whether one of the votes rests on the query.
+fn is_answer(votes: &[&Told], query: &Told) -> bool
+    ensures { result ≡ is_answer (map (λ vote. vote.now) votes.now) query.now }
+{
+    for vote in votes {
         if rests(vote, query) {
             return true;
         }
@@ -81,13 +94,14 @@ fn is_answer(all: &[Told], query: &Told) -> bool
     false
 }
 
-/// The names of the queries on which some vote rests, in order.
+/// The names of the queries on which a vote on the trail rests, in order.
 fn answers(alloc: Global, all: &[Told]) -> Result<Vec<StepId>, NoMemory>
-    ensures { IfOk result (λ names. names.items ≡ answers_among all.now all.now) }
+    ensures { IfOk result (λ names. names.items ≡ answers_among (on_trail all.now) all.now) }
 {
+    let votes = on_trail(alloc, all)?;
     let mut names = Vec::new(alloc);
     for query in all {
-        if is_answer(all, query) {
+        if is_answer(votes.as_slice(), query) {
             names.push(query.event.name())?;
         }
     }
@@ -98,15 +112,15 @@ fn answers(alloc: Global, all: &[Told]) -> Result<Vec<StepId>, NoMemory>
 fn tell(
     alloc: Global,
     again: &AnyRun,
-    history: &[Event],
+    names: &ReceivedNames,
     event: &Event,
     on_trail: bool,
 ) -> Result<Told, NoMemory>
-    requires { history.now ≡ again.now.history }
+    requires { names.now ≡ received_by_each again.now.history }
     ensures { IfOk result (λ it. it
         ≡ record { event = event.now; deed = deed_in again.now event.now; round = round_by rules again.now event.now; on_trail = on_trail }) }
 {
-    let deed = again.deed(alloc, history, event)?;
+    let deed = again.deed(alloc, names, event)?;
     Ok(Told {
         event: *event,
         deed,
@@ -125,11 +139,13 @@ fn tell_all(alloc: Global, run: &Trace, flags: &[bool]) -> Result<Vec<Told>, NoM
     // Its clause says that the parts of the setup are in range.
     let _ranges = run.setup().n();
     let events = run.events();
+    let mut names = ReceivedNames::none(alloc)?;
     let mut all = Vec::new(alloc);
     for i in 0..events.len() {
         let event = &events[i];
-        all.push(tell(alloc, &again, &events[..i], event, flags[i])?)?;
+        all.push(tell(alloc, &again, &names, event, flags[i])?)?;
         take_next(alloc, &mut again, event)?;
+        names.add(event)?;
     }
     Ok(all)
 }

@@ -5,7 +5,7 @@ use Rattle.revdbg.specs.declared.requested.Unread.{Unread}
 use Rattle.revdbg.specs.declared.requested.Unread.TheVariants as unread
 use Rattle.cdb_base.specs.declared.question.Question.{Question}
 use Rattle.clap.specs.Words.{Text}
-use Rattle.cdb_arguments.specs.Asking.{IsDebugOf, IsOfKinds, IsPlayOf, IsQuestionOf, IsRaceOf, IsReplayOf}
+use Rattle.cdb_arguments.specs.Asking.{IsDebugOf, IsOfKinds, IsPlayOf, IsQuestionOf, IsRaceOf, IsReplayOf, IsSearchOf}
 use Rattle.cdb_arguments.specs.declared.request.AskFault.{AskFault}
 use Rattle.cdb_arguments.specs.declared.request.AskFault.TheVariants as fault_of_asking
 use Rattle.cdb_arguments.specs.declared.request.Asked.{Asked}
@@ -14,8 +14,8 @@ use Rattle.cdb_streams.specs.declared.fault.PlayFault.TheVariants as play
 use Rattle.cdb_program.specs.Known.{Seen}
 use Rattle.cdb_program.specs.declared.fault.Fault.TheVariants as fault
 use Rattle.cdb_program.specs.declared.request.Request.{Request}
-use Rattle.cdb_program.specs.declared.request.Request.TheVariants.{Script, Play, Race, Ask, Debug, DebugShared, Replay, Print, Refuse}
-use Rattle.revdbg.specs.Requested.{IsAskedBy, IsDebugRequest, IsOutOfMemory, IsPlayRequest, IsQuestionRequest, IsRaceRequest, IsReplayRequest, IsRequestOf, IsRefusal, IsUnread, OrOutOfMemory, PerformsOne}
+use Rattle.cdb_program.specs.declared.request.Request.TheVariants.{Script, Play, Race, Ask, Debug, DebugShared, Replay, Search, Print, Refuse}
+use Rattle.revdbg.specs.Requested.{IsAskedBy, IsDebugRequest, IsOutOfMemory, IsPlayRequest, IsQuestionRequest, IsRaceRequest, IsReplayRequest, IsSearchRequest, IsRequestOf, IsRefusal, IsUnread, OrOutOfMemory, PerformsOne}
 
 -- where nothing can be wrong with the arguments, an allocation failed
 no_refusal : (request : Request) → IsRefusal [] request → ⊥
@@ -31,8 +31,13 @@ no_refusal (Ask setup script question) is = is
 no_refusal (Debug setup prompt) is = is
 no_refusal (DebugShared setup seats file) is = is
 no_refusal (Replay setup journal) is = is
+no_refusal (Search setup goal seed walks) is = is
 no_refusal (Refuse fault.NoStep) is = is
 no_refusal (Refuse fault.NoValue) is = is
+no_refusal (Refuse fault.TooManyEvents) is = is
+no_refusal (Refuse fault.NoGoal) is = is
+no_refusal (Refuse (fault.NotFound walks)) is = is
+no_refusal (Refuse fault.DoesNotHold) is = is
 
 pub only_memory : (request : Request) → OrOutOfMemory (IsRefusal []) request → IsOutOfMemory request
 only_memory request (inl refusal) = absurd (no_refusal request refusal)
@@ -52,6 +57,7 @@ module _ (prompt : Text) where
   play_request setup script asked.Script is request of_it = absurd is
   play_request setup script (asked.Debug a seats file) is request of_it = absurd is
   play_request setup script (asked.Replay a b) is request of_it = absurd is
+  play_request setup script (asked.Search a h n w) is request of_it = absurd is
   play_request setup script (asked.Race a n b) is request of_it = absurd is
   play_request setup script (asked.Ask a b q) is request of_it = absurd is
 
@@ -60,6 +66,7 @@ module _ (prompt : Text) where
   race_request setup turns scripts asked.Script is request of_it = absurd is
   race_request setup turns scripts (asked.Debug a seats file) is request of_it = absurd is
   race_request setup turns scripts (asked.Replay a b) is request of_it = absurd is
+  race_request setup turns scripts (asked.Search a h n w) is request of_it = absurd is
   race_request setup turns scripts (asked.Play a b) is request of_it = absurd is
   race_request setup turns scripts (asked.Ask a b q) is request of_it = absurd is
 
@@ -70,12 +77,14 @@ module _ (prompt : Text) where
   question_request setup script question (asked.Race a n b) is request of_it = absurd is
   question_request setup script question (asked.Debug a seats file) is request of_it = absurd is
   question_request setup script question (asked.Replay a b) is request of_it = absurd is
+  question_request setup script question (asked.Search a h n w) is request of_it = absurd is
 
   pub debug_request : (setup : Text) (seats : List Text) (it : Asked) → IsDebugOf setup seats it → (request : Request) → IsRequestOf prompt it request → IsDebugRequest prompt setup seats None request
   debug_request setup seats (asked.Debug a b f) is request of_it = rw (← is.0, ← is.1, ← is.2) of_it
   debug_request setup seats asked.Script is request of_it = absurd is
   debug_request setup seats (asked.Play a b) is request of_it = absurd is
   debug_request setup seats (asked.Replay a b) is request of_it = absurd is
+  debug_request setup seats (asked.Search a h n w) is request of_it = absurd is
   debug_request setup seats (asked.Race a n b) is request of_it = absurd is
   debug_request setup seats (asked.Ask a b q) is request of_it = absurd is
 
@@ -86,6 +95,16 @@ module _ (prompt : Text) where
   replay_request setup journal (asked.Race a n b) is request of_it = absurd is
   replay_request setup journal (asked.Ask a b q) is request of_it = absurd is
   replay_request setup journal (asked.Debug a b f) is request of_it = absurd is
+  replay_request setup journal (asked.Search a h n w) is request of_it = absurd is
+
+  pub search_request : (setup goal : Text) (seed walks : ℕ) (it : Asked) → IsSearchOf setup goal seed walks it → (request : Request) → IsRequestOf prompt it request → IsSearchRequest setup goal seed walks request
+  search_request setup goal seed walks (asked.Search a h n w) is request of_it = rw (← is.0, ← is.1, ← is.2, ← is.3) of_it
+  search_request setup goal seed walks asked.Script is request of_it = absurd is
+  search_request setup goal seed walks (asked.Play a b) is request of_it = absurd is
+  search_request setup goal seed walks (asked.Race a n b) is request of_it = absurd is
+  search_request setup goal seed walks (asked.Ask a b q) is request of_it = absurd is
+  search_request setup goal seed walks (asked.Debug a b f) is request of_it = absurd is
+  search_request setup goal seed walks (asked.Replay a b) is request of_it = absurd is
 
 -- ---- an allocation failed before it was known what is asked for
 
@@ -97,6 +116,7 @@ memory_is_asked prompt words request is = record {
   question = λ setup script question line. inr is;
   debug = λ setup seats line. inr is;
   replay = λ setup journal line. inr is;
+  search = λ setup goal seed walks line. inr is;
   taken = λ none. inr is;
   refused = λ some. inr is;
 }

@@ -7,7 +7,7 @@ use Rattle.clap.specs.declared.error.kind.ErrorKind.{ErrorKind}
 use Rattle.cdb_base.specs.Memory.{no_memory}
 use Rattle.cdb_arguments.specs.Asking.{NamesAsked, any_text, texts, words_status}
 use Rattle.cdb_arguments.specs.CommandLine.{program}
-use Rattle.cdb_arguments.specs.Plain.{IsNameAlone, IsPlayLine, IsQuestionLine, IsRaceLine, IsDebugLine, IsReplayLine}
+use Rattle.cdb_arguments.specs.Plain.{IsNameAlone, IsPlayLine, IsQuestionLine, IsRaceLine, IsDebugLine, IsReplayLine, IsSearchLine}
 use Rattle.cdb_arguments.specs.declared.request.Asked.{Asked}
 use Rattle.cdb_arguments.specs.declared.request.Asked.TheVariants as asked
 use Rattle.cdb_base.specs.declared.question.Question.{Question}
@@ -18,7 +18,7 @@ use Rattle.cdb_program.specs.Known.{Seen}
 use Rattle.cdb_program.specs.Requests.{Performs, any_file}
 use Rattle.cdb_program.specs.declared.fault.Fault.TheVariants as fault
 use Rattle.cdb_program.specs.declared.request.Request.{Request}
-use Rattle.cdb_program.specs.declared.request.Request.TheVariants.{Script, Play, Race, Ask, Debug, DebugShared, Replay, Print, Refuse}
+use Rattle.cdb_program.specs.declared.request.Request.TheVariants.{Script, Play, Race, Ask, Debug, DebugShared, Replay, Search, Print, Refuse}
 
 -- a play of these two files
 abbrev pub IsPlayRequest : Text → Text → Request → Type 0
@@ -51,6 +51,12 @@ abbrev pub IsReplayRequest : Text → Text → Request → Type 0
 IsReplayRequest setup journal (Replay its_setup its_journal) = (its_setup.now ≡ setup) × (its_journal.now ≡ journal)
 IsReplayRequest setup journal request = ⊥
 
+-- a search for a run of this file in which the goal of this word holds, with this seed and so many walks
+abbrev pub IsSearchRequest : Text → Text → ℕ → ℕ → Request → Type 0
+IsSearchRequest setup goal seed walks (Search its_setup its_goal its_seed its_walks) =
+    (its_setup.now ≡ setup) × (its_goal.now ≡ goal) × (its_seed ≡ seed) × (its_walks ≡ walks)
+IsSearchRequest setup goal seed walks request = ⊥
+
 -- the request for what was asked for, where sessions have this prompt
 abbrev pub IsRequestOf : Text → Asked → Request → Type 0
 IsRequestOf prompt asked.Script request = request ≡ Script
@@ -59,6 +65,7 @@ IsRequestOf prompt (asked.Race setup turns scripts) request = IsRaceRequest setu
 IsRequestOf prompt (asked.Ask setup script question) request = IsQuestionRequest setup.now script.now question request
 IsRequestOf prompt (asked.Debug setup seats file) request = IsDebugRequest prompt setup.now (texts seats.items) (any_text file) request
 IsRequestOf prompt (asked.Replay setup journal) request = IsReplayRequest setup.now journal.now request
+IsRequestOf prompt (asked.Search setup goal seed walks) request = IsSearchRequest setup.now goal.now seed walks request
 
 -- the request for what the subcommand that `clap` found asks for
 abbrev pub IsRequested : Text → Option (Text × List Row) → Request → Type 0
@@ -91,6 +98,8 @@ pub record IsAskedBy (prompt : Text) (words : List Text) (request : Request) : T
   pub debug : (setup : Text) (seats : List Text)
       → IsDebugLine words setup seats → OrOutOfMemory (IsDebugRequest prompt setup seats None) request
   pub replay : (setup journal : Text) → IsReplayLine words setup journal → OrOutOfMemory (IsReplayRequest setup journal) request
+  pub search : (setup goal : Text) (seed walks : ℕ)
+      → IsSearchLine words setup goal seed walks → OrOutOfMemory (IsSearchRequest setup goal seed walks) request
   pub taken : fault_of program words ≡ [] → OrOutOfMemory (IsRequested prompt (subcommand_of program words)) request
   pub refused : fault_of program words ≢ [] → OrOutOfMemory (IsRefusal (fault_of program words)) request
 

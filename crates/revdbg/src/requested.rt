@@ -104,6 +104,17 @@ fn request_of<'a>(asked: &'a Asked<'a>, prompt: &'a str) -> Request<'a>
             question: *question,
         },
         Asked::Replay { setup, journal } => Request::Replay { setup, journal },
+        Asked::Search {
+            setup,
+            goal,
+            seed,
+            walks,
+        } => Request::Search {
+            setup,
+            goal,
+            seed: *seed,
+            walks: *walks,
+        },
         Asked::Debug { setup, seats, file } => debug_of(setup, seats.as_slice(), *file, prompt),
     }
 }

@@ -15,6 +15,9 @@ use std::fs::{File, Metadata};
 use std::io::{ErrorKind, IsTerminal};
 use std::{fs, io};
 
+/// Of so many walks one is shown.
+const SHOWN_EACH: u32 = 50;
+
 /// What the session of a seat reads from and writes to.
 type SeatConsole = Streams<Input<File>, Output<File>>;
 
@@ -176,6 +179,18 @@ impl<'a> Files for SystemFiles<'a> {
                 }
                 Err(fault)
             }
+        }
+    }
+
+    fn show_progress(&self, done: u32, all: u32) {
+        if done % SHOWN_EACH == 0 && self.rt.stderr().is_terminal() {
+            let _ = eprint!(self.rt; "\r{done} of {all} walks");
+        }
+    }
+
+    fn clear_progress(&self) {
+        if self.rt.stderr().is_terminal() {
+            let _ = eprint!(self.rt; "\r\x1b[K");
         }
     }
 }

@@ -112,4 +112,8 @@ impl Files for Folder {
         }
         Ok(Writer::new(alloc, usize::MAX))
     }
+
+    fn show_progress(&self, _done: u32, _all: u32) {}
+
+    fn clear_progress(&self) {}
 }

@@ -1,4 +1,4 @@
-use Rattle.cdb_arguments.proofs.Requests.{script_asked_for, play_asked_for, race_asked_for, question_asked_for, debug_asked_for, replay_asked_for}
+use Rattle.cdb_arguments.proofs.Requests.{script_asked_for, play_asked_for, race_asked_for, question_asked_for, debug_asked_for, replay_asked_for, search_asked_for}
 use Rattle.cdb_arguments.specs.Asking.{texts}
 use Rattle.cdb_arguments.proofs.reading.asked.Goals as goal
 
@@ -19,3 +19,6 @@ returns-clause-debug c = debug_asked_for (texts c.args.words.now) c.read.result 
 
 pub returns-clause-replay : goal.returns-clause-replay
 returns-clause-replay c = replay_asked_for (texts c.args.words.now) c.read.result c.read.ensures.ok c.read.ensures.taken
+
+pub returns-clause-search : goal.returns-clause-search
+returns-clause-search c = search_asked_for (texts c.args.words.now) c.read.result c.read.ensures.ok c.read.ensures.taken

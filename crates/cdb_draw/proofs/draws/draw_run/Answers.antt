@@ -4,8 +4,8 @@ use Rattle.cdb_streams.proofs.Ending.{only_as}
 use Rattle.cdb_streams.specs.Endings.{Complete, pieces_ending}
 use Rattle.cdb_draw.proofs.draws.draw_run.Goals as goal
 
-pub returns-in_err-flags : goal.returns-in_err-flags
-returns-in_err-flags g c =
+pub returns-in_err-weights : goal.returns-in_err-weights
+returns-in_err-weights g c =
     let p = err_from_is_err_and c.from_residual.result c.from_residual.ensures.1 in
     rw (p.1, p.2) (inl refl)
 
@@ -15,9 +15,9 @@ returns-in_err-write_picture g c =
     let wrote = rw (c.as_slice.ensures.value, c.grid_of-grid.ensures.value, c.setup.ensures, c.events.ensures) at c.in_err-write_picture.ensures in
     rw (p.1, p.2)
     (only_as g.W.Sink.stream (pieces_ending {A = Unit {0}} (Err c.in_err-write_picture.field-0.0)) _ _ _ _
-    (c.in_ok-flags.flags.items, c.in_ok-flags.ensures.full, refl) wrote)
+    (c.in_ok-weights.weights.items, c.in_ok-weights.ensures.weights, refl) wrote)
 
 pub returns : goal.returns
 returns g c =
     let wrote = rw (c.as_slice.ensures.value, c.grid_of-grid.ensures.value, c.setup.ensures, c.events.ensures) at c.in_ok-write_picture.ensures in
-    only_as g.W.Sink.stream Complete _ _ _ _ (c.in_ok-flags.flags.items, c.in_ok-flags.ensures.full, refl) wrote
+    only_as g.W.Sink.stream Complete _ _ _ _ (c.in_ok-weights.weights.items, c.in_ok-weights.ensures.weights, refl) wrote

@@ -16,7 +16,7 @@ loop-i-init g c = put_nothing g.W.Sink.stream _ _
 
 pub loop-i-preserved : goal.loop-i-preserved
 loop-i-preserved g c =
-    put_one g.W.Sink.stream (arrow_at c.args.grid c.args.run.now.history c.args.flags.now) 1 c.loop-i.i (omega arith)
+    put_one g.W.Sink.stream (arrow_at c.args.grid c.args.run.now.history c.args.weights.now) 1 c.loop-i.i (omega arith)
     c.loop-i.invariant c.in_ok-put_arrow_at.ensures
 
 pub returns-in_err-put_arrow_at : goal.returns-in_err-put_arrow_at
@@ -25,5 +25,5 @@ returns-in_err-put_arrow_at g c =
     let below : c.loop-i.i < length c.args.run.now.history = omega (arith, ap length c.events-events.ensures) in
     rw (p.1, p.2)
     (cut_one g.W.Sink.stream (Unit {0}) _
-    (arrow_at c.args.grid c.args.run.now.history c.args.flags.now) _ _ 1 _ c.loop-i.i
+    (arrow_at c.args.grid c.args.run.now.history c.args.weights.now) _ _ 1 _ c.loop-i.i
     (omega arith) below c.loop-i.invariant c.in_err-put_arrow_at.ensures)

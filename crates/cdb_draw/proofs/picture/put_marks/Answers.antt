@@ -10,6 +10,7 @@ use Rattle.cdb_explain.specs.Rounds.{round_before, round_by}
 use Rattle.cdb_draw.specs.EventMarks.{mark_at}
 use Rattle.cdb_rules.proofs.Flagged.{item_at}
 use Rattle.cdb_explain.proofs.Along.{deed_along, next_along, next_valid}
+use Rattle.cdb_deeds.specs.Deeds.{received_by_each}
 use Rattle.cdb_explain.specs.Explanations.{deed_at}
 use Rattle.cdb_streams.specs.declared.buffer.OutputFault.TheVariants.{NoMemory}
 use Rattle.cdb_streams.proofs.Putting.{put_nothing, puts_nothing}
@@ -30,6 +31,9 @@ was by run i event at again is before asked =
 
 pub returns-in_err-again : goal.returns-in_err-again
 returns-in_err-again g c = search (rules, puts_nothing)
+
+pub returns-in_err-names : goal.returns-in_err-names
+returns-in_err-names g c = search (rules, puts_nothing)
 
 pub take_next-requires : goal.take_next-requires
 take_next-requires g c =
@@ -66,11 +70,15 @@ returns-in_err-deed g c =
     let below : c.loop-i.i < length c.args.run.now.history = omega (arith, ap length c.events-events.ensures) in
     rw (p.1, p.2)
     (cut_one g.W.Sink.stream (Unit {0}) (NoMemory no_memory)
-    (mark_at g.T.Runs.rules c.args.grid c.args.run.now c.args.flags.now) _ _ 1 _ c.loop-i.i {k = c.loop-i.i + 1}
+    (mark_at g.T.Runs.rules c.args.grid c.args.run.now c.args.weights.now) _ _ 1 _ c.loop-i.i {k = c.loop-i.i + 1}
     (omega arith) below c.loop-i.invariant.put (puts_nothing g.W.Sink.stream _ _ _))
 
 pub loop-i-init : goal.loop-i-init
-loop-i-init g c = record { again = c.in_ok-again.ensures; put = put_nothing g.W.Sink.stream _ _ }
+loop-i-init g c = record {
+  again = c.in_ok-again.ensures;
+  names = c.in_ok-names.ensures ∙ ap (λ (r : RunView). received_by_each r.history) (sym c.in_ok-again.ensures);
+  put = put_nothing g.W.Sink.stream _ _;
+}
 
 pub loop-i-preserved : goal.loop-i-preserved
 loop-i-preserved g c = record {
@@ -78,8 +86,11 @@ loop-i-preserved g c = record {
       next_along g.T.Runs.rules g.T.Runs.same_state g.met.T.Runs.histories c.args.run.now c.loop-i.i c.index-events-i.result
       (item_at c.events-events.ensures c.loop-i.i c.index-events-i.result (omega arith) c.index-events-i.is) _ c.loop-i.invariant.again _
       c.in_ok-take_next.ensures;
+  names =
+      c.in_ok-add.ensures (g.T.Runs.run c.loop-i.again).history c.loop-i.invariant.names
+      ∙ ap (λ (r : RunView). received_by_each r.history) (sym c.in_ok-take_next.ensures);
   put =
-      put_one g.W.Sink.stream (mark_at g.T.Runs.rules c.args.grid c.args.run.now c.args.flags.now) 1 c.loop-i.i (omega arith)
+      put_one g.W.Sink.stream (mark_at g.T.Runs.rules c.args.grid c.args.run.now c.args.weights.now) 1 c.loop-i.i (omega arith)
       c.loop-i.invariant.put c.in_ok-put_mark_at.ensures;
 }
 
@@ -89,7 +100,16 @@ returns-in_err-take_next g c =
     let below : c.loop-i.i < length c.args.run.now.history = omega (arith, ap length c.events-events.ensures) in
     rw (p.1, p.2)
     (cut_one g.W.Sink.stream (Unit {0}) (NoMemory no_memory)
-    (mark_at g.T.Runs.rules c.args.grid c.args.run.now c.args.flags.now) _ _ 1 _ c.loop-i.i {k = c.loop-i.i + 1}
+    (mark_at g.T.Runs.rules c.args.grid c.args.run.now c.args.weights.now) _ _ 1 _ c.loop-i.i {k = c.loop-i.i + 1}
+    (omega arith) below c.loop-i.invariant.put (puts_nothing g.W.Sink.stream _ _ _))
+
+pub returns-in_err-add : goal.returns-in_err-add
+returns-in_err-add g c =
+    let p = err_from_is_err_and c.from_residual-in_err-add.result c.from_residual-in_err-add.ensures.1 in
+    let below : c.loop-i.i < length c.args.run.now.history = omega (arith, ap length c.events-events.ensures) in
+    rw (p.1, p.2)
+    (cut_one g.W.Sink.stream (Unit {0}) (NoMemory no_memory)
+    (mark_at g.T.Runs.rules c.args.grid c.args.run.now c.args.weights.now) _ _ 1 _ c.loop-i.i {k = c.loop-i.i + 1}
     (omega arith) below c.loop-i.invariant.put (puts_nothing g.W.Sink.stream _ _ _))
 
 pub returns-in_err-put_mark_at : goal.returns-in_err-put_mark_at
@@ -98,7 +118,7 @@ returns-in_err-put_mark_at g c =
     let below : c.loop-i.i < length c.args.run.now.history = omega (arith, ap length c.events-events.ensures) in
     rw (p.1, p.2)
     (cut_one g.W.Sink.stream (Unit {0}) _
-    (mark_at g.T.Runs.rules c.args.grid c.args.run.now c.args.flags.now) _ _ 1 _ c.loop-i.i
+    (mark_at g.T.Runs.rules c.args.grid c.args.run.now c.args.weights.now) _ _ 1 _ c.loop-i.i
     (omega arith) below c.loop-i.invariant.put c.in_err-put_mark_at.ensures)
 
 pub returns : goal.returns

@@ -1,6 +1,6 @@
 use Rattle.std.proofs.Common.{ℕ, ◌+◌, ◌<◌, length, string_bytes, true, false, sym, ap, ◌∙◌, arith}
 use Rattle.cdb_base.specs.declared.event.Event.{Event}
-use Rattle.cdb_deeds.specs.Deeds.{deed_in}
+use Rattle.cdb_deeds.specs.Deeds.{deed_in, received_by_each}
 use Rattle.cdb_rules.proofs.Flagged.{item_at}
 use Rattle.cdb_rules.specs.RunView.{RunView}
 use Rattle.cdb_setup.specs.Parts.{AreInRange}
@@ -39,6 +39,7 @@ loop-i-preserved g c =
     let within : i < length flags = omega (arith, ap length c.events-events.ensures) in
     let range : AreInRange run.setup = rw c.setup.ensures at c.n-ranges.ensures.ranges in
     let standing = (g.met.T.Runs.histories run.setup range).standing run.history c.requires.valid in
+    let added = c.in_ok-add.ensures (g.T.Runs.run c.loop-i.again).history so.names in
     elim c.if-flags-i.branch [
       | then-flags-i+in_ok-push_next w ↦
           let later = g.T.Runs.run w.push_next.new.again in
@@ -48,6 +49,7 @@ loop-i-preserved g c =
           let few = so.few in
           record {
             again = ap g.T.Runs.run w.again-is ∙ next_along g.T.Runs.rules g.T.Runs.same_state g.met.T.Runs.histories run i event at _ so.again later w.in_ok-push_next.ensures.taken;
+            names = added ∙ ap (λ (r : RunView). received_by_each r.history) (sym (ap g.T.Runs.run w.again-is ∙ w.in_ok-push_next.ensures.taken));
             text = text_more (line_at g.T.Runs.rules c.args.causes run) flags i (string_bytes c.args.text.now) (string_bytes c.loop-i.text) (string_bytes c.if-flags-i.text) (line_text g.T.Runs.rules c.args.causes later (deed_in (g.T.Runs.run c.loop-i.again) event) later event) so.text (ap string_bytes w.text-is ∙ w.in_ok-push_next.ensures.line) line is;
             count = w.count-is ∙ ap (λ (n : ℕ). n + 1) so.count ∙ sym (count_more flags i is);
             few = omega (arith, counted, few);
@@ -59,6 +61,7 @@ loop-i-preserved g c =
           let few = so.few in
           record {
             again = ap g.T.Runs.run w.again-is ∙ next_along g.T.Runs.rules g.T.Runs.same_state g.met.T.Runs.histories run i event at _ so.again later w.in_ok-take_next.ensures;
+            names = added ∙ ap (λ (r : RunView). received_by_each r.history) (sym (ap g.T.Runs.run w.again-is ∙ w.in_ok-take_next.ensures));
             text = ap string_bytes w.text-is ∙ text_same (line_at g.T.Runs.rules c.args.causes run) flags i (string_bytes c.args.text.now) (string_bytes c.loop-i.text) so.text is;
             count = w.count-is ∙ so.count ∙ ap length (sym (unflagged_more flags i is));
             few = omega (arith, counted, few);

@@ -1,8 +1,9 @@
-use Rattle.std.proofs.Common.{ℕ, ◌+◌, ◌<◌, Bool, List, [], ◌∷◌, ◌++◌, length, refl, sym, ap, ◌∙◌, arith}
+use Rattle.std.proofs.Common.{ℕ, ◌<◌, List, [], ◌∷◌, ◌++◌, length, refl, sym, ap, ◌∙◌, arith}
 use Rattle.cdb_agreement.proofs.KeptHistories.{rules_keep_histories}
 use Rattle.cdb_agreement.specs.Algorithms.{rules}
 use Rattle.cdb_agreement.specs.SameState.{ReachSameState}
 use Rattle.cdb_base.specs.declared.event.Event.{Event}
+use Rattle.cdb_deeds.specs.Deeds.{received_by_each}
 use Rattle.cdb_explain.proofs.Along.{next_along, next_valid}
 use Rattle.cdb_explain.proofs.Flagging.{flag_read}
 use Rattle.cdb_rules.proofs.Flagged.{item_at}
@@ -34,6 +35,7 @@ loop-i-preserved c =
     let told = told_is run flags i event at _ so.again _ (flag_read flags i _ _ within refl) in
     record {
       again = next_along rules ReachSameState rules_keep_histories run i event at _ so.again _ c.in_ok-take_next.ensures;
+      names = c.in_ok-add.ensures c.loop-i.again.history so.names ∙ ap (λ (r : RunView). received_by_each r.history) (sym c.in_ok-take_next.ensures);
       all = c.in_ok-push.ensures.items ∙ ap (λ (ts : List Told). ts ++ c.in_ok-tell.field-0 ∷ []) so.all
           ∙ ap (λ (t : Told). told_first run flags i ++ t ∷ []) (c.in_ok-tell.ensures ∙ told) ∙ sym (told_more run flags i event at);
     }

@@ -1,4 +1,4 @@
-use Rattle.std.proofs.Common.{◌≡◌, length, take, Some, slice_get, sym, ap, ◌∙◌, subst, arith, rules}
+use Rattle.std.proofs.Common.{◌≡◌, length, take, sym, ap, ◌∙◌, subst, arith, rules}
 use Rattle.cdb_base.specs.declared.event.Event.{Event}
 use Rattle.cdb_rules.proofs.Flagged.{item_at}
 use Rattle.cdb_rules.specs.Runs.{with_history}

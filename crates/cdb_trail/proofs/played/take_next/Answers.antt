@@ -1,4 +1,4 @@
-use Rattle.std.proofs.Common.{◌≡◌, sym, ap, ◌∙◌, subst, is_ok, true≢false}
+use Rattle.std.proofs.Common.{sym, ap, ◌∙◌, subst, is_ok, true≢false}
 use Rattle.cdb_agreement.proofs.KeptHistories.{last_enabled, next_of_run, taken_again}
 use Rattle.cdb_setup.specs.Parts.{AreInRange}
 use Rattle.cdb_rules.proofs.Granted.{IsLawful}

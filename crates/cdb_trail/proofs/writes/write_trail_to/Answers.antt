@@ -1,4 +1,4 @@
-use Rattle.std.proofs.Common.{List, ℕ, Err, refl, subst}
+use Rattle.std.proofs.Common.{List, Err, refl, subst}
 use Rattle.std.proofs.lemmas.Result.{err_from_is_err_and}
 use Rattle.cdb_base.specs.declared.event.Event.{Event}
 use Rattle.cdb_explain.specs.Asked.{IsStepAsked}

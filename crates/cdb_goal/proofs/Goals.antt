@@ -1,0 +1,52 @@
+-- What the processes that are shown say of a goal.
+use Rattle.std.proofs.Common.{◌≡◌, ◌≢◌, ◌↔◌, ◌==◌, inl, inr, ℕ, Bool, false, List, Option, Some, None, IsTrue, not, refl, sym, ◌∙◌, subst}
+use Rattle.std.specs.Option.{option_map_or}
+use Rattle.std.proofs.lemmas.Bool.{false≢true}
+use Rattle.std.proofs.lemmas.Bool.Decides.{eqb_tells}
+use Rattle.cdb_base.specs.declared.event.Event.{Event}
+use Rattle.cdb_goal.specs.Holds.{Holds, IsDecided, ShowsProcess}
+use Rattle.cdb_goal.specs.Tests.{passes}
+use Rattle.cdb_goal.specs.declared.goal.Goal.TheVariants.{Differ}
+use Rattle.cdb_goal.specs.declared.tests.Test.{Test}
+use Rattle.cdb_goal.specs.declared.tests.Test.TheVariants.{HasDecidedOther}
+use Rattle.cdb_rules.specs.Rules.{Rules}
+
+module _ (rules : Rules) (history : List Event) where
+  -- some process passes the test
+  abbrev pub Passes : Test → Type 0
+  Passes test = ShowsProcess rules history (λ it. IsTrue (passes test it.round it.alive it.decision))
+
+  -- another decision than one that stands
+  other_of : (value : ℕ) (decision : Option ℕ) → IsTrue (option_map_or (λ other. not (other == value)) decision false)
+      → (other : ℕ) × (value ≢ other) × (decision ≡ Some other)
+  other_of value None is = cc
+  other_of value (Some other) is =
+      elim (eqb_tells other value) [
+        | inl same ↦ absurd (false≢true (subst (λ (b : Bool). IsTrue (not b)) same.0 is))
+        | inr differ ↦ (other, (λ same. differ.1 (sym same)), refl)
+      ]
+
+  is_other : (value other : ℕ) → other ≢ value → IsTrue (not (other == value))
+  is_other value other differ =
+      elim (eqb_tells other value) [
+        | inl same ↦ absurd (differ same.1)
+        | inr is ↦ subst (λ (b : Bool). IsTrue (not b)) (sym is.0) refl
+      ]
+
+  passes_other : (value other : ℕ) → other ≢ value → IsDecided rules history other → Passes (HasDecidedOther value)
+  passes_other value other differ (p, it, is, decided) =
+      (p, it, is, subst (λ (d : Option ℕ). IsTrue (option_map_or (λ other. not (other == value)) d false)) (sym decided) (is_other value other differ))
+
+  -- two decisions differ exactly where one differs from a decision that stands
+  pub differ_from : (value : ℕ) → IsDecided rules history value → Passes (HasDecidedOther value) ↔ Holds rules history Differ
+  differ_from value decided = (to_differ, from_differ)
+    where
+      to_differ : Passes (HasDecidedOther value) → Holds rules history Differ
+      to_differ (p, it, is, other) = let found = other_of value it.decision other in (value, found.0, found.1, decided, (p, it, is, found.2))
+
+      from_differ : Holds rules history Differ → Passes (HasDecidedOther value)
+      from_differ (one, other, differ, first, second) =
+          elim (eqb_tells one value) [
+            | inl same ↦ passes_other value other (λ it. differ (same.1 ∙ sym it)) second
+            | inr is ↦ passes_other value one is.1 first
+          ]

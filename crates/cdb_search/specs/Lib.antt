@@ -1,0 +1,3 @@
+-- what a reader of the contracts believes
+pub mod Found
+pub mod FaultTexts
