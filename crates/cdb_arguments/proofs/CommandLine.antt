@@ -21,7 +21,8 @@ program_is_free = refl
 abbrev IsOne : Shape → Type 0
 IsOne shape = (shape.name ≡ codes "play") ⊎ ((shape.name ≡ codes "race")
     ⊎ ((shape.name ≡ codes "explain") ⊎ ((shape.name ≡ codes "trail") ⊎ ((shape.name ≡ codes "draw")
-    ⊎ ((shape.name ≡ codes "slice") ⊎ ((shape.name ≡ codes "debug") ⊎ ((shape.name ≡ codes "replay") ⊎ (shape.name ≡ codes "search"))))))))
+    ⊎ ((shape.name ≡ codes "slice") ⊎ ((shape.name ≡ codes "debug") ⊎ ((shape.name ≡ codes "replay")
+    ⊎ ((shape.name ≡ codes "search") ⊎ ((shape.name ≡ codes "same") ⊎ (shape.name ≡ codes "clocks"))))))))))
 
 found_is_one : (subs : List Shape) (test : Shape → Bool) (rest : List Text) → AllByRecursion IsOne subs → NamesOne (option_map (λ s. rows_at s rest) (find test subs))
 found_is_one [] test rest all = tt
@@ -51,7 +52,7 @@ subs_are = (
             inr (inr (inr (inr (inr (inl refl))))),
             (
               inr (inr (inr (inr (inr (inr (inl refl)))))),
-              (inr (inr (inr (inr (inr (inr (inr (inl refl))))))), (inr (inr (inr (inr (inr (inr (inr (inr refl))))))), tt)),
+              (inr (inr (inr (inr (inr (inr (inr (inl refl))))))), (inr (inr (inr (inr (inr (inr (inr (inr (inl refl)))))))), (inr (inr (inr (inr (inr (inr (inr (inr (inr (inl refl))))))))), (inr (inr (inr (inr (inr (inr (inr (inr (inr (inr refl))))))))), tt)))),
             ),
           ),
         ),

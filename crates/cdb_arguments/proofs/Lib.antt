@@ -4,6 +4,8 @@ pub mod Named
 pub mod PlainWords
 pub mod Values
 pub mod JournalLines
+pub mod SameLines
+pub mod ClockLines
 pub mod Lines
 pub mod Subcommands
 pub mod StepLines

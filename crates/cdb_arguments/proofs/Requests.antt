@@ -10,22 +10,24 @@ use Rattle.std.proofs.lemmas.Option.{none-some}
 use Rattle.clap.specs.Values.{IsSignedIn}
 use Rattle.cdb_arguments.proofs.PlainWords.{is_no_minus}
 use Rattle.std.proofs.lemmas.Result.{IfOk-weaker}
-use Rattle.clap.specs.Words.{Row, Text, first_of, subcommand_of, takes}
+use Rattle.clap.specs.Words.{Row, Text, subcommand_of, takes}
 use Rattle.clap.specs.declared.builder.value_parser.ValueParser.TheVariants as vp
 use Rattle.clap.proofs.ValueTestLemmas.{Accepts-accepts}
-use Rattle.cdb_arguments.specs.Asking.{HasStepOf, IsAnyStepIn, IsStepIn, NamesAsked, IsRequest, IsPlayOf, IsQuestionOf, IsRaceOf, IsDebugOf, IsReplayOf, IsSearchOf, IsTurns, IsNumber, IsNumberOf, text_at, texts_at}
+use Rattle.cdb_arguments.specs.Asking.{HasStepOf, IsAnyStepIn, IsStepIn, NamesAsked, IsRequest, IsPlayOf, IsQuestionOf, IsRaceOf, IsDebugOf, IsReplayOf, IsSameOf, IsClocksOf, IsSearchOf, IsTurns, IsNumber, IsNumberOf, text_at, texts_at}
 use Rattle.cdb_arguments.specs.CommandLine.{program}
-use Rattle.cdb_arguments.specs.Plain.{IsNameAlone, IsNumberOfTurns, IsPlain, IsPlayLine, IsQuestionLine, IsRaceLine, IsDebugLine, IsReplayLine, IsSearchLine, WritesNumber, question_name}
+use Rattle.cdb_arguments.specs.Plain.{IsNameAlone, IsNumberOfTurns, IsPlain, IsPlayLine, IsQuestionLine, IsRaceLine, IsDebugLine, IsReplayLine, IsSameLine, IsClocksLine, IsSearchLine, WritesNumber, question_name}
 use Rattle.cdb_arguments.specs.declared.request.AskFault.{AskFault}
 use Rattle.cdb_arguments.specs.declared.request.AskFault.TheVariants.{NoMemory}
 use Rattle.cdb_arguments.specs.declared.request.Asked.{Asked}
-use Rattle.cdb_arguments.specs.declared.request.Asked.TheVariants.{Script, Play, Race, Ask, Debug, Replay, Search}
+use Rattle.cdb_arguments.specs.declared.request.Asked.TheVariants.{Script, Play, Race, Ask, Debug, Replay, Same, Clocks, Search}
 use Rattle.cdb_base.specs.declared.question.Question.{Question}
 use Rattle.cdb_base.specs.declared.question.Question.TheVariants.{Explain, Trail, Draw, Slice}
 use Rattle.cdb_base.specs.declared.question.StepAsked.{StepAsked}
 use Rattle.cdb_base.specs.Memory.{no_memory}
 use Rattle.cdb_arguments.proofs.StepLines.{OptionWritesNumber, QuestionLine, StepLine, StepWritten, question_line}
 use Rattle.cdb_arguments.proofs.JournalLines.{JournalLine, replay_line}
+use Rattle.cdb_arguments.proofs.SameLines.{SameLine, same_line}
+use Rattle.cdb_arguments.proofs.ClockLines.{ClockLine, clocks_line}
 use Rattle.cdb_arguments.proofs.SeatLines.{SeatLine, debug_line}
 use Rattle.cdb_arguments.proofs.SearchLines.{SearchLine, search_line}
 use Rattle.cdb_arguments.proofs.Lines.{nothing_asked, nothing_taken, play_asked, play_taken, PlayRows, race_asked, race_taken, RaceRows, AcceptsTurns}
@@ -40,6 +42,8 @@ script_is found (Ask a b q) none asks = absurd (none-some _ (sym none ∙ asks.1
 script_is found (Debug a b f) none asks = absurd (none-some _ (sym none ∙ asks.1))
 script_is found (Replay a b) none asks = absurd (none-some _ (sym none ∙ asks.1))
 script_is found (Search a g n w) none asks = absurd (none-some _ (sym none ∙ asks.1))
+script_is found (Same a b d) none asks = absurd (none-some _ (sym none ∙ asks.1))
+script_is found (Clocks a b) none asks = absurd (none-some _ (sym none ∙ asks.1))
 
 some_same : {X : Type 0} (a b : X) → Some a ≡ Some b → a ≡ b
 some_same a b same = ap (λ found. unwrap_or found a) same
@@ -63,11 +67,15 @@ record Differs (question : Question) : Type 0 where
   debug : bytes_eq (question_name question) (codes "debug") ≡ false
   replay : bytes_eq (question_name question) (codes "replay") ≡ false
   search : bytes_eq (question_name question) (codes "search") ≡ false
+  same : bytes_eq (question_name question) (codes "same") ≡ false
+  clocks : bytes_eq (question_name question) (codes "clocks") ≡ false
   from_play : bytes_eq (codes "play") (question_name question) ≡ false
   from_race : bytes_eq (codes "race") (question_name question) ≡ false
   from_debug : bytes_eq (codes "debug") (question_name question) ≡ false
   from_replay : bytes_eq (codes "replay") (question_name question) ≡ false
   from_search : bytes_eq (codes "search") (question_name question) ≡ false
+  from_same : bytes_eq (codes "same") (question_name question) ≡ false
+  from_clocks : bytes_eq (codes "clocks") (question_name question) ≡ false
   own : bytes_eq (question_name question) (question_name question) ≡ true
 
 differs : (question : Question) → Differs question
@@ -78,11 +86,15 @@ differs (Explain step) =
       debug = refl;
       replay = refl;
       search = refl;
+      same = refl;
+      clocks = refl;
       from_play = refl;
       from_race = refl;
       from_debug = refl;
       from_replay = refl;
       from_search = refl;
+      from_same = refl;
+      from_clocks = refl;
       own = refl;
     }
 differs (Trail step) =
@@ -92,11 +104,15 @@ differs (Trail step) =
       debug = refl;
       replay = refl;
       search = refl;
+      same = refl;
+      clocks = refl;
       from_play = refl;
       from_race = refl;
       from_debug = refl;
       from_replay = refl;
       from_search = refl;
+      from_same = refl;
+      from_clocks = refl;
       own = refl;
     }
 differs (Draw step) =
@@ -106,11 +122,15 @@ differs (Draw step) =
       debug = refl;
       replay = refl;
       search = refl;
+      same = refl;
+      clocks = refl;
       from_play = refl;
       from_race = refl;
       from_debug = refl;
       from_replay = refl;
       from_search = refl;
+      from_same = refl;
+      from_clocks = refl;
       own = refl;
     }
 differs (Slice step) =
@@ -120,11 +140,15 @@ differs (Slice step) =
       debug = refl;
       replay = refl;
       search = refl;
+      same = refl;
+      clocks = refl;
       from_play = refl;
       from_race = refl;
       from_debug = refl;
       from_replay = refl;
       from_search = refl;
+      from_same = refl;
+      from_clocks = refl;
       own = refl;
     }
 
@@ -141,6 +165,8 @@ play_is found rows setup script (Ask a b q) is have asks = absurd (other_name fo
 play_is found rows setup script (Replay a b) is have asks = absurd (other_name found _ (codes "replay") rows asks.0 is asks.1 refl refl)
 play_is found rows setup script (Debug a b f) is have asks = absurd (other_name found _ (codes "debug") rows asks.0 is asks.1 refl refl)
 play_is found rows setup script (Search a g n w) is have asks = absurd (other_name found _ (codes "search") rows asks.0 is asks.1 refl refl)
+play_is found rows setup script (Same a b d) is have asks = absurd (other_name found _ (codes "same") rows asks.0 is asks.1 refl refl)
+play_is found rows setup script (Clocks a b) is have asks = absurd (other_name found _ (codes "clocks") rows asks.0 is asks.1 refl refl)
 
 race_is : (found : Option (Text × List Row)) (rows : List Row) (setup text : Text) (turns : ℕ) (scripts : List Text) (asked : Asked)
     → found ≡ Some (codes "race", rows) → RaceRows setup text scripts rows → IsNumberOfTurns text turns → NamesAsked found asked → IsRaceOf setup turns scripts asked
@@ -150,6 +176,8 @@ race_is found rows setup text turns scripts (Ask a b q) is have number asks = ab
 race_is found rows setup text turns scripts (Replay a b) is have number asks = absurd (other_name found _ (codes "replay") rows asks.0 is asks.1 refl refl)
 race_is found rows setup text turns scripts (Debug a b f) is have number asks = absurd (other_name found _ (codes "debug") rows asks.0 is asks.1 refl refl)
 race_is found rows setup text turns scripts (Search a g n w) is have number asks = absurd (other_name found _ (codes "search") rows asks.0 is asks.1 refl refl)
+race_is found rows setup text turns scripts (Same a b d) is have number asks = absurd (other_name found _ (codes "same") rows asks.0 is asks.1 refl refl)
+race_is found rows setup text turns scripts (Clocks a b) is have number asks = absurd (other_name found _ (codes "clocks") rows asks.0 is asks.1 refl refl)
 race_is found rows setup text turns scripts (Race a n b) is have number asks =
     let same = same_rows found (codes "race") (codes "race") rows asks.0 is asks.1 in
     let its_text : text_at (codes "TURNS") asks.0 ≡ text = ap (text_at (codes "TURNS")) same ∙ ap (λ t. unwrap_or t []) have.1 in
@@ -232,6 +260,8 @@ question_is setup script question words (Race a n b) line asks = absurd (other_n
 question_is setup script question words (Replay a b) line asks = absurd (other_name _ _ (codes "replay") line.rows asks.0 line.asked asks.1 (differs question).from_replay (differs question).own)
 question_is setup script question words (Debug a b f) line asks = absurd (other_name _ _ (codes "debug") line.rows asks.0 line.asked asks.1 (differs question).from_debug (differs question).own)
 question_is setup script question words (Search a g n w) line asks = absurd (other_name _ _ (codes "search") line.rows asks.0 line.asked asks.1 (differs question).from_search (differs question).own)
+question_is setup script question words (Same a b d) line asks = absurd (other_name _ _ (codes "same") line.rows asks.0 line.asked asks.1 (differs question).from_same (differs question).own)
+question_is setup script question words (Clocks a b) line asks = absurd (other_name _ _ (codes "clocks") line.rows asks.0 line.asked asks.1 (differs question).from_clocks (differs question).own)
 question_is setup script question words (Ask a b its) line asks =
     let same = same_rows _ (question_name question) (question_name its) line.rows asks.0 line.asked asks.1 in
     let names = same_names _ (question_name question) (question_name its) line.rows asks.0 line.asked asks.1 in (
@@ -248,6 +278,8 @@ debug_is setup seats words (Race a n b) line asks = absurd (other_name _ _ (code
 debug_is setup seats words (Ask a b q) line asks = absurd (other_name _ _ (question_name q) line.rows asks.0 line.asked asks.1 (differs q).debug refl)
 debug_is setup seats words (Search a g n w) line asks = absurd (other_name _ _ (codes "search") line.rows asks.0 line.asked asks.1 refl refl)
 debug_is setup seats words (Replay a b) line asks = absurd (other_name _ _ (codes "replay") line.rows asks.0 line.asked asks.1 refl refl)
+debug_is setup seats words (Same a b d) line asks = absurd (other_name _ _ (codes "same") line.rows asks.0 line.asked asks.1 refl refl)
+debug_is setup seats words (Clocks a b) line asks = absurd (other_name _ _ (codes "clocks") line.rows asks.0 line.asked asks.1 refl refl)
 debug_is setup seats words (Debug a b f) line asks =
     let same = same_rows _ (codes "debug") (codes "debug") line.rows asks.0 line.asked asks.1 in (
       asks.2 ∙ ap (text_at (codes "SETUP")) same ∙ ap (λ t. unwrap_or t []) line.setup_at,
@@ -262,6 +294,8 @@ replay_is setup journal words (Race a n b) line asks = absurd (other_name _ _ (c
 replay_is setup journal words (Ask a b q) line asks = absurd (other_name _ _ (question_name q) line.rows asks.0 line.asked asks.1 (differs q).replay refl)
 replay_is setup journal words (Debug a b f) line asks = absurd (other_name _ _ (codes "debug") line.rows asks.0 line.asked asks.1 refl refl)
 replay_is setup journal words (Search a g n w) line asks = absurd (other_name _ _ (codes "search") line.rows asks.0 line.asked asks.1 refl refl)
+replay_is setup journal words (Same a b d) line asks = absurd (other_name _ _ (codes "same") line.rows asks.0 line.asked asks.1 refl refl)
+replay_is setup journal words (Clocks a b) line asks = absurd (other_name _ _ (codes "clocks") line.rows asks.0 line.asked asks.1 refl refl)
 replay_is setup journal words (Replay a b) line asks =
     let same = same_rows _ (codes "replay") (codes "replay") line.rows asks.0 line.asked asks.1 in (
       asks.2 ∙ ap (text_at (codes "SETUP")) same ∙ ap (λ t. unwrap_or t []) line.setup_at,
@@ -276,6 +310,8 @@ search_is setup goal first second seed walks words (Race c n d) a b line asks = 
 search_is setup goal first second seed walks words (Ask c d q) a b line asks = absurd (other_name _ _ (question_name q) line.rows asks.0 line.asked asks.1 (differs q).search refl)
 search_is setup goal first second seed walks words (Debug c d f) a b line asks = absurd (other_name _ _ (codes "debug") line.rows asks.0 line.asked asks.1 refl refl)
 search_is setup goal first second seed walks words (Replay c d) a b line asks = absurd (other_name _ _ (codes "replay") line.rows asks.0 line.asked asks.1 refl refl)
+search_is setup goal first second seed walks words (Same c d e) a b line asks = absurd (other_name _ _ (codes "same") line.rows asks.0 line.asked asks.1 refl refl)
+search_is setup goal first second seed walks words (Clocks c d) a b line asks = absurd (other_name _ _ (codes "clocks") line.rows asks.0 line.asked asks.1 refl refl)
 search_is setup goal first second seed walks words (Search c h n w) a b line asks =
     let same = same_rows _ (codes "search") (codes "search") line.rows asks.0 line.asked asks.1 in
     let its_seed : text_at (codes "SEED") asks.0 ≡ first = ap (text_at (codes "SEED")) same ∙ ap (λ t. unwrap_or t []) line.seed_at in
@@ -284,6 +320,37 @@ search_is setup goal first second seed walks words (Search c h n w) a b line ask
       asks.3 ∙ ap (text_at (codes "GOAL")) same ∙ ap (λ t. unwrap_or t []) line.goal_at,
       (subst (λ t. IsNumber t n) its_seed asks.4).2 seed a,
       (subst (λ t. IsNumber t w) its_walks asks.5).2 walks b,
+    )
+
+same_is : (setup first second : Text) (words : List Text) (asked : Asked) → SameLine setup first second words → NamesAsked (subcommand_of program words) asked → IsSameOf setup first second asked
+same_is setup first second words Script line asks = absurd (none-some _ (sym asks ∙ line.asked))
+same_is setup first second words (Play a b) line asks = absurd (other_name _ _ (codes "play") line.rows asks.0 line.asked asks.1 refl refl)
+same_is setup first second words (Race a n b) line asks = absurd (other_name _ _ (codes "race") line.rows asks.0 line.asked asks.1 refl refl)
+same_is setup first second words (Ask a b q) line asks = absurd (other_name _ _ (question_name q) line.rows asks.0 line.asked asks.1 (differs q).same refl)
+same_is setup first second words (Debug a b f) line asks = absurd (other_name _ _ (codes "debug") line.rows asks.0 line.asked asks.1 refl refl)
+same_is setup first second words (Replay a b) line asks = absurd (other_name _ _ (codes "replay") line.rows asks.0 line.asked asks.1 refl refl)
+same_is setup first second words (Search a g n w) line asks = absurd (other_name _ _ (codes "search") line.rows asks.0 line.asked asks.1 refl refl)
+same_is setup first second words (Clocks a b) line asks = absurd (other_name _ _ (codes "clocks") line.rows asks.0 line.asked asks.1 refl refl)
+same_is setup first second words (Same a b d) line asks =
+    let same = same_rows _ (codes "same") (codes "same") line.rows asks.0 line.asked asks.1 in (
+      asks.2 ∙ ap (text_at (codes "SETUP")) same ∙ ap (λ t. unwrap_or t []) line.setup_at,
+      asks.3 ∙ ap (text_at (codes "FIRST")) same ∙ ap (λ t. unwrap_or t []) line.first_at,
+      asks.4 ∙ ap (text_at (codes "SECOND")) same ∙ ap (λ t. unwrap_or t []) line.second_at,
+    )
+
+clocks_is : (setup script : Text) (words : List Text) (asked : Asked) → ClockLine setup script words → NamesAsked (subcommand_of program words) asked → IsClocksOf setup script asked
+clocks_is setup script words Script line asks = absurd (none-some _ (sym asks ∙ line.asked))
+clocks_is setup script words (Play a b) line asks = absurd (other_name _ _ (codes "play") line.rows asks.0 line.asked asks.1 refl refl)
+clocks_is setup script words (Race a n b) line asks = absurd (other_name _ _ (codes "race") line.rows asks.0 line.asked asks.1 refl refl)
+clocks_is setup script words (Ask a b q) line asks = absurd (other_name _ _ (question_name q) line.rows asks.0 line.asked asks.1 (differs q).clocks refl)
+clocks_is setup script words (Debug a b f) line asks = absurd (other_name _ _ (codes "debug") line.rows asks.0 line.asked asks.1 refl refl)
+clocks_is setup script words (Search a g n w) line asks = absurd (other_name _ _ (codes "search") line.rows asks.0 line.asked asks.1 refl refl)
+clocks_is setup script words (Same a b d) line asks = absurd (other_name _ _ (codes "same") line.rows asks.0 line.asked asks.1 refl refl)
+clocks_is setup script words (Replay a b) line asks = absurd (other_name _ _ (codes "replay") line.rows asks.0 line.asked asks.1 refl refl)
+clocks_is setup script words (Clocks a b) line asks =
+    let same = same_rows _ (codes "clocks") (codes "clocks") line.rows asks.0 line.asked asks.1 in (
+      asks.2 ∙ ap (text_at (codes "SETUP")) same ∙ ap (λ t. unwrap_or t []) line.setup_at,
+      asks.3 ∙ ap (text_at (codes "SCRIPT")) same ∙ ap (λ t. unwrap_or t []) line.script_at,
     )
 
 -- ---- the answers
@@ -366,5 +433,25 @@ search_asked_for words result ok taken setup goal seed walks (first, second, a, 
     let its = search_line line.0.0 setup goal first second seed walks a b line.1 in
     let its_words : SearchLine setup goal first second words = subst (SearchLine setup goal first second) (sym line.0.1) its in (
       IfOk-weaker result _ _ (λ asked asks. search_is setup goal first second seed walks words asked a b its_words asks) ok,
+      taken its_words.taken,
+    )
+
+pub same_asked_for : (words : List Text) (result : Result Asked AskFault) → IfOk result (NamesAsked (subcommand_of program words))
+    → (takes program words ≡ true → IfErr result (λ fault. fault ≡ NoMemory no_memory)) → (setup first second : Text) → IsSameLine words setup first second
+    → IsRequest result (IsSameOf setup first second)
+same_asked_for words result ok taken setup first second line =
+    let its = same_line line.0.0 setup first second line.1 in
+    let its_words : SameLine setup first second words = subst (SameLine setup first second) (sym line.0.1) its in (
+      IfOk-weaker result _ _ (λ asked asks. same_is setup first second words asked its_words asks) ok,
+      taken its_words.taken,
+    )
+
+pub clocks_asked_for : (words : List Text) (result : Result Asked AskFault) → IfOk result (NamesAsked (subcommand_of program words))
+    → (takes program words ≡ true → IfErr result (λ fault. fault ≡ NoMemory no_memory)) → (setup script : Text) → IsClocksLine words setup script
+    → IsRequest result (IsClocksOf setup script)
+clocks_asked_for words result ok taken setup script line =
+    let its = clocks_line line.0.0 setup script line.1 in
+    let its_words : ClockLine setup script words = subst (ClockLine setup script) (sym line.0.1) its in (
+      IfOk-weaker result _ _ (λ asked asks. clocks_is setup script words asked its_words asks) ok,
       taken its_words.taken,
     )

@@ -10,8 +10,8 @@ use Rattle.cdb_arguments.specs.declared.request.AskFault.{AskFault}
 use Rattle.cdb_base.specs.Memory.{no_memory}
 use Rattle.cdb_arguments.specs.declared.request.AskFault.TheVariants.{Words, NoMemory}
 use Rattle.cdb_arguments.specs.declared.request.Asked.{Asked}
-use Rattle.cdb_arguments.specs.declared.request.Asked.TheVariants.{Script, Play, Race, Ask, Debug, Replay, Search}
-use Rattle.cdb_arguments.specs.Plain.{IsDebugLine, IsPlayLine, IsQuestionLine, IsRaceLine, IsReplayLine, IsSearchLine, WritesNumber, question_name}
+use Rattle.cdb_arguments.specs.declared.request.Asked.TheVariants.{Script, Play, Race, Ask, Debug, Replay, Same, Clocks, Search}
+use Rattle.cdb_arguments.specs.Plain.{IsDebugLine, IsPlayLine, IsQuestionLine, IsRaceLine, IsReplayLine, IsSameLine, IsClocksLine, IsSearchLine, WritesNumber, question_name}
 use Rattle.cdb_base.specs.declared.question.Question.{Question}
 use Rattle.cdb_base.specs.declared.question.Question.TheVariants.{Explain, Trail, Draw, Slice}
 use Rattle.cdb_base.specs.declared.question.StepAsked.{StepAsked}
@@ -29,7 +29,8 @@ abbrev pub NamesOne : Option (Text × List Row) → Type 0
 NamesOne None = Unit {0}
 NamesOne (Some found) = (found.0 ≡ codes "play") ⊎ ((found.0 ≡ codes "race")
     ⊎ ((found.0 ≡ codes "explain") ⊎ ((found.0 ≡ codes "trail") ⊎ ((found.0 ≡ codes "draw")
-    ⊎ ((found.0 ≡ codes "slice") ⊎ ((found.0 ≡ codes "debug") ⊎ ((found.0 ≡ codes "replay") ⊎ (found.0 ≡ codes "search"))))))))
+    ⊎ ((found.0 ≡ codes "slice") ⊎ ((found.0 ≡ codes "debug") ⊎ ((found.0 ≡ codes "replay")
+    ⊎ ((found.0 ≡ codes "search") ⊎ ((found.0 ≡ codes "same") ⊎ (found.0 ≡ codes "clocks"))))))))))
 
 -- the text of an argument, which is empty where the matches have none
 abbrev pub text_at : Text → List Row → Text
@@ -92,6 +93,12 @@ NamesAsked found (Replay setup journal) =
 NamesAsked found (Search setup goal seed walks) =
     (rows : List Row) × (found ≡ Some (codes "search", rows)) × (setup.now ≡ text_at (codes "SETUP") rows)
     × (goal.now ≡ text_at (codes "GOAL") rows) × IsNumber (text_at (codes "SEED") rows) seed × IsNumber (text_at (codes "WALKS") rows) walks
+NamesAsked found (Same setup first second) =
+    (rows : List Row) × (found ≡ Some (codes "same", rows)) × (setup.now ≡ text_at (codes "SETUP") rows)
+    × (first.now ≡ text_at (codes "FIRST") rows) × (second.now ≡ text_at (codes "SECOND") rows)
+NamesAsked found (Clocks setup script) =
+    (rows : List Row) × (found ≡ Some (codes "clocks", rows)) × (setup.now ≡ text_at (codes "SETUP") rows)
+    × (script.now ≡ text_at (codes "SCRIPT") rows)
 
 -- a play of these two files
 abbrev pub IsPlayOf : Text → Text → Asked → Type 0
@@ -127,6 +134,17 @@ IsSearchOf setup goal seed walks (Search its_setup its_goal its_seed its_walks) 
     (its_setup.now ≡ setup) × (its_goal.now ≡ goal) × (its_seed ≡ seed) × (its_walks ≡ walks)
 IsSearchOf setup goal seed walks asked = ⊥
 
+-- whether these two scripts leave the same run on this setup
+abbrev pub IsSameOf : Text → Text → Text → Asked → Type 0
+IsSameOf setup first second (Same its_setup its_first its_second) =
+    (its_setup.now ≡ setup) × (its_first.now ≡ first) × (its_second.now ≡ second)
+IsSameOf setup first second asked = ⊥
+
+-- the clocks of the run that this script leaves on this setup
+abbrev pub IsClocksOf : Text → Text → Asked → Type 0
+IsClocksOf setup script (Clocks its_setup its_script) = (its_setup.now ≡ setup) × (its_script.now ≡ script)
+IsClocksOf setup script asked = ⊥
+
 -- what was asked for, or no memory to say it
 abbrev pub IsRequest : Result Asked AskFault → (Asked → Type 0) → Type 0
 IsRequest result IsIt = IfOk result IsIt × IfErr result (λ fault. fault ≡ NoMemory no_memory)
@@ -156,6 +174,14 @@ AsksForReplay result words =
 abbrev pub AsksForSearch : Result Asked AskFault → List Text → Type 0
 AsksForSearch result words =
     (setup goal : Text) (seed walks : ℕ) → IsSearchLine words setup goal seed walks → IsRequest result (IsSearchOf setup goal seed walks)
+
+abbrev pub AsksForSame : Result Asked AskFault → List Text → Type 0
+AsksForSame result words =
+    (setup first second : Text) → IsSameLine words setup first second → IsRequest result (IsSameOf setup first second)
+
+abbrev pub AsksForClocks : Result Asked AskFault → List Text → Type 0
+AsksForClocks result words =
+    (setup script : Text) → IsClocksLine words setup script → IsRequest result (IsClocksOf setup script)
 
 -- out of memory, or an error of one of the kinds
 abbrev pub IsOfKinds : Kinds → AskFault → Type 0

@@ -80,6 +80,14 @@ search_app =
     with_arguments (codes "search")
     (required_rule (codes "SETUP") ∷ required_rule (codes "GOAL") ∷ numbered (required_rule (codes "SEED")) ∷ numbered (required_rule (codes "WALKS")) ∷ [])
 
+-- `same SETUP FIRST SECOND`
+abbrev pub same_app : App
+same_app = with_arguments (codes "same") (required_rule (codes "SETUP") ∷ required_rule (codes "FIRST") ∷ required_rule (codes "SECOND") ∷ [])
+
+-- `clocks SETUP SCRIPT`
+abbrev pub clocks_app : App
+clocks_app = on_files (codes "clocks") []
+
 -- the program with these subcommands too
 abbrev pub with_subcommands : App → List App → App
 with_subcommands = fold (λ app sub. with_subcommand app sub.top)
@@ -90,4 +98,5 @@ playing = with_subcommands (on_top (λ s. record s { has_version = true; disable
 
 -- the program with its subcommands
 unfoldable pub program : App
-program = with_subcommands playing (explain_app ∷ trail_app ∷ draw_app ∷ slice_app ∷ debug_app ∷ replay_app ∷ search_app ∷ [])
+program = with_subcommands playing (explain_app ∷ trail_app ∷ draw_app ∷ slice_app ∷ debug_app ∷ replay_app ∷ search_app
+    ∷ same_app ∷ clocks_app ∷ [])

@@ -6,7 +6,7 @@ use Rattle.cdb_arguments.specs.declared.command_line.Argument.{Argument}
 use Rattle.cdb_arguments.specs.declared.command_line.Argument.TheVariants as arg
 use Rattle.cdb_arguments.specs.declared.command_line.Subcommand.{Subcommand}
 use Rattle.cdb_arguments.specs.declared.command_line.Subcommand.TheVariants as sub
-use Rattle.cdb_arguments.specs.CommandLine.{required_rule, option_rule, turns_rule, numbered, several, play_app, race_app, explain_app, trail_app, draw_app, slice_app, debug_app, replay_app, search_app}
+use Rattle.cdb_arguments.specs.CommandLine.{required_rule, option_rule, turns_rule, numbered, several, play_app, race_app, explain_app, trail_app, draw_app, slice_app, debug_app, replay_app, same_app, clocks_app, search_app}
 
 abbrev pub rule_named : Argument → Rule
 rule_named arg.Setup = required_rule (codes "SETUP")
@@ -15,6 +15,8 @@ rule_named arg.Journal = required_rule (codes "JOURNAL")
 rule_named arg.Goal = required_rule (codes "GOAL")
 rule_named arg.Seed = numbered (required_rule (codes "SEED"))
 rule_named arg.Walks = numbered (required_rule (codes "WALKS"))
+rule_named arg.First = required_rule (codes "FIRST")
+rule_named arg.Second = required_rule (codes "SECOND")
 rule_named arg.Turns = turns_rule
 rule_named arg.Scripts = several (required_rule (codes "SCRIPT"))
 rule_named arg.Process = numbered (required_rule (codes "P"))
@@ -36,6 +38,8 @@ name_of sub.Slice = codes "slice"
 name_of sub.Debug = codes "debug"
 name_of sub.Replay = codes "replay"
 name_of sub.Search = codes "search"
+name_of sub.Same = codes "same"
+name_of sub.Clocks = codes "clocks"
 
 abbrev pub app_named : Subcommand → App
 app_named sub.Play = play_app
@@ -47,6 +51,8 @@ app_named sub.Slice = slice_app
 app_named sub.Debug = debug_app
 app_named sub.Replay = replay_app
 app_named sub.Search = search_app
+app_named sub.Same = same_app
+app_named sub.Clocks = clocks_app
 
 abbrev pub with_named : App → Subcommand → App
 with_named app subcommand = with_subcommand app (app_named subcommand).top

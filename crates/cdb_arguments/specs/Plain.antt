@@ -89,3 +89,11 @@ abbrev pub IsSearchLine : List Text → Text → Text → ℕ → ℕ → Type 0
 IsSearchLine words setup goal seed walks =
     (first second : Text) × WritesNumber first seed × WritesNumber second walks
     × IsSubcommandLine (codes "search") (setup ∷ goal ∷ first ∷ second ∷ []) words
+
+-- `same SETUP FIRST SECOND`
+abbrev pub IsSameLine : List Text → Text → Text → Text → Type 0
+IsSameLine words setup first second = IsSubcommandLine (codes "same") (setup ∷ first ∷ second ∷ []) words
+
+-- `clocks SETUP SCRIPT`
+abbrev pub IsClocksLine : List Text → Text → Text → Type 0
+IsClocksLine words setup script = IsSubcommandLine (codes "clocks") (setup ∷ script ∷ []) words

@@ -40,6 +40,11 @@ const SEARCH: &str =
 
 const REPLAY: &str = "Plays a journal again, and prints each reply behind the number of its seat";
 
+const SAME: &str =
+    "Plays two scripts, and tells whether they leave the same run; else what tells the runs apart";
+
+const CLOCKS: &str = "Plays a script, and prints what stands with its vector clocks, for ShiViz";
+
 const LINES: &str =
     "Without a subcommand it plays the script on standard input, on one process that proposes 7.
 
@@ -96,6 +101,9 @@ pub(crate) enum Argument {
     Goal,
     Seed,
     Walks,
+    /// The script that leaves the first of two runs, and the one that leaves the second.
+    First,
+    Second,
     /// The option of the file in which a journal is kept.
     Kept,
 }
@@ -111,11 +119,13 @@ pub(crate) enum Subcommand {
     Debug,
     Replay,
     Search,
+    Same,
+    Clocks,
 }
 
 impl Subcommand {
     /// The subcommands, in the order in which help lists them.
-    pub(crate) const ALL: [Subcommand; 9] = [
+    pub(crate) const ALL: [Subcommand; 11] = [
         Subcommand::Play,
         Subcommand::Race,
         Subcommand::Explain,
@@ -125,6 +135,8 @@ impl Subcommand {
         Subcommand::Debug,
         Subcommand::Replay,
         Subcommand::Search,
+        Subcommand::Same,
+        Subcommand::Clocks,
     ];
 
     fn name<'a>(&self) -> &'a str
@@ -140,6 +152,8 @@ impl Subcommand {
             Subcommand::Debug => "debug",
             Subcommand::Replay => "replay",
             Subcommand::Search => "search",
+            Subcommand::Same => "same",
+            Subcommand::Clocks => "clocks",
         }
     }
 
@@ -154,6 +168,8 @@ impl Subcommand {
             Subcommand::Debug => DEBUG,
             Subcommand::Replay => REPLAY,
             Subcommand::Search => SEARCH,
+            Subcommand::Same => SAME,
+            Subcommand::Clocks => CLOCKS,
         }
     }
 
@@ -162,7 +178,7 @@ impl Subcommand {
         ensures { fold with_argument (new_app (name_of self.now)) result.now ≡ app_named self.now }
     {
         match self {
-            Subcommand::Play => &[Argument::Setup, Argument::Script],
+            Subcommand::Play | Subcommand::Clocks => &[Argument::Setup, Argument::Script],
             Subcommand::Race => &[Argument::Setup, Argument::Turns, Argument::Scripts],
             Subcommand::Explain | Subcommand::Trail => &[
                 Argument::Setup,
@@ -184,6 +200,7 @@ impl Subcommand {
                 Argument::Seed,
                 Argument::Walks,
             ],
+            Subcommand::Same => &[Argument::Setup, Argument::First, Argument::Second],
         }
     }
 }
@@ -298,6 +315,16 @@ fn argument_of<'a>(alloc: Global, argument: &Argument) -> Arg<'a>
             "WALKS",
             "How many walks there are at most, 1 to 999999",
         )),
+        Argument::First => required(
+            alloc,
+            "FIRST",
+            "The file of the script that leaves the first run",
+        ),
+        Argument::Second => required(
+            alloc,
+            "SECOND",
+            "The file of the script that leaves the second run",
+        ),
         Argument::Kept => option(
             alloc,
             "FILE",

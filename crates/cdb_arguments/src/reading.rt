@@ -4,7 +4,7 @@ ghost use Rattle.std.specs.Prelude.{◌≡◌, OnOk, IfOk, IfErr, Some, [], true
 ghost use Rattle.clap.specs.Words.{Kinds, Text, HasKind, fault_of, first_of, found_of, kind_of, rows_of, subcommand_of, subcommand_rows_of, takes};
 ghost use Rattle.cdb_base.specs.Memory.{no_memory};
 ghost use Rattle.cdb_arguments.specs.CommandLine.{program};
-ghost use Rattle.cdb_arguments.specs.Asking.{HasStepOf, IsAnyStepIn, IsStepIn, NamesOne, IsTurns, IsNumber, IsNumberAt, any_text, text_at, texts, texts_at, NamesAsked, IsOfKinds, IsRequest, AsksForPlay, AsksForRace, AsksQuestion, AsksForDebug, AsksForReplay, AsksForSearch, ask_status_of, words_status};
+ghost use Rattle.cdb_arguments.specs.Asking.{HasStepOf, IsAnyStepIn, IsStepIn, NamesOne, IsTurns, IsNumber, IsNumberAt, any_text, text_at, texts, texts_at, NamesAsked, IsOfKinds, IsRequest, AsksForPlay, AsksForRace, AsksQuestion, AsksForDebug, AsksForReplay, AsksForSame, AsksForClocks, AsksForSearch, ask_status_of, words_status};
 ghost use Rattle.cdb_arguments.specs.Plain.{IsNameAlone, question_name};
 
 use crate::command_line::program;
@@ -191,6 +191,27 @@ fn search_of<'a>(found: &ArgMatches<'a>) -> Asked<'a>
     }
 }
 
+/// Whether two scripts leave the same run.
+fn same_of<'a>(found: &ArgMatches<'a>) -> Asked<'a>
+    ensures { NamesAsked (Some (codes "same", rows_of (found_of found.now))) result }
+{
+    Asked::Same {
+        setup: text_of(found, "SETUP"),
+        first: text_of(found, "FIRST"),
+        second: text_of(found, "SECOND"),
+    }
+}
+
+/// The clocks of the run that a script leaves.
+fn clocks_of<'a>(found: &ArgMatches<'a>) -> Asked<'a>
+    ensures { NamesAsked (Some (codes "clocks", rows_of (found_of found.now))) result }
+{
+    Asked::Clocks {
+        setup: text_of(found, "SETUP"),
+        script: text_of(found, "SCRIPT"),
+    }
+}
+
 /// What the matches of a subcommand of this name ask for.
 fn asked_under<'a>(
     alloc: Global,
@@ -209,6 +230,8 @@ fn asked_under<'a>(
         "debug" => debug_of(alloc, found),
         "replay" => Ok(replay_of(found)),
         "search" => Ok(search_of(found)),
+        "same" => Ok(same_of(found)),
+        "clocks" => Ok(clocks_of(found)),
         _ => race_of(alloc, found),
     }
 }
@@ -263,8 +286,8 @@ fn read<'a>(alloc: Global, words: &'a [&'a str]) -> Result<Asked<'a>, AskFault>
 /// `explain SETUP SCRIPT P [K]` for what led to a step, `trail SETUP SCRIPT P [K]` for the trail of a value to it,
 /// `draw SETUP SCRIPT [P [K]]` for a picture, `slice SETUP SCRIPT [P [K]]` for a script, `debug SETUP [SEAT..]` for a
 /// session that goes on line by line, with `--journal FILE` for one whose journal is kept in a file, `replay SETUP JOURNAL`
-/// for a journal that is played again, `search SETUP GOAL SEED WALKS` for a search. P, K, SEED and WALKS are numbers of 1 to
-/// 999,999.
+/// for a journal that is played again, `search SETUP GOAL SEED WALKS` for a search, `same SETUP FIRST SECOND` for whether two
+/// scripts leave the same run, `clocks SETUP SCRIPT` for clocks. P, K, SEED and WALKS are numbers of 1 to 999,999.
 ///
 /// # Errors
 /// `Words` with `clap`'s error for arguments that the command line does not take, and for those alone; the error is
@@ -289,6 +312,8 @@ pub fn asked<'a>(alloc: Global, words: &'a [&'a str]) -> Result<Asked<'a>, AskFa
     ensures debug { AsksForDebug result (texts words.entry.now) }
     ensures replay { AsksForReplay result (texts words.entry.now) }
     ensures search { AsksForSearch result (texts words.entry.now) }
+    ensures same { AsksForSame result (texts words.entry.now) }
+    ensures clocks { AsksForClocks result (texts words.entry.now) }
 {
     read(alloc, words)
 }

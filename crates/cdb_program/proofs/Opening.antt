@@ -11,7 +11,7 @@ use Rattle.cdb_streams.specs.declared.source.ReadFault.TheVariants as reading
 use Rattle.cdb_program.specs.Known.{FilesSeen, after_opening, after_failing}
 use Rattle.cdb_program.specs.Reading.{AreFirstBytes, FailsToRead, HasRead, ReadsFile, most_read, file_names}
 use Rattle.cdb_program.specs.declared.fault.Fault.{Fault}
-use Rattle.cdb_program.specs.declared.fault.Fault.TheVariants.{Play, Race, NoStep, NoValue, NoGoal, NotFound, DoesNotHold, TooManyEvents, TooManySeats, Refused}
+use Rattle.cdb_program.specs.declared.fault.Fault.TheVariants.{Play, Race, NoStep, NoValue, Different, NoGoal, NotFound, DoesNotHold, TooManyEvents, TooManySeats, Refused}
 
 -- names are added to those that are known
 more_opened : (opened : Option (List (List ℕ))) (first second : List (List ℕ))
@@ -88,6 +88,7 @@ fails_then old mid new first second a TooManyEvents before fails = absurd fails
 fails_then old mid new first second a NoGoal before fails = absurd fails
 fails_then old mid new first second a (NotFound walks) before fails = absurd fails
 fails_then old mid new first second a DoesNotHold before fails = absurd fails
+fails_then old mid new first second a Different before fails = absurd fails
 fails_then old mid new first second a TooManySeats before fails = absurd fails
 fails_then old mid new first second a (Refused reason) before fails = absurd fails
 
@@ -106,6 +107,7 @@ fails_before old new names after TooManyEvents fails = absurd fails
 fails_before old new names after NoGoal fails = absurd fails
 fails_before old new names after (NotFound walks) fails = absurd fails
 fails_before old new names after DoesNotHold fails = absurd fails
+fails_before old new names after Different fails = absurd fails
 fails_before old new names after TooManySeats fails = absurd fails
 fails_before old new names after (Refused reason) fails = absurd fails
 

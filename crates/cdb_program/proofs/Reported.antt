@@ -5,7 +5,7 @@ use Rattle.cdb_program.specs.Known.{Seen}
 use Rattle.cdb_program.specs.Outcomes.{RequestEnd}
 use Rattle.cdb_program.specs.Requests.{Does, IsAlone, Performs, PerformsAlone}
 use Rattle.cdb_program.specs.declared.request.Request.{Request}
-use Rattle.cdb_program.specs.declared.request.Request.TheVariants.{Script, Play, Race, Ask, Debug, DebugShared, Replay, Search, Print, Refuse}
+use Rattle.cdb_program.specs.declared.request.Request.TheVariants.{Script, Play, Race, Ask, Debug, DebugShared, Replay, Same, Clocks, Search, Print, Refuse}
 
 pub does_but_error : (request : Request) (old new : Seen) (error : Stream) (outcome : RequestEnd) → Does request old new outcome → Does request old (record new { error = error }) outcome
 does_but_error Script old new error outcome does = does
@@ -16,6 +16,8 @@ does_but_error (Debug setup prompt) old new error outcome does = does
 does_but_error (DebugShared setup seats file) old new error outcome does = does
 does_but_error (Replay setup journal) old new error outcome does = does
 does_but_error (Search setup goal seed walks) old new error outcome does = does
+does_but_error (Same setup first second) old new error outcome does = does
+does_but_error (Clocks setup script) old new error outcome does = does
 does_but_error (Print text) old new error outcome does = does
 does_but_error (Refuse fault) old new error outcome does = does
 
@@ -29,6 +31,8 @@ performs_alone (Debug setup prompt) old new status alone does = does
 performs_alone (DebugShared setup seats file) old new status alone does = absurd alone
 performs_alone (Replay setup journal) old new status alone does = does
 performs_alone (Search setup goal seed walks) old new status alone does = does
+performs_alone (Same setup first second) old new status alone does = does
+performs_alone (Clocks setup script) old new status alone does = does
 performs_alone (Print text) old new status alone does = does
 performs_alone (Refuse fault) old new status alone does = does
 
@@ -42,5 +46,7 @@ is_alone (Debug setup prompt) other = tt
 is_alone (DebugShared setup seats file) other = other setup seats file refl
 is_alone (Replay setup journal) other = tt
 is_alone (Search setup goal seed walks) other = tt
+is_alone (Same setup first second) other = tt
+is_alone (Clocks setup script) other = tt
 is_alone (Print text) other = tt
 is_alone (Refuse fault) other = tt

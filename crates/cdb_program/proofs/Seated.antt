@@ -18,7 +18,7 @@ use Rattle.cdb_streams.specs.declared.fault.PlayFault.TheVariants as play
 use Rattle.cdb_program.specs.Known.{FilesSeen, after_opening, after_failing}
 use Rattle.cdb_program.specs.Reading.{FailsToRead, file_names}
 use Rattle.cdb_program.specs.declared.fault.Fault.{Fault}
-use Rattle.cdb_program.specs.declared.fault.Fault.TheVariants.{Play, Race, NoStep, NoValue, NoGoal, NotFound, DoesNotHold, TooManyEvents, TooManySeats, Refused}
+use Rattle.cdb_program.specs.declared.fault.Fault.TheVariants.{Play, Race, NoStep, NoValue, Different, NoGoal, NotFound, DoesNotHold, TooManyEvents, TooManySeats, Refused}
 use Rattle.cdb_streams.specs.Faults.{of_reading}
 use Rattle.cdb_streams.specs.declared.source.ReadFault.{ReadFault}
 use Rattle.cdb_streams.specs.declared.source.ReadFault.TheVariants as reading
@@ -46,6 +46,7 @@ as_fault setup seats file old new TooManyEvents fails = fails
 as_fault setup seats file old new NoGoal fails = fails
 as_fault setup seats file old new (NotFound walks) fails = fails
 as_fault setup seats file old new DoesNotHold fails = fails
+as_fault setup seats file old new Different fails = fails
 as_fault setup seats file old new TooManySeats fails = absurd fails
 as_fault setup seats file old new (Refused reason) fails = fails
 
@@ -78,6 +79,7 @@ fails_later old mid new first second TooManyEvents before fails = absurd fails
 fails_later old mid new first second NoGoal before fails = absurd fails
 fails_later old mid new first second (NotFound walks) before fails = absurd fails
 fails_later old mid new first second DoesNotHold before fails = absurd fails
+fails_later old mid new first second Different before fails = absurd fails
 fails_later old mid new first second TooManySeats before fails = absurd fails
 fails_later old mid new first second (Refused reason) before fails = absurd fails
 

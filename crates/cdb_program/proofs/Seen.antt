@@ -1,6 +1,6 @@
 -- What is known of readers and writers, as streams.
-use Rattle.std.proofs.Common.{◌≡◌, ℕ, List, Result, Ok, Err, ap, inl, inr}
-use Rattle.std.specs.Prelude.{IfErr}
+use Rattle.std.proofs.Common.{◌≡◌, ℕ, Bool, List, Result, Ok, Err, ap, inl, inr}
+use Rattle.std.specs.Prelude.{IfErr, IfOk}
 use Rattle.cdb_streams.specs.Endings.{Ending, Complete, WriterFailed, CutShort, NotBegun, play_ending}
 use Rattle.cdb_streams.specs.Faults.{IsFaultOfPlay}
 use Rattle.cdb_streams.specs.Streams.{FailsWhere, Stream, Writes}
@@ -12,6 +12,10 @@ use Rattle.cdb_agreement.specs.Algorithms.{rules}
 use Rattle.cdb_agreement.specs.SameState.{ReachSameState}
 use Rattle.cdb_setup.specs.declared.fault.SetupFault.{SetupFault}
 use Rattle.cdb_journal.specs.Replays.{IsFaultOfReplay, Replays, TellsAgain}
+use Rattle.cdb_same.specs.Same.{same_ending, ComparesText, IsFaultOfSame, TellsSame}
+use Rattle.cdb_clocks.specs.Told.{clocks_ending, IsFaultOfClocks, WritesClocks}
+use Rattle.cdb_program.specs.Clocks.{AreWritten}
+use Rattle.cdb_program.specs.Comparing.{IsCompared}
 use Rattle.cdb_program.specs.Playing.{IsPlay}
 use Rattle.cdb_program.specs.Replaying.{IsReplay}
 use Rattle.cdb_program.specs.Searching.{IsSearch}
@@ -63,3 +67,15 @@ pub search_seen : {W : Type 0} (writer : W → Stream) (json : List ℕ) (goal :
     → IsWritten writer (search_ending searched) old new (IsFound rules json goal) → IfErr searched (IsFaultOfSearch json walks) → IsSearch json goal walks searched (writer old) (writer new)
 search_seen writer json goal walks searched old new wrote fault =
     record { wrote = stream_written writer (search_ending searched) old new (IsFound rules json goal) wrote; fault = fault }
+
+-- what a comparison of runs says of its writer
+pub compared_seen : {W : Type 0} (writer : W → Stream) (json first second : List ℕ) (told : Result Bool PlayFault) (old new : W) → IsWritten writer (same_ending told) old new (ComparesText rules json first second)
+    → IfOk told (TellsSame rules json first second) → IfErr told (IsFaultOfSame json first second) → IsCompared json first second told (writer old) (writer new)
+compared_seen writer json first second told old new wrote same fault =
+    record { wrote = stream_written writer (same_ending told) old new (ComparesText rules json first second) wrote; same = same; fault = fault }
+
+-- and what the writing of clocks says of it
+pub clocks_seen : {W : Type 0} (writer : W → Stream) (json script : List ℕ) (written : Result (Unit {0}) PlayFault) (old new : W) → IsWritten writer (clocks_ending written) old new (WritesClocks rules json script)
+    → IfErr written (IsFaultOfClocks json script) → AreWritten json script written (writer old) (writer new)
+clocks_seen writer json script written old new wrote fault =
+    record { wrote = stream_written writer (clocks_ending written) old new (WritesClocks rules json script) wrote; fault = fault }

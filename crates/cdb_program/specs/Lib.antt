@@ -9,6 +9,8 @@ pub mod Racing
 pub mod Questions
 pub mod Replaying
 pub mod Searching
+pub mod Comparing
+pub mod Clocks
 pub mod Debugging
 pub mod Seating
 pub mod Requests

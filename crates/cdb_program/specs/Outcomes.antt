@@ -1,5 +1,5 @@
 -- How requests end.
-use Rattle.std.specs.Prelude.{◌≡◌, ℕ, List, Result, Ok, Err}
+use Rattle.std.specs.Prelude.{◌≡◌, ℕ, Bool, true, false, List, Result, Ok, Err}
 use Rattle.cdb_explain.specs.declared.fault.ExplainFault.{ExplainFault}
 use Rattle.cdb_explain.specs.declared.fault.ExplainFault.TheVariants as explain
 use Rattle.cdb_search.specs.declared.fault.SearchFault.{SearchFault}
@@ -7,7 +7,7 @@ use Rattle.cdb_search.specs.declared.fault.SearchFault.TheVariants as search
 use Rattle.cdb_streams.specs.declared.fault.PlayFault.{PlayFault}
 use Rattle.cdb_streams.specs.declared.fault.RaceFault.{RaceFault}
 use Rattle.cdb_program.specs.declared.fault.Fault.{Fault}
-use Rattle.cdb_program.specs.declared.fault.Fault.TheVariants.{Play, Race, NoStep, NoValue, NotFound, DoesNotHold, TooManyEvents}
+use Rattle.cdb_program.specs.declared.fault.Fault.TheVariants.{Play, Race, NoStep, NoValue, Different, NotFound, DoesNotHold, TooManyEvents}
 
 -- how a request ended
 abbrev pub RequestEnd : Type 0
@@ -41,3 +41,10 @@ IsOfSearch name (Err (search.NotFound walks)) (Err (NotFound its_walks)) = its_w
 IsOfSearch name (Err search.DoesNotHold) (Err DoesNotHold) = Unit {0}
 IsOfSearch name (Err (search.Play fault)) (Err (Play its_fault its_name)) = (its_fault ≡ fault) × (its_name.now ≡ name)
 IsOfSearch name searched outcome = ⊥
+
+-- it ended well where the runs are the same, and else that they differ; a fault is that of a play
+abbrev pub IsOfSame : Result Bool PlayFault → RequestEnd → Type 0
+IsOfSame (Ok true) (Ok done) = Unit {0}
+IsOfSame (Ok false) (Err Different) = Unit {0}
+IsOfSame (Err fault) (Err (Play its_fault its_name)) = its_fault ≡ fault
+IsOfSame told outcome = ⊥

@@ -44,12 +44,15 @@ FailsToRead old new names (Play (NoMemory refused) name) =
     (good rest : List (List ℕ)) × (names ≡ good ++ rest) × (new ≡ after_opening old good)
 FailsToRead old new names other = ⊥
 
--- the bytes of one file, of two, and of many
+-- the bytes of one file, of two, of three, and of many
 abbrev pub single : Vec ℕ Global → List (List ℕ)
 single bytes = bytes.items ∷ []
 
 abbrev pub both : Vec ℕ Global × Vec ℕ Global → List (List ℕ)
 both two = two.0.items ∷ two.1.items ∷ []
+
+abbrev pub three : Vec ℕ Global × Vec ℕ Global × Vec ℕ Global → List (List ℕ)
+three all = all.0.items ∷ all.1.items ∷ all.2.items ∷ []
 
 abbrev pub many : Vec (Vec ℕ Global) Global → List (List ℕ)
 many contents = bytes_of contents.items

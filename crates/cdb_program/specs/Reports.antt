@@ -1,17 +1,17 @@
 -- How the program reports that a request ended.
-use Rattle.std.specs.Prelude.{◌≡◌, ℕ, List, ◌++◌, codes, decimal, Result, Ok, Err}
+use Rattle.std.specs.Prelude.{◌≡◌, ℕ, List, [], ◌++◌, codes, decimal, Result, Ok, Err}
 use Rattle.cdb_streams.specs.FaultTexts.{as_line, play_fault_text, race_fault_text}
 use Rattle.cdb_streams.specs.Statuses.{play_status, race_status}
 use Rattle.cdb_streams.specs.Streams.{Stream, Writes, itself}
 use Rattle.cdb_streams.specs.declared.sink.Failed.{Failed}
 use Rattle.cdb_program.specs.declared.fault.Fault.{Fault}
-use Rattle.cdb_program.specs.declared.fault.Fault.TheVariants.{Play, Race, NoStep, NoValue, NoGoal, NotFound, DoesNotHold, TooManyEvents, TooManySeats, Refused}
+use Rattle.cdb_program.specs.declared.fault.Fault.TheVariants.{Play, Race, NoStep, NoValue, Different, NoGoal, NotFound, DoesNotHold, TooManyEvents, TooManySeats, Refused}
 
 -- that a goal held in none of so many walks
 abbrev pub not_found_text : ℕ → List ℕ
 not_found_text walks = codes "not found in " ++ decimal walks ++ codes " walks\n"
 
--- what is reported; a reason is a text of whole lines
+-- what is reported; a reason is a text of whole lines, and of runs that differ the output has told
 abbrev pub fault_text : Fault → List ℕ
 fault_text (Play fault name) = as_line (play_fault_text fault name.now)
 fault_text (Race fault) = as_line (race_fault_text fault)
@@ -21,6 +21,7 @@ fault_text TooManyEvents = codes "too many events to draw; name a step\n"
 fault_text NoGoal = codes "the goal is differ, all, stuck:R or decides:P:V\n"
 fault_text (NotFound walks) = not_found_text walks
 fault_text DoesNotHold = codes "the goal does not hold\n"
+fault_text Different = []
 fault_text TooManySeats = codes "too many seats\n"
 fault_text (Refused reason) = reason.now
 
@@ -34,6 +35,7 @@ fault_status TooManyEvents = 1
 fault_status NoGoal = 2
 fault_status (NotFound walks) = 1
 fault_status DoesNotHold = 1
+fault_status Different = 1
 fault_status TooManySeats = 2
 fault_status (Refused reason) = 2
 

@@ -3,6 +3,8 @@ use Rattle.std.specs.Prelude.{◌≡◌, ℕ, ◌≤◌, List, length, Option, o
 use Rattle.std.specs.Borrow.{Bor}
 use Rattle.cdb_streams.specs.Streams.{Stream, Takes, Fails, itself}
 use Rattle.cdb_streams.specs.declared.fault.PlayFault.TheVariants.{Write}
+use Rattle.cdb_program.specs.Clocks.{ClocksFiles}
+use Rattle.cdb_program.specs.Comparing.{ComparesFiles}
 use Rattle.cdb_program.specs.Debugging.{DebugsFile}
 use Rattle.cdb_program.specs.Known.{Seen}
 use Rattle.cdb_program.specs.Outcomes.{RequestEnd}
@@ -54,6 +56,8 @@ Does (request.Debug setup prompt) old new outcome = DebugsFile setup.now prompt.
 Does (request.DebugShared setup seats file) old new outcome = ⊥
 Does (request.Replay setup journal) old new outcome = ReplaysFiles setup.now journal.now old new outcome
 Does (request.Search setup goal seed walks) old new outcome = SearchesFile setup.now goal.now walks old new outcome
+Does (request.Same setup first second) old new outcome = ComparesFiles setup.now first.now second.now old new outcome
+Does (request.Clocks setup script) old new outcome = ClocksFiles setup.now script.now old new outcome
 Does (request.Print text) old new outcome = ReadsNothing old new × Prints text.now old.output new.output outcome
 Does (request.Refuse fault) old new outcome = ReadsNothing old new × (new.output ≡ old.output) × (outcome ≡ Err fault)
 

@@ -1,6 +1,6 @@
 //! Why a request was not carried out to its end.
 
-ghost use Rattle.cdb_program.specs.Outcomes.{IsOfExplain, IsOfPlay, IsOfRace, IsOfSearch};
+ghost use Rattle.cdb_program.specs.Outcomes.{IsOfExplain, IsOfPlay, IsOfRace, IsOfSame, IsOfSearch};
 
 use cdb_explain::ExplainFault;
 use cdb_search::SearchFault;
@@ -32,6 +32,8 @@ pub enum Fault<'a> {
     NotFound(u32),
     /// The goal doesn't hold of the run that the script leaves.
     DoesNotHold,
+    /// The runs that were compared differ, as the output tells. Nothing else is reported.
+    Different,
     /// A race of more than 64 processes and scripts.
     TooManySeats,
     /// Nothing was asked for that can be done, and this text says why.
@@ -56,6 +58,7 @@ impl fmt::Display for Fault<'_> {
             Fault::NoGoal => f.write_str(NO_GOAL),
             Fault::NotFound(walks) => writeln!(f, "not found in {walks} walks"),
             Fault::DoesNotHold => f.write_str(DOES_NOT_HOLD),
+            Fault::Different => Ok(()),
             Fault::TooManySeats => f.write_str("too many seats\n"),
             Fault::Refused(reason) => f.write_str(reason),
         }
@@ -106,5 +109,16 @@ pub fn of_search<'a>(searched: Result<(), SearchFault>, name: &'a str) -> Result
         Err(SearchFault::NotFound(walks)) => Err(Fault::NotFound(walks)),
         Err(SearchFault::DoesNotHold) => Err(Fault::DoesNotHold),
         Err(SearchFault::Play(fault)) => Err(Fault::Play(fault, name)),
+    }
+}
+
+/// How a request ended that was a comparison of runs.
+pub fn of_same<'a>(told: Result<bool, PlayFault>) -> Result<(), Fault<'a>>
+    ensures { IsOfSame told result }
+{
+    match told {
+        Ok(true) => Ok(()),
+        Ok(false) => Err(Fault::Different),
+        Err(fault) => Err(Fault::Play(fault, "")),
     }
 }

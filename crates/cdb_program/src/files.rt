@@ -2,7 +2,7 @@
 
 ghost use Rattle.std.specs.Prelude.{[], ◌∷◌};
 ghost use Rattle.cdb_program.specs.Known.{FilesSeen};
-ghost use Rattle.cdb_program.specs.Reading.{both, many, single, file_names, Reads, ReadsFile};
+ghost use Rattle.cdb_program.specs.Reading.{both, many, single, three, file_names, Reads, ReadsFile};
 ghost use Rattle.cdb_program.specs.Seating.{FindsSeat, MakesFile};
 
 use crate::fault::Fault;
@@ -93,6 +93,25 @@ pub fn read_two<'a, F: Files>(
     let json = read_file(alloc, files, setup)?;
     let bytes = read_file(alloc, files, script)?;
     Ok((json, bytes))
+}
+
+/// The bytes of the file of a setup and then of those of two scripts.
+///
+/// # Errors
+/// Those of `read_file`, of the first file that can't be read; those after it are not opened.
+pub fn read_three<'a, F: Files>(
+    alloc: Global,
+    files: &mut F,
+    setup: &'a str,
+    first: &'a str,
+    second: &'a str,
+) -> Result<(Vec<u8>, Vec<u8>, Vec<u8>), Fault<'a>>
+    ensures { Reads three (F.seen files.old) (F.seen files.new)
+        (setup.entry.now ∷ first.entry.now ∷ second.entry.now ∷ []) result }
+{
+    let (json, one) = read_two(alloc, files, setup, first)?;
+    let other = read_file(alloc, files, second)?;
+    Ok((json, one, other))
 }
 
 /// The bytes of the files of these names, which are read one after the other as `read_file` does.

@@ -10,7 +10,8 @@ use cdb_streams::{
     write_race_fault,
 };
 
-/// The status after a step that doesn't stand, takes no value or has to be named, and after a goal that doesn't hold.
+/// The status after a step that doesn't stand, takes no value or has to be named, after a goal that doesn't hold, and after runs
+/// that differ.
 const NO_STEP: u8 = 1;
 
 /// The status after arguments that can't be carried out.
@@ -24,7 +25,7 @@ fn status_after(fault: &Fault<'_>) -> u8
         Fault::Play(fault, _) => status_of(fault),
         Fault::Race(fault) => race_status_of(fault),
         Fault::NoStep | Fault::NoValue | Fault::TooManyEvents => NO_STEP,
-        Fault::NotFound(_) | Fault::DoesNotHold => NO_STEP,
+        Fault::Different | Fault::NotFound(_) | Fault::DoesNotHold => NO_STEP,
         Fault::NoGoal | Fault::TooManySeats | Fault::Refused(_) => USAGE,
     }
 }
@@ -56,6 +57,7 @@ fn write_text<E: Sink>(fault: &Fault<'_>, error: &mut E) -> Result<(), Failed>
         Fault::NoGoal => write_all(error, NO_GOAL.as_bytes()),
         Fault::NotFound(walks) => write_not_found(*walks, error),
         Fault::DoesNotHold => write_all(error, DOES_NOT_HOLD.as_bytes()),
+        Fault::Different => write_all(error, b""),
         Fault::TooManySeats => write_all(error, b"too many seats\n"),
         Fault::Refused(reason) => write_all(error, reason.as_bytes()),
     }

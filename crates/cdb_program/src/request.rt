@@ -3,6 +3,8 @@
 ghost use Rattle.std.specs.Prelude.{◌≡◌, ◌≤◌};
 ghost use Rattle.cdb_program.specs.Requests.{Does, IsAlone, Performs, PerformsAlone, Prints, HasTurns};
 
+use crate::clocks::clock_files;
+use crate::compares::compare_files;
 use crate::debugs::debug_file;
 use crate::fault::Fault;
 use crate::files::Files;
@@ -71,6 +73,17 @@ pub enum Request<'a> {
         seed: u32,
         walks: u32,
     },
+    /// Tells whether two script files leave the same run on a setup file.
+    Same {
+        setup: &'a str,
+        first: &'a str,
+        second: &'a str,
+    },
+    /// Writes the clocks of the run that a script file leaves on a setup file.
+    Clocks {
+        setup: &'a str,
+        script: &'a str,
+    },
     /// Writes a text to standard output.
     Print(&'a str),
     /// Does nothing, and reports this fault.
@@ -125,6 +138,12 @@ fn carry_out<
             seed,
             walks,
         } => search_file(alloc, setup, goal, seed, walks, outside),
+        Request::Same {
+            setup,
+            first,
+            second,
+        } => compare_files(alloc, setup, first, second, outside),
+        Request::Clocks { setup, script } => clock_files(alloc, setup, script, outside),
         Request::Print(text) => print(text, &mut outside.streams.output),
         Request::Refuse(fault) => Err(fault),
     }
@@ -147,8 +166,8 @@ fn perform_one<
 }
 
 /// Carries a request out, reports on standard error how it ended, and returns the status with which the program
-/// ends: 0 where all went well, else 1 to 9. A fault has one line on standard error, and each seat that failed has one; nothing
-/// else is written there.
+/// ends: 0 where all went well, else 1 to 9. A fault has one line on standard error, but that two runs differ has none, which
+/// standard output tells; and each seat that failed has one. Nothing else is written there.
 ///
 /// Promise: A request reads the files that it names, in order and no others, up to the first that can't be read; its
 /// text goes to standard output. How it ended is reported: nothing and status 0 where it is well, else the fault's

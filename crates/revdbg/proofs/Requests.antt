@@ -5,7 +5,7 @@ use Rattle.revdbg.specs.declared.requested.Unread.{Unread}
 use Rattle.revdbg.specs.declared.requested.Unread.TheVariants as unread
 use Rattle.cdb_base.specs.declared.question.Question.{Question}
 use Rattle.clap.specs.Words.{Text}
-use Rattle.cdb_arguments.specs.Asking.{IsDebugOf, IsOfKinds, IsPlayOf, IsQuestionOf, IsRaceOf, IsReplayOf, IsSearchOf}
+use Rattle.cdb_arguments.specs.Asking.{IsDebugOf, IsOfKinds, IsPlayOf, IsQuestionOf, IsRaceOf, IsReplayOf, IsSameOf, IsClocksOf, IsSearchOf}
 use Rattle.cdb_arguments.specs.declared.request.AskFault.{AskFault}
 use Rattle.cdb_arguments.specs.declared.request.AskFault.TheVariants as fault_of_asking
 use Rattle.cdb_arguments.specs.declared.request.Asked.{Asked}
@@ -14,8 +14,8 @@ use Rattle.cdb_streams.specs.declared.fault.PlayFault.TheVariants as play
 use Rattle.cdb_program.specs.Known.{Seen}
 use Rattle.cdb_program.specs.declared.fault.Fault.TheVariants as fault
 use Rattle.cdb_program.specs.declared.request.Request.{Request}
-use Rattle.cdb_program.specs.declared.request.Request.TheVariants.{Script, Play, Race, Ask, Debug, DebugShared, Replay, Search, Print, Refuse}
-use Rattle.revdbg.specs.Requested.{IsAskedBy, IsDebugRequest, IsOutOfMemory, IsPlayRequest, IsQuestionRequest, IsRaceRequest, IsReplayRequest, IsSearchRequest, IsRequestOf, IsRefusal, IsUnread, OrOutOfMemory, PerformsOne}
+use Rattle.cdb_program.specs.declared.request.Request.TheVariants.{Script, Play, Race, Ask, Debug, DebugShared, Replay, Same, Clocks, Search, Print, Refuse}
+use Rattle.revdbg.specs.Requested.{IsAskedBy, IsDebugRequest, IsOutOfMemory, IsPlayRequest, IsQuestionRequest, IsRaceRequest, IsReplayRequest, IsSameRequest, IsClocksRequest, IsSearchRequest, IsRequestOf, IsRefusal, IsUnread, OrOutOfMemory, PerformsOne}
 
 -- where nothing can be wrong with the arguments, an allocation failed
 no_refusal : (request : Request) → IsRefusal [] request → ⊥
@@ -38,6 +38,9 @@ no_refusal (Refuse fault.TooManyEvents) is = is
 no_refusal (Refuse fault.NoGoal) is = is
 no_refusal (Refuse (fault.NotFound walks)) is = is
 no_refusal (Refuse fault.DoesNotHold) is = is
+no_refusal (Same setup first second) is = is
+no_refusal (Clocks setup script) is = is
+no_refusal (Refuse fault.Different) is = is
 
 pub only_memory : (request : Request) → OrOutOfMemory (IsRefusal []) request → IsOutOfMemory request
 only_memory request (inl refusal) = absurd (no_refusal request refusal)
@@ -58,6 +61,8 @@ module _ (prompt : Text) where
   play_request setup script (asked.Debug a seats file) is request of_it = absurd is
   play_request setup script (asked.Replay a b) is request of_it = absurd is
   play_request setup script (asked.Search a h n w) is request of_it = absurd is
+  play_request setup script (asked.Same a b d) is request of_it = absurd is
+  play_request setup script (asked.Clocks a b) is request of_it = absurd is
   play_request setup script (asked.Race a n b) is request of_it = absurd is
   play_request setup script (asked.Ask a b q) is request of_it = absurd is
 
@@ -67,6 +72,8 @@ module _ (prompt : Text) where
   race_request setup turns scripts (asked.Debug a seats file) is request of_it = absurd is
   race_request setup turns scripts (asked.Replay a b) is request of_it = absurd is
   race_request setup turns scripts (asked.Search a h n w) is request of_it = absurd is
+  race_request setup turns scripts (asked.Same a b d) is request of_it = absurd is
+  race_request setup turns scripts (asked.Clocks a b) is request of_it = absurd is
   race_request setup turns scripts (asked.Play a b) is request of_it = absurd is
   race_request setup turns scripts (asked.Ask a b q) is request of_it = absurd is
 
@@ -78,6 +85,8 @@ module _ (prompt : Text) where
   question_request setup script question (asked.Debug a seats file) is request of_it = absurd is
   question_request setup script question (asked.Replay a b) is request of_it = absurd is
   question_request setup script question (asked.Search a h n w) is request of_it = absurd is
+  question_request setup script question (asked.Same a b d) is request of_it = absurd is
+  question_request setup script question (asked.Clocks a b) is request of_it = absurd is
 
   pub debug_request : (setup : Text) (seats : List Text) (it : Asked) → IsDebugOf setup seats it → (request : Request) → IsRequestOf prompt it request → IsDebugRequest prompt setup seats None request
   debug_request setup seats (asked.Debug a b f) is request of_it = rw (← is.0, ← is.1, ← is.2) of_it
@@ -85,6 +94,8 @@ module _ (prompt : Text) where
   debug_request setup seats (asked.Play a b) is request of_it = absurd is
   debug_request setup seats (asked.Replay a b) is request of_it = absurd is
   debug_request setup seats (asked.Search a h n w) is request of_it = absurd is
+  debug_request setup seats (asked.Same a b d) is request of_it = absurd is
+  debug_request setup seats (asked.Clocks a b) is request of_it = absurd is
   debug_request setup seats (asked.Race a n b) is request of_it = absurd is
   debug_request setup seats (asked.Ask a b q) is request of_it = absurd is
 
@@ -96,6 +107,8 @@ module _ (prompt : Text) where
   replay_request setup journal (asked.Ask a b q) is request of_it = absurd is
   replay_request setup journal (asked.Debug a b f) is request of_it = absurd is
   replay_request setup journal (asked.Search a h n w) is request of_it = absurd is
+  replay_request setup journal (asked.Same a b d) is request of_it = absurd is
+  replay_request setup journal (asked.Clocks a b) is request of_it = absurd is
 
   pub search_request : (setup goal : Text) (seed walks : ℕ) (it : Asked) → IsSearchOf setup goal seed walks it → (request : Request) → IsRequestOf prompt it request → IsSearchRequest setup goal seed walks request
   search_request setup goal seed walks (asked.Search a h n w) is request of_it = rw (← is.0, ← is.1, ← is.2, ← is.3) of_it
@@ -105,6 +118,30 @@ module _ (prompt : Text) where
   search_request setup goal seed walks (asked.Ask a b q) is request of_it = absurd is
   search_request setup goal seed walks (asked.Debug a b f) is request of_it = absurd is
   search_request setup goal seed walks (asked.Replay a b) is request of_it = absurd is
+  search_request setup goal seed walks (asked.Same a b d) is request of_it = absurd is
+  search_request setup goal seed walks (asked.Clocks a b) is request of_it = absurd is
+
+  pub same_request : (setup first second : Text) (it : Asked) → IsSameOf setup first second it → (request : Request) → IsRequestOf prompt it request → IsSameRequest setup first second request
+  same_request setup first second (asked.Same a b d) is request of_it = rw (← is.0, ← is.1, ← is.2) of_it
+  same_request setup first second asked.Script is request of_it = absurd is
+  same_request setup first second (asked.Play a b) is request of_it = absurd is
+  same_request setup first second (asked.Race a n b) is request of_it = absurd is
+  same_request setup first second (asked.Ask a b q) is request of_it = absurd is
+  same_request setup first second (asked.Debug a b f) is request of_it = absurd is
+  same_request setup first second (asked.Replay a b) is request of_it = absurd is
+  same_request setup first second (asked.Search a h n w) is request of_it = absurd is
+  same_request setup first second (asked.Clocks a b) is request of_it = absurd is
+
+  pub clocks_request : (setup script : Text) (it : Asked) → IsClocksOf setup script it → (request : Request) → IsRequestOf prompt it request → IsClocksRequest setup script request
+  clocks_request setup script (asked.Clocks a b) is request of_it = rw (← is.0, ← is.1) of_it
+  clocks_request setup script asked.Script is request of_it = absurd is
+  clocks_request setup script (asked.Play a b) is request of_it = absurd is
+  clocks_request setup script (asked.Race a n b) is request of_it = absurd is
+  clocks_request setup script (asked.Ask a b q) is request of_it = absurd is
+  clocks_request setup script (asked.Debug a b f) is request of_it = absurd is
+  clocks_request setup script (asked.Replay a b) is request of_it = absurd is
+  clocks_request setup script (asked.Search a h n w) is request of_it = absurd is
+  clocks_request setup script (asked.Same a b d) is request of_it = absurd is
 
 -- ---- an allocation failed before it was known what is asked for
 
@@ -117,6 +154,8 @@ memory_is_asked prompt words request is = record {
   debug = λ setup seats line. inr is;
   replay = λ setup journal line. inr is;
   search = λ setup goal seed walks line. inr is;
+  same = λ setup first second line. inr is;
+  clocks = λ setup script line. inr is;
   taken = λ none. inr is;
   refused = λ some. inr is;
 }

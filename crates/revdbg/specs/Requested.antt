@@ -7,7 +7,7 @@ use Rattle.clap.specs.declared.error.kind.ErrorKind.{ErrorKind}
 use Rattle.cdb_base.specs.Memory.{no_memory}
 use Rattle.cdb_arguments.specs.Asking.{NamesAsked, any_text, texts, words_status}
 use Rattle.cdb_arguments.specs.CommandLine.{program}
-use Rattle.cdb_arguments.specs.Plain.{IsNameAlone, IsPlayLine, IsQuestionLine, IsRaceLine, IsDebugLine, IsReplayLine, IsSearchLine}
+use Rattle.cdb_arguments.specs.Plain.{IsNameAlone, IsPlayLine, IsQuestionLine, IsRaceLine, IsDebugLine, IsReplayLine, IsSameLine, IsClocksLine, IsSearchLine}
 use Rattle.cdb_arguments.specs.declared.request.Asked.{Asked}
 use Rattle.cdb_arguments.specs.declared.request.Asked.TheVariants as asked
 use Rattle.cdb_base.specs.declared.question.Question.{Question}
@@ -18,7 +18,7 @@ use Rattle.cdb_program.specs.Known.{Seen}
 use Rattle.cdb_program.specs.Requests.{Performs, any_file}
 use Rattle.cdb_program.specs.declared.fault.Fault.TheVariants as fault
 use Rattle.cdb_program.specs.declared.request.Request.{Request}
-use Rattle.cdb_program.specs.declared.request.Request.TheVariants.{Script, Play, Race, Ask, Debug, DebugShared, Replay, Search, Print, Refuse}
+use Rattle.cdb_program.specs.declared.request.Request.TheVariants.{Script, Play, Race, Ask, Debug, DebugShared, Replay, Same, Clocks, Search, Print, Refuse}
 
 -- a play of these two files
 abbrev pub IsPlayRequest : Text → Text → Request → Type 0
@@ -57,6 +57,17 @@ IsSearchRequest setup goal seed walks (Search its_setup its_goal its_seed its_wa
     (its_setup.now ≡ setup) × (its_goal.now ≡ goal) × (its_seed ≡ seed) × (its_walks ≡ walks)
 IsSearchRequest setup goal seed walks request = ⊥
 
+-- whether scripts of these names leave the same run of this file
+abbrev pub IsSameRequest : Text → Text → Text → Request → Type 0
+IsSameRequest setup first second (Same its_setup its_first its_second) =
+    (its_setup.now ≡ setup) × (its_first.now ≡ first) × (its_second.now ≡ second)
+IsSameRequest setup first second request = ⊥
+
+-- clocks of the run of these two files
+abbrev pub IsClocksRequest : Text → Text → Request → Type 0
+IsClocksRequest setup script (Clocks its_setup its_script) = (its_setup.now ≡ setup) × (its_script.now ≡ script)
+IsClocksRequest setup script request = ⊥
+
 -- the request for what was asked for, where sessions have this prompt
 abbrev pub IsRequestOf : Text → Asked → Request → Type 0
 IsRequestOf prompt asked.Script request = request ≡ Script
@@ -66,6 +77,8 @@ IsRequestOf prompt (asked.Ask setup script question) request = IsQuestionRequest
 IsRequestOf prompt (asked.Debug setup seats file) request = IsDebugRequest prompt setup.now (texts seats.items) (any_text file) request
 IsRequestOf prompt (asked.Replay setup journal) request = IsReplayRequest setup.now journal.now request
 IsRequestOf prompt (asked.Search setup goal seed walks) request = IsSearchRequest setup.now goal.now seed walks request
+IsRequestOf prompt (asked.Same setup first second) request = IsSameRequest setup.now first.now second.now request
+IsRequestOf prompt (asked.Clocks setup script) request = IsClocksRequest setup.now script.now request
 
 -- the request for what the subcommand that `clap` found asks for
 abbrev pub IsRequested : Text → Option (Text × List Row) → Request → Type 0
@@ -100,6 +113,8 @@ pub record IsAskedBy (prompt : Text) (words : List Text) (request : Request) : T
   pub replay : (setup journal : Text) → IsReplayLine words setup journal → OrOutOfMemory (IsReplayRequest setup journal) request
   pub search : (setup goal : Text) (seed walks : ℕ)
       → IsSearchLine words setup goal seed walks → OrOutOfMemory (IsSearchRequest setup goal seed walks) request
+  pub same : (setup first second : Text) → IsSameLine words setup first second → OrOutOfMemory (IsSameRequest setup first second) request
+  pub clocks : (setup script : Text) → IsClocksLine words setup script → OrOutOfMemory (IsClocksRequest setup script) request
   pub taken : fault_of program words ≡ [] → OrOutOfMemory (IsRequested prompt (subcommand_of program words)) request
   pub refused : fault_of program words ≢ [] → OrOutOfMemory (IsRefusal (fault_of program words)) request
 

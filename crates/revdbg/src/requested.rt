@@ -115,6 +115,16 @@ fn request_of<'a>(asked: &'a Asked<'a>, prompt: &'a str) -> Request<'a>
             seed: *seed,
             walks: *walks,
         },
+        Asked::Same {
+            setup,
+            first,
+            second,
+        } => Request::Same {
+            setup,
+            first,
+            second,
+        },
+        Asked::Clocks { setup, script } => Request::Clocks { setup, script },
         Asked::Debug { setup, seats, file } => debug_of(setup, seats.as_slice(), *file, prompt),
     }
 }

@@ -1,5 +1,5 @@
-use Rattle.std.proofs.Common.{◌∙◌, codes, ap, sym, refl}
-use Rattle.std.specs.Prelude.{IsSome, is_some}
+use Rattle.std.proofs.Common.{◌∙◌, codes, ap, sym}
+use Rattle.std.specs.Prelude.{is_some}
 use Rattle.clap.specs.Words.{found_of}
 use Rattle.clap.proofs.WalkLemmas.{first_value-rows}
 use Rattle.cdb_arguments.proofs.Given.{some_text, no_text}

@@ -1,4 +1,4 @@
-use Rattle.cdb_arguments.proofs.Requests.{script_asked_for, play_asked_for, race_asked_for, question_asked_for, debug_asked_for, replay_asked_for, search_asked_for}
+use Rattle.cdb_arguments.proofs.Requests.{script_asked_for, play_asked_for, race_asked_for, question_asked_for, debug_asked_for, replay_asked_for, same_asked_for, clocks_asked_for, search_asked_for}
 use Rattle.cdb_arguments.specs.Asking.{texts}
 use Rattle.cdb_arguments.proofs.reading.asked.Goals as goal
 
@@ -22,3 +22,9 @@ returns-clause-replay c = replay_asked_for (texts c.args.words.now) c.read.resul
 
 pub returns-clause-search : goal.returns-clause-search
 returns-clause-search c = search_asked_for (texts c.args.words.now) c.read.result c.read.ensures.ok c.read.ensures.taken
+
+pub returns-clause-same : goal.returns-clause-same
+returns-clause-same c = same_asked_for (texts c.args.words.now) c.read.result c.read.ensures.ok c.read.ensures.taken
+
+pub returns-clause-clocks : goal.returns-clause-clocks
+returns-clause-clocks c = clocks_asked_for (texts c.args.words.now) c.read.result c.read.ensures.ok c.read.ensures.taken

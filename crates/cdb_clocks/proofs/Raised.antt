@@ -1,0 +1,139 @@
+-- A clock that is raised to those of the direct causes of a step.
+use Rattle.std.proofs.Common.{◌≡◌, ℕ, suc, ◌<◌, ◌≤◌, ◌↔◌, ◌⊎◌, inl, inr, ⊎_elim, List, [], ◌∷◌, ◌++◌, Some, length, slice_set, replicate, max, refl, sym, ap, ◌∙◌, subst, arith}
+use Rattle.std.proofs.lemmas.Bool.{cases_eq}
+use Rattle.std.proofs.lemmas.Option.{none-some, same_Some}
+use Rattle.cdb_base.specs.Event.{event_name}
+use Rattle.cdb_base.specs.Positions.{nth}
+use Rattle.cdb_base.specs.declared.event.Event.{Event}
+use Rattle.cdb_base.specs.declared.event.Event.TheVariants.{Step, Lost}
+use Rattle.cdb_base.specs.declared.event.Kind.{Kind}
+use Rattle.cdb_base.specs.declared.name.StepId.{StepId}
+use Rattle.cdb_base.specs.declared.name.StepId.TheVariants as named
+use Rattle.cdb_causal.proofs.Lists.{push_cases}
+use Rattle.cdb_causal.specs.Causality.{IsDirectCause}
+use Rattle.cdb_causal.specs.Dependence.{depends}
+use Rattle.cdb_causal.specs.DirectCauses.{AreDirectCauses, NamesDirectCause}
+use Rattle.cdb_causal.specs.Names.{IsNamedAt}
+use Rattle.cdb_causal.specs.Past.{HasLedTo}
+use Rattle.cdb_clocks.proofs.Led.{earlier, last_cause, led_on, own_led}
+use Rattle.cdb_clocks.specs.Clocks.{CountsLed, IsClock}
+use Rattle.cdb_clocks.specs.Rows.{clock_named, AreKept, HasLedOf, IsRaised, IsRaisedBy}
+use Rattle.cdb_same.proofs.Counted.{count_other, count_set, none_counted}
+use Rattle.cdb_same.proofs.Ranks.{from_one, in_order}
+use Rattle.cdb_same.specs.Comparing.{AreNumberedUpTo, IsComparable}
+use Rattle.cdb_standing.specs.Cuts.{cut_of as count_of}
+use Rattle.cdb_standing.specs.Moves.{HasStep}
+use Rattle.cdb_standing.specs.Tables.{row_of}
+
+above_either : (l a b m : ℕ) → m ≡ max a b → l ≤ m → (l ≤ a) ⊎ (l ≤ b)
+above_either l a b m is less = grind arith
+
+above_first : (l a b m : ℕ) → m ≡ max a b → l ≤ a → l ≤ m
+above_first l a b m is less = omega (arith, is, less)
+
+above_second : (l a b m : ℕ) → m ≡ max a b → l ≤ b → l ≤ m
+above_second l a b m is less = omega (arith, is, less)
+
+one_of : (a b m : ℕ) → m ≡ max a b → (m ≡ a) ⊎ (m ≡ b)
+one_of a b m is = grind arith
+
+abbrev pub name_of_step : Event → ℕ × ℕ
+name_of_step (Step p k kind) = (p, k)
+name_of_step (Lost copy) = (0, 0)
+
+module _ (history : List Event) (comparable : IsComparable history) (numbered : AreNumberedUpTo history 9) where
+  its_order : (at other q l k : ℕ) (kind its : Kind) → nth history at ≡ Some (Step q l kind) → nth history other ≡ Some (Step q k its) → (l ≤ k) ↔ (at ≤ other)
+  its_order at other q l k kind its one two =
+      let within = comparable.standing.processes at q l kind one in
+      in_order history q (numbered q within.0 within.1) at other l k kind its one two
+
+  -- nothing has led to no event
+  pub nothing_led : (at n : ℕ) → HasLedOf history at [] (replicate n 0)
+  nothing_led at n = record {
+    only = λ other q l kind stands few.
+        let within = comparable.standing.processes other q l kind stands in
+        let low = from_one history q (numbered q within.0 within.1) other l kind stands in
+        let none = none_counted n q in
+        absurd (omega (arith, few, none, low));
+    each = λ i cause name get. absurd (none-some name get);
+    last = λ q. inl (none_counted n q);
+  }
+
+  module _ (end : ℕ) (names : List StepId) (clock new : List ℕ) (so_far : HasLedOf history (suc end) names clock) (rows : List (List (List ℕ))) (kept : AreKept history end rows) where
+    by_step : (y p k : ℕ) (kind : Kind) → IsDirectCause depends history y (suc end) → nth history y ≡ Some (Step p k kind) → IsRaised (nth (row_of rows p) k) clock new
+        → HasLedOf history (suc end) (names ++ named.Step (record { p = p; k = k }) ∷ []) new
+    by_step y p k kind direct at_y raised =
+        let later = direct.link.later in
+        let own = kept.clocks y p k kind at_y (omega (arith, later)) in
+        let is : IsRaisedBy own.0 clock new = subst (λ o. IsRaised o clock new) own.1 raised in
+        let name : StepId = named.Step (record { p = p; k = k }) in
+        record {
+          only = λ other q l its stands few.
+              ⊎_elim (λ old. so_far.only other q l its stands old) (λ more. led_on history other y (suc end) direct.link (((own.2 q).led other l its stands).0 more))
+              (above_either l (count_of clock q) (count_of own.0 q) (count_of new q) (is q) few);
+          each = λ i cause other_name get is_named other q l its stands led.
+              ⊎_elim
+              (λ front. above_first l (count_of clock q) (count_of own.0 q) (count_of new q) (is q) (so_far.each i cause other_name front.0 is_named other q l its stands led))
+              (λ back.
+              let same = comparable.standing.names_differ cause y other_name is_named (Step p k kind, at_y, back.0) in
+              above_second l (count_of clock q) (count_of own.0 q) (count_of new q) (is q) (((own.2 q).led other l its stands).1 (subst (λ (n : ℕ). HasLedTo depends history n other) same led)))
+              (push_cases names name other_name i get);
+          last = λ q.
+              ⊎_elim
+              (λ old. subst (λ (n : ℕ). (n ≡ 0) ⊎ HasStep history q n) (sym old) (so_far.last q))
+              (λ more. subst (λ (n : ℕ). (n ≡ 0) ⊎ HasStep history q n) (sym more) (own.2 q).last)
+              (one_of (count_of clock q) (count_of own.0 q) (count_of new q) (is q));
+        }
+
+    -- the clock is raised to that of one direct cause more
+    pub raised_more : (name : StepId) → NamesDirectCause history (suc end) name → IsRaised (clock_named rows name) clock new → HasLedOf history (suc end) (names ++ name ∷ []) new
+    raised_more name (y, direct, (Step p k kind, at_y, is)) raised =
+        subst (λ n. HasLedOf history (suc end) (names ++ n ∷ []) new) is (by_step y p k kind direct at_y (subst (λ n. IsRaised (clock_named rows n) clock new) (sym is) raised))
+    raised_more name (y, direct, (Lost copy, at_y, is)) raised = absurd (comparable.losses_free y copy at_y (suc end) direct.link)
+
+  -- with the step itself it is the clock of the step
+  module _ (at p k : ℕ) (kind : Kind) (stands : nth history at ≡ Some (Step p k kind)) (names : List StepId) (causes : AreDirectCauses history at names) (clock : List ℕ) (has : HasLedOf history at names clock) (i : ℕ)
+      (within : i < length clock) (place : suc i ≡ p) where
+    abbrev new : List ℕ
+    new = slice_set clock i k
+
+    own_count : count_of new p ≡ k
+    own_count = ap (count_of new) (sym place) ∙ count_set clock i k within
+
+    others_count : (q : ℕ) → (q ≡ p → ⊥) → count_of new q ≡ count_of clock q
+    others_count q other = count_other clock i k q (λ e. other (e ∙ place))
+
+    past_counted : (other q l : ℕ) (its : Kind) → nth history other ≡ Some (Step q l its) → (q ≡ p → ⊥) → HasLedTo depends history at other → l ≤ count_of clock q
+    past_counted other q l its there apart (inl same) =
+        absurd (apart (ap (λ e. (name_of_step e).0) (same_Some (Step q l its) (Step p k kind) (sym there ∙ subst (λ (n : ℕ). nth history n ≡ Some (Step p k kind)) (sym same) stands))))
+    past_counted other q l its there apart (inr past) =
+        let last = last_cause history other at past in
+        let cause = (last.1).link.cause in
+        let named : IsNamedAt history last.0 (event_name cause) = (cause, (last.1).link.at_cause, refl) in
+        let listed = causes.each (event_name cause) (last.0, last.1, named) in
+        has.each listed.0 last.0 (event_name cause) listed.1 named other q l its there last.2
+
+    own_before : (other l : ℕ) (its : Kind) → nth history other ≡ Some (Step p l its) → HasLedTo depends history at other → other ≤ at
+    own_before other l its there (inl same) = omega (arith, same)
+    own_before other l its there (inr past) = let less = earlier history past in omega (arith, less)
+
+    own_led_to : (other l : ℕ) (its : Kind) → nth history other ≡ Some (Step p l its) → other ≤ at → HasLedTo depends history at other
+    own_led_to other l its there less =
+        ⊎_elim (λ same. inl same) (λ apart. own_led history other at p l k its kind (omega (arith, less, apart)) there stands) (cases_eq other at)
+
+    pub clock_is : IsClock history at new
+    clock_is q =
+        ⊎_elim
+        (λ own. subst (λ (r : ℕ). CountsLed history at r (count_of new r)) (sym own) (record {
+          led = λ other l its there.
+              let order = its_order other at p l k its kind there stands in (
+                (λ few. own_led_to other l its there (order.0 (omega (arith, few, own_count)))),
+                (λ led. let less = order.1 (own_before other l its there led) in omega (arith, less, own_count)),
+              );
+          last = inr (kind, (at, stands ∙ ap (λ (n : ℕ). Some (Step p n kind)) (sym own_count)));
+        }))
+        (λ other. subst (CountsLed history at q) (sym (others_count q other)) (record {
+          led = λ x l its there. (λ few. has.only x q l its there few, λ led. past_counted x q l its there other led);
+          last = has.last q;
+        }))
+        (cases_eq q p)

@@ -1,0 +1,135 @@
+//! The text of clocks: of each step its clock, and then what it did.
+
+ghost use Rattle.std.specs.Prelude.{◌≡◌, ◌≤◌, ◌++◌, Bool, suc, IfOk, OnOk, length};
+ghost use Rattle.cdb_clocks.specs.Clocks.{AreClocks};
+ghost use Rattle.cdb_clocks.specs.Texts.{clock_text, comma_text, entries_text, entry_text, first_lines, step_text, IsClocksText};
+ghost use Rattle.cdb_deeds.specs.Deeds.{deed_in, received_by_each};
+ghost use Rattle.cdb_rules.specs.ByRules.{IsInOrder};
+ghost use Rattle.cdb_rules.specs.Runs.{with_event};
+ghost use Rattle.cdb_text.specs.Pushes.{Pushes};
+
+use crate::clock::{Clock, clocks_of};
+use cdb_base::{Event, NoMemory, Proc};
+use cdb_deeds::{Deed, ReceivedNames, Telling};
+use cdb_explain::{Causes, fresh, push_whole, take_next};
+use cdb_rules::{Runs, Trace};
+use cdb_same::history_of;
+use std::alloc::{AllocError, Global};
+
+/// Adds how many steps of a process there are, after a comma but for the first.
+fn push_entry(text: &mut String, is_first: bool, q: u8, n: u16) -> Result<(), AllocError>
+    ensures { Pushes result text.old text.new (comma_text is_first ++ entry_text q n) }
+{
+    if !is_first {
+        text.push_str(",")?;
+    }
+    text.push_str("\"p")?;
+    write!(text, "{q}")?;
+    text.push_str("\":")?;
+    write!(text, "{n}")
+}
+
+/// Adds the entries of a clock, without those that are 0.
+fn push_entries(text: &mut String, clock: &Clock) -> Result<(), AllocError>
+    ensures { Pushes result text.old text.new (entries_text 1 Bool.true clock.now) }
+{
+    let mut is_first = true;
+    for i in 0..9u8 {
+        let n = clock[i as usize];
+        if n > 0 {
+            push_entry(text, is_first, i + 1, n)?;
+            is_first = false;
+        }
+    }
+    Ok(())
+}
+
+/// Adds the clock of a step of process `p`, as a line.
+fn push_clock(text: &mut String, p: Proc, clock: &Clock) -> Result<(), AllocError>
+    ensures { Pushes result text.old text.new (clock_text p clock.now) }
+{
+    let p = p.number();
+    write!(text, "p{p}")?;
+    text.push_str(" {")?;
+    push_entries(text, clock)?;
+    text.push_str("}\n")
+}
+
+/// Adds the lines of the last event of a run, which did that, if it is a step.
+fn push_step<T: Runs>(
+    alloc: Global,
+    text: &mut String,
+    deed: &Deed,
+    run: &T,
+    event: &Event,
+    clock: &Clock,
+) -> Result<(), AllocError>
+    ensures { Pushes result text.old text.new
+        (step_text T.rules (T.run run.now) deed.now clock.now event.now) }
+{
+    match event {
+        Event::Step { p, .. } => {
+            push_clock(text, *p, clock)?;
+            push_whole(alloc, text, Causes::Shown, deed, run, event)?;
+            text.push_str("\n")
+        }
+        Event::Lost(_) => Ok(()),
+    }
+}
+
+/// Takes the next event of a run that is played again, and adds its lines.
+fn push_next<T: Telling>(
+    alloc: Global,
+    text: &mut String,
+    again: &mut T,
+    names: &ReceivedNames,
+    event: &Event,
+    clock: &Clock,
+) -> Result<(), NoMemory>
+    requires names { names.now ≡ received_by_each (T.run again.old).history }
+    requires next { IsInOrder T.rules (with_event (T.run again.old) event.now) }
+    ensures taken { OnOk result (T.run again.new ≡ with_event (T.run again.old) event.now) }
+    ensures lines { Pushes result text.old text.new
+        (step_text T.rules (T.run again.new) (deed_in (T.run again.old) event.now) clock.now event.now) }
+{
+    let deed = again.deed(alloc, names, event)?;
+    take_next(alloc, again, event)?;
+    push_step(alloc, text, &deed, again, event, clock)?;
+    Ok(())
+}
+
+/// Adds the lines of each step of a run, with its clock.
+fn push_lines<T: Telling>(
+    alloc: Global,
+    text: &mut String,
+    run: &Trace,
+    clocks: &[Clock],
+) -> Result<(), NoMemory>
+    requires valid { IsInOrder T.rules run.now }
+    requires a_clock_each { length clocks.now ≡ length run.now.history }
+    ensures { Pushes result text.old text.new (first_lines T.rules run.now clocks.now (length run.now.history)) }
+{
+    let mut again = fresh::<T>(alloc, run)?;
+    // Its clause says that the parts of the setup are in range.
+    let _ranges = run.setup().n();
+    let events = run.events();
+    let mut names = ReceivedNames::none(alloc)?;
+    for i in 0..events.len() {
+        let event = &events[i];
+        push_next(alloc, text, &mut again, &names, event, &clocks[i])?;
+        names.add(event)?;
+    }
+    Ok(())
+}
+
+/// The text of the clocks of a run.
+pub(crate) fn text_of<T: Telling>(alloc: Global, run: &Trace) -> Result<Vec<u8>, NoMemory>
+    requires { IsInOrder T.rules run.now }
+    ensures { IfOk result (λ text. IsClocksText T.rules run.now text.items) }
+{
+    let history = history_of::<T>(alloc, run)?;
+    let clocks = clocks_of(alloc, &history)?;
+    let mut text = String::new(alloc);
+    push_lines::<T>(alloc, &mut text, run, clocks.as_slice())?;
+    Ok(text.into_bytes())
+}

@@ -1,0 +1,35 @@
+//! Comparisons of the runs that two scripts leave, of what is outside.
+
+ghost use Rattle.std.specs.Prelude.{◌≡◌};
+ghost use Rattle.cdb_program.specs.Comparing.{ComparesFiles};
+
+use crate::fault::{Fault, of_same};
+use crate::files::{Files, read_three};
+use crate::outside::Outside;
+use cdb_any_run::AnyRun;
+use cdb_same::same;
+use cdb_streams::{Sink, Source};
+use std::alloc::Global;
+
+/// Tells whether two script files leave the same run on a setup file.
+pub fn compare_files<'a, F: Files + Drop, I: Source + Drop, O: Sink + Drop, E: Sink + Drop>(
+    alloc: Global,
+    setup: &'a str,
+    first: &'a str,
+    second: &'a str,
+    outside: &mut Outside<F, I, O, E>,
+) -> Result<(), Fault<'a>>
+    ensures does { ComparesFiles setup.entry.now first.entry.now second.entry.now
+        outside.old outside.new result }
+    ensures error { outside.new.error ≡ outside.old.error }
+{
+    let (json, one, other) = read_three(alloc, &mut outside.files, setup, first, second)?;
+    let told = same::<AnyRun, O>(
+        alloc,
+        json.as_slice(),
+        one.as_slice(),
+        other.as_slice(),
+        &mut outside.streams.output,
+    );
+    of_same(told)
+}

@@ -1,0 +1,6 @@
+-- what a reader of the contracts believes
+pub mod Comparing
+pub mod Texts
+pub mod Same
+-- what the code keeps for itself
+pub mod Come
