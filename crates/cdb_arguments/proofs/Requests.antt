@@ -10,7 +10,7 @@ use Rattle.std.proofs.lemmas.Option.{none-some}
 use Rattle.clap.specs.Values.{IsSignedIn}
 use Rattle.cdb_arguments.proofs.PlainWords.{is_no_minus}
 use Rattle.std.proofs.lemmas.Result.{IfOk-weaker}
-use Rattle.clap.specs.Words.{Row, Text, subcommand_of, takes}
+use Rattle.clap.specs.Words.{Row, Text, first_of, subcommand_of, takes}
 use Rattle.clap.specs.declared.builder.value_parser.ValueParser.TheVariants as vp
 use Rattle.clap.proofs.ValueTestLemmas.{Accepts-accepts}
 use Rattle.cdb_arguments.specs.Asking.{HasStepOf, IsAnyStepIn, IsStepIn, NamesAsked, IsRequest, IsPlayOf, IsQuestionOf, IsRaceOf, IsDebugOf, IsReplayOf, IsSameOf, IsClocksOf, IsSearchOf, IsTurns, IsNumber, IsNumberOf, text_at, texts_at}
