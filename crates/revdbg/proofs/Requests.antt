@@ -1,5 +1,5 @@
 -- Which request is made.
-use Rattle.std.proofs.Common.{◌≡◌, ◌∷◌, inl, inr, ℕ, List, [], Option, Result, Ok, Err, IfOk, IfErr, subst, sym}
+use Rattle.std.proofs.Common.{◌≡◌, ◌∷◌, inl, inr, ℕ, List, [], Option, Result, Ok, Err, IfOk, IfErr, subst, sym, None}
 use Rattle.cdb_base.specs.Memory.{no_memory}
 use Rattle.revdbg.specs.declared.requested.Unread.{Unread}
 use Rattle.revdbg.specs.declared.requested.Unread.TheVariants as unread
