@@ -10,7 +10,7 @@ use Rattle.std.proofs.lemmas.Option.{none-some}
 use Rattle.clap.specs.Values.{IsSignedIn}
 use Rattle.cdb_arguments.proofs.PlainWords.{is_no_minus}
 use Rattle.std.proofs.lemmas.Result.{IfOk-weaker}
-use Rattle.clap.specs.Words.{Row, Text, subcommand_of, takes}
+use Rattle.clap.specs.Words.{Row, Text, first_of, subcommand_of, takes}
 use Rattle.clap.specs.declared.builder.value_parser.ValueParser.TheVariants as vp
 use Rattle.clap.proofs.ValueTestLemmas.{Accepts-accepts}
 use Rattle.cdb_arguments.specs.Asking.{HasStepOf, IsAnyStepIn, IsStepIn, NamesAsked, IsRequest, IsPlayOf, IsQuestionOf, IsRaceOf, IsDebugOf, IsPageOf, IsReplayOf, IsSameOf, IsClocksOf, IsSearchOf, IsShrinkOf, IsTurns, IsNumber, IsNumberOf, text_at, texts_at}
@@ -41,7 +41,7 @@ script_is found Script none asks = refl
 script_is found (Play a b) none asks = absurd (none-some _ (sym none ∙ asks.1))
 script_is found (Race a n b) none asks = absurd (none-some _ (sym none ∙ asks.1))
 script_is found (Ask a b q) none asks = absurd (none-some _ (sym none ∙ asks.1))
-script_is found (Debug a b) none asks = absurd (none-some _ (sym none ∙ asks.1))
+script_is found (Debug a b f) none asks = absurd (none-some _ (sym none ∙ asks.1))
 script_is found (Replay a b) none asks = absurd (none-some _ (sym none ∙ asks.1))
 script_is found (Search a g n w) none asks = absurd (none-some _ (sym none ∙ asks.1))
 script_is found (Shrink a b g) none asks = absurd (none-some _ (sym none ∙ asks.1))
@@ -187,11 +187,11 @@ play_is found rows setup script (Play a b) is have asks =
 play_is found rows setup script (Race a n b) is have asks = absurd (other_name found _ (codes "race") rows asks.0 is asks.1 refl refl)
 play_is found rows setup script (Ask a b q) is have asks = absurd (other_name found _ (question_name q) rows asks.0 is asks.1 (differs q).play refl)
 play_is found rows setup script (Replay a b) is have asks = absurd (other_name found _ (codes "replay") rows asks.0 is asks.1 refl refl)
+play_is found rows setup script (Debug a b f) is have asks = absurd (other_name found _ (codes "debug") rows asks.0 is asks.1 refl refl)
 play_is found rows setup script (Search a g n w) is have asks = absurd (other_name found _ (codes "search") rows asks.0 is asks.1 refl refl)
 play_is found rows setup script (Shrink a b g) is have asks = absurd (other_name found _ (codes "shrink") rows asks.0 is asks.1 refl refl)
 play_is found rows setup script (Same a b d) is have asks = absurd (other_name found _ (codes "same") rows asks.0 is asks.1 refl refl)
 play_is found rows setup script (Clocks a b) is have asks = absurd (other_name found _ (codes "clocks") rows asks.0 is asks.1 refl refl)
-play_is found rows setup script (Debug a b) is have asks = absurd (other_name found _ (codes "debug") rows asks.0 is asks.1 refl refl)
 play_is found rows setup script (Page a b) is have asks = absurd (other_name found _ (codes "page") rows asks.0 is asks.1 refl refl)
 
 race_is : (found : Option (Text × List Row)) (rows : List Row) (setup text : Text) (turns : ℕ) (scripts : List Text) (asked : Asked)
@@ -200,11 +200,11 @@ race_is found rows setup text turns scripts Script is have number asks = absurd 
 race_is found rows setup text turns scripts (Play a b) is have number asks = absurd (other_name found _ (codes "play") rows asks.0 is asks.1 refl refl)
 race_is found rows setup text turns scripts (Ask a b q) is have number asks = absurd (other_name found _ (question_name q) rows asks.0 is asks.1 (differs q).race refl)
 race_is found rows setup text turns scripts (Replay a b) is have number asks = absurd (other_name found _ (codes "replay") rows asks.0 is asks.1 refl refl)
+race_is found rows setup text turns scripts (Debug a b f) is have number asks = absurd (other_name found _ (codes "debug") rows asks.0 is asks.1 refl refl)
 race_is found rows setup text turns scripts (Search a g n w) is have number asks = absurd (other_name found _ (codes "search") rows asks.0 is asks.1 refl refl)
 race_is found rows setup text turns scripts (Shrink a b g) is have number asks = absurd (other_name found _ (codes "shrink") rows asks.0 is asks.1 refl refl)
 race_is found rows setup text turns scripts (Same a b d) is have number asks = absurd (other_name found _ (codes "same") rows asks.0 is asks.1 refl refl)
 race_is found rows setup text turns scripts (Clocks a b) is have number asks = absurd (other_name found _ (codes "clocks") rows asks.0 is asks.1 refl refl)
-race_is found rows setup text turns scripts (Debug a b) is have number asks = absurd (other_name found _ (codes "debug") rows asks.0 is asks.1 refl refl)
 race_is found rows setup text turns scripts (Page a b) is have number asks = absurd (other_name found _ (codes "page") rows asks.0 is asks.1 refl refl)
 race_is found rows setup text turns scripts (Race a n b) is have number asks =
     let same = same_rows found (codes "race") (codes "race") rows asks.0 is asks.1 in
@@ -286,11 +286,11 @@ question_is setup script question words Script line asks = absurd (none-some _ (
 question_is setup script question words (Play a b) line asks = absurd (other_name _ _ (codes "play") line.rows asks.0 line.asked asks.1 (differs question).from_play (differs question).own)
 question_is setup script question words (Race a n b) line asks = absurd (other_name _ _ (codes "race") line.rows asks.0 line.asked asks.1 (differs question).from_race (differs question).own)
 question_is setup script question words (Replay a b) line asks = absurd (other_name _ _ (codes "replay") line.rows asks.0 line.asked asks.1 (differs question).from_replay (differs question).own)
+question_is setup script question words (Debug a b f) line asks = absurd (other_name _ _ (codes "debug") line.rows asks.0 line.asked asks.1 (differs question).from_debug (differs question).own)
 question_is setup script question words (Search a g n w) line asks = absurd (other_name _ _ (codes "search") line.rows asks.0 line.asked asks.1 (differs question).from_search (differs question).own)
 question_is setup script question words (Shrink a b g) line asks = absurd (other_name _ _ (codes "shrink") line.rows asks.0 line.asked asks.1 (differs question).from_shrink (differs question).own)
 question_is setup script question words (Same a b d) line asks = absurd (other_name _ _ (codes "same") line.rows asks.0 line.asked asks.1 (differs question).from_same (differs question).own)
 question_is setup script question words (Clocks a b) line asks = absurd (other_name _ _ (codes "clocks") line.rows asks.0 line.asked asks.1 (differs question).from_clocks (differs question).own)
-question_is setup script question words (Debug a b) line asks = absurd (other_name _ _ (codes "debug") line.rows asks.0 line.asked asks.1 (differs question).from_debug (differs question).own)
 question_is setup script question words (Page a b) line asks = absurd (other_name _ _ (codes "page") line.rows asks.0 line.asked asks.1 (differs question).from_page (differs question).own)
 question_is setup script question words (Ask a b its) line asks =
     let same = same_rows _ (question_name question) (question_name its) line.rows asks.0 line.asked asks.1 in
@@ -312,10 +312,11 @@ debug_is setup seats words (Replay a b) line asks = absurd (other_name _ _ (code
 debug_is setup seats words (Same a b d) line asks = absurd (other_name _ _ (codes "same") line.rows asks.0 line.asked asks.1 refl refl)
 debug_is setup seats words (Clocks a b) line asks = absurd (other_name _ _ (codes "clocks") line.rows asks.0 line.asked asks.1 refl refl)
 debug_is setup seats words (Page a b) line asks = absurd (other_name _ _ (codes "page") line.rows asks.0 line.asked asks.1 refl refl)
-debug_is setup seats words (Debug a b) line asks =
+debug_is setup seats words (Debug a b f) line asks =
     let same = same_rows _ (codes "debug") (codes "debug") line.rows asks.0 line.asked asks.1 in (
       asks.2 ∙ ap (text_at (codes "SETUP")) same ∙ ap (λ t. unwrap_or t []) line.setup_at,
       asks.3 ∙ ap (texts_at (codes "SEAT")) same ∙ line.seats_at,
+      asks.4 ∙ ap (first_of (codes "FILE")) same ∙ line.file_at,
     )
 
 replay_is : (setup journal : Text) (words : List Text) (asked : Asked) → JournalLine setup journal words → NamesAsked (subcommand_of program words) asked → IsReplayOf setup journal asked
@@ -323,9 +324,9 @@ replay_is setup journal words Script line asks = absurd (none-some _ (sym asks �
 replay_is setup journal words (Play a b) line asks = absurd (other_name _ _ (codes "play") line.rows asks.0 line.asked asks.1 refl refl)
 replay_is setup journal words (Race a n b) line asks = absurd (other_name _ _ (codes "race") line.rows asks.0 line.asked asks.1 refl refl)
 replay_is setup journal words (Ask a b q) line asks = absurd (other_name _ _ (question_name q) line.rows asks.0 line.asked asks.1 (differs q).replay refl)
+replay_is setup journal words (Debug a b f) line asks = absurd (other_name _ _ (codes "debug") line.rows asks.0 line.asked asks.1 refl refl)
 replay_is setup journal words (Search a g n w) line asks = absurd (other_name _ _ (codes "search") line.rows asks.0 line.asked asks.1 refl refl)
 replay_is setup journal words (Shrink a b g) line asks = absurd (other_name _ _ (codes "shrink") line.rows asks.0 line.asked asks.1 refl refl)
-replay_is setup journal words (Debug a b) line asks = absurd (other_name _ _ (codes "debug") line.rows asks.0 line.asked asks.1 refl refl)
 replay_is setup journal words (Same a b d) line asks = absurd (other_name _ _ (codes "same") line.rows asks.0 line.asked asks.1 refl refl)
 replay_is setup journal words (Clocks a b) line asks = absurd (other_name _ _ (codes "clocks") line.rows asks.0 line.asked asks.1 refl refl)
 replay_is setup journal words (Page a b) line asks = absurd (other_name _ _ (codes "page") line.rows asks.0 line.asked asks.1 refl refl)
@@ -341,7 +342,7 @@ search_is setup goal first second seed walks words Script a b line asks = absurd
 search_is setup goal first second seed walks words (Play c d) a b line asks = absurd (other_name _ _ (codes "play") line.rows asks.0 line.asked asks.1 refl refl)
 search_is setup goal first second seed walks words (Race c n d) a b line asks = absurd (other_name _ _ (codes "race") line.rows asks.0 line.asked asks.1 refl refl)
 search_is setup goal first second seed walks words (Ask c d q) a b line asks = absurd (other_name _ _ (question_name q) line.rows asks.0 line.asked asks.1 (differs q).search refl)
-search_is setup goal first second seed walks words (Debug c d) a b line asks = absurd (other_name _ _ (codes "debug") line.rows asks.0 line.asked asks.1 refl refl)
+search_is setup goal first second seed walks words (Debug c d f) a b line asks = absurd (other_name _ _ (codes "debug") line.rows asks.0 line.asked asks.1 refl refl)
 search_is setup goal first second seed walks words (Replay c d) a b line asks = absurd (other_name _ _ (codes "replay") line.rows asks.0 line.asked asks.1 refl refl)
 search_is setup goal first second seed walks words (Shrink c d h) a b line asks = absurd (other_name _ _ (codes "shrink") line.rows asks.0 line.asked asks.1 refl refl)
 search_is setup goal first second seed walks words (Same c d e) a b line asks = absurd (other_name _ _ (codes "same") line.rows asks.0 line.asked asks.1 refl refl)
@@ -362,7 +363,7 @@ same_is setup first second words Script line asks = absurd (none-some _ (sym ask
 same_is setup first second words (Play a b) line asks = absurd (other_name _ _ (codes "play") line.rows asks.0 line.asked asks.1 refl refl)
 same_is setup first second words (Race a n b) line asks = absurd (other_name _ _ (codes "race") line.rows asks.0 line.asked asks.1 refl refl)
 same_is setup first second words (Ask a b q) line asks = absurd (other_name _ _ (question_name q) line.rows asks.0 line.asked asks.1 (differs q).same refl)
-same_is setup first second words (Debug a b) line asks = absurd (other_name _ _ (codes "debug") line.rows asks.0 line.asked asks.1 refl refl)
+same_is setup first second words (Debug a b f) line asks = absurd (other_name _ _ (codes "debug") line.rows asks.0 line.asked asks.1 refl refl)
 same_is setup first second words (Replay a b) line asks = absurd (other_name _ _ (codes "replay") line.rows asks.0 line.asked asks.1 refl refl)
 same_is setup first second words (Search a g n w) line asks = absurd (other_name _ _ (codes "search") line.rows asks.0 line.asked asks.1 refl refl)
 same_is setup first second words (Page a b) line asks = absurd (other_name _ _ (codes "page") line.rows asks.0 line.asked asks.1 refl refl)
@@ -380,7 +381,7 @@ clocks_is setup script words Script line asks = absurd (none-some _ (sym asks �
 clocks_is setup script words (Play a b) line asks = absurd (other_name _ _ (codes "play") line.rows asks.0 line.asked asks.1 refl refl)
 clocks_is setup script words (Race a n b) line asks = absurd (other_name _ _ (codes "race") line.rows asks.0 line.asked asks.1 refl refl)
 clocks_is setup script words (Ask a b q) line asks = absurd (other_name _ _ (question_name q) line.rows asks.0 line.asked asks.1 (differs q).clocks refl)
-clocks_is setup script words (Debug a b) line asks = absurd (other_name _ _ (codes "debug") line.rows asks.0 line.asked asks.1 refl refl)
+clocks_is setup script words (Debug a b f) line asks = absurd (other_name _ _ (codes "debug") line.rows asks.0 line.asked asks.1 refl refl)
 clocks_is setup script words (Search a g n w) line asks = absurd (other_name _ _ (codes "search") line.rows asks.0 line.asked asks.1 refl refl)
 clocks_is setup script words (Page a b) line asks = absurd (other_name _ _ (codes "page") line.rows asks.0 line.asked asks.1 refl refl)
 clocks_is setup script words (Shrink a b g) line asks = absurd (other_name _ _ (codes "shrink") line.rows asks.0 line.asked asks.1 refl refl)
@@ -397,7 +398,7 @@ page_is setup script words Script line asks = absurd (none-some _ (sym asks ∙ 
 page_is setup script words (Play a b) line asks = absurd (other_name _ _ (codes "play") line.rows asks.0 line.asked asks.1 refl refl)
 page_is setup script words (Race a n b) line asks = absurd (other_name _ _ (codes "race") line.rows asks.0 line.asked asks.1 refl refl)
 page_is setup script words (Ask a b q) line asks = absurd (other_name _ _ (question_name q) line.rows asks.0 line.asked asks.1 (differs q).page refl)
-page_is setup script words (Debug a b) line asks = absurd (other_name _ _ (codes "debug") line.rows asks.0 line.asked asks.1 refl refl)
+page_is setup script words (Debug a b f) line asks = absurd (other_name _ _ (codes "debug") line.rows asks.0 line.asked asks.1 refl refl)
 page_is setup script words (Replay a b) line asks = absurd (other_name _ _ (codes "replay") line.rows asks.0 line.asked asks.1 refl refl)
 page_is setup script words (Search a g n w) line asks = absurd (other_name _ _ (codes "search") line.rows asks.0 line.asked asks.1 refl refl)
 page_is setup script words (Same a b d) line asks = absurd (other_name _ _ (codes "same") line.rows asks.0 line.asked asks.1 refl refl)
@@ -415,7 +416,7 @@ shrink_is setup script goal words Script line asks = absurd (none-some _ (sym as
 shrink_is setup script goal words (Play a b) line asks = absurd (other_name _ _ (codes "play") line.rows asks.0 line.asked asks.1 refl refl)
 shrink_is setup script goal words (Race a n b) line asks = absurd (other_name _ _ (codes "race") line.rows asks.0 line.asked asks.1 refl refl)
 shrink_is setup script goal words (Ask a b q) line asks = absurd (other_name _ _ (question_name q) line.rows asks.0 line.asked asks.1 (differs q).shrink refl)
-shrink_is setup script goal words (Debug a b) line asks = absurd (other_name _ _ (codes "debug") line.rows asks.0 line.asked asks.1 refl refl)
+shrink_is setup script goal words (Debug a b f) line asks = absurd (other_name _ _ (codes "debug") line.rows asks.0 line.asked asks.1 refl refl)
 shrink_is setup script goal words (Replay a b) line asks = absurd (other_name _ _ (codes "replay") line.rows asks.0 line.asked asks.1 refl refl)
 shrink_is setup script goal words (Same a b d) line asks = absurd (other_name _ _ (codes "same") line.rows asks.0 line.asked asks.1 refl refl)
 shrink_is setup script goal words (Clocks a b) line asks = absurd (other_name _ _ (codes "clocks") line.rows asks.0 line.asked asks.1 refl refl)

@@ -103,6 +103,7 @@ pub record SeatLine (setup : Text) (seats : List Text) (words : List Text) : Typ
   pub taken : takes program words ≡ true
   pub setup_at : first_of (codes "SETUP") rows ≡ Some setup
   pub seats_at : unwrap_or (all_of (codes "SEAT") rows) [] ≡ seats
+  pub file_at : first_of (codes "FILE") rows ≡ None
 
 debug_line_alone : (name setup : Text) → ArePlain (setup ∷ []) → SeatLine setup [] (name ∷ codes "debug" ∷ setup ∷ [])
 unfolding clap_on_literals program debug_shape
@@ -114,6 +115,7 @@ debug_line_alone name setup plain =
       taken = line_taken (codes "debug") debug_shape debug_sub name words plain (setup_passes setup) (end_alone setup);
       setup_at = refl;
       seats_at = refl;
+      file_at = refl;
     }
 
 debug_line_seats : (name setup seat : Text) (more : List Text) → ArePlain (setup ∷ seat ∷ more) → length (seat ∷ more) ≤ usize_max
@@ -131,6 +133,7 @@ debug_line_seats name setup seat more plain short =
           (subst (λ w. EndPasses debug_shape w.held) (sym (all_seats setup seat more)) (end_passes setup seat more short));
       setup_at = refl;
       seats_at = refl;
+      file_at = refl;
     }
 
 pub debug_line : (name setup : Text) (seats : List Text) → ArePlain (setup ∷ seats) → length seats ≤ usize_max → SeatLine setup seats (name ∷ codes "debug" ∷ setup ∷ seats)

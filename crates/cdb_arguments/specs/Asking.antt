@@ -1,5 +1,5 @@
 -- What the arguments ask for.
-use Rattle.std.specs.Prelude.{◌≡◌, ◌⊎◌, ℕ, ◌≤◌, List, [], ◌∷◌, codes, map, Option, Some, None, unwrap_or, Result, IfOk, IfErr, IsSome}
+use Rattle.std.specs.Prelude.{◌≡◌, ◌⊎◌, ℕ, ◌≤◌, List, [], ◌∷◌, codes, map, Option, Some, None, option_map, unwrap_or, Result, IfOk, IfErr, IsSome}
 use Rattle.std.specs.Borrow.{Bor}
 use Rattle.std.specs.Str.Parse.{IsNumeral, digits_value, without_leading_plus}
 use Rattle.clap.specs.Words.{Kinds, IsAmong, Row, Text, first_of, all_of, kind_of}
@@ -19,6 +19,10 @@ use Rattle.cdb_base.specs.declared.question.StepAsked.{StepAsked}
 -- the texts of the arguments
 abbrev pub texts : List (Bor Text) → List Text
 texts = map (λ text. text.now)
+
+-- the text of an argument that may be left out
+abbrev pub any_text : Option (Bor Text) → Option Text
+any_text = option_map (λ text. text.now)
 
 -- one of the subcommands, or none
 abbrev pub NamesOne : Option (Text × List Row) → Type 0
@@ -80,9 +84,9 @@ NamesAsked found (Race setup turns scripts) =
 NamesAsked found (Ask setup script question) =
     (rows : List Row) × (found ≡ Some (question_name question, rows)) × (setup.now ≡ text_at (codes "SETUP") rows) × (script.now ≡ text_at (codes "SCRIPT") rows)
     × HasStepOf rows question
-NamesAsked found (Debug setup seats) =
+NamesAsked found (Debug setup seats file) =
     (rows : List Row) × (found ≡ Some (codes "debug", rows)) × (setup.now ≡ text_at (codes "SETUP") rows)
-    × (map (λ seat. seat.now) seats.items ≡ texts_at (codes "SEAT") rows)
+    × (map (λ seat. seat.now) seats.items ≡ texts_at (codes "SEAT") rows) × (any_text file ≡ first_of (codes "FILE") rows)
 NamesAsked found (Replay setup journal) =
     (rows : List Row) × (found ≡ Some (codes "replay", rows)) × (setup.now ≡ text_at (codes "SETUP") rows)
     × (journal.now ≡ text_at (codes "JOURNAL") rows)
@@ -118,9 +122,10 @@ IsQuestionOf setup script question (Ask its_setup its_script its_question) =
     (its_setup.now ≡ setup) × (its_script.now ≡ script) × (its_question ≡ question)
 IsQuestionOf setup script question asked = ⊥
 
--- a session for each of these seats, in this order
+-- a session for each of these seats, in this order, whose journal is kept in no file
 abbrev pub IsDebugOf : Text → List Text → Asked → Type 0
-IsDebugOf setup seats (Debug its_setup its_seats) = (its_setup.now ≡ setup) × (texts its_seats.items ≡ seats)
+IsDebugOf setup seats (Debug its_setup its_seats its_file) =
+    (its_setup.now ≡ setup) × (texts its_seats.items ≡ seats) × (any_text its_file ≡ None)
 IsDebugOf setup seats asked = ⊥
 
 -- a journal that is played again on this setup

@@ -10,6 +10,10 @@ use Rattle.cdb_arguments.specs.declared.limits.TheConstants.{MAX_NUMBER, MAX_TUR
 abbrev pub required_rule : Text → Rule
 required_rule id = record (new_rule id) { required = true }
 
+-- `--NAME ID`, which may be left out
+abbrev pub option_rule : Text → Text → Rule
+option_rule id name = record (new_rule id) { long = Some name }
+
 -- a number of turns
 abbrev pub turns_rule : Rule
 turns_rule = record (required_rule (codes "TURNS")) { parser = Some (vp.Signed (pos 0) (pos MAX_TURNS)) }
@@ -62,9 +66,9 @@ draw_app = on_any_step (codes "draw")
 abbrev pub slice_app : App
 slice_app = on_any_step (codes "slice")
 
--- `debug SETUP [SEAT..]`
+-- `debug [--journal FILE] SETUP [SEAT..]`
 abbrev pub debug_app : App
-debug_app = with_arguments (codes "debug") (required_rule (codes "SETUP") ∷ several (new_rule (codes "SEAT")) ∷ [])
+debug_app = with_arguments (codes "debug") (required_rule (codes "SETUP") ∷ several (new_rule (codes "SEAT")) ∷ option_rule (codes "FILE") (codes "journal") ∷ [])
 
 -- `replay SETUP JOURNAL`
 abbrev pub replay_app : App

@@ -6,7 +6,7 @@ use Rattle.cdb_arguments.specs.declared.command_line.Argument.{Argument}
 use Rattle.cdb_arguments.specs.declared.command_line.Argument.TheVariants as arg
 use Rattle.cdb_arguments.specs.declared.command_line.Subcommand.{Subcommand}
 use Rattle.cdb_arguments.specs.declared.command_line.Subcommand.TheVariants as sub
-use Rattle.cdb_arguments.specs.CommandLine.{required_rule, turns_rule, numbered, several, play_app, race_app, explain_app, trail_app, draw_app, slice_app, debug_app, replay_app, page_app, same_app, clocks_app, search_app, shrink_app}
+use Rattle.cdb_arguments.specs.CommandLine.{required_rule, option_rule, turns_rule, numbered, several, play_app, race_app, explain_app, trail_app, draw_app, slice_app, debug_app, replay_app, page_app, same_app, clocks_app, search_app, shrink_app}
 
 abbrev pub rule_named : Argument → Rule
 rule_named arg.Setup = required_rule (codes "SETUP")
@@ -23,6 +23,7 @@ rule_named arg.Process = numbered (required_rule (codes "P"))
 rule_named arg.AnyProcess = numbered (new_rule (codes "P"))
 rule_named arg.Step = numbered (new_rule (codes "K"))
 rule_named arg.Seats = several (new_rule (codes "SEAT"))
+rule_named arg.Kept = option_rule (codes "FILE") (codes "journal")
 
 abbrev pub with_argument : App → Argument → App
 with_argument app argument = with_rule app (rule_named argument)

@@ -3,7 +3,7 @@
 ghost use Rattle.std.specs.Prelude.{◌≡◌, IfOk, [], false, true, codes, fold};
 ghost use Rattle.clap.specs.Words.{app_of, new_app, new_rule, rule_of};
 ghost use Rattle.clap.specs.declared.builder.command.Command.TheViews.{out-Command};
-ghost use Rattle.cdb_arguments.specs.CommandLine.{required_rule, turns_rule, numbered, several, program};
+ghost use Rattle.cdb_arguments.specs.CommandLine.{required_rule, option_rule, turns_rule, numbered, several, program};
 ghost use Rattle.cdb_arguments.specs.Named.{rule_named, name_of, app_named, with_argument, with_named, bare_program};
 
 use clap::{Arg, Command};
@@ -110,6 +110,8 @@ pub(crate) enum Argument {
     /// The script that leaves the first of two runs, and the one that leaves the second.
     First,
     Second,
+    /// The option of the file in which a journal is kept.
+    Kept,
 }
 
 /// A subcommand of the program.
@@ -206,7 +208,7 @@ impl Subcommand {
                 Argument::AnyProcess,
                 Argument::Step,
             ],
-            Subcommand::Debug => &[Argument::Setup, Argument::Seats],
+            Subcommand::Debug => &[Argument::Setup, Argument::Seats, Argument::Kept],
             Subcommand::Replay => &[Argument::Setup, Argument::Journal],
             Subcommand::Shrink => &[Argument::Setup, Argument::Script, Argument::Goal],
             Subcommand::Search => &[
@@ -272,6 +274,14 @@ fn seats<'a>(alloc: Global) -> Arg<'a>
     many(Arg::new(alloc, "SEAT").help(help))
 }
 
+/// The option `--NAME ID`.
+fn option<'a>(alloc: Global, id: &'a str, name: &'a str, help: &'a str) -> Arg<'a>
+    ensures rule { rule_of result ≡ option_rule id.entry.now name.entry.now }
+    ensures local { result.global ≡ false }
+{
+    Arg::new(alloc, id).long(name).help(help)
+}
+
 /// The argument, with its help.
 fn argument_of<'a>(alloc: Global, argument: &Argument) -> Arg<'a>
     ensures rule { rule_of result ≡ rule_named argument.now }
@@ -331,6 +341,12 @@ fn argument_of<'a>(alloc: Global, argument: &Argument) -> Arg<'a>
             alloc,
             "SECOND",
             "The file of the script that leaves the second run",
+        ),
+        Argument::Kept => option(
+            alloc,
+            "FILE",
+            "journal",
+            "A file in which the journal is kept while the sessions go on; it has to be new or empty",
         ),
     }
 }

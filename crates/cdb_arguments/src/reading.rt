@@ -1,10 +1,10 @@
 //! Reading the words of the command line.
 
 ghost use Rattle.std.specs.Prelude.{◌≡◌, OnOk, IfOk, IfErr, Some, [], true, map, codes};
-ghost use Rattle.clap.specs.Words.{Kinds, Text, HasKind, fault_of, found_of, kind_of, rows_of, subcommand_of, subcommand_rows_of, takes};
+ghost use Rattle.clap.specs.Words.{Kinds, Text, HasKind, fault_of, first_of, found_of, kind_of, rows_of, subcommand_of, subcommand_rows_of, takes};
 ghost use Rattle.cdb_base.specs.Memory.{no_memory};
 ghost use Rattle.cdb_arguments.specs.CommandLine.{program};
-ghost use Rattle.cdb_arguments.specs.Asking.{HasStepOf, IsAnyStepIn, IsStepIn, NamesOne, IsTurns, IsNumber, IsNumberAt, text_at, texts, texts_at, NamesAsked, IsOfKinds, IsRequest, AsksForPlay, AsksForRace, AsksQuestion, AsksForDebug, AsksForReplay, AsksForPage, AsksForSame, AsksForClocks, AsksForSearch, AsksForShrink, ask_status_of, words_status};
+ghost use Rattle.cdb_arguments.specs.Asking.{HasStepOf, IsAnyStepIn, IsStepIn, NamesOne, IsTurns, IsNumber, IsNumberAt, any_text, text_at, texts, texts_at, NamesAsked, IsOfKinds, IsRequest, AsksForPlay, AsksForRace, AsksQuestion, AsksForDebug, AsksForReplay, AsksForPage, AsksForSame, AsksForClocks, AsksForSearch, AsksForShrink, ask_status_of, words_status};
 ghost use Rattle.cdb_arguments.specs.Plain.{IsNameAlone, question_name};
 
 use crate::command_line::program;
@@ -83,6 +83,13 @@ fn text_of<'a>(matches: &ArgMatches<'a>, id: &str) -> &'a str
     matches.get_str(id).unwrap_or("")
 }
 
+/// The text of an argument that may be left out.
+fn any_text_of<'a>(matches: &ArgMatches<'a>, id: &str) -> Option<&'a str>
+    ensures { any_text result ≡ first_of id.now (rows_of (found_of matches.now)) }
+{
+    matches.get_str(id)
+}
+
 /// The texts of an argument.
 fn texts_of<'a>(
     alloc: Global,
@@ -158,6 +165,7 @@ fn debug_of<'a>(alloc: Global, found: &ArgMatches<'a>) -> Result<Asked<'a>, Allo
     Ok(Asked::Debug {
         setup: text_of(found, "SETUP"),
         seats: texts_of(alloc, found, "SEAT")?,
+        file: any_text_of(found, "FILE"),
     })
 }
 
@@ -300,9 +308,10 @@ fn read<'a>(alloc: Global, words: &'a [&'a str]) -> Result<Asked<'a>, AskFault>
 /// script on standard input, `play SETUP SCRIPT` for a play, `race SETUP TURNS SCRIPT..` for a race,
 /// `explain SETUP SCRIPT P [K]` for what led to a step, `trail SETUP SCRIPT P [K]` for the trail of a value to it,
 /// `draw SETUP SCRIPT [P [K]]` for a picture, `slice SETUP SCRIPT [P [K]]` for a script, `debug SETUP [SEAT..]` for a
-/// session that goes on line by line, `replay SETUP JOURNAL` for a journal that is played again, `search SETUP GOAL SEED WALKS` for
-/// a search, `same SETUP FIRST SECOND` for whether two scripts leave the same run, `clocks SETUP SCRIPT` for clocks, `shrink
-/// SETUP SCRIPT GOAL` for a small script, `page SETUP SCRIPT` for a page. P, K, SEED and WALKS are numbers of 1 to 999,999.
+/// session that goes on line by line, with `--journal FILE` for one whose journal is kept in a file, `replay SETUP JOURNAL`
+/// for a journal that is played again, `search SETUP GOAL SEED WALKS` for a search, `same SETUP FIRST SECOND` for whether two
+/// scripts leave the same run, `clocks SETUP SCRIPT` for clocks, `shrink SETUP SCRIPT GOAL` for a small script, `page SETUP
+/// SCRIPT` for a page. P, K, SEED and WALKS are numbers of 1 to 999,999.
 ///
 /// # Errors
 /// `Words` with `clap`'s error for arguments that the command line does not take, and for those alone; the error is

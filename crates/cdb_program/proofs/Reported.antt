@@ -1,5 +1,5 @@
 -- What is done with a request leaves standard error out.
-use Rattle.std.proofs.Common.{◌≡◌, ℕ, List, Bor, refl}
+use Rattle.std.proofs.Common.{◌≡◌, ℕ, List, Option, Bor, refl}
 use Rattle.cdb_streams.specs.Streams.{Stream}
 use Rattle.cdb_program.specs.Known.{Seen}
 use Rattle.cdb_program.specs.Outcomes.{RequestEnd}
@@ -13,7 +13,7 @@ does_but_error (Play setup script) old new error outcome does = does
 does_but_error (Race setup turns scripts) old new error outcome does = does
 does_but_error (Ask setup script question) old new error outcome does = does
 does_but_error (Debug setup prompt) old new error outcome does = does
-does_but_error (DebugShared setup seats) old new error outcome does = does
+does_but_error (DebugShared setup seats file) old new error outcome does = does
 does_but_error (Replay setup journal) old new error outcome does = does
 does_but_error (Search setup goal seed walks) old new error outcome does = does
 does_but_error (Same setup first second) old new error outcome does = does
@@ -30,7 +30,7 @@ performs_alone (Play setup script) old new status alone does = does
 performs_alone (Race setup turns scripts) old new status alone does = does
 performs_alone (Ask setup script question) old new status alone does = does
 performs_alone (Debug setup prompt) old new status alone does = does
-performs_alone (DebugShared setup seats) old new status alone does = absurd alone
+performs_alone (DebugShared setup seats file) old new status alone does = absurd alone
 performs_alone (Replay setup journal) old new status alone does = does
 performs_alone (Search setup goal seed walks) old new status alone does = does
 performs_alone (Same setup first second) old new status alone does = does
@@ -41,13 +41,13 @@ performs_alone (Print text) old new status alone does = does
 performs_alone (Refuse fault) old new status alone does = does
 
 -- what is no request of seats is one without
-pub is_alone : (request : Request) → ((setup : Bor (List ℕ)) (seats : Bor (List (Bor (List ℕ)))) → request ≡ DebugShared setup seats → ⊥) → IsAlone request
+pub is_alone : (request : Request) → ((setup : Bor (List ℕ)) (seats : Bor (List (Bor (List ℕ)))) (file : Option (Bor (List ℕ))) → request ≡ DebugShared setup seats file → ⊥) → IsAlone request
 is_alone Script other = tt
 is_alone (Play setup script) other = tt
 is_alone (Race setup turns scripts) other = tt
 is_alone (Ask setup script question) other = tt
 is_alone (Debug setup prompt) other = tt
-is_alone (DebugShared setup seats) other = other setup seats refl
+is_alone (DebugShared setup seats file) other = other setup seats file refl
 is_alone (Replay setup journal) other = tt
 is_alone (Search setup goal seed walks) other = tt
 is_alone (Same setup first second) other = tt

@@ -9,6 +9,8 @@ use Rattle.cdb_shared_session.specs.Reported.{RunsSessions}
 use Rattle.cdb_shared_session.specs.Reports.{outcomes, failures_text, status_of}
 use Rattle.cdb_shared_session.specs.declared.endpoint.Finished.{Finished}
 use Rattle.cdb_shared_session.proofs.Ended.{ended_by}
+use Rattle.cdb_shared_session.proofs.KeptEntries.{kept_seen, outcome_seen, seen_kept}
+use Rattle.cdb_streams.specs.declared.buffer.OutputFault.{OutputFault}
 use Rattle.cdb_rules.specs.Rules.{Rules}
 use Rattle.cdb_setup.specs.Parts.{Parts}
 use Rattle.cdb_streams.specs.declared.fault.PlayFault.{PlayFault}
@@ -20,7 +22,7 @@ use Rattle.cdb_program.specs.declared.fault.Fault.TheVariants.{Play, Race, NoSte
 use Rattle.cdb_streams.specs.Faults.{of_reading}
 use Rattle.cdb_streams.specs.declared.source.ReadFault.{ReadFault}
 use Rattle.cdb_streams.specs.declared.source.ReadFault.TheVariants as reading
-use Rattle.cdb_program.specs.Seating.{AreOpenersOf, CanOpenSeat, FindsSeat, IsFaultOfSeats, IsOpenerOf}
+use Rattle.cdb_program.specs.Seating.{AreOpenersOf, CanOpenSeat, FindsSeat, IsFaultOfSeats, IsOpenerOf, MakesFile, any_name}
 use Rattle.cdb_streams.specs.Endings.{whole_ending}
 use Rattle.cdb_streams.specs.Streams.{Stream, Writes}
 use Rattle.cdb_streams.specs.declared.sink.Failed.{Failed}
@@ -35,18 +37,22 @@ one_fails P opens old new name reading.Failed is = ([], [], refl, is)
 one_fails P opens old new name (reading.NoMemory refused) is = ([], name.now ∷ [], refl, is ∙ (read_none old).0)
 
 -- what can't be read or opened is why there are no sessions
-pub as_fault : (setup : List ℕ) (seats : List (List ℕ)) (old new : FilesSeen) (fault : Fault) → FailsToRead old new (setup ∷ seats) fault → IsFaultOfSeats setup seats old new fault
-as_fault setup seats old new (Play why name) fails = fails
-as_fault setup seats old new (Race why) fails = absurd fails
-as_fault setup seats old new NoStep fails = fails
-as_fault setup seats old new NoValue fails = fails
-as_fault setup seats old new TooManyEvents fails = fails
-as_fault setup seats old new NoGoal fails = fails
-as_fault setup seats old new (NotFound walks) fails = fails
-as_fault setup seats old new DoesNotHold fails = fails
-as_fault setup seats old new Different fails = fails
-as_fault setup seats old new TooManySeats fails = absurd fails
-as_fault setup seats old new (Refused reason) fails = fails
+pub as_fault : (setup : List ℕ) (seats : List (List ℕ)) (file : Option (List ℕ)) (old new : FilesSeen) (fault : Fault) → FailsToRead old new (setup ∷ (seats ++ any_name file)) fault → IsFaultOfSeats setup seats file old new fault
+as_fault setup seats file old new (Play why name) fails = fails
+as_fault setup seats file old new (Race why) fails = absurd fails
+as_fault setup seats file old new NoStep fails = fails
+as_fault setup seats file old new NoValue fails = fails
+as_fault setup seats file old new TooManyEvents fails = fails
+as_fault setup seats file old new NoGoal fails = fails
+as_fault setup seats file old new (NotFound walks) fails = fails
+as_fault setup seats file old new DoesNotHold fails = fails
+as_fault setup seats file old new Different fails = fails
+as_fault setup seats file old new TooManySeats fails = absurd fails
+as_fault setup seats file old new (Refused reason) fails = fails
+
+pub no_file : (P : Type 0) (stream : P → Stream) (old new : FilesSeen) (name : Bor (List ℕ)) (fault : ReadFault) → (let made : Result P ReadFault = Err fault in MakesFile stream old new name.now made) → FailsToRead old new (name.now ∷ []) (Play (of_reading fault) name)
+no_file P stream old new name reading.Failed is = ([], [], refl, is)
+no_file P stream old new name (reading.NoMemory refused) is = ([], name.now ∷ [], refl, is ∙ (read_none old).0)
 
 -- others were opened before it
 pub fails_later : (old mid new : FilesSeen) (first second : List (List ℕ)) (fault : Fault) → mid ≡ after_opening old first → FailsToRead mid new second fault → FailsToRead old new (first ++ second) fault
@@ -143,12 +149,14 @@ module _ {T : Type 0} (known : T → Known) where
   same_outcomes (its ∷ finished) = ap (λ (l : List (Result (Unit {0}) PlayFault)). its.outcome ∷ l) (same_outcomes finished)
 
 -- sessions that took place, by what is known of their seats, of what each read and wrote, and of the streams
-module _ {P T O E : Type 0} (rules : Parts → Rules) (known : T → Known) (opens : P → Result SeatSeen ReadFault → Type 0) (output_stream : O → Stream) (error_stream : E → Stream) where
-  pub holds_seen : (files : FilesSeen) (names : List (List ℕ)) (json : List ℕ) (openers : List P) (output output_after : O) (error error_after : E) (status : ℕ)
-      → AreOpenersOf opens files names openers → RunsSessions rules known opens output_stream error_stream json openers output output_after error error_after status
-      → RunsSessions rules (λ (k : Known). k) (CanOpenSeat files) (λ (s : Stream). s) (λ (s : Stream). s) json names (output_stream output) (output_stream output_after) (error_stream error) (error_stream error_after) status
-  holds_seen files names json openers output output_after error error_after status are h =
+module _ {P T J O E : Type 0} (rules : Parts → Rules) (known : T → Known) (opens : P → Result SeatSeen ReadFault → Type 0) (file_stream : J → Stream) (output_stream : O → Stream) (error_stream : E → Stream) where
+  pub holds_seen : (files : FilesSeen) (names : List (List ℕ)) (json : List ℕ) (openers : List P) (file : Option J) (output output_after : O) (error error_after : E) (status : ℕ)
+      → AreOpenersOf opens files names openers → RunsSessions rules known opens file_stream output_stream error_stream json openers file output output_after error error_after status
+      → RunsSessions rules (λ (k : Known). k) (CanOpenSeat files) (λ (s : Stream). s) (λ (s : Stream). s) (λ (s : Stream). s) json names (option_map file_stream file) (output_stream output) (output_stream output_after) (error_stream error)
+      (error_stream error_after) status
+  holds_seen files names json openers file output output_after error error_after status are h =
       let same = same_outcomes known h.finished in
+      let same_kept = outcome_seen file_stream h.kept in
       let many = as_many opens files names openers are in
       record {
         setup = h.setup;
@@ -171,11 +179,13 @@ module _ {P T O E : Type 0} (rules : Parts → Rules) (known : T → Known) (ope
               subst (λ (x : Finished Known). IsFinished rules (λ (k : Known). k) h.control (k + 1) (CanOpenSeat files (get_or names k n)) x) finished
               (subst (λ (o : Option Known). HasEnded rules h.control (k + 1) (CanOpenSeat files (get_or names k n)) o ended.outcome) (sym (same_known (option_map known ended.console))) its);
         };
+        kept = option_map (seen_kept file_stream) h.kept;
+        keeps = kept_seen file_stream file h.kept _ h.keeps;
         written = h.written;
         journal = stream_written output_stream (whole_ending h.written) output output_after _ h.journal;
         reported = h.reported;
         lines =
-            subst (λ (o : List (Result (Unit {0}) PlayFault)). Writes (λ (s : Stream). s) h.reported (error_stream error) (error_stream error_after) (failures_text h.written o)) (sym same)
+            subst (λ (x : List (Result (Unit {0}) PlayFault) × Result (Unit {0}) OutputFault). Writes (λ (s : Stream). s) h.reported (error_stream error) (error_stream error_after) (failures_text h.written x.1 x.0)) (λ i. (sym same i, sym same_kept i))
             (stream_writes error_stream (Unit {0}) Failed h.reported error error_after _ h.lines);
-        status_is = h.status_is ∙ ap (status_of h.written) (sym same);
+        status_is = h.status_is ∙ (λ i. status_of h.written (sym same_kept i) (sym same i));
       }

@@ -1,5 +1,6 @@
 -- What the program does with a request.
-use Rattle.std.specs.Prelude.{◌≡◌, ℕ, ◌≤◌, List, length, Ok, Err}
+use Rattle.std.specs.Prelude.{◌≡◌, ℕ, ◌≤◌, List, length, Option, option_map, Ok, Err}
+use Rattle.std.specs.Borrow.{Bor}
 use Rattle.cdb_streams.specs.Streams.{Stream, Takes, Fails, itself}
 use Rattle.cdb_streams.specs.declared.fault.PlayFault.TheVariants.{Write}
 use Rattle.cdb_program.specs.Clocks.{ClocksFiles}
@@ -31,15 +32,19 @@ Prints text old new (Ok done) = Takes itself old new text
 Prints text old new (Err (Play Write name)) = Fails itself old new text
 Prints text old new (Err other) = ⊥
 
+-- the name of a file that may be left out
+abbrev pub any_file : Option (Bor (List ℕ)) → Option (List ℕ)
+any_file = option_map (λ name. name.now)
+
 -- a race has turns that its threads can count, and sessions of seats have one seat at least
 abbrev pub HasTurns : Request → Type 0
 HasTurns (request.Race setup turns scripts) = turns ≤ MAX_TURNS
-HasTurns (request.DebugShared setup seats) = 1 ≤ length seats.now
+HasTurns (request.DebugShared setup seats file) = 1 ≤ length seats.now
 HasTurns other = Unit {0}
 
 -- the request is not one of sessions of several seats
 abbrev pub IsAlone : Request → Type 0
-IsAlone (request.DebugShared setup seats) = ⊥
+IsAlone (request.DebugShared setup seats file) = ⊥
 IsAlone other = Unit {0}
 
 -- what is done with a request that has no seats, but for what is reported of a fault
@@ -49,7 +54,7 @@ Does (request.Play setup script) old new outcome = PlaysFiles setup.now script.n
 Does (request.Race setup turns scripts) old new outcome = RacesFiles setup.now turns (file_names scripts.now) old new outcome
 Does (request.Ask setup script question) old new outcome = AsksFiles setup.now script.now question old new outcome
 Does (request.Debug setup prompt) old new outcome = DebugsFile setup.now prompt.now old new outcome
-Does (request.DebugShared setup seats) old new outcome = ⊥
+Does (request.DebugShared setup seats file) old new outcome = ⊥
 Does (request.Replay setup journal) old new outcome = ReplaysFiles setup.now journal.now old new outcome
 Does (request.Search setup goal seed walks) old new outcome = SearchesFile setup.now goal.now walks old new outcome
 Does (request.Same setup first second) old new outcome = ComparesFiles setup.now first.now second.now old new outcome
@@ -66,5 +71,5 @@ PerformsAlone request old new status =
 
 -- the request was carried out, and how it ended was reported
 abbrev pub Performs : Request → Seen → Seen → ℕ → Type 0
-Performs (request.DebugShared setup seats) old new status = PerformsShared setup.now (file_names seats.now) old new status
+Performs (request.DebugShared setup seats file) old new status = PerformsShared setup.now (file_names seats.now) (any_file file) old new status
 Performs request old new status = PerformsAlone request old new status

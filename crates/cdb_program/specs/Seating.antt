@@ -1,10 +1,10 @@
 -- What sessions of several seats do.
-use Rattle.std.specs.Prelude.{◌≡◌, ◌⊎◌, ℕ, ◌<◌, List, [], ◌∷◌, length, Option, Some, None, Result, Ok, Err, IfSome}
+use Rattle.std.specs.Prelude.{◌≡◌, ◌⊎◌, ℕ, ◌<◌, List, [], ◌∷◌, ◌++◌, length, Option, Some, None, Result, Ok, Err, IfSome}
 use Rattle.std.specs.List.{AllZip}
 use Rattle.cdb_base.specs.Limits.{MAX_SEATS}
 use Rattle.cdb_shared_session.specs.Reported.{RunsSessions, IsFaultOfSessions}
 use Rattle.cdb_shared_session.specs.Openings.{SeatSeen}
-use Rattle.cdb_streams.specs.Streams.{itself}
+use Rattle.cdb_streams.specs.Streams.{Stream, itself}
 use Rattle.cdb_streams.specs.declared.source.ReadFault.{ReadFault}
 use Rattle.cdb_streams.specs.declared.source.ReadFault.TheVariants as reading
 use Rattle.cdb_agreement.specs.Algorithms.{rules}
@@ -39,29 +39,55 @@ FindsSeat opens old new name (Ok opener) = (new ≡ after_opening old (name ∷ 
 FindsSeat opens old new name (Err reading.Failed) = new ≡ after_failing old (name ∷ [])
 FindsSeat opens old new name (Err (reading.NoMemory refused)) = new ≡ old
 
--- the file of the setup was read, and gave these bytes, and then these seats were found, in order
-abbrev pub HasSeated : FilesSeen → FilesSeen → List ℕ → List (List ℕ) → List ℕ → Type 0
-HasSeated old new setup seats json = (new ≡ after_opening old (setup ∷ seats)) × AreFirstBytes old most_read setup json
+-- nothing is in it, as far as it is known
+abbrev pub IsEmpty : Stream → Type 0
+IsEmpty stream = IfSome stream.bytes (λ bytes. bytes ≡ [])
+
+-- One file is made, by how that ended. Where an allocation failed it counts as not opened.
+abbrev pub MakesFile : {J : Type 0} → (J → Stream) → FilesSeen → FilesSeen → List ℕ → Result J ReadFault → Type 0
+MakesFile stream old new name (Ok file) = (new ≡ after_opening old (name ∷ [])) × IsEmpty (stream file)
+MakesFile stream old new name (Err reading.Failed) = new ≡ after_failing old (name ∷ [])
+MakesFile stream old new name (Err (reading.NoMemory refused)) = new ≡ old
+
+-- a name that may be left out, as a list
+abbrev pub any_name : Option (List ℕ) → List (List ℕ)
+any_name None = []
+any_name (Some name) = name ∷ []
+
+-- where a file was asked for, there is one, and at first nothing was in it
+abbrev pub IsNewFile : Option (List ℕ) → Option Stream → Type 0
+IsNewFile None None = Unit {0}
+IsNewFile (Some name) (Some stream) = IsEmpty stream
+IsNewFile name stream = ⊥
+
+-- the file of the setup was read, and gave these bytes, then these seats were found, in order, and then this file was made,
+-- if one was asked for
+abbrev pub HasSeated : FilesSeen → FilesSeen → List ℕ → List (List ℕ) → Option (List ℕ) → List ℕ → Type 0
+HasSeated old new setup seats file json =
+    (new ≡ after_opening old (setup ∷ (seats ++ any_name file))) × AreFirstBytes old most_read setup json
 
 -- Why there were no sessions: there are too many seats, and then no file was opened; the setup has a fault, or memory or threads
--- are out; or the setup can't be opened, or a seat is refused, and then nothing after it was opened.
-abbrev pub IsFaultOfSeats : List ℕ → List (List ℕ) → FilesSeen → FilesSeen → Fault → Type 0
-IsFaultOfSeats setup seats old new TooManySeats = (MAX_SEATS < length seats) × (new ≡ old)
-IsFaultOfSeats setup seats old new (Race why) = (json : List ℕ) × HasSeated old new setup seats json × IsFaultOfSessions json why
-IsFaultOfSeats setup seats old new other = FailsToRead old new (setup ∷ seats) other
+-- are out; or the setup can't be opened, or a seat or the file is refused, and then nothing after it was opened.
+abbrev pub IsFaultOfSeats : List ℕ → List (List ℕ) → Option (List ℕ) → FilesSeen → FilesSeen → Fault → Type 0
+IsFaultOfSeats setup seats file old new TooManySeats = (MAX_SEATS < length seats) × (new ≡ old)
+IsFaultOfSeats setup seats file old new (Race why) = (json : List ℕ) × HasSeated old new setup seats file json × IsFaultOfSessions json why
+IsFaultOfSeats setup seats file old new other = FailsToRead old new (setup ∷ (seats ++ any_name file)) other
 
 -- there were no sessions, nothing was written to standard output, and why is reported
-abbrev pub RefusesSeats : List ℕ → List (List ℕ) → Seen → Seen → ℕ → Type 0
-RefusesSeats setup seats old new status =
-    (fault : Fault) × IsFaultOfSeats setup seats old.files new.files fault × (new.output ≡ old.output) × IsReported (Err fault) old.error new.error status
+abbrev pub RefusesSeats : List ℕ → List (List ℕ) → Option (List ℕ) → Seen → Seen → ℕ → Type 0
+RefusesSeats setup seats file old new status =
+    (fault : Fault) × IsFaultOfSeats setup seats file old.files new.files fault × (new.output ≡ old.output) × IsReported (Err fault) old.error new.error status
 
--- There were sessions, the k-th at the k-th seat, of which it is known what each read and wrote. The journal was written to
--- standard output, and what failed was reported.
-abbrev pub HoldsSeats : List ℕ → List (List ℕ) → Seen → Seen → ℕ → Type 0
-HoldsSeats setup seats old new status =
-    (json : List ℕ) × HasSeated old.files new.files setup seats json
-    × RunsSessions rules (λ known. known) (CanOpenSeat old.files) itself itself json seats old.output new.output old.error new.error status
+-- There were sessions, the k-th at the k-th seat, of which it is known what each read and wrote. The journal was kept in the
+-- file, if there was one; it was written to standard output, and what failed was reported.
+abbrev pub HoldsSeats : List ℕ → List (List ℕ) → Option (List ℕ) → Seen → Seen → ℕ → Type 0
+HoldsSeats setup seats file old new status =
+    (json : List ℕ) × HasSeated old.files new.files setup seats file json
+    × ((made : Option Stream) × IsNewFile file made
+    × RunsSessions rules (λ known. known) (CanOpenSeat old.files) itself itself itself json seats made old.output new.output old.error new.error
+    status)
 
 -- there were sessions of these seats, or not; standard input is left as it is
-abbrev pub PerformsShared : List ℕ → List (List ℕ) → Seen → Seen → ℕ → Type 0
-PerformsShared setup seats old new status = (new.input ≡ old.input) × (RefusesSeats setup seats old new status ⊎ HoldsSeats setup seats old new status)
+abbrev pub PerformsShared : List ℕ → List (List ℕ) → Option (List ℕ) → Seen → Seen → ℕ → Type 0
+PerformsShared setup seats file old new status =
+    (new.input ≡ old.input) × (RefusesSeats setup seats file old new status ⊎ HoldsSeats setup seats file old new status)

@@ -3,13 +3,13 @@
 ghost use Rattle.std.specs.Prelude.{[], ◌∷◌};
 ghost use Rattle.cdb_program.specs.Known.{FilesSeen};
 ghost use Rattle.cdb_program.specs.Reading.{both, many, single, three, file_names, Reads, ReadsFile};
-ghost use Rattle.cdb_program.specs.Seating.{FindsSeat};
+ghost use Rattle.cdb_program.specs.Seating.{FindsSeat, MakesFile};
 
 use crate::fault::Fault;
 use cdb_base::NoMemory;
 use cdb_base::limits::MAX_BYTES;
 use cdb_shared_session::Opener;
-use cdb_streams::{PlayFault, ReadFault};
+use cdb_streams::{PlayFault, ReadFault, Sink};
 use std::alloc::Global;
 
 /// How many bytes of a file are read: one more than a setup or a script may have, which shows that it is too long.
@@ -19,6 +19,9 @@ const MOST_READ: usize = MAX_BYTES + 1;
 pub trait Files {
     /// What opens the streams of a seat.
     type Seat: Opener + Send;
+
+    /// A file that is written to.
+    type Made: Sink + Drop;
 
     /// What is known of the files: their bytes, the names of those that were opened, how many could not be read, and
     /// what the seat of a name has when its streams are open.
@@ -40,6 +43,14 @@ pub trait Files {
     /// if it had not been opened.
     fn find_seat(&mut self, alloc: Global, name: &str) -> Result<Self::Seat, ReadFault>
         ensures { FindsSeat Self.Seat.opens (seen self.old) (seen self.new) name.now result };
+
+    /// Makes the file of this name, or opens it where it is there and empty.
+    ///
+    /// # Errors
+    /// `Failed` where it has something in it or can't be opened, and `NoMemory` where an allocation fails, which counts as
+    /// if it had not been opened.
+    fn make_file(&mut self, alloc: Global, name: &str) -> Result<Self::Made, ReadFault>
+        ensures { MakesFile Self.Made.stream (seen self.old) (seen self.new) name.now result };
 
     /// Shows that so many of so many walks are done, in a line that is written over, where standard error is a terminal. Of that line
     /// nothing is known, and what can't be shown is left out.

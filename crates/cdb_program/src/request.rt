@@ -22,6 +22,7 @@ use cdb_streams::{PlayFault, Sink, Source, write_all};
 use std::alloc::Global;
 use std::sync::Wait;
 use std::thread::Threads;
+use std::time::Clock;
 
 /// The most turns of a race.
 pub const MAX_TURNS: u32 = 99_999;
@@ -55,10 +56,11 @@ pub enum Request<'a> {
         prompt: &'a str,
     },
     /// Holds sessions of these seats, 1 to 64, over one run of a setup file, each in a thread of its own, and writes their
-    /// journal to standard output.
+    /// journal to standard output; it is kept meanwhile in the file of this name, if there is one.
     DebugShared {
         setup: &'a str,
         seats: &'a [&'a str],
+        file: Option<&'a str>,
     },
     /// Plays a journal file again on a run of a setup file.
     Replay {
@@ -110,7 +112,7 @@ fn print<O: Sink>(text: &str, output: &mut O) -> Result<(), Fault<'static>>
 /// Carries a request out, and reports nothing.
 fn carry_out<
     'a,
-    R: Threads + Wait + Sync,
+    R: Threads + Wait + Clock + Sync,
     F: Files + Drop,
     I: Source + Drop,
     O: Sink + Drop,
@@ -167,7 +169,7 @@ fn carry_out<
 
 /// Carries out a request that has no seats, and reports on standard error how it ended.
 fn perform_one<
-    R: Threads + Wait + Sync,
+    R: Threads + Wait + Clock + Sync,
     F: Files + Drop,
     I: Source + Drop,
     O: Sink + Drop,
@@ -190,7 +192,7 @@ fn perform_one<
 /// text, with the name of what can't be read, on standard error, and its status. The K-th session is held at the
 /// seat of the K-th name, which its own thread opens.
 pub fn perform<
-    R: Threads + Wait + Sync,
+    R: Threads + Wait + Clock + Sync,
     F: Files + Drop,
     I: Source + Drop,
     O: Sink + Drop,
@@ -200,8 +202,8 @@ pub fn perform<
     ensures { Performs request.entry outside.old outside.new result }
 {
     match request {
-        Request::DebugShared { setup, seats } => perform_shared(
-            threads, alloc, setup, seats, outside,
+        Request::DebugShared { setup, seats, file } => perform_shared(
+            threads, alloc, setup, seats, file, outside,
         ),
         _ => perform_one(threads, alloc, request, outside),
     }

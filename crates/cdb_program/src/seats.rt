@@ -1,9 +1,10 @@
 //! Sessions of several seats, of what is outside.
 
-ghost use Rattle.std.specs.Prelude.{◌≡◌, ◌≤◌, ◌∷◌, [], length, vec_len, IfOk, IfErr};
+ghost use Rattle.std.specs.Prelude.{◌≡◌, ◌≤◌, ◌∷◌, [], length, option_map, vec_len, IfOk, IfErr};
 ghost use Rattle.cdb_program.specs.Known.{after_opening};
 ghost use Rattle.cdb_program.specs.Reading.{file_names, FailsToRead};
-ghost use Rattle.cdb_program.specs.Seating.{AreOpenersOf, HoldsSeats, IsFaultOfSeats, IsOpenerOf, PerformsShared};
+ghost use Rattle.cdb_program.specs.Requests.{any_file};
+ghost use Rattle.cdb_program.specs.Seating.{AreOpenersOf, HoldsSeats, IsEmpty, IsFaultOfSeats, IsNewFile, IsOpenerOf, PerformsShared, any_name};
 
 use crate::fault::Fault;
 use crate::files::{Files, read_file};
@@ -17,6 +18,7 @@ use cdb_streams::{PlayFault, Sink, Source};
 use std::alloc::Global;
 use std::sync::Wait;
 use std::thread::Threads;
+use std::time::Clock;
 
 /// What opens the seat of this name.
 ///
@@ -65,10 +67,53 @@ fn find_each<'a, F: Files>(
     Ok(openers)
 }
 
+/// The file of this name, in which there is nothing.
+///
+/// # Errors
+/// `Play(Read, name)` where it has something in it or can't be opened, and `Play(NoMemory, name)` where an allocation
+/// fails.
+fn make_one<'a, F: Files>(alloc: Global, files: &mut F, name: &'a str) -> Result<F::Made, Fault<'a>>
+    ensures opened { IfOk result
+        (λ _. F.seen files.new ≡ after_opening (F.seen files.old) (name.entry.now ∷ [])) }
+    ensures file { IfOk result (λ made. IsEmpty (F.Made.stream made)) }
+    ensures fault { IfErr result
+        (FailsToRead (F.seen files.old) (F.seen files.new) (name.entry.now ∷ [])) }
+{
+    match files.make_file(alloc, name) {
+        Ok(file) => Ok(file),
+        Err(fault) => Err(Fault::Play(PlayFault::from(fault), name)),
+    }
+}
+
+/// The file of this name, in which there is nothing; none where there is no name.
+///
+/// # Errors
+/// Those of `make_one`.
+fn make_any<'a, F: Files>(
+    alloc: Global,
+    files: &mut F,
+    name: Option<&'a str>,
+) -> Result<Option<F::Made>, Fault<'a>>
+    ensures opened { IfOk result (λ _. F.seen files.new
+        ≡ after_opening (F.seen files.old) (any_name (any_file name.entry))) }
+    ensures file { IfOk result
+        (λ made. IsNewFile (any_file name.entry) (option_map F.Made.stream made)) }
+    ensures fault { IfErr result
+        (FailsToRead (F.seen files.old) (F.seen files.new) (any_name (any_file name.entry))) }
+{
+    match name {
+        Some(given) => match make_one(alloc, files, given) {
+            Ok(file) => Ok(Some(file)),
+            Err(fault) => Err(fault),
+        },
+        None => Ok(None),
+    }
+}
+
 /// Holds sessions of these seats over one run of a setup file, and returns the status. A fault is not reported yet.
 fn hold_seats<
     'a,
-    R: Threads + Wait + Sync,
+    R: Threads + Wait + Clock + Sync,
     F: Files + Drop,
     I: Source + Drop,
     O: Sink + Drop,
@@ -78,12 +123,13 @@ fn hold_seats<
     alloc: Global,
     setup: &'a str,
     seats: &[&'a str],
+    file: Option<&'a str>,
     outside: &mut Outside<F, I, O, E>,
 ) -> Result<u8, Fault<'a>>
     requires { 1 ≤ length seats.now }
     ensures sessions { IfOk result
-        (HoldsSeats setup.entry.now (file_names seats.now) outside.old outside.new) }
-    ensures fault { IfErr result (IsFaultOfSeats setup.entry.now (file_names seats.now)
+        (HoldsSeats setup.entry.now (file_names seats.now) (any_file file.entry) outside.old outside.new) }
+    ensures fault { IfErr result (IsFaultOfSeats setup.entry.now (file_names seats.now) (any_file file.entry)
         outside.old.files outside.new.files) }
     ensures output { IfErr result (λ _. outside.new.output ≡ outside.old.output) }
     ensures error { IfErr result (λ _. outside.new.error ≡ outside.old.error) }
@@ -94,12 +140,14 @@ fn hold_seats<
     }
     let json = read_file(alloc, &mut outside.files, setup)?;
     let openers = find_each(alloc, &mut outside.files, seats)?;
+    let file = make_any(alloc, &mut outside.files, file)?;
     let (output, error) = (&mut outside.streams.output, &mut outside.error);
-    match debug_shared::<AnyRun, _, R, O, E>(
+    match debug_shared::<AnyRun, _, _, R, O, E>(
         threads,
         alloc,
         json.as_slice(),
         openers,
+        file,
         output,
         error,
     ) {
@@ -111,16 +159,23 @@ fn hold_seats<
 /// Holds sessions of these seats, one at least, over one run of a setup file, reports on standard error what failed, and
 /// returns the status with which the program ends.
 pub fn perform_shared<
-    R: Threads + Wait + Sync,
+    R: Threads + Wait + Clock + Sync,
     F: Files + Drop,
     I: Source + Drop,
     O: Sink + Drop,
     E: Sink + Drop,
->(threads: &R, alloc: Global, setup: &str, seats: &[&str], outside: &mut Outside<F, I, O, E>) -> u8
+>(
+    threads: &R,
+    alloc: Global,
+    setup: &str,
+    seats: &[&str],
+    file: Option<&str>,
+    outside: &mut Outside<F, I, O, E>,
+) -> u8
     requires { 1 ≤ length seats.now }
-    ensures { PerformsShared setup.now (file_names seats.now) outside.old outside.new result }
+    ensures { PerformsShared setup.now (file_names seats.now) (any_file file.entry) outside.old outside.new result }
 {
-    match hold_seats(threads, alloc, setup, seats, outside) {
+    match hold_seats(threads, alloc, setup, seats, file, outside) {
         Ok(status) => status,
         Err(fault) => report(Err(fault), &mut outside.error),
     }

@@ -18,7 +18,7 @@ use Rattle.cdb_shared.specs.declared.knowledge.KnownSeat.{KnownSeat}
 use Rattle.cdb_shared.specs.declared.knowledge.Story.{Story}
 use Rattle.cdb_shared.specs.declared.knowledge.Knowledge.{Knowledge}
 use Rattle.cdb_shared.specs.Turn.{story, longer, opening, spent, resting, holding, Knows, AllKnow, Whereabouts, InQueue, HeldBy, FitsAt, queued, IsHeld}
-use Rattle.cdb_shared.specs.Turn.{seat_count, total_of, Turns, IsRuled, known_seats_from, seen_at, seen_by, TurnTaken, TurnGiven, MayGrow, MayFollow, MayGive}
+use Rattle.cdb_shared.specs.Turn.{seat_count, total_of, Turns, IsRuled, known_seats_from, watch_and_seats, seen_at, seen_by, TurnTaken, TurnGiven, MayGrow, MayFollow, MayGive}
 use Rattle.cdb_shared.specs.Turn.{seats_after, NoneWaits, without_first, first_alone, joined_pass}
 
 -- at the start there is one pass, and nothing in the queue
@@ -235,10 +235,10 @@ AllKnow-given known_seats before after (inr (p, command, is, longer)) all =
 -- the first pass gives the control that is handed in
 gives_first : (n pass : ℕ) (v : Knowledge) (c : Journaled) (items : List Journaled) (views : List Knowledge) → items ≡ []
     → views ≡ opening ∷ [] → get_elem? views pass ≡ some v
-    → Turns (items ++ c ∷ []) (set views pass (resting (known_seats_from (story c) 1 c.seats)))
+    → Turns (items ++ c ∷ []) (set views pass (resting (watch_and_seats (story c))))
 gives_first n pass v c items views empty alone at =
     let k = story c in
-    let w = resting (known_seats_from k 1 c.seats) in
+    let w = resting (watch_and_seats k) in
     let first = only_view views pass v alone at in
     let F : ℕ → Knowledge → Type 0 = λ j u. FitsAt u.stage k InQueue j u in
     let none : (m : ℕ) → total_of m views ≡ 0 = λ m. ap (total_of m) alone in
@@ -247,8 +247,8 @@ gives_first n pass v c items views empty alone at =
       turn = InQueue;
       waits = ap (λ l. map story (l ++ c ∷ [])) empty;
       held = tt;
-      each = each_set F views pass w (AllKnow-from 1 c.seats k) (λ j u apart e. absurd (apart ((only_view views j u alone e).0 ∙ sym first.0)));
-      once = λ m. let total = total_set m views pass v w at in let was = none m in let few = count_from m 1 c.seats k in omega arith;
+      each = each_set F views pass w (AllKnow-from 0 (suc c.seats) k) (λ j u apart e. absurd (apart ((only_view views j u alone e).0 ∙ sym first.0)));
+      once = λ m. let total = total_set m views pass v w at in let was = none m in let few = count_from m 0 (suc c.seats) k in omega arith;
     }
 
 -- and any other pass the control that it took, or that with one command more
@@ -274,7 +274,7 @@ gives_next pass v c items views t at mine known grow =
 pub gives : (n pass : ℕ) (v : Knowledge) (c : Journaled) → MayGive v c → Pushes IsRuled n pass v c (λ w. TurnGiven v c w)
 gives n pass v c may items views room (inl start) at =
     let is = (only_view views pass v start.1 at).1 in (
-      resting (known_seats_from (story c) 1 c.seats),
+      resting (watch_and_seats (story c)),
       inr (gives_first n pass v c items views start.0 start.1 at),
       sym (ap (λ (u : Knowledge). resting (seats_after u.held u.known_seats (story c))) is),
     )

@@ -13,7 +13,9 @@ mod seat;
 mod session;
 mod shared;
 mod turn;
+mod watch;
 
 pub use seat::Seat;
 pub use session::{End, Gate, drive, serve};
 pub use shared::Shared;
+pub use watch::Watch;

@@ -1,8 +1,8 @@
 //! The shared control: opening it, calling it, meeting and finishing.
-ghost use Rattle.std.specs.Prelude.{◌≡◌, ◌<◌, ◌≤◌, ◌↔◌, [], length, vec_len, vec_capacity, All, IfOk, IfErr, OnErr};
+ghost use Rattle.std.specs.Prelude.{◌≡◌, ◌<◌, ◌≤◌, ◌↔◌, [], drop, length, vec_len, vec_capacity, All, IfOk, IfErr, OnErr};
 ghost use Rattle.cdb_commands.specs.ToldReply.{told};
 ghost use Rattle.cdb_control.specs.Journal.{Journaled, Begins};
-ghost use Rattle.cdb_shared.specs.Seats.{RestsAt, fresh_seats, IsLater, IsCall, IsKnownBy, SameCalls, SeesFull};
+ghost use Rattle.cdb_shared.specs.Seats.{RestsAt, fresh_seat, fresh_seats, IsLater, IsCall, IsKnownBy, SameCalls, SeesFull};
 ghost use Rattle.cdb_shared.specs.Seats.{SeesHeadline, HasHeadline};
 ghost use Rattle.cdb_shared.specs.Turn.{story, resting, known_seats_from, AllKnow};
 ghost use Rattle.crossbeam_queue.specs.Passes.{view, IsPassOf, ruled_capacity};
@@ -10,9 +10,10 @@ ghost use Rattle.crossbeam_queue.specs.Passes.{view, IsPassOf, ruled_capacity};
 use crate::knowledge::{AllSeats, FirstSeat, Stage};
 use crate::seat::Seat;
 use crate::turn::{Turn, TurnPass, give, take};
+use crate::watch::Watch;
 use cdb_base::NoMemory;
 use cdb_base::limits::MAX_ENTRIES;
-use cdb_control::{CallFault, Command, Control, Reply};
+use cdb_control::{CallFault, Command, Control, Entry, Reply};
 use cdb_rules::Runs;
 use std::alloc::Global;
 use std::marker::Model;
@@ -103,6 +104,23 @@ impl<T: Runs> Shared<T> {
         ensures rest { IfOk result (λ r. All (λ seat. RestsAt r.0 seat) r.1.items) }
         ensures refused { IfErr result (λ r. r.0 ≡ control) }
     {
+        match Shared::open_watched(rt, alloc, control) {
+            Ok((shared, seats, _)) => Ok((shared, seats)),
+            Err(refused) => Err(refused),
+        }
+    }
+
+    /// Shares a control as `open` does, with a watch besides that has seen the journal so far.
+    pub fn open_watched<R: Wait>(
+        rt: &R,
+        alloc: Global,
+        control: Control<T>,
+    ) -> Result<(Shared<T>, Vec<Seat<T>>, Watch<T>), (Control<T>, NoMemory)>
+        ensures opened { IfOk result (λ r. r.1.items ≡ fresh_seats r.0 control 1 control.seats) }
+        ensures watch { IfOk result (λ r. r.2 ≡ fresh_seat r.0 control 0) }
+        ensures rest { IfOk result (λ r. All (λ seat. RestsAt r.0 seat) r.1.items) }
+        ensures refused { IfErr result (λ r. r.0 ≡ control) }
+    {
         let count = control.seats();
         let seats = match Vec::with_capacity(alloc, usize::from(count)) {
             Ok(seats) => seats,
@@ -113,8 +131,30 @@ impl<T: Runs> Shared<T> {
             Err(error) => return Err((control, NoMemory::from(error))),
         };
         give(rt, &turn, &mut pass, control);
+        let alone = turn.another::<FirstSeat>(&mut pass);
         let seats = deal(&turn, pass, count, seats);
-        Ok((Shared { turn }, seats))
+        Ok((Shared { turn }, seats, Watch { pass: alone }))
+    }
+
+    /// The entries of the journal from this position on, which the watch has then seen. It may wait for the turn, and
+    /// leaves the journal as it is.
+    pub fn look<R: Wait>(
+        &self,
+        rt: &R,
+        alloc: Global,
+        watch: &mut Watch<T>,
+        from: usize,
+    ) -> Result<Vec<Entry>, NoMemory>
+        requires rests { RestsAt self.now watch.old }
+        requires from { from ≤ length watch.old.seen }
+        ensures later { IsLater watch.old watch.new }
+        ensures entries { IfOk result (λ entries. entries.items ≡ drop from watch.new.seen) }
+        ensures limit { length watch.new.seen ≤ MAX_ENTRIES }
+    {
+        let control = take(rt, &self.turn, &mut watch.pass);
+        let entries = Vec::from_slice(alloc, &control.journal()[from..]);
+        give(rt, &self.turn, &mut watch.pass, control);
+        entries.map_err(NoMemory::from)
     }
 
     /// Lets two seats see the journal, and hands both back. What `a` has seen is then a beginning of what
@@ -163,6 +203,27 @@ impl<T: Runs> Shared<T> {
         let Shared { turn } = self;
         let mut pass = gather(&turn, seats);
         let control = take(rt, &turn, &mut pass);
+        // Its clause says that the headline holds of the journal.
+        control.journal();
+        control
+    }
+
+    /// Takes the turn for good and gives the control out of it, as `finish` does. The watch is used up too.
+    ///
+    /// Promise: The journal at the end begins with what the watch has seen.
+    pub fn finish_watched<R: Wait>(self, rt: &R, seats: Vec<Seat<T>>, watch: Watch<T>) -> Control<T>
+        requires some { 0 < vec_len seats }
+        requires rest { All (λ seat. RestsAt self seat) seats.items }
+        requires watch { RestsAt self watch }
+        ensures known { All (λ seat. IsKnownBy result seat) seats.items }
+        ensures watch { IsKnownBy result watch }
+        ensures headline { HasHeadline T.rules T.same_state result }
+    {
+        let Shared { turn } = self;
+        let mut all = gather(&turn, seats);
+        let Watch { pass: other } = watch;
+        turn.absorb::<AllSeats>(&mut all, other);
+        let control = take(rt, &turn, &mut all);
         // Its clause says that the headline holds of the journal.
         control.journal();
         control

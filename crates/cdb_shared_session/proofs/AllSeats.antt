@@ -15,7 +15,7 @@ use Rattle.cdb_shared_session.specs.SharedSessions.{HasEnded, IsFinished, AreSes
 use Rattle.cdb_shared_session.specs.SeatParts.{seat_style}
 use Rattle.cdb_shared_session.specs.Promises.{IsUnused, HasServed, HasRun, AllHaveRun}
 use Rattle.cdb_shared_session.specs.declared.endpoint.Finished.{Finished}
-use Rattle.cdb_shared_session.proofs.Kept.{some_of}
+use Rattle.cdb_shared_session.proofs.Promised.{some_of}
 use Rattle.cdb_shared_session.proofs.FinalJournal.{session_known}
 
 pub all_ready : (shared : TableId) (setup : Parts) (count : ℕ) (seats : List SeatView) → AreFresh shared setup count seats → All (λ seat. IsUnused shared seat) seats

@@ -1,5 +1,6 @@
 pub mod FinalJournal
-pub mod Kept
+pub mod Promised
+pub mod KeptEntries
 pub mod SetupFaults
 pub mod AllSeats
 pub mod Ended

@@ -21,7 +21,7 @@ map-more : {A B : Type 0} (f : A → B) (xs : List A) (x : A) → map f (xs ++ x
 map-more f [] x = refl
 map-more f (y ∷ xs) x = ap (λ more. f y ∷ more) (map-more f xs x)
 
-IsLater-refl : (seat : SeatView) → seat.rests ≡ true → IsLater seat seat
+pub IsLater-refl : (seat : SeatView) → seat.rests ≡ true → IsLater seat seat
 IsLater-refl seat rests = record { home = refl; setup = refl; seats = refl; number = refl; rests = rests; begins = Begins-refl seat.seen }
 
 -- a full journal stays full

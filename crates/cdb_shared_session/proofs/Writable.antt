@@ -25,7 +25,7 @@ use Rattle.cdb_text.specs.Grammar.{HasNumbersInRange}
 use Rattle.cdb_shared_session.specs.SeatParts.{part_in, seat_style}
 use Rattle.cdb_shared_session.specs.SharedSessions.{HasEnded, AreSessions}
 use Rattle.cdb_shared_session.specs.declared.endpoint.Finished.{Finished}
-use Rattle.cdb_shared_session.proofs.Kept.{some_of}
+use Rattle.cdb_shared_session.proofs.Promised.{some_of}
 
 abbrev HaveLines : List Entry → Type 0
 HaveLines entries = AllByRecursion (λ e. HasNumbersInRange e.command) entries

@@ -2,6 +2,7 @@
 pub mod Openings
 pub mod SeatParts
 pub mod SharedSessions
+pub mod Keeping
 pub mod Reports
 pub mod Reported
 pub mod Faults

@@ -1,5 +1,5 @@
 -- Sessions of several seats on a setup in JSON, and what is written once they have ended.
-use Rattle.std.specs.Prelude.{◌≡◌, ℕ, ◌≤◌, List, length, Result}
+use Rattle.std.specs.Prelude.{◌≡◌, ℕ, ◌≤◌, List, length, Option, Result}
 use Rattle.cdb_control.specs.Journal.{Journaled}
 use Rattle.cdb_session.specs.Moves.{Known}
 use Rattle.cdb_streams.specs.Endings.{whole_ending}
@@ -17,14 +17,17 @@ use Rattle.cdb_setup.specs.Parts.{Parts}
 use Rattle.cdb_journal.specs.Journals.{IsWritable, journal_text}
 use Rattle.cdb_shared_session.specs.Openings.{SeatSeen}
 use Rattle.cdb_shared_session.specs.SharedSessions.{AreSessions}
+use Rattle.cdb_shared_session.specs.Keeping.{HasKept, kept_outcome}
+use Rattle.cdb_shared_session.specs.declared.keeping.Kept.{Kept}
 use Rattle.cdb_shared_session.specs.Reports.{outcomes, failures_text, status_of}
 use Rattle.cdb_shared_session.specs.declared.endpoint.Finished.{Finished}
 
--- the sessions have ended, the journal was written and what failed was reported, as far as that went, and this is the
--- status
-pub record RunsSessions {P T O E : Type 0} (rules : Parts → Rules) (known : T → Known)
-    (opens : P → Result SeatSeen ReadFault → Type 0) (output_stream : O → Stream) (error_stream : E → Stream)
-    (json : List ℕ) (openers : List P) (output output_after : O) (error error_after : E) (status : ℕ) : Type 0 where
+-- the sessions have ended, the journal was kept in the file where there was one, it was written, and what failed was
+-- reported, as far as that went, and this is the status
+pub record RunsSessions {P T J O E : Type 0} (rules : Parts → Rules) (known : T → Known)
+    (opens : P → Result SeatSeen ReadFault → Type 0) (file_stream : J → Stream) (output_stream : O → Stream)
+    (error_stream : E → Stream) (json : List ℕ) (openers : List P) (file : Option J) (output output_after : O)
+    (error error_after : E) (status : ℕ) : Type 0 where
   pub setup : Parts
   pub encodes : Encodes json setup
   pub control : Journaled
@@ -32,11 +35,13 @@ pub record RunsSessions {P T O E : Type 0} (rules : Parts → Rules) (known : T 
   pub sessions : AreSessions rules known opens setup openers control finished
   -- so a replay of what is written tells each seat what it was told
   pub writable : IsWritable control
+  pub kept : Option (Kept J)
+  pub keeps : HasKept file_stream file kept control.journal
   pub written : Result (Unit {0}) OutputFault
   pub journal : IsWritten output_stream (whole_ending written) output output_after (Only (journal_text control.journal))
   pub reported : Result (Unit {0}) Failed
-  pub lines : Writes error_stream reported error error_after (failures_text written (outcomes finished))
-  pub status_is : status ≡ status_of written (outcomes finished)
+  pub lines : Writes error_stream reported error error_after (failures_text written (kept_outcome kept) (outcomes finished))
+  pub status_is : status ≡ status_of written (kept_outcome kept) (outcomes finished)
 
 -- The setup's first fault, or memory or a thread is not there; a setup that is too long is told so, and no thread is
 -- started for one with a fault.

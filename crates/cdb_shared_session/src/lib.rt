@@ -3,18 +3,20 @@
 //!
 //! ```text
 //! let openers = vec![in alloc; opener]?;
-//! let (control, finished) = debug_seats::<R, _, _>(rt, alloc, setup, openers)?;
+//! let (control, finished, kept) = debug_seats::<R, _, _, _>(rt, alloc, setup, openers, file)?;
 //! let text = cdb_journal::journal_text(alloc, control.journal())?;
 //! ```
 #![tactic(auto)]
 
 mod endpoint;
+mod keeping;
 mod reports;
 mod seat;
 mod shared;
 mod threads;
 
 pub use endpoint::{Endpoint, Finished, Opener};
+pub use keeping::Kept;
 pub use reports::{status_after, write_failures, write_journal};
 pub use shared::debug_shared;
 pub use threads::{SessionsFault, debug_seats};

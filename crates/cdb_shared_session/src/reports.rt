@@ -1,13 +1,13 @@
 //! What is reported once all sessions have ended: the journal, what failed, and the status.
 
-ghost use Rattle.std.specs.Prelude.{◌≡◌, ◌≤◌, length};
+ghost use Rattle.std.specs.Prelude.{◌≡◌, ◌≤◌, ◌++◌, length};
 ghost use Rattle.cdb_streams.specs.Endings.{whole_ending};
 ghost use Rattle.cdb_streams.specs.Streams.{Writes};
 ghost use Rattle.cdb_streams.specs.Written.{IsWritten, Only};
 ghost use Rattle.cdb_journal.specs.Journals.{journal_text};
 ghost use Rattle.cdb_shared_session.specs.Reports.{outcomes, seat_name, failed_seat_line};
 ghost use Rattle.cdb_shared_session.specs.Reports.{failed_seat_lines, seats_status};
-ghost use Rattle.cdb_shared_session.specs.Reports.{journal_line, failures_text, status_of as status_is};
+ghost use Rattle.cdb_shared_session.specs.Reports.{journal_line, kept_line, failures_text, status_of as status_is};
 
 use crate::endpoint::Finished;
 use cdb_base::limits::MAX_SEATS;
@@ -95,20 +95,47 @@ fn write_journal_fault<W: Sink>(
     }
 }
 
+/// Writes the line of a file in which the journal was not kept, if it was not.
+fn write_kept_fault<W: Sink>(kept: &Result<(), OutputFault>, out: &mut W) -> Result<(), Failed>
+    ensures { Writes W.stream result out.old out.new (kept_line kept.now) }
+{
+    match kept {
+        Ok(()) => Ok(()),
+        Err(fault) => {
+            write_all(out, b"journal: ")?;
+            write_fault(&PlayFault::from(*fault), "the input", out)
+        }
+    }
+}
+
+/// Writes the lines of a journal that was not written, and of a file in which it was not kept.
+fn write_journal_faults<W: Sink>(
+    written: &Result<(), OutputFault>,
+    kept: &Result<(), OutputFault>,
+    out: &mut W,
+) -> Result<(), Failed>
+    ensures { Writes W.stream result out.old out.new (journal_line written.now ++ kept_line kept.now) }
+{
+    write_journal_fault(written, out)?;
+    write_kept_fault(kept, out)
+}
+
 /// Writes a line for each seat whose session failed, with its number and the fault, in the order of the seats, of which
-/// there are at most 64, and then one for a journal that was not written. It takes no memory, and where the writer
+/// there are at most 64, and then one for a journal that was not written, and one for a file in which it was not kept. It
+/// takes no memory, and where the writer
 /// fails, what was written is a beginning of the lines.
 pub fn write_failures<T, W: Sink>(
     finished: &[Finished<T>],
     written: &Result<(), OutputFault>,
+    kept: &Result<(), OutputFault>,
     out: &mut W,
 ) -> Result<(), Failed>
     requires { length finished.now ≤ MAX_SEATS }
     ensures { Writes W.stream result out.old out.new
-        (failures_text written.now (outcomes finished.now)) }
+        (failures_text written.now kept.now (outcomes finished.now)) }
 {
     write_seats(finished, out)?;
-    write_journal_fault(written, out)
+    write_journal_faults(written, kept, out)
 }
 
 /// The status of the least seat whose session failed, 3, 6 or 7, and 0 where none did.
@@ -123,13 +150,17 @@ fn status_of_seats<T>(finished: &[Finished<T>]) -> u8
     0
 }
 
-/// The status once all sessions have ended: 6 or 7 where the journal was not written, else that of the least seat whose
-/// session failed, 3, 6 or 7, and 0 where none did.
-pub fn status_after<T>(finished: &[Finished<T>], written: &Result<(), OutputFault>) -> u8
-    ensures { result ≡ status_is written.now (outcomes finished.now) }
+/// The status once all sessions have ended: 6 or 7 where the journal was not written or not kept, else that of the least
+/// seat whose session failed, 3, 6 or 7, and 0 where none did.
+pub fn status_after<T>(
+    finished: &[Finished<T>],
+    written: &Result<(), OutputFault>,
+    kept: &Result<(), OutputFault>,
+) -> u8
+    ensures { result ≡ status_is written.now kept.now (outcomes finished.now) }
 {
-    match written {
-        Ok(()) => status_of_seats(finished),
-        Err(fault) => status_of(&PlayFault::from(*fault)),
+    match (written, kept) {
+        (Err(fault), _) | (Ok(()), Err(fault)) => status_of(&PlayFault::from(*fault)),
+        (Ok(()), Ok(())) => status_of_seats(finished),
     }
 }

@@ -2,18 +2,21 @@
 
 ghost use Rattle.std.specs.Prelude.{◌≡◌, ◌≤◌, vec_len, IfOk, IfErr, OnErr};
 ghost use Rattle.cdb_shared_session.specs.Faults.{of_sessions};
+ghost use Rattle.cdb_shared_session.specs.Keeping.{kept_outcome};
 ghost use Rattle.cdb_shared_session.specs.Reported.{RunsSessions, IsFaultOfSessions};
 
 use crate::endpoint::Opener;
+use crate::keeping::Kept;
 use crate::reports::{status_after, write_failures, write_journal};
 use crate::threads::{SessionsFault, debug_seats};
 use cdb_base::limits::MAX_SEATS;
 use cdb_rules::Runs;
 use cdb_setup::Setup;
-use cdb_streams::{RaceFault, Sink};
+use cdb_streams::{OutputFault, RaceFault, Sink};
 use std::alloc::Global;
 use std::sync::Wait;
 use std::thread::Threads;
+use std::time::Clock;
 
 /// The fault of sessions that did not begin.
 fn of_sessions(fault: SessionsFault) -> RaceFault
@@ -25,11 +28,22 @@ fn of_sessions(fault: SessionsFault) -> RaceFault
     }
 }
 
+/// How a journal was kept; without a file there is no fault.
+fn outcome_of<J: Drop>(kept: Option<Kept<J>>) -> Result<(), OutputFault>
+    ensures { result ≡ kept_outcome kept }
+{
+    match kept {
+        Some(kept) => kept.outcome,
+        None => Ok(()),
+    }
+}
+
 /// Holds sessions of as many seats as there are openers, from 1 to 64, over one run of the setup, until all have ended;
-/// each seat is opened in its own thread, and one that can't be opened has failed. Then the journal is written to the output, a line for each entry, and to the other output a line for each
-/// seat that failed, and one where the journal could not be written; these lines take no memory. Returned is the
-/// status: 6 or 7 where the journal could not be written, else that of the least seat that failed, and 0 where none
-/// did.
+/// each seat is opened in its own thread, and one that can't be opened has failed. Where there is a file, the journal is
+/// kept in it meanwhile. Then the journal is written to the output, a line for each entry, and to the other output a line
+/// for each seat that failed, and one where the journal could not be written or kept; these lines take no memory. Returned
+/// is the status: 6 or 7 where the journal could not be written or kept, else that of the least seat that failed, and 0
+/// where none did.
 ///
 /// # Errors
 /// `Setup` with the setup's first fault, and then no session was begun; `Spawn` where a thread can't be started, and
@@ -37,18 +51,26 @@ fn of_sessions(fault: SessionsFault) -> RaceFault
 ///
 /// Promise: That journal is written, `S LINE` for each entry, and a line for each seat that failed, which takes no
 /// memory; the status is that of a journal that was not written, else of the least seat that failed.
-pub fn debug_shared<R: Runs + Send, P: Opener + Send, Rt: Threads + Wait + Sync, O: Sink, E: Sink>(
+pub fn debug_shared<
+    R: Runs + Send,
+    P: Opener + Send,
+    J: Sink + Drop,
+    Rt: Threads + Wait + Clock + Sync,
+    O: Sink,
+    E: Sink,
+>(
     rt: &Rt,
     alloc: Global,
     setup: &[u8],
     openers: Vec<P>,
+    file: Option<J>,
     output: &mut O,
     error: &mut E,
 ) -> Result<u8, RaceFault>
     requires some { 1 ≤ vec_len openers }
     requires fits { vec_len openers ≤ MAX_SEATS }
-    ensures sessions { IfOk result (RunsSessions R.rules P.Seat.known P.opens O.stream E.stream
-        setup.now openers.items output.old output.new error.old error.new) }
+    ensures sessions { IfOk result (RunsSessions R.rules P.Seat.known P.opens J.stream O.stream E.stream
+        setup.now openers.items file output.old output.new error.old error.new) }
     ensures fault { IfErr result (IsFaultOfSessions setup.now) }
     ensures unwritten { OnErr result ((output.new ≡ output.old) × (error.new ≡ error.old)) }
 {
@@ -56,12 +78,14 @@ pub fn debug_shared<R: Runs + Send, P: Opener + Send, Rt: Threads + Wait + Sync,
         Ok(setup) => setup,
         Err(fault) => return Err(RaceFault::from(fault)),
     };
-    let (control, finished) = match debug_seats::<R, P, Rt>(rt, alloc, setup, openers) {
+    let ended = debug_seats::<R, P, J, Rt>(rt, alloc, setup, openers, file);
+    let (control, finished, kept) = match ended {
         Ok(sessions) => sessions,
         Err(fault) => return Err(of_sessions(fault)),
     };
     let written = write_journal(alloc, control.journal(), output);
     control.close();
-    let _ = write_failures(finished.as_slice(), &written, error);
-    Ok(status_after(finished.as_slice(), &written))
+    let kept = outcome_of(kept);
+    let _ = write_failures(finished.as_slice(), &written, &kept, error);
+    Ok(status_after(finished.as_slice(), &written, &kept))
 }

@@ -6,9 +6,11 @@ ghost use Rattle.cdb_journal.specs.Journals.{IsWritable};
 ghost use Rattle.cdb_shared_session.specs.SharedSessions.{AreSessions};
 ghost use Rattle.cdb_shared_session.specs.Promises.{IsUnused, IsSeatPromise, AreSeatPromises};
 ghost use Rattle.cdb_shared_session.specs.Promises.{AllKept, AllHaveRun, HasRun};
-ghost use Rattle.cdb_shared.specs.Seats.{fresh_seats, HasHeadline};
+ghost use Rattle.cdb_shared_session.specs.Keeping.{GoesOnKeeping, HasKept};
+ghost use Rattle.cdb_shared.specs.Seats.{fresh_seat, fresh_seats, HasHeadline, IsLater, RestsAt};
 
 use crate::endpoint::{Finished, Opener};
+use crate::keeping::{Keeping, Kept, keep, keep_end};
 use crate::seat::{SeatPromise, SeatResult, run_seat};
 use cdb_base::NoMemory;
 use cdb_base::limits::MAX_SEATS;
@@ -16,12 +18,15 @@ use cdb_base::start::{RefusedStart, start};
 use cdb_control::{Control, OpenFault};
 use cdb_rules::Runs;
 use cdb_setup::Setup;
-use cdb_shared::{Seat, Shared};
+use cdb_shared::{Seat, Shared, Watch};
+use cdb_streams::Sink;
 use std::alloc::Global;
 use std::error::Error;
 use std::snapshot::Snapshot;
 use std::sync::Wait;
+use std::sync::atomic::{AtomicU64, Ordering};
 use std::thread::{PromisedHandle, Scope, Threads};
+use std::time::Clock;
 use std::{fmt, thread};
 
 /// Why there were no sessions, or why their journal was lost.
@@ -49,12 +54,13 @@ impl fmt::Display for SessionsFault {
 
 impl Error for SessionsFault {}
 
-/// Starts a thread for one seat.
+/// Starts a thread for one seat, which is one fewer of those that are going on once it has ended.
 fn start_one<'s, E, R: Runs + Send + 's, P: Opener + Send + 's, Rt: Threads + Wait + Sync>(
     scope: &Scope<'s, E>,
     rt: &'s Rt,
     alloc: Global,
     shared: &'s Shared<R>,
+    going: &'s AtomicU64,
     seat: Seat<R>,
     opener: P,
 ) -> Result<PromisedHandle<SeatResult<R, P::Seat>, SeatPromise<R, P>>, SessionsFault>
@@ -71,7 +77,11 @@ fn start_one<'s, E, R: Runs + Send + 's, P: Opener + Send + 's, Rt: Threads + Wa
         move || -> SeatResult<R, P::Seat>
             requires { IsUnused shared.now seat }
             ensures { HasRun R.rules P.Seat.known P.opens seat opener result.seat result.finished }
-        { run_seat(shared, rt, alloc, seat, opener) },
+        {
+            let ended = run_seat(shared, rt, alloc, seat, opener);
+            going.fetch_sub(1, Ordering::SeqCst);
+            ended
+        },
     );
     started.map_err(SessionsFault::Spawn)
 }
@@ -82,6 +92,7 @@ fn start_all<'s, E, R: Runs + Send + 's, P: Opener + Send + 's, Rt: Threads + Wa
     rt: &'s Rt,
     alloc: Global,
     shared: &'s Shared<R>,
+    going: &'s AtomicU64,
     mut seats: Vec<Seat<R>>,
     mut openers: Vec<P>,
 ) -> Result<Vec<PromisedHandle<SeatResult<R, P::Seat>, SeatPromise<R, P>>>, SessionsFault>
@@ -98,7 +109,7 @@ fn start_all<'s, E, R: Runs + Send + 's, P: Opener + Send + 's, Rt: Threads + Wa
         let Some(opener) = openers.pop() else {
             unreachable!()
         };
-        let handle = start_one(scope, rt, alloc, shared, seat, opener)?;
+        let handle = start_one(scope, rt, alloc, shared, going, seat, opener)?;
         handles.push_reserved(handle);
     }
     Ok(handles)
@@ -125,60 +136,94 @@ fn join_each<R: Runs, P: Opener, Rt: Threads>(
     (seats, all)
 }
 
-/// Starts a thread for each seat in this scope, and joins them all; the seats and how their sessions ended are added to
-/// lists that have room for them.
-fn join_all<'s, E, R: Runs + Send + 's, P: Opener + Send + 's, Rt: Threads + Wait + Sync>(
+/// What the sessions leave: the seats, what came of each, and the journal's file.
+type Left<R, P, J> = (
+    Vec<Seat<R>>,
+    Vec<Finished<<P as Opener>::Seat>>,
+    Keeping<R, J>,
+);
+
+/// Starts a thread for each seat in this scope, keeps the journal while they are going on, and joins them all; the seats
+/// and how their sessions ended are added to lists that have room for them.
+fn join_all<
+    's,
+    E,
+    R: Runs + Send + 's,
+    P: Opener + Send + 's,
+    J: Sink + Drop,
+    Rt: Threads + Wait + Clock + Sync,
+>(
     scope: &Scope<'s, E>,
     rt: &'s Rt,
     alloc: Global,
     shared: &'s Shared<R>,
+    going: &'s AtomicU64,
     seats: Vec<Seat<R>>,
     openers: Vec<P>,
+    keeping: Keeping<R, J>,
     done: Vec<Seat<R>>,
     all: Vec<Finished<P::Seat>>,
-) -> Result<(Vec<Seat<R>>, Vec<Finished<P::Seat>>), SessionsFault>
+) -> Result<Left<R, P, J>, SessionsFault>
     requires ready { All (λ seat. IsUnused shared.now seat) seats.items }
     requires openers { vec_len openers ≡ vec_len seats }
+    requires watch { RestsAt shared.now keeping.watch }
+    requires counted { IfOk keeping.count (λ count. count ≤ length keeping.watch.seen) }
     requires empty { (vec_len done ≡ 0) × (vec_len all ≡ 0) }
     requires room { (vec_len seats ≤ vec_capacity done) × (vec_len seats ≤ vec_capacity all) }
     ensures count { IfOk result
         (λ r. (vec_len r.0 ≡ vec_len seats) × (vec_len r.1 ≡ vec_len seats)) }
     ensures each { IfOk result
         (λ r. AllHaveRun R.rules P.Seat.known P.opens seats.items openers.items r.0.items r.1.items) }
+    ensures later { IfOk result (λ r. IsLater keeping.watch r.2.watch) }
+    ensures kept { IfOk result (λ r. GoesOnKeeping J.stream keeping r.2) }
 {
-    let handles = start_all(scope, rt, alloc, shared, seats, openers)?;
-    Ok(join_each(rt, handles, done, all))
+    let handles = start_all(scope, rt, alloc, shared, going, seats, openers)?;
+    let keeping = keep(shared, rt, alloc, keeping, going);
+    let (seats, finished) = join_each(rt, handles, done, all);
+    Ok((seats, finished, keeping))
 }
 
-/// Serves every seat in a thread of its own, and joins them all; the seats and how their sessions ended are added to
-/// lists that have room for them.
-fn run_all<R: Runs + Send, P: Opener + Send, Rt: Threads + Wait + Sync>(
+/// Serves every seat in a thread of its own, keeps the journal meanwhile, and joins them all; the seats and how their
+/// sessions ended are added to lists that have room for them.
+fn run_all<R: Runs + Send, P: Opener + Send, J: Sink + Drop, Rt: Threads + Wait + Clock + Sync>(
     rt: &Rt,
     alloc: Global,
     shared: &Shared<R>,
+    going: &AtomicU64,
     seats: Vec<Seat<R>>,
     openers: Vec<P>,
+    keeping: Keeping<R, J>,
     done: Vec<Seat<R>>,
     all: Vec<Finished<P::Seat>>,
-) -> Result<(Vec<Seat<R>>, Vec<Finished<P::Seat>>), SessionsFault>
+) -> Result<Left<R, P, J>, SessionsFault>
     requires ready { All (λ seat. IsUnused shared.now seat) seats.items }
     requires openers { vec_len openers ≡ vec_len seats }
+    requires watch { RestsAt shared.now keeping.watch }
+    requires counted { IfOk keeping.count (λ count. count ≤ length keeping.watch.seen) }
     requires empty { (vec_len done ≡ 0) × (vec_len all ≡ 0) }
     requires room { (vec_len seats ≤ vec_capacity done) × (vec_len seats ≤ vec_capacity all) }
     ensures count { IfOk result
         (λ r. (vec_len r.0 ≡ vec_len seats) × (vec_len r.1 ≡ vec_len seats)) }
     ensures each { IfOk result
         (λ r. AllHaveRun R.rules P.Seat.known P.opens seats.items openers.items r.0.items r.1.items) }
+    ensures later { IfOk result (λ r. IsLater keeping.watch r.2.watch) }
+    ensures kept { IfOk result (λ r. GoesOnKeeping J.stream keeping r.2) }
 {
     thread::scope(
         thread::scope_env(),
         rt,
-        |scope| -> Result<(Vec<Seat<R>>, Vec<Finished<P::Seat>>), SessionsFault>
+        |scope| -> Result<Left<R, P, J>, SessionsFault>
             requires ready { All (λ seat. IsUnused shared.now seat) seats.items }
             requires openers { vec_len openers ≡ vec_len seats }
+            requires watch { RestsAt shared.now keeping.watch }
+            requires counted { IfOk keeping.count (λ count. count ≤ length keeping.watch.seen) }
             requires empty { (vec_len done ≡ 0) × (vec_len all ≡ 0) }
             requires room { (vec_len seats ≤ vec_capacity done) × (vec_len seats ≤ vec_capacity all) }
-        { join_all(scope, rt, alloc, shared, seats, openers, done, all) },
+        {
+            join_all(
+                scope, rt, alloc, shared, going, seats, openers, keeping, done, all,
+            )
+        },
     )
 }
 
@@ -192,24 +237,25 @@ fn reserve<X: Drop>(alloc: Global, count: usize) -> Result<Vec<X>, SessionsFault
     }
 }
 
-/// A control of the setup in which nothing has happened, shared, with this many seats.
+/// A control of the setup in which nothing has happened, shared, with this many seats and a watch.
 fn open_shared<R: Runs, Rt: Wait>(
     rt: &Rt,
     alloc: Global,
     setup: Setup,
     count: u8,
-) -> Result<(Shared<R>, Vec<Seat<R>>), SessionsFault>
+) -> Result<(Shared<R>, Vec<Seat<R>>, Watch<R>), SessionsFault>
     requires some { 1 ≤ count }
     requires fits { count ≤ MAX_SEATS }
-    ensures { IfOk result
+    ensures seats { IfOk result
         (λ r. r.1.items ≡ fresh_seats r.0 (opened setup count) 1 count) }
+    ensures watch { IfOk result (λ r. r.2 ≡ fresh_seat r.0 (opened setup count) 0) }
 {
     let control = match Control::open(alloc, setup, count) {
         Ok(control) => control,
         Err(OpenFault::NoMemory(refused)) => return Err(SessionsFault::NoMemory(refused)),
         Err(OpenFault::Seats) => unreachable!(),
     };
-    match Shared::open(rt, alloc, control) {
+    match Shared::open_watched(rt, alloc, control) {
         Ok(opened) => Ok(opened),
         Err((control, refused)) => {
             control.close();
@@ -218,12 +264,22 @@ fn open_shared<R: Runs, Rt: Wait>(
     }
 }
 
+/// How sessions ended: the control, what came of each seat, and the file of the journal, if there is one.
+pub type Ended<R, P, J> = (
+    Control<R>,
+    Vec<Finished<<P as Opener>::Seat>>,
+    Option<Kept<J>>,
+);
+
 /// Sessions of as many seats as there are openers, from 1 to 64, over one run of the setup, each in a thread of its
 /// own, until all have ended; then the control, whose journal has the commands of all, and what came of each seat, in the
 /// order of the openers, of which the k-th is that of seat k. Each thread opens its own seat, so a seat begins when its
 /// streams are open, and holds no other until then. A line has its response as in a session of one seat, but that no
 /// line chooses a seat. A seat that can't be opened, or whose session ends with a fault, ends alone, and the others go
 /// on. The journal can be written, and a replay of what was written tells each seat what it was told.
+///
+/// Where there is a file, the journal is kept in it: ten times a second the entries that are new are added in one piece,
+/// and the last ones once all sessions have ended. Where it can't be written, the sessions go on.
 ///
 /// # Errors
 /// `NoMemory` where the control, the results or the threads find no memory, and then no session was begun. `Spawn`
@@ -234,33 +290,50 @@ fn open_shared<R: Runs, Rt: Wait>(
 /// order and each once, or the first of them and is full; each seat got the replies to them there, in full before it
 /// was asked for more; no entry is of another seat. A seat is opened in its own thread; one that can't be opened has no
 /// entry, and ends with that fault. A seat that fails ends alone; only after out of memory the journal may have one
-/// command more than had its reply.
-pub fn debug_seats<R: Runs + Send, P: Opener + Send, Rt: Threads + Wait + Sync>(
+/// command more than had its reply. The file has the journal at the end, or a beginning of it where it could not be
+/// written or memory was out.
+pub fn debug_seats<
+    R: Runs + Send,
+    P: Opener + Send,
+    J: Sink + Drop,
+    Rt: Threads + Wait + Clock + Sync,
+>(
     rt: &Rt,
     alloc: Global,
     setup: Setup,
     openers: Vec<P>,
-) -> Result<(Control<R>, Vec<Finished<P::Seat>>), SessionsFault>
+    file: Option<J>,
+) -> Result<Ended<R, P, J>, SessionsFault>
     requires some { 1 ≤ vec_len openers }
     requires fits { vec_len openers ≤ MAX_SEATS }
     ensures sessions { IfOk result
         (λ r. AreSessions R.rules P.Seat.known P.opens setup openers.items r.0 r.1.items) }
+    ensures kept { IfOk result (λ r. HasKept J.stream file r.2 r.0.journal) }
     ensures writable { IfOk result (λ r. IsWritable r.0) }
     ensures headline { IfOk result (λ r. HasHeadline R.rules R.same_state r.0) }
 {
     let count = openers.len() as u8;
     let done = reserve(alloc, openers.len())?;
     let all = reserve(alloc, openers.len())?;
-    let (shared, seats) = open_shared::<R, Rt>(rt, alloc, setup, count)?;
-    let (seats, finished) = match run_all(rt, alloc, &shared, seats, openers, done, all) {
-        Ok(joined) => joined,
+    let (shared, seats, watch) = open_shared::<R, Rt>(rt, alloc, setup, count)?;
+    let going = AtomicU64::new(u64::from(count));
+    let keeping = Keeping {
+        watch,
+        file,
+        count: Ok(0),
+    };
+    let left = run_all(
+        rt, alloc, &shared, &going, seats, openers, keeping, done, all,
+    );
+    let (seats, finished, keeping) = match left {
+        Ok(left) => left,
         Err(fault) => {
             shared.close();
             return Err(fault);
         }
     };
-    let control = shared.finish(rt, seats);
-    // Its clauses say that each entry is of a seat, and how many there are at most.
-    control.journal();
-    Ok((control, finished))
+    let Keeping { watch, file, count } = keeping;
+    let control = shared.finish_watched(rt, seats, watch);
+    let kept = keep_end(alloc, control.journal(), file, count);
+    Ok((control, finished, kept))
 }

@@ -17,6 +17,7 @@ use files::Folder;
 use std::process::Abort;
 use std::sync::Wait;
 use std::thread::Threads;
+use std::time::Clock;
 use streams::{Reader, Writer};
 
 /// Standard input: two lines, of which the last has no end.
@@ -60,7 +61,7 @@ fn has_turns(request: Request<'_>) -> bool
 }
 
 /// Performs a request over the files of the tests and standard input, with this many good calls.
-fn performed<R: Threads + Wait + Sync + Abort + AllocGlobal>(
+fn performed<R: Threads + Wait + Clock + Sync + Abort + AllocGlobal>(
     rt: &R,
     request: Request<'_>,
     good: GoodCalls,

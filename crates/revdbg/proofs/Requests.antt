@@ -1,5 +1,5 @@
 -- Which request is made.
-use Rattle.std.proofs.Common.{◌≡◌, ◌∷◌, inl, inr, ℕ, List, [], Option, Result, Ok, Err, IfOk, IfErr, subst, sym}
+use Rattle.std.proofs.Common.{◌≡◌, ◌∷◌, inl, inr, ℕ, List, [], Option, Result, Ok, Err, IfOk, IfErr, subst, sym, None}
 use Rattle.cdb_base.specs.Memory.{no_memory}
 use Rattle.revdbg.specs.declared.requested.Unread.{Unread}
 use Rattle.revdbg.specs.declared.requested.Unread.TheVariants as unread
@@ -29,7 +29,7 @@ no_refusal (Play setup script) is = is
 no_refusal (Race setup turns scripts) is = is
 no_refusal (Ask setup script question) is = is
 no_refusal (Debug setup prompt) is = is
-no_refusal (DebugShared setup seats) is = is
+no_refusal (DebugShared setup seats file) is = is
 no_refusal (Replay setup journal) is = is
 no_refusal (Search setup goal seed walks) is = is
 no_refusal (Page setup script) is = is
@@ -60,7 +60,7 @@ module _ (prompt : Text) where
   pub play_request : (setup script : Text) (it : Asked) → IsPlayOf setup script it → (request : Request) → IsRequestOf prompt it request → IsPlayRequest setup script request
   play_request setup script (asked.Play a b) is request of_it = rw (← is.0, ← is.1) of_it
   play_request setup script asked.Script is request of_it = absurd is
-  play_request setup script (asked.Debug a seats) is request of_it = absurd is
+  play_request setup script (asked.Debug a seats file) is request of_it = absurd is
   play_request setup script (asked.Replay a b) is request of_it = absurd is
   play_request setup script (asked.Search a h n w) is request of_it = absurd is
   play_request setup script (asked.Shrink a b h) is request of_it = absurd is
@@ -73,7 +73,7 @@ module _ (prompt : Text) where
   pub race_request : (setup : Text) (turns : ℕ) (scripts : List Text) (it : Asked) → IsRaceOf setup turns scripts it → (request : Request) → IsRequestOf prompt it request → IsRaceRequest setup turns scripts request
   race_request setup turns scripts (asked.Race a n b) is request of_it = rw (← is.0, ← is.1, ← is.2) of_it
   race_request setup turns scripts asked.Script is request of_it = absurd is
-  race_request setup turns scripts (asked.Debug a seats) is request of_it = absurd is
+  race_request setup turns scripts (asked.Debug a seats file) is request of_it = absurd is
   race_request setup turns scripts (asked.Replay a b) is request of_it = absurd is
   race_request setup turns scripts (asked.Search a h n w) is request of_it = absurd is
   race_request setup turns scripts (asked.Shrink a b h) is request of_it = absurd is
@@ -88,7 +88,7 @@ module _ (prompt : Text) where
   question_request setup script question asked.Script is request of_it = absurd is
   question_request setup script question (asked.Play a b) is request of_it = absurd is
   question_request setup script question (asked.Race a n b) is request of_it = absurd is
-  question_request setup script question (asked.Debug a seats) is request of_it = absurd is
+  question_request setup script question (asked.Debug a seats file) is request of_it = absurd is
   question_request setup script question (asked.Replay a b) is request of_it = absurd is
   question_request setup script question (asked.Search a h n w) is request of_it = absurd is
   question_request setup script question (asked.Shrink a b h) is request of_it = absurd is
@@ -96,8 +96,8 @@ module _ (prompt : Text) where
   question_request setup script question (asked.Clocks a b) is request of_it = absurd is
   question_request setup script question (asked.Page a b) is request of_it = absurd is
 
-  pub debug_request : (setup : Text) (seats : List Text) (it : Asked) → IsDebugOf setup seats it → (request : Request) → IsRequestOf prompt it request → IsDebugRequest prompt setup seats request
-  debug_request setup seats (asked.Debug a b) is request of_it = rw (← is.0, ← is.1) of_it
+  pub debug_request : (setup : Text) (seats : List Text) (it : Asked) → IsDebugOf setup seats it → (request : Request) → IsRequestOf prompt it request → IsDebugRequest prompt setup seats None request
+  debug_request setup seats (asked.Debug a b f) is request of_it = rw (← is.0, ← is.1, ← is.2) of_it
   debug_request setup seats asked.Script is request of_it = absurd is
   debug_request setup seats (asked.Play a b) is request of_it = absurd is
   debug_request setup seats (asked.Replay a b) is request of_it = absurd is
@@ -115,7 +115,7 @@ module _ (prompt : Text) where
   replay_request setup journal (asked.Play a b) is request of_it = absurd is
   replay_request setup journal (asked.Race a n b) is request of_it = absurd is
   replay_request setup journal (asked.Ask a b q) is request of_it = absurd is
-  replay_request setup journal (asked.Debug a b) is request of_it = absurd is
+  replay_request setup journal (asked.Debug a b f) is request of_it = absurd is
   replay_request setup journal (asked.Search a h n w) is request of_it = absurd is
   replay_request setup journal (asked.Shrink a b h) is request of_it = absurd is
   replay_request setup journal (asked.Same a b d) is request of_it = absurd is
@@ -128,7 +128,7 @@ module _ (prompt : Text) where
   search_request setup goal seed walks (asked.Play a b) is request of_it = absurd is
   search_request setup goal seed walks (asked.Race a n b) is request of_it = absurd is
   search_request setup goal seed walks (asked.Ask a b q) is request of_it = absurd is
-  search_request setup goal seed walks (asked.Debug a b) is request of_it = absurd is
+  search_request setup goal seed walks (asked.Debug a b f) is request of_it = absurd is
   search_request setup goal seed walks (asked.Replay a b) is request of_it = absurd is
   search_request setup goal seed walks (asked.Same a b d) is request of_it = absurd is
   search_request setup goal seed walks (asked.Clocks a b) is request of_it = absurd is
@@ -142,7 +142,7 @@ module _ (prompt : Text) where
   shrink_request setup script goal (asked.Play a b) is request of_it = absurd is
   shrink_request setup script goal (asked.Race a n b) is request of_it = absurd is
   shrink_request setup script goal (asked.Ask a b q) is request of_it = absurd is
-  shrink_request setup script goal (asked.Debug a b) is request of_it = absurd is
+  shrink_request setup script goal (asked.Debug a b f) is request of_it = absurd is
   shrink_request setup script goal (asked.Replay a b) is request of_it = absurd is
   shrink_request setup script goal (asked.Same a b d) is request of_it = absurd is
   shrink_request setup script goal (asked.Clocks a b) is request of_it = absurd is
@@ -155,7 +155,7 @@ module _ (prompt : Text) where
   same_request setup first second (asked.Play a b) is request of_it = absurd is
   same_request setup first second (asked.Race a n b) is request of_it = absurd is
   same_request setup first second (asked.Ask a b q) is request of_it = absurd is
-  same_request setup first second (asked.Debug a b) is request of_it = absurd is
+  same_request setup first second (asked.Debug a b f) is request of_it = absurd is
   same_request setup first second (asked.Replay a b) is request of_it = absurd is
   same_request setup first second (asked.Search a h n w) is request of_it = absurd is
   same_request setup first second (asked.Shrink a b h) is request of_it = absurd is
@@ -168,7 +168,7 @@ module _ (prompt : Text) where
   clocks_request setup script (asked.Play a b) is request of_it = absurd is
   clocks_request setup script (asked.Race a n b) is request of_it = absurd is
   clocks_request setup script (asked.Ask a b q) is request of_it = absurd is
-  clocks_request setup script (asked.Debug a b) is request of_it = absurd is
+  clocks_request setup script (asked.Debug a b f) is request of_it = absurd is
   clocks_request setup script (asked.Replay a b) is request of_it = absurd is
   clocks_request setup script (asked.Search a h n w) is request of_it = absurd is
   clocks_request setup script (asked.Shrink a b h) is request of_it = absurd is
@@ -181,7 +181,7 @@ module _ (prompt : Text) where
   page_request setup script (asked.Play a b) is request of_it = absurd is
   page_request setup script (asked.Race a n b) is request of_it = absurd is
   page_request setup script (asked.Ask a b q) is request of_it = absurd is
-  page_request setup script (asked.Debug a b) is request of_it = absurd is
+  page_request setup script (asked.Debug a b f) is request of_it = absurd is
   page_request setup script (asked.Replay a b) is request of_it = absurd is
   page_request setup script (asked.Search a h n w) is request of_it = absurd is
   page_request setup script (asked.Same a b d) is request of_it = absurd is

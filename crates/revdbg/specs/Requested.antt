@@ -1,11 +1,11 @@
 -- What the arguments request, and that it is performed.
-use Rattle.std.specs.Prelude.{◌≡◌, ◌≢◌, ◌⊎◌, ◌∷◌, ℕ, List, [], Option, codes}
+use Rattle.std.specs.Prelude.{◌≡◌, ◌≢◌, ◌⊎◌, ◌∷◌, ℕ, List, [], Option, Some, None, codes}
 use Rattle.std.specs.declared.io.ErrorKind.{ErrorKind as IoKind}
 use Rattle.std.specs.declared.io.ErrorKind.TheVariants as io_kind
 use Rattle.clap.specs.Words.{Kinds, IsAmong, Row, Text, fault_of, subcommand_of}
 use Rattle.clap.specs.declared.error.kind.ErrorKind.{ErrorKind}
 use Rattle.cdb_base.specs.Memory.{no_memory}
-use Rattle.cdb_arguments.specs.Asking.{NamesAsked, texts, words_status}
+use Rattle.cdb_arguments.specs.Asking.{NamesAsked, any_text, texts, words_status}
 use Rattle.cdb_arguments.specs.CommandLine.{program}
 use Rattle.cdb_arguments.specs.Plain.{IsNameAlone, IsPlayLine, IsQuestionLine, IsRaceLine, IsDebugLine, IsReplayLine, IsPageLine, IsSameLine, IsClocksLine, IsSearchLine, IsShrinkLine}
 use Rattle.cdb_arguments.specs.declared.request.Asked.{Asked}
@@ -15,7 +15,7 @@ use Rattle.cdb_streams.specs.declared.fault.PlayFault.TheVariants.{NoMemory}
 use Rattle.revdbg.specs.declared.requested.Unread.{Unread}
 use Rattle.revdbg.specs.declared.requested.Unread.TheVariants as unread
 use Rattle.cdb_program.specs.Known.{Seen}
-use Rattle.cdb_program.specs.Requests.{Performs}
+use Rattle.cdb_program.specs.Requests.{Performs, any_file}
 use Rattle.cdb_program.specs.declared.fault.Fault.TheVariants as fault
 use Rattle.cdb_program.specs.declared.request.Request.{Request}
 use Rattle.cdb_program.specs.declared.request.Request.TheVariants.{Script, Play, Race, Ask, Debug, DebugShared, Replay, Page, Same, Clocks, Search, Shrink, Print, Refuse}
@@ -37,11 +37,14 @@ IsQuestionRequest setup script question (Ask its_setup its_script its_question) 
     (its_setup.now ≡ setup) × (its_script.now ≡ script) × (its_question ≡ question)
 IsQuestionRequest setup script question request = ⊥
 
--- a session on a run of this file, with this prompt; or sessions of these seats, where there are any
-abbrev pub IsDebugRequest : Text → Text → List Text → Request → Type 0
-IsDebugRequest prompt setup [] (Debug its_setup its_prompt) = (its_setup.now ≡ setup) × (its_prompt.now ≡ prompt)
-IsDebugRequest prompt setup (seat ∷ seats) (DebugShared its_setup its_seats) = (its_setup.now ≡ setup) × (texts its_seats.now ≡ seat ∷ seats)
-IsDebugRequest prompt setup seats request = ⊥
+-- a session on a run of this file, with this prompt; or sessions of these seats, where there are any, whose journal is kept in
+-- the file, if there is one; of a session without seats it is not
+abbrev pub IsDebugRequest : Text → Text → List Text → Option Text → Request → Type 0
+IsDebugRequest prompt setup [] None (Debug its_setup its_prompt) = (its_setup.now ≡ setup) × (its_prompt.now ≡ prompt)
+IsDebugRequest prompt setup [] (Some file) (Refuse (fault.Refused text)) = text.now ≡ codes "--journal needs a SEAT\n"
+IsDebugRequest prompt setup (seat ∷ seats) file (DebugShared its_setup its_seats its_file) =
+    (its_setup.now ≡ setup) × (texts its_seats.now ≡ seat ∷ seats) × (any_file its_file ≡ file)
+IsDebugRequest prompt setup seats file request = ⊥
 
 -- a journal of this name is played again on a run of this file
 abbrev pub IsReplayRequest : Text → Text → Request → Type 0
@@ -82,7 +85,7 @@ IsRequestOf prompt asked.Script request = request ≡ Script
 IsRequestOf prompt (asked.Play setup script) request = IsPlayRequest setup.now script.now request
 IsRequestOf prompt (asked.Race setup turns scripts) request = IsRaceRequest setup.now turns (texts scripts.items) request
 IsRequestOf prompt (asked.Ask setup script question) request = IsQuestionRequest setup.now script.now question request
-IsRequestOf prompt (asked.Debug setup seats) request = IsDebugRequest prompt setup.now (texts seats.items) request
+IsRequestOf prompt (asked.Debug setup seats file) request = IsDebugRequest prompt setup.now (texts seats.items) (any_text file) request
 IsRequestOf prompt (asked.Replay setup journal) request = IsReplayRequest setup.now journal.now request
 IsRequestOf prompt (asked.Search setup goal seed walks) request = IsSearchRequest setup.now goal.now seed walks request
 IsRequestOf prompt (asked.Shrink setup script goal) request = IsShrinkRequest setup.now script.now goal.now request
@@ -119,7 +122,7 @@ pub record IsAskedBy (prompt : Text) (words : List Text) (request : Request) : T
   pub question : (setup script : Text) (question : Question)
       → IsQuestionLine words setup script question → OrOutOfMemory (IsQuestionRequest setup script question) request
   pub debug : (setup : Text) (seats : List Text)
-      → IsDebugLine words setup seats → OrOutOfMemory (IsDebugRequest prompt setup seats) request
+      → IsDebugLine words setup seats → OrOutOfMemory (IsDebugRequest prompt setup seats None) request
   pub replay : (setup journal : Text) → IsReplayLine words setup journal → OrOutOfMemory (IsReplayRequest setup journal) request
   pub search : (setup goal : Text) (seed walks : ℕ)
       → IsSearchLine words setup goal seed walks → OrOutOfMemory (IsSearchRequest setup goal seed walks) request

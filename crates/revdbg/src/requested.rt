@@ -3,11 +3,11 @@
 ghost use Rattle.std.specs.Prelude.{◌≡◌, List, Option, Err, IfErr, IfOk, IsOk, OnOk, map, string_bytes};
 ghost use Rattle.std.specs.IoError.{error_kind};
 ghost use Rattle.clap.specs.Words.{Kinds, Row, Text};
-ghost use Rattle.cdb_arguments.specs.Asking.{IsOfKinds, NamesAsked, texts};
+ghost use Rattle.cdb_arguments.specs.Asking.{IsOfKinds, NamesAsked, any_text, texts};
 ghost use Rattle.cdb_program.specs.Requests.{HasTurns};
 ghost use Rattle.cdb_base.specs.Memory.{no_memory};
 ghost use Rattle.revdbg.specs.RequestFor.{IsRequestFor, Makes};
-ghost use Rattle.revdbg.specs.Requested.{IsAskedBy, IsOutOfMemory, IsRefusal, IsRequestOf, IsUnread, OrOutOfMemory, unread_of};
+ghost use Rattle.revdbg.specs.Requested.{IsAskedBy, IsDebugRequest, IsOutOfMemory, IsRefusal, IsRequestOf, IsUnread, OrOutOfMemory, unread_of};
 
 use cdb_arguments::{AskFault, Asked, ask_status, asked};
 use cdb_base::NoMemory;
@@ -18,6 +18,9 @@ use std::io;
 
 /// What is reported where an argument is no text.
 const NOT_UTF8: &str = "an argument is not valid UTF-8\n";
+
+/// What is reported where a journal is to be kept of a session without seats.
+const NO_SEAT: &str = "--journal needs a SEAT\n";
 
 /// Why the arguments could not be read.
 #[derive(Clone, Copy)]
@@ -52,6 +55,25 @@ fn out_of_memory(refused: NoMemory) -> Request<'static>
     ensures turns { HasTurns result }
 {
     Request::Refuse(Fault::Play(PlayFault::NoMemory(refused), ""))
+}
+
+/// The request for sessions of these seats, or for one without seats, which has this prompt and keeps no journal.
+fn debug_of<'a>(
+    setup: &'a str,
+    seats: &'a [&'a str],
+    file: Option<&'a str>,
+    prompt: &'a str,
+) -> Request<'a>
+    ensures request { IsDebugRequest prompt.now setup.now (texts seats.now) (any_text file.entry) result }
+    ensures turns { HasTurns result }
+{
+    if !seats.is_empty() {
+        return Request::DebugShared { setup, seats, file };
+    }
+    match file {
+        Some(_) => Request::Refuse(Fault::Refused(NO_SEAT)),
+        None => Request::Debug { setup, prompt },
+    }
 }
 
 /// The request for what was asked for, where sessions have this prompt.
@@ -113,11 +135,7 @@ fn request_of<'a>(asked: &'a Asked<'a>, prompt: &'a str) -> Request<'a>
         },
         Asked::Clocks { setup, script } => Request::Clocks { setup, script },
         Asked::Page { setup, script } => Request::Page { setup, script },
-        Asked::Debug { setup, seats } if seats.is_empty() => Request::Debug { setup, prompt },
-        Asked::Debug { setup, seats } => Request::DebugShared {
-            setup,
-            seats: seats.as_slice(),
-        },
+        Asked::Debug { setup, seats, file } => debug_of(setup, seats.as_slice(), *file, prompt),
     }
 }
 

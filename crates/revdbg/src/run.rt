@@ -12,9 +12,16 @@ use std::alloc::Global;
 use std::io;
 use std::sync::Wait;
 use std::thread::Threads;
+use std::time::Clock;
 
 /// Performs what arguments with these texts ask for, as `begin` does.
-fn run<R: Threads + Wait + Sync, F: Files + Drop, I: Source + Drop, O: Sink + Drop, E: Sink + Drop>(
+fn run<
+    R: Threads + Wait + Clock + Sync,
+    F: Files + Drop,
+    I: Source + Drop,
+    O: Sink + Drop,
+    E: Sink + Drop,
+>(
     threads: &R,
     alloc: Global,
     prompt: &str,
@@ -36,7 +43,7 @@ fn run<R: Threads + Wait + Sync, F: Files + Drop, I: Source + Drop, O: Sink + Dr
 /// Promise: The request that is performed is what the arguments ask for; help and version are printed, what is wrong is
 /// reported, also an argument that is no text; or memory was out.
 pub fn begin<
-    R: Threads + Wait + Sync,
+    R: Threads + Wait + Clock + Sync,
     F: Files + Drop,
     I: Source + Drop,
     O: Sink + Drop,

@@ -10,7 +10,7 @@ use cdb_program::Files;
 use cdb_session::Streams;
 use cdb_shared_session::{Endpoint, Opener};
 use cdb_streams::{Input, Output, ReadFault, read_up_to};
-use std::alloc::Global;
+use std::alloc::{AllocError, Global};
 use std::fs::{File, Metadata};
 use std::io::{ErrorKind, IsTerminal};
 use std::{fs, io};
@@ -26,12 +26,30 @@ type SeatConsole = Streams<Input<File>, Output<File>>;
 pub struct SystemFiles<'a> {
     rt: &'a HostRuntime,
     failures: u64,
+    /// The names of the seats that were found.
+    seats: Vec<String>,
 }
 
 impl<'a> SystemFiles<'a> {
     /// The files of the system, of which none was read.
     pub fn new(rt: &'a HostRuntime) -> Self {
-        SystemFiles { rt, failures: 0 }
+        SystemFiles {
+            rt,
+            failures: 0,
+            seats: Vec::new(rt.alloc()),
+        }
+    }
+
+    /// Whether a seat that was found reads from or writes to the file of this name.
+    fn is_of_seat(&self, name: &str) -> bool {
+        for seat in &self.seats {
+            if let Some((input, output)) = pair_of(seat.as_str()) {
+                if input == name || output == name {
+                    return true;
+                }
+            }
+        }
+        false
     }
 }
 
@@ -112,6 +130,8 @@ impl Opener for SystemSeat {
 impl<'a> Files for SystemFiles<'a> {
     type Seat = SystemSeat;
 
+    type Made = Output<File>;
+
     ghost use Rattle.std.specs.Prelude.{[], None};
 
     ghost seen = { λ files. record {
@@ -138,8 +158,28 @@ impl<'a> Files for SystemFiles<'a> {
             return Err(ReadFault::Failed);
         }
         let rt = *self.rt;
+        let found = String::from_str(alloc, name)?;
         let name = String::from_str(alloc, name)?;
+        self.seats.push(found).map_err(AllocError::from)?;
         Ok(SystemSeat { rt, name })
+    }
+
+    fn make_file(&mut self, _alloc: Global, name: &str) -> Result<Output<File>, ReadFault> {
+        let made = if self.is_of_seat(name) {
+            Err(io::Error::from(ErrorKind::AlreadyExists))
+        } else {
+            empty_file(self.rt, name)
+        };
+        match made {
+            Ok(file) => Ok(Output::new(file)),
+            Err(error) => {
+                let fault = fault_of(&error);
+                if fault == ReadFault::Failed {
+                    self.failures = self.failures.wrapping_add(1);
+                }
+                Err(fault)
+            }
+        }
     }
 
     fn show_progress(&self, done: u32, all: u32) {

@@ -7,6 +7,7 @@ use std::process::Abort;
 use std::sync::Wait;
 use std::test::Fail;
 use std::thread::Threads;
+use std::time::Clock;
 
 const PLAY: Request<'static> = Request::Play {
     setup: "one.json",
@@ -81,7 +82,7 @@ fn check<R: Abort>(rt: &R, ended: &Ended, status: u8, error: &str) {
 }
 
 /// Performs a request of which the write behind this many good ones fails, after which this many bytes are written.
-fn check_write<R: Threads + Wait + Sync + Abort + AllocGlobal>(
+fn check_write<R: Threads + Wait + Clock + Sync + Abort + AllocGlobal>(
     rt: &R,
     request: Request<'_>,
     whole: &[u8],
@@ -136,7 +137,7 @@ fn each_write_of_a_session_fails_in_turn(rt: HostRuntime) {
 }
 
 /// Performs a request with this many good writes of the error, which are all of them or not.
-fn check_error<R: Threads + Wait + Sync + Abort + AllocGlobal>(
+fn check_error<R: Threads + Wait + Clock + Sync + Abort + AllocGlobal>(
     rt: &R,
     request: Request<'_>,
     whole: &Ended,
@@ -233,7 +234,7 @@ const UNREAD: &[(Request<'static>, &'static [&'static str])] = &[
 ];
 
 /// Performs a request of which the file behind this many good ones can't be read.
-fn check_file<R: Threads + Wait + Sync + Abort + AllocGlobal>(
+fn check_file<R: Threads + Wait + Clock + Sync + Abort + AllocGlobal>(
     rt: &R,
     request: Request<'_>,
     good: usize,
@@ -264,7 +265,7 @@ fn each_file_can_not_be_read_in_turn(rt: HostRuntime) {
 }
 
 /// Performs a request of which the read of standard input behind this many good ones fails; four are all.
-fn check_input<R: Threads + Wait + Sync + Abort + AllocGlobal>(
+fn check_input<R: Threads + Wait + Clock + Sync + Abort + AllocGlobal>(
     rt: &R,
     request: Request<'_>,
     good: usize,
@@ -316,6 +317,7 @@ fn the_kth_session_is_that_of_the_kth_name_and_one_that_cannot_be_opened_ends_al
     let shared = Request::DebugShared {
         setup: "two.json",
         seats: &["decisions.txt", "redo.txt", "shut", "decisions.txt"],
+        file: Some("kept.txt"),
     };
     let ended = performed(&rt, shared, ALL_GOOD);
     let journal = str::from_utf8(ended.output.as_slice())?;

@@ -1,6 +1,6 @@
 //! Files in memory.
 
-use super::streams::Arrival;
+use super::streams::{Arrival, Writer};
 use cdb_program::Files;
 use cdb_streams::ReadFault;
 use std::alloc::{AllocError, Global};
@@ -61,6 +61,8 @@ fn content_of(name: &str) -> Option<&'static [u8]> {
 impl Files for Folder {
     type Seat = Arrival;
 
+    type Made = Writer;
+
     ghost use Rattle.std.specs.Prelude.{[], Some};
     ghost use Rattle.cdb_play.specs.Races.{bytes_of};
 
@@ -98,6 +100,17 @@ impl Files for Folder {
         }
         let lines = if content.is_none() { None } else { Some(lines) };
         Ok(Arrival { lines })
+    }
+
+    /// No file has this name yet; none is made where one has.
+    fn make_file(&mut self, alloc: Global, name: &str) -> Result<Writer, ReadFault> {
+        let copy = Vec::from_slice(alloc, name.as_bytes())?;
+        self.opened.push(copy).map_err(AllocError::from)?;
+        if content_of(name).is_some() {
+            self.failures = self.failures.wrapping_add(1);
+            return Err(ReadFault::Failed);
+        }
+        Ok(Writer::new(alloc, usize::MAX))
     }
 
     fn show_progress(&self, _done: u32, _all: u32) {}

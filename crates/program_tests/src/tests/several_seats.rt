@@ -5,12 +5,15 @@ use cdb_any_run::AnyRun;
 use cdb_control::{Control, Entry};
 use cdb_journal::journal_text;
 use cdb_setup::Setup;
-use cdb_shared_session::{Endpoint, Finished, Opener, debug_seats, status_after, write_failures};
-use cdb_streams::{Output, PlayFault, ReadFault};
+use cdb_shared_session::{
+    Endpoint, Finished, Kept, Opener, debug_seats, status_after, write_failures,
+};
+use cdb_streams::{Output, OutputFault, PlayFault, ReadFault};
 use std::alloc::{AllocError, Global};
 use std::process::Abort;
 use std::sync::Wait;
 use std::thread::Threads;
+use std::time::Clock;
 
 const THREE: &[u8] =
     b"{\"algorithm\":\"leader\",\"processes\":3,\"quorum\":2,\"inputs\":[5,6,7],\"oracle\":[[1],[1],[1]]}";
@@ -88,29 +91,39 @@ fn check_journal<R: Abort + AllocGlobal>(rt: &R, journal: &[Entry]) {
 fn check_report<R: Abort + AllocGlobal>(rt: &R, seats: &[Finished<Person>]) {
     assert!(rt; seats.len() == 4);
     let mut error = Output::new(Vec::new(rt.alloc()));
-    let written = write_failures(seats, &Ok(()), &mut error);
+    let written = write_failures(seats, &Ok(()), &Err(OutputFault::Write), &mut error);
     assert_eq!(rt; written, Ok(()));
     let text =
-        "seat 1: output failed\nseat 3: cannot read the input\nseat 4: cannot read the input\n";
+        "seat 1: output failed\nseat 3: cannot read the input\nseat 4: cannot read the input\njournal: output failed\n";
     assert!(rt; error.into_inner().as_slice() == text.as_bytes());
-    assert_eq!(rt; status_after(seats, &Ok(())), 7);
+    assert_eq!(rt; status_after(seats, &Ok(()), &Ok(())), 7);
 }
 
 /// Sessions of one run with these, of whom there are four.
-fn hold<R: Threads + Wait + Sync + Abort + AllocGlobal>(
+fn hold<R: Threads + Wait + Clock + Sync + Abort + AllocGlobal>(
     rt: &R,
     places: Vec<Place>,
-) -> (Control<AnyRun>, Vec<Finished<Person>>) {
+) -> (
+    Control<AnyRun>,
+    Vec<Finished<Person>>,
+    Kept<Output<Vec<u8>>>,
+) {
     assert!(rt; places.len() == 4);
     let setup = Setup::read(rt.alloc(), THREE).expect(rt, "a setup");
-    debug_seats::<AnyRun, _, _>(rt, rt.alloc(), setup, places).expect(rt, "sessions")
+    let file = Some(Output::new(Vec::new(rt.alloc())));
+    let ended = debug_seats::<AnyRun, _, _, _>(rt, rt.alloc(), setup, places, file);
+    let (control, finished, kept) = ended.expect(rt, "sessions");
+    (control, finished, kept.expect(rt, "a journal"))
 }
 
 #[test]
 fn a_seat_that_fails_ends_alone(rt: HostRuntime) {
     let places = four_seats(rt.alloc()).expect(&rt, "seats");
-    let (control, finished) = hold(&rt, places);
+    let (control, finished, kept) = hold(&rt, places);
     check_journal(&rt, control.journal());
+    let text = journal_text(rt.alloc(), control.journal()).expect(&rt, "a text");
+    assert_eq!(&rt; kept.outcome, Ok(()));
+    assert!(&rt; kept.file.into_inner().as_slice() == text.as_slice());
     control.close();
     check_ends(&rt, finished.as_slice());
     check_report(&rt, finished.as_slice());

@@ -3,6 +3,9 @@ use Rattle.std.proofs.lemmas.List.{length-map}
 use Rattle.std.proofs.lemmas.Result.{err_from_is_err_and}
 use Rattle.cdb_agreement.specs.Algorithms.{rules}
 use Rattle.cdb_program.specs.Reading.{file_names}
+use Rattle.cdb_program.specs.Requests.{any_file}
+use Rattle.cdb_program.specs.Seating.{any_name}
+use Rattle.std.specs.Prelude.{◌++◌, option_map}
 use Rattle.cdb_program.proofs.Opening.{fails_before, opened_then}
 use Rattle.cdb_program.proofs.Seated.{as_fault, fails_later, holds_seen, seats_known}
 use Rattle.cdb_program.proofs.seats.hold_seats.Goals as goal
@@ -10,13 +13,25 @@ use Rattle.cdb_program.proofs.seats.hold_seats.Goals as goal
 pub returns-in_err-json-clause-fault : goal.returns-in_err-json-clause-fault
 returns-in_err-json-clause-fault g c =
     let p = err_from_is_err_and c.from_residual.result c.from_residual.ensures.1 in
-    rw (p.1, p.2, ← c.outside.view_is) (as_fault _ _ _ _ c.in_err-json.field-0.0 (fails_before _ _ (c.args.setup.now ∷ []) (file_names c.args.seats.now) c.in_err-json.field-0.0 c.in_err-json.ensures))
+    let names = file_names c.args.seats.now in
+    let file = any_file c.args.file in
+    rw (p.1, p.2, ← c.outside.view_is) (as_fault _ names file _ _ c.in_err-json.field-0.0 (fails_before _ _ (c.args.setup.now ∷ []) (names ++ any_name file) c.in_err-json.field-0.0 c.in_err-json.ensures))
 
 pub returns-in_err-openers-clause-fault : goal.returns-in_err-openers-clause-fault
 returns-in_err-openers-clause-fault g c =
     let p = err_from_is_err_and c.from_residual-in_err-openers.result c.from_residual-in_err-openers.ensures.1 in
-    rw (p.1, p.2, ← c.outside.view_is)
-    (as_fault _ _ _ _ c.in_err-openers.field-0.0 (fails_later _ _ _ (c.args.setup.now ∷ []) (file_names c.args.seats.now) c.in_err-openers.field-0.0 c.in_ok-json.ensures.0 c.in_err-openers.ensures.fault))
+    let names = file_names c.args.seats.now in
+    let file = any_file c.args.file in
+    let fails = fails_later _ _ _ (c.args.setup.now ∷ []) names c.in_err-openers.field-0.0 c.in_ok-json.ensures.0 c.in_err-openers.ensures.fault in
+    rw (p.1, p.2, ← c.outside.view_is) (as_fault _ names file _ _ c.in_err-openers.field-0.0 (fails_before _ _ (c.args.setup.now ∷ names) (any_name file) c.in_err-openers.field-0.0 fails))
+
+pub returns-in_err-file-clause-fault : goal.returns-in_err-file-clause-fault
+returns-in_err-file-clause-fault g c =
+    let p = err_from_is_err_and c.from_residual-in_err-file.result c.from_residual-in_err-file.ensures.1 in
+    let names = file_names c.args.seats.now in
+    let file = any_file c.args.file in
+    let opened = opened_then _ _ _ (c.args.setup.now ∷ []) names c.in_ok-json.ensures.0 c.in_ok-openers.ensures.opened in
+    rw (p.1, p.2, ← c.outside.view_is) (as_fault _ names file _ _ c.in_err-file.field-0.0 (fails_later _ _ _ (c.args.setup.now ∷ names) (any_name file) c.in_err-file.field-0.0 opened c.in_err-file.ensures.fault))
 
 pub returns-in-Ok-clause-sessions : goal.returns-in-Ok-clause-sessions
 returns-in-Ok-clause-sessions g c =
@@ -24,18 +39,25 @@ returns-in-Ok-clause-sessions g c =
     let openers = c.in_ok-openers.openers.items in
     let names = file_names c.args.seats.now in
     let seats = seats_known opens _ _ (c.args.setup.now ∷ []) names openers c.in_ok-json.ensures.0 c.in_ok-openers.ensures.seats in
+    let opened = opened_then _ _ _ (c.args.setup.now ∷ []) names c.in_ok-json.ensures.0 c.in_ok-openers.ensures.opened in
     rw (← c.outside.view_is) (
       c.in_ok-json.json.items,
-      (opened_then _ _ _ (c.args.setup.now ∷ []) names c.in_ok-json.ensures.0 c.in_ok-openers.ensures.opened, c.in_ok-json.ensures.1.0),
-      rw (← c.as_slice.ensures.value) (holds_seen rules g.F.Seat.Seat.Console.known opens g.O.Sink.stream g.E.Sink.stream (g.F.Files.seen c.outside.inside.files) names _ openers _ _ _ _ _ seats c.in-Ok.ensures.sessions),
+      (opened_then _ _ _ (c.args.setup.now ∷ names) (any_name (any_file c.args.file)) opened c.in_ok-file.ensures.opened, c.in_ok-json.ensures.1.0),
+      (
+        option_map g.F.Made.Sink.stream c.in_ok-file.file,
+        c.in_ok-file.ensures.file,
+        rw (← c.as_slice.ensures.value)
+            (holds_seen rules g.F.Seat.Seat.Console.known opens g.F.Made.Sink.stream g.O.Sink.stream g.E.Sink.stream (g.F.Files.seen c.outside.inside.files) names _ openers _ _ _ _ _ _ seats c.in-Ok.ensures.sessions),
+      ),
     )
 
 pub returns-clause-fault : goal.returns-clause-fault
 returns-clause-fault g c =
     let names = file_names c.args.seats.now in
+    let opened = opened_then _ _ _ (c.args.setup.now ∷ []) names c.in_ok-json.ensures.0 c.in_ok-openers.ensures.opened in
     rw (← c.outside.view_is) (
       c.in_ok-json.json.items,
-      (opened_then _ _ _ (c.args.setup.now ∷ []) names c.in_ok-json.ensures.0 c.in_ok-openers.ensures.opened, c.in_ok-json.ensures.1.0),
+      (opened_then _ _ _ (c.args.setup.now ∷ names) (any_name (any_file c.args.file)) opened c.in_ok-file.ensures.opened, c.in_ok-json.ensures.1.0),
       rw (← c.as_slice.ensures.value) c.in-Err.ensures.fault,
     )
 

@@ -5,6 +5,7 @@ use Rattle.cdb_streams.specs.Streams.{Writes}
 use Rattle.cdb_streams.specs.Written.{IsWritten, Only}
 use Rattle.cdb_journal.specs.Journals.{journal_text}
 use Rattle.cdb_shared_session.specs.Reported.{IsFaultOfSessions}
+use Rattle.cdb_shared_session.specs.Keeping.{kept_outcome}
 use Rattle.cdb_shared_session.specs.Reports.{outcomes, failures_text, status_of}
 use Rattle.cdb_shared_session.specs.declared.endpoint.Finished.{Finished}
 use Rattle.cdb_shared_session.proofs.SetupFaults.{setup_failed, threads_failed}
@@ -13,11 +14,11 @@ use Rattle.cdb_shared_session.proofs.shared.debug_shared.Goals as goal
 pub returns-in-Err-clause-fault : goal.returns-in-Err-clause-fault
 returns-in-Err-clause-fault g c = subst (IsFaultOfSessions c.args.setup.now) (sym c.from.ensures) (setup_failed c.args.setup.now c.in-Err.fault c.in-Err.ensures.fault (λ long. cc (c.in-Err.ensures.too_long long)))
 
-pub returns-in-Err-debug_seats-clause-fault : goal.returns-in-Err-debug_seats-clause-fault
-returns-in-Err-debug_seats-clause-fault g c = subst (IsFaultOfSessions c.args.setup.now) (sym c.of_sessions.ensures) (threads_failed c.args.setup.now c.in-Ok.setup _ c.in-Ok.ensures.found)
+pub returns-in-Err-ended-clause-fault : goal.returns-in-Err-ended-clause-fault
+returns-in-Err-ended-clause-fault g c = subst (IsFaultOfSessions c.args.setup.now) (sym c.of_sessions.ensures) (threads_failed c.args.setup.now c.in-Ok.setup _ c.in-Ok.ensures.found)
 
 pub write_failures-requires : goal.write_failures-requires
-write_failures-requires g c = omega (arith, c.requires.fits, ap length c.as_slice.ensures.value, c.in-Ok-debug_seats.ensures.sessions.many, c.args.openers.ok.0)
+write_failures-requires g c = omega (arith, c.requires.fits, ap length c.as_slice.ensures.value, c.in-Ok-ended.ensures.sessions.many, c.args.openers.ok.0)
 
 pub returns-clause-sessions : goal.returns-clause-sessions
 returns-clause-sessions g c =
@@ -25,13 +26,15 @@ returns-clause-sessions g c =
     record {
       setup = c.in-Ok.setup;
       encodes = c.in-Ok.ensures.found;
-      control = c.in-Ok-debug_seats.sessions.0;
-      finished = c.in-Ok-debug_seats.sessions.1.items;
-      sessions = c.in-Ok-debug_seats.ensures.sessions;
-      writable = c.in-Ok-debug_seats.ensures.writable;
+      control = c.in-Ok-ended.sessions.0;
+      finished = c.in-Ok-ended.sessions.1.items;
+      sessions = c.in-Ok-ended.ensures.sessions;
+      writable = c.in-Ok-ended.ensures.writable;
+      kept = c.in-Ok-ended.sessions.2;
+      keeps = c.in-Ok-ended.ensures.kept;
       written = written;
       journal = subst (λ (es : List Entry). IsWritten g.O.Sink.stream (whole_ending written) c.args.output.now c.write_journal-written.new.out (Only (journal_text es))) c.journal.ensures.entries c.write_journal-written.ensures;
       reported = c.write_failures.result;
-      lines = subst (λ (l : List (Finished g.row.P-Seat.Denot)). Writes g.E.Sink.stream c.write_failures.result c.args.error.now c.write_failures.new.out (failures_text written (outcomes l))) c.as_slice.ensures.value c.write_failures.ensures;
-      status_is = c.status_after.ensures ∙ ap (λ (l : List (Finished g.row.P-Seat.Denot)). status_of written (outcomes l)) c.as_slice-2.ensures.value;
+      lines = subst (λ (l : List (Finished g.row.P-Seat.Denot)). Writes g.E.Sink.stream c.write_failures.result c.args.error.now c.write_failures.new.out (failures_text written (kept_outcome c.in-Ok-ended.sessions.2) (outcomes l))) c.as_slice.ensures.value (rw (← c.outcome_of-kept.ensures) c.write_failures.ensures);
+      status_is = rw (← c.outcome_of-kept.ensures) c.status_after.ensures ∙ ap (λ (l : List (Finished g.row.P-Seat.Denot)). status_of written (kept_outcome c.in-Ok-ended.sessions.2) (outcomes l)) c.as_slice-2.ensures.value;
     }

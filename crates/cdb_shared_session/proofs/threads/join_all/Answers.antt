@@ -1,6 +1,6 @@
 use Rattle.std.proofs.Common.{◌≡◌, ℕ, ◌-◌, get_or, vec_len, length, subst, arith}
 use Rattle.cdb_shared_session.specs.Promises.{IsSeatPromise}
-use Rattle.cdb_shared_session.proofs.Kept.{kept, some_of}
+use Rattle.cdb_shared_session.proofs.Promised.{kept, some_of}
 use Rattle.cdb_shared_session.proofs.threads.join_all.Goals as goal
 
 pub returns : goal.returns
@@ -8,10 +8,12 @@ returns g c =
     let before = c.args.seats in
     let openers = c.args.openers in
     let handles = c.in_ok-handles.handles in
-    let seats = c.join_each.result.0 in
-    let joined = c.join_each.ensures in
+    let seats = c.join_each-seats.result.0 in
+    let joined = c.join_each-seats.ensures in
     let started = c.in_ok-handles.ensures in
     record {
+      later = c.keep-keeping.ensures.later;
+      kept = c.keep-keeping.ensures.kept;
       count = (omega (arith, joined.count.0, started.count), omega (arith, joined.count.1, started.count));
       each = λ k seat its low first opener.
           let j = length handles.items - 1 - k in
