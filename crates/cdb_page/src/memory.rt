@@ -11,22 +11,34 @@ use cdb_base::NoMemory;
 use cdb_draw::{COLUMNS, draw_run};
 use cdb_rules::Trace;
 use cdb_streams::{Failed, OutputFault, Sink};
-use std::alloc::{AllocError, Global};
+use std::alloc::Global;
+use std::marker::Model;
 
-/// A writer over memory. A call fails where memory runs out.
+/// A writer over memory. A call fails where memory is out, and why is kept. A contract sees the bytes and how many calls failed.
 #[derive(Drop)]
 struct Memory {
     held: Vec<u8>,
     failures: u64,
+    refused: Option<NoMemory>,
+}
+
+impl Model for Memory {
+    ghost use Rattle.std.specs.Prelude.{◌≡◌, ◌⊎◌, Some, IsSome};
+    ghost use Rattle.cdb_streams.specs.Streams.{Stream};
+
+    ghost Value = { Stream };
+
+    ghost view = { λ memory. record { bytes = Some memory.held.items; failures = memory.failures } };
+
+    ghost invariant = { λ memory. (memory.failures ≡ 0) ⊎ IsSome memory.refused };
 }
 
 impl Sink for Memory {
-    ghost use Rattle.std.specs.Prelude.{Some};
-
-    ghost stream = { λ memory. record { bytes = Some memory.held.items; failures = memory.failures } };
+    ghost stream = { λ memory. memory };
 
     fn write(&mut self, piece: &[u8]) -> Result<usize, Failed> {
-        if self.held.extend_from_slice(piece).is_err() {
+        if let Err(error) = self.held.extend_from_slice(piece) {
+            self.refused = Some(NoMemory::from(error));
             self.failures = self.failures.wrapping_add(1);
             return Err(Failed);
         }
@@ -43,10 +55,14 @@ pub(crate) fn picture_of(alloc: Global, run: &Trace) -> Result<Vec<u8>, NoMemory
     let mut memory = Memory {
         held: Vec::new(alloc),
         failures: 0,
+        refused: None,
     };
     match draw_run(alloc, run, COLUMNS, None, &mut memory) {
         Ok(()) => Ok(memory.held),
         Err(OutputFault::NoMemory(refused)) => Err(refused),
-        Err(OutputFault::Write) => Err(NoMemory::from(AllocError)),
+        Err(OutputFault::Write) => match memory.refused {
+            Some(refused) => Err(refused),
+            None => unreachable!(),
+        },
     }
 }
