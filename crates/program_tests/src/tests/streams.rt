@@ -1,5 +1,7 @@
 //! A reader and a writer over memory, which move few bytes a call, and fail once their good calls are over.
 
+ghost use Rattle.std.specs.Prelude.{◌≡◌, []};
+
 use cdb_session::Console;
 use cdb_shared_session::{Endpoint, Opener};
 use cdb_streams::{Failed, ReadFault, Sink, Source};
@@ -116,7 +118,9 @@ pub struct Writer {
 
 impl Writer {
     /// It holds nothing, and this many calls go well.
-    pub fn new(alloc: Global, good_calls: usize) -> Self {
+    pub fn new(alloc: Global, good_calls: usize) -> Self
+        ensures { result.held.items ≡ [] }
+    {
         Writer {
             held: Vec::new(alloc),
             good_calls,
