@@ -59,6 +59,8 @@ pub record KeepHistories (rules : Rules) (SameState : List Event → List Event 
   pub exchanged : (history other : List Event) → IsExchanged depends history other → IsTrue (rules.valid history)
       → IsTrue (rules.valid other)
   pub same_state : (history other : List Event) → IsExchanged depends history other → SameState other history
+  -- histories that reach one state are equal up to exchange
+  pub exchanges : (history other : List Event) → IsTrue (rules.valid history) → SameState history other → IsExchanged depends history other
   -- each event of a valid history is the one of its name, and no event depends on a loss
   pub named : (history : List Event) → IsTrue (rules.valid history) → (at : ℕ) (event : Event) → nth history at ≡ Some event
       → IsEventNamed setup.processes history (event_name event) at event
