@@ -1,9 +1,10 @@
 -- The rules of every run keep valid histories, the state that they reach, and agreement.
-use Rattle.std.proofs.Common.{◌≡◌, ◌↔◌, ℕ, arith, List, [], ◌∷◌, ◌++◌, length, Result, Ok, IfOk, IsSome}
-use Rattle.std.proofs.Common.{IsTrue, is_ok, refl, sym, ap, ◌∙◌, subst}
+use Rattle.std.proofs.Common.{◌≡◌, ◌↔◌, ℕ, arith, List, [], ◌∷◌, ◌++◌, length, Option, Result, Ok, IfOk, IsSome}
+use Rattle.std.proofs.Common.{IsTrue, is_ok, option_map, unwrap_or, refl, sym, ap, ◌∙◌, subst}
 use Rattle.cdb_alpha.specs.Machine.{alpha_table}
 use Rattle.cdb_alpha.specs.TableLaws as alpha_laws
 use Rattle.cdb_base.specs.Event.{event_name}
+use Rattle.cdb_base.specs.Positions.{nth}
 use Rattle.cdb_base.specs.declared.act.Act.{Act}
 use Rattle.cdb_base.specs.declared.event.Event.{Event}
 use Rattle.cdb_base.specs.declared.event.Event.TheVariants.{Step, Lost}
@@ -15,12 +16,14 @@ use Rattle.cdb_causal.specs.Standing.{IsStanding}
 use Rattle.cdb_process.specs.Table.{Table}
 use Rattle.cdb_rules.specs.Agreement.{AllAgree, AreProposed, HasMajorityIfNeeded}
 use Rattle.cdb_agreement.specs.Algorithms.{leader_machine, alpha_machine, rules, rules_by}
-use Rattle.cdb_rules.specs.Lawful.{KeepHistories, taken_by}
+use Rattle.cdb_rules.specs.Lawful.{KeepHistories, ShowTheSame, taken_by}
 use Rattle.cdb_rules.specs.Machines.{machine_of}
+use Rattle.cdb_rules.specs.Mail.{mail_of}
 use Rattle.cdb_rules.specs.Refusals.{step_result, again_result, IsOfRun}
-use Rattle.cdb_rules.specs.Rules.{rules_of}
+use Rattle.cdb_rules.specs.Decisions.{decisions_of}
+use Rattle.cdb_rules.specs.Rules.{rules_of, shown_of}
 use Rattle.cdb_agreement.specs.SameState.{ReachSameState, ReachSameStateBy}
-use Rattle.cdb_rules.specs.State.{Machine}
+use Rattle.cdb_rules.specs.State.{Machine, RunState, start}
 use Rattle.cdb_rules.specs.Step.{fold, state_of, IsValid, IsEnabled}
 use Rattle.cdb_rules.specs.Undo.{IsEventNamed}
 use Rattle.cdb_rules.proofs.Acts.{step_by_act}
@@ -95,6 +98,16 @@ module _ {L : Type 0} (table : Table L) (setup : Parts) (range : AreInRange setu
   again_enabled history event of_run h =
       (again_exact machine lawful setup number refl _ event of_run _ refl).0 (ap is_ok h)
 
+  -- what is shown is of the state that a history reaches
+  shown_alike : (history other : List Event) → fold machine history ≡ fold machine other → ShowTheSame (rules_of table setup) history other
+  shown_alike history other same =
+      let state : state_of machine history ≡ state_of machine other = ap (λ (to : Option (RunState L)). unwrap_or to (start machine)) same in (
+        λ p. ap (λ (s : RunState L). option_map (shown_of table) (nth s.processes p)) state,
+        ap (λ (s : RunState L). mail_of s) state,
+        ap (λ (s : RunState L). s.registers) state,
+        ap (λ (s : RunState L). decisions_of table.decision s) state,
+      )
+
   rules_keep : (SameState : List Event → List Event → Type 0)
       → ((history other : List Event) → fold machine history ≡ fold machine other ↔ SameState history other)
       → (HasMajorityIfNeeded setup → (history : List Event) → IsTrue ((rules_of table setup).valid history)
@@ -117,6 +130,7 @@ module _ {L : Type 0} (table : Table L) (setup : Parts) (range : AreInRange setu
         exchanges = λ history other valid reach.
             let to = some_of _ valid in
             same_state_exchanged machine history other to.0 to.1 (sym ((same history other).1 reach) ∙ to.1);
+        shown = λ history other reach. shown_alike history other ((same history other).1 reach);
         named = λ history valid i event at. subst (λ (n : ℕ). IsEventNamed n history (event_name event) i event) number
             (valid_named machine history valid i event at);
         losses_free = λ history valid i copy at. loss_free machine history valid i copy at;
