@@ -177,7 +177,7 @@ fn a_decision_undone_and_taken_again_is_the_same_run(rt: HostRuntime) {
     let event = again.undo(EventRef::Step(1, 8)).expect(&rt, "an undo");
     assert!(&rt; !are_same(&rt, &again, &decided));
     let taken = again.again(&rt, &event).expect(&rt, "memory");
-    assert_eq!(&rt; taken, Ok(event));
+    assert!(&rt; taken == Ok(event));
     assert!(&rt; are_same(&rt, &again, &decided));
     again.end();
     decided.end();

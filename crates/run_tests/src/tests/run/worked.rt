@@ -4,6 +4,7 @@
 use super::session::{Session, text_of};
 use cdb_control::Reply;
 use cdb_streams::{Input, read_up_to};
+use std::alloc::Global;
 use std::fs::File;
 use std::process::Abort;
 use std::str;
@@ -11,7 +12,7 @@ use std::str;
 /// Where the example stands: its setup on the first line, and then its commands.
 const FILE: &str = "worked.txt";
 
-/// The example where no such file is.
+/// The example where there is no such file.
 const DEFAULT: &str =
     r#"{"algorithm":"leader","processes":1,"quorum":1,"inputs":[7],"oracle":[[1]]}
 auto 1
@@ -57,17 +58,21 @@ fn read_once(rt: &HostRuntime) -> Option<Vec<u8>> {
     read_up_to(rt.alloc(), &mut Input::new(file), 1_000_000).ok()
 }
 
-/// The example, at the second try where an allocation failed.
-fn read(rt: &HostRuntime) -> Vec<u8> {
-    if let Some(text) = read_once(rt) {
-        return text;
+/// The example where there is no such file.
+fn default_once(alloc: Global) -> Option<Vec<u8>> {
+    Vec::from_slice(alloc, DEFAULT.as_bytes()).ok()
+}
+
+/// The example, each part at the second try where an allocation failed.
+fn read(rt: &HostRuntime) -> Option<Vec<u8>> {
+    for _ in 0..2 {
+        if let Some(text) = read_once(rt) {
+            return Some(text);
+        }
     }
-    if let Some(text) = read_once(rt) {
-        return text;
-    }
-    match Vec::from_slice(rt.alloc(), DEFAULT.as_bytes()) {
-        Ok(text) => text,
-        Err(_) => Vec::from_slice(rt.alloc(), DEFAULT.as_bytes()).expect(rt, "room"),
+    match default_once(rt.alloc()) {
+        Some(text) => Some(text),
+        None => default_once(rt.alloc()),
     }
 }
 
@@ -119,7 +124,7 @@ fn check<R: Abort + AllocGlobal>(rt: &R, setup: &str, script: &str) {
 
 #[test]
 fn a_worked_example_without_memory(rt: HostRuntime) {
-    let text = read(&rt);
+    let text = read(&rt).expect(&rt, "an example");
     let text = str::from_utf8(text.as_slice()).ok().expect(&rt, "a text");
     let (setup, script) = text.split_once('\n').expect(&rt, "a setup");
     check(&rt, setup, script);
