@@ -41,7 +41,7 @@ module _ (style : StyleView) where
       last_fails (output.NoMemory refused) a moves at over = (
         a.0,
         a.1,
-        subst (λ made. HasEndedAs style (ended_by (output.NoMemory no_memory)) made new) (sym (ap (λ more. moves ++ more) a.2.none ∙ append-nil moves)) (last_loses style moves session unfinished at over some new a.0 a.2),
+        subst (λ made. HasEndedAs style (ended_by (output.NoMemory no_memory)) made new) (sym (ap (λ more. moves ++ more) a.2.none ∙ append-nil moves)) (last_loses style moves session unfinished at over some new a.2.lost),
       )
 
   -- ---- the first
