@@ -6,6 +6,7 @@ pub mod SeatLines
 pub mod FullWords
 pub mod Names
 pub mod TypedWords
+pub mod ExactLines
 pub mod AskedLines
 pub mod OneRequest
 pub mod Emptiness

@@ -11,7 +11,7 @@ use Rattle.cdb_streams.specs.declared.buffer.OutputFault.TheVariants as output
 use Rattle.cdb_streams.specs.declared.fault.PlayFault.{PlayFault}
 use Rattle.cdb_streams.specs.declared.fault.PlayFault.TheVariants as fault
 use Rattle.cdb_setup.specs.Format.{longest}
-use Rattle.cdb_session.specs.Unfinished.{IsOver, with_ends, unfinished_of, part_with, RespondsOnTime, ended_well, ended_by}
+use Rattle.cdb_session.specs.Unfinished.{IsOver, with_ends, unfinished_of, part_with, ended_well, ended_by}
 use Rattle.cdb_session.specs.Requests.{HasNoEnd, Asks, AreAsked, HaveQuit, IsQuit, ended_lines, up_to_quit}
 use Rattle.cdb_session.specs.Moves.{Move, Read, ReadFailed, read_in, written_in, AsksForInput, AreWrites, FailsToWrite, EndsWith}
 use Rattle.cdb_session.specs.Sessions.{most_input, HasEnded, IsOpen, HasResponded, RespondsInTime, by_quit, at_end, at_most}

@@ -10,7 +10,7 @@ use Rattle.cdb_session.specs.Unfinished.{IsOver, ended_well, ended_by}
 use Rattle.cdb_session.specs.Moves.{WritesAll, Known, Move, Read, ReadFailed, read_in, Makes}
 use Rattle.cdb_session.specs.Sessions.{most_input, IsOpen}
 use Rattle.cdb_session.proofs.MovesInOrder.{Makes-nothing, Makes-more, read-append, nothing_read}
-use Rattle.cdb_session.specs.Styles.{StyleView, Part}
+use Rattle.cdb_session.specs.Styles.{StyleView}
 use Rattle.cdb_session.specs.Replies.{Along, begun_along}
 use Rattle.cdb_session.specs.Unfinished.{IsAt, StaysAt, RespondsToLine, HasEndedAs, Feeds, RespondsToLast, RespondsToAll}
 use Rattle.cdb_session.specs.Lines.{SessionView, at_line}

@@ -1,5 +1,5 @@
 -- The table of a session with nine seats: the response to each line, by the control that the lines before have led to.
-use Rattle.std.specs.Prelude.{◌≡◌, ℕ, ◌+◌, ◌==◌, true, List, [], ◌++◌, length, fold, codes, if◌then◌else◌}
+use Rattle.std.specs.Prelude.{ℕ, ◌+◌, ◌==◌, true, List, [], ◌++◌, length, fold, codes, if◌then◌else◌}
 use Rattle.cdb_base.specs.Limits.{MAX_ENTRIES}
 use Rattle.cdb_control.specs.Journal.{Journaled, opened, extended, reply_in}
 use Rattle.cdb_rules.specs.Rules.{Rules}

@@ -11,8 +11,22 @@ use std::alloc::{AllocError, Global};
 
 /// The words that may begin a line.
 const FIRST: [&[u8]; 16] = [
-    b"step", b"auto", b"lose", b"undo", b"redo", b"forget", b"rollback", b"why", b"break", b"unbreak", b"resume",
-    b"show", b"decisions", b"help", b"quit", b"seat",
+    b"step",
+    b"auto",
+    b"lose",
+    b"undo",
+    b"redo",
+    b"forget",
+    b"rollback",
+    b"why",
+    b"break",
+    b"unbreak",
+    b"resume",
+    b"show",
+    b"decisions",
+    b"help",
+    b"quit",
+    b"seat",
 ];
 
 /// Whether a byte stands between words.
@@ -89,7 +103,10 @@ fn second_words(first: &[u8]) -> &'static [&'static [u8]]
         &STOPS
     } else if first == b"show".as_slice() {
         &VIEWS
-    } else if first == b"undo".as_slice() || first == b"rollback".as_slice() || first == b"why".as_slice() {
+    } else if first == b"undo".as_slice()
+        || first == b"rollback".as_slice()
+        || first == b"why".as_slice()
+    {
         &LOST
     } else {
         &[]
@@ -116,7 +133,10 @@ fn full<'a>(options: &[&'a [u8]], word: &'a [u8]) -> &'a [u8]
         None => return word,
         Some(at) => at,
     };
-    if options[at + 1..].iter().any(|option| option.starts_with(word)) {
+    if options[at + 1..]
+        .iter()
+        .any(|option| option.starts_with(word))
+    {
         word
     } else {
         options[at]

@@ -1,4 +1,4 @@
-use Rattle.std.proofs.Common.{◌≡◌, ◌+◌, ◌<◌, ◌∷◌, ◌++◌, [], drop, get_or, ℕ, List, Bor, sym, ap, ◌∙◌, append_assoc, arith}
+use Rattle.std.proofs.Common.{◌≡◌, ◌∷◌, ◌++◌, [], drop, get_or, ℕ, List, Bor, sym, ap, ◌∙◌, append_assoc, arith}
 use Rattle.std.proofs.lemmas.List.{take_rest}
 use Rattle.cdb_session.proofs.TypedWords.{join_more}
 use Rattle.cdb_session.proofs.typed.joined.Goals as goal

@@ -1,4 +1,4 @@
-use Rattle.std.proofs.Common.{◌≡◌, ◌+◌, ◌∷◌, map, take, ℕ, List, Bor}
+use Rattle.std.proofs.Common.{◌≡◌, ◌+◌, map, take, ℕ, List, Bor}
 use Rattle.std.specs.List.{join_with_byte}
 use Rattle.cdb_session.proofs.typed.joined.Given as goal
 

@@ -1,4 +1,4 @@
-use Rattle.std.proofs.Common.{◌≡◌, ◌<◌, true, false, List, ℕ, Bor, length, map, nat_lt, sym, ap, ◌∙◌, rules, tests}
+use Rattle.std.proofs.Common.{◌≡◌, true, false, List, ℕ, Bor, length, map, nat_lt, ap, ◌∙◌, rules, tests}
 use Rattle.std.proofs.lemmas.Bool.Decides.{nat_tests}
 use Rattle.cdb_setup.specs.Format.{longest}
 use Rattle.cdb_session.specs.Typed.{words_meant, line_meant}

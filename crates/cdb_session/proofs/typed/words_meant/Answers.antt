@@ -1,4 +1,4 @@
-use Rattle.std.proofs.Common.{◌≡◌, map, fold, List, ℕ, Bor, ap}
+use Rattle.std.proofs.Common.{map, fold, List, ℕ, Bor, ap}
 use Rattle.std.specs.List.{slice_split}
 use Rattle.cdb_session.specs.Typed.{is_blank, up_to_comment, with_piece, words_meant}
 use Rattle.cdb_session.proofs.typed.words_meant.Goals as goal

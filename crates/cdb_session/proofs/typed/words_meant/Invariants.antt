@@ -1,4 +1,4 @@
-use Rattle.std.proofs.Common.{◌≡◌, ◌∷◌, [], map, fold, length, suc, ℕ, List, Option, Some, None}
+use Rattle.std.proofs.Common.{◌≡◌, fold}
 use Rattle.cdb_session.specs.Typed.{with_piece, up_to_comment, words_meant}
 use Rattle.cdb_session.specs.TypedWords.{texts_of, pieces_left, bytes_left}
 use Rattle.cdb_session.proofs.typed.words_meant.Given as goal
