@@ -1,44 +1,55 @@
 -- What lines ask for.
-use Rattle.std.proofs.Common.{◌≡◌, ◌≢◌, inl, inr, ℕ, ◌+◌, ◌≤◌, Bool, true, false, List, [], ◌∷◌, ◌++◌, length, get_or, refl, sym, ap, subst, ◌∙◌, arith}
+use Rattle.std.proofs.Common.{◌≡◌, ◌≢◌, inl, inr, ℕ, ◌+◌, ◌<◌, nat_lt, rules, Bool, true, false, List, [], ◌∷◌, ◌++◌, length, get_or, refl, sym, ap, subst, ◌∙◌, arith}
 use Rattle.std.specs.Prelude.{if◌then◌else◌}
 use Rattle.std.specs.List.{AllZip, AllByRecursion}
 use Rattle.std.specs.Str.{bytes_eq}
+use Rattle.std.proofs.lemmas.Bool.{cases_lt}
+use Rattle.std.proofs.lemmas.Bool.Decides.{nat_tests}
 use Rattle.std.proofs.lemmas.List.{length-take, take_all}
 use Rattle.std.proofs.lemmas.Slice.Eq.{bytes_eq-Decides}
 use Rattle.cdb_setup.specs.Format.{longest}
 use Rattle.cdb_session.specs.Unfinished.{unfinished_of}
-use Rattle.cdb_session.specs.Requests.{Asks, HaveQuit, quit_line, up_to_quit}
+use Rattle.cdb_session.specs.Requests.{Asks, AsksFor, IsQuit, HaveQuit, quit_line, up_to_quit}
+use Rattle.cdb_session.specs.Typed.{line_meant}
+use Rattle.cdb_session.proofs.OneRequest.{only_too_long}
 use Rattle.cdb_session.specs.declared.request.Request.{Request}
 use Rattle.cdb_session.specs.declared.request.Request.TheVariants.{Call, Seat, Help, Quit, Fault, TooLong}
 
--- a line that is not too long is held whole
-short : (line : List ℕ) → length (unfinished_of line) ≤ longest → unfinished_of line ≡ line
-short line few = take_all (longest + 1) line (omega (arith, few, length-take (longest + 1) line))
+-- a line that is too long stands for itself
+meant_long : (line : List ℕ) → longest < length line → line_meant line ≡ line
+unfolding line_meant
+meant_long line long = let yes : nat_lt longest (length line) ≡ true = search (rules, nat_tests, long) in rw yes refl
 
 -- what is held of a line asks for the same as the line
 pub asks_whole : (request : Request) (line : List ℕ) → Asks request (unfinished_of line) → Asks request line
-asks_whole (Call command) line asks = subst (Asks (Call command)) (short line asks.0) asks
-asks_whole (Seat seat) line asks = subst (Asks (Seat seat)) (short line asks.0) asks
-asks_whole Help line asks = subst (Asks Help) (short line asks.0) asks
-asks_whole Quit line asks = subst (Asks Quit) (short line asks.0) asks
-asks_whole (Fault fault) line asks = subst (Asks (Fault fault)) (short line asks.0) asks
-asks_whole TooLong line asks = omega (arith, asks, length-take (longest + 1) line)
+asks_whole request line asks =
+    let held : List ℕ = unfinished_of line in
+    elim (cases_lt longest (length held)) [
+      | inl long ↦
+          let whole : longest < length line = omega (arith, long, length-take (longest + 1) line) in
+          let too_long : request ≡ TooLong = only_too_long held long request (subst (AsksFor request) (meant_long held long) asks) in
+          subst (λ r. Asks r line) (sym too_long) (subst (λ meant. longest < length meant) (sym (meant_long line whole)) whole)
+      | inr few ↦ subst (Asks request) (take_all (longest + 1) line (omega (arith, few, length-take (longest + 1) line))) asks
+    ]
 
 -- a line that asks for something else is not `quit`
-pub is_not_quit : (request : Request) (line : List ℕ) → Asks request line → request ≢ Quit → line ≢ quit_line
-is_not_quit (Call command) line asks other is = asks.1.0 (inr (inl is))
-is_not_quit (Seat seat) line asks other is =
+not_quit : (request : Request) (line : List ℕ) → AsksFor request line → request ≢ Quit → line ≢ quit_line
+not_quit (Call command) line asks other is = asks.1.0 (inr (inl is))
+not_quit (Seat seat) line asks other is =
     let first : 115 ≡ 113 = ap (λ bytes. get_or bytes 0 0) (sym asks.1.1 ∙ is) in absurd (omega (arith, first))
-is_not_quit Help line asks other is =
+not_quit Help line asks other is =
     let first : 104 ≡ 113 = ap (λ bytes. get_or bytes 0 0) (sym asks.1 ∙ is) in absurd (omega (arith, first))
-is_not_quit Quit line asks other is = other refl
-is_not_quit (Fault fault) line asks other is = asks.1.0 (inr (inl is))
-is_not_quit TooLong line asks other is = let few : length line ≡ 4 = ap length is in absurd (omega (arith, asks, few))
+not_quit Quit line asks other is = other refl
+not_quit (Fault fault) line asks other is = asks.1.0 (inr (inl is))
+not_quit TooLong line asks other is = let few : length line ≡ 4 = ap length is in absurd (omega (arith, asks, few))
+
+pub is_not_quit : (request : Request) (line : List ℕ) → Asks request line → request ≢ Quit → ¬ IsQuit line
+is_not_quit request line asks other = not_quit request (line_meant line) asks other
 
 -- ---- lines one after the other
 
 abbrev pub AreOthers : List (List ℕ) → Type 0
-AreOthers lines = AllByRecursion (λ line. line ≢ quit_line) lines
+AreOthers lines = AllByRecursion (λ line. ¬ IsQuit line) lines
 
 pub AllZip-more : (requests : List Request) (lines : List (List ℕ)) (request : Request) (line : List ℕ) → AllZip Asks requests lines → Asks request line → AllZip Asks (requests ++ request ∷ []) (lines ++ line ∷ [])
 AllZip-more [] [] request line are is = (is, tt)
@@ -46,15 +57,15 @@ AllZip-more [] (other ∷ lines) request line are is = absurd are
 AllZip-more (other ∷ requests) [] request line are is = absurd are
 AllZip-more (other ∷ requests) (other_line ∷ lines) request line are is = (are.0, AllZip-more requests lines request line are.1 is)
 
-pub AreOthers-more : (lines : List (List ℕ)) (line : List ℕ) → AreOthers lines → line ≢ quit_line → AreOthers (lines ++ line ∷ [])
+pub AreOthers-more : (lines : List (List ℕ)) (line : List ℕ) → AreOthers lines → ¬ IsQuit line → AreOthers (lines ++ line ∷ [])
 AreOthers-more [] line are is = (is, tt)
 AreOthers-more (other ∷ lines) line are is = (are.0, AreOthers-more lines line are.1 is)
 
 is_false : (b : Bool) → b ≢ true → b ≡ false
 is_false b = elim b as (λ v. v ≢ true → v ≡ false) [ true ↦ λ no. absurd (no refl) | false ↦ λ no. refl ]
 
-no_test : (line : List ℕ) → line ≢ quit_line → bytes_eq line quit_line ≡ false
-no_test line other = is_false (bytes_eq line quit_line) (λ yes. other ((bytes_eq-Decides line quit_line).0 yes))
+no_test : (line : List ℕ) → ¬ IsQuit line → bytes_eq (line_meant line) quit_line ≡ false
+no_test line other = is_false (bytes_eq (line_meant line) quit_line) (λ yes. other ((bytes_eq-Decides (line_meant line) quit_line).0 yes))
 
 -- none of these lines is `quit`, so the lines up to `quit` begin with them
 pub up_to_quit-append : (lines others : List (List ℕ)) → AreOthers lines → up_to_quit (lines ++ others) ≡ lines ++ up_to_quit others
@@ -65,17 +76,17 @@ up_to_quit-append (line ∷ lines) others are =
     ∙ ap (λ cut. line ∷ cut) (up_to_quit-append lines others are.1)
 
 -- the lines end at `quit`
-pub up_to_quit-quit : (line : List ℕ) (others : List (List ℕ)) → line ≡ quit_line → up_to_quit (line ∷ others) ≡ line ∷ []
+pub up_to_quit-quit : (line : List ℕ) (others : List (List ℕ)) → IsQuit line → up_to_quit (line ∷ others) ≡ line ∷ []
 up_to_quit-quit line others is =
-    ap (λ b. let cut : List (List ℕ) = if b then (line ∷ []) else (line ∷ up_to_quit others) in cut) ((bytes_eq-Decides line quit_line).1 is)
+    ap (λ b. let cut : List (List ℕ) = if b then (line ∷ []) else (line ∷ up_to_quit others) in cut) ((bytes_eq-Decides (line_meant line) quit_line).1 is)
 
 -- one line alone, whatever it is
 pub up_to_quit-one : (line : List ℕ) → up_to_quit (line ∷ []) ≡ line ∷ []
 up_to_quit-one line =
-    elim (bytes_eq line quit_line) as (λ b. let cut : List (List ℕ) = if b then (line ∷ []) else (line ∷ []) in cut ≡ line ∷ []) [ true ↦ refl | false ↦ refl ]
+    elim (bytes_eq (line_meant line) quit_line) as (λ b. let cut : List (List ℕ) = if b then (line ∷ []) else (line ∷ []) in cut ≡ line ∷ []) [ true ↦ refl | false ↦ refl ]
 
 pub have_none : (lines : List (List ℕ)) → AreOthers lines → ¬ HaveQuit lines
-have_none [] are ([], others, e) = absurd (omega (arith, ap length e))
-have_none [] are ((first ∷ before), others, e) = absurd (omega (arith, ap length e))
-have_none (line ∷ lines) are ([], others, e) = are.0 cc
-have_none (line ∷ lines) are ((first ∷ before), others, e) = have_none lines are.1 (before, others, cc)
+have_none [] are ([], others, quit, e, is) = absurd (omega (arith, ap length e))
+have_none [] are ((first ∷ before), others, quit, e, is) = absurd (omega (arith, ap length e))
+have_none (line ∷ lines) are ([], others, quit, e, is) = are.0 (let same : quit ≡ line = cc in subst IsQuit same is)
+have_none (line ∷ lines) are ((first ∷ before), others, quit, e, is) = have_none lines are.1 (before, others, quit, cc, is)

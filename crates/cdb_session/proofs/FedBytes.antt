@@ -1,5 +1,5 @@
 -- A session looks at the bytes that it was given, whatever replies will follow.
-use Rattle.std.proofs.Common.{◌≡◌, ◌≢◌, rules, ℕ, ◌+◌, ◌<◌, Bool, true, false, List, [], ◌∷◌, ◌++◌, length, take, refl, sym, ap, subst, ◌∙◌, append_assoc, append-nil}
+use Rattle.std.proofs.Common.{◌⊎◌, inl, inr, ◌≡◌, ◌≢◌, rules, ℕ, ◌+◌, ◌<◌, Bool, true, false, List, [], ◌∷◌, ◌++◌, length, take, refl, sym, ap, subst, ◌∙◌, append_assoc, append-nil}
 use Rattle.std.specs.Prelude.{Result, Ok, Err, IsTrue}
 use Rattle.cdb_base.specs.Memory.{no_memory as refused}
 use Rattle.cdb_commands.specs.ToldReply.{ToldReply}
@@ -18,7 +18,7 @@ use Rattle.cdb_session.specs.Styles.{StyleView, Part}
 use Rattle.cdb_session.specs.Replies.{Along, begun_along}
 use Rattle.cdb_session.specs.Parts.{seat_behind}
 use Rattle.cdb_session.proofs.Along.{seat_along}
-use Rattle.cdb_session.specs.Unfinished.{IsAt, MoreMayFollow, StaysAt, IsLineDone, IsLineBroken, IsLineLost, RespondsToLine, HasEndedAs, Feeds}
+use Rattle.cdb_session.specs.Unfinished.{IsAt, MoreMayFollow, StaysAt, IsLineDone, IsLineBroken, IsRequestLost, RespondsToLine, HasEndedAs, Feeds}
 use Rattle.cdb_session.specs.Lines.{SessionView, HasGot, at_line}
 use Rattle.cdb_session.specs.Served.{IsSession}
 use Rattle.cdb_session.proofs.GotReplies.{may_follow, same_replies, same_line, commands_done, commands_lost}
@@ -82,8 +82,9 @@ module _ (style : StyleView) where
         (line_broken style (new.part.replies ++ []) moves old.part (at_line old (d.got ++ [])) unfinished left now d.request d.asks new.part (commands_done style old.seat now.requests (sits now) old.part d.request d.got new.part d.done now.commands) made d.writes
         d.missing (sym same.0 ∙ d.written) d.fails)
 
-    line_loses : (made : List Move) → IsLineLost style old new unfinished made → HasEndedAs style (ended_by (output.NoMemory refused)) moves new
-    line_loses made d =
+    line_loses : (new ≡ old) ⊎ IsRequestLost style old new unfinished → HasEndedAs style (ended_by (output.NoMemory refused)) moves new
+    line_loses (inl same) = subst (HasEndedAs style (ended_by (output.NoMemory refused)) moves) (sym same) (out_of_memory moves old unfinished (10 ∷ left) at)
+    line_loses (inr d) =
         let now = before_line moves old unfinished (10 ∷ left) at new.part d.request d.got d.done [] (no_more new.part) in
         finish (ended_by (output.NoMemory refused)) moves new
         (line_lost style (new.part.replies ++ []) moves old.part (at_line old (d.got ++ [])) unfinished left now d.request d.asks new.part (commands_lost style old.seat now.requests (sits now) old.part d.request d.got new.part d.done now.commands))
@@ -109,8 +110,9 @@ module _ (style : StyleView) where
           (last_broken style (new.part.replies ++ []) moves old.part (at_line old (d.got ++ [])) unfinished now over some d.request d.asks new.part (commands_done style old.seat now.requests (sits now) old.part d.request d.got new.part d.done now.commands) made d.writes
           d.missing (sym same.0 ∙ d.written) d.fails)
 
-      pub last_loses : (made : List Move) → IsLineLost style old new unfinished made → HasEndedAs style (ended_by (output.NoMemory refused)) moves new
-      last_loses made d =
+      pub last_loses : (new ≡ old) ⊎ IsRequestLost style old new unfinished → HasEndedAs style (ended_by (output.NoMemory refused)) moves new
+      last_loses (inl same) = subst (HasEndedAs style (ended_by (output.NoMemory refused)) moves) (sym same) (out_of_memory moves old unfinished [] at)
+      last_loses (inr d) =
           let now = before_line moves old unfinished [] at new.part d.request d.got d.done [] (no_more new.part) in
           finish (ended_by (output.NoMemory refused)) moves new
           (last_lost style (new.part.replies ++ []) moves old.part (at_line old (d.got ++ [])) unfinished now over some d.request d.asks new.part (commands_lost style old.seat now.requests (sits now) old.part d.request d.got new.part d.done now.commands))
@@ -171,5 +173,5 @@ module _ (style : StyleView) where
           s.0 ++ a.0,
           Makes-more before now behind s.0 a.0 s.1 a.1,
           subst AreWrites (sym made) s.2,
-          subst (λ more. HasEndedAs style (ended_by (output.NoMemory refused)) (moves ++ more) new) (sym made) (line_loses (moves ++ s.0) session kept left s.3 new a.0 a.2),
+          subst (λ more. HasEndedAs style (ended_by (output.NoMemory refused)) (moves ++ more) new) (sym made) (line_loses (moves ++ s.0) session kept left s.3 new a.2.lost),
         )

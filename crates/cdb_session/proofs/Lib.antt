@@ -3,6 +3,10 @@ pub mod MovesInOrder
 pub mod InputEnd
 pub mod WrittenText
 pub mod SeatLines
+pub mod FullWords
+pub mod Names
+pub mod TypedWords
+pub mod ExactLines
 pub mod AskedLines
 pub mod OneRequest
 pub mod Emptiness

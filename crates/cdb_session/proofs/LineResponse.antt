@@ -1,5 +1,5 @@
 -- What a session answers to one line.
-use Rattle.std.proofs.Common.{◌≡◌, ◌≢◌, ◌+◌, ℕ, List, [], ◌∷◌, length, refl, sym, ap, subst, ◌∙◌, arith, Vec, Global}
+use Rattle.std.proofs.Common.{◌≡◌, ◌≢◌, inl, inr, ◌+◌, ℕ, List, [], ◌∷◌, length, refl, sym, ap, subst, ◌∙◌, arith, Vec, Global}
 use Rattle.std.specs.Prelude.{Result, Ok, Err, IfOk, IsTrue, ◌↔◌, Bool}
 use Rattle.cdb_base.specs.Memory.{no_memory}
 use Rattle.cdb_commands.specs.ToldReply.{ToldReply}
@@ -37,9 +37,13 @@ module _ (style : StyleView) where
 
   -- ---- a held line
 
+  -- memory is out before it is known what the line asks for
+  pub line_is_unread : (before : Known) (old : SessionView) (unfinished kept : List ℕ) → RespondsToLine style (Err (output.NoMemory no_memory)) before before old old unfinished kept
+  line_is_unread before old unfinished kept = ([], Makes-nothing before, record { lost = inl refl; none = refl })
+
   module _ (before behind : Known) (old new : SessionView) (unfinished kept : List ℕ) (request : Request) (asks : Asks request unfinished) where
     pub line_is_lost : (E : Type 0) (e : E) → before ≡ behind → (let r : Result (Vec ℕ Global) E = Err e in Shows style r old request new) → RespondsToLine style (Err (output.NoMemory no_memory)) before behind old new unfinished kept
-    line_is_lost E e same s = ([], subst (λ now. Makes before now []) same (Makes-nothing before), record { request = request; asks = asks; got = s.0; done = s.1; none = refl })
+    line_is_lost E e same s = ([], subst (λ now. Makes before now []) same (Makes-nothing before), record { lost = inr (record { request = request; asks = asks; got = s.0; done = s.1 }); none = refl })
 
     pub line_is_broken : (E : Type 0) (text : Vec ℕ Global) (A F : Type 0) (f : F) → Shows style {E = E} (Ok text) old request new → WritesAll {A = A} {E = F} (Err f) before behind text.items → RespondsToLine style (Err output.Write) before behind old new unfinished kept
     line_is_broken E text A F f s says = (

@@ -11,8 +11,8 @@ use Rattle.cdb_streams.specs.declared.buffer.OutputFault.TheVariants as output
 use Rattle.cdb_streams.specs.declared.fault.PlayFault.{PlayFault}
 use Rattle.cdb_streams.specs.declared.fault.PlayFault.TheVariants as fault
 use Rattle.cdb_setup.specs.Format.{longest}
-use Rattle.cdb_session.specs.Unfinished.{IsOver, with_ends, unfinished_of, part_with, RespondsOnTime, ended_well, ended_by}
-use Rattle.cdb_session.specs.Requests.{HasNoEnd, Asks, AreAsked, HaveQuit, ended_lines, up_to_quit, quit_line}
+use Rattle.cdb_session.specs.Unfinished.{IsOver, with_ends, unfinished_of, part_with, ended_well, ended_by}
+use Rattle.cdb_session.specs.Requests.{HasNoEnd, Asks, AreAsked, HaveQuit, IsQuit, ended_lines, up_to_quit}
 use Rattle.cdb_session.specs.Moves.{Move, Read, ReadFailed, read_in, written_in, AsksForInput, AreWrites, FailsToWrite, EndsWith}
 use Rattle.cdb_session.specs.Sessions.{most_input, HasEnded, IsOpen, HasResponded, RespondsInTime, by_quit, at_end, at_most}
 use Rattle.cdb_session.specs.declared.request.Request.{Request}
@@ -48,7 +48,7 @@ asked_all requests lines asked others =
     subst (λ parts. AllZip Asks requests parts) (sym all) asked
 
 -- those and `quit`
-asked_to_quit : (requests : List Request) (lines : List (List ℕ)) (line : List ℕ) (others : List (List ℕ)) → AllZip Asks requests lines → AreOthers lines → line ≡ quit_line → Asks Quit line → AreAsked (requests ++ Quit ∷ []) (lines ++ line ∷ others)
+asked_to_quit : (requests : List Request) (lines : List (List ℕ)) (line : List ℕ) (others : List (List ℕ)) → AllZip Asks requests lines → AreOthers lines → IsQuit line → Asks Quit line → AreAsked (requests ++ Quit ∷ []) (lines ++ line ∷ others)
 asked_to_quit requests lines line others asked are is asks =
     let all : up_to_quit (lines ++ line ∷ others) ≡ lines ++ line ∷ [] = up_to_quit-append lines (line ∷ others) are ∙ ap (λ parts. lines ++ parts) (up_to_quit-quit line others is) in
     subst (λ parts. AllZip Asks (requests ++ Quit ∷ []) parts) (sym all) (AllZip-more requests lines Quit line asked asks)
@@ -297,9 +297,9 @@ module _ (style : StyleView) (replies : List ToldReply) where
           let asked : Asks Quit at.line = subst (λ r. Asks r at.line) is_quit (whole_line moves part along unfinished (10 ∷ left) at request asks made writes) in
           let read : read_in (moves ++ made) ≡ read_in moves = same_read moves part along unfinished (10 ∷ left) at request asks made writes in
           let lines : lines_of (read_in (moves ++ made)) ≡ at.lines ++ at.line ∷ lines_of left = ap lines_of read ∙ now_lines ∙ append_assoc at.lines (at.line ∷ []) (lines_of left) in
-          let ended : ended_lines (read_in (moves ++ made)) ≡ at.lines ++ quit_line ∷ ended_lines left =
+          let ended : ended_lines (read_in (moves ++ made)) ≡ at.lines ++ at.line ∷ ended_lines left =
           ap ended_lines (read ∙ now_read) ∙ ended_and_more (at.lines ++ at.line ∷ []) left now_ended
-          ∙ append_assoc at.lines (at.line ∷ []) (ended_lines left) ∙ ap (λ line. at.lines ++ line ∷ ended_lines left) asked.1 in
+          ∙ append_assoc at.lines (at.line ∷ []) (ended_lines left) in
           let text : written_in (moves ++ made) ≡ dialogue style replies (at.requests ++ Quit ∷ []) =
           text_now moves part along unfinished (10 ∷ left) at request asks made writes said ∙ ap (λ r. dialogue style replies (at.requests ++ r ∷ [])) is_quit in
           record {
@@ -308,7 +308,7 @@ module _ (style : StyleView) (replies : List ToldReply) where
               responded =
                   subst (λ parts. IsServed style (part_with replies new) parts (written_in (moves ++ made))) (sym lines)
                   (at.requests ++ Quit ∷ [], asked_to_quit at.requests at.lines at.line (lines_of left) at.asked at.goes_on asked.1 asked, text, subst (λ r. HasCommands style new (at.requests ++ r ∷ [])) is_quit has);
-              ended = by_quit (at.lines, ended_lines left, ended);
+              ended = by_quit (at.lines, ended_lines left, at.line, ended, asked.1);
             };
           }
 

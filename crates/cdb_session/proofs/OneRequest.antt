@@ -7,7 +7,7 @@ use Rattle.cdb_setup.specs.Parts.{IsWithin}
 use Rattle.cdb_text.specs.Faults.{IsFaultOf}
 use Rattle.cdb_text.specs.Grammar.{IsLineOf}
 use Rattle.cdb_text.specs.declared.fault.LineFault.{LineFault}
-use Rattle.cdb_session.specs.Requests.{Asks, IsOwn, most_seats, help_line, quit_line, seat_line}
+use Rattle.cdb_session.specs.Requests.{AsksFor, IsOwn, most_seats, help_line, quit_line, seat_line}
 use Rattle.cdb_session.specs.declared.request.Request.{Request}
 use Rattle.cdb_session.specs.declared.request.Request.TheVariants.{Call, Seat, Help, Quit, Fault, TooLong}
 use Rattle.cdb_session.proofs.SeatLines.{digit}
@@ -17,7 +17,7 @@ first : (line one other : List ℕ) → line ≡ one → line ≡ other → get_
 first line one other is is_other = ap (λ bytes. get_or bytes 0 0) (sym is ∙ is_other)
 
 module _ (line : List ℕ) where
-  pub only_too_long : longest < length line → (other : Request) → Asks other line → other ≡ TooLong
+  pub only_too_long : longest < length line → (other : Request) → AsksFor other line → other ≡ TooLong
   only_too_long long (Call command) asks = absurd (omega (arith, long, asks.0))
   only_too_long long (Seat seat) asks = absurd (omega (arith, long, asks.0))
   only_too_long long Help asks = absurd (omega (arith, long, asks.0))
@@ -26,7 +26,7 @@ module _ (line : List ℕ) where
   only_too_long long TooLong asks = refl
 
   module _ (few : length line ≤ longest) where
-    pub only_help : line ≡ help_line → (other : Request) → Asks other line → other ≡ Help
+    pub only_help : line ≡ help_line → (other : Request) → AsksFor other line → other ≡ Help
     only_help is (Call command) asks = absurd (asks.1.0 (inl is))
     only_help is (Seat seat) asks = absurd (let e : 104 ≡ 115 = first line help_line (seat_line seat) is asks.1.1 in omega (arith, e))
     only_help is Help asks = refl
@@ -34,7 +34,7 @@ module _ (line : List ℕ) where
     only_help is (Fault fault) asks = absurd (asks.1.0 (inl is))
     only_help is TooLong asks = absurd (omega (arith, few, asks))
 
-    pub only_quit : line ≡ quit_line → (other : Request) → Asks other line → other ≡ Quit
+    pub only_quit : line ≡ quit_line → (other : Request) → AsksFor other line → other ≡ Quit
     only_quit is (Call command) asks = absurd (asks.1.0 (inr (inl is)))
     only_quit is (Seat seat) asks = absurd (let e : 113 ≡ 115 = first line quit_line (seat_line seat) is asks.1.1 in omega (arith, e))
     only_quit is Help asks = absurd (let e : 113 ≡ 104 = first line quit_line help_line is asks.1 in omega (arith, e))
@@ -42,7 +42,7 @@ module _ (line : List ℕ) where
     only_quit is (Fault fault) asks = absurd (asks.1.0 (inr (inl is)))
     only_quit is TooLong asks = absurd (omega (arith, few, asks))
 
-    pub only_seat : (seat : ℕ) → IsWithin 1 most_seats seat → line ≡ seat_line seat → (other : Request) → Asks other line → other ≡ Seat seat
+    pub only_seat : (seat : ℕ) → IsWithin 1 most_seats seat → line ≡ seat_line seat → (other : Request) → AsksFor other line → other ≡ Seat seat
     only_seat seat within is (Call command) asks = absurd (asks.1.0 (inr (inr (seat, within, is))))
     only_seat seat within is (Seat another) asks =
         let same : another ≡ seat = omega (arith, digit line seat within is, digit line another asks.1.0 asks.1.1) in ap (λ n. Seat n) same
@@ -52,7 +52,7 @@ module _ (line : List ℕ) where
     only_seat seat within is TooLong asks = absurd (omega (arith, few, asks))
 
     module _ (other_line : ¬ IsOwn line) (read : Result Command LineFault) (command_is : (c : Command) → IsLineOf c line → read ≡ Ok c) (fault_is : (f : LineFault) → IsFaultOf f line → read ≡ Err f) where
-      pub only_call : (command : Command) → read ≡ Ok command → (other : Request) → Asks other line → other ≡ Call command
+      pub only_call : (command : Command) → read ≡ Ok command → (other : Request) → AsksFor other line → other ≡ Call command
       only_call command is (Call another) asks = let e = command_is another asks.1.1 in cc
       only_call command is (Seat seat) asks = absurd (other_line (inr (inr (seat, asks.1.0, asks.1.1))))
       only_call command is Help asks = absurd (other_line (inl asks.1))
@@ -60,7 +60,7 @@ module _ (line : List ℕ) where
       only_call command is (Fault fault) asks = absurd (let e = fault_is fault asks.1.1 in cc)
       only_call command is TooLong asks = absurd (omega (arith, few, asks))
 
-      pub only_fault : (fault : LineFault) → read ≡ Err fault → (other : Request) → Asks other line → other ≡ Fault fault
+      pub only_fault : (fault : LineFault) → read ≡ Err fault → (other : Request) → AsksFor other line → other ≡ Fault fault
       only_fault fault is (Call command) asks = absurd (let e = command_is command asks.1.1 in cc)
       only_fault fault is (Seat seat) asks = absurd (other_line (inr (inr (seat, asks.1.0, asks.1.1))))
       only_fault fault is Help asks = absurd (other_line (inl asks.1))

@@ -1,11 +1,10 @@
 -- With a control of its own, a session shows what the table of requests says.
-use Rattle.std.proofs.Common.{◌≡◌, inl, inr, ℕ, suc, ◌+◌, ◌-◌, ◌<◌, ◌≤◌, ◌==◌, Bool, true, false, List, [], ◌∷◌, ◌++◌, length, take, refl, sym, ap, subst, ◌∙◌, append-nil, arith, length-append}
+use Rattle.std.proofs.Common.{◌≡◌, inl, inr, ℕ, suc, ◌+◌, ◌-◌, ◌<◌, ◌≤◌, ◌==◌, Bool, true, false, List, [], ◌∷◌, ◌++◌, length, take, refl, sym, ap, ◌∙◌, arith, length-append}
 use Rattle.std.specs.Prelude.{if◌then◌else◌}
 use Rattle.std.proofs.lemmas.Bool.Decides.{Decides-eqb}
 use Rattle.std.proofs.lemmas.Grind.{fold-append}
 use Rattle.std.proofs.lemmas.List.{take_all, take-append-le}
 use Rattle.cdb_base.specs.Limits.{MAX_ENTRIES}
-use Rattle.cdb_commands.specs.ToldReply.{ToldReply}
 use Rattle.cdb_commands.specs.declared.command.Command.{Command}
 use Rattle.cdb_control.specs.Commands.{obey}
 use Rattle.cdb_control.specs.Journal.{Journaled, entry, extended, reply_in, control_state, replay}
@@ -18,7 +17,7 @@ use Rattle.cdb_session.specs.declared.request.Request.TheVariants.{Call, Seat, H
 use Rattle.cdb_rules.specs.Rules.{Rules}
 use Rattle.cdb_setup.specs.Parts.{Parts}
 use Rattle.cdb_text.specs.Texts.{text_of}
-use Rattle.cdb_session.specs.Replies.{Along, next_along, shown_from, dialogue}
+use Rattle.cdb_session.specs.Replies.{Along, shown_from, dialogue}
 use Rattle.cdb_session.specs.Dialogues.{full_text, shown_by, shown_from_by}
 use Rattle.cdb_session.specs.Alone.{all_replies_from, whole_part, nine}
 use Rattle.cdb_session.specs.Parts.{all_asked, all_of, HasCommands}

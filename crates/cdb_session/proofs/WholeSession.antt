@@ -10,7 +10,7 @@ use Rattle.cdb_session.specs.Unfinished.{IsOver, ended_well, ended_by}
 use Rattle.cdb_session.specs.Moves.{WritesAll, Known, Move, Read, ReadFailed, read_in, Makes}
 use Rattle.cdb_session.specs.Sessions.{most_input, IsOpen}
 use Rattle.cdb_session.proofs.MovesInOrder.{Makes-nothing, Makes-more, read-append, nothing_read}
-use Rattle.cdb_session.specs.Styles.{StyleView, Part}
+use Rattle.cdb_session.specs.Styles.{StyleView}
 use Rattle.cdb_session.specs.Replies.{Along, begun_along}
 use Rattle.cdb_session.specs.Unfinished.{IsAt, StaysAt, RespondsToLine, HasEndedAs, Feeds, RespondsToLast, RespondsToAll}
 use Rattle.cdb_session.specs.Lines.{SessionView, at_line}
@@ -41,7 +41,7 @@ module _ (style : StyleView) where
       last_fails (output.NoMemory refused) a moves at over = (
         a.0,
         a.1,
-        subst (λ made. HasEndedAs style (ended_by (output.NoMemory no_memory)) made new) (sym (ap (λ more. moves ++ more) a.2.none ∙ append-nil moves)) (last_loses style moves session unfinished at over some new a.0 a.2),
+        subst (λ made. HasEndedAs style (ended_by (output.NoMemory no_memory)) made new) (sym (ap (λ more. moves ++ more) a.2.none ∙ append-nil moves)) (last_loses style moves session unfinished at over some new a.2.lost),
       )
 
   -- ---- the first

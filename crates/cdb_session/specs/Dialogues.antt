@@ -5,6 +5,7 @@ use Rattle.cdb_control.specs.declared.control.CallFault.TheVariants.{JournalFull
 use Rattle.cdb_streams.specs.FaultTexts.{as_line}
 use Rattle.cdb_text.specs.LineFaults.{line_fault_text}
 use Rattle.cdb_text.specs.declared.fault.LineFault.{LineFault}
+use Rattle.cdb_text.specs.declared.fault.LineFault.TheVariants.{Empty}
 use Rattle.cdb_session.specs.Requests.{AreAsked}
 use Rattle.cdb_session.specs.declared.help.TheConstants.{COMMANDS, SEATS, OTHERS}
 use Rattle.cdb_session.specs.declared.request.Request.{Request}
@@ -18,6 +19,11 @@ full_text = as_line (call_fault_text JournalFull)
 -- `line L fault N Name`
 abbrev pub faulty_line_text : ℕ → LineFault → List ℕ
 faulty_line_text line fault = as_line (codes "line " ++ decimal line ++ codes " " ++ line_fault_text fault)
+
+-- the response to a line with a fault: a line without words has none
+abbrev pub fault_response : ℕ → LineFault → List ℕ
+fault_response line Empty = []
+fault_response line fault = faulty_line_text line fault
 
 -- `line L too long`
 abbrev pub long_line_text : ℕ → List ℕ

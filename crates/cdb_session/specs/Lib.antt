@@ -1,5 +1,6 @@
 -- ---- what the public contracts name
 pub mod Moves
+pub mod Typed
 pub mod Requests
 pub mod Styles
 pub mod Dialogues
@@ -11,6 +12,7 @@ pub mod Served
 pub mod Debugs
 pub mod Laws
 -- ---- what the code keeps for itself
+pub mod TypedWords
 pub mod Alone
 pub mod Lines
 pub mod Unfinished

@@ -1,9 +1,9 @@
 -- The responses of a session by the replies to its commands, whatever else its journal has.
-use Rattle.std.specs.Prelude.{◌≡◌, ℕ, ◌+◌, List, [], ◌∷◌, ◌++◌, codes, fold, if◌then◌else◌}
+use Rattle.std.specs.Prelude.{ℕ, ◌+◌, List, [], ◌∷◌, ◌++◌, codes, fold, if◌then◌else◌}
 use Rattle.cdb_commands.specs.ToldReply.{ToldReply}
 use Rattle.cdb_text.specs.Texts.{text_of}
 use Rattle.cdb_text.specs.declared.fault.LineFault.TheVariants.{Word}
-use Rattle.cdb_session.specs.Dialogues.{full_text, faulty_line_text, long_line_text, help_text, shown_by, shown_from_by}
+use Rattle.cdb_session.specs.Dialogues.{full_text, faulty_line_text, fault_response, long_line_text, help_text, shown_by, shown_from_by}
 use Rattle.cdb_session.specs.Dialogues.{dialogue_by}
 use Rattle.cdb_session.specs.Parts.{seat_next}
 use Rattle.cdb_session.specs.Requests.{seat_line}
@@ -48,7 +48,7 @@ module _ (style : StyleView) where
       if style.chooses then (seat_line seat ++ codes "\n") else faulty_line_text (lines + 1) Word
   own_response lines Help = help_text style.chooses
   own_response lines Quit = []
-  own_response lines (Fault fault) = faulty_line_text (lines + 1) fault
+  own_response lines (Fault fault) = fault_response (lines + 1) fault
   own_response lines TooLong = long_line_text (lines + 1)
 
   -- The response to what a line asks for. Where no line chooses a seat, one that does has a wrong word.

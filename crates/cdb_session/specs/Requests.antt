@@ -8,6 +8,7 @@ use Rattle.cdb_setup.specs.Format.{longest}
 use Rattle.cdb_setup.specs.Parts.{IsWithin}
 use Rattle.cdb_text.specs.Faults.{IsFaultOf}
 use Rattle.cdb_text.specs.Grammar.{IsLineOf}
+use Rattle.cdb_session.specs.Typed.{line_meant}
 use Rattle.cdb_session.specs.declared.request.Request.{Request}
 use Rattle.cdb_session.specs.declared.request.Request.TheVariants.{Call, Seat, Help, Quit, Fault, TooLong}
 
@@ -49,19 +50,28 @@ Means Quit line = line ≡ quit_line
 Means (Fault fault) line = (¬ IsOwn line) × IsFaultOf fault line
 Means TooLong line = ⊥
 
--- A line that is longer than a script can be is too long, whatever it is.
+-- What a line asks for that stands for itself. One that is longer than a script can be is too long, whatever it is.
+abbrev pub AsksFor : Request → List ℕ → Type 0
+AsksFor TooLong line = longest < length line
+AsksFor request line = (length line ≤ longest) × Means request line
+
+-- What a line asks for, as it is typed.
 abbrev pub Asks : Request → List ℕ → Type 0
-Asks TooLong line = longest < length line
-Asks request line = (length line ≤ longest) × Means request line
+Asks request line = AsksFor request (line_meant line)
+
+-- the line is `quit`, as it is typed
+abbrev pub IsQuit : List ℕ → Type 0
+IsQuit line = line_meant line ≡ quit_line
 
 -- the lines up to `quit`, with it
 abbrev pub up_to_quit : List (List ℕ) → List (List ℕ)
 up_to_quit [] = []
-up_to_quit (line ∷ lines) = if bytes_eq line quit_line then (line ∷ []) else (line ∷ up_to_quit lines)
+up_to_quit (line ∷ lines) = if bytes_eq (line_meant line) quit_line then (line ∷ []) else (line ∷ up_to_quit lines)
 
 -- one of the lines is `quit`
 abbrev pub HaveQuit : List (List ℕ) → Type 0
-HaveQuit lines = (before others : List (List ℕ)) × (lines ≡ before ++ quit_line ∷ others)
+HaveQuit lines =
+    (before others : List (List ℕ)) × (line : List ℕ) × (lines ≡ before ++ line ∷ others) × IsQuit line
 
 -- what the lines up to `quit` ask for, one after the other
 abbrev pub AreAsked : List Request → List (List ℕ) → Type 0

@@ -1,11 +1,11 @@
 -- The table of a session with nine seats: the response to each line, by the control that the lines before have led to.
-use Rattle.std.specs.Prelude.{◌≡◌, ℕ, ◌+◌, ◌==◌, true, List, [], ◌++◌, length, fold, codes, if◌then◌else◌}
+use Rattle.std.specs.Prelude.{ℕ, ◌+◌, ◌==◌, true, List, [], ◌++◌, length, fold, codes, if◌then◌else◌}
 use Rattle.cdb_base.specs.Limits.{MAX_ENTRIES}
 use Rattle.cdb_control.specs.Journal.{Journaled, opened, extended, reply_in}
 use Rattle.cdb_rules.specs.Rules.{Rules}
 use Rattle.cdb_setup.specs.Parts.{Parts}
 use Rattle.cdb_text.specs.Texts.{text_of}
-use Rattle.cdb_session.specs.Dialogues.{full_text, faulty_line_text, long_line_text, help_text, dialogue_by}
+use Rattle.cdb_session.specs.Dialogues.{full_text, fault_response, long_line_text, help_text, dialogue_by}
 use Rattle.cdb_session.specs.Dialogues.{IsDialogueBy}
 use Rattle.cdb_session.specs.Parts.{seat_next}
 use Rattle.cdb_session.specs.Requests.{most_seats, seat_line}
@@ -33,7 +33,7 @@ response_to s (Call command) =
 response_to s (Seat seat) = seat_line seat ++ codes "\n"
 response_to s Help = help_text true
 response_to s Quit = []
-response_to s (Fault fault) = faulty_line_text (s.lines + 1) fault
+response_to s (Fault fault) = fault_response (s.lines + 1) fault
 response_to s TooLong = long_line_text (s.lines + 1)
 
 -- the control after it: a command has an entry, unless the journal is full

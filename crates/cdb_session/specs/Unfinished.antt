@@ -3,7 +3,7 @@ use Rattle.std.specs.Prelude.{◌≡◌, ◌⊎◌, ℕ, ◌+◌, ◌≤◌, Boo
 use Rattle.std.specs.Prelude.{Err, IsTrue, ◌↔◌}
 use Rattle.std.specs.List.{AllZip, AllByRecursion, flat_map}
 use Rattle.cdb_commands.specs.ToldReply.{ToldReply}
-use Rattle.cdb_session.specs.Requests.{HasNoEnd, Asks, quit_line}
+use Rattle.cdb_session.specs.Requests.{HasNoEnd, Asks, IsQuit}
 use Rattle.cdb_session.specs.Moves.{Known, Move, read_in, written_in, AreWrites, FailsToWrite, EndsWith, FindsTheEnd}
 use Rattle.cdb_session.specs.Moves.{Makes}
 use Rattle.cdb_session.specs.declared.request.Request.{Request}
@@ -66,7 +66,7 @@ module _ (style : StyleView) where
     pub unended : HasNoEnd line
     pub unfinished_is : unfinished ≡ unfinished_of line
     pub asked : AllZip Asks requests lines
-    pub goes_on : AllByRecursion (λ line. ¬ (line ≡ quit_line)) lines
+    pub goes_on : AllByRecursion (λ line. ¬ IsQuit line) lines
     pub written : written_in moves ≡ dialogue style replies requests
     pub along_is : along ≡ along_after style (begun_along style replies) requests
     pub few : along.lines + length left ≤ length (read_in moves)
@@ -104,12 +104,16 @@ module _ (style : StyleView) where
     pub written : shown style (at_line old got) request ≡ written_in made ++ missing
     pub fails : EndsWith FailsToWrite made
 
-  -- nothing of it was written, and memory is out
-  pub record IsLineLost (old new : SessionView) (unfinished : List ℕ) (made : List Move) : Type 0 where
+  -- what the line asks for may have been done
+  pub record IsRequestLost (old new : SessionView) (unfinished : List ℕ) : Type 0 where
     pub request : Request
     pub asks : Asks request unfinished
     pub got : List ToldReply
     pub done : HasGot old.seat old.part request got new.part
+
+  -- nothing of the response was written, and memory is out
+  pub record IsLineLost (old new : SessionView) (unfinished : List ℕ) (made : List Move) : Type 0 where
+    pub lost : (new ≡ old) ⊎ IsRequestLost old new unfinished
     pub none : made ≡ []
 
   abbrev pub RespondsAs : Result Bool OutputFault → SessionView → SessionView → List ℕ → List ℕ → List Move → Type 0

@@ -11,6 +11,7 @@ use crate::console::{Console, write_all};
 use crate::request::{Request, request_of};
 use crate::session::Session;
 use crate::style::Style;
+use crate::typed::line_meant;
 use crate::unfinished::{cut, hold};
 use cdb_streams::OutputFault;
 use std::alloc::Global;
@@ -31,7 +32,8 @@ pub(crate) fn respond_to_line<C: Caller, T: Console>(
     ensures sits { MaySit style.now (C.seats session.new.caller) session.new.seat }
     ensures later { Onward C.later session.old.caller session.new.caller }
 {
-    let request = request_of(unfinished.as_slice());
+    let line = line_meant(alloc, unfinished.as_slice())?;
+    let request = request_of(line.as_slice());
     let text = session.show(alloc, style, request)?;
     write_all(console, text.as_slice())?;
     unfinished.clear();

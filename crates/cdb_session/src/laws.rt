@@ -1,10 +1,17 @@
 //! Laws of sessions. Each function does nothing: its contract is the law.
 
-ghost use Rattle.cdb_session.specs.Laws.{JournalHasTheCommands};
+ghost use Rattle.cdb_session.specs.Laws.{JournalHasTheCommands, ExactLinesStand};
 
 /// The journal of a session has the commands of its lines, in order and each once, with the seat that was chosen last;
 /// the other lines add nothing to it.
 #[tactic(auto, using(crate::proofs::JournalCommands::journal_has_the_commands))]
 pub fn journal_has_the_commands()
     ensures { JournalHasTheCommands }
+{}
+
+/// A line of a command, and each line that a session takes beside commands, stands for itself: whoever types lines as they
+/// are in a script gets what the script gets.
+#[tactic(auto, using(crate::proofs::ExactLines::exact_lines_stand))]
+pub fn exact_lines_stand_for_themselves()
+    ensures { ExactLinesStand }
 {}

@@ -19,6 +19,7 @@ mod response;
 mod session;
 mod streams;
 mod style;
+mod typed;
 mod unfinished;
 
 pub use alone::debug;

@@ -3,7 +3,7 @@
 ghost use Rattle.std.specs.Prelude.{◌≡◌, ℕ, IfSome, IfNone};
 ghost use Rattle.cdb_setup.specs.Parts.{IsWithin};
 ghost use Rattle.cdb_session.specs.declared.request.Request.{Request as RequestName};
-ghost use Rattle.cdb_session.specs.Requests.{Asks, help_line, quit_line, seat_line, most_seats};
+ghost use Rattle.cdb_session.specs.Requests.{AsksFor, help_line, quit_line, seat_line, most_seats};
 
 use cdb_base::limits::MAX_BYTES;
 use cdb_control::Command;
@@ -45,10 +45,10 @@ fn seat_of(line: &[u8]) -> Option<u8>
     }
 }
 
-/// What a line asks for, which is given without the byte 10 at its end. It allocates nothing.
+/// What a line asks for that stands for itself, without the byte 10 at its end. It allocates nothing.
 pub fn request_of(line: &[u8]) -> Request
-    ensures asks { Asks result line.now }
-    ensures only { (other : RequestName) → Asks other line.now → other ≡ result }
+    ensures asks { AsksFor result line.now }
+    ensures only { (other : RequestName) → AsksFor other line.now → other ≡ result }
 {
     if line.len() > MAX_BYTES {
         return Request::TooLong;

@@ -176,7 +176,7 @@ fn push_own_response(
     match request {
         Request::Seat(seat) => push_chosen(text, style, lines + 1, seat),
         Request::Help => push_help(text, style.chooses),
-        Request::Quit | Request::Call(_) => Ok(()),
+        Request::Quit | Request::Call(_) | Request::Fault(LineFault::Empty) => Ok(()),
         Request::Fault(fault) => push_fault(text, lines + 1, fault),
         Request::TooLong => push_too_long(text, lines + 1),
     }

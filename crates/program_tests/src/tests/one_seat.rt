@@ -19,13 +19,12 @@ const DIALOGUES: [(&[u8], &str); 4] = [
     (
         b"auto 1\n\njump\nauto x\nredo 1\nundo 1\nauto 1\r\nauto 1\n",
         "1.1 query 1
-line 2 fault 1 Empty
 line 3 fault 2 Word
 line 4 fault 3 Number
 line 5 fault 4 Extra
 line 6 fault 5 Missing
-line 7 fault 3 Number
 1.2 send 1#1
+1.3 recv 1#1
 ",
     ),
 ];

@@ -1,4 +1,4 @@
-use Rattle.std.proofs.Common.{◌≡◌, take, ◌+◌, ◌∷◌, ◌++◌, [], List, ℕ, sym, ap, ◌∙◌, append-nil, arith, length, length-append}
+use Rattle.std.proofs.Common.{◌≡◌, take, ◌+◌, ◌∷◌, ◌++◌, [], List, ℕ, sym, ap, append-nil, arith, length, length-append}
 use Rattle.std.proofs.lemmas.List.{length-take}
 use Rattle.std.proofs.lemmas.Result.{err_from_is_err_and}
 use Rattle.cdb_setup.specs.Format.{longest}

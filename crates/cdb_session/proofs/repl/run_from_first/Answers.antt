@@ -1,4 +1,4 @@
-use Rattle.std.proofs.Common.{◌≡◌, ◌+◌, List, ℕ, [], sym, ap, subst, ◌∙◌, arith, length, take}
+use Rattle.std.proofs.Common.{◌≡◌, ◌+◌, List, ℕ, [], sym, ap, subst, arith, length, take}
 use Rattle.std.proofs.lemmas.List.{length-take}
 use Rattle.std.proofs.lemmas.Result.{err_from_is_err_and}
 use Rattle.cdb_session.specs.Lines.{seen_by}

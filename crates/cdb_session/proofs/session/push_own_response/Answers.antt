@@ -1,4 +1,4 @@
-use Rattle.std.proofs.Common.{ℕ, List, subst}
+use Rattle.std.proofs.Common.{subst}
 use Rattle.cdb_session.specs.Dialogues.{help_text}
 use Rattle.cdb_session.specs.Styles.{StyleView}
 use Rattle.cdb_text.specs.Pushes.{Pushes}

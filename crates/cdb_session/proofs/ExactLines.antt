@@ -1,0 +1,221 @@
+-- A line that is exact stands for itself.
+use Rattle.std.proofs.Common.{◌≡◌, inl, inr, ℕ, suc, ◌==◌, ◌<◌, ◌≤◌, ◌^◌, Bool, true, false, cond, not, ◌||◌, nat_eq, nat_lt, List, [], ◌∷◌, ◌++◌, length, map, fold, get_or, decimal, append_assoc, append-nil, refl, sym, ap, subst, ◌∙◌, arith}
+use Rattle.std.specs.Prelude.{codes, Some, None}
+use Rattle.std.specs.Char.{digit_value}
+use Rattle.std.specs.List.{AllByRecursion, list_all, filter, starts_with, slice_split, onto_first, join_with_byte, position_or_len}
+use Rattle.std.specs.Str.Parse.{AllDigits}
+use Rattle.std.proofs.lemmas.Bool.{cases_Bool, and_parts}
+use Rattle.std.proofs.lemmas.Bool.Decides.{nat_tests}
+use Rattle.std.proofs.lemmas.Fmt.{digits_decimal, decimal_nonempty}
+use Rattle.std.proofs.lemmas.List.Splits.{join_with_byte-slice_split, slice_split_at, slice_split_none}
+use Rattle.std.proofs.lemmas.Str.Parse.{numerals_by_value, tells_digits}
+use Rattle.cdb_base.specs.declared.act.Act.TheVariants as act
+use Rattle.cdb_base.specs.declared.register.Reg.{Reg}
+use Rattle.cdb_base.specs.declared.register.Reg.TheVariants.{R, Dec}
+use Rattle.cdb_commands.specs.declared.command.Command.{Command}
+use Rattle.cdb_commands.specs.declared.command.Command.TheVariants.{Step, Auto, Lose, Undo, UndoLost, Redo, Forget, Rollback, RollbackLost, Why, WhyLost, Break, Unbreak, Resume, Show, Decisions}
+use Rattle.cdb_commands.specs.declared.command.Stop.TheVariants as stop
+use Rattle.cdb_commands.specs.declared.command.View.TheVariants as view
+use Rattle.cdb_text.specs.Commands.{number, register, command_parts}
+use Rattle.cdb_text.specs.Grammar.{IsInRange, HasNumbersInRange, words_of, part_text}
+use Rattle.cdb_text.proofs.Cut.{is_space}
+use Rattle.cdb_text.proofs.Printed.{none_is_space, number_is_spaceless}
+use Rattle.cdb_setup.specs.Format.{longest}
+use Rattle.cdb_setup.specs.Parts.{IsWithin}
+use Rattle.cdb_session.specs.Laws.{ExactLinesStand}
+use Rattle.cdb_session.specs.Requests.{most_seats, help_line, quit_line, seat_line}
+use Rattle.cdb_session.specs.Typed.{is_blank, is_comment, is_mark, is_word, parts_of, due, only, full, up_to_comment, with_piece, words_meant, line_meant}
+use Rattle.cdb_session.proofs.Names.{no_name}
+
+-- ---- words of which each byte is a letter or a digit
+
+abbrev is_plain : ℕ → Bool
+is_plain byte = not (is_blank byte || is_mark byte)
+
+abbrev IsPlain : List ℕ → Type 0
+IsPlain word = AllByRecursion (λ byte. is_plain byte ≡ true) word
+
+plain_is_no_blank : (byte : ℕ) → is_plain byte ≡ true → is_blank byte ≡ false
+plain_is_no_blank byte is = grind (arith, nat_tests)
+
+plain_is_no_mark : (byte : ℕ) → is_plain byte ≡ true → is_mark byte ≡ false
+plain_is_no_mark byte is = grind (arith, nat_tests)
+
+tested : (word : List ℕ) → list_all is_plain word ≡ true → IsPlain word
+tested [] e = tt
+tested (byte ∷ word) e = let parts = and_parts _ _ e in (parts.0, tested word parts.1)
+
+digit_is_plain : (byte : ℕ) → digit_value byte < 10 → is_plain byte ≡ true
+digit_is_plain byte is = grind (arith, nat_tests)
+
+digits_are_plain : (word : List ℕ) → AllDigits 10 word → IsPlain word
+digits_are_plain [] all = tt
+digits_are_plain (byte ∷ word) all = (digit_is_plain byte all.0, digits_are_plain word all.1)
+
+-- such a word has no mark, and begins no comment
+no_mark : (word : List ℕ) → IsPlain word → position_or_len is_mark word ≡ length word
+no_mark [] is = refl
+no_mark (byte ∷ word) is = let e = plain_is_no_mark byte is.0 in let rest = no_mark word is.1 in rw e (omega (arith, rest))
+
+one_part : (word : List ℕ) → IsPlain word → parts_of word ≡ word ∷ []
+one_part word is = let e = no_name word (omega (arith, no_mark word is)) in rw e refl
+
+no_comment : (word : List ℕ) → IsPlain word → is_comment word ≡ false
+no_comment [] is = refl
+no_comment (byte ∷ word) is = let e = plain_is_no_mark byte is.0 in grind (arith, nat_tests, e)
+
+-- ---- words that stand for themselves, behind others
+
+record Stands (before : List (List ℕ)) (word : List ℕ) : Type 0 where
+  plain : IsPlain word
+  word_is : is_word word ≡ true
+  whole : full (due before) word ≡ word
+
+abbrev AllStand : List (List ℕ) → List (List ℕ) → Type 0
+AllStand before [] = Unit {0}
+AllStand before (word ∷ words) = Stands before word × AllStand (before ++ word ∷ []) words
+
+all_stand : (before words : List (List ℕ)) → AllStand before words → fold with_piece before (up_to_comment words) ≡ before ++ words
+all_stand before [] all = sym (append-nil before)
+all_stand before (word ∷ words) all =
+    let its = all.0 in
+    let goes_on = no_comment word its.plain in
+    let one : with_piece before word ≡ before ++ word ∷ [] = rw (one_part word its.plain, its.word_is, its.whole) refl in
+    ap (λ b. fold with_piece before (cond b [] (word ∷ up_to_comment words))) goes_on ∙ ap (λ (ws : List (List ℕ)). fold with_piece ws (up_to_comment words)) one
+    ∙ all_stand (before ++ word ∷ []) words all.1 ∙ append_assoc before (word ∷ []) words
+
+-- ---- such a line
+
+split_alike : (line : List ℕ) → AllByRecursion IsPlain (words_of line) → slice_split is_blank line ≡ words_of line
+split_alike [] all = refl
+split_alike (byte ∷ line) all =
+    elim (cases_Bool (nat_eq byte 32)) [
+      | inl e ↦ let plain = rw e at all in rw e (ap (λ (words : List (List ℕ)). [] ∷ words) (split_alike line plain.1))
+      | inr e ↦
+          let plain = onto_plain byte (words_of line) (rw e at all) in
+          let blank = plain_is_no_blank byte plain.0 in
+          rw (blank, e) (ap (onto_first byte) (split_alike line plain.1))
+    ]
+  where
+    onto_plain : (byte : ℕ) (words : List (List ℕ)) → AllByRecursion IsPlain (onto_first byte words) → (is_plain byte ≡ true) × AllByRecursion IsPlain words
+    onto_plain byte [] all = (all.0.0, tt)
+    onto_plain byte (word ∷ words) all = (all.0.0, (all.0.1, all.1))
+
+are_plain : (before words : List (List ℕ)) → AllStand before words → AllByRecursion IsPlain words
+are_plain before [] all = tt
+are_plain before (word ∷ words) all = (all.0.plain, are_plain (before ++ word ∷ []) words all.1)
+
+exact : (line : List ℕ) (words : List (List ℕ)) → words_of line ≡ words → AllStand [] words → line_meant line ≡ line
+unfolding line_meant words_meant
+exact line words are all =
+    let plain = subst (AllByRecursion IsPlain) (sym are) (are_plain [] words all) in
+    let meant : words_meant line ≡ words = ap (λ (pieces : List (List ℕ)). fold with_piece [] (up_to_comment pieces)) (split_alike line plain ∙ are) ∙ all_stand [] words all in
+    elim (cases_Bool (nat_lt longest (length line))) [
+      | inl e ↦ rw e refl
+      | inr e ↦ rw e (ap (join_with_byte 32) (meant ∙ sym are) ∙ join_with_byte-slice_split 32 line)
+    ]
+
+-- ---- the words of the commands
+
+fixed : (before : List (List ℕ)) (word : List ℕ) → list_all is_plain word ≡ true → is_word word ≡ true → full (due before) word ≡ word → Stands before word
+fixed before word plain is whole = record { plain = tested word plain; word_is = is; whole = whole }
+
+-- a letter is no digit
+another : (byte letter : ℕ) → byte ≤ 57 → nat_lt 57 letter ≡ true → nat_eq byte letter ≡ false
+another byte letter low high = grind (arith, nat_tests)
+
+-- a number begins no word
+abbrev is_lettered : List ℕ → Bool
+is_lettered option = nat_lt 57 (get_or option 0 0)
+
+begins_none : (options : List (List ℕ)) (byte : ℕ) (word : List ℕ) → byte ≤ 57 → list_all is_lettered options ≡ true → filter (λ option. starts_with nat_eq option (byte ∷ word)) options ≡ []
+begins_none [] byte word low all = refl
+begins_none ([] ∷ options) byte word low all = cc
+begins_none ((letter ∷ letters) ∷ options) byte word low all =
+    let its = and_parts (is_lettered (letter ∷ letters)) (list_all is_lettered options) all in
+    let other = another byte letter low its.0 in
+    rw other (begins_none options byte word low its.1)
+
+low_digit : (byte : ℕ) → digit_value byte < 10 → byte ≤ 57
+low_digit byte is = grind (arith, nat_tests)
+
+not_t : (byte : ℕ) → byte ≤ 57 → nat_eq byte 116 ≡ false
+not_t byte low = grind (arith, nat_tests)
+
+some_bytes : (n : ℕ) → (suc n == 0) ≡ false
+some_bytes n = grind (arith, nat_tests)
+
+digits_stand : (before : List (List ℕ)) (word : List ℕ) → 0 < length word → AllDigits 10 word → list_all is_lettered (due before) ≡ true → Stands before word
+digits_stand before [] some digits lettered = absurd (omega (arith, some))
+digits_stand before (byte ∷ word) some digits lettered =
+    let low = low_digit byte digits.0 in
+    record {
+      plain = digits_are_plain (byte ∷ word) digits;
+      word_is = (let e = not_t byte low in rw (e, some_bytes (length word)) refl);
+      whole = ap (λ (options : List (List ℕ)). only options (byte ∷ word)) (begins_none (due before) byte word low lettered);
+    }
+
+a_number : (before : List (List ℕ)) (n : ℕ) → IsInRange (number n) → list_all is_lettered (due before) ≡ true → Stands before (decimal n)
+a_number before n range lettered =
+    let fits : n < 2 ^ 64 = omega (arith, range.1) in
+    digits_stand before (decimal n) (decimal_nonempty n fits) (digits_decimal (numerals_by_value (AllDigits 10) tells_digits) n fits) lettered
+
+-- a register, where no word is due
+a_register : (before : List (List ℕ)) (x : Reg) → IsInRange (register x) → due before ≡ [] → Stands before (part_text (register x))
+a_register before (R p) range none =
+    let fits : p < 2 ^ 64 = omega (arith, range.1) in
+    record {
+      plain = (refl, digits_are_plain (decimal p) (digits_decimal (numerals_by_value (AllDigits 10) tells_digits) p fits));
+      word_is = (let e = some_bytes (length (decimal p)) in rw e refl);
+      whole = ap (λ (options : List (List ℕ)). full options (part_text (register (R p)))) none;
+    }
+a_register before Dec range none = fixed before (codes "dec") refl refl (ap (λ (options : List (List ℕ)). full options (codes "dec")) none)
+
+parts_stand : (command : Command) → HasNumbersInRange command → AllStand [] (map part_text (command_parts command))
+parts_stand (Step p act.Go) r = (fixed _ _ refl refl refl, (a_number _ p r.1.0 refl, (fixed _ _ refl refl refl, tt)))
+parts_stand (Step p act.Learn) r = (fixed _ _ refl refl refl, (a_number _ p r.1.0 refl, (fixed _ _ refl refl refl, tt)))
+parts_stand (Step p act.Crash) r = (fixed _ _ refl refl refl, (a_number _ p r.1.0 refl, (fixed _ _ refl refl refl, tt)))
+parts_stand (Step p (act.Query None)) r = (fixed _ _ refl refl refl, (a_number _ p r.1.0 refl, (fixed _ _ refl refl refl, tt)))
+parts_stand (Step p (act.Query (Some l))) r = (fixed _ _ refl refl refl, (a_number _ p r.1.0 refl, (fixed _ _ refl refl refl, (a_number _ l r.1.1.1.0 refl, tt))))
+parts_stand (Step p (act.Recv s m)) r =
+    (fixed _ _ refl refl refl, (a_number _ p r.1.0 refl, (fixed _ _ refl refl refl, (a_number _ s r.1.1.1.0 refl, (a_number _ m r.1.1.1.1.0 refl, tt)))))
+parts_stand (Auto p) r = (fixed _ _ refl refl refl, (a_number _ p r.1.0 refl, tt))
+parts_stand (Lose s m p) r = (fixed _ _ refl refl refl, (a_number _ s r.1.0 refl, (a_number _ m r.1.1.0 refl, (a_number _ p r.1.1.1.0 refl, tt))))
+parts_stand (Undo p k) r = (fixed _ _ refl refl refl, (a_number _ p r.1.0 refl, (a_number _ k r.1.1.0 refl, tt)))
+parts_stand (UndoLost s m p) r =
+    (fixed _ _ refl refl refl, (fixed _ _ refl refl refl, (a_number _ s r.1.1.0 refl, (a_number _ m r.1.1.1.0 refl, (a_number _ p r.1.1.1.1.0 refl, tt)))))
+parts_stand Redo r = (fixed _ _ refl refl refl, tt)
+parts_stand Forget r = (fixed _ _ refl refl refl, tt)
+parts_stand (Rollback p k) r = (fixed _ _ refl refl refl, (a_number _ p r.1.0 refl, (a_number _ k r.1.1.0 refl, tt)))
+parts_stand (RollbackLost s m p) r =
+    (fixed _ _ refl refl refl, (fixed _ _ refl refl refl, (a_number _ s r.1.1.0 refl, (a_number _ m r.1.1.1.0 refl, (a_number _ p r.1.1.1.1.0 refl, tt)))))
+parts_stand (Why p k) r = (fixed _ _ refl refl refl, (a_number _ p r.1.0 refl, (a_number _ k r.1.1.0 refl, tt)))
+parts_stand (WhyLost s m p) r =
+    (fixed _ _ refl refl refl, (fixed _ _ refl refl refl, (a_number _ s r.1.1.0 refl, (a_number _ m r.1.1.1.0 refl, (a_number _ p r.1.1.1.1.0 refl, tt)))))
+parts_stand (Break (stop.Decide p)) r = (fixed _ _ refl refl refl, (fixed _ _ refl refl refl, (a_number _ p r.1.1.0 refl, tt)))
+parts_stand (Break (stop.Round p n)) r = (fixed _ _ refl refl refl, (fixed _ _ refl refl refl, (a_number _ p r.1.1.0 refl, (a_number _ n r.1.1.1.0 refl, tt))))
+parts_stand (Break (stop.Recv p)) r = (fixed _ _ refl refl refl, (fixed _ _ refl refl refl, (a_number _ p r.1.1.0 refl, tt)))
+parts_stand (Break (stop.Write x)) r = (fixed _ _ refl refl refl, (fixed _ _ refl refl refl, (a_register _ x r.1.1.0 refl, tt)))
+parts_stand (Unbreak b) r = (fixed _ _ refl refl refl, (a_number _ b r.1.0 refl, tt))
+parts_stand Resume r = (fixed _ _ refl refl refl, tt)
+parts_stand (Show (view.Proc p)) r = (fixed _ _ refl refl refl, (a_number _ p r.1.0 refl, tt))
+parts_stand (Show view.Regs) r = (fixed _ _ refl refl refl, (fixed _ _ refl refl refl, tt))
+parts_stand (Show view.Mail) r = (fixed _ _ refl refl refl, (fixed _ _ refl refl refl, tt))
+parts_stand (Show view.History) r = (fixed _ _ refl refl refl, (fixed _ _ refl refl refl, tt))
+parts_stand Decisions r = (fixed _ _ refl refl refl, tt)
+
+-- ---- all such lines
+
+seat_words : (seat : ℕ) → IsWithin 1 most_seats seat → words_of (seat_line seat) ≡ codes "seat" ∷ decimal seat ∷ []
+seat_words seat within =
+    slice_split_at is_space (codes "seat") 32 (decimal seat) (none_is_space (codes "seat") (refl, (refl, (refl, (refl, tt))))) refl
+    ∙ ap (λ (words : List (List ℕ)). codes "seat" ∷ words) (slice_split_none is_space (decimal seat) (none_is_space (decimal seat) (number_is_spaceless seat (omega (arith, within.1)))))
+
+pub exact_lines_stand : ExactLinesStand
+exact_lines_stand line (inl (inl is)) = subst (λ (l : List ℕ). line_meant l ≡ l) (sym is) (exact help_line (codes "help" ∷ []) refl (fixed _ _ refl refl refl, tt))
+exact_lines_stand line (inl (inr (inl is))) = subst (λ (l : List ℕ). line_meant l ≡ l) (sym is) (exact quit_line (codes "quit" ∷ []) refl (fixed _ _ refl refl refl, tt))
+exact_lines_stand line (inl (inr (inr (seat, within, is)))) =
+    let range : IsInRange (number seat) = (within.0, omega (arith, within.1)) in
+    subst (λ (l : List ℕ). line_meant l ≡ l) (sym is)
+    (exact (seat_line seat) (codes "seat" ∷ decimal seat ∷ []) (seat_words seat within) (fixed _ _ refl refl refl, (a_number _ seat range refl, tt)))
+exact_lines_stand line (inr (command, is)) = exact line (map part_text (command_parts command)) is.0 (parts_stand command is.1)
