@@ -160,7 +160,7 @@ module _ {J : Type 0} (stream : J → Stream) where
   abbrev pub seen_kept : Kept J → Kept Stream
   seen_kept kept = record { file = stream kept.file; outcome = kept.outcome }
 
-  seen_is : (r : Result (Unit {0}) OutputFault) (old new : J) (journal : List Entry) → IsKept stream r old new journal → IsKept (λ (s : Stream). s) r (stream old) (stream new) journal
+  pub seen_is : (r : Result (Unit {0}) OutputFault) (old new : J) (journal : List Entry) → IsKept stream r old new journal → IsKept (λ (s : Stream). s) r (stream old) (stream new) journal
   seen_is (Ok done) old new journal kept = kept
   seen_is (Err output.Write) old new journal kept = kept
   seen_is (Err (output.NoMemory refused)) old new journal kept = kept

@@ -19,6 +19,6 @@ mod threads;
 pub use alone::debug_kept;
 pub use endpoint::{Endpoint, Finished, Opener};
 pub use keeping::Kept;
-pub use reports::{status_after, write_failures, write_journal};
+pub use reports::{status_after, write_failures, write_journal, write_kept_fault};
 pub use shared::debug_shared;
 pub use threads::{SessionsFault, debug_seats};
