@@ -11,7 +11,7 @@ use Rattle.cdb_streams.specs.declared.source.ReadFault.TheVariants as reading
 use Rattle.cdb_program.specs.Known.{FilesSeen, after_opening, after_failing}
 use Rattle.cdb_program.specs.Reading.{AreFirstBytes, FailsToRead, HasRead, ReadsFile, most_read, file_names}
 use Rattle.cdb_program.specs.declared.fault.Fault.{Fault}
-use Rattle.cdb_program.specs.declared.fault.Fault.TheVariants.{Play, Race, NoStep, NoValue, Different, NoGoal, NotFound, DoesNotHold, TooManyEvents, TooManySeats, Refused}
+use Rattle.cdb_program.specs.declared.fault.Fault.TheVariants.{Play, Race, NoStep, NoValue, Different, NoGoal, NotFound, DoesNotHold, TooManyEvents, TooManySeats, Refused, Journal}
 
 -- names are added to those that are known
 more_opened : (opened : Option (List (List ℕ))) (first second : List (List ℕ))
@@ -82,6 +82,7 @@ fails_then old mid new first second a (Play (play.Line script line fault) name) 
 fails_then old mid new first second a (Play (play.ScriptTooLong script) name) before fails = absurd fails
 fails_then old mid new first second a (Play play.Write name) before fails = absurd fails
 fails_then old mid new first second a (Race fault) before fails = absurd fails
+fails_then old mid new first second a (Journal why) before fails = absurd fails
 fails_then old mid new first second a NoStep before fails = absurd fails
 fails_then old mid new first second a NoValue before fails = absurd fails
 fails_then old mid new first second a TooManyEvents before fails = absurd fails
@@ -101,6 +102,7 @@ fails_before old new names after (Play (play.Line script line fault) name) fails
 fails_before old new names after (Play (play.ScriptTooLong script) name) fails = absurd fails
 fails_before old new names after (Play play.Write name) fails = absurd fails
 fails_before old new names after (Race fault) fails = absurd fails
+fails_before old new names after (Journal why) fails = absurd fails
 fails_before old new names after NoStep fails = absurd fails
 fails_before old new names after NoValue fails = absurd fails
 fails_before old new names after TooManyEvents fails = absurd fails

@@ -18,7 +18,7 @@ use Rattle.cdb_streams.specs.declared.fault.PlayFault.TheVariants as play
 use Rattle.cdb_program.specs.Known.{FilesSeen, after_opening, after_failing}
 use Rattle.cdb_program.specs.Reading.{FailsToRead, file_names}
 use Rattle.cdb_program.specs.declared.fault.Fault.{Fault}
-use Rattle.cdb_program.specs.declared.fault.Fault.TheVariants.{Play, Race, NoStep, NoValue, Different, NoGoal, NotFound, DoesNotHold, TooManyEvents, TooManySeats, Refused}
+use Rattle.cdb_program.specs.declared.fault.Fault.TheVariants.{Play, Race, NoStep, NoValue, Different, NoGoal, NotFound, DoesNotHold, TooManyEvents, TooManySeats, Refused, Journal}
 use Rattle.cdb_streams.specs.Faults.{of_reading}
 use Rattle.cdb_streams.specs.declared.source.ReadFault.{ReadFault}
 use Rattle.cdb_streams.specs.declared.source.ReadFault.TheVariants as reading
@@ -40,6 +40,7 @@ one_fails P opens old new name (reading.NoMemory refused) is = ([], name.now ∷
 pub as_fault : (setup : List ℕ) (seats : List (List ℕ)) (file : Option (List ℕ)) (old new : FilesSeen) (fault : Fault) → FailsToRead old new (setup ∷ (seats ++ any_name file)) fault → IsFaultOfSeats setup seats file old new fault
 as_fault setup seats file old new (Play why name) fails = fails
 as_fault setup seats file old new (Race why) fails = absurd fails
+as_fault setup seats file old new (Journal why) fails = fails
 as_fault setup seats file old new NoStep fails = fails
 as_fault setup seats file old new NoValue fails = fails
 as_fault setup seats file old new TooManyEvents fails = fails
@@ -73,6 +74,7 @@ fails_later old mid new first second (Play (play.Line script line fault) name) b
 fails_later old mid new first second (Play (play.ScriptTooLong script) name) before fails = absurd fails
 fails_later old mid new first second (Play play.Write name) before fails = absurd fails
 fails_later old mid new first second (Race fault) before fails = absurd fails
+fails_later old mid new first second (Journal why) before fails = absurd fails
 fails_later old mid new first second NoStep before fails = absurd fails
 fails_later old mid new first second NoValue before fails = absurd fails
 fails_later old mid new first second TooManyEvents before fails = absurd fails

@@ -1,8 +1,8 @@
 //! A session over a control of its own, at a prompt or behind a pipe.
 
-ghost use Rattle.std.specs.Prelude.{◌≡◌, IfOk};
+ghost use Rattle.std.specs.Prelude.{◌≡◌, IfOk, IfErr};
 ghost use Rattle.cdb_control.specs.Journal.{opened};
-ghost use Rattle.cdb_session.specs.Debugs.{Debugs};
+ghost use Rattle.cdb_session.specs.Debugs.{Debugs, IsBegun, IsFaultOfBeginning};
 ghost use Rattle.cdb_session.specs.Requests.{most_seats};
 
 use crate::caller::Caller;
@@ -45,6 +45,19 @@ fn open<R: Runs>(alloc: Global, setup: Setup) -> Result<Control<R>, NoMemory>
     }
 }
 
+/// A control of the setup of this text, in which nothing has happened, with nine seats.
+///
+/// # Errors
+/// `Setup` with the setup's first fault, and `NoMemory` where an allocation fails.
+pub fn begin<R: Runs>(alloc: Global, setup: &[u8]) -> Result<Control<R>, PlayFault>
+    ensures begun { IfOk result (IsBegun setup.now) }
+    ensures fault { IfErr result (IsFaultOfBeginning setup.now) }
+{
+    let setup = Setup::read(alloc, setup)?;
+    let control = open::<R>(alloc, setup)?;
+    Ok(control)
+}
+
 /// A session on a run of the setup, in which each line has its response before more input is asked for: a command of
 /// the seat that the session is at, `help`, `seat S`, or `quit`, which ends it; a line that is none of these has its
 /// fault. The prompt is shown before each line. The end of the input, which is asked for once, ends the session too,
@@ -68,8 +81,7 @@ pub fn debug<R: Runs, T: Console>(
 ) -> Result<(), PlayFault>
     ensures { Debugs R.rules prompt.now setup.now result (T.known console.old) (T.known console.new) }
 {
-    let setup = Setup::read(alloc, setup)?;
-    let control = open::<R>(alloc, setup)?;
+    let control = begin::<R>(alloc, setup)?;
     let style = Style {
         prompt,
         first: 1,

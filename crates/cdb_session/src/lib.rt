@@ -22,7 +22,7 @@ mod style;
 mod typed;
 mod unfinished;
 
-pub use alone::debug;
+pub use alone::{begin, debug};
 pub use caller::Caller;
 pub use console::{Console, write_all};
 pub use help::{COMMANDS, OTHERS, SEATS};
