@@ -11,7 +11,7 @@ use Rattle.cdb_base.specs.declared.question.Question.TheVariants.{Explain, Trail
 use Rattle.cdb_arguments.specs.Asking.{Asks, IsAnyStepIn, IsNumber, IsStepIn, IsTurns, subcommand_for, text_at, texts_at}
 
 -- a question with a step of these rows
-abbrev AsksStep : {S : Type 0} → (List Row → S → Type 0) → (S → Question) → List Row → Asked → Type 0
+abbrev pub AsksStep : {S : Type 0} → (List Row → S → Type 0) → (S → Question) → List Row → Asked → Type 0
 AsksStep IsIn question rows asked =
     (step : _) × IsIn rows step × (asked ≡ Ask (text_at (codes "SETUP") rows) (text_at (codes "SCRIPT") rows) (question step))
 
@@ -21,7 +21,8 @@ Means name rows asked =
     let setup = text_at (codes "SETUP") rows in
     let script = text_at (codes "SCRIPT") rows in
     MatchBool (bytes_eq name (codes "play")) (asked ≡ Play setup script)
-    (MatchBool (bytes_eq name (codes "race")) ((turns : ℕ) × IsTurns (text_at (codes "TURNS") rows) turns × (asked ≡ Race setup turns (texts_at (codes "SCRIPT") rows)))
+    (MatchBool (bytes_eq name (codes "race"))
+    ((turns : ℕ) × IsTurns (text_at (codes "TURNS") rows) turns × (asked ≡ Race setup turns (texts_at (codes "SCRIPT") rows)))
     (MatchBool (bytes_eq name (codes "explain")) (AsksStep IsStepIn (λ step. Explain step) rows asked)
     (MatchBool (bytes_eq name (codes "trail")) (AsksStep IsStepIn (λ step. Trail step) rows asked)
     (MatchBool (bytes_eq name (codes "draw")) (AsksStep IsAnyStepIn (λ step. Draw step) rows asked)
@@ -29,8 +30,8 @@ Means name rows asked =
     (MatchBool (bytes_eq name (codes "debug")) (asked ≡ Debug setup (texts_at (codes "SEAT") rows) (first_of (codes "FILE") rows))
     (MatchBool (bytes_eq name (codes "replay")) (asked ≡ Replay setup (text_at (codes "JOURNAL") rows))
     (MatchBool (bytes_eq name (codes "search"))
-        ((seed walks : ℕ) × IsNumber (text_at (codes "SEED") rows) seed × IsNumber (text_at (codes "WALKS") rows) walks
-        × (asked ≡ Search setup (text_at (codes "GOAL") rows) seed walks))
+    ((seed walks : ℕ) × IsNumber (text_at (codes "SEED") rows) seed × IsNumber (text_at (codes "WALKS") rows) walks
+    × (asked ≡ Search setup (text_at (codes "GOAL") rows) seed walks))
     (MatchBool (bytes_eq name (codes "shrink")) (asked ≡ Shrink setup script (text_at (codes "GOAL") rows))
     (MatchBool (bytes_eq name (codes "same")) (asked ≡ Same setup (text_at (codes "FIRST") rows) (text_at (codes "SECOND") rows))
     (MatchBool (bytes_eq name (codes "clocks")) (asked ≡ Clocks setup script) (asked ≡ Page setup script))))))))))))

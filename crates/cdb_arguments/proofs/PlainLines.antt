@@ -2,7 +2,7 @@
 use Rattle.std.proofs.Common.{◌≡◌, ◌∙◌, ℕ, true, List, [], ◌∷◌, refl, ap₂, subst, codes}
 use Rattle.std.specs.Prelude.{fold, unwrap_or, slice_get}
 use Rattle.clap.specs.Simple.{Shape, new_shape, built}
-use Rattle.clap.specs.Walk.{Held, Row, walk_from, nothing_held, finished}
+use Rattle.clap.specs.Walk.{Held, Row, Walk, walk_from, nothing_held, finished}
 use Rattle.clap.specs.Words.{subcommand_of, takes}
 use Rattle.clap.proofs.OnLiterals.{clap_on_literals}
 use Rattle.cdb_base.specs.Requests.{Asked, Script, Play, Replay, Search, Shrink, Same, Clocks, Page, Text}
@@ -24,9 +24,12 @@ pub script_line : (name : Text) → IsTaken (name ∷ []) Script
 unfolding clap_on_literals program
 script_line name = record { taken = refl; only = λ asked is. is }
 
--- what clap holds once it has met these texts of a subcommand
+-- clap's walk, and what it holds, once it has met these texts of a subcommand
+abbrev pub walk_after : Shape → List Text → Walk
+walk_after shape = fold (with_value shape.rules) (walk_from nothing_held)
+
 abbrev pub held_after : Shape → List Text → Held
-held_after shape texts = (fold (with_value shape.rules) (walk_from nothing_held) texts).held
+held_after shape texts = (walk_after shape texts).held
 
 abbrev pub rows_of : Shape → List Text → List Row
 rows_of shape texts = finished shape.rules (held_after shape texts)
@@ -38,7 +41,8 @@ pub record Meets (command : Text) (shape : Shape) (texts : List Text) (it : Aske
   pub ends : EndPasses shape (held_after shape texts)
   pub only : (asked : Asked) → Means command (rows_of shape texts) asked → asked ≡ it
 
-pub taken_line : (command : Text) (shape : Shape) (texts words : List Text) (it : Asked) → IsSubcommandLine command texts words → Meets command shape texts it → IsTaken words it
+pub taken_line : (command : Text) (shape : Shape) (texts words : List Text) (it : Asked) → IsSubcommandLine command texts words
+    → Meets command shape texts it → IsTaken words it
 taken_line command shape texts words it ((name, is), plain) meets =
     rw is (record {
       taken = line_taken command shape meets.sub name texts plain meets.passes meets.ends;
@@ -69,30 +73,30 @@ module _ (words : List Text) (setup script : Text) where
   abbrev Files : List Text
   Files = setup ∷ script ∷ []
 
-  files_passes : ValuesPass files_shape (walk_from nothing_held) Files
+  files_line : (command : Text) (it : Asked) → IsSub command files_shape
+      → ((asked : Asked) → Means command (rows_of files_shape Files) asked → asked ≡ it) → IsSubcommandLine command Files words → IsTaken words it
   unfolding clap_on_literals program files_shape
-  files_passes = ((refl, refl, tt), refl, ((refl, refl, tt), refl, tt))
-
-  files_ends : EndPasses files_shape (held_after files_shape Files)
-  unfolding clap_on_literals program files_shape
-  files_ends = (refl, refl, refl)
+  files_line command it sub only line =
+      taken_line command files_shape Files words it line
+      (record { sub = sub; passes = ((refl, refl, tt), refl, ((refl, refl, tt), refl, tt)); ends = (refl, refl, refl); only = only })
 
   pub play_line : IsSubcommandLine (codes "play") Files words → IsTaken words (Play setup script)
   unfolding clap_on_literals program files_shape
-  play_line line = taken_line (codes "play") files_shape Files words (Play setup script) line (record { sub = play_sub; passes = files_passes; ends = files_ends; only = λ asked is. is })
+  play_line = files_line (codes "play") (Play setup script) play_sub (λ asked is. is)
 
   pub clocks_line : IsSubcommandLine (codes "clocks") Files words → IsTaken words (Clocks setup script)
   unfolding clap_on_literals program files_shape
-  clocks_line line = taken_line (codes "clocks") files_shape Files words (Clocks setup script) line (record { sub = clocks_sub; passes = files_passes; ends = files_ends; only = λ asked is. is })
+  clocks_line = files_line (codes "clocks") (Clocks setup script) clocks_sub (λ asked is. is)
 
   pub page_line : IsSubcommandLine (codes "page") Files words → IsTaken words (Page setup script)
   unfolding clap_on_literals program files_shape
-  page_line line = taken_line (codes "page") files_shape Files words (Page setup script) line (record { sub = page_sub; passes = files_passes; ends = files_ends; only = λ asked is. is })
+  page_line = files_line (codes "page") (Page setup script) page_sub (λ asked is. is)
 
 replay_shape : Shape
 replay_shape = unwrap_or (slice_get (built program).subs 7) (new_shape [])
 
-pub replay_line : (words : List Text) (setup journal : Text) → IsSubcommandLine (codes "replay") (setup ∷ journal ∷ []) words → IsTaken words (Replay setup journal)
+pub replay_line : (words : List Text) (setup journal : Text) → IsSubcommandLine (codes "replay") (setup ∷ journal ∷ []) words
+    → IsTaken words (Replay setup journal)
 unfolding clap_on_literals program replay_shape
 replay_line words setup journal line =
     taken_line (codes "replay") replay_shape (setup ∷ journal ∷ []) words (Replay setup journal) line (record {
@@ -121,7 +125,8 @@ search_line words setup goal first second seed walks writes more line =
 same_shape : Shape
 same_shape = unwrap_or (slice_get (built program).subs 9) (new_shape [])
 
-pub same_line : (words : List Text) (setup first second : Text) → IsSubcommandLine (codes "same") (setup ∷ first ∷ second ∷ []) words → IsTaken words (Same setup first second)
+pub same_line : (words : List Text) (setup first second : Text) → IsSubcommandLine (codes "same") (setup ∷ first ∷ second ∷ []) words
+    → IsTaken words (Same setup first second)
 unfolding clap_on_literals program same_shape
 same_line words setup first second line =
     taken_line (codes "same") same_shape (setup ∷ first ∷ second ∷ []) words (Same setup first second) line (record {
@@ -134,7 +139,8 @@ same_line words setup first second line =
 shrink_shape : Shape
 shrink_shape = unwrap_or (slice_get (built program).subs 11) (new_shape [])
 
-pub shrink_line : (words : List Text) (setup script goal : Text) → IsSubcommandLine (codes "shrink") (setup ∷ script ∷ goal ∷ []) words → IsTaken words (Shrink setup script goal)
+pub shrink_line : (words : List Text) (setup script goal : Text) → IsSubcommandLine (codes "shrink") (setup ∷ script ∷ goal ∷ []) words
+    → IsTaken words (Shrink setup script goal)
 unfolding clap_on_literals program shrink_shape
 shrink_line words setup script goal line =
     taken_line (codes "shrink") shrink_shape (setup ∷ script ∷ goal ∷ []) words (Shrink setup script goal) line (record {

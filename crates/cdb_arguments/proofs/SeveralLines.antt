@@ -15,8 +15,8 @@ use Rattle.cdb_base.specs.Requests.{Asked, Race, Debug, Text}
 use Rattle.cdb_arguments.specs.CommandLine.{program}
 use Rattle.cdb_arguments.specs.Plain.{IsNumberOfTurns, IsSubcommandLine}
 use Rattle.cdb_arguments.proofs.Means.{Means}
-use Rattle.cdb_arguments.proofs.Numbers.{AcceptsFrom, accepts_turns, turns_are}
-use Rattle.cdb_arguments.proofs.PlainLines.{IsTaken, taken_line}
+use Rattle.cdb_arguments.proofs.Numbers.{AcceptsFrom, accepts_turns}
+use Rattle.cdb_arguments.proofs.PlainLines.{IsTaken, taken_line, walk_after}
 use Rattle.cdb_arguments.proofs.PlainWords.{TakesValue, with_value}
 use Rattle.cdb_arguments.proofs.Subcommands.{IsSub}
 use Rattle.cdb_arguments.proofs.Values.{EndPasses, ValuesPass}
@@ -54,7 +54,11 @@ module _ (shape : Shape) (rows : List Row) (id : Text) (position : ℕ) (takes :
 
   more_pass : (texts more : List Text) → ValuesPass shape (at rows id position texts) more
   more_pass texts [] = tt
-  more_pass texts (text ∷ more) = (at_value texts, step_at texts, subst (λ w. ValuesPass shape w more) (sym (takes.one texts text)) (more_pass (texts ++ text ∷ []) more))
+  more_pass texts (text ∷ more) = (
+    at_value texts,
+    step_at texts,
+    subst (λ w. ValuesPass shape w more) (sym (takes.one texts text)) (more_pass (texts ++ text ∷ []) more),
+  )
 
 all_texts_pass : (texts : List Text) → list_all (λ text. accepts false vp.String text) texts ≡ true
 all_texts_pass [] = refl
@@ -71,25 +75,28 @@ race_sub = record { stops = refl; turn = refl; end = refl; enters = λ words. re
 
 module _ (setup turns : Text) where
   race_rows : List Row
-  race_rows = (fold (with_value race_shape.rules) (walk_from nothing_held) (setup ∷ turns ∷ [] ∷ [])).held.rows
+  race_rows = (walk_after race_shape (setup ∷ turns ∷ [] ∷ [])).held.rows
 
   scripts_take : TakesMore race_shape race_rows (codes "SCRIPT") 3
   unfolding clap_on_literals program race_shape at race_rows
   scripts_take = record { one = λ texts text. refl; steps = λ texts. refl }
 
-  first_script : (script : Text) → fold (with_value race_shape.rules) (walk_from nothing_held) (setup ∷ turns ∷ script ∷ []) ≡ at race_rows (codes "SCRIPT") 3 (script ∷ [])
+  first_script : (script : Text) → walk_after race_shape (setup ∷ turns ∷ script ∷ []) ≡ at race_rows (codes "SCRIPT") 3 (script ∷ [])
   unfolding clap_on_literals program race_shape at race_rows
   first_script script = refl
 
   module _ (script : Text) (more : List Text) where
-    all_scripts : fold (with_value race_shape.rules) (walk_from nothing_held) (setup ∷ turns ∷ script ∷ more) ≡ at race_rows (codes "SCRIPT") 3 (script ∷ more)
+    all_scripts : walk_after race_shape (setup ∷ turns ∷ script ∷ more) ≡ at race_rows (codes "SCRIPT") 3 (script ∷ more)
     all_scripts =
-        ap (λ w. fold (with_value race_shape.rules) w more) (first_script script) ∙ all_more race_shape race_rows (codes "SCRIPT") 3 scripts_take (script ∷ []) more
+        ap (λ w. fold (with_value race_shape.rules) w more) (first_script script)
+        ∙ all_more race_shape race_rows (codes "SCRIPT") 3 scripts_take (script ∷ []) more
 
     race_passes : AcceptsFrom 0 99999 turns → ValuesPass race_shape (walk_from nothing_held) (setup ∷ turns ∷ script ∷ more)
     unfolding clap_on_literals program race_shape
     race_passes number =
-        let rest = subst (λ w. ValuesPass race_shape w more) (sym (first_script script)) (more_pass race_shape race_rows (codes "SCRIPT") 3 scripts_take (script ∷ []) more) in
+        let rest =
+        subst (λ w. ValuesPass race_shape w more) (sym (first_script script))
+        (more_pass race_shape race_rows (codes "SCRIPT") 3 scripts_take (script ∷ []) more) in
         ((refl, refl, tt), refl, ((refl, refl, tt), refl, ((refl, refl, tt), rw number refl, rest)))
 
     race_ends : length (script ∷ more) ≤ usize_max → EndPasses race_shape (at race_rows (codes "SCRIPT") 3 (script ∷ more)).held
@@ -97,12 +104,14 @@ module _ (setup turns : Text) where
     race_ends short = (rw (le-leb 1 (length (script ∷ more)) (omega arith), le-leb _ _ short, all_texts_pass more) refl, refl, refl)
 
     race_means : (number : ℕ) → IsNumberOfTurns turns number → (asked : Asked)
-        → Means (codes "race") (finished race_shape.rules (at race_rows (codes "SCRIPT") 3 (script ∷ more)).held) asked → asked ≡ Race setup number (script ∷ more)
+        → Means (codes "race") (finished race_shape.rules (at race_rows (codes "SCRIPT") 3 (script ∷ more)).held) asked
+        → asked ≡ Race setup number (script ∷ more)
     unfolding clap_on_literals program race_shape at race_rows
-    race_means number writes asked is = is.2 ∙ ap (λ its. Race setup its (script ∷ more)) (turns_are turns number is.0 writes is.1)
+    race_means number writes asked is = is.2 ∙ ap (λ its. Race setup its (script ∷ more)) (is.1.1 number writes)
 
-pub race_line : (words : List Text) (setup text : Text) (turns : ℕ) (scripts : List Text) → IsNumberOfTurns text turns → 1 ≤ length scripts → length scripts ≤ usize_max
-    → IsSubcommandLine (codes "race") (setup ∷ text ∷ scripts) words → IsTaken words (Race setup turns scripts)
+pub race_line : (words : List Text) (setup text : Text) (turns : ℕ) (scripts : List Text) → IsNumberOfTurns text turns
+    → 1 ≤ length scripts → length scripts ≤ usize_max → IsSubcommandLine (codes "race") (setup ∷ text ∷ scripts) words
+    → IsTaken words (Race setup turns scripts)
 race_line words setup text turns [] writes some short line = absurd (omega arith)
 race_line words setup text turns (script ∷ more) writes some short line =
     let all = all_scripts setup text script more in
@@ -131,25 +140,28 @@ debug_alone words setup line =
 
 module _ (setup : Text) where
   debug_rows : List Row
-  debug_rows = (fold (with_value debug_shape.rules) (walk_from nothing_held) (setup ∷ [] ∷ [])).held.rows
+  debug_rows = (walk_after debug_shape (setup ∷ [] ∷ [])).held.rows
 
   seats_take : TakesMore debug_shape debug_rows (codes "SEAT") 2
   unfolding clap_on_literals program debug_shape at debug_rows
   seats_take = record { one = λ texts text. refl; steps = λ texts. refl }
 
-  first_seat : (seat : Text) → fold (with_value debug_shape.rules) (walk_from nothing_held) (setup ∷ seat ∷ []) ≡ at debug_rows (codes "SEAT") 2 (seat ∷ [])
+  first_seat : (seat : Text) → walk_after debug_shape (setup ∷ seat ∷ []) ≡ at debug_rows (codes "SEAT") 2 (seat ∷ [])
   unfolding clap_on_literals program debug_shape at debug_rows
   first_seat seat = refl
 
   module _ (seat : Text) (more : List Text) where
-    all_seats : fold (with_value debug_shape.rules) (walk_from nothing_held) (setup ∷ seat ∷ more) ≡ at debug_rows (codes "SEAT") 2 (seat ∷ more)
+    all_seats : walk_after debug_shape (setup ∷ seat ∷ more) ≡ at debug_rows (codes "SEAT") 2 (seat ∷ more)
     all_seats =
-        ap (λ w. fold (with_value debug_shape.rules) w more) (first_seat seat) ∙ all_more debug_shape debug_rows (codes "SEAT") 2 seats_take (seat ∷ []) more
+        ap (λ w. fold (with_value debug_shape.rules) w more) (first_seat seat)
+        ∙ all_more debug_shape debug_rows (codes "SEAT") 2 seats_take (seat ∷ []) more
 
     debug_passes : ValuesPass debug_shape (walk_from nothing_held) (setup ∷ seat ∷ more)
     unfolding clap_on_literals program debug_shape
     debug_passes =
-        let rest = subst (λ w. ValuesPass debug_shape w more) (sym (first_seat seat)) (more_pass debug_shape debug_rows (codes "SEAT") 2 seats_take (seat ∷ []) more) in
+        let rest =
+        subst (λ w. ValuesPass debug_shape w more) (sym (first_seat seat))
+        (more_pass debug_shape debug_rows (codes "SEAT") 2 seats_take (seat ∷ []) more) in
         ((refl, refl, tt), refl, ((refl, refl, tt), refl, rest))
 
     debug_ends : length (seat ∷ more) ≤ usize_max → EndPasses debug_shape (at debug_rows (codes "SEAT") 2 (seat ∷ more)).held

@@ -1,11 +1,10 @@
 -- What clap makes of the lines of questions, whose last texts may be left out.
-use Rattle.std.proofs.Common.{◌≡◌, ◌∙◌, ℕ, List, [], ◌∷◌, Option, Some, None, refl, ap, ap₂, codes}
+use Rattle.std.proofs.Common.{◌≡◌, ◌∙◌, ℕ, List, [], ◌∷◌, Option, Some, None, refl, ap, ap₂, sym, codes}
 use Rattle.std.specs.Prelude.{unwrap_or, slice_get}
 use Rattle.std.proofs.lemmas.Bool.{false≢true}
 use Rattle.std.proofs.lemmas.Option.{none-some}
 use Rattle.clap.specs.Simple.{Shape, new_shape, built}
-use Rattle.clap.specs.Walk.{Row, walk_from, nothing_held}
-use Rattle.clap.specs.Words.{first_of}
+use Rattle.clap.specs.Walk.{walk_from, nothing_held}
 use Rattle.clap.proofs.OnLiterals.{clap_on_literals}
 use Rattle.cdb_base.specs.Requests.{Asked, Ask, Text}
 use Rattle.cdb_base.specs.declared.question.Question.{Question}
@@ -14,7 +13,7 @@ use Rattle.cdb_base.specs.declared.question.StepAsked.{StepAsked}
 use Rattle.cdb_arguments.specs.Asking.{IsAnyStepIn, IsNumber, IsNumberOf}
 use Rattle.cdb_arguments.specs.CommandLine.{program}
 use Rattle.cdb_arguments.specs.Plain.{IsSubcommandLine, WritesNumber, WritesStep, question_name, step_asked}
-use Rattle.cdb_arguments.proofs.Means.{Means}
+use Rattle.cdb_arguments.proofs.Means.{AsksStep, Means}
 use Rattle.cdb_arguments.proofs.Numbers.{AcceptsNumber, OptionWritesNumber, accepts_number, number_is}
 use Rattle.cdb_arguments.proofs.PlainLines.{IsTaken, held_after, rows_of, taken_line}
 use Rattle.cdb_arguments.proofs.Subcommands.{IsSub}
@@ -24,22 +23,16 @@ use Rattle.cdb_arguments.proofs.Values.{ValuesPass, EndPasses}
 
 -- a question with a step that these texts write, the second where it is given
 abbrev AsksStepOf : (StepAsked → Question) → Text → Text → Text → Option Text → Asked → Type 0
-AsksStepOf question setup script p k asked = (step : StepAsked) × (IsNumber p step.p × IsNumberOf k step.k) × (asked ≡ Ask setup script (question step))
+AsksStepOf question setup script p k asked =
+    (step : StepAsked) × (IsNumber p step.p × IsNumberOf k step.k) × (asked ≡ Ask setup script (question step))
 
 same_step : (its step : StepAsked) → its.p ≡ step.p → its.k ≡ step.k → its ≡ step
 same_step its step p k = ap₂ (λ p k. let made : StepAsked = record { p = p; k = k } in made) p k
 
-step_is : (question : StepAsked → Question) (setup script p : Text) (k : Option Text) (step : StepAsked) (asked : Asked) → WritesNumber p step.p → OptionWritesNumber k step.k
-    → AsksStepOf question setup script p k asked → asked ≡ Ask setup script (question step)
+step_is : (question : StepAsked → Question) (setup script p : Text) (k : Option Text) (step : StepAsked) (asked : Asked)
+    → WritesNumber p step.p → OptionWritesNumber k step.k → AsksStepOf question setup script p k asked → asked ≡ Ask setup script (question step)
 step_is question setup script p k step asked writes more (its, is, asks) =
     asks ∙ ap (λ (it : StepAsked). Ask setup script (question it)) (same_step its step (is.0.2 step.p writes) (number_is k step.k its.k more is.1))
-
--- a step that may be left out was not
-some_step : (question : Option StepAsked → Question) (rows : List Row) (setup script p : Text) (k : Option Text) (asked : Asked) → first_of (codes "P") rows ≡ Some p
-    → first_of (codes "K") rows ≡ k → (step : Option StepAsked) → IsAnyStepIn rows step → asked ≡ Ask setup script (question step)
-    → AsksStepOf (λ step. question (Some step)) setup script p k asked
-some_step question rows setup script p k asked p_at k_at None is asks = absurd (none-some p (rw (← is) p_at))
-some_step question rows setup script p k asked p_at k_at (Some step) is asks = (step, (rw p_at at is.1.0, rw k_at at is.1.1), asks)
 
 -- ---- a subcommand that takes the files of a setup and of a script, and a step
 
@@ -59,15 +52,15 @@ record AsksThis (command : Text) (shape : Shape) (question : StepAsked → Quest
 
 module _ (command : Text) (shape : Shape) (question : StepAsked → Question) (takes : TakesStep shape) (asks : AsksThis command shape question) where
   module _ (words : List Text) (setup script : Text) where
-    step_line : (texts : List Text) (p : ℕ) (k : Option ℕ) → WritesStep texts (Some (record { p = p; k = k })) → IsSubcommandLine command (setup ∷ script ∷ texts) words
-        → IsTaken words (Ask setup script (question (record { p = p; k = k })))
+    step_line : (texts : List Text) (p : ℕ) (k : Option ℕ) → WritesStep texts (Some (record { p = p; k = k }))
+        → IsSubcommandLine command (setup ∷ script ∷ texts) words → IsTaken words (Ask setup script (question (record { p = p; k = k })))
     step_line texts p None (text, more, is, first, second) line =
         let line : IsSubcommandLine command (setup ∷ script ∷ text ∷ []) words = rw (is, second) at line in
         taken_line command shape (setup ∷ script ∷ text ∷ []) words _ line (record {
           sub = asks.sub;
           passes = takes.passes setup script text;
           ends = takes.ends setup script text (accepts_number text p line.1.1.1.0 first);
-          only = λ asked means. step_is question setup script text None (record { p = p; k = None }) asked first tt (asks.only setup script text asked means);
+          only = λ asked means. step_is question setup script text None _ asked first tt (asks.only setup script text asked means);
         })
     step_line texts p (Some k) (text, more, is, first, (other, its, second)) line =
         let line : IsSubcommandLine command (setup ∷ script ∷ text ∷ other ∷ []) words = rw (is, its) at line in
@@ -75,7 +68,7 @@ module _ (command : Text) (shape : Shape) (question : StepAsked → Question) (t
           sub = asks.sub;
           passes = takes.passes_k setup script text other (accepts_number text p line.1.1.1.0 first);
           ends = takes.ends_k setup script text other (accepts_number other k line.1.1.1.1.0 second);
-          only = λ asked means. step_is question setup script text (Some other) (record { p = p; k = Some k }) asked first second (asks.only_k setup script text other asked means);
+          only = λ asked means. step_is question setup script text (Some other) _ asked first second (asks.only_k setup script text other asked means);
         })
 
 -- ---- the subcommands
@@ -122,60 +115,64 @@ any_step_takes = record {
   ends_k = λ setup script p k a. (rw a refl, refl, refl);
 }
 
+module _ (question : Option StepAsked → Question) (setup script : Text) (asked : Asked) where
+  -- the step of these texts was not left out
+  some_step : (p : Text) → AsksStep IsAnyStepIn question (rows_of any_step_shape (setup ∷ script ∷ p ∷ [])) asked
+      → AsksStepOf (λ step. question (Some step)) setup script p None asked
+  unfolding clap_on_literals program any_step_shape
+  some_step p (None, is, asks) = absurd (none-some p (sym is))
+  some_step p (Some step, is, asks) = (step, is.1, asks)
+
+  some_step_k : (p k : Text) → AsksStep IsAnyStepIn question (rows_of any_step_shape (setup ∷ script ∷ p ∷ k ∷ [])) asked
+      → AsksStepOf (λ step. question (Some step)) setup script p (Some k) asked
+  unfolding clap_on_literals program any_step_shape
+  some_step_k p k (None, is, asks) = absurd (none-some p (sym is))
+  some_step_k p k (Some step, is, asks) = (step, is.1, asks)
+
+  -- and here it was
+  no_step : AsksStep IsAnyStepIn question (rows_of any_step_shape (setup ∷ script ∷ [])) asked → asked ≡ Ask setup script (question None)
+  unfolding clap_on_literals program any_step_shape
+  no_step (None, is, asks) = asks
+  no_step (Some step, is, asks) = absurd (false≢true is.0)
+
 draw_asks : AsksThis (codes "draw") any_step_shape (λ step. Draw (Some step))
 unfolding clap_on_literals program any_step_shape
 draw_asks = record {
   sub = record { stops = refl; turn = refl; end = refl; enters = λ words. refl; levels = λ words. refl };
-  only = λ setup script p asked is. some_step (λ step. Draw step) (rows_of any_step_shape (setup ∷ script ∷ p ∷ [])) setup script p None asked refl refl is.0 is.1 is.2;
-  only_k = λ setup script p k asked is. some_step (λ step. Draw step) (rows_of any_step_shape (setup ∷ script ∷ p ∷ k ∷ [])) setup script p (Some k) asked refl refl is.0 is.1 is.2;
+  only = λ setup script p asked. some_step (λ step. Draw step) setup script asked p;
+  only_k = λ setup script p k asked. some_step_k (λ step. Draw step) setup script asked p k;
 }
 
 slice_asks : AsksThis (codes "slice") any_step_shape (λ step. Slice (Some step))
 unfolding clap_on_literals program any_step_shape
 slice_asks = record {
   sub = record { stops = refl; turn = refl; end = refl; enters = λ words. refl; levels = λ words. refl };
-  only = λ setup script p asked is. some_step (λ step. Slice step) (rows_of any_step_shape (setup ∷ script ∷ p ∷ [])) setup script p None asked refl refl is.0 is.1 is.2;
-  only_k = λ setup script p k asked is. some_step (λ step. Slice step) (rows_of any_step_shape (setup ∷ script ∷ p ∷ k ∷ [])) setup script p (Some k) asked refl refl is.0 is.1 is.2;
+  only = λ setup script p asked. some_step (λ step. Slice step) setup script asked p;
+  only_k = λ setup script p k asked. some_step_k (λ step. Slice step) setup script asked p k;
 }
-
--- a step that may be left out was
-no_step : (question : Option StepAsked → Question) (setup script : Text) (asked : Asked) (step : Option StepAsked)
-    → IsAnyStepIn (rows_of any_step_shape (setup ∷ script ∷ [])) step → asked ≡ Ask setup script (question step) → asked ≡ Ask setup script (question None)
-unfolding clap_on_literals program any_step_shape
-no_step question setup script asked None is asks = asks
-no_step question setup script asked (Some step) is asks = absurd (false≢true is.0)
 
 module _ (words : List Text) (setup script : Text) where
   abbrev Files : List Text
   Files = setup ∷ script ∷ []
 
-  files_pass : ValuesPass any_step_shape (walk_from nothing_held) Files
+  files_line : (command : Text) (it : Asked) → IsSub command any_step_shape
+      → ((asked : Asked) → Means command (rows_of any_step_shape Files) asked → asked ≡ it) → IsSubcommandLine command Files words → IsTaken words it
   unfolding clap_on_literals program any_step_shape
-  files_pass = ((refl, refl, tt), refl, ((refl, refl, tt), refl, tt))
+  files_line command it sub only line =
+      taken_line command any_step_shape Files words it line
+      (record { sub = sub; passes = ((refl, refl, tt), refl, ((refl, refl, tt), refl, tt)); ends = (refl, refl, refl); only = only })
 
-  files_end : EndPasses any_step_shape (held_after any_step_shape Files)
-  unfolding clap_on_literals program any_step_shape
-  files_end = (refl, refl, refl)
-
-  draw_alone : IsSubcommandLine (codes "draw") Files words → IsTaken words (Ask setup script (Draw None))
-  unfolding clap_on_literals program any_step_shape
-  draw_alone line =
-      taken_line (codes "draw") any_step_shape Files words _ line
-      (record { sub = draw_asks.sub; passes = files_pass; ends = files_end; only = λ asked is. no_step (λ step. Draw step) setup script asked is.0 is.1 is.2 })
-
-  slice_alone : IsSubcommandLine (codes "slice") Files words → IsTaken words (Ask setup script (Slice None))
-  unfolding clap_on_literals program any_step_shape
-  slice_alone line =
-      taken_line (codes "slice") any_step_shape Files words _ line
-      (record { sub = slice_asks.sub; passes = files_pass; ends = files_end; only = λ asked is. no_step (λ step. Slice step) setup script asked is.0 is.1 is.2 })
-
-  pub question_line : (question : Question) (texts : List Text) → WritesStep texts (step_asked question) → IsSubcommandLine (question_name question) (setup ∷ script ∷ texts) words
-      → IsTaken words (Ask setup script question)
-  question_line (Explain step) texts writes line = step_line (codes "explain") step_shape (λ step. Explain step) step_takes explain_asks words setup script texts step.p step.k writes line
-  question_line (Trail step) texts writes line = step_line (codes "trail") step_shape (λ step. Trail step) step_takes trail_asks words setup script texts step.p step.k writes line
-  question_line (Draw None) texts writes line = draw_alone (rw writes at line)
+  pub question_line : (question : Question) (texts : List Text) → WritesStep texts (step_asked question)
+      → IsSubcommandLine (question_name question) (setup ∷ script ∷ texts) words → IsTaken words (Ask setup script question)
+  question_line (Explain step) texts writes line =
+      step_line (codes "explain") step_shape (λ step. Explain step) step_takes explain_asks words setup script texts step.p step.k writes line
+  question_line (Trail step) texts writes line =
+      step_line (codes "trail") step_shape (λ step. Trail step) step_takes trail_asks words setup script texts step.p step.k writes line
+  question_line (Draw None) texts writes line =
+      files_line (codes "draw") (Ask setup script (Draw None)) draw_asks.sub (no_step (λ step. Draw step) setup script) (rw writes at line)
   question_line (Draw (Some step)) texts writes line =
       step_line (codes "draw") any_step_shape (λ step. Draw (Some step)) any_step_takes draw_asks words setup script texts step.p step.k writes line
-  question_line (Slice None) texts writes line = slice_alone (rw writes at line)
+  question_line (Slice None) texts writes line =
+      files_line (codes "slice") (Ask setup script (Slice None)) slice_asks.sub (no_step (λ step. Slice step) setup script) (rw writes at line)
   question_line (Slice (Some step)) texts writes line =
       step_line (codes "slice") any_step_shape (λ step. Slice (Some step)) any_step_takes slice_asks words setup script texts step.p step.k writes line

@@ -1,13 +1,12 @@
 -- What the arguments ask for.
 use Rattle.std.specs.Prelude.{◌≡◌, ◌⊎◌, ℕ, ◌≤◌, List, [], codes, Option, Some, None, unwrap_or, Result, IfOk, IfErr, IsSome}
-use Rattle.std.specs.Str.Parse.{IsNumeral, digits_value, without_leading_plus}
 use Rattle.clap.specs.Words.{Kinds, IsAmong, Row, first_of, all_of, kind_of}
 use Rattle.clap.specs.declared.error.kind.ErrorKind.{ErrorKind}
 use Rattle.clap.specs.declared.error.kind.ErrorKind.TheVariants.{DisplayHelp, DisplayVersion}
 use Rattle.cdb_arguments.specs.declared.limits.TheConstants.{MAX_NUMBER, MAX_TURNS}
 use Rattle.cdb_arguments.specs.declared.request.AskFault.{AskFault}
 use Rattle.cdb_arguments.specs.declared.request.AskFault.TheVariants.{Words, NoMemory}
-use Rattle.cdb_arguments.specs.Plain.{WritesNumber, question_name}
+use Rattle.cdb_arguments.specs.Plain.{IsNumberOfTurns, WritesNumber, question_name}
 use Rattle.cdb_base.specs.Memory.{no_memory}
 use Rattle.cdb_base.specs.Requests.{Asked, Script, Play, Race, Ask, Debug, Replay, Search, Shrink, Same, Clocks, Page, Text, asked_for}
 use Rattle.cdb_base.specs.declared.question.Question.{Question}
@@ -21,7 +20,8 @@ NamesOne None = Unit {0}
 NamesOne (Some found) = (found.0 ≡ codes "play") ⊎ ((found.0 ≡ codes "race")
     ⊎ ((found.0 ≡ codes "explain") ⊎ ((found.0 ≡ codes "trail") ⊎ ((found.0 ≡ codes "draw")
     ⊎ ((found.0 ≡ codes "slice") ⊎ ((found.0 ≡ codes "debug") ⊎ ((found.0 ≡ codes "replay")
-    ⊎ ((found.0 ≡ codes "search") ⊎ ((found.0 ≡ codes "same") ⊎ ((found.0 ≡ codes "clocks") ⊎ ((found.0 ≡ codes "shrink") ⊎ (found.0 ≡ codes "page"))))))))))))
+    ⊎ ((found.0 ≡ codes "search") ⊎ ((found.0 ≡ codes "same") ⊎ ((found.0 ≡ codes "clocks")
+    ⊎ ((found.0 ≡ codes "shrink") ⊎ (found.0 ≡ codes "page"))))))))))))
 
 -- the text of an argument, which is empty where the matches have none
 abbrev pub text_at : Text → List Row → Text
@@ -31,15 +31,14 @@ text_at id rows = unwrap_or (first_of id rows) []
 abbrev pub texts_at : Text → List Row → List Text
 texts_at id rows = unwrap_or (all_of id rows) []
 
--- a number of turns, and the one that the text's digits write, after a plus or not
+-- a number of turns, and the one that the text writes where it writes one
 abbrev pub IsTurns : Text → ℕ → Type 0
-IsTurns text turns =
-    (turns ≤ MAX_TURNS)
-    × (IsNumeral 10 (without_leading_plus text) → digits_value 10 (without_leading_plus text) ≤ MAX_TURNS → turns ≡ digits_value 10 (without_leading_plus text))
+IsTurns text turns = (turns ≤ MAX_TURNS) × ((written : ℕ) → IsNumberOfTurns text written → turns ≡ written)
 
 -- a number from 1 on, and the one that the text writes where it writes one
 abbrev pub IsNumber : Text → ℕ → Type 0
-IsNumber text number = (1 ≤ number) × (number ≤ MAX_NUMBER) × ((written : ℕ) → WritesNumber text written → number ≡ written)
+IsNumber text number =
+    (1 ≤ number) × (number ≤ MAX_NUMBER) × ((written : ℕ) → WritesNumber text written → number ≡ written)
 
 -- the number of an argument, and none where the matches have none
 abbrev pub IsNumberOf : Option Text → Option ℕ → Type 0
@@ -84,19 +83,23 @@ abbrev pub Asks : List Row → Asked → Type 0
 Asks rows Script = Unit {0}
 Asks rows (Play setup script) = (setup ≡ text_at (codes "SETUP") rows) × (script ≡ text_at (codes "SCRIPT") rows)
 Asks rows (Race setup turns scripts) =
-    (setup ≡ text_at (codes "SETUP") rows) × (scripts ≡ texts_at (codes "SCRIPT") rows) × IsTurns (text_at (codes "TURNS") rows) turns
+    (setup ≡ text_at (codes "SETUP") rows) × (scripts ≡ texts_at (codes "SCRIPT") rows)
+    × IsTurns (text_at (codes "TURNS") rows) turns
 Asks rows (Ask setup script question) =
     (setup ≡ text_at (codes "SETUP") rows) × (script ≡ text_at (codes "SCRIPT") rows) × HasStepOf rows question
 Asks rows (Debug setup seats journal) =
-    (setup ≡ text_at (codes "SETUP") rows) × (seats ≡ texts_at (codes "SEAT") rows) × (journal ≡ first_of (codes "FILE") rows)
+    (setup ≡ text_at (codes "SETUP") rows) × (seats ≡ texts_at (codes "SEAT") rows)
+    × (journal ≡ first_of (codes "FILE") rows)
 Asks rows (Replay setup journal) = (setup ≡ text_at (codes "SETUP") rows) × (journal ≡ text_at (codes "JOURNAL") rows)
 Asks rows (Search setup goal seed walks) =
     (setup ≡ text_at (codes "SETUP") rows) × (goal ≡ text_at (codes "GOAL") rows)
     × IsNumber (text_at (codes "SEED") rows) seed × IsNumber (text_at (codes "WALKS") rows) walks
 Asks rows (Shrink setup script goal) =
-    (setup ≡ text_at (codes "SETUP") rows) × (script ≡ text_at (codes "SCRIPT") rows) × (goal ≡ text_at (codes "GOAL") rows)
+    (setup ≡ text_at (codes "SETUP") rows) × (script ≡ text_at (codes "SCRIPT") rows)
+    × (goal ≡ text_at (codes "GOAL") rows)
 Asks rows (Same setup first second) =
-    (setup ≡ text_at (codes "SETUP") rows) × (first ≡ text_at (codes "FIRST") rows) × (second ≡ text_at (codes "SECOND") rows)
+    (setup ≡ text_at (codes "SETUP") rows) × (first ≡ text_at (codes "FIRST") rows)
+    × (second ≡ text_at (codes "SECOND") rows)
 Asks rows (Clocks setup script) = (setup ≡ text_at (codes "SETUP") rows) × (script ≡ text_at (codes "SCRIPT") rows)
 Asks rows (Page setup script) = (setup ≡ text_at (codes "SETUP") rows) × (script ≡ text_at (codes "SCRIPT") rows)
 
@@ -107,7 +110,8 @@ NamesAsked (Some found) asked = (subcommand_for asked ≡ Some found.0) × Asks 
 
 -- this was asked for, or there is no memory to say it
 abbrev pub IsRequest : Result Request AskFault → Asked → Type 0
-IsRequest result asked = IfOk result (λ request. asked_for request ≡ asked) × IfErr result (λ fault. fault ≡ NoMemory no_memory)
+IsRequest result asked =
+    IfOk result (λ request. asked_for request ≡ asked) × IfErr result (λ fault. fault ≡ NoMemory no_memory)
 
 -- out of memory, or an error of one of the kinds
 abbrev pub IsOfKinds : Kinds → AskFault → Type 0

@@ -18,15 +18,18 @@ IsPlain (first ∷ rest) = first ≢ 45
 abbrev pub ArePlain : List Text → Type 0
 ArePlain = AllByRecursion IsPlain
 
--- a number of turns in digits, after a plus or not
-abbrev pub IsNumberOfTurns : Text → ℕ → Type 0
-IsNumberOfTurns text turns =
-    IsNumeral 10 (without_leading_plus text) × (digits_value 10 (without_leading_plus text) ≡ turns) × (turns ≤ MAX_TURNS)
+-- the digits of a number, after a plus or not
+abbrev pub AreDigitsOf : Text → ℕ → Type 0
+AreDigitsOf text number =
+    IsNumeral 10 (without_leading_plus text) × (digits_value 10 (without_leading_plus text) ≡ number)
 
--- a number from 1 on in digits, after a plus or not
+-- a number of turns
+abbrev pub IsNumberOfTurns : Text → ℕ → Type 0
+IsNumberOfTurns text turns = AreDigitsOf text turns × (turns ≤ MAX_TURNS)
+
+-- a number from 1 on
 abbrev pub WritesNumber : Text → ℕ → Type 0
-WritesNumber text number =
-    IsNumeral 10 (without_leading_plus text) × (digits_value 10 (without_leading_plus text) ≡ number) × (1 ≤ number) × (number ≤ MAX_NUMBER)
+WritesNumber text number = AreDigitsOf text number × (1 ≤ number) × (number ≤ MAX_NUMBER)
 
 -- the texts of a number, none where there is no number
 abbrev pub WritesOption : List Text → Option ℕ → Type 0
@@ -57,8 +60,8 @@ step_asked (Slice step) = step
 abbrev pub IsSubcommandLine : Text → List Text → List Text → Type 0
 IsSubcommandLine command arguments words = ((name : Text) × (words ≡ name ∷ command ∷ arguments)) × ArePlain arguments
 
--- What the words of a line ask for. There are as many scripts and seats as a machine's word counts, and a race has one script or
--- more; a session whose journal is kept has an option.
+-- What the words of a line ask for. There are as many scripts and seats as a machine's word counts, and a race has one
+-- script or more. A session whose journal is kept has an option.
 abbrev pub IsLine : List Text → Asked → Type 0
 IsLine words Script = (name : Text) × (words ≡ name ∷ [])
 IsLine words (Play setup script) = IsSubcommandLine (codes "play") (setup ∷ script ∷ []) words
@@ -66,8 +69,10 @@ IsLine words (Race setup turns scripts) =
     (text : Text) × IsNumberOfTurns text turns × (1 ≤ length scripts) × (length scripts ≤ usize_max)
     × IsSubcommandLine (codes "race") (setup ∷ text ∷ scripts) words
 IsLine words (Ask setup script question) =
-    (texts : List Text) × WritesStep texts (step_asked question) × IsSubcommandLine (question_name question) (setup ∷ script ∷ texts) words
-IsLine words (Debug setup seats None) = (length seats ≤ usize_max) × IsSubcommandLine (codes "debug") (setup ∷ seats) words
+    (texts : List Text) × WritesStep texts (step_asked question)
+    × IsSubcommandLine (question_name question) (setup ∷ script ∷ texts) words
+IsLine words (Debug setup seats None) =
+    (length seats ≤ usize_max) × IsSubcommandLine (codes "debug") (setup ∷ seats) words
 IsLine words (Debug setup seats (Some journal)) = ⊥
 IsLine words (Replay setup journal) = IsSubcommandLine (codes "replay") (setup ∷ journal ∷ []) words
 IsLine words (Search setup goal seed walks) =

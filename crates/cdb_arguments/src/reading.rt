@@ -309,14 +309,14 @@ fn read<'a>(alloc: Global, words: &'a [&'a str]) -> Result<Request<'a>, AskFault
     Ok(asked_by(alloc, &matches)?)
 }
 
-/// What the arguments of the command line ask for; the first is the program's name. The name alone asks for the
-/// script on standard input, `play SETUP SCRIPT` for a play, `race SETUP TURNS SCRIPT..` for a race,
-/// `explain SETUP SCRIPT P [K]` for what led to a step, `trail SETUP SCRIPT P [K]` for the trail of a value to it,
-/// `draw SETUP SCRIPT [P [K]]` for a picture, `slice SETUP SCRIPT [P [K]]` for a script, `debug SETUP [SEAT..]` for a
-/// session that goes on line by line, with `--journal FILE` for one whose journal is kept in a file, `replay SETUP JOURNAL`
-/// for a journal that is played again, `search SETUP GOAL SEED WALKS` for a search, `same SETUP FIRST SECOND` for whether two
-/// scripts leave the same run, `clocks SETUP SCRIPT` for clocks, `shrink SETUP SCRIPT GOAL` for a small script, `page SETUP
-/// SCRIPT` for a page. P, K, SEED and WALKS are numbers of 1 to 999,999.
+/// What the arguments of the command line ask for; the first is the program's name. The name alone asks for the script
+/// on standard input, `play SETUP SCRIPT` for a play, `race SETUP TURNS SCRIPT..` for a race, `explain SETUP SCRIPT P [K]`
+/// for what led to a step, `trail SETUP SCRIPT P [K]` for the trail of a value to it, `draw SETUP SCRIPT [P [K]]` for a
+/// picture, `slice SETUP SCRIPT [P [K]]` for a script, `debug SETUP [SEAT..]` for sessions that go on line by line, with
+/// `--journal FILE` for ones whose journal is kept in a file, `replay SETUP JOURNAL` for a journal that is played again,
+/// `search SETUP GOAL SEED WALKS` for a search, `same SETUP FIRST SECOND` for whether two scripts leave the same run,
+/// `clocks SETUP SCRIPT` for clocks, `shrink SETUP SCRIPT GOAL` for a small script, `page SETUP SCRIPT` for a page. P, K,
+/// SEED and WALKS are numbers of 1 to 999,999.
 ///
 /// # Errors
 /// `Words` with `clap`'s error for arguments that the command line does not take, and for those alone; the error is
