@@ -5,7 +5,7 @@ use Rattle.cdb_streams.specs.Streams.{Stream, Takes, Fails, itself}
 use Rattle.cdb_streams.specs.declared.fault.PlayFault.TheVariants.{Write}
 use Rattle.cdb_program.specs.Clocks.{ClocksFiles}
 use Rattle.cdb_program.specs.Comparing.{ComparesFiles}
-use Rattle.cdb_program.specs.Debugging.{DebugsFile}
+use Rattle.cdb_program.specs.Debugging.{DebugsFile, DebugsFileKept}
 use Rattle.cdb_program.specs.Known.{Seen}
 use Rattle.cdb_program.specs.Outcomes.{RequestEnd}
 use Rattle.cdb_program.specs.Paging.{PagesFiles}
@@ -63,16 +63,10 @@ PrintsText text old new outcome = ReadsNothing old new × Prints text old.output
 abbrev pub RefusesFor : Fault → Seen → Seen → RequestEnd → Type 0
 RefusesFor fault old new outcome = ReadsNothing old new × (new.output ≡ old.output) × (outcome ≡ Err fault)
 
--- the outcome is the fault whose text is this line
-abbrev pub IsRefusal : Text → RequestEnd → Type 0
-IsRefusal line (Err (fault.Refused reason)) = reason.now ≡ line
-IsRefusal line outcome = ⊥
-
--- a session here, with this prompt; its journal is not kept, and so it is refused where that is asked for
+-- a session here, with this prompt, whose journal is kept in a file where one is named
 abbrev pub DebugsAlone : Text → Option Text → Text → Seen → Seen → RequestEnd → Type 0
 DebugsAlone setup None prompt old new outcome = DebugsFile setup prompt old new outcome
-DebugsAlone setup (Some journal) prompt old new outcome =
-    ReadsNothing old new × (new.output ≡ old.output) × IsRefusal (codes "--journal needs a SEAT\n") outcome
+DebugsAlone setup (Some journal) prompt old new outcome = DebugsFileKept setup journal prompt old new outcome
 
 -- this was done, and how it ended was reported
 abbrev pub IsDone : (Seen → Seen → RequestEnd → Type 0) → Seen → Seen → ℕ → Type 0

@@ -6,7 +6,7 @@ ghost use Rattle.cdb_program.specs.Requests.{DebugsAlone, Does, HasTurns, IsDone
 
 use crate::clocks::clock_files;
 use crate::compares::compare_files;
-use crate::debugs::debug_file;
+use crate::debugs::{debug_file, debug_file_kept};
 use crate::fault::Fault;
 use crate::files::Files;
 use crate::outside::Outside;
@@ -27,9 +27,6 @@ use std::time::Clock;
 
 /// The most turns of a race.
 pub const MAX_TURNS: u32 = 99_999;
-
-/// What is reported where a journal is to be kept of a session without seats.
-const NO_SEAT: &str = "--journal needs a SEAT\n";
 
 /// What the program does.
 #[derive(Clone, Copy)]
@@ -116,7 +113,7 @@ fn perform_one<
     report(outcome, &mut outside.error)
 }
 
-/// Holds a session here, of which no journal can be kept.
+/// Holds a session here, and keeps its journal in the file of that name, if there is one.
 fn debug_alone<'a, F: Files + Drop, I: Source + Drop, O: Sink + Drop, E: Sink + Drop>(
     alloc: Global,
     setup: &'a str,
@@ -129,7 +126,7 @@ fn debug_alone<'a, F: Files + Drop, I: Source + Drop, O: Sink + Drop, E: Sink + 
     ensures error { outside.new.error ≡ outside.old.error }
 {
     match journal {
-        Some(_) => Err(Fault::Refused(NO_SEAT)),
+        Some(file) => debug_file_kept(alloc, setup, file, prompt, outside),
         None => debug_file(alloc, setup, prompt, outside),
     }
 }
