@@ -33,10 +33,10 @@ const NO_SEAT: &str = "--journal needs a SEAT\n";
 
 /// What the program does.
 #[derive(Clone, Copy)]
-pub enum Action<'a> {
+pub enum Action<'a, 'r> {
     /// Performs this request; a session here has this prompt before each line.
     Perform {
-        request: &'a Request<'a>,
+        request: &'a Request<'r>,
         prompt: &'a str,
     },
     /// Writes a text to standard output.
@@ -221,7 +221,7 @@ pub fn perform<
     I: Source + Drop,
     O: Sink + Drop,
     E: Sink + Drop,
->(threads: &R, alloc: Global, action: Action<'_>, outside: &mut Outside<F, I, O, E>) -> u8
+>(threads: &R, alloc: Global, action: Action<'_, '_>, outside: &mut Outside<F, I, O, E>) -> u8
     requires { MayPerform action }
     ensures { Performs action.entry outside.old outside.new result }
 {
