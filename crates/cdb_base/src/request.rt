@@ -36,8 +36,8 @@ pub enum Request<'a> {
         setup: &'a str,
         journal: &'a str,
     },
-    /// Searches for a run of a setup in which the goal of this word holds, with this seed and at most so many walks, both
-    /// 1 to 999,999.
+    /// Searches for a run of a setup in which the goal of this word holds, with this seed and at most so many walks,
+    /// both 1 to 999,999.
     Search {
         setup: &'a str,
         goal: &'a str,
