@@ -1,19 +1,21 @@
--- Requests for what the arguments were found to ask for: what the code keeps for itself.
+-- Actions for what the arguments were found to ask for: what the code keeps for itself.
 use Rattle.std.specs.Prelude.{Result, Ok, Err}
-use Rattle.clap.specs.Words.{Kinds, Text}
+use Rattle.clap.specs.Words.{Kinds}
 use Rattle.cdb_arguments.specs.Asking.{IsOfKinds}
-use Rattle.cdb_arguments.specs.declared.request.Asked.{Asked}
-use Rattle.cdb_program.specs.declared.request.Request.{Request}
-use Rattle.revdbg.specs.Requested.{IsRefusal, IsRequestOf, IsUnread, OrOutOfMemory}
+use Rattle.cdb_base.specs.Requests.{Text, asked_for}
+use Rattle.cdb_base.specs.declared.request.Request.{Request}
+use Rattle.cdb_program.specs.declared.request.Action.{Action}
+use Rattle.revdbg.specs.Requested.{IsPerformed, IsRefusal, IsUnread, OrOutOfMemory}
 use Rattle.revdbg.specs.declared.requested.ArgsError.{ArgsError}
 use Rattle.revdbg.specs.declared.requested.ArgsError.TheVariants.{Unread, Refused}
 
--- a request for what the arguments ask for, or for why they ask for nothing
-abbrev pub IsRequestFor : Text → Result Asked ArgsError → Request → Type 0
-IsRequestFor prompt (Ok asked) request = IsRequestOf prompt asked request
-IsRequestFor prompt (Err (Unread reason)) request = IsUnread reason request
-IsRequestFor prompt (Err (Refused fault text)) request = (kinds : Kinds) → IsOfKinds kinds fault → OrOutOfMemory (IsRefusal kinds) request
+-- the action for what the arguments ask for, or for why they ask for nothing
+abbrev pub IsActionFor : Text → Result Request ArgsError → Action → Type 0
+IsActionFor prompt (Ok request) action = IsPerformed prompt (asked_for request) action
+IsActionFor prompt (Err (Unread reason)) action = IsUnread reason action
+IsActionFor prompt (Err (Refused fault text)) action =
+    (kinds : Kinds) → IsOfKinds kinds fault → OrOutOfMemory (IsRefusal kinds) action
 
--- each request for what was found is one of this kind
-abbrev pub Makes : Result Asked ArgsError → (Text → Request → Type 0) → Type 0
-Makes found IsIt = (prompt : Text) (request : Request) → IsRequestFor prompt found request → IsIt prompt request
+-- each action for what was found is one of this kind
+abbrev pub Makes : Result Request ArgsError → (Text → Action → Type 0) → Type 0
+Makes found IsIt = (prompt : Text) (action : Action) → IsActionFor prompt found action → IsIt prompt action
