@@ -7,9 +7,6 @@ use cdb_base::Proc;
 use cdb_base::limits::MAX_ENTRIES;
 use cdb_setup::{Algorithm, Setup};
 
-/// As many columns to a row fit a page that lies.
-pub const COLUMNS: u32 = 20;
-
 /// Of a run with more events only what led to a step is drawn.
 pub const MOST_DRAWN: usize = 5_000;
 

@@ -22,6 +22,6 @@ mod weight;
 pub use draws::draw_run;
 pub use frames::Frames;
 pub use laws::arrows_keep_off_marks;
-pub use layout::{COLUMNS, MOST_DRAWN};
+pub use layout::MOST_DRAWN;
 pub use memory::picture_of;
 pub use script::draw;

@@ -10,8 +10,8 @@ ghost use Rattle.cdb_rules.specs.ByRules.{IsInOrder};
 use crate::entries::entries_of;
 use crate::parts::{CONTROLS, HEAD, SCRIPT};
 use crate::text::text_of_entries;
-use cdb_base::NoMemory;
-use cdb_draw::{COLUMNS, picture_of};
+use cdb_base::{COLUMNS, NoMemory};
+use cdb_draw::picture_of;
 use cdb_rules::Trace;
 use std::alloc::Global;
 
