@@ -37,10 +37,10 @@ const NO_STEP: &str = "--frames takes no P\n";
 
 /// What the program does.
 #[derive(Clone, Copy)]
-pub enum Action<'a> {
+pub enum Action<'a, 'r> {
     /// Performs this request; a session here has this prompt before each line.
     Perform {
-        request: &'a Request<'a>,
+        request: &'a Request<'r>,
         prompt: &'a str,
     },
     /// Writes a text to standard output.
@@ -252,7 +252,7 @@ pub fn perform<
     I: Source + Drop,
     O: Sink + Drop,
     E: Sink + Drop,
->(threads: &R, alloc: Global, action: Action<'_>, outside: &mut Outside<F, I, O, E>) -> u8
+>(threads: &R, alloc: Global, action: Action<'_, '_>, outside: &mut Outside<F, I, O, E>) -> u8
     requires { MayPerform action }
     ensures { Performs action.entry outside.old outside.new result }
 {

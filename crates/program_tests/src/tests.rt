@@ -62,7 +62,7 @@ fn has_turns(request: &Request<'_>) -> bool
 }
 
 /// Whether the action may be performed.
-fn may_perform(action: Action<'_>) -> bool
+fn may_perform(action: Action<'_, '_>) -> bool
     ensures { IsTrue result → MayPerform action.entry }
 {
     match action {
@@ -72,7 +72,7 @@ fn may_perform(action: Action<'_>) -> bool
 }
 
 /// The action that performs a request.
-fn action<'a>(request: &'a Request<'a>) -> Action<'a> {
+fn action<'a, 'r>(request: &'a Request<'r>) -> Action<'a, 'r> {
     Action::Perform {
         request,
         prompt: "> ",
@@ -82,7 +82,7 @@ fn action<'a>(request: &'a Request<'a>) -> Action<'a> {
 /// Performs an action over the files of the tests and standard input, with this many good calls.
 fn performed<R: Threads + Wait + Clock + Sync + Abort + AllocGlobal>(
     rt: &R,
-    action: Action<'_>,
+    action: Action<'_, '_>,
     good: GoodCalls,
 ) -> Ended {
     assert!(rt; may_perform(action));

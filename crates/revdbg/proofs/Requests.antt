@@ -81,3 +81,6 @@ asked_of_words words_of texts_of prompt old new status (Ok words) (Err reason) s
     let done = subst (λ (reason : Unread). PerformsOne (IsUnread reason) old new status) memory unread in
     (done.0, memory_is_asked prompt (words_of words) done.0 done.1, done.2)
 asked_of_words words_of texts_of prompt old new status (Err error) found same memory asked unread = tt
+
+pub is_no_error : {A E : Type 0} (value : A) (error : E) → Ok value ≡ Err error → ⊥
+is_no_error {A = A} {E = E} value error is = subst (λ (it : Result A E). IfErr it (λ _. ⊥)) is tt

@@ -9,12 +9,15 @@ use Rattle.revdbg.specs.Requested.{IsPerformed, IsRefusal, IsUnread, OrOutOfMemo
 use Rattle.revdbg.specs.declared.requested.ArgsError.{ArgsError}
 use Rattle.revdbg.specs.declared.requested.ArgsError.TheVariants.{Unread, Refused}
 
--- the action for what the arguments ask for, or for why they ask for nothing
+-- the report why the arguments ask for nothing
+abbrev pub IsReportOf : ArgsError → Action → Type 0
+IsReportOf (Unread reason) action = IsUnread reason action
+IsReportOf (Refused fault text) action = (kinds : Kinds) → IsOfKinds kinds fault → OrOutOfMemory (IsRefusal kinds) action
+
+-- the action for what the arguments ask for, or that report
 abbrev pub IsActionFor : Text → Result Request ArgsError → Action → Type 0
 IsActionFor prompt (Ok request) action = IsPerformed prompt (asked_for request) action
-IsActionFor prompt (Err (Unread reason)) action = IsUnread reason action
-IsActionFor prompt (Err (Refused fault text)) action =
-    (kinds : Kinds) → IsOfKinds kinds fault → OrOutOfMemory (IsRefusal kinds) action
+IsActionFor prompt (Err error) action = IsReportOf error action
 
 -- each action for what was found is one of this kind
 abbrev pub Makes : Result Request ArgsError → (Text → Action → Type 0) → Type 0

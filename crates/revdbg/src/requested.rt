@@ -7,8 +7,8 @@ ghost use Rattle.cdb_arguments.specs.Asking.{IsOfKinds};
 ghost use Rattle.cdb_base.specs.Memory.{no_memory};
 ghost use Rattle.cdb_base.specs.Requests.{asked_for, texts};
 ghost use Rattle.cdb_program.specs.Requests.{HasTurns, MayPerform};
-ghost use Rattle.revdbg.specs.ActionFor.{IsActionFor, Makes};
-ghost use Rattle.revdbg.specs.Requested.{IsAskedBy, IsOutOfMemory, IsRefusal, IsUnread, OrOutOfMemory, unread_of};
+ghost use Rattle.revdbg.specs.ActionFor.{IsReportOf, Makes};
+ghost use Rattle.revdbg.specs.Requested.{IsAskedBy, IsOutOfMemory, IsPerformed, IsRefusal, IsUnread, OrOutOfMemory, unread_of};
 
 use cdb_arguments::{AskFault, ask_status, asked};
 use cdb_base::{NoMemory, Request};
@@ -48,7 +48,7 @@ pub enum ArgsError {
 }
 
 /// The report that an allocation failed.
-fn out_of_memory(refused: NoMemory) -> Action<'static>
+fn out_of_memory<'a>(refused: NoMemory) -> Action<'a, 'a>
     ensures memory { IsOutOfMemory result }
     ensures turns { MayPerform result }
 {
@@ -56,7 +56,7 @@ fn out_of_memory(refused: NoMemory) -> Action<'static>
 }
 
 /// To print help or the version, or to report what is wrong with the arguments, where this is the text.
-fn refusal_of<'a>(fault: &AskFault, text: &'a str) -> Action<'a>
+fn refusal_of<'a>(fault: &AskFault, text: &'a str) -> Action<'a, 'a>
     ensures refusal { (kinds : Kinds) → IsOfKinds kinds fault.now →
         OrOutOfMemory (IsRefusal kinds) result }
     ensures turns { MayPerform result }
@@ -69,7 +69,7 @@ fn refusal_of<'a>(fault: &AskFault, text: &'a str) -> Action<'a>
 }
 
 /// The report that the arguments could not be read, for this reason.
-fn report_unread(reason: Unread) -> Action<'static>
+fn report_unread<'a>(reason: Unread) -> Action<'a, 'a>
     ensures unread { IsUnread reason result }
     ensures turns { MayPerform result }
 {
@@ -79,17 +79,24 @@ fn report_unread(reason: Unread) -> Action<'static>
     }
 }
 
-/// The action for what the arguments were found to ask for, where a session here has this prompt.
-pub fn action_for<'a>(asked: &'a Result<Request<'a>, ArgsError>, prompt: &'a str) -> Action<'a>
-    requires { IfOk asked.now (λ request. HasTurns (asked_for request)) }
-    ensures action { IsActionFor prompt.now asked.now result }
+/// The report why the arguments ask for nothing that could be performed.
+pub fn report_of<'a>(error: &'a ArgsError) -> Action<'a, 'a>
+    ensures report { IsReportOf error.now result }
     ensures turns { MayPerform result }
 {
-    match asked {
-        Ok(request) => Action::Perform { request, prompt },
-        Err(ArgsError::Unread(reason)) => report_unread(*reason),
-        Err(ArgsError::Refused(fault, text)) => refusal_of(fault, text.as_str()),
+    match error {
+        ArgsError::Unread(reason) => report_unread(*reason),
+        ArgsError::Refused(fault, text) => refusal_of(fault, text.as_str()),
     }
+}
+
+/// The action that performs a request, in which a session here has this prompt.
+pub fn action_of<'a, 'r>(request: &'a Request<'r>, prompt: &'a str) -> Action<'a, 'r>
+    requires { HasTurns (asked_for request.now) }
+    ensures action { IsPerformed prompt.now (asked_for request.now) result }
+    ensures turns { MayPerform result }
+{
+    Action::Perform { request, prompt }
 }
 
 /// The texts of these arguments.

@@ -5,7 +5,7 @@ ghost use Rattle.std.specs.IoError.{error_kind};
 ghost use Rattle.cdb_base.specs.Requests.{texts};
 ghost use Rattle.revdbg.specs.Requested.{IsAskedBy, IsUnread, PerformsOne, unread_of};
 
-use crate::requested::{Unread, action_for, asked_in, texts_of};
+use crate::requested::{Unread, action_of, asked_in, report_of, texts_of};
 use cdb_program::{Files, Outside, perform};
 use cdb_streams::{Sink, Source};
 use std::alloc::Global;
@@ -33,8 +33,10 @@ fn run<
     ensures unread { IfErr read.now (λ reason. PerformsOne
         (IsUnread reason) outside.old outside.new result) }
 {
-    let asked = asked_in(alloc, read);
-    perform(threads, alloc, action_for(&asked, prompt), outside)
+    match asked_in(alloc, read) {
+        Ok(request) => perform(threads, alloc, action_of(&request, &*prompt), outside),
+        Err(error) => perform(threads, alloc, report_of(&error), outside),
+    }
 }
 
 /// Performs what the arguments ask for, as they were read from the system, or reports that they could not be read; and

@@ -95,7 +95,7 @@ fn check<R: Abort>(rt: &R, ended: &Ended, status: u8, error: &str) {
 /// Performs an action of which the write behind this many good ones fails, after which this many bytes are written.
 fn check_write<R: Threads + Wait + Clock + Sync + Abort + AllocGlobal>(
     rt: &R,
-    action: Action<'_>,
+    action: Action<'_, '_>,
     whole: &[u8],
     good: usize,
     length: usize,
@@ -113,7 +113,7 @@ fn check_write<R: Threads + Wait + Clock + Sync + Abort + AllocGlobal>(
 /// Performs an action whose text has this length, in which each write of the output fails in turn.
 fn check_writes<R: Threads + Wait + Clock + Sync + Abort + AllocGlobal>(
     rt: &R,
-    action: Action<'_>,
+    action: Action<'_, '_>,
     length: usize,
 ) {
     let whole = performed(rt, action, ALL_GOOD);
@@ -162,7 +162,7 @@ fn each_write_of_a_session_fails_in_turn(rt: HostRuntime) {
 /// Performs an action with this many good writes of the error, which are all of them or not.
 fn check_error<R: Threads + Wait + Clock + Sync + Abort + AllocGlobal>(
     rt: &R,
-    action: Action<'_>,
+    action: Action<'_, '_>,
     whole: &Ended,
     good: usize,
     are_all: bool,
@@ -181,7 +181,7 @@ fn check_error<R: Threads + Wait + Clock + Sync + Abort + AllocGlobal>(
 /// Performs an action as often as there are writes of the error, with one more good one each time.
 fn check_errors<R: Threads + Wait + Clock + Sync + Abort + AllocGlobal>(
     rt: &R,
-    action: Action<'_>,
+    action: Action<'_, '_>,
     writes: usize,
 ) {
     let whole = performed(rt, action, ALL_GOOD);
@@ -228,7 +228,7 @@ fn each_write_of_error_fails_in_turn(rt: HostRuntime) -> Result<(), Fail> {
 /// Performs an action of which the file behind this many good ones can't be read.
 fn check_file<R: Threads + Wait + Clock + Sync + Abort + AllocGlobal>(
     rt: &R,
-    action: Action<'_>,
+    action: Action<'_, '_>,
     good: usize,
     text: &str,
 ) {
@@ -282,7 +282,7 @@ fn each_file_can_not_be_read_in_turn(rt: HostRuntime) -> Result<(), Fail> {
 /// Performs an action of which the read of standard input behind this many good ones fails; four are all.
 fn check_input<R: Threads + Wait + Clock + Sync + Abort + AllocGlobal>(
     rt: &R,
-    action: Action<'_>,
+    action: Action<'_, '_>,
     good: usize,
     text: &str,
 ) {
