@@ -1,19 +1,26 @@
 -- What is asked for under the name of a subcommand.
-use Rattle.std.proofs.Common.{◌≡◌, ℕ, List, Some, ap, codes, refl}
+use Rattle.std.proofs.Common.{◌≡◌, ◌⊎◌, ℕ, List, Some, None, ap, codes, refl, inl, inr}
 use Rattle.std.specs.Prelude.{unwrap_or}
 use Rattle.std.specs.Bool.{MatchBool}
 use Rattle.std.specs.Str.{bytes_eq}
 use Rattle.std.proofs.lemmas.Option.{none-some}
 use Rattle.clap.specs.Words.{Row, first_of}
-use Rattle.cdb_base.specs.Requests.{Asked, Script, Play, Race, Ask, Debug, Replay, Search, Shrink, Same, Clocks, Page, Text}
+use Rattle.cdb_base.specs.Requests.{Asked, Script, Play, Race, Ask, Frames, Debug, Replay, Search, Shrink, Same, Clocks, Page, Text}
 use Rattle.cdb_base.specs.declared.question.Question.{Question}
 use Rattle.cdb_base.specs.declared.question.Question.TheVariants.{Explain, Trail, Draw, Slice}
-use Rattle.cdb_arguments.specs.Asking.{Asks, IsAnyStepIn, IsNumber, IsStepIn, IsTurns, subcommand_for, text_at, texts_at}
+use Rattle.cdb_arguments.specs.Asking.{AreColumns, Asks, IsAnyStepIn, IsNumber, IsStepIn, IsCount, subcommand_for, text_at, texts_at}
 
 -- a question with a step of these rows
 abbrev pub AsksStep : {S : Type 0} → (List Row → S → Type 0) → (S → Question) → List Row → Asked → Type 0
 AsksStep IsIn question rows asked =
     (step : _) × IsIn rows step × (asked ≡ Ask (text_at (codes "SETUP") rows) (text_at (codes "SCRIPT") rows) (question step))
+
+-- a picture with columns and a step of these rows, or its frames where they have a folder
+abbrev pub AsksDrawing : List Row → Asked → Type 0
+AsksDrawing rows asked =
+    (columns : ℕ) × AreColumns (first_of (codes "N") rows) columns
+    × (((first_of (codes "FOLDER") rows ≡ None) × AsksStep IsAnyStepIn (λ step. Draw columns step) rows asked)
+    ⊎ ((folder : Text) × (first_of (codes "FOLDER") rows ≡ Some folder)))
 
 -- what the rows of the subcommand of this name ask for
 abbrev pub Means : Text → List Row → Asked → Type 0
@@ -22,10 +29,10 @@ Means name rows asked =
     let script = text_at (codes "SCRIPT") rows in
     MatchBool (bytes_eq name (codes "play")) (asked ≡ Play setup script)
     (MatchBool (bytes_eq name (codes "race"))
-    ((turns : ℕ) × IsTurns (text_at (codes "TURNS") rows) turns × (asked ≡ Race setup turns (texts_at (codes "SCRIPT") rows)))
+    ((turns : ℕ) × IsCount (text_at (codes "TURNS") rows) turns × (asked ≡ Race setup turns (texts_at (codes "SCRIPT") rows)))
     (MatchBool (bytes_eq name (codes "explain")) (AsksStep IsStepIn (λ step. Explain step) rows asked)
     (MatchBool (bytes_eq name (codes "trail")) (AsksStep IsStepIn (λ step. Trail step) rows asked)
-    (MatchBool (bytes_eq name (codes "draw")) (AsksStep IsAnyStepIn (λ step. Draw step) rows asked)
+    (MatchBool (bytes_eq name (codes "draw")) (AsksDrawing rows asked)
     (MatchBool (bytes_eq name (codes "slice")) (AsksStep IsAnyStepIn (λ step. Slice step) rows asked)
     (MatchBool (bytes_eq name (codes "debug")) (asked ≡ Debug setup (texts_at (codes "SEAT") rows) (first_of (codes "FILE") rows))
     (MatchBool (bytes_eq name (codes "replay")) (asked ≡ Replay setup (text_at (codes "JOURNAL") rows))
@@ -45,7 +52,8 @@ means name rows (Play setup script) is asks = rw (← some_same _ _ is, asks.0, 
 means name rows (Race setup turns scripts) is asks = rw (← some_same _ _ is, asks.0, asks.1) (turns, asks.2, refl)
 means name rows (Ask setup script (Explain step)) is asks = rw (← some_same _ _ is, asks.0, asks.1) (step, asks.2, refl)
 means name rows (Ask setup script (Trail step)) is asks = rw (← some_same _ _ is, asks.0, asks.1) (step, asks.2, refl)
-means name rows (Ask setup script (Draw step)) is asks = rw (← some_same _ _ is, asks.0, asks.1) (step, asks.2, refl)
+means name rows (Ask setup script (Draw columns step)) is asks = rw (← some_same _ _ is, asks.0, asks.1) (columns, asks.2.1, inl (asks.2.2, (step, asks.2.0, refl)))
+means name rows (Frames setup script folder columns step) is asks = rw (← some_same _ _ is) (columns, asks.3, inr (folder, asks.2))
 means name rows (Ask setup script (Slice step)) is asks = rw (← some_same _ _ is, asks.0, asks.1) (step, asks.2, refl)
 means name rows (Debug setup seats journal) is asks = rw (← some_same _ _ is, asks.0, asks.1, asks.2) refl
 means name rows (Replay setup journal) is asks = rw (← some_same _ _ is, asks.0, asks.1) refl

@@ -9,7 +9,7 @@ use Rattle.clap.specs.declared.builder.value_parser.ValueParser.TheVariants as v
 use Rattle.clap.proofs.ValueTestLemmas.{Accepts-accepts}
 use Rattle.cdb_base.specs.Requests.{Text}
 use Rattle.cdb_arguments.specs.Asking.{IsNumberOf}
-use Rattle.cdb_arguments.specs.Plain.{AreDigitsOf, IsNumberOfTurns, IsPlain, WritesNumber}
+use Rattle.cdb_arguments.specs.Plain.{AreDigitsOf, WritesCount, IsPlain, WritesNumber}
 use Rattle.cdb_arguments.proofs.PlainWords.{is_no_minus}
 
 -- the text is a number of this range
@@ -32,8 +32,8 @@ module _ (low high : ℕ) (text : Text) (number : ℕ) (plain : IsPlain text) (w
 pub accepts_number : (text : Text) (number : ℕ) → IsPlain text → WritesNumber text number → AcceptsNumber text
 accepts_number text number plain writes = accepts_from 1 999999 text number plain writes.0 writes.1 writes.2 (omega arith)
 
-pub accepts_turns : (text : Text) (turns : ℕ) → IsPlain text → IsNumberOfTurns text turns → AcceptsFrom 0 99999 text
-accepts_turns text turns plain writes = accepts_from 0 99999 text turns plain writes.0 (omega arith) writes.1 (omega arith)
+pub accepts_count : (text : Text) (turns : ℕ) → IsPlain text → WritesCount text turns → AcceptsFrom 0 99999 text
+accepts_count text turns plain writes = accepts_from 0 99999 text turns plain writes.0 (omega arith) writes.1 (omega arith)
 
 -- the text of a number, or no text where there is no number
 abbrev pub OptionWritesNumber : Option Text → Option ℕ → Type 0

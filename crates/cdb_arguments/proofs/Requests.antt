@@ -4,7 +4,7 @@ use Rattle.std.specs.Prelude.{Result, IfOk, IfErr}
 use Rattle.std.proofs.lemmas.Result.{IfOk-weaker}
 use Rattle.clap.specs.Words.{subcommand_of, takes}
 use Rattle.cdb_base.specs.Memory.{no_memory}
-use Rattle.cdb_base.specs.Requests.{Asked, Script, Play, Race, Ask, Debug, Replay, Search, Shrink, Same, Clocks, Page, Text, asked_for}
+use Rattle.cdb_base.specs.Requests.{Asked, Script, Play, Race, Ask, Frames, Debug, Replay, Search, Shrink, Same, Clocks, Page, Text, asked_for}
 use Rattle.cdb_base.specs.declared.request.Request.{Request}
 use Rattle.cdb_arguments.specs.Asking.{NamesAsked, IsRequest}
 use Rattle.cdb_arguments.specs.CommandLine.{program}
@@ -19,9 +19,10 @@ line_taken : (words : List Text) (it : Asked) → IsLine words it → IsTaken wo
 line_taken words Script (name, is) = rw is (script_line name)
 line_taken words (Play setup script) line = play_line words setup script line
 line_taken words (Race setup turns scripts) (text, writes, some, short, line) = race_line words setup text turns scripts writes some short line
-line_taken words (Ask setup script question) (texts, writes, line) = question_line words setup script question texts writes line
+line_taken words (Ask setup script question) (texts, writes, usual, line) = question_line words setup script question texts writes usual line
 line_taken words (Debug setup seats None) (short, line) = debug_line words setup seats short line
 line_taken words (Debug setup seats (Some journal)) line = absurd line
+line_taken words (Frames setup script folder columns step) line = absurd line
 line_taken words (Replay setup journal) line = replay_line words setup journal line
 line_taken words (Search setup goal seed walks) (first, second, a, b, line) = search_line words setup goal first second seed walks a b line
 line_taken words (Shrink setup script goal) line = shrink_line words setup script goal line

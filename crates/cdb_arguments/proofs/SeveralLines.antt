@@ -13,9 +13,9 @@ use Rattle.clap.specs.declared.builder.value_parser.ValueParser.TheVariants as v
 use Rattle.clap.proofs.OnLiterals.{clap_on_literals}
 use Rattle.cdb_base.specs.Requests.{Asked, Race, Debug, Text}
 use Rattle.cdb_arguments.specs.CommandLine.{program}
-use Rattle.cdb_arguments.specs.Plain.{IsNumberOfTurns, IsSubcommandLine}
+use Rattle.cdb_arguments.specs.Plain.{WritesCount, IsSubcommandLine}
 use Rattle.cdb_arguments.proofs.Means.{Means}
-use Rattle.cdb_arguments.proofs.Numbers.{AcceptsFrom, accepts_turns}
+use Rattle.cdb_arguments.proofs.Numbers.{AcceptsFrom, accepts_count}
 use Rattle.cdb_arguments.proofs.PlainLines.{IsTaken, taken_line, walk_after}
 use Rattle.cdb_arguments.proofs.PlainWords.{TakesValue, with_value}
 use Rattle.cdb_arguments.proofs.Subcommands.{IsSub}
@@ -103,13 +103,13 @@ module _ (setup turns : Text) where
     unfolding clap_on_literals program race_shape at race_rows
     race_ends short = (rw (le-leb 1 (length (script ∷ more)) (omega arith), le-leb _ _ short, all_texts_pass more) refl, refl, refl)
 
-    race_means : (number : ℕ) → IsNumberOfTurns turns number → (asked : Asked)
+    race_means : (number : ℕ) → WritesCount turns number → (asked : Asked)
         → Means (codes "race") (finished race_shape.rules (at race_rows (codes "SCRIPT") 3 (script ∷ more)).held) asked
         → asked ≡ Race setup number (script ∷ more)
     unfolding clap_on_literals program race_shape at race_rows
     race_means number writes asked is = is.2 ∙ ap (λ its. Race setup its (script ∷ more)) (is.1.1 number writes)
 
-pub race_line : (words : List Text) (setup text : Text) (turns : ℕ) (scripts : List Text) → IsNumberOfTurns text turns
+pub race_line : (words : List Text) (setup text : Text) (turns : ℕ) (scripts : List Text) → WritesCount text turns
     → 1 ≤ length scripts → length scripts ≤ usize_max → IsSubcommandLine (codes "race") (setup ∷ text ∷ scripts) words
     → IsTaken words (Race setup turns scripts)
 race_line words setup text turns [] writes some short line = absurd (omega arith)
@@ -117,7 +117,7 @@ race_line words setup text turns (script ∷ more) writes some short line =
     let all = all_scripts setup text script more in
     taken_line (codes "race") race_shape (setup ∷ text ∷ script ∷ more) words (Race setup turns (script ∷ more)) line (record {
       sub = race_sub;
-      passes = race_passes setup text script more (accepts_turns text turns line.1.1.0 writes);
+      passes = race_passes setup text script more (accepts_count text turns line.1.1.0 writes);
       ends = subst (λ w. EndPasses race_shape w.held) (sym all) (race_ends setup text script more short);
       only = λ asked is.
           race_means setup text script more turns writes asked (subst (λ (w : Walk). Means (codes "race") (finished race_shape.rules w.held) asked) all is);

@@ -1,5 +1,5 @@
 -- What clap makes of the lines of questions, whose last texts may be left out.
-use Rattle.std.proofs.Common.{◌≡◌, ◌∙◌, ℕ, List, [], ◌∷◌, Option, Some, None, refl, ap, ap₂, sym, codes}
+use Rattle.std.proofs.Common.{◌≡◌, ◌∙◌, ℕ, List, [], ◌∷◌, Option, Some, None, refl, ap, ap₂, sym, codes, inl, inr}
 use Rattle.std.specs.Prelude.{unwrap_or, slice_get}
 use Rattle.std.proofs.lemmas.Bool.{false≢true}
 use Rattle.std.proofs.lemmas.Option.{none-some}
@@ -10,10 +10,11 @@ use Rattle.cdb_base.specs.Requests.{Asked, Ask, Text}
 use Rattle.cdb_base.specs.declared.question.Question.{Question}
 use Rattle.cdb_base.specs.declared.question.Question.TheVariants.{Explain, Trail, Draw, Slice}
 use Rattle.cdb_base.specs.declared.question.StepAsked.{StepAsked}
+use Rattle.cdb_base.specs.declared.question.TheConstants.{COLUMNS}
 use Rattle.cdb_arguments.specs.Asking.{IsAnyStepIn, IsNumber, IsNumberOf}
 use Rattle.cdb_arguments.specs.CommandLine.{program}
-use Rattle.cdb_arguments.specs.Plain.{IsSubcommandLine, WritesNumber, WritesStep, question_name, step_asked}
-use Rattle.cdb_arguments.proofs.Means.{AsksStep, Means}
+use Rattle.cdb_arguments.specs.Plain.{IsSubcommandLine, IsUsual, WritesNumber, WritesStep, question_name, step_asked}
+use Rattle.cdb_arguments.proofs.Means.{AsksDrawing, AsksStep, Means}
 use Rattle.cdb_arguments.proofs.Numbers.{AcceptsNumber, OptionWritesNumber, accepts_number, number_is}
 use Rattle.cdb_arguments.proofs.PlainLines.{IsTaken, held_after, rows_of, taken_line}
 use Rattle.cdb_arguments.proofs.Subcommands.{IsSub}
@@ -102,9 +103,9 @@ trail_asks = record {
   only_k = λ setup script p k asked is. is;
 }
 
--- `draw` and `slice` take the same texts
+-- `slice` takes these texts
 any_step_shape : Shape
-any_step_shape = unwrap_or (slice_get (built program).subs 4) (new_shape [])
+any_step_shape = unwrap_or (slice_get (built program).subs 5) (new_shape [])
 
 any_step_takes : TakesStep any_step_shape
 unfolding clap_on_literals program any_step_shape
@@ -135,12 +136,46 @@ module _ (question : Option StepAsked → Question) (setup script : Text) (asked
   no_step (None, is, asks) = asks
   no_step (Some step, is, asks) = absurd (false≢true is.0)
 
-draw_asks : AsksThis (codes "draw") any_step_shape (λ step. Draw (Some step))
-unfolding clap_on_literals program any_step_shape
+-- `draw` takes these texts, and options beside them
+draw_shape : Shape
+draw_shape = unwrap_or (slice_get (built program).subs 4) (new_shape [])
+
+draw_takes : TakesStep draw_shape
+unfolding clap_on_literals program draw_shape
+draw_takes = record {
+  passes = λ setup script p. ((refl, refl, tt), refl, ((refl, refl, tt), refl, ((refl, refl, tt), refl, tt)));
+  ends = λ setup script p a. (rw a refl, refl, refl);
+  passes_k = λ setup script p k a. ((refl, refl, tt), refl, ((refl, refl, tt), refl, ((refl, refl, tt), refl, ((refl, refl, tt), rw a refl, tt))));
+  ends_k = λ setup script p k a. (rw a refl, refl, refl);
+}
+
+module _ (setup script : Text) (asked : Asked) where
+  drawn_step : (p : Text) → AsksDrawing (rows_of draw_shape (setup ∷ script ∷ p ∷ [])) asked
+      → AsksStepOf (λ step. Draw COLUMNS (Some step)) setup script p None asked
+  unfolding clap_on_literals program draw_shape
+  drawn_step p (columns, usual, inl (none, (None, is, asks))) = absurd (none-some p (sym is))
+  drawn_step p (columns, usual, inl (none, (Some step, is, asks))) = (step, is.1, asks ∙ ap (λ n. Ask setup script (Draw n (Some step))) usual)
+  drawn_step p (columns, usual, inr (folder, is)) = absurd (none-some folder is)
+
+  drawn_step_k : (p k : Text) → AsksDrawing (rows_of draw_shape (setup ∷ script ∷ p ∷ k ∷ [])) asked
+      → AsksStepOf (λ step. Draw COLUMNS (Some step)) setup script p (Some k) asked
+  unfolding clap_on_literals program draw_shape
+  drawn_step_k p k (columns, usual, inl (none, (None, is, asks))) = absurd (none-some p (sym is))
+  drawn_step_k p k (columns, usual, inl (none, (Some step, is, asks))) = (step, is.1, asks ∙ ap (λ n. Ask setup script (Draw n (Some step))) usual)
+  drawn_step_k p k (columns, usual, inr (folder, is)) = absurd (none-some folder is)
+
+  drawn_whole : AsksDrawing (rows_of draw_shape (setup ∷ script ∷ [])) asked → asked ≡ Ask setup script (Draw COLUMNS None)
+  unfolding clap_on_literals program draw_shape
+  drawn_whole (columns, usual, inl (none, (None, is, asks))) = asks ∙ ap (λ n. Ask setup script (Draw n None)) usual
+  drawn_whole (columns, usual, inl (none, (Some step, is, asks))) = absurd (false≢true is.0)
+  drawn_whole (columns, usual, inr (folder, is)) = absurd (none-some folder is)
+
+draw_asks : AsksThis (codes "draw") draw_shape (λ step. Draw COLUMNS (Some step))
+unfolding clap_on_literals program draw_shape
 draw_asks = record {
   sub = record { stops = refl; turn = refl; end = refl; enters = λ words. refl; levels = λ words. refl };
-  only = λ setup script p asked. some_step (λ step. Draw step) setup script asked p;
-  only_k = λ setup script p k asked. some_step_k (λ step. Draw step) setup script asked p k;
+  only = λ setup script p asked. drawn_step setup script asked p;
+  only_k = λ setup script p k asked. drawn_step_k setup script asked p k;
 }
 
 slice_asks : AsksThis (codes "slice") any_step_shape (λ step. Slice (Some step))
@@ -162,17 +197,26 @@ module _ (words : List Text) (setup script : Text) where
       taken_line command any_step_shape Files words it line
       (record { sub = sub; passes = ((refl, refl, tt), refl, ((refl, refl, tt), refl, tt)); ends = (refl, refl, refl); only = only })
 
-  pub question_line : (question : Question) (texts : List Text) → WritesStep texts (step_asked question)
+  whole_line : IsSubcommandLine (codes "draw") Files words → IsTaken words (Ask setup script (Draw COLUMNS None))
+  unfolding clap_on_literals program draw_shape
+  whole_line line =
+      taken_line (codes "draw") draw_shape Files words _ line (record {
+        sub = draw_asks.sub;
+        passes = ((refl, refl, tt), refl, ((refl, refl, tt), refl, tt));
+        ends = (refl, refl, refl);
+        only = drawn_whole setup script;
+      })
+
+  pub question_line : (question : Question) (texts : List Text) → WritesStep texts (step_asked question) → IsUsual question
       → IsSubcommandLine (question_name question) (setup ∷ script ∷ texts) words → IsTaken words (Ask setup script question)
-  question_line (Explain step) texts writes line =
+  question_line (Explain step) texts writes usual line =
       step_line (codes "explain") step_shape (λ step. Explain step) step_takes explain_asks words setup script texts step.p step.k writes line
-  question_line (Trail step) texts writes line =
+  question_line (Trail step) texts writes usual line =
       step_line (codes "trail") step_shape (λ step. Trail step) step_takes trail_asks words setup script texts step.p step.k writes line
-  question_line (Draw None) texts writes line =
-      files_line (codes "draw") (Ask setup script (Draw None)) draw_asks.sub (no_step (λ step. Draw step) setup script) (rw writes at line)
-  question_line (Draw (Some step)) texts writes line =
-      step_line (codes "draw") any_step_shape (λ step. Draw (Some step)) any_step_takes draw_asks words setup script texts step.p step.k writes line
-  question_line (Slice None) texts writes line =
+  question_line (Draw columns None) texts writes usual line = rw usual (whole_line (rw writes at line))
+  question_line (Draw columns (Some step)) texts writes usual line =
+      rw usual (step_line (codes "draw") draw_shape (λ step. Draw COLUMNS (Some step)) draw_takes draw_asks words setup script texts step.p step.k writes line)
+  question_line (Slice None) texts writes usual line =
       files_line (codes "slice") (Ask setup script (Slice None)) slice_asks.sub (no_step (λ step. Slice step) setup script) (rw writes at line)
-  question_line (Slice (Some step)) texts writes line =
+  question_line (Slice (Some step)) texts writes usual line =
       step_line (codes "slice") any_step_shape (λ step. Slice (Some step)) any_step_takes slice_asks words setup script texts step.p step.k writes line

@@ -6,12 +6,13 @@ use Rattle.clap.specs.declared.error.kind.ErrorKind.TheVariants.{DisplayHelp, Di
 use Rattle.cdb_arguments.specs.declared.limits.TheConstants.{MAX_NUMBER, MAX_TURNS}
 use Rattle.cdb_arguments.specs.declared.request.AskFault.{AskFault}
 use Rattle.cdb_arguments.specs.declared.request.AskFault.TheVariants.{Words, NoMemory}
-use Rattle.cdb_arguments.specs.Plain.{IsNumberOfTurns, WritesNumber, question_name}
+use Rattle.cdb_arguments.specs.Plain.{WritesCount, WritesNumber, question_name}
 use Rattle.cdb_base.specs.Memory.{no_memory}
-use Rattle.cdb_base.specs.Requests.{Asked, Script, Play, Race, Ask, Debug, Replay, Search, Shrink, Same, Clocks, Page, Text, asked_for}
+use Rattle.cdb_base.specs.Requests.{Asked, Script, Play, Race, Ask, Frames, Debug, Replay, Search, Shrink, Same, Clocks, Page, Text, asked_for}
 use Rattle.cdb_base.specs.declared.question.Question.{Question}
 use Rattle.cdb_base.specs.declared.question.Question.TheVariants.{Explain, Trail, Draw, Slice}
 use Rattle.cdb_base.specs.declared.question.StepAsked.{StepAsked}
+use Rattle.cdb_base.specs.declared.question.TheConstants.{COLUMNS}
 use Rattle.cdb_base.specs.declared.request.Request.{Request}
 
 -- one of the subcommands, or none
@@ -31,9 +32,9 @@ text_at id rows = unwrap_or (first_of id rows) []
 abbrev pub texts_at : Text → List Row → List Text
 texts_at id rows = unwrap_or (all_of id rows) []
 
--- a number of turns, and the one that the text writes where it writes one
-abbrev pub IsTurns : Text → ℕ → Type 0
-IsTurns text turns = (turns ≤ MAX_TURNS) × ((written : ℕ) → IsNumberOfTurns text written → turns ≡ written)
+-- a number from 0 on, and the one that the text writes where it writes one
+abbrev pub IsCount : Text → ℕ → Type 0
+IsCount text turns = (turns ≤ MAX_TURNS) × ((written : ℕ) → WritesCount text written → turns ≡ written)
 
 -- a number from 1 on, and the one that the text writes where it writes one
 abbrev pub IsNumber : Text → ℕ → Type 0
@@ -57,11 +58,17 @@ abbrev pub IsAnyStepIn : List Row → Option StepAsked → Type 0
 IsAnyStepIn rows None = first_of (codes "P") rows ≡ None
 IsAnyStepIn rows (Some step) = IsSome (first_of (codes "P") rows) × IsStepIn rows step
 
--- the question asks for the step of the matches
+-- the columns of a picture: as many as a page has where the matches have no number
+abbrev pub AreColumns : Option Text → ℕ → Type 0
+AreColumns None columns = columns ≡ COLUMNS
+AreColumns (Some text) columns = IsCount text columns
+
+-- the question asks for the step of the matches; a picture has their columns, and no folder is given
 abbrev pub HasStepOf : List Row → Question → Type 0
 HasStepOf rows (Explain step) = IsStepIn rows step
 HasStepOf rows (Trail step) = IsStepIn rows step
-HasStepOf rows (Draw step) = IsAnyStepIn rows step
+HasStepOf rows (Draw columns step) =
+    IsAnyStepIn rows step × AreColumns (first_of (codes "N") rows) columns × (first_of (codes "FOLDER") rows ≡ None)
 HasStepOf rows (Slice step) = IsAnyStepIn rows step
 
 -- the subcommand that asks for it; the script on standard input has none
@@ -70,6 +77,7 @@ subcommand_for Script = None
 subcommand_for (Play setup script) = Some (codes "play")
 subcommand_for (Race setup turns scripts) = Some (codes "race")
 subcommand_for (Ask setup script question) = Some (question_name question)
+subcommand_for (Frames setup script folder columns step) = Some (codes "draw")
 subcommand_for (Debug setup seats journal) = Some (codes "debug")
 subcommand_for (Replay setup journal) = Some (codes "replay")
 subcommand_for (Search setup goal seed walks) = Some (codes "search")
@@ -84,9 +92,12 @@ Asks rows Script = Unit {0}
 Asks rows (Play setup script) = (setup ≡ text_at (codes "SETUP") rows) × (script ≡ text_at (codes "SCRIPT") rows)
 Asks rows (Race setup turns scripts) =
     (setup ≡ text_at (codes "SETUP") rows) × (scripts ≡ texts_at (codes "SCRIPT") rows)
-    × IsTurns (text_at (codes "TURNS") rows) turns
+    × IsCount (text_at (codes "TURNS") rows) turns
 Asks rows (Ask setup script question) =
     (setup ≡ text_at (codes "SETUP") rows) × (script ≡ text_at (codes "SCRIPT") rows) × HasStepOf rows question
+Asks rows (Frames setup script folder columns step) =
+    (setup ≡ text_at (codes "SETUP") rows) × (script ≡ text_at (codes "SCRIPT") rows)
+    × (first_of (codes "FOLDER") rows ≡ Some folder) × AreColumns (first_of (codes "N") rows) columns × IsAnyStepIn rows step
 Asks rows (Debug setup seats journal) =
     (setup ≡ text_at (codes "SETUP") rows) × (seats ≡ texts_at (codes "SEAT") rows)
     × (journal ≡ first_of (codes "FILE") rows)

@@ -14,9 +14,9 @@ required_rule id = record (new_rule id) { required = true }
 abbrev pub option_rule : Text → Text → Rule
 option_rule id name = record (new_rule id) { long = Some name }
 
--- a number of turns
-abbrev pub turns_rule : Rule
-turns_rule = record (required_rule (codes "TURNS")) { parser = Some (vp.Signed (pos 0) (pos MAX_TURNS)) }
+-- a number from 0 on
+abbrev pub counted : Rule → Rule
+counted rule = record rule { parser = Some (vp.Signed (pos 0) (pos MAX_TURNS)) }
 
 -- a number from 1 on
 abbrev pub numbered : Rule → Rule
@@ -42,7 +42,7 @@ play_app = on_files (codes "play") []
 abbrev pub race_app : App
 race_app =
     with_arguments (codes "race")
-    (required_rule (codes "SETUP") ∷ turns_rule ∷ several (required_rule (codes "SCRIPT")) ∷ [])
+    (required_rule (codes "SETUP") ∷ counted (required_rule (codes "TURNS")) ∷ several (required_rule (codes "SCRIPT")) ∷ [])
 
 -- a subcommand with these files, and a step
 abbrev pub on_step : Text → App
@@ -56,17 +56,19 @@ explain_app = on_step (codes "explain")
 abbrev pub trail_app : App
 trail_app = on_step (codes "trail")
 
--- a subcommand with these files, and a step that may be left out
-abbrev pub on_any_step : Text → App
-on_any_step name = on_files name (numbered (new_rule (codes "P")) ∷ numbered (new_rule (codes "K")) ∷ [])
+-- a subcommand with these files, a step that may be left out, and then these arguments
+abbrev pub on_any_step : Text → List Rule → App
+on_any_step name more = on_files name (numbered (new_rule (codes "P")) ∷ numbered (new_rule (codes "K")) ∷ more)
 
--- `draw SETUP SCRIPT [P [K]]`
+-- `draw [--rows N] [--frames FOLDER] SETUP SCRIPT [P [K]]`
 abbrev pub draw_app : App
-draw_app = on_any_step (codes "draw")
+draw_app =
+    on_any_step (codes "draw")
+    (counted (option_rule (codes "N") (codes "rows")) ∷ option_rule (codes "FOLDER") (codes "frames") ∷ [])
 
 -- `slice SETUP SCRIPT [P [K]]`
 abbrev pub slice_app : App
-slice_app = on_any_step (codes "slice")
+slice_app = on_any_step (codes "slice") []
 
 -- `debug [--journal FILE] SETUP [SEAT..]`
 abbrev pub debug_app : App

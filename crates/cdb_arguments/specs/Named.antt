@@ -6,7 +6,7 @@ use Rattle.cdb_arguments.specs.declared.command_line.Argument.{Argument}
 use Rattle.cdb_arguments.specs.declared.command_line.Argument.TheVariants as arg
 use Rattle.cdb_arguments.specs.declared.command_line.Subcommand.{Subcommand}
 use Rattle.cdb_arguments.specs.declared.command_line.Subcommand.TheVariants as sub
-use Rattle.cdb_arguments.specs.CommandLine.{required_rule, option_rule, turns_rule, numbered, several, play_app, race_app, explain_app, trail_app, draw_app, slice_app, debug_app, replay_app, page_app, same_app, clocks_app, search_app, shrink_app}
+use Rattle.cdb_arguments.specs.CommandLine.{required_rule, option_rule, counted, numbered, several, play_app, race_app, explain_app, trail_app, draw_app, slice_app, debug_app, replay_app, page_app, same_app, clocks_app, search_app, shrink_app}
 
 abbrev pub rule_named : Argument → Rule
 rule_named arg.Setup = required_rule (codes "SETUP")
@@ -17,13 +17,15 @@ rule_named arg.Seed = numbered (required_rule (codes "SEED"))
 rule_named arg.Walks = numbered (required_rule (codes "WALKS"))
 rule_named arg.First = required_rule (codes "FIRST")
 rule_named arg.Second = required_rule (codes "SECOND")
-rule_named arg.Turns = turns_rule
+rule_named arg.Turns = counted (required_rule (codes "TURNS"))
 rule_named arg.Scripts = several (required_rule (codes "SCRIPT"))
 rule_named arg.Process = numbered (required_rule (codes "P"))
 rule_named arg.AnyProcess = numbered (new_rule (codes "P"))
 rule_named arg.Step = numbered (new_rule (codes "K"))
 rule_named arg.Seats = several (new_rule (codes "SEAT"))
 rule_named arg.Kept = option_rule (codes "FILE") (codes "journal")
+rule_named arg.Columns = counted (option_rule (codes "N") (codes "rows"))
+rule_named arg.Frames = option_rule (codes "FOLDER") (codes "frames")
 
 abbrev pub with_argument : App → Argument → App
 with_argument app argument = with_rule app (rule_named argument)

@@ -4,10 +4,11 @@ use Rattle.std.specs.List.{AllByRecursion}
 use Rattle.std.specs.Str.Parse.{IsNumeral, digits_value, without_leading_plus}
 use Rattle.clap.specs.Lexer.{usize_max}
 use Rattle.cdb_arguments.specs.declared.limits.TheConstants.{MAX_NUMBER, MAX_TURNS}
-use Rattle.cdb_base.specs.Requests.{Asked, Script, Play, Race, Ask, Debug, Replay, Search, Shrink, Same, Clocks, Page, Text}
+use Rattle.cdb_base.specs.Requests.{Asked, Script, Play, Race, Ask, Frames, Debug, Replay, Search, Shrink, Same, Clocks, Page, Text}
 use Rattle.cdb_base.specs.declared.question.Question.{Question}
 use Rattle.cdb_base.specs.declared.question.Question.TheVariants.{Explain, Trail, Draw, Slice}
 use Rattle.cdb_base.specs.declared.question.StepAsked.{StepAsked}
+use Rattle.cdb_base.specs.declared.question.TheConstants.{COLUMNS}
 
 -- a text that does not begin with a hyphen, so that it is no option
 abbrev pub IsPlain : Text → Type 0
@@ -24,8 +25,8 @@ AreDigitsOf text number =
     IsNumeral 10 (without_leading_plus text) × (digits_value 10 (without_leading_plus text) ≡ number)
 
 -- a number of turns
-abbrev pub IsNumberOfTurns : Text → ℕ → Type 0
-IsNumberOfTurns text turns = AreDigitsOf text turns × (turns ≤ MAX_TURNS)
+abbrev pub WritesCount : Text → ℕ → Type 0
+WritesCount text turns = AreDigitsOf text turns × (turns ≤ MAX_TURNS)
 
 -- a number from 1 on
 abbrev pub WritesNumber : Text → ℕ → Type 0
@@ -46,34 +47,40 @@ WritesStep texts (Some step) =
 abbrev pub question_name : Question → Text
 question_name (Explain step) = codes "explain"
 question_name (Trail step) = codes "trail"
-question_name (Draw step) = codes "draw"
+question_name (Draw columns step) = codes "draw"
 question_name (Slice step) = codes "slice"
 
 -- the step that it asks for, if it asks for one
 abbrev pub step_asked : Question → Option StepAsked
 step_asked (Explain step) = Some step
 step_asked (Trail step) = Some step
-step_asked (Draw step) = step
+step_asked (Draw columns step) = step
 step_asked (Slice step) = step
+
+-- a picture has 20 columns to a row
+abbrev pub IsUsual : Question → Type 0
+IsUsual (Draw columns step) = columns ≡ COLUMNS
+IsUsual question = Unit {0}
 
 -- the program's name, a subcommand, and these texts, none of which is an option
 abbrev pub IsSubcommandLine : Text → List Text → List Text → Type 0
 IsSubcommandLine command arguments words = ((name : Text) × (words ≡ name ∷ command ∷ arguments)) × ArePlain arguments
 
 -- What the words of a line ask for. There are as many scripts and seats as a machine's word counts, and a race has one
--- script or more. A session whose journal is kept has an option.
+-- script or more. A session whose journal is kept has an option, and so have frames.
 abbrev pub IsLine : List Text → Asked → Type 0
 IsLine words Script = (name : Text) × (words ≡ name ∷ [])
 IsLine words (Play setup script) = IsSubcommandLine (codes "play") (setup ∷ script ∷ []) words
 IsLine words (Race setup turns scripts) =
-    (text : Text) × IsNumberOfTurns text turns × (1 ≤ length scripts) × (length scripts ≤ usize_max)
+    (text : Text) × WritesCount text turns × (1 ≤ length scripts) × (length scripts ≤ usize_max)
     × IsSubcommandLine (codes "race") (setup ∷ text ∷ scripts) words
 IsLine words (Ask setup script question) =
-    (texts : List Text) × WritesStep texts (step_asked question)
+    (texts : List Text) × WritesStep texts (step_asked question) × IsUsual question
     × IsSubcommandLine (question_name question) (setup ∷ script ∷ texts) words
 IsLine words (Debug setup seats None) =
     (length seats ≤ usize_max) × IsSubcommandLine (codes "debug") (setup ∷ seats) words
 IsLine words (Debug setup seats (Some journal)) = ⊥
+IsLine words (Frames setup script folder columns step) = ⊥
 IsLine words (Replay setup journal) = IsSubcommandLine (codes "replay") (setup ∷ journal ∷ []) words
 IsLine words (Search setup goal seed walks) =
     (first second : Text) × WritesNumber first seed × WritesNumber second walks

@@ -3,7 +3,7 @@
 ghost use Rattle.std.specs.Prelude.{◌≡◌, IfOk, [], false, true, codes, fold};
 ghost use Rattle.clap.specs.Words.{app_of, new_app, new_rule, rule_of};
 ghost use Rattle.clap.specs.declared.builder.command.Command.TheViews.{out-Command};
-ghost use Rattle.cdb_arguments.specs.CommandLine.{required_rule, option_rule, turns_rule, numbered, several, program};
+ghost use Rattle.cdb_arguments.specs.CommandLine.{required_rule, option_rule, counted, numbered, several, program};
 ghost use Rattle.cdb_arguments.specs.Named.{rule_named, name_of, app_named, with_argument, with_named, bare_program};
 
 use clap::{Arg, Command};
@@ -112,6 +112,10 @@ pub(crate) enum Argument {
     Second,
     /// The option of the file in which a journal is kept.
     Kept,
+    /// The option of the columns to a row.
+    Columns,
+    /// The option of the folder of frames.
+    Frames,
 }
 
 /// A subcommand of the program.
@@ -202,7 +206,15 @@ impl Subcommand {
                 Argument::Process,
                 Argument::Step,
             ],
-            Subcommand::Draw | Subcommand::Slice => &[
+            Subcommand::Draw => &[
+                Argument::Setup,
+                Argument::Script,
+                Argument::AnyProcess,
+                Argument::Step,
+                Argument::Columns,
+                Argument::Frames,
+            ],
+            Subcommand::Slice => &[
                 Argument::Setup,
                 Argument::Script,
                 Argument::AnyProcess,
@@ -230,14 +242,12 @@ fn required<'a>(alloc: Global, name: &'a str, help: &'a str) -> Arg<'a>
     Arg::new(alloc, name).required(true).help(help)
 }
 
-/// A number of 0 to 99,999.
-fn turns<'a>(alloc: Global) -> Arg<'a>
-    ensures rule { rule_of result ≡ turns_rule }
-    ensures local { result.global ≡ false }
+/// The argument takes a number of 0 to 99,999.
+fn counted<'a>(arg: Arg<'a>) -> Arg<'a>
+    ensures rule { rule_of result ≡ counted (rule_of arg.entry) }
+    ensures local { result.global ≡ arg.entry.global }
 {
-    let help = "How often each process is driven at most, 0 to 99999";
-    let turns = required(alloc, "TURNS", help);
-    turns.value_parser(clap::value_parser!(u32).range(0..100_000))
+    arg.value_parser(clap::value_parser!(u32).range(0..100_000))
 }
 
 /// The argument takes a number of 1 to 999,999.
@@ -294,7 +304,11 @@ fn argument_of<'a>(alloc: Global, argument: &Argument) -> Arg<'a>
             "SCRIPT",
             "The file of the script, one command a line",
         ),
-        Argument::Turns => turns(alloc),
+        Argument::Turns => counted(required(
+            alloc,
+            "TURNS",
+            "How often each process is driven at most, 0 to 99999",
+        )),
         Argument::Scripts => many(required(
             alloc,
             "SCRIPT",
@@ -347,6 +361,18 @@ fn argument_of<'a>(alloc: Global, argument: &Argument) -> Arg<'a>
             "FILE",
             "journal",
             "A file in which the journal is kept while the sessions go on; it has to be new or empty",
+        ),
+        Argument::Columns => counted(option(
+            alloc,
+            "N",
+            "rows",
+            "How many events stand in a row, 0 to 99999, where 0 is one row for all; left out: 20",
+        )),
+        Argument::Frames => option(
+            alloc,
+            "FOLDER",
+            "frames",
+            "A folder for one picture after each command that changed the run; it has to be new or empty",
         ),
     }
 }

@@ -4,14 +4,14 @@ ghost use Rattle.std.specs.Prelude.{◌≡◌, OnOk, IfOk, IfErr, Some, [], true
 ghost use Rattle.clap.specs.Words.{Kinds, Text, HasKind, fault_of, first_of, found_of, kind_of, rows_of, subcommand_of, subcommand_rows_of, takes};
 ghost use Rattle.cdb_base.specs.Memory.{no_memory};
 ghost use Rattle.cdb_arguments.specs.CommandLine.{program};
-ghost use Rattle.cdb_arguments.specs.Asking.{HasStepOf, IsAnyStepIn, IsStepIn, NamesOne, IsTurns, IsNumber, IsNumberAt, text_at, texts_at, NamesAsked, IsOfKinds, IsRequest, ask_status_of, words_status};
+ghost use Rattle.cdb_arguments.specs.Asking.{AreColumns, HasStepOf, IsAnyStepIn, IsStepIn, NamesOne, IsCount, IsNumber, IsNumberAt, text_at, texts_at, NamesAsked, IsOfKinds, IsRequest, ask_status_of, words_status};
 ghost use Rattle.cdb_arguments.specs.Plain.{IsLine, question_name};
 ghost use Rattle.cdb_base.specs.Requests.{Asked, any_text, asked_for, texts};
 
 use crate::command_line::program;
 use crate::limits::{MAX_NUMBER, MAX_TURNS};
 use crate::request::{AskFault, WordsError};
-use cdb_base::{NoMemory, Question, Request, StepAsked};
+use cdb_base::{COLUMNS, NoMemory, Question, Request, StepAsked};
 use clap::error::ErrorKind;
 use clap::{ArgMatches, Error};
 use std::alloc::{AllocError, Global};
@@ -43,9 +43,9 @@ fn ask_fault(error: WordsError) -> AskFault
     }
 }
 
-/// The number of turns that the text is.
-fn turns_of(text: &str) -> u32
-    ensures { IsTurns text.now result }
+/// The number from 0 on that the text is.
+fn count_of(text: &str) -> u32
+    ensures { IsCount text.now result }
 {
     match text.parse::<u32>() {
         Ok(turns) if turns <= MAX_TURNS => turns,
@@ -123,7 +123,7 @@ fn race_of<'a>(alloc: Global, found: &ArgMatches<'a>) -> Result<Request<'a>, All
 {
     Ok(Request::Race {
         setup: text_of(found, "SETUP"),
-        turns: turns_of(text_of(found, "TURNS")),
+        turns: count_of(text_of(found, "TURNS")),
         scripts: texts_of(alloc, found, "SCRIPT")?,
     })
 }
@@ -157,6 +157,34 @@ fn question_of<'a>(found: &ArgMatches<'a>, question: Question) -> Request<'a>
         setup: text_of(found, "SETUP"),
         script: text_of(found, "SCRIPT"),
         question,
+    }
+}
+
+/// How many columns a picture has.
+fn columns_of(found: &ArgMatches) -> u32
+    ensures { AreColumns (first_of (codes "N") (rows_of (found_of found.now))) result }
+{
+    match found.get_str("N") {
+        Some(text) => count_of(text),
+        None => COLUMNS,
+    }
+}
+
+/// A picture, or the frames where a folder is given.
+fn drawing_of<'a>(found: &ArgMatches<'a>) -> Request<'a>
+    ensures { NamesAsked (Some (codes "draw", rows_of (found_of found.now))) (asked_for result) }
+{
+    let columns = columns_of(found);
+    let step = any_step_of(found);
+    match any_text_of(found, "FOLDER") {
+        Some(folder) => Request::Frames {
+            setup: text_of(found, "SETUP"),
+            script: text_of(found, "SCRIPT"),
+            folder,
+            columns,
+            step,
+        },
+        None => question_of(found, Question::Draw { columns, step }),
     }
 }
 
@@ -250,7 +278,7 @@ fn asked_under<'a>(
         "play" => Ok(play_of(found)),
         "explain" => Ok(question_of(found, Question::Explain(step_of(found)))),
         "trail" => Ok(question_of(found, Question::Trail(step_of(found)))),
-        "draw" => Ok(question_of(found, Question::Draw(any_step_of(found)))),
+        "draw" => Ok(drawing_of(found)),
         "slice" => Ok(question_of(found, Question::Slice(any_step_of(found)))),
         "debug" => debug_of(alloc, found),
         "replay" => Ok(replay_of(found)),
@@ -312,7 +340,8 @@ fn read<'a>(alloc: Global, words: &'a [&'a str]) -> Result<Request<'a>, AskFault
 /// What the arguments of the command line ask for; the first is the program's name. The name alone asks for the script
 /// on standard input, `play SETUP SCRIPT` for a play, `race SETUP TURNS SCRIPT..` for a race, `explain SETUP SCRIPT P [K]`
 /// for what led to a step, `trail SETUP SCRIPT P [K]` for the trail of a value to it, `draw SETUP SCRIPT [P [K]]` for a
-/// picture, `slice SETUP SCRIPT [P [K]]` for a script, `debug SETUP [SEAT..]` for sessions that go on line by line, with
+/// picture, with `--rows N` for one with N columns to a row, or all in one for 0, and with `--frames FOLDER` for one after
+/// each command that changed the run, `slice SETUP SCRIPT [P [K]]` for a script, `debug SETUP [SEAT..]` for sessions that go on line by line, with
 /// `--journal FILE` for ones whose journal is kept in a file, `replay SETUP JOURNAL` for a journal that is played again,
 /// `search SETUP GOAL SEED WALKS` for a search, `same SETUP FIRST SECOND` for whether two scripts leave the same run,
 /// `clocks SETUP SCRIPT` for clocks, `shrink SETUP SCRIPT GOAL` for a small script, `page SETUP SCRIPT` for a page. P, K,

@@ -2,6 +2,7 @@
 use Rattle.std.specs.Prelude.{ℕ, List, Option, map, option_map}
 use Rattle.std.specs.Borrow.{Bor}
 use Rattle.cdb_base.specs.declared.question.Question.{Question}
+use Rattle.cdb_base.specs.declared.question.StepAsked.{StepAsked}
 use Rattle.cdb_base.specs.declared.request.Request.{Request}
 use Rattle.cdb_base.specs.declared.request.Request.TheVariants as request
 
@@ -22,6 +23,7 @@ pub data Asked : Type 0 where
   Play : (setup script : Text) → Asked
   Race : (setup : Text) → (turns : ℕ) → (scripts : List Text) → Asked
   Ask : (setup script : Text) → (question : Question) → Asked
+  Frames : (setup script folder : Text) → (columns : ℕ) → (step : Option StepAsked) → Asked
   Debug : (setup : Text) → (seats : List Text) → (journal : Option Text) → Asked
   Replay : (setup journal : Text) → Asked
   Search : (setup goal : Text) → (seed walks : ℕ) → Asked
@@ -36,6 +38,7 @@ asked_for request.Script = Script
 asked_for (request.Play setup script) = Play setup.now script.now
 asked_for (request.Race setup turns scripts) = Race setup.now turns (texts scripts.items)
 asked_for (request.Ask setup script question) = Ask setup.now script.now question
+asked_for (request.Frames setup script folder columns step) = Frames setup.now script.now folder.now columns step
 asked_for (request.Debug setup seats journal) = Debug setup.now (texts seats.items) (any_text journal)
 asked_for (request.Replay setup journal) = Replay setup.now journal.now
 asked_for (request.Search setup goal seed walks) = Search setup.now goal.now seed walks

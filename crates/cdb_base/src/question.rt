@@ -8,6 +8,9 @@ pub struct StepAsked {
     pub k: Option<u32>,
 }
 
+/// As many columns of a picture as fit a page that lies.
+pub const COLUMNS: u32 = 20;
+
 /// What is asked of a run.
 #[derive(Clone, Copy)]
 pub enum Question {
@@ -15,8 +18,12 @@ pub enum Question {
     Explain(StepAsked),
     /// How a value came to the step.
     Trail(StepAsked),
-    /// A picture, in which what led to the step stands out; without one all does.
-    Draw(Option<StepAsked>),
+    /// A picture with so many columns to a row, or with 0 all in one row, in which what led to the step stands out; without
+    /// one all does.
+    Draw {
+        columns: u32,
+        step: Option<StepAsked>,
+    },
     /// A script that plays the run, or only what led to the step.
     Slice(Option<StepAsked>),
 }

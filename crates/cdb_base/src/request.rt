@@ -1,6 +1,6 @@
 //! What the program is asked to do.
 
-use crate::question::Question;
+use crate::question::{Question, StepAsked};
 
 /// What the program is asked to do. Setups, scripts and journals are named by their files.
 #[derive(Drop)]
@@ -23,6 +23,15 @@ pub enum Request<'a> {
         setup: &'a str,
         script: &'a str,
         question: Question,
+    },
+    /// Draws the run after each command of a script that changed it, on a setup, each into a file of this folder, with so many
+    /// columns to a row. A step is refused.
+    Frames {
+        setup: &'a str,
+        script: &'a str,
+        folder: &'a str,
+        columns: u32,
+        step: Option<StepAsked>,
     },
     /// Holds a session for each seat, a terminal device or `IN:OUT`, over one run of a setup; without seats one session
     /// here. The journal is kept meanwhile in the file of this name, if there is one.

@@ -9,8 +9,8 @@ range_more : (a n : ℕ) → range_with_len a (n + 1) ≡ range_with_len a n ++ 
 range_more a n = simp map-id at (map-range_with_len_more (λ (k : ℕ). k) a n (a + n) refl)
 
 -- the text of one number more
-pub each_more : (f : ℕ → List ℕ) (a n : ℕ) → flat_map f (range_with_len a (n + 1)) ≡ flat_map f (range_with_len a n) ++ f (a + n)
-each_more f a n = rw (range_more a n, flat_map-append) (ap (λ (t : List ℕ). flat_map f (range_with_len a n) ++ t) (append-nil (f (a + n))))
+pub each_more : {A : Type 0} (f : ℕ → List A) (a n : ℕ) → flat_map f (range_with_len a (n + 1)) ≡ flat_map f (range_with_len a n) ++ f (a + n)
+each_more {A = A} f a n = rw (range_more a n, flat_map-append) (ap (λ (t : List A). flat_map f (range_with_len a n) ++ t) (append-nil (f (a + n))))
 
 -- the same after what was there before
 pub text_more : (f : ℕ → List ℕ) (a n : ℕ) {p : ℕ} (start : List ℕ) {now later : List ℕ} → p ≡ a + n → now ≡ start ++ flat_map f (range_with_len a n) → later ≡ now ++ f p

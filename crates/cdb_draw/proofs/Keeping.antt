@@ -130,9 +130,9 @@ suits s p = elim (cases_eq s p) [
 ]
 
 -- The ways, where the mark is at position k on lane q.
-module _ (n high c : ℕ) (tall : high ≡ 88 * n + 20) (k q : ℕ) (late : 1 ≤ k) (among : IsOneOf n q) where
+module _ (n high c r : ℕ) (tall : high ≡ 88 * n + 20) (k q : ℕ) (late : 1 ≤ k) (among : IsOneOf n q) where
   abbrev grid : Grid
-  grid = record { columns = c; processes = n; gap = 88; height = high }
+  grid = record { columns = c; rows = r; processes = n; gap = 88; height = high }
 
   abbrev here : Point
   here = spot grid k q
@@ -187,4 +187,4 @@ module _ (n high c : ℕ) (tall : high ≡ 88 * n + 20) (k q : ℕ) (late : 1 �
 
 pub arrows_keep_off : ArrowsKeepOff
 arrows_keep_off setup columns count i s j p k q leads early later late one other from to among =
-    rw leads (keeps_off setup.processes (88 * setup.processes + 20) (columns_for columns count) refl k q late among i s j p early later one other from to)
+    rw leads (keeps_off setup.processes (88 * setup.processes + 20) (columns_for columns count) (1 + (count - 1) / columns_for columns count) refl k q late among i s j p early later one other from to)

@@ -5,3 +5,4 @@ pub mod Ended
 pub mod LastMarks
 pub mod Keeping
 pub mod Weighing
+pub mod Framing

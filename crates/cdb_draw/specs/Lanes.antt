@@ -7,7 +7,7 @@ use Rattle.cdb_base.specs.declared.event.Event.{Event}
 use Rattle.cdb_rules.specs.RunView.{RunView}
 use Rattle.cdb_setup.specs.declared.setup.Algorithm.{Algorithm}
 use Rattle.cdb_setup.specs.declared.setup.Algorithm.TheVariants.{Leader, Alpha}
-use Rattle.cdb_draw.specs.Layout.{end_x, lane_y, register_y, row_of, rows_of, start_x, x_of}
+use Rattle.cdb_draw.specs.Layout.{end_x, lane_y, register_y, row_of, start_x, x_of}
 use Rattle.cdb_draw.specs.Positions.{crashed_at}
 use Rattle.cdb_draw.specs.declared.layout.Grid.{Grid}
 
@@ -60,4 +60,4 @@ lane_at grid run lanes i = lane_of_row grid run (i / lanes) (i % lanes + 1)
 abbrev pub lanes_text : Grid → RunView → List ℕ
 lanes_text grid run =
     let lanes = lanes_by run.setup.algorithm grid.processes in
-    flat_map (lane_at grid run lanes) (range_with_len 0 (rows_of grid (length run.history) * lanes))
+    flat_map (lane_at grid run lanes) (range_with_len 0 (grid.rows * lanes))

@@ -22,11 +22,12 @@ row_height Alpha n = 84 * n + 64
 abbrev pub columns_for : ℕ → ℕ → ℕ
 columns_for asked count = if nat_eq asked 0 || nat_le count asked then max count 1 else asked
 
--- the columns of a row, and what a row has, for that number of events
+-- the columns of a row, how many rows there are, and what a row has, for that number of events
 abbrev pub grid_of : Parts → ℕ → ℕ → Grid
 grid_of setup asked count =
     record {
       columns = columns_for asked count;
+      rows = 1 + (count - 1) / columns_for asked count;
       processes = setup.processes;
       gap = lane_gap setup.algorithm;
       height = row_height setup.algorithm setup.processes;
@@ -36,6 +37,7 @@ grid_of setup asked count =
 pub record IsGrid (grid : Grid) : Type 0 where
   pub some : 1 ≤ grid.columns
   pub few : grid.columns ≤ MAX_ENTRIES
+  pub rows : grid.rows ≤ MAX_ENTRIES + 1
   pub processes : grid.processes ≤ 9
   pub a_process : 1 ≤ grid.processes
   pub gap : grid.gap ≤ 88
@@ -76,13 +78,9 @@ end_x grid = 110 + 52 * grid.columns
 
 -- ---- the picture as a whole
 
--- the rows of that number of events
-abbrev pub rows_of : Grid → ℕ → ℕ
-rows_of grid count = 1 + (count - 1) / grid.columns
-
 -- in millimetres, 297 with 20 columns
 abbrev pub width : Grid → ℕ
 width grid = 37 + 13 * grid.columns
 
-abbrev pub height : Grid → ℕ → ℕ
-height grid count = 20 + rows_of grid count * grid.height
+abbrev pub height : Grid → ℕ
+height grid = 20 + grid.rows * grid.height

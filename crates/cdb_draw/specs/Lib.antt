@@ -10,5 +10,6 @@ pub mod Arrows
 pub mod EventMarks
 pub mod Picture
 pub mod Drawn
+pub mod Frames
 -- ---- what the code keeps for itself
 pub mod Sends

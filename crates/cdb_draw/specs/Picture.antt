@@ -33,7 +33,7 @@ document_text w h heading =
 
 abbrev pub head_text : Grid → RunView → List ℕ
 head_text grid run =
-    document_text (width grid) (height grid (length run.history)) (heading_text run.setup.algorithm run.setup.quorum)
+    document_text (width grid) (height grid) (heading_text run.setup.algorithm run.setup.quorum)
 
 -- the positions of a history
 abbrev pub positions : List Event → List ℕ

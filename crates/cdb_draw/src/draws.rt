@@ -63,7 +63,11 @@ fn weights_to(alloc: Global, run: &Trace, position: usize) -> Result<Vec<Weight>
 }
 
 /// The weight of each event: all are in full where no step is asked for.
-fn weights_for(alloc: Global, run: &Trace, position: Option<usize>) -> Result<Vec<Weight>, NoMemory>
+pub(crate) fn weights_for(
+    alloc: Global,
+    run: &Trace,
+    position: Option<usize>,
+) -> Result<Vec<Weight>, NoMemory>
     requires valid { IsInOrder rules run.now }
     requires stands { IfSome position (λ at. (1 ≤ at) × (at ≤ length run.now.history)) }
     ensures weights { IfOk result (λ weights. AreWeighed run.now position weights.items) }

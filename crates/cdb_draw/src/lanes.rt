@@ -7,7 +7,7 @@ ghost use Rattle.cdb_draw.specs.Layout.{grid_of, IsGrid};
 ghost use Rattle.cdb_draw.specs.Pieces.{piece_text, pieces_text};
 ghost use Rattle.cdb_streams.specs.Putting.{Puts};
 
-use crate::layout::{Grid, end_x, lane_y, register_y, row_of, rows_of, x_of};
+use crate::layout::{Grid, end_x, lane_y, register_y, row_of, x_of};
 use crate::piece::Piece::{After, Number, Text};
 use crate::piece::{Piece, put_each};
 use crate::sends::crashed_at;
@@ -159,8 +159,7 @@ pub(crate) fn put_lanes<W: Sink>(
         (lanes_text grid run.now) }
 {
     let lanes = lanes_by(run.setup().algorithm(), grid.processes);
-    let rows = rows_of(grid, run.events().len());
-    for i in 0..rows * lanes {
+    for i in 0..grid.rows * lanes {
         put_each(
             &lane_of_row(grid, run, i / lanes, i % lanes + 1),
             buffer,

@@ -1,22 +1,20 @@
 //! Where things stand in a picture.
 
 ghost use Rattle.std.specs.Prelude.{◌≡◌, ◌+◌, ◌≤◌};
-ghost use Rattle.cdb_draw.specs.Layout.{columns_for, end_x, grid_of, height, IsGrid, IsOnPage, lane_gap, lane_y, register_y, row_height, row_of, rows_of, spot, width, x_of};
+ghost use Rattle.cdb_draw.specs.Layout.{columns_for, end_x, grid_of, height, IsGrid, IsOnPage, lane_gap, lane_y, register_y, row_height, row_of, spot, width, x_of};
 
 use cdb_base::Proc;
 use cdb_base::limits::MAX_ENTRIES;
 use cdb_setup::{Algorithm, Setup};
 
-/// As many columns to a row fit a page that lies.
-pub const COLUMNS: u32 = 20;
-
 /// Of a run with more events only what led to a step is drawn.
 pub const MOST_DRAWN: usize = 5_000;
 
-/// The columns of a row, and what a row has.
+/// The columns of a row, how many rows there are, and what a row has.
 #[derive(Clone, Copy)]
 pub struct Grid {
     pub columns: usize,
+    pub rows: usize,
     pub processes: usize,
     /// How far the lanes of two processes are apart.
     pub gap: usize,
@@ -45,7 +43,7 @@ fn columns_for(asked: usize, count: usize) -> usize
     }
 }
 
-/// The grid of that number of events, with this number of columns to a row; with 0 all are in one row.
+/// The grid with room for that number of events, with this number of columns to a row; with 0 all are in one row.
 pub(crate) fn grid_of(setup: &Setup, asked: usize, count: usize) -> Grid
     requires { count ≤ MAX_ENTRIES }
     ensures value { result ≡ grid_of setup.now asked count }
@@ -53,15 +51,18 @@ pub(crate) fn grid_of(setup: &Setup, asked: usize, count: usize) -> Grid
 {
     let processes = usize::from(setup.n());
     let columns = columns_for(asked, count);
+    let rows = 1 + count.saturating_sub(1) / columns;
     match setup.algorithm() {
         Algorithm::Leader => Grid {
             columns,
+            rows,
             processes,
             gap: 88,
             height: 88 * processes + 20,
         },
         Algorithm::Alpha => Grid {
             columns,
+            rows,
             processes,
             gap: 60,
             height: 84 * processes + 64,
@@ -131,17 +132,6 @@ pub(crate) fn end_x(grid: Grid) -> usize
     110 + 52 * grid.columns
 }
 
-/// How many rows that number of events has.
-pub(crate) fn rows_of(grid: Grid, count: usize) -> usize
-    requires grid { IsGrid grid }
-    requires few { count ≤ MAX_ENTRIES }
-    ensures value { result ≡ rows_of grid count }
-    ensures some { 1 ≤ result }
-    ensures most { result ≤ MAX_ENTRIES + 1 }
-{
-    1 + count.saturating_sub(1) / grid.columns
-}
-
 /// How wide the picture is, in millimetres.
 pub(crate) fn width(grid: Grid) -> usize
     requires { IsGrid grid }
@@ -151,11 +141,10 @@ pub(crate) fn width(grid: Grid) -> usize
     37 + 13 * grid.columns
 }
 
-/// How high the picture of that number of events is.
-pub(crate) fn height(grid: Grid, count: usize) -> usize
-    requires grid { IsGrid grid }
-    requires few { count ≤ MAX_ENTRIES }
-    ensures { result ≡ height grid count }
+/// How high the picture is, in quarters of a millimetre.
+pub(crate) fn height(grid: Grid) -> usize
+    requires { IsGrid grid }
+    ensures { result ≡ height grid }
 {
-    20 + rows_of(grid, count) * grid.height
+    20 + grid.rows * grid.height
 }

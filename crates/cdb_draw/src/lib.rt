@@ -3,11 +3,13 @@
 
 mod arrow;
 mod draws;
+mod frames;
 mod holds;
 mod lanes;
 mod laws;
 mod layout;
 mod mark;
+mod memory;
 mod picture;
 mod piece;
 mod script;
@@ -18,6 +20,8 @@ mod way;
 mod weight;
 
 pub use draws::draw_run;
+pub use frames::Frames;
 pub use laws::arrows_keep_off_marks;
-pub use layout::{COLUMNS, MOST_DRAWN};
+pub use layout::MOST_DRAWN;
+pub use memory::picture_of;
 pub use script::draw;

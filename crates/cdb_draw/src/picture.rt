@@ -79,7 +79,7 @@ fn put_head<W: Sink>(
 {
     let setup = run.setup();
     let heading = heading(setup.algorithm(), usize::from(setup.q()));
-    let pieces = document(width(grid), height(grid, run.events().len()), heading);
+    let pieces = document(width(grid), height(grid), heading);
     put_each(&pieces, buffer, out)
 }
 

@@ -9,7 +9,6 @@
 mod entries;
 pub mod laws;
 mod links;
-mod memory;
 mod page;
 pub mod parts;
 mod text;

@@ -8,10 +8,10 @@ ghost use Rattle.cdb_page.specs.declared.parts.TheConstants.{CONTROLS as control
 ghost use Rattle.cdb_rules.specs.ByRules.{IsInOrder};
 
 use crate::entries::entries_of;
-use crate::memory::picture_of;
 use crate::parts::{CONTROLS, HEAD, SCRIPT};
 use crate::text::text_of_entries;
-use cdb_base::NoMemory;
+use cdb_base::{COLUMNS, NoMemory};
+use cdb_draw::picture_of;
 use cdb_rules::Trace;
 use std::alloc::Global;
 
@@ -35,7 +35,7 @@ pub(crate) fn page_of(alloc: Global, run: &Trace) -> Result<Vec<u8>, NoMemory>
     requires few { length run.now.history ≤ most_entries }
     ensures { IfOk result (λ text. IsPage run.now text.items) }
 {
-    let picture = picture_of(alloc, run)?;
+    let picture = picture_of(alloc, run, COLUMNS)?;
     let entries = entries_of(alloc, run)?;
     let text = text_of_entries(alloc, entries.as_slice())?;
     joined(alloc, picture.as_slice(), text.as_slice())

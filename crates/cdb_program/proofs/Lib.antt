@@ -4,3 +4,4 @@ pub mod Raced
 pub mod Reported
 pub mod Answered
 pub mod Seated
+pub mod Framed

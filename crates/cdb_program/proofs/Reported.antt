@@ -2,7 +2,7 @@
 use Rattle.std.proofs.Common.{◌≡◌, ◌≢◌, ℕ, List, [], ◌∷◌, Option, Some, None, Bor, refl, length, arith}
 use Rattle.std.specs.Prelude.{Vec}
 use Rattle.std.specs.Global.{Global}
-use Rattle.cdb_base.specs.Requests.{Asked, Script, Play, Race, Ask, Debug, Replay, Search, Shrink, Same, Clocks, Page, Text, asked_for, texts}
+use Rattle.cdb_base.specs.Requests.{Asked, Script, Play, Race, Ask, Frames, Debug, Replay, Search, Shrink, Same, Clocks, Page, Text, asked_for, texts}
 use Rattle.cdb_base.specs.declared.request.Request.{Request}
 use Rattle.cdb_base.specs.declared.request.Request.TheVariants as request
 use Rattle.cdb_streams.specs.Streams.{Stream}
@@ -17,6 +17,8 @@ does_but_error Script old new error outcome does = does
 does_but_error (Play setup script) old new error outcome does = does
 does_but_error (Race setup turns scripts) old new error outcome does = does
 does_but_error (Ask setup script question) old new error outcome does = does
+does_but_error (Frames setup script folder columns None) old new error outcome does = does
+does_but_error (Frames setup script folder columns (Some step)) old new error outcome does = does
 does_but_error (Debug setup seats journal) old new error outcome does = does
 does_but_error (Replay setup journal) old new error outcome does = does
 does_but_error (Search setup goal seed walks) old new error outcome does = does
@@ -37,6 +39,7 @@ done_alone request.Script other = record { no_session = tt; performs = λ prompt
 done_alone (request.Play setup script) other = record { no_session = tt; performs = λ prompt old new status done. done }
 done_alone (request.Race setup turns scripts) other = record { no_session = tt; performs = λ prompt old new status done. done }
 done_alone (request.Ask setup script question) other = record { no_session = tt; performs = λ prompt old new status done. done }
+done_alone (request.Frames setup script folder columns step) other = record { no_session = tt; performs = λ prompt old new status done. done }
 done_alone (request.Debug setup seats journal) other = absurd (other setup seats journal refl)
 done_alone (request.Replay setup journal) other = record { no_session = tt; performs = λ prompt old new status done. done }
 done_alone (request.Search setup goal seed walks) other = record { no_session = tt; performs = λ prompt old new status done. done }

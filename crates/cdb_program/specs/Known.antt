@@ -5,13 +5,14 @@ use Rattle.cdb_shared_session.specs.Openings.{SeatSeen}
 use Rattle.cdb_streams.specs.Streams.{Stream, one_more}
 
 -- Files: those that are known, each a name and its bytes; the names of those that were opened, in order, where these are known;
--- how many could not be read, in 64 bits; and the seats that are known, each a name and what it has when its streams are open,
--- none where they can't be opened
+-- how many could not be read, in 64 bits; the seats that are known, each a name and what it has when its streams are open,
+-- none where they can't be opened; and the files that were written whole, each a name and its bytes, in order, where these are known
 pub record FilesSeen : Type 0 where
   pub known : List (List ℕ × List ℕ)
   pub opened : Option (List (List ℕ))
   pub failures : ℕ
   pub seats : List (List ℕ × Option SeatSeen)
+  pub written : Option (List (List ℕ × List ℕ))
 
 -- all of the outside
 pub record Seen : Type 0 where
@@ -39,3 +40,7 @@ after_opening files names = record files { opened = option_map (λ before. befor
 -- and once the last of them could not be read
 abbrev pub after_failing : FilesSeen → List (List ℕ) → FilesSeen
 after_failing files names = record (after_opening files names) { failures = one_more files.failures }
+
+-- and once these were written too
+abbrev pub after_writing : FilesSeen → List (List ℕ × List ℕ) → FilesSeen
+after_writing files more = record files { written = option_map (λ before. before ++ more) files.written }

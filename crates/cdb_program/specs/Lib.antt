@@ -8,6 +8,7 @@ pub mod Playing
 pub mod Racing
 pub mod Questions
 pub mod Paging
+pub mod Framing
 pub mod Replaying
 pub mod Searching
 pub mod Comparing

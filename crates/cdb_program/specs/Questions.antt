@@ -3,7 +3,6 @@ use Rattle.std.specs.Prelude.{◌≡◌, ℕ, List, [], ◌∷◌, Option, Some,
 use Rattle.cdb_base.specs.declared.question.Question.{Question}
 use Rattle.cdb_base.specs.declared.question.Question.TheVariants.{Explain, Trail, Draw, Slice}
 use Rattle.cdb_draw.specs.Drawn.{draw_ending, Draws, IsFaultOfDraw}
-use Rattle.cdb_draw.specs.declared.layout.TheConstants.{COLUMNS}
 use Rattle.cdb_explain.specs.Explained.{explain_ending, Explains, IsFaultOfExplain}
 use Rattle.cdb_explain.specs.declared.fault.ExplainFault.{ExplainFault}
 use Rattle.cdb_explain.specs.declared.fault.ExplainFault.TheVariants.{Play}
@@ -40,23 +39,23 @@ DoesWithBytes name IsDone outcome others = ⊥
 
 -- ---- the answers
 
--- the text that answers a question of the run that a script leaves; a picture has 20 columns to a row
+-- the text that answers a question of the run that a script leaves
 abbrev pub Answers : List ℕ → Question → Stream → Stream → List ℕ → Type 0
 Answers json (Explain step) old new = Explains rules json step.p step.k old new
 Answers json (Trail step) old new = WritesTrail json step.p step.k old new
-Answers json (Draw step) old new = Draws rules json COLUMNS step old new
+Answers json (Draw columns step) old new = Draws rules json columns step old new
 Answers json (Slice step) old new = WritesSlice rules json step old new
 
 -- why it is not answered
 abbrev pub IsFaultOfQuestion : List ℕ → Question → Stream → Stream → ExplainFault → Type 0
 IsFaultOfQuestion json (Explain step) old new = IsFaultOfExplain rules json step.p step.k old new
 IsFaultOfQuestion json (Trail step) old new = IsFaultOfTrail json step.p step.k old new
-IsFaultOfQuestion json (Draw step) old new = IsFaultOfDraw rules json step old new
+IsFaultOfQuestion json (Draw columns step) old new = IsFaultOfDraw rules json step old new
 IsFaultOfQuestion json (Slice step) old new = IsFaultOfSlice rules json step old new
 
 -- how the writing of the answer ended
 abbrev pub question_ending : Question → TextEnd → Ending
-question_ending (Draw step) ended = draw_ending ended
+question_ending (Draw columns step) ended = draw_ending ended
 question_ending question ended = explain_ending ended
 
 -- the answer was written, with the text of a setup, and a script's reader and the output before and after

@@ -1,11 +1,13 @@
 -- What the program does with a request.
 use Rattle.std.specs.Prelude.{◌≡◌, ℕ, ◌≤◌, List, [], ◌∷◌, codes, Option, Some, None, Ok, Err}
-use Rattle.cdb_base.specs.Requests.{Asked, Script, Play, Race, Ask, Debug, Replay, Search, Shrink, Same, Clocks, Page, Text, asked_for}
+use Rattle.cdb_base.specs.Requests.{Asked, Script, Play, Race, Ask, Frames, Debug, Replay, Search, Shrink, Same, Clocks, Page, Text, asked_for}
+use Rattle.cdb_base.specs.declared.question.StepAsked.{StepAsked}
 use Rattle.cdb_streams.specs.Streams.{Stream, Takes, Fails, itself}
 use Rattle.cdb_streams.specs.declared.fault.PlayFault.TheVariants.{Write}
 use Rattle.cdb_program.specs.Clocks.{ClocksFiles}
 use Rattle.cdb_program.specs.Comparing.{ComparesFiles}
 use Rattle.cdb_program.specs.Debugging.{DebugsFile, DebugsFileKept}
+use Rattle.cdb_program.specs.Framing.{FramesFiles}
 use Rattle.cdb_program.specs.Known.{Seen}
 use Rattle.cdb_program.specs.Outcomes.{RequestEnd}
 use Rattle.cdb_program.specs.Paging.{PagesFiles}
@@ -32,12 +34,33 @@ abbrev pub IsNoSession : Asked → Type 0
 IsNoSession (Debug setup seats journal) = ⊥
 IsNoSession asked = Unit {0}
 
+-- no file is opened, and standard input is left as it is
+abbrev pub ReadsNothing : Seen → Seen → Type 0
+ReadsNothing old new = (new.files ≡ old.files) × (new.input ≡ old.input)
+
+-- the outcome is the fault whose text is this line
+abbrev pub IsRefusal : Text → RequestEnd → Type 0
+IsRefusal line (Err (fault.Refused reason)) = reason.now ≡ line
+IsRefusal line outcome = ⊥
+
+-- nothing is done, and the reason is this line
+abbrev pub RefusesWith : Text → Seen → Seen → RequestEnd → Type 0
+RefusesWith line old new outcome = ReadsNothing old new × (new.output ≡ old.output) × IsRefusal line outcome
+
+-- the frames are drawn; they are of the whole run, and so a step is refused
+abbrev pub DrawsFrames : Text → Text → Text → ℕ → Option StepAsked → Seen → Seen → RequestEnd → Type 0
+DrawsFrames setup script folder columns None old new outcome = FramesFiles setup script folder columns old new outcome
+DrawsFrames setup script folder columns (Some step) old new outcome =
+    RefusesWith (codes "--frames takes no P\n") old new outcome
+
 -- what is done where no session is asked for, but for what is reported of a fault
 abbrev pub Does : Asked → Seen → Seen → RequestEnd → Type 0
 Does Script old new outcome = PlaysInput old new outcome
 Does (Play setup script) old new outcome = PlaysFiles setup script old new outcome
 Does (Race setup turns scripts) old new outcome = RacesFiles setup turns scripts old new outcome
 Does (Ask setup script question) old new outcome = AsksFiles setup script question old new outcome
+Does (Frames setup script folder columns step) old new outcome =
+    DrawsFrames setup script folder columns step old new outcome
 Does (Debug setup seats journal) old new outcome = ⊥
 Does (Replay setup journal) old new outcome = ReplaysFiles setup journal old new outcome
 Does (Search setup goal seed walks) old new outcome = SearchesFile setup goal walks old new outcome
@@ -45,10 +68,6 @@ Does (Shrink setup script goal) old new outcome = ShrinksFiles setup script goal
 Does (Same setup first second) old new outcome = ComparesFiles setup first second old new outcome
 Does (Clocks setup script) old new outcome = ClocksFiles setup script old new outcome
 Does (Page setup script) old new outcome = PagesFiles setup script old new outcome
-
--- no file is opened, and standard input is left as it is
-abbrev pub ReadsNothing : Seen → Seen → Type 0
-ReadsNothing old new = (new.files ≡ old.files) × (new.input ≡ old.input)
 
 -- the text is written, or the outcome is that output failed
 abbrev pub Prints : Text → Stream → Stream → RequestEnd → Type 0

@@ -2,6 +2,7 @@
 
 ghost use Rattle.std.specs.Prelude.{[], ◌∷◌};
 ghost use Rattle.cdb_base.specs.Requests.{texts};
+ghost use Rattle.cdb_program.specs.Framing.{TakesFolder, WritesWhole};
 ghost use Rattle.cdb_program.specs.Known.{FilesSeen};
 ghost use Rattle.cdb_program.specs.Reading.{both, many, single, three, Reads, ReadsFile};
 ghost use Rattle.cdb_program.specs.Seating.{FindsSeat, MakesFile};
@@ -10,7 +11,7 @@ use crate::fault::Fault;
 use cdb_base::NoMemory;
 use cdb_base::limits::MAX_BYTES;
 use cdb_shared_session::Opener;
-use cdb_streams::{PlayFault, ReadFault, Sink};
+use cdb_streams::{OutputFault, PlayFault, ReadFault, Sink};
 use std::alloc::Global;
 
 /// How many bytes of a file are read: one more than a setup or a script may have, which shows that it is too long.
@@ -52,6 +53,18 @@ pub trait Files {
     /// if it had not been opened.
     fn make_file(&mut self, alloc: Global, name: &str) -> Result<Self::Made, ReadFault>
         ensures { MakesFile Self.Made.stream (seen self.old) (seen self.new) name.now result };
+
+    /// Takes the folder of this name to write to, which is made where it is not there.
+    ///
+    /// # Errors
+    /// `Failed` where it has something in it or can't be made, and `NoMemory` where an allocation fails, which counts as if it
+    /// had not been opened.
+    fn take_folder(&mut self, alloc: Global, name: &str) -> Result<(), ReadFault>
+        ensures { TakesFolder (seen self.old) (seen self.new) name.now result };
+
+    /// Writes a new file of this name, with these bytes. After an error there is none.
+    fn write_whole(&mut self, alloc: Global, name: &str, bytes: &[u8]) -> Result<(), OutputFault>
+        ensures { WritesWhole (seen self.old) (seen self.new) name.now bytes.now result };
 
     /// Shows that so many of so many walks are done, in a line that is written over, where standard error is a terminal. Of that line
     /// nothing is known, and what can't be shown is left out.

@@ -6,6 +6,7 @@ mod compares;
 mod debugs;
 mod fault;
 mod files;
+mod frames;
 mod outside;
 mod pages;
 mod plays;

@@ -13,7 +13,7 @@ use crate::files::{Files, read_two};
 use crate::outside::Outside;
 use cdb_any_run::AnyRun;
 use cdb_base::Question;
-use cdb_draw::{COLUMNS, draw};
+use cdb_draw::draw;
 use cdb_explain::{ExplainFault, explain};
 use cdb_slice::slice;
 use cdb_streams::{Bytes, Sink, Source};
@@ -41,7 +41,9 @@ fn answer<R: Source, W: Sink>(
             explain::<AnyRun, R, W>(alloc, setup, script, step.p, step.k, out)
         }
         Question::Trail(step) => write_trail(alloc, setup, script, step.p, step.k, out),
-        Question::Draw(step) => draw::<R, W>(alloc, setup, script, COLUMNS, step, out),
+        Question::Draw { columns, step } => {
+            draw::<R, W>(alloc, setup, script, columns, step, out)
+        }
         Question::Slice(step) => slice::<AnyRun, R, W>(alloc, setup, script, step, out),
     }
 }

@@ -2,13 +2,14 @@
 
 ghost use Rattle.std.specs.Prelude.{◌≡◌, ◌≤◌};
 ghost use Rattle.cdb_base.specs.Requests.{any_text, asked_for, texts};
-ghost use Rattle.cdb_program.specs.Requests.{DebugsAlone, Does, HasTurns, IsDone, IsNoSession, MayPerform, Performs, PerformsAsked, PerformsSessions, PrintsText};
+ghost use Rattle.cdb_program.specs.Requests.{DebugsAlone, Does, DrawsFrames, HasTurns, IsDone, IsNoSession, MayPerform, Performs, PerformsAsked, PerformsSessions, PrintsText};
 
 use crate::clocks::clock_files;
 use crate::compares::compare_files;
 use crate::debugs::{debug_file, debug_file_kept};
 use crate::fault::Fault;
 use crate::files::Files;
+use crate::frames::frame_files;
 use crate::outside::Outside;
 use crate::pages::page_files;
 use crate::plays::{play_files, play_input};
@@ -18,7 +19,7 @@ use crate::replays::replay_files;
 use crate::reports::report;
 use crate::searches::{search_file, shrink_files};
 use crate::seats::perform_shared;
-use cdb_base::Request;
+use cdb_base::{Request, StepAsked};
 use cdb_streams::{PlayFault, Sink, Source, write_all};
 use std::alloc::Global;
 use std::sync::Wait;
@@ -27,6 +28,9 @@ use std::time::Clock;
 
 /// The most turns of a race.
 pub const MAX_TURNS: u32 = 99_999;
+
+/// What is reported where a step is asked for of frames.
+const NO_STEP: &str = "--frames takes no P\n";
 
 /// What the program does.
 #[derive(Clone, Copy)]
@@ -40,6 +44,26 @@ pub enum Action<'a, 'r> {
     Print(&'a str),
     /// Does nothing, and reports this fault.
     Refuse(Fault<'a>),
+}
+
+/// Draws frames, which are of the whole run.
+fn draw_frames<'a, F: Files + Drop, I: Source + Drop, O: Sink + Drop, E: Sink + Drop>(
+    alloc: Global,
+    setup: &'a str,
+    script: &'a str,
+    folder: &'a str,
+    columns: u32,
+    step: Option<StepAsked>,
+    outside: &mut Outside<F, I, O, E>,
+) -> Result<(), Fault<'a>>
+    ensures does { DrawsFrames setup.entry.now script.entry.now folder.entry.now columns step
+        outside.old outside.new result }
+    ensures error { outside.new.error ≡ outside.old.error }
+{
+    match step {
+        Some(_) => Err(Fault::Refused(NO_STEP)),
+        None => frame_files(alloc, setup, script, folder, columns, outside),
+    }
 }
 
 /// Carries a request out that is not one of sessions, and reports nothing.
@@ -74,6 +98,13 @@ fn carry_out<
             script,
             question,
         } => answer_files(alloc, setup, script, *question, outside),
+        Request::Frames {
+            setup,
+            script,
+            folder,
+            columns,
+            step,
+        } => draw_frames(alloc, setup, script, folder, *columns, *step, outside),
         Request::Debug { .. } => unreachable!(),
         Request::Replay { setup, journal } => replay_files(alloc, setup, journal, outside),
         Request::Search {

@@ -2,7 +2,7 @@
 use Rattle.std.proofs.Common.{◌≡◌, inl, inr, ℕ, List, [], Option, Some, None, Result, Ok, Err, IfOk, IfErr, subst, sym}
 use Rattle.clap.specs.Words.{Row}
 use Rattle.cdb_base.specs.Memory.{no_memory}
-use Rattle.cdb_base.specs.Requests.{Asked, Script, Play, Race, Ask, Debug, Replay, Search, Shrink, Same, Clocks, Page, Text}
+use Rattle.cdb_base.specs.Requests.{Asked, Script, Play, Race, Ask, Frames, Debug, Replay, Search, Shrink, Same, Clocks, Page, Text}
 use Rattle.cdb_arguments.specs.Asking.{IsOfKinds, NamesAsked}
 use Rattle.cdb_arguments.specs.declared.request.AskFault.{AskFault}
 use Rattle.cdb_arguments.specs.declared.request.AskFault.TheVariants as fault_of_asking
@@ -45,6 +45,7 @@ turns_named (Some found) (Race setup turns scripts) names = names.1.2.0
 turns_named (Some found) Script names = tt
 turns_named (Some found) (Play setup script) names = tt
 turns_named (Some found) (Ask setup script question) names = tt
+turns_named (Some found) (Frames setup script folder columns step) names = tt
 turns_named (Some found) (Debug setup seats journal) names = tt
 turns_named (Some found) (Replay setup journal) names = tt
 turns_named (Some found) (Search setup goal seed walks) names = tt

@@ -9,10 +9,10 @@ use cdb_base::NoMemory;
 use cdb_program::Files;
 use cdb_session::Streams;
 use cdb_shared_session::{Endpoint, Opener};
-use cdb_streams::{Input, Output, ReadFault, read_up_to};
+use cdb_streams::{Input, Output, OutputFault, ReadFault, read_up_to};
 use std::alloc::{AllocError, Global};
 use std::fs::{File, Metadata};
-use std::io::{ErrorKind, IsTerminal};
+use std::io::{ErrorKind, IsTerminal, Write};
 use std::{fs, io};
 
 /// Of so many walks one is shown.
@@ -97,6 +97,29 @@ fn writes_over(rt: &HostRuntime, name: &str) -> bool {
     }
 }
 
+/// Makes the folder of this name, or sees that nothing is in it.
+fn empty_folder(rt: &HostRuntime, name: &str) -> io::Result<()> {
+    match fs::create_dir(rt, name) {
+        Ok(()) => Ok(()),
+        Err(error) => {
+            if error.kind() != ErrorKind::AlreadyExists {
+                return Err(error);
+            }
+            match fs::read_dir(rt, name)?.next() {
+                Some(_) => Err(error),
+                None => Ok(()),
+            }
+        }
+    }
+}
+
+/// Writes a file under another name, and gives it its own once it is whole.
+fn write_new(rt: &HostRuntime, part: &str, name: &str, bytes: &[u8]) -> io::Result<()> {
+    let mut file = File::create_new(rt, part)?;
+    file.write_all(bytes)?;
+    fs::rename(rt, part, name)
+}
+
 /// The fault of a file that could not be opened, where this is the system's error.
 fn fault_of(error: &io::Error) -> ReadFault
     ensures { result ≡ read_fault_of (error_kind error.now) }
@@ -139,6 +162,7 @@ impl<'a> Files for SystemFiles<'a> {
       opened = None;
       failures = files.failures;
       seats = [];
+      written = None;
     } };
 
     fn read(&mut self, alloc: Global, name: &str, most: usize) -> Result<Vec<u8>, ReadFault> {
@@ -178,6 +202,30 @@ impl<'a> Files for SystemFiles<'a> {
                     self.failures = self.failures.wrapping_add(1);
                 }
                 Err(fault)
+            }
+        }
+    }
+
+    fn take_folder(&mut self, _alloc: Global, name: &str) -> Result<(), ReadFault> {
+        match empty_folder(self.rt, name) {
+            Ok(()) => Ok(()),
+            Err(error) => {
+                let fault = fault_of(&error);
+                if fault == ReadFault::Failed {
+                    self.failures = self.failures.wrapping_add(1);
+                }
+                Err(fault)
+            }
+        }
+    }
+
+    fn write_whole(&mut self, alloc: Global, name: &str, bytes: &[u8]) -> Result<(), OutputFault> {
+        let part = format!(in alloc; "{name}.part")?;
+        match write_new(self.rt, part.as_str(), name, bytes) {
+            Ok(()) => Ok(()),
+            Err(_) => {
+                let _ = fs::remove_file(self.rt, part.as_str());
+                Err(OutputFault::Write)
             }
         }
     }

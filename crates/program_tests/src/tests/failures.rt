@@ -1,7 +1,7 @@
 //! Each read and each write fails in turn.
 
 use super::{ALL_GOOD, Ended, GoodCalls, action, performed};
-use cdb_base::{Question, Request, StepAsked};
+use cdb_base::{COLUMNS, Question, Request, StepAsked};
 use cdb_program::{Action, Fault};
 use std::alloc::{AllocError, Global};
 use std::process::Abort;
@@ -32,7 +32,10 @@ const TRAIL: Request<'static> = Request::Ask {
 const DRAW: Request<'static> = Request::Ask {
     setup: "one.json",
     script: "eight.txt",
-    question: Question::Draw(Some(STEP)),
+    question: Question::Draw {
+        columns: COLUMNS,
+        step: Some(STEP),
+    },
 };
 
 const SLICE: Request<'static> = Request::Ask {

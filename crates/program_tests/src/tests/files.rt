@@ -2,7 +2,7 @@
 
 use super::streams::{Arrival, Writer};
 use cdb_program::Files;
-use cdb_streams::ReadFault;
+use cdb_streams::{OutputFault, ReadFault};
 use std::alloc::{AllocError, Global};
 
 /// A name and the bytes of the file of this name.
@@ -71,6 +71,7 @@ impl Files for Folder {
       opened = Some (bytes_of folder.opened.items);
       failures = folder.failures;
       seats = [];
+      written = None;
     } };
 
     fn read(&mut self, alloc: Global, name: &str, most: usize) -> Result<Vec<u8>, ReadFault> {
@@ -111,6 +112,31 @@ impl Files for Folder {
             return Err(ReadFault::Failed);
         }
         Ok(Writer::new(alloc, usize::MAX))
+    }
+
+    /// No name is that of a folder with something in it, but that of a file.
+    fn take_folder(&mut self, alloc: Global, name: &str) -> Result<(), ReadFault> {
+        let copy = Vec::from_slice(alloc, name.as_bytes())?;
+        self.opened.push(copy).map_err(AllocError::from)?;
+        if content_of(name).is_some() {
+            self.failures = self.failures.wrapping_add(1);
+            return Err(ReadFault::Failed);
+        }
+        Ok(())
+    }
+
+    /// Where no read would go well, no write does. What was written is lost.
+    fn write_whole(
+        &mut self,
+        _alloc: Global,
+        _name: &str,
+        _bytes: &[u8],
+    ) -> Result<(), OutputFault> {
+        if self.good_reads == 0 {
+            return Err(OutputFault::Write);
+        }
+        self.good_reads -= 1;
+        Ok(())
     }
 
     fn show_progress(&self, _done: u32, _all: u32) {}

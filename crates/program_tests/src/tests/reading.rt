@@ -5,7 +5,7 @@ use cdb_arguments::{ask_status, asked};
 use cdb_base::Request;
 
 /// The turns of the race that the words ask for, or the status where they ask for none.
-fn turns_of(rt: &impl AllocGlobal, words: &[&str]) -> Result<u32, u8> {
+fn count_of(rt: &impl AllocGlobal, words: &[&str]) -> Result<u32, u8> {
     match asked(rt.alloc(), words) {
         Ok(Request::Race { turns, .. }) => Ok(turns),
         Ok(_) => Err(0),
@@ -20,9 +20,9 @@ fn words_without_memory(rt: HostRuntime) {
     let rows = [("99999", Ok(99_999)), ("-1", Err(2))];
     for (word, expected) in rows {
         let words = ["revdbg", "race", "a", word, "b", "c"];
-        let mut turns = turns_of(&rt, &words);
+        let mut turns = count_of(&rt, &words);
         if turns == Err(6) {
-            turns = turns_of(&rt, &words);
+            turns = count_of(&rt, &words);
         }
         assert_eq!(rt; turns, expected, "{word}");
     }
