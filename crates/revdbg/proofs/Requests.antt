@@ -22,6 +22,7 @@ no_refusal (Print text) is = is.1
 no_refusal (Refuse (fault.Refused text)) is = is.1
 no_refusal (Refuse (fault.Play why name)) is = is
 no_refusal (Refuse (fault.Race why)) is = is
+no_refusal (Refuse (fault.Journal why)) is = is
 no_refusal (Refuse fault.NoStep) is = is
 no_refusal (Refuse fault.NoValue) is = is
 no_refusal (Refuse fault.TooManyEvents) is = is
