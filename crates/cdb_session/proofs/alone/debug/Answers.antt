@@ -1,7 +1,10 @@
-use Rattle.std.proofs.Common.{[], subst}
+use Rattle.std.proofs.Common.{◌≡◌, ℕ, List, [], ap, subst, ◌∙◌}
 use Rattle.std.proofs.lemmas.Result.{err_from_is_err_and}
 use Rattle.cdb_control.specs.Journal.{Journaled}
-use Rattle.cdb_session.specs.Alone.{IsLaterControl}
+use Rattle.cdb_session.specs.Alone.{IsLaterControl, nine, whole_part}
+use Rattle.cdb_session.specs.Greetings.{greeting_at, greeting_text}
+use Rattle.cdb_session.specs.Moves.{Makes, Move}
+use Rattle.cdb_session.specs.Served.{IsSession}
 use Rattle.cdb_session.specs.Styles.{Onward}
 use Rattle.cdb_session.specs.declared.session.Session.{Session}
 use Rattle.cdb_session.proofs.FromSetup.{setup_failed, no_control, debugged}
@@ -13,6 +16,11 @@ returns-in_err-setup g c =
     let p = err_from_is_err_and c.from_residual.result c.from_residual.ensures.1 in
     rw (p.1, p.2) ([], Makes-nothing _, setup_failed g.R.Runs.rules c.args.prompt.now c.args.setup.now c.in_err-setup.field-0.0 c.in_err-setup.ensures.fault (λ long. cc (c.in_err-setup.ensures.too_long long)))
 
+pub returns-in_err-greeting : goal.returns-in_err-greeting
+returns-in_err-greeting g c =
+    let p = err_from_is_err_and c.from_residual-in_err-greeting.result c.from_residual-in_err-greeting.ensures.1 in
+    rw (p.1, p.2) ([], Makes-nothing _, no_control g.R.Runs.rules c.args.prompt.now c.args.setup.now c.in_ok-setup.setup c.in_ok-setup.ensures.found c.in_err-greeting.field-0.0)
+
 pub returns-in_err-control : goal.returns-in_err-control
 returns-in_err-control g c =
     let p = err_from_is_err_and c.from_residual-in_err-control.result c.from_residual-in_err-control.ensures.1 in
@@ -22,4 +30,9 @@ pub returns : goal.returns
 returns g c =
     let last = c.run.new.session.caller in
     let later = subst (λ (s : Session Journaled). Onward IsLaterControl s.caller last) c.new-session.ensures c.run.ensures.later in
-    debugged g.R.Runs.rules c.args.prompt.now c.args.setup.now _ _ c.in_ok-setup.setup c.in_ok-setup.ensures.found c.in_ok-control.control last c.in_ok-control.ensures later c.run.result c.run.ensures.all
+    let rules = g.R.Runs.rules in
+    let prompt = c.args.prompt.now in
+    let given = c.in_ok-setup.setup in
+    let greeted : c.greeting_at.result.now ≡ greeting_at prompt (greeting_text given) = c.greeting_at.ensures ∙ ap (greeting_at prompt) (c.as_slice.ensures.value ∙ c.in_ok-greeting.ensures) in
+    let ran = subst (λ (greeting : List ℕ). (made : List Move) × Makes (g.T.Console.known c.args.console.now) (g.T.Console.known c.run.new.console) made × IsSession (nine greeting prompt) (whole_part rules last) c.run.result made) greeted c.run.ensures.all in
+    debugged rules prompt c.args.setup.now _ _ given c.in_ok-setup.ensures.found c.in_ok-control.control last c.in_ok-control.ensures later c.run.result ran
