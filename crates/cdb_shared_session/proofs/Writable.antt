@@ -39,7 +39,7 @@ asked_have_lines chooses seat (request ∷ requests) [] asked = absurd asked
 asked_have_lines chooses seat (Call command ∷ requests) (line ∷ lines) asked =
     (asked.0.1.1.1, asked_have_lines chooses (seat_next chooses seat (Call command)) requests lines asked.1)
 asked_have_lines chooses seat (Seat chosen ∷ requests) (line ∷ lines) asked = asked_have_lines chooses (seat_next chooses seat (Seat chosen)) requests lines asked.1
-asked_have_lines chooses seat (Help ∷ requests) (line ∷ lines) asked = asked_have_lines chooses seat requests lines asked.1
+asked_have_lines chooses seat (Help about ∷ requests) (line ∷ lines) asked = asked_have_lines chooses seat requests lines asked.1
 asked_have_lines chooses seat (Quit ∷ requests) (line ∷ lines) asked = asked_have_lines chooses seat requests lines asked.1
 asked_have_lines chooses seat (Fault why ∷ requests) (line ∷ lines) asked = asked_have_lines chooses seat requests lines asked.1
 asked_have_lines chooses seat (TooLong ∷ requests) (line ∷ lines) asked = asked_have_lines chooses seat requests lines asked.1

@@ -3,6 +3,7 @@
 ghost use Rattle.std.specs.Prelude.{◌≡◌, [], false};
 ghost use Rattle.cdb_shared.specs.Seats.{IsLater, RestsAt};
 ghost use Rattle.cdb_shared_session.specs.Promises.{IsUnused, RunsSeat, HasRun};
+ghost use Rattle.cdb_shared_session.specs.SeatParts.{is_numbered};
 
 use crate::endpoint::{Endpoint, Finished, Opener};
 use cdb_control::{CallFault, Command, Reply};
@@ -99,6 +100,13 @@ fn run_styled<R: Runs, T: Console, Rt: Wait>(
     (seat, outcome)
 }
 
+/// Whether the prompt of a seat has its number.
+fn is_numbered(seats: u8, prompt: &[u8]) -> bool
+    ensures { result ≡ is_numbered seats prompt.now }
+{
+    seats > 1 && !prompt.is_empty()
+}
+
 /// A seat's session, once its streams are open; where they can't be opened, there is none.
 pub(crate) fn run_seat<R: Runs, P: Opener, Rt: Wait>(
     shared: &Shared<R>,
@@ -127,7 +135,7 @@ pub(crate) fn run_seat<R: Runs, P: Opener, Rt: Wait>(
     let style = Style {
         greeting: greeting_at(welcome.greeting, prompt),
         prompt,
-        numbered: welcome.seats > 1 && !prompt.is_empty(),
+        numbered: is_numbered(welcome.seats, prompt),
         first: seat.number(),
         chooses: false,
     };

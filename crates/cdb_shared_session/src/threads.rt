@@ -3,6 +3,7 @@
 ghost use Rattle.std.specs.Prelude.{◌≡◌, ◌≤◌, length, vec_len, vec_capacity, All, IfOk, IfErr, OnErr};
 ghost use Rattle.cdb_control.specs.Journal.{opened};
 ghost use Rattle.cdb_journal.specs.Journals.{IsWritable};
+ghost use Rattle.cdb_session.specs.Greetings.{greeting_text};
 ghost use Rattle.cdb_shared_session.specs.SharedSessions.{AreSessions};
 ghost use Rattle.cdb_shared_session.specs.Promises.{IsUnused, IsSeatPromise, AreSeatPromises};
 ghost use Rattle.cdb_shared_session.specs.Promises.{AllKept, AllHaveRun, HasRun};
@@ -269,6 +270,16 @@ fn open_shared<R: Runs, Rt: Wait>(
     }
 }
 
+/// The setup in words.
+fn greet(alloc: Global, setup: &Setup) -> Result<Vec<u8>, SessionsFault>
+    ensures { IfOk result (λ text. text.items ≡ greeting_text setup.now) }
+{
+    match greeting_text(alloc, setup) {
+        Ok(text) => Ok(text),
+        Err(refused) => Err(SessionsFault::NoMemory(refused)),
+    }
+}
+
 /// How sessions ended: the control, what came of each seat, and the file of the journal, if there is one.
 pub type Ended<R, P, J> = (
     Control<R>,
@@ -321,10 +332,7 @@ pub fn debug_seats<
     let count = openers.len() as u8;
     let done = reserve(alloc, openers.len())?;
     let all = reserve(alloc, openers.len())?;
-    let greeting = match greeting_text(alloc, &setup) {
-        Ok(greeting) => greeting,
-        Err(refused) => return Err(SessionsFault::NoMemory(refused)),
-    };
+    let greeting = greet(alloc, &setup)?;
     let welcome = Welcome {
         greeting: greeting.as_slice(),
         seats: count,

@@ -45,8 +45,8 @@ impl Opener for Place {
 }
 
 /// Each seat drives a process of its own, and nothing is sent, so that what it is answered depends on no other. The
-/// first can't be written to after its prompt, which is shown in two writes behind the 13 of the greeting, the third can't be read from after its first line, and the fourth can't be
-/// opened.
+/// first can't be written to after its prompt, which is shown in two writes behind the 13 of the greeting, the third
+/// can't be read from after its first line, and the fourth can't be opened.
 fn four_seats(alloc: Global) -> Result<Vec<Place>, AllocError> {
     let seats: [(&[u8], usize, usize); 3] = [
         (b"auto 1\nauto 1\n", usize::MAX, 15),
