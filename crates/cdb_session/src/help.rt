@@ -47,6 +47,7 @@ pub const SEATS: &str = "  seat 1 .. seat 9      makes the lines after it those 
 
 /// The other lines that a session takes.
 pub const OTHERS: &str = "  help                  lists the commands
+  help WORD             lists the lines that begin with WORD
   quit                  ends the session
 ";
 
