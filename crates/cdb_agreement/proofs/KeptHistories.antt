@@ -1,49 +1,45 @@
 -- The rules of every run keep valid histories, the state that they reach, and agreement.
-use Rattle.std.proofs.lemmas.Grind.{common_steps}
-use Rattle.std.proofs.lemmas.Option.{gets}
-use Rattle.std.proofs.Common.{◌≡◌, ◌==◌, ℕ, suc, ◌≤◌, true, not, arith, List, [], ◌∷◌, ◌++◌, length, slice_get, Some, Result, Ok, IfOk, IsSome}
-use Rattle.std.proofs.Common.{IsTrue, is_ok, option_and_then, refl, sym, ap, ◌∙◌, subst}
-use Rattle.std.proofs.lemmas.Bool.Decides.{nat_tests}
+use Rattle.std.proofs.Common.{◌≡◌, ◌↔◌, ℕ, arith, List, [], ◌∷◌, ◌++◌, length, Option, Result, Ok, IfOk, IsSome}
+use Rattle.std.proofs.Common.{IsTrue, is_ok, option_map, unwrap_or, refl, sym, ap, ◌∙◌, subst}
 use Rattle.cdb_alpha.specs.Machine.{alpha_table}
 use Rattle.cdb_alpha.specs.TableLaws as alpha_laws
 use Rattle.cdb_base.specs.Event.{event_name}
+use Rattle.cdb_base.specs.Positions.{nth}
 use Rattle.cdb_base.specs.declared.act.Act.{Act}
 use Rattle.cdb_base.specs.declared.event.Event.{Event}
 use Rattle.cdb_base.specs.declared.event.Event.TheVariants.{Step, Lost}
-use Rattle.cdb_base.specs.declared.event.Kind.{Kind}
-use Rattle.cdb_base.specs.declared.event.Kind.TheVariants.{Query, Send, Recv, Read, Write, Local, Learn, Crash}
 use Rattle.cdb_base.specs.declared.refusal.Refusal.{Refusal}
-use Rattle.cdb_causal.proofs.Reaches.{reached_front_some, reached_push}
+use Rattle.cdb_causal.proofs.Reaches.{reached_front_some}
 use Rattle.cdb_leader.specs.Machine.{leader_table}
 use Rattle.cdb_leader.specs.TableLaws as leader_laws
 use Rattle.cdb_causal.specs.Standing.{IsStanding}
-use Rattle.cdb_message.specs.Mail.{is_sent, is_received}
 use Rattle.cdb_process.specs.Table.{Table}
 use Rattle.cdb_rules.specs.Agreement.{AllAgree, AreProposed, HasMajorityIfNeeded}
 use Rattle.cdb_agreement.specs.Algorithms.{leader_machine, alpha_machine, rules, rules_by}
-use Rattle.cdb_rules.specs.Lawful.{KeepHistories, taken_by}
+use Rattle.cdb_rules.specs.Lawful.{KeepHistories, ShowTheSame, taken_by}
 use Rattle.cdb_rules.specs.Machines.{machine_of}
 use Rattle.cdb_rules.specs.Mail.{mail_of}
-use Rattle.cdb_rules.specs.Refusals.{step_result, again_result, IsOfRun, NamesProcess}
-use Rattle.cdb_rules.specs.Rules.{rules_of}
+use Rattle.cdb_rules.specs.Refusals.{step_result, again_result, IsOfRun}
+use Rattle.cdb_rules.specs.Decisions.{decisions_of}
+use Rattle.cdb_rules.specs.Rules.{rules_of, shown_of}
 use Rattle.cdb_agreement.specs.SameState.{ReachSameState, ReachSameStateBy}
-use Rattle.cdb_rules.specs.State.{Machine, ProcessState}
-use Rattle.cdb_rules.specs.Step.{after, fold, is_among, state_of, IsValid, IsEnabled}
-use Rattle.cdb_rules.proofs.Stages.{is_due}
-use Rattle.cdb_rules.specs.Undo.{IsEventNamed, names_processes}
+use Rattle.cdb_rules.specs.State.{Machine, RunState, start}
+use Rattle.cdb_rules.specs.Step.{fold, state_of, IsValid, IsEnabled}
+use Rattle.cdb_rules.specs.Undo.{IsEventNamed}
 use Rattle.cdb_rules.proofs.Acts.{step_by_act}
 use Rattle.cdb_rules.proofs.Again.{loss_again, step_again, again_exact, lose_enabled}
 use Rattle.cdb_agreement.proofs.Agreed.{agreed, proposed}
-use Rattle.cdb_rules.proofs.Commutes.{lost_from}
 use Rattle.cdb_rules.proofs.Finding.{among_is}
 use Rattle.cdb_rules.proofs.Granted.{IsLawful}
-use Rattle.cdb_rules.proofs.Histories.{fold_exchanged, reached_state}
+use Rattle.cdb_rules.proofs.Histories.{fold_exchanged}
 use Rattle.cdb_agreement.proofs.Lawful.{of_some, answers_within}
 use Rattle.cdb_rules.proofs.Naming.{loss_free, valid_standing}
+use Rattle.cdb_rules.proofs.OfRun.{last_enabled, next_of_run}
 use Rattle.cdb_rules.proofs.Planned.{planned_enabled}
+use Rattle.cdb_rules.proofs.SameState.{same_state_exchanged}
 use Rattle.cdb_rules.proofs.Standing.{valid_named}
 use Rattle.cdb_rules.proofs.FirstStates.{length-first_states}
-use Rattle.cdb_rules.proofs.Taken.{both, parts, taken_from, some_of}
+use Rattle.cdb_rules.proofs.Taken.{taken_from, some_of}
 use Rattle.cdb_rules.proofs.TakenBack.{valid_push}
 use Rattle.cdb_setup.specs.Parts.{Parts, AreInRange}
 use Rattle.cdb_setup.specs.declared.setup.Algorithm.{Algorithm}
@@ -51,18 +47,6 @@ use Rattle.cdb_setup.specs.declared.setup.Algorithm.TheVariants.{Leader, Alpha}
 
 when_ok : (returned : Result Event Refusal) (P : Event → Type 0) (event : Event) → returned ≡ Ok event → IfOk returned P → P event
 when_ok returned P event is holds = subst (λ (r : Result Event Refusal). IfOk r P) is holds
-
-from_one : (n p : ℕ) → is_among n p ≡ true → 1 ≤ p
-from_one n p h = grind (arith, nat_tests)
-
-at_most : (n p : ℕ) → is_among n p ≡ true → p ≤ n
-at_most n p h = grind (arith, nat_tests)
-
-second_version : (version : ℕ) → (version == 2) ≡ true → version ≡ 2
-second_version version h = grind (arith, nat_tests)
-
-at_end : {A : Type 0} (xs : List A) (x : A) → slice_get (xs ++ x ∷ []) (length xs) ≡ Some x
-at_end xs x = grind (arith, common_steps, gets)
 
 module _ {L : Type 0} (table : Table L) (setup : Parts) (range : AreInRange setup) (lawful : IsLawful (machine_of table setup)) where
   abbrev machine : Machine L
@@ -84,56 +68,6 @@ module _ {L : Type 0} (table : Table L) (setup : Parts) (range : AreInRange setu
       let within = answers_within setup p _ leader range given in
       among_is _ leader within.0 within.1)
       lawful process.1 act event process.2
-
-  -- the last event is enabled before it
-  pub last_enabled : (history : List Event) (event : Event) → IsValid machine (history ++ event ∷ []) → IsEnabled machine (state_of machine history) event
-  last_enabled history event valid =
-      let was = reached_front_some _ _ history _ valid in
-      subst IsSome
-      (reached_push _ _ history event ∙ ap (option_and_then (λ next. after machine next event)) (reached_state machine history was))
-      valid
-
-  -- a query names a process of the run
-  names_process : (process : ProcessState L) (kind : Kind) → is_due machine process kind ≡ true → NamesProcess setup.processes kind
-  names_process process (Query leader) due =
-      let among = subst (λ (n : ℕ). is_among n leader ≡ true) number due in
-      (from_one _ leader among, at_most _ leader among)
-  names_process process (Send m) due = tt
-  names_process process (Recv s m) due = tt
-  names_process process (Read register) due = tt
-  names_process process (Write register) due = tt
-  names_process process Local due = tt
-  names_process process Learn due = tt
-  names_process process Crash due = tt
-
-  of_run : (history : List Event) (event : Event) → IsValid machine (history ++ event ∷ [])
-      → names_processes setup.processes (event_name event) ≡ true → IsOfRun setup event
-  of_run history (Step p k kind) valid among =
-      let state = state_of machine history in
-      let to = some_of _ (last_enabled history (Step p k kind) valid) in
-      let taken = taken_from machine state to.0 p k kind to.1 in
-      let a = parts machine state to.0 p k kind taken in
-      let is = a.number in
-      (at_most _ p among, (omega (arith, is), a.limit), names_process taken.process kind a.due)
-  of_run history (Lost copy) valid among =
-      let state = state_of machine history in
-      let mail = mail_of state in
-      let to = some_of _ (last_enabled history (Lost copy) valid) in
-      let may = (lost_from machine state to.0 copy to.1).0 in
-      let loses = machine.loses_copies in
-      let receiver = is_among (length machine.firsts) copy.to in
-      let sent = is_sent mail copy.msg in
-      let open_to = not (is_received mail copy.to copy.msg) in
-      let kept = both _ _ may in
-      let received = both _ open_to kept.0 in
-      let sends = both _ sent received.0 in
-      let first = both loses _ sends.0 in
-      (second_version _ first.0, at_most _ copy.to (subst (λ (n : ℕ). is_among n copy.to ≡ true) number first.1))
-
-  pub next_of_run : (history : List Event) (event : Event) → IsValid machine (history ++ event ∷ []) → IsOfRun setup event
-  next_of_run history event valid =
-      let named = valid_named machine (history ++ event ∷ []) valid (suc (length history)) event (at_end history event) in
-      of_run history event valid (subst (λ (n : ℕ). names_processes n (event_name event) ≡ true) number named.among)
 
   stands : (history : List Event) → IsValid machine history → IsStanding history
   stands history valid =
@@ -164,8 +98,18 @@ module _ {L : Type 0} (table : Table L) (setup : Parts) (range : AreInRange setu
   again_enabled history event of_run h =
       (again_exact machine lawful setup number refl _ event of_run _ refl).0 (ap is_ok h)
 
+  -- what is shown is of the state that a history reaches
+  shown_alike : (history other : List Event) → fold machine history ≡ fold machine other → ShowTheSame (rules_of table setup) history other
+  shown_alike history other same =
+      let state : state_of machine history ≡ state_of machine other = ap (λ (to : Option (RunState L)). unwrap_or to (start machine)) same in (
+        λ p. ap (λ (s : RunState L). option_map (shown_of table) (nth s.processes p)) state,
+        ap (λ (s : RunState L). mail_of s) state,
+        ap (λ (s : RunState L). s.registers) state,
+        ap (λ (s : RunState L). decisions_of table.decision s) state,
+      )
+
   rules_keep : (SameState : List Event → List Event → Type 0)
-      → ((history other : List Event) → fold machine history ≡ fold machine other → SameState history other)
+      → ((history other : List Event) → fold machine history ≡ fold machine other ↔ SameState history other)
       → (HasMajorityIfNeeded setup → (history : List Event) → IsTrue ((rules_of table setup).valid history)
       → AllAgree ((rules_of table setup).decisions history))
       → ((history : List Event) → IsTrue ((rules_of table setup).valid history) → AreProposed setup ((rules_of table setup).decisions history))
@@ -177,12 +121,16 @@ module _ {L : Type 0} (table : Table L) (setup : Parts) (range : AreInRange setu
         step = λ history valid p act event h. pushed history valid event (step_enabled history p act event h);
         lose = λ history valid name p event h. pushed history valid event (when_ok _ _ event h (lose_enabled machine setup number refl _ name p));
         again = λ history valid event of_run h. pushed history valid event (again_enabled history event of_run h);
-        last_again = λ history event valid. taken_again history event (last_enabled history event valid);
-        last_taken = λ history event valid. taken_by_its_act history event (last_enabled history event valid);
-        of_run = next_of_run;
+        last_again = λ history event valid. taken_again history event (last_enabled table setup range history event valid);
+        last_taken = λ history event valid. taken_by_its_act history event (last_enabled table setup range history event valid);
+        of_run = next_of_run table setup range;
         standing = stands;
         exchanged = λ history other exchanged valid. subst IsSome (fold_exchanged machine history other exchanged) valid;
-        same_state = λ history other exchanged. same other history (sym (fold_exchanged machine history other exchanged));
+        same_state = λ history other exchanged. (same other history).0 (sym (fold_exchanged machine history other exchanged));
+        exchanges = λ history other valid reach.
+            let to = some_of _ valid in
+            same_state_exchanged machine history other to.0 to.1 (sym ((same history other).1 reach) ∙ to.1);
+        shown = λ history other reach. shown_alike history other ((same history other).1 reach);
         named = λ history valid i event at. subst (λ (n : ℕ). IsEventNamed n history (event_name event) i event) number
             (valid_named machine history valid i event at);
         losses_free = λ history valid i copy at. loss_free machine history valid i copy at;
@@ -218,9 +166,9 @@ by_algorithm : (setup : Parts) → AreInRange setup → (algorithm : Algorithm)
     → ((history : List Event) → IsTrue ((rules_by algorithm setup).valid history) → AreProposed setup ((rules_by algorithm setup).decisions history))
     → KeepHistories (rules_by algorithm setup) (ReachSameStateBy algorithm setup) setup
 by_algorithm setup range Leader agree proposed =
-    rules_keep leader_table setup range (leader_lawful setup) (ReachSameStateBy Leader setup) (λ history other same. same) agree proposed
+    rules_keep leader_table setup range (leader_lawful setup) (ReachSameStateBy Leader setup) (λ history other. (λ same. same, λ same. same)) agree proposed
 by_algorithm setup range Alpha agree proposed =
-    rules_keep alpha_table setup range (alpha_lawful setup) (ReachSameStateBy Alpha setup) (λ history other same. same) agree proposed
+    rules_keep alpha_table setup range (alpha_lawful setup) (ReachSameStateBy Alpha setup) (λ history other. (λ same. same, λ same. same)) agree proposed
 
 pub rules_keep_histories : (setup : Parts) → AreInRange setup → KeepHistories (rules setup) (ReachSameState setup) setup
 rules_keep_histories setup range = by_algorithm setup range setup.algorithm (agreed setup range) (proposed setup range)

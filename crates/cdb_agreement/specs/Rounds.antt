@@ -50,7 +50,7 @@ pub record LeaderMessages (q : ℕ) (t : RunState LeaderState) : Type 0 where
 pub record LeaderRounds (q : ℕ) (t : RunState LeaderState) : Type 0 where
   -- in a round all votes with a value have one value
   pub one_value : (r p o v w : ℕ) → HasSent t p (P2 r (Some v)) → HasSent t o (P2 r (Some w)) → v ≡ w
-  -- what is decided in a round is the estimate of whoever leaves it, and of every later round
+  -- what is decided in a round is the estimate that is sent in each later round
   pub taken_along : (r v d p e k : ℕ) → IsDecided q t r v → HasSent t p (P1 (suc (r + d)) e k) → e ≡ v
   -- what is decided in two rounds is one value
   pub one_decided : (r v u w : ℕ) → IsDecided q t r v → IsDecided q t u w → v ≡ w

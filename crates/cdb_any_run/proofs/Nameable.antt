@@ -1,5 +1,5 @@
 -- What a valid history has can be named.
-use Rattle.std.proofs.Common.{◌≡◌, ℕ, ◌<◌, ◌≤◌, nat_le, Bool, true, false, List, Ok, Err, IsTrue, refl, arith}
+use Rattle.std.proofs.Common.{◌≡◌, ℕ, ◌<◌, ◌≤◌, ◌^◌, nat_le, Bool, true, false, List, Ok, Err, IsTrue, refl, arith}
 use Rattle.std.proofs.lemmas.Bool.Decides.{nat_tests}
 use Rattle.cdb_base.specs.declared.event.Event.{Event}
 use Rattle.cdb_base.specs.declared.name.StepId.{StepId}
@@ -33,6 +33,9 @@ among_nine n p few among = (low n p among, high n p few among)
     high : (n p : ℕ) → n ≤ 9 → is_among n p ≡ true → p ≤ 9
     high n p few among = grind (arith, nat_tests)
 
+short : (k : ℕ) → k ≤ 9999 → k < 2 ^ 16
+short k few = omega (arith, few)
+
 refused : (n : ℕ) (history : List Event) (name : StepId) (causes : List StepId) (why : Refusal) → causes_of n history name ≡ Ok causes → event_named n history name ≡ Err why → ⊥
 refused n history name causes why returned none =
     let f : causes_of n history name ≡ Ok causes → ⊥ = rw none (λ h. absurd (cc)) in f returned
@@ -59,7 +62,8 @@ module _ (setup : Parts) (range : AreInRange setup) (history : List Event) (vali
       go false e = absurd (refused setup.processes history name causes _ returned (none_named history name setup.processes (there name returned) (number_new setup history valid name (great (number_of name) e))))
 
   pub can_name : (name : EventRef) → causes_of setup.processes history (name_given name) ≡ Ok causes → CanName name
-  can_name (Step p k) returned = (among_nine setup.processes p range.processes.1 (there (name_given (Step p k)) returned), few (name_given (Step p k)) returned)
+  can_name (Step p k) returned =
+      (among_nine setup.processes p range.processes.1 (there (name_given (Step p k)) returned), short k (few (name_given (Step p k)) returned))
   can_name (Lost s m p) returned =
       let among = both (is_among setup.processes s) (is_among setup.processes p) (there (name_given (Lost s m p)) returned) in
-      (among_nine setup.processes s range.processes.1 among.0, few (name_given (Lost s m p)) returned, among_nine setup.processes p range.processes.1 among.1)
+      (among_nine setup.processes s range.processes.1 among.0, short m (few (name_given (Lost s m p)) returned), among_nine setup.processes p range.processes.1 among.1)

@@ -132,12 +132,13 @@ impl AnyRun {
 
     /// Undoes an event, whatever came later in time, or returns the first refusal that holds: `NoProcess`, `NoStep`,
     /// or `NeededBy` the first standing event that depends on it. After a refusal the run is as it was. It takes no
-    /// memory.
+    /// memory. What it returns may be given to `again`.
     pub fn undo_event(&mut self, event: EventRef) -> Result<Event, Refusal>
         ensures returns { result ≡ result_of_undo self.old (name_given event) }
         ensures after { self.new ≡ after_undo self.old (name_given event) }
         ensures free { IsOk result ↔ CanUndo self.old (name_given event) }
         ensures back { IfOk result (λ event. LeadsTo rules self.new event self.old) }
+        ensures of_run { IfOk result (IsOfRun self.old.setup) }
     {
         by_machine!(&mut self.run, run => run.undo_event(event))
     }
@@ -148,6 +149,7 @@ impl AnyRun {
         ensures after { self.new ≡ after_undo self.old (step_name p k) }
         ensures free { IsOk result ↔ CanUndo self.old (step_name p k) }
         ensures back { IfOk result (λ event. LeadsTo rules self.new event self.old) }
+        ensures of_run { IfOk result (IsOfRun self.old.setup) }
     {
         self.undo_event(EventRef::Step(p, k))
     }
@@ -158,6 +160,7 @@ impl AnyRun {
         ensures after { self.new ≡ after_undo self.old (loss_name s m p) }
         ensures free { IsOk result ↔ CanUndo self.old (loss_name s m p) }
         ensures back { IfOk result (λ event. LeadsTo rules self.new event self.old) }
+        ensures of_run { IfOk result (IsOfRun self.old.setup) }
     {
         self.undo_event(EventRef::Lost(s, m, p))
     }

@@ -40,7 +40,9 @@ play_app = on_files (codes "play") []
 
 -- `race SETUP TURNS SCRIPT..`
 abbrev pub race_app : App
-race_app = with_arguments (codes "race") (required_rule (codes "SETUP") ∷ turns_rule ∷ several (required_rule (codes "SCRIPT")) ∷ [])
+race_app =
+    with_arguments (codes "race")
+    (required_rule (codes "SETUP") ∷ turns_rule ∷ several (required_rule (codes "SCRIPT")) ∷ [])
 
 -- a subcommand with these files, and a step
 abbrev pub on_step : Text → App
@@ -68,7 +70,9 @@ slice_app = on_any_step (codes "slice")
 
 -- `debug [--journal FILE] SETUP [SEAT..]`
 abbrev pub debug_app : App
-debug_app = with_arguments (codes "debug") (required_rule (codes "SETUP") ∷ several (new_rule (codes "SEAT")) ∷ option_rule (codes "FILE") (codes "journal") ∷ [])
+debug_app =
+    with_arguments (codes "debug")
+    (required_rule (codes "SETUP") ∷ several (new_rule (codes "SEAT")) ∷ option_rule (codes "FILE") (codes "journal") ∷ [])
 
 -- `replay SETUP JOURNAL`
 abbrev pub replay_app : App
@@ -78,11 +82,14 @@ replay_app = with_arguments (codes "replay") (required_rule (codes "SETUP") ∷ 
 abbrev pub search_app : App
 search_app =
     with_arguments (codes "search")
-    (required_rule (codes "SETUP") ∷ required_rule (codes "GOAL") ∷ numbered (required_rule (codes "SEED")) ∷ numbered (required_rule (codes "WALKS")) ∷ [])
+    (required_rule (codes "SETUP") ∷ required_rule (codes "GOAL") ∷ numbered (required_rule (codes "SEED"))
+    ∷ numbered (required_rule (codes "WALKS")) ∷ [])
 
 -- `same SETUP FIRST SECOND`
 abbrev pub same_app : App
-same_app = with_arguments (codes "same") (required_rule (codes "SETUP") ∷ required_rule (codes "FIRST") ∷ required_rule (codes "SECOND") ∷ [])
+same_app =
+    with_arguments (codes "same")
+    (required_rule (codes "SETUP") ∷ required_rule (codes "FIRST") ∷ required_rule (codes "SECOND") ∷ [])
 
 -- `clocks SETUP SCRIPT`
 abbrev pub clocks_app : App
@@ -102,7 +109,9 @@ with_subcommands = fold (λ app sub. with_subcommand app sub.top)
 
 -- the program with its version and none for help, with the subcommands that print the replies of scripts
 abbrev pub playing : App
-playing = with_subcommands (on_top (λ s. record s { has_version = true; disable_help_subcommand = true }) (new_app (codes "revdbg"))) (play_app ∷ race_app ∷ [])
+playing =
+    let bare = on_top (λ s. record s { has_version = true; disable_help_subcommand = true }) (new_app (codes "revdbg")) in
+    with_subcommands bare (play_app ∷ race_app ∷ [])
 
 -- the program with its subcommands
 unfoldable pub program : App

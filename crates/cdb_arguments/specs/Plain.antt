@@ -1,10 +1,10 @@
--- Command lines whose texts are no options.
+-- Command lines whose texts are no options, and what each asks for.
 use Rattle.std.specs.Prelude.{◌≡◌, ◌≢◌, ℕ, ◌≤◌, List, [], ◌∷◌, codes, length, Option, Some, None}
 use Rattle.std.specs.List.{AllByRecursion}
 use Rattle.std.specs.Str.Parse.{IsNumeral, digits_value, without_leading_plus}
 use Rattle.clap.specs.Lexer.{usize_max}
-use Rattle.clap.specs.Words.{Text}
 use Rattle.cdb_arguments.specs.declared.limits.TheConstants.{MAX_NUMBER, MAX_TURNS}
+use Rattle.cdb_base.specs.Requests.{Asked, Script, Play, Race, Ask, Debug, Replay, Search, Shrink, Same, Clocks, Page, Text}
 use Rattle.cdb_base.specs.declared.question.Question.{Question}
 use Rattle.cdb_base.specs.declared.question.Question.TheVariants.{Explain, Trail, Draw, Slice}
 use Rattle.cdb_base.specs.declared.question.StepAsked.{StepAsked}
@@ -18,15 +18,18 @@ IsPlain (first ∷ rest) = first ≢ 45
 abbrev pub ArePlain : List Text → Type 0
 ArePlain = AllByRecursion IsPlain
 
--- a number of turns in digits, after a plus or not
-abbrev pub IsNumberOfTurns : Text → ℕ → Type 0
-IsNumberOfTurns text turns =
-    IsNumeral 10 (without_leading_plus text) × (digits_value 10 (without_leading_plus text) ≡ turns) × (turns ≤ MAX_TURNS)
+-- the digits of a number, after a plus or not
+abbrev pub AreDigitsOf : Text → ℕ → Type 0
+AreDigitsOf text number =
+    IsNumeral 10 (without_leading_plus text) × (digits_value 10 (without_leading_plus text) ≡ number)
 
--- a number from 1 on in digits, after a plus or not
+-- a number of turns
+abbrev pub IsNumberOfTurns : Text → ℕ → Type 0
+IsNumberOfTurns text turns = AreDigitsOf text turns × (turns ≤ MAX_TURNS)
+
+-- a number from 1 on
 abbrev pub WritesNumber : Text → ℕ → Type 0
-WritesNumber text number =
-    IsNumeral 10 (without_leading_plus text) × (digits_value 10 (without_leading_plus text) ≡ number) × (1 ≤ number) × (number ≤ MAX_NUMBER)
+WritesNumber text number = AreDigitsOf text number × (1 ≤ number) × (number ≤ MAX_NUMBER)
 
 -- the texts of a number, none where there is no number
 abbrev pub WritesOption : List Text → Option ℕ → Type 0
@@ -53,55 +56,29 @@ step_asked (Trail step) = Some step
 step_asked (Draw step) = step
 step_asked (Slice step) = step
 
--- the program's name alone
-abbrev pub IsNameAlone : List Text → Type 0
-IsNameAlone words = (name : Text) × (words ≡ name ∷ [])
-
 -- the program's name, a subcommand, and these texts, none of which is an option
 abbrev pub IsSubcommandLine : Text → List Text → List Text → Type 0
 IsSubcommandLine command arguments words = ((name : Text) × (words ≡ name ∷ command ∷ arguments)) × ArePlain arguments
 
--- `play SETUP SCRIPT`
-abbrev pub IsPlayLine : List Text → Text → Text → Type 0
-IsPlayLine words setup script = IsSubcommandLine (codes "play") (setup ∷ script ∷ []) words
-
--- `race SETUP TURNS SCRIPT..`, with one script or more, as many as a machine's word counts
-abbrev pub IsRaceLine : List Text → Text → ℕ → Text → List Text → Type 0
-IsRaceLine words setup turns script more =
-    ((name : Text) × (text : Text) × (words ≡ name ∷ codes "race" ∷ setup ∷ text ∷ script ∷ more)
-    × IsNumberOfTurns text turns × ArePlain (setup ∷ text ∷ script ∷ more)) × (length (script ∷ more) ≤ usize_max)
-
--- `explain SETUP SCRIPT P [K]`, `trail SETUP SCRIPT P [K]`, `draw SETUP SCRIPT [P [K]]` and `slice SETUP SCRIPT [P [K]]`
-abbrev pub IsQuestionLine : List Text → Text → Text → Question → Type 0
-IsQuestionLine words setup script question =
-    (texts : List Text) × WritesStep texts (step_asked question) × IsSubcommandLine (question_name question) (setup ∷ script ∷ texts) words
-
--- `debug SETUP [SEAT..]`, with as many seats as a machine's word counts
-abbrev pub IsDebugLine : List Text → Text → List Text → Type 0
-IsDebugLine words setup seats = IsSubcommandLine (codes "debug") (setup ∷ seats) words × (length seats ≤ usize_max)
-
--- `replay SETUP JOURNAL`
-abbrev pub IsReplayLine : List Text → Text → Text → Type 0
-IsReplayLine words setup journal = IsSubcommandLine (codes "replay") (setup ∷ journal ∷ []) words
-
--- `search SETUP GOAL SEED WALKS`
-abbrev pub IsSearchLine : List Text → Text → Text → ℕ → ℕ → Type 0
-IsSearchLine words setup goal seed walks =
+-- What the words of a line ask for. There are as many scripts and seats as a machine's word counts, and a race has one
+-- script or more. A session whose journal is kept has an option.
+abbrev pub IsLine : List Text → Asked → Type 0
+IsLine words Script = (name : Text) × (words ≡ name ∷ [])
+IsLine words (Play setup script) = IsSubcommandLine (codes "play") (setup ∷ script ∷ []) words
+IsLine words (Race setup turns scripts) =
+    (text : Text) × IsNumberOfTurns text turns × (1 ≤ length scripts) × (length scripts ≤ usize_max)
+    × IsSubcommandLine (codes "race") (setup ∷ text ∷ scripts) words
+IsLine words (Ask setup script question) =
+    (texts : List Text) × WritesStep texts (step_asked question)
+    × IsSubcommandLine (question_name question) (setup ∷ script ∷ texts) words
+IsLine words (Debug setup seats None) =
+    (length seats ≤ usize_max) × IsSubcommandLine (codes "debug") (setup ∷ seats) words
+IsLine words (Debug setup seats (Some journal)) = ⊥
+IsLine words (Replay setup journal) = IsSubcommandLine (codes "replay") (setup ∷ journal ∷ []) words
+IsLine words (Search setup goal seed walks) =
     (first second : Text) × WritesNumber first seed × WritesNumber second walks
     × IsSubcommandLine (codes "search") (setup ∷ goal ∷ first ∷ second ∷ []) words
-
--- `same SETUP FIRST SECOND`
-abbrev pub IsSameLine : List Text → Text → Text → Text → Type 0
-IsSameLine words setup first second = IsSubcommandLine (codes "same") (setup ∷ first ∷ second ∷ []) words
-
--- `clocks SETUP SCRIPT`
-abbrev pub IsClocksLine : List Text → Text → Text → Type 0
-IsClocksLine words setup script = IsSubcommandLine (codes "clocks") (setup ∷ script ∷ []) words
-
--- `page SETUP SCRIPT`
-abbrev pub IsPageLine : List Text → Text → Text → Type 0
-IsPageLine words setup script = IsSubcommandLine (codes "page") (setup ∷ script ∷ []) words
-
--- `shrink SETUP SCRIPT GOAL`
-abbrev pub IsShrinkLine : List Text → Text → Text → Text → Type 0
-IsShrinkLine words setup script goal = IsSubcommandLine (codes "shrink") (setup ∷ script ∷ goal ∷ []) words
+IsLine words (Shrink setup script goal) = IsSubcommandLine (codes "shrink") (setup ∷ script ∷ goal ∷ []) words
+IsLine words (Same setup first second) = IsSubcommandLine (codes "same") (setup ∷ first ∷ second ∷ []) words
+IsLine words (Clocks setup script) = IsSubcommandLine (codes "clocks") (setup ∷ script ∷ []) words
+IsLine words (Page setup script) = IsSubcommandLine (codes "page") (setup ∷ script ∷ []) words

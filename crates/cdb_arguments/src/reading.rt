@@ -4,13 +4,14 @@ ghost use Rattle.std.specs.Prelude.{◌≡◌, OnOk, IfOk, IfErr, Some, [], true
 ghost use Rattle.clap.specs.Words.{Kinds, Text, HasKind, fault_of, first_of, found_of, kind_of, rows_of, subcommand_of, subcommand_rows_of, takes};
 ghost use Rattle.cdb_base.specs.Memory.{no_memory};
 ghost use Rattle.cdb_arguments.specs.CommandLine.{program};
-ghost use Rattle.cdb_arguments.specs.Asking.{HasStepOf, IsAnyStepIn, IsStepIn, NamesOne, IsTurns, IsNumber, IsNumberAt, any_text, text_at, texts, texts_at, NamesAsked, IsOfKinds, IsRequest, AsksForPlay, AsksForRace, AsksQuestion, AsksForDebug, AsksForReplay, AsksForPage, AsksForSame, AsksForClocks, AsksForSearch, AsksForShrink, ask_status_of, words_status};
-ghost use Rattle.cdb_arguments.specs.Plain.{IsNameAlone, question_name};
+ghost use Rattle.cdb_arguments.specs.Asking.{HasStepOf, IsAnyStepIn, IsStepIn, NamesOne, IsTurns, IsNumber, IsNumberAt, text_at, texts_at, NamesAsked, IsOfKinds, IsRequest, ask_status_of, words_status};
+ghost use Rattle.cdb_arguments.specs.Plain.{IsLine, question_name};
+ghost use Rattle.cdb_base.specs.Requests.{Asked, any_text, asked_for, texts};
 
 use crate::command_line::program;
 use crate::limits::{MAX_NUMBER, MAX_TURNS};
-use crate::request::{AskFault, Asked, WordsError};
-use cdb_base::{NoMemory, Question, StepAsked};
+use crate::request::{AskFault, WordsError};
+use cdb_base::{NoMemory, Question, Request, StepAsked};
 use clap::error::ErrorKind;
 use clap::{ArgMatches, Error};
 use std::alloc::{AllocError, Global};
@@ -96,7 +97,7 @@ fn texts_of<'a>(
     matches: &ArgMatches<'a>,
     id: &str,
 ) -> Result<Vec<&'a str>, AllocError>
-    ensures { IfOk result (λ texts. map (λ text. text.now) texts.items
+    ensures { IfOk result (λ found. texts found.items
         ≡ texts_at id.now (rows_of (found_of matches.now))) }
 {
     match matches.get_raw(id) {
@@ -106,20 +107,21 @@ fn texts_of<'a>(
 }
 
 /// A play of two files.
-fn play_of<'a>(found: &ArgMatches<'a>) -> Asked<'a>
-    ensures { NamesAsked (Some (codes "play", rows_of (found_of found.now))) result }
+fn play_of<'a>(found: &ArgMatches<'a>) -> Request<'a>
+    ensures { NamesAsked (Some (codes "play", rows_of (found_of found.now))) (asked_for result) }
 {
-    Asked::Play {
+    Request::Play {
         setup: text_of(found, "SETUP"),
         script: text_of(found, "SCRIPT"),
     }
 }
 
 /// A race of scripts.
-fn race_of<'a>(alloc: Global, found: &ArgMatches<'a>) -> Result<Asked<'a>, AllocError>
-    ensures { IfOk result (NamesAsked (Some (codes "race", rows_of (found_of found.now)))) }
+fn race_of<'a>(alloc: Global, found: &ArgMatches<'a>) -> Result<Request<'a>, AllocError>
+    ensures { IfOk result
+        (λ request. NamesAsked (Some (codes "race", rows_of (found_of found.now))) (asked_for request)) }
 {
-    Ok(Asked::Race {
+    Ok(Request::Race {
         setup: text_of(found, "SETUP"),
         turns: turns_of(text_of(found, "TURNS")),
         scripts: texts_of(alloc, found, "SCRIPT")?,
@@ -147,11 +149,11 @@ fn any_step_of(found: &ArgMatches) -> Option<StepAsked>
 }
 
 /// What is asked of the run of two files.
-fn question_of<'a>(found: &ArgMatches<'a>, question: Question) -> Asked<'a>
+fn question_of<'a>(found: &ArgMatches<'a>, question: Question) -> Request<'a>
     requires { HasStepOf (rows_of (found_of found.now)) question }
-    ensures { NamesAsked (Some (question_name question, rows_of (found_of found.now))) result }
+    ensures { NamesAsked (Some (question_name question, rows_of (found_of found.now))) (asked_for result) }
 {
-    Asked::Ask {
+    Request::Ask {
         setup: text_of(found, "SETUP"),
         script: text_of(found, "SCRIPT"),
         question,
@@ -159,31 +161,32 @@ fn question_of<'a>(found: &ArgMatches<'a>, question: Question) -> Asked<'a>
 }
 
 /// A session for each seat.
-fn debug_of<'a>(alloc: Global, found: &ArgMatches<'a>) -> Result<Asked<'a>, AllocError>
-    ensures { IfOk result (NamesAsked (Some (codes "debug", rows_of (found_of found.now)))) }
+fn debug_of<'a>(alloc: Global, found: &ArgMatches<'a>) -> Result<Request<'a>, AllocError>
+    ensures { IfOk result
+        (λ request. NamesAsked (Some (codes "debug", rows_of (found_of found.now))) (asked_for request)) }
 {
-    Ok(Asked::Debug {
+    Ok(Request::Debug {
         setup: text_of(found, "SETUP"),
         seats: texts_of(alloc, found, "SEAT")?,
-        file: any_text_of(found, "FILE"),
+        journal: any_text_of(found, "FILE"),
     })
 }
 
 /// A journal that is played again.
-fn replay_of<'a>(found: &ArgMatches<'a>) -> Asked<'a>
-    ensures { NamesAsked (Some (codes "replay", rows_of (found_of found.now))) result }
+fn replay_of<'a>(found: &ArgMatches<'a>) -> Request<'a>
+    ensures { NamesAsked (Some (codes "replay", rows_of (found_of found.now))) (asked_for result) }
 {
-    Asked::Replay {
+    Request::Replay {
         setup: text_of(found, "SETUP"),
         journal: text_of(found, "JOURNAL"),
     }
 }
 
 /// A search for a run in which a goal holds.
-fn search_of<'a>(found: &ArgMatches<'a>) -> Asked<'a>
-    ensures { NamesAsked (Some (codes "search", rows_of (found_of found.now))) result }
+fn search_of<'a>(found: &ArgMatches<'a>) -> Request<'a>
+    ensures { NamesAsked (Some (codes "search", rows_of (found_of found.now))) (asked_for result) }
 {
-    Asked::Search {
+    Request::Search {
         setup: text_of(found, "SETUP"),
         goal: text_of(found, "GOAL"),
         seed: number_of(text_of(found, "SEED")),
@@ -192,10 +195,10 @@ fn search_of<'a>(found: &ArgMatches<'a>) -> Asked<'a>
 }
 
 /// Whether two scripts leave the same run.
-fn same_of<'a>(found: &ArgMatches<'a>) -> Asked<'a>
-    ensures { NamesAsked (Some (codes "same", rows_of (found_of found.now))) result }
+fn same_of<'a>(found: &ArgMatches<'a>) -> Request<'a>
+    ensures { NamesAsked (Some (codes "same", rows_of (found_of found.now))) (asked_for result) }
 {
-    Asked::Same {
+    Request::Same {
         setup: text_of(found, "SETUP"),
         first: text_of(found, "FIRST"),
         second: text_of(found, "SECOND"),
@@ -203,30 +206,30 @@ fn same_of<'a>(found: &ArgMatches<'a>) -> Asked<'a>
 }
 
 /// The clocks of the run that a script leaves.
-fn clocks_of<'a>(found: &ArgMatches<'a>) -> Asked<'a>
-    ensures { NamesAsked (Some (codes "clocks", rows_of (found_of found.now))) result }
+fn clocks_of<'a>(found: &ArgMatches<'a>) -> Request<'a>
+    ensures { NamesAsked (Some (codes "clocks", rows_of (found_of found.now))) (asked_for result) }
 {
-    Asked::Clocks {
+    Request::Clocks {
         setup: text_of(found, "SETUP"),
         script: text_of(found, "SCRIPT"),
     }
 }
 
 /// A page of the run of two files.
-fn page_of<'a>(found: &ArgMatches<'a>) -> Asked<'a>
-    ensures { NamesAsked (Some (codes "page", rows_of (found_of found.now))) result }
+fn page_of<'a>(found: &ArgMatches<'a>) -> Request<'a>
+    ensures { NamesAsked (Some (codes "page", rows_of (found_of found.now))) (asked_for result) }
 {
-    Asked::Page {
+    Request::Page {
         setup: text_of(found, "SETUP"),
         script: text_of(found, "SCRIPT"),
     }
 }
 
 /// A script that is made small.
-fn shrink_of<'a>(found: &ArgMatches<'a>) -> Asked<'a>
-    ensures { NamesAsked (Some (codes "shrink", rows_of (found_of found.now))) result }
+fn shrink_of<'a>(found: &ArgMatches<'a>) -> Request<'a>
+    ensures { NamesAsked (Some (codes "shrink", rows_of (found_of found.now))) (asked_for result) }
 {
-    Asked::Shrink {
+    Request::Shrink {
         setup: text_of(found, "SETUP"),
         script: text_of(found, "SCRIPT"),
         goal: text_of(found, "GOAL"),
@@ -238,9 +241,10 @@ fn asked_under<'a>(
     alloc: Global,
     name: &str,
     found: &ArgMatches<'a>,
-) -> Result<Asked<'a>, AllocError>
+) -> Result<Request<'a>, AllocError>
     requires { NamesOne (Some (name.now, rows_of (found_of found.now))) }
-    ensures { IfOk result (NamesAsked (Some (name.now, rows_of (found_of found.now)))) }
+    ensures { IfOk result
+        (λ request. NamesAsked (Some (name.now, rows_of (found_of found.now))) (asked_for request)) }
 {
     match name {
         "play" => Ok(play_of(found)),
@@ -260,13 +264,14 @@ fn asked_under<'a>(
 }
 
 /// What the matches ask for.
-fn asked_by<'a>(alloc: Global, matches: &ArgMatches<'a>) -> Result<Asked<'a>, AllocError>
+fn asked_by<'a>(alloc: Global, matches: &ArgMatches<'a>) -> Result<Request<'a>, AllocError>
     requires { NamesOne (subcommand_rows_of matches.now) }
-    ensures { IfOk result (NamesAsked (subcommand_rows_of matches.now)) }
+    ensures { IfOk result
+        (λ request. NamesAsked (subcommand_rows_of matches.now) (asked_for request)) }
 {
     match matches.subcommand() {
         Some((name, found)) => asked_under(alloc, name, found),
-        None => Ok(Asked::Script),
+        None => Ok(Request::Script),
     }
 }
 
@@ -291,9 +296,9 @@ fn status_of_words(error: &Error) -> u8
 }
 
 /// What `clap` makes of the arguments, as a request.
-fn read<'a>(alloc: Global, words: &'a [&'a str]) -> Result<Asked<'a>, AskFault>
+fn read<'a>(alloc: Global, words: &'a [&'a str]) -> Result<Request<'a>, AskFault>
     ensures ok { IfOk result
-        (λ asked. NamesAsked (subcommand_of program (texts words.entry.now)) asked) }
+        (λ request. NamesAsked (subcommand_of program (texts words.entry.now)) (asked_for request)) }
     ensures taken { takes program (texts words.entry.now) ≡ true →
         IfErr result (λ fault. fault ≡ AskFault.NoMemory no_memory) }
     ensures right { OnOk result (fault_of program (texts words.entry.now) ≡ []) }
@@ -304,14 +309,14 @@ fn read<'a>(alloc: Global, words: &'a [&'a str]) -> Result<Asked<'a>, AskFault>
     Ok(asked_by(alloc, &matches)?)
 }
 
-/// What the arguments of the command line ask for; the first is the program's name. The name alone asks for the
-/// script on standard input, `play SETUP SCRIPT` for a play, `race SETUP TURNS SCRIPT..` for a race,
-/// `explain SETUP SCRIPT P [K]` for what led to a step, `trail SETUP SCRIPT P [K]` for the trail of a value to it,
-/// `draw SETUP SCRIPT [P [K]]` for a picture, `slice SETUP SCRIPT [P [K]]` for a script, `debug SETUP [SEAT..]` for a
-/// session that goes on line by line, with `--journal FILE` for one whose journal is kept in a file, `replay SETUP JOURNAL`
-/// for a journal that is played again, `search SETUP GOAL SEED WALKS` for a search, `same SETUP FIRST SECOND` for whether two
-/// scripts leave the same run, `clocks SETUP SCRIPT` for clocks, `shrink SETUP SCRIPT GOAL` for a small script, `page SETUP
-/// SCRIPT` for a page. P, K, SEED and WALKS are numbers of 1 to 999,999.
+/// What the arguments of the command line ask for; the first is the program's name. The name alone asks for the script
+/// on standard input, `play SETUP SCRIPT` for a play, `race SETUP TURNS SCRIPT..` for a race, `explain SETUP SCRIPT P [K]`
+/// for what led to a step, `trail SETUP SCRIPT P [K]` for the trail of a value to it, `draw SETUP SCRIPT [P [K]]` for a
+/// picture, `slice SETUP SCRIPT [P [K]]` for a script, `debug SETUP [SEAT..]` for sessions that go on line by line, with
+/// `--journal FILE` for ones whose journal is kept in a file, `replay SETUP JOURNAL` for a journal that is played again,
+/// `search SETUP GOAL SEED WALKS` for a search, `same SETUP FIRST SECOND` for whether two scripts leave the same run,
+/// `clocks SETUP SCRIPT` for clocks, `shrink SETUP SCRIPT GOAL` for a small script, `page SETUP SCRIPT` for a page. P, K,
+/// SEED and WALKS are numbers of 1 to 999,999.
 ///
 /// # Errors
 /// `Words` with `clap`'s error for arguments that the command line does not take, and for those alone; the error is
@@ -320,26 +325,16 @@ fn read<'a>(alloc: Global, words: &'a [&'a str]) -> Result<Asked<'a>, AskFault>
 /// Promise: Plain arguments ask for exactly what the usage says of them, whatever texts they are that are no options;
 /// others ask for what `clap`'s matches name, and those in which `clap`'s definition finds a fault are refused, the
 /// rest only where memory is out.
-pub fn asked<'a>(alloc: Global, words: &'a [&'a str]) -> Result<Asked<'a>, AskFault>
+pub fn asked<'a>(alloc: Global, words: &'a [&'a str]) -> Result<Request<'a>, AskFault>
     ensures ok { IfOk result
-        (λ asked. NamesAsked (subcommand_of program (texts words.entry.now)) asked) }
+        (λ request. NamesAsked (subcommand_of program (texts words.entry.now)) (asked_for request)) }
     ensures taken { takes program (texts words.entry.now) ≡ true →
         IfErr result (λ fault. fault ≡ AskFault.NoMemory no_memory) }
     ensures right { OnOk result (fault_of program (texts words.entry.now) ≡ []) }
     ensures refused { IfErr result
         (λ fault. IsOfKinds (fault_of program (texts words.entry.now)) fault) }
-    ensures script { IsNameAlone (texts words.entry.now) →
-        IsRequest result (λ asked. asked ≡ Asked.Script) }
-    ensures play { AsksForPlay result (texts words.entry.now) }
-    ensures race { AsksForRace result (texts words.entry.now) }
-    ensures question { AsksQuestion result (texts words.entry.now) }
-    ensures debug { AsksForDebug result (texts words.entry.now) }
-    ensures replay { AsksForReplay result (texts words.entry.now) }
-    ensures search { AsksForSearch result (texts words.entry.now) }
-    ensures shrink { AsksForShrink result (texts words.entry.now) }
-    ensures same { AsksForSame result (texts words.entry.now) }
-    ensures clocks { AsksForClocks result (texts words.entry.now) }
-    ensures page { AsksForPage result (texts words.entry.now) }
+    ensures plain { (asked : Asked) → IsLine (texts words.entry.now) asked →
+        IsRequest result asked }
 {
     read(alloc, words)
 }

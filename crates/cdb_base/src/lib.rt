@@ -17,6 +17,7 @@ pub mod proc_view;
 pub mod question;
 pub mod refusal;
 pub mod register;
+pub mod request;
 pub mod start;
 pub mod value;
 
@@ -29,4 +30,5 @@ pub use proc_view::ProcView;
 pub use question::{Question, StepAsked};
 pub use refusal::Refusal;
 pub use register::{Cell, Reg};
+pub use request::Request;
 pub use value::Val;

@@ -380,6 +380,7 @@ module _ (rules : Rules) (SameState : List Event → List Event → Type 0) (t :
   holds_at seats lists =
       record {
         reached = valid;
+        shown = keeps.shown t.history;
         undone_where_free = λ seat i event at. undone_where_free rules SameState t keeps valid seat i event at;
         step_then_undo = λ seat other command event tells. then_undone seat command event tells other;
         undo_then_redo = λ seat event within told. then_redone seat (among seat within) (event_name event) event told;

@@ -1,5 +1,5 @@
 -- The first breakpoint that a step fires is the least.
-use Rattle.std.proofs.Common.{◌≡◌, ◌⊎◌, ⊎_elim, inl, inr, ℕ, zero, suc, ◌<◌, ◌≤◌, Bool, true, false, cond, List, [], ◌∷◌, Option, Some, None, Result, Ok, Err, find, option_map, refl, ap, arith}
+use Rattle.std.proofs.Common.{◌≡◌, ◌⊎◌, ⊎_elim, inl, inr, ℕ, zero, suc, ◌<◌, ◌≤◌, Bool, true, false, cond, List, [], ◌∷◌, Option, Some, None, Result, Ok, Err, find, option_map, refl, sym, ap, ◌∙◌, arith}
 use Rattle.std.proofs.lemmas.List.Elements.{All-contains, All-from_recursion}
 use Rattle.cdb_base.specs.declared.act.Act.{Act}
 use Rattle.cdb_base.specs.declared.event.Event.{Event}
@@ -7,15 +7,18 @@ use Rattle.cdb_base.specs.declared.refusal.Refusal.{Refusal}
 use Rattle.cdb_control.specs.Auto.{choice}
 use Rattle.cdb_control.specs.Commands.{granted, unpaused, taken_step, newly_fired, step_done, step, IsPauseSet, TellsPause, reply_of, obey}
 use Rattle.cdb_control.specs.Commands.{outcome}
-use Rattle.cdb_control.specs.Journal.{replay_from, replay}
+use Rattle.cdb_control.specs.Journal.{Journaled, extended, reply_in, control_state, replay_from, replay}
+use Rattle.cdb_control.specs.Laws.{UsesNumbersOnce}
 use Rattle.cdb_control.specs.State.{State, first_control_state}
 use Rattle.cdb_control.specs.Stops.{Stops, fires, first_fired, IsFired, IsLeastFired}
+use Rattle.cdb_commands.specs.ToldReply.{ToldReply}
+use Rattle.cdb_commands.specs.declared.command.Command.{Command}
 use Rattle.cdb_commands.specs.declared.command.Command.TheVariants.{Step, Auto}
 use Rattle.cdb_commands.specs.declared.command.Stop.{Stop}
 use Rattle.cdb_control.specs.declared.control.Entry.{Entry}
 use Rattle.cdb_control.specs.declared.stops.TakenStep.{TakenStep}
 use Rattle.cdb_control.proofs.Numbers.{AreNumbered, AreRising}
-use Rattle.cdb_control.proofs.Refused.{numbers_stay}
+use Rattle.cdb_control.proofs.Refused.{numbers_stay, numbers_rise, next_number_used, state_extended}
 use Rattle.cdb_rules.specs.Rules.{Rules}
 use Rattle.cdb_setup.specs.Parts.{Parts}
 
@@ -94,3 +97,18 @@ module _ (rules : Rules) where
   least_by_auto setup seats seat p journal =
       let t = replay rules setup seats journal in
       auto_tells t p (choice rules t.history p) t.pause (numbered setup seats journal).1
+
+-- ---- one entry more
+
+pub uses_numbers_once : (rules : Parts → Rules) (old : Journaled) (seat : ℕ) (command : Command) {new : Journaled} {told : ToldReply}
+    → new ≡ extended rules old seat command → told ≡ reply_in rules old seat command → UsesNumbersOnce rules old new command told
+uses_numbers_once rules old seat command is same =
+    let by = rules old.setup in
+    let before = control_state rules old in
+    let after = ap (control_state rules) is ∙ state_extended rules old seat command in (
+      (numbered by old.setup old.seats old.journal).0,
+      rw after (numbers_rise by before seat command),
+      λ stop number gives set.
+          let used = next_number_used by before seat stop number (ap (reply_of by before seat) (sym gives) ∙ sym same ∙ set) in
+          (used.0, ap (λ (t : State). t.next) after ∙ ap (λ c. (obey by before seat c).next) gives ∙ used.1),
+    )

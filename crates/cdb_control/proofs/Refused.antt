@@ -218,7 +218,7 @@ next_number_used rules t seat stop number =
 
 -- ---- one entry more
 
-state_extended : (rules : Parts → Rules) (c : Journaled) (seat : ℕ) (command : Command)
+pub state_extended : (rules : Parts → Rules) (c : Journaled) (seat : ℕ) (command : Command)
     → control_state rules (extended rules c seat command) ≡ obey (rules c.setup) (control_state rules c) seat command
 state_extended rules c seat command = replay-push (rules c.setup) c.setup c.seats c.journal _
 

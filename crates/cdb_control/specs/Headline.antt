@@ -21,6 +21,7 @@ use Rattle.cdb_commands.specs.declared.command.Command.{Command}
 use Rattle.cdb_commands.specs.declared.command.Command.TheVariants.{Undo, UndoLost, Redo, Rollback, RollbackLost, Decisions}
 use Rattle.cdb_control.specs.declared.control.Entry.{Entry}
 use Rattle.cdb_rules.specs.Agreement.{AllAgree, AreProposed, HasMajorityIfNeeded}
+use Rattle.cdb_rules.specs.Lawful.{ShowTheSame}
 use Rattle.cdb_rules.specs.Rules.{Rules}
 use Rattle.cdb_setup.specs.Parts.{Parts, IsWithin}
 
@@ -103,6 +104,8 @@ pub record IsRolledBackAndForth (rules : Rules) (SameState : List Event → List
 pub record HoldsAt (rules : Rules) (SameState : List Event → List Event → Type 0) (setup : Parts) (seats : ℕ) (t : State) : Type 0 where
   -- each standing event was enabled in its turn: the run state is what the standing events alone reach from the start
   pub reached : IsTrue (rules.valid t.history)
+  -- what is shown is of the run state alone: wherever other events reach it, the same is shown
+  pub shown : (other : List Event) → SameState t.history other → ShowTheSame rules t.history other
   -- an undo is granted exactly where no standing event depends on its event, and leaves the others; else the first that
   -- does is named
   pub undone_where_free : (seat at : ℕ) (event : Event) → nth t.history at ≡ Some event

@@ -4,6 +4,7 @@ use Rattle.cdb_base.specs.declared.refusal.Refusal.{Refusal}
 use Rattle.cdb_control.specs.Commands.{reply_of, obey}
 use Rattle.cdb_control.specs.Journal.{Journaled, AreOfSeats, own, replies_in, extended, reply_in, control_state, replay}
 use Rattle.cdb_control.specs.State.{State, redo_of}
+use Rattle.cdb_control.specs.Stops.{AreBelow}
 use Rattle.cdb_commands.specs.ToldReply.{ToldReply, BreakSet, Refused, is_refused}
 use Rattle.cdb_commands.specs.declared.command.Command.{Command}
 use Rattle.cdb_commands.specs.declared.command.Stop.{Stop}
@@ -66,6 +67,15 @@ IsKeptIfRefused rules old new reply = is_refused reply ≡ true → control_stat
 abbrev pub KeepsOtherLists : (Parts → Rules) → Journaled → Journaled → ℕ → Type 0
 KeepsOtherLists rules old new seat =
     (other : ℕ) → AreTwoSeats seat other → redo_of (control_state rules new) other ≡ redo_of (control_state rules old) other
+
+-- The number that comes next is above those of all breakpoints and never falls, and a breakpoint that was set got it; so none is
+-- used again.
+abbrev pub UsesNumbersOnce : (Parts → Rules) → Journaled → Journaled → Command → ToldReply → Type 0
+UsesNumbersOnce rules old new command reply =
+    let before = control_state rules old in let after = control_state rules new in
+    AreBelow before.next before.stops × (before.next ≤ after.next)
+    × ((stop : Stop) (number : ℕ) → command ≡ Break stop → reply ≡ BreakSet number
+    → (number ≡ before.next) × (after.next ≡ before.next + 1))
 
 -- commands that act on no run: they look, or are about breakpoints
 abbrev pub ActsOnNoRun : Command → Type 0

@@ -5,7 +5,7 @@ ghost use Rattle.cdb_commands.specs.ToldReply.{told};
 ghost use Rattle.cdb_control.specs.Auto.{choice};
 ghost use Rattle.cdb_control.specs.Headline.{Headline};
 ghost use Rattle.cdb_control.specs.Journal.{entry, opened, extended, reply_in, control_state, AreOfSeats, NeedsNoMemory};
-ghost use Rattle.cdb_control.specs.Laws.{IsKeptIfRefused, KeepsOtherLists};
+ghost use Rattle.cdb_control.specs.Laws.{IsKeptIfRefused, KeepsOtherLists, UsesNumbersOnce};
 ghost use Rattle.cdb_control.specs.Room.{cost, room_of, with_room, raised};
 
 use crate::state::ControlState;
@@ -141,7 +141,8 @@ impl<R: Runs> Control<R> {
     ///
     /// Promise: Each command has the reply of one table, at the state that the journal so far leads to, and adds its
     /// entry, a refused one too. A fault changes nothing, and `JournalFull` comes exactly at 999,999 entries. A refused
-    /// command changes nothing else, other seats' redo lists stay, and of every journal the headline holds.
+    /// command changes nothing else, other seats' redo lists stay, no number of a breakpoint is used again, and of every
+    /// journal the headline holds.
     #[inline(always)]
     pub fn execute(&mut self, alloc: Global, seat: u8, command: Command) -> Result<Reply, CallFault>
         requires from_one { 1 ≤ seat }
@@ -157,6 +158,8 @@ impl<R: Runs> Control<R> {
             self.new.setup self.new.seats self.new.journal }
         ensures refused { IfOk result (λ r. IsKeptIfRefused R.rules self.old self.new (told r)) }
         ensures others { OnOk result (KeepsOtherLists R.rules self.old self.new seat) }
+        ensures numbers { IfOk result
+            (λ r. UsesNumbersOnce R.rules self.old self.new command (told r)) }
         ensures spared { NeedsNoMemory R.rules self.old seat command →
             (refused : NoMemory) → result ≢ Err (CallFault.NoMemory refused) }
     {

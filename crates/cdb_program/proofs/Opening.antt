@@ -8,10 +8,11 @@ use Rattle.cdb_play.specs.Races.{bytes_of}
 use Rattle.cdb_streams.specs.declared.fault.PlayFault.TheVariants as play
 use Rattle.cdb_streams.specs.declared.source.ReadFault.{ReadFault}
 use Rattle.cdb_streams.specs.declared.source.ReadFault.TheVariants as reading
+use Rattle.cdb_base.specs.Requests.{texts}
 use Rattle.cdb_program.specs.Known.{FilesSeen, after_opening, after_failing}
-use Rattle.cdb_program.specs.Reading.{AreFirstBytes, FailsToRead, HasRead, ReadsFile, most_read, file_names}
+use Rattle.cdb_program.specs.Reading.{AreFirstBytes, FailsToRead, HasRead, ReadsFile, most_read}
 use Rattle.cdb_program.specs.declared.fault.Fault.{Fault}
-use Rattle.cdb_program.specs.declared.fault.Fault.TheVariants.{Play, Race, NoStep, NoValue, Different, NoGoal, NotFound, DoesNotHold, TooManyEvents, TooManySeats, Refused}
+use Rattle.cdb_program.specs.declared.fault.Fault.TheVariants.{Play, Race, NoStep, NoValue, Different, NoGoal, NotFound, DoesNotHold, TooManyEvents, TooManySeats, Refused, Journal}
 
 -- names are added to those that are known
 more_opened : (opened : Option (List (List ℕ))) (first second : List (List ℕ))
@@ -82,6 +83,7 @@ fails_then old mid new first second a (Play (play.Line script line fault) name) 
 fails_then old mid new first second a (Play (play.ScriptTooLong script) name) before fails = absurd fails
 fails_then old mid new first second a (Play play.Write name) before fails = absurd fails
 fails_then old mid new first second a (Race fault) before fails = absurd fails
+fails_then old mid new first second a (Journal why) before fails = absurd fails
 fails_then old mid new first second a NoStep before fails = absurd fails
 fails_then old mid new first second a NoValue before fails = absurd fails
 fails_then old mid new first second a TooManyEvents before fails = absurd fails
@@ -101,6 +103,7 @@ fails_before old new names after (Play (play.Line script line fault) name) fails
 fails_before old new names after (Play (play.ScriptTooLong script) name) fails = absurd fails
 fails_before old new names after (Play play.Write name) fails = absurd fails
 fails_before old new names after (Race fault) fails = absurd fails
+fails_before old new names after (Journal why) fails = absurd fails
 fails_before old new names after NoStep fails = absurd fails
 fails_before old new names after NoValue fails = absurd fails
 fails_before old new names after TooManyEvents fails = absurd fails
@@ -114,20 +117,20 @@ fails_before old new names after (Refused reason) fails = absurd fails
 -- ---- names in a list
 
 module _ (names : List (Bor (List ℕ))) (i : ℕ) (d : Bor (List ℕ)) (below : i < length names) where
-  pub one_more_name : file_names (take (i + 1) names) ≡ file_names (take i names) ++ (get_or names i d).now ∷ []
-  one_more_name = ap file_names (take_more names i d below) ∙ map-append (λ (n : Bor (List ℕ)). n.now) (take i names) (get_or names i d ∷ [])
+  pub one_more_name : texts (take (i + 1) names) ≡ texts (take i names) ++ (get_or names i d).now ∷ []
+  one_more_name = ap texts (take_more names i d below) ∙ map-append (λ (n : Bor (List ℕ)). n.now) (take i names) (get_or names i d ∷ [])
 
 -- the first of them and then the others
-pub taken_and_left : (names : List (Bor (List ℕ))) (i : ℕ) → file_names names ≡ file_names (take i names) ++ file_names (drop i names)
-taken_and_left names i = ap file_names (sym (take-append-drop i names)) ∙ map-append (λ (n : Bor (List ℕ)). n.now) (take i names) (drop i names)
+pub taken_and_left : (names : List (Bor (List ℕ))) (i : ℕ) → texts names ≡ texts (take i names) ++ texts (drop i names)
+taken_and_left names i = ap texts (sym (take-append-drop i names)) ∙ map-append (λ (n : Bor (List ℕ)). n.now) (take i names) (drop i names)
 
 pub bytes_more : (vectors : List (Vec ℕ Global)) (vector : Vec ℕ Global) → bytes_of (vectors ++ vector ∷ []) ≡ bytes_of vectors ++ vector.items ∷ []
 bytes_more vectors vector = map-append (λ (v : Vec ℕ Global). v.items) vectors (vector ∷ [])
 
 -- the file at this position of a list can't be read
-pub fails_at : (old mid new : FilesSeen) (names : List (Bor (List ℕ))) (i : ℕ) (d : Bor (List ℕ)) (a : List (List ℕ)) (fault : Fault) → i < length names → HasRead old mid (file_names (take i names)) a
-    → FailsToRead mid new ((get_or names i d).now ∷ []) fault → FailsToRead old new (file_names names) fault
+pub fails_at : (old mid new : FilesSeen) (names : List (Bor (List ℕ))) (i : ℕ) (d : Bor (List ℕ)) (a : List (List ℕ)) (fault : Fault) → i < length names → HasRead old mid (texts (take i names)) a
+    → FailsToRead mid new ((get_or names i d).now ∷ []) fault → FailsToRead old new (texts names) fault
 fails_at old mid new names i d a fault below before fails =
     subst (λ (l : List (List ℕ)). FailsToRead old new l fault) (sym (taken_and_left names (i + 1)))
-    (fails_before old new (file_names (take (i + 1) names)) (file_names (drop (i + 1) names)) fault
-    (subst (λ (l : List (List ℕ)). FailsToRead old new l fault) (sym (one_more_name names i d below)) (fails_then old mid new (file_names (take i names)) ((get_or names i d).now ∷ []) a fault before fails)))
+    (fails_before old new (texts (take (i + 1) names)) (texts (drop (i + 1) names)) fault
+    (subst (λ (l : List (List ℕ)). FailsToRead old new l fault) (sym (one_more_name names i d below)) (fails_then old mid new (texts (take i names)) ((get_or names i d).now ∷ []) a fault before fails)))

@@ -1,58 +1,64 @@
--- What is done with a request leaves standard error out.
-use Rattle.std.proofs.Common.{◌≡◌, ℕ, List, Option, Bor, refl}
+-- What is done with a request leaves standard error out, and what is no request of sessions is done alone.
+use Rattle.std.proofs.Common.{◌≡◌, ◌≢◌, ℕ, List, [], ◌∷◌, Option, Some, None, Bor, refl, length, arith}
+use Rattle.std.specs.Prelude.{Vec}
+use Rattle.std.specs.Global.{Global}
+use Rattle.cdb_base.specs.Requests.{Asked, Script, Play, Race, Ask, Debug, Replay, Search, Shrink, Same, Clocks, Page, Text, asked_for, texts}
+use Rattle.cdb_base.specs.declared.request.Request.{Request}
+use Rattle.cdb_base.specs.declared.request.Request.TheVariants as request
 use Rattle.cdb_streams.specs.Streams.{Stream}
 use Rattle.cdb_program.specs.Known.{Seen}
 use Rattle.cdb_program.specs.Outcomes.{RequestEnd}
-use Rattle.cdb_program.specs.Requests.{Does, IsAlone, Performs, PerformsAlone}
-use Rattle.cdb_program.specs.declared.request.Request.{Request}
-use Rattle.cdb_program.specs.declared.request.Request.TheVariants.{Script, Play, Race, Ask, Debug, DebugShared, Replay, Page, Same, Clocks, Search, Shrink, Print, Refuse}
+use Rattle.cdb_program.specs.Requests.{DebugsAlone, Does, IsDone, IsNoSession, PerformsAsked, PerformsSessions}
+use Rattle.cdb_program.specs.Seating.{PerformsShared}
 
-pub does_but_error : (request : Request) (old new : Seen) (error : Stream) (outcome : RequestEnd) → Does request old new outcome → Does request old (record new { error = error }) outcome
+pub does_but_error : (asked : Asked) (old new : Seen) (error : Stream) (outcome : RequestEnd) → Does asked old new outcome
+    → Does asked old (record new { error = error }) outcome
 does_but_error Script old new error outcome does = does
 does_but_error (Play setup script) old new error outcome does = does
 does_but_error (Race setup turns scripts) old new error outcome does = does
 does_but_error (Ask setup script question) old new error outcome does = does
-does_but_error (Debug setup prompt) old new error outcome does = does
-does_but_error (DebugShared setup seats file) old new error outcome does = does
+does_but_error (Debug setup seats journal) old new error outcome does = does
 does_but_error (Replay setup journal) old new error outcome does = does
 does_but_error (Search setup goal seed walks) old new error outcome does = does
+does_but_error (Shrink setup script goal) old new error outcome does = does
 does_but_error (Same setup first second) old new error outcome does = does
 does_but_error (Clocks setup script) old new error outcome does = does
 does_but_error (Page setup script) old new error outcome does = does
-does_but_error (Shrink setup script goal) old new error outcome does = does
-does_but_error (Print text) old new error outcome does = does
-does_but_error (Refuse fault) old new error outcome does = does
 
--- a request without seats is performed alone
-pub performs_alone : (request : Request) (old new : Seen) (status : ℕ) → IsAlone request → PerformsAlone request old new status → Performs request old new status
-performs_alone Script old new status alone does = does
-performs_alone (Play setup script) old new status alone does = does
-performs_alone (Race setup turns scripts) old new status alone does = does
-performs_alone (Ask setup script question) old new status alone does = does
-performs_alone (Debug setup prompt) old new status alone does = does
-performs_alone (DebugShared setup seats file) old new status alone does = absurd alone
-performs_alone (Replay setup journal) old new status alone does = does
-performs_alone (Search setup goal seed walks) old new status alone does = does
-performs_alone (Same setup first second) old new status alone does = does
-performs_alone (Clocks setup script) old new status alone does = does
-performs_alone (Page setup script) old new status alone does = does
-performs_alone (Shrink setup script goal) old new status alone does = does
-performs_alone (Print text) old new status alone does = does
-performs_alone (Refuse fault) old new status alone does = does
+-- what is not one of sessions is performed where it is done
+pub record IsDoneAlone (asked : Asked) : Type 0 where
+  pub no_session : IsNoSession asked
+  pub performs : (prompt : Text) (old new : Seen) (status : ℕ) → IsDone (Does asked) old new status → PerformsAsked prompt asked old new status
 
--- what is no request of seats is one without
-pub is_alone : (request : Request) → ((setup : Bor (List ℕ)) (seats : Bor (List (Bor (List ℕ)))) (file : Option (Bor (List ℕ))) → request ≡ DebugShared setup seats file → ⊥) → IsAlone request
-is_alone Script other = tt
-is_alone (Play setup script) other = tt
-is_alone (Race setup turns scripts) other = tt
-is_alone (Ask setup script question) other = tt
-is_alone (Debug setup prompt) other = tt
-is_alone (DebugShared setup seats file) other = other setup seats file refl
-is_alone (Replay setup journal) other = tt
-is_alone (Search setup goal seed walks) other = tt
-is_alone (Same setup first second) other = tt
-is_alone (Clocks setup script) other = tt
-is_alone (Page setup script) other = tt
-is_alone (Shrink setup script goal) other = tt
-is_alone (Print text) other = tt
-is_alone (Refuse fault) other = tt
+pub done_alone : (it : Request)
+    → ((setup : Bor Text) (seats : Vec (Bor Text) Global) (journal : Option (Bor Text)) → it ≡ request.Debug setup seats journal → ⊥)
+    → IsDoneAlone (asked_for it)
+done_alone request.Script other = record { no_session = tt; performs = λ prompt old new status done. done }
+done_alone (request.Play setup script) other = record { no_session = tt; performs = λ prompt old new status done. done }
+done_alone (request.Race setup turns scripts) other = record { no_session = tt; performs = λ prompt old new status done. done }
+done_alone (request.Ask setup script question) other = record { no_session = tt; performs = λ prompt old new status done. done }
+done_alone (request.Debug setup seats journal) other = absurd (other setup seats journal refl)
+done_alone (request.Replay setup journal) other = record { no_session = tt; performs = λ prompt old new status done. done }
+done_alone (request.Search setup goal seed walks) other = record { no_session = tt; performs = λ prompt old new status done. done }
+done_alone (request.Shrink setup script goal) other = record { no_session = tt; performs = λ prompt old new status done. done }
+done_alone (request.Same setup first second) other = record { no_session = tt; performs = λ prompt old new status done. done }
+done_alone (request.Clocks setup script) other = record { no_session = tt; performs = λ prompt old new status done. done }
+done_alone (request.Page setup script) other = record { no_session = tt; performs = λ prompt old new status done. done }
+
+-- ---- sessions
+
+pub debugs_but_error : (setup prompt : Text) (journal : Option Text) (old new : Seen) (error : Stream) (outcome : RequestEnd)
+    → DebugsAlone setup journal prompt old new outcome → DebugsAlone setup journal prompt old (record new { error = error }) outcome
+debugs_but_error setup prompt None old new error outcome does = does
+debugs_but_error setup prompt (Some journal) old new error outcome does = does
+
+module _ (setup prompt : Text) (journal : Option Text) (old new : Seen) (status : ℕ) where
+  pub done_here : (seats : List (Bor Text)) → length seats ≡ 0 → IsDone (DebugsAlone setup journal prompt) old new status
+      → PerformsSessions setup (texts seats) journal prompt old new status
+  done_here [] none done = done
+  done_here (seat ∷ seats) none done = absurd (omega arith)
+
+  pub done_at_seats : (seats : List (Bor Text)) → length seats ≢ 0 → PerformsShared setup (texts seats) journal old new status
+      → PerformsSessions setup (texts seats) journal prompt old new status
+  done_at_seats [] some done = absurd (some refl)
+  done_at_seats (seat ∷ seats) some done = done

@@ -15,10 +15,11 @@ use Rattle.cdb_rules.specs.Rules.{Rules}
 use Rattle.cdb_setup.specs.Parts.{Parts}
 use Rattle.cdb_streams.specs.declared.fault.PlayFault.{PlayFault}
 use Rattle.cdb_streams.specs.declared.fault.PlayFault.TheVariants as play
+use Rattle.cdb_base.specs.Requests.{texts}
 use Rattle.cdb_program.specs.Known.{FilesSeen, after_opening, after_failing}
-use Rattle.cdb_program.specs.Reading.{FailsToRead, file_names}
+use Rattle.cdb_program.specs.Reading.{FailsToRead}
 use Rattle.cdb_program.specs.declared.fault.Fault.{Fault}
-use Rattle.cdb_program.specs.declared.fault.Fault.TheVariants.{Play, Race, NoStep, NoValue, Different, NoGoal, NotFound, DoesNotHold, TooManyEvents, TooManySeats, Refused}
+use Rattle.cdb_program.specs.declared.fault.Fault.TheVariants.{Play, Race, NoStep, NoValue, Different, NoGoal, NotFound, DoesNotHold, TooManyEvents, TooManySeats, Refused, Journal}
 use Rattle.cdb_streams.specs.Faults.{of_reading}
 use Rattle.cdb_streams.specs.declared.source.ReadFault.{ReadFault}
 use Rattle.cdb_streams.specs.declared.source.ReadFault.TheVariants as reading
@@ -40,6 +41,7 @@ one_fails P opens old new name (reading.NoMemory refused) is = ([], name.now ∷
 pub as_fault : (setup : List ℕ) (seats : List (List ℕ)) (file : Option (List ℕ)) (old new : FilesSeen) (fault : Fault) → FailsToRead old new (setup ∷ (seats ++ any_name file)) fault → IsFaultOfSeats setup seats file old new fault
 as_fault setup seats file old new (Play why name) fails = fails
 as_fault setup seats file old new (Race why) fails = absurd fails
+as_fault setup seats file old new (Journal why) fails = fails
 as_fault setup seats file old new NoStep fails = fails
 as_fault setup seats file old new NoValue fails = fails
 as_fault setup seats file old new TooManyEvents fails = fails
@@ -73,6 +75,7 @@ fails_later old mid new first second (Play (play.Line script line fault) name) b
 fails_later old mid new first second (Play (play.ScriptTooLong script) name) before fails = absurd fails
 fails_later old mid new first second (Play play.Write name) before fails = absurd fails
 fails_later old mid new first second (Race fault) before fails = absurd fails
+fails_later old mid new first second (Journal why) before fails = absurd fails
 fails_later old mid new first second NoStep before fails = absurd fails
 fails_later old mid new first second NoValue before fails = absurd fails
 fails_later old mid new first second TooManyEvents before fails = absurd fails
@@ -84,18 +87,18 @@ fails_later old mid new first second TooManySeats before fails = absurd fails
 fails_later old mid new first second (Refused reason) before fails = absurd fails
 
 -- the seat at this position of a list is refused
-pub seat_fails : (old mid new : FilesSeen) (names : List (Bor (List ℕ))) (i : ℕ) (d : Bor (List ℕ)) (fault : Fault) → i < length names → mid ≡ after_opening old (file_names (take i names))
-    → FailsToRead mid new ((get_or names i d).now ∷ []) fault → FailsToRead old new (file_names names) fault
+pub seat_fails : (old mid new : FilesSeen) (names : List (Bor (List ℕ))) (i : ℕ) (d : Bor (List ℕ)) (fault : Fault) → i < length names → mid ≡ after_opening old (texts (take i names))
+    → FailsToRead mid new ((get_or names i d).now ∷ []) fault → FailsToRead old new (texts names) fault
 seat_fails old mid new names i d fault below before fails =
     subst (λ (l : List (List ℕ)). FailsToRead old new l fault) (sym (taken_and_left names (i + 1)))
-    (fails_before old new (file_names (take (i + 1) names)) (file_names (drop (i + 1) names)) fault
-    (subst (λ (l : List (List ℕ)). FailsToRead old new l fault) (sym (one_more_name names i d below)) (fails_later old mid new (file_names (take i names)) ((get_or names i d).now ∷ []) fault before fails)))
+    (fails_before old new (texts (take (i + 1) names)) (texts (drop (i + 1) names)) fault
+    (subst (λ (l : List (List ℕ)). FailsToRead old new l fault) (sym (one_more_name names i d below)) (fails_later old mid new (texts (take i names)) ((get_or names i d).now ∷ []) fault before fails)))
 
 -- one seat more is found
-pub seat_opened : (old mid new : FilesSeen) (names : List (Bor (List ℕ))) (i : ℕ) (d : Bor (List ℕ)) → i < length names → mid ≡ after_opening old (file_names (take i names)) → new ≡ after_opening mid ((get_or names i d).now ∷ [])
-    → new ≡ after_opening old (file_names (take (i + 1) names))
+pub seat_opened : (old mid new : FilesSeen) (names : List (Bor (List ℕ))) (i : ℕ) (d : Bor (List ℕ)) → i < length names → mid ≡ after_opening old (texts (take i names)) → new ≡ after_opening mid ((get_or names i d).now ∷ [])
+    → new ≡ after_opening old (texts (take (i + 1) names))
 seat_opened old mid new names i d below before after =
-    opened_then old mid new (file_names (take i names)) ((get_or names i d).now ∷ []) before after ∙ ap (after_opening old) (sym (one_more_name names i d below))
+    opened_then old mid new (texts (take i names)) ((get_or names i d).now ∷ []) before after ∙ ap (after_opening old) (sym (one_more_name names i d below))
 
 module _ {P : Type 0} (opens : P → Result SeatSeen ReadFault → Type 0) where
   one_more_seat : (files : FilesSeen) (names : List (List ℕ)) (openers : List P) (name : List ℕ) (opener : P)
@@ -106,12 +109,12 @@ module _ {P : Type 0} (opens : P → Result SeatSeen ReadFault → Type 0) where
   one_more_seat files (n ∷ names) (p ∷ openers) name opener before its = (before.0, one_more_seat files names openers name opener before.1 its)
 
   -- and its opener is that of its name
-  pub seat_openers : (old mid : FilesSeen) (names : List (Bor (List ℕ))) (i : ℕ) (d : Bor (List ℕ)) (openers : List P) (opener : P) → i < length names → mid ≡ after_opening old (file_names (take i names))
-      → AreOpenersOf opens old (file_names (take i names)) openers → IsOpenerOf opens mid (get_or names i d).now opener → AreOpenersOf opens old (file_names (take (i + 1) names)) (openers ++ opener ∷ [])
+  pub seat_openers : (old mid : FilesSeen) (names : List (Bor (List ℕ))) (i : ℕ) (d : Bor (List ℕ)) (openers : List P) (opener : P) → i < length names → mid ≡ after_opening old (texts (take i names))
+      → AreOpenersOf opens old (texts (take i names)) openers → IsOpenerOf opens mid (get_or names i d).now opener → AreOpenersOf opens old (texts (take (i + 1) names)) (openers ++ opener ∷ [])
   seat_openers old mid names i d openers opener below before seats its =
       let name = (get_or names i d).now in
       subst (λ (l : List (List ℕ)). AreOpenersOf opens old l (openers ++ opener ∷ [])) (sym (one_more_name names i d below))
-      (one_more_seat old (file_names (take i names)) openers name opener seats (subst (λ (f : FilesSeen). IsOpenerOf opens f name opener) before its))
+      (one_more_seat old (texts (take i names)) openers name opener seats (subst (λ (f : FilesSeen). IsOpenerOf opens f name opener) before its))
 
   -- the openers are those of the names, whatever was opened before
   pub seats_known : (old mid : FilesSeen) (first names : List (List ℕ)) (openers : List P) → mid ≡ after_opening old first → AreOpenersOf opens mid names openers → AreOpenersOf opens old names openers

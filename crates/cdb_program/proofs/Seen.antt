@@ -1,9 +1,15 @@
 -- What is known of readers and writers, as streams.
-use Rattle.std.proofs.Common.{◌≡◌, ℕ, Bool, List, Result, Ok, Err, ap, inl, inr}
+use Rattle.std.proofs.Common.{◌≡◌, ℕ, Bool, List, Result, Ok, Err, ap, subst, inl, inr}
 use Rattle.std.specs.Prelude.{IfErr, IfOk}
+use Rattle.cdb_rules.specs.Rules.{Rules}
+use Rattle.cdb_setup.specs.Parts.{Parts}
+use Rattle.cdb_session.specs.Moves.{Known}
+use Rattle.cdb_shared_session.specs.KeptAlone.{DebugsKept}
+use Rattle.cdb_shared_session.specs.declared.keeping.Kept.{Kept}
+use Rattle.cdb_shared_session.proofs.KeptEntries.{seen_kept, seen_is}
 use Rattle.cdb_streams.specs.Endings.{Ending, Complete, WriterFailed, CutShort, NotBegun, play_ending}
 use Rattle.cdb_streams.specs.Faults.{IsFaultOfPlay}
-use Rattle.cdb_streams.specs.Streams.{FailsWhere, Stream, Writes}
+use Rattle.cdb_streams.specs.Streams.{FailsWhere, Stream, Writes, itself}
 use Rattle.cdb_play.specs.Transcripts.{Plays, RestsOnHeadline}
 use Rattle.cdb_streams.specs.Written.{IsWritten}
 use Rattle.cdb_streams.specs.declared.fault.PlayFault.{PlayFault}
@@ -93,3 +99,32 @@ shrink_seen reader writer json goal shrunk script rest old new wrote fault same 
   unread = λ why is. ap reader (same why is);
   read = read;
 }
+
+-- the same of a session whose journal was kept
+debugged_seen : {J : Type 0} (stream : J → Stream) (rules_of : Parts → Rules) (prompt json : List ℕ) (old new : Known) (file : J) (ended : Result (Unit {0}) PlayFault × Kept J)
+    → DebugsKept stream rules_of prompt json old new file ended → DebugsKept itself rules_of prompt json old new (stream file) (ended.0, seen_kept stream ended.1)
+debugged_seen stream rules_of prompt json old new file (Err fault, kept) (inl (is, makes, same)) = inl (is, makes, ap (seen_kept stream) same)
+debugged_seen stream rules_of prompt json old new file (Ok done, kept) (inl not) = absurd not
+debugged_seen stream rules_of prompt json old new file (returned, kept) (inr (setup, encodes, (made, makes, holds))) =
+    inr (
+      setup,
+      encodes,
+      (
+        made,
+        makes,
+        record {
+          control = holds.control;
+          setup_is = holds.setup_is;
+          seats_are = holds.seats_are;
+          session = holds.session;
+          keeps = seen_is stream kept.outcome file kept.file (holds.control).journal holds.keeps;
+        },
+      ),
+    )
+
+-- so of texts that are equal to these
+pub debugged_of : {J : Type 0} (stream : J → Stream) (rules_of : Parts → Rules) (prompt json its_prompt its_json : List ℕ) → its_prompt ≡ prompt → its_json ≡ json → (old new : Known) (file : J) (ended : Result (Unit {0}) PlayFault × Kept J)
+    → DebugsKept stream rules_of its_prompt its_json old new file ended → DebugsKept itself rules_of prompt json old new (stream file) (ended.0, seen_kept stream ended.1)
+debugged_of stream rules_of prompt json its_prompt its_json same_prompt same_json old new file ended d =
+    debugged_seen stream rules_of prompt json old new file ended
+    (subst (λ (text : List ℕ). DebugsKept stream rules_of text json old new file ended) same_prompt (subst (λ (text : List ℕ). DebugsKept stream rules_of its_prompt text old new file ended) same_json d))

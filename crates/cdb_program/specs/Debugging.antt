@@ -2,11 +2,15 @@
 use Rattle.std.specs.Prelude.{◌≡◌, ◌⊎◌, ℕ, List, [], ◌∷◌, codes, None, Result}
 use Rattle.cdb_session.specs.Moves.{Known}
 use Rattle.cdb_session.specs.Debugs.{Debugs}
+use Rattle.cdb_shared_session.specs.KeptAlone.{DebugsKept}
+use Rattle.cdb_shared_session.specs.declared.keeping.Kept.{Kept}
+use Rattle.cdb_streams.specs.Streams.{Stream, itself}
 use Rattle.cdb_streams.specs.declared.fault.PlayFault.{PlayFault}
 use Rattle.cdb_agreement.specs.Algorithms.{rules}
-use Rattle.cdb_program.specs.Known.{Seen}
-use Rattle.cdb_program.specs.Outcomes.{RequestEnd, IsOfPlay}
-use Rattle.cdb_program.specs.Reading.{HasRead, CannotReadFiles}
+use Rattle.cdb_program.specs.Known.{Seen, after_opening}
+use Rattle.cdb_program.specs.Outcomes.{RequestEnd, IsOfPlay, IsOfKept}
+use Rattle.cdb_program.specs.Reading.{HasRead, CannotReadFiles, AreFirstBytes, most_read}
+use Rattle.cdb_program.specs.Seating.{IsEmpty}
 
 -- What is known of standard input and standard output, over which a session takes place. In which order it reads from the one and
 -- writes to the other, neither of them knows.
@@ -30,3 +34,17 @@ abbrev pub DebugsFile : List ℕ → List ℕ → Seen → Seen → RequestEnd �
 DebugsFile setup prompt old new outcome =
     (CannotReadFiles (setup ∷ []) old new outcome × (new.input ≡ old.input))
     ⊎ ((json : List ℕ) × HasRead old.files new.files (setup ∷ []) (json ∷ []) × DebugsBytes json prompt old new outcome)
+
+-- a session took place over them, and its journal was kept in a new file
+abbrev pub DebugsBytesKept : List ℕ → List ℕ → Seen → Seen → RequestEnd → Type 0
+DebugsBytesKept json prompt old new outcome =
+    (file : Stream) × (ended : Result (Unit {0}) PlayFault × Kept Stream) × IsEmpty file × IsOfKept ended.0 (ended.1).outcome outcome
+    × DebugsKept itself rules prompt json (console_of old) (console_of new) file ended
+
+-- The file of the setup is read, that of the journal is made, and then the session takes place. Where one of them can't be opened, no
+-- input is read.
+abbrev pub DebugsFileKept : List ℕ → List ℕ → List ℕ → Seen → Seen → RequestEnd → Type 0
+DebugsFileKept setup file prompt old new outcome =
+    (CannotReadFiles (setup ∷ file ∷ []) old new outcome × (new.input ≡ old.input))
+    ⊎ ((json : List ℕ) × (new.files ≡ after_opening old.files (setup ∷ file ∷ [])) × AreFirstBytes old.files most_read setup json
+    × DebugsBytesKept json prompt old new outcome)

@@ -1,13 +1,14 @@
 -- How requests end.
-use Rattle.std.specs.Prelude.{◌≡◌, ℕ, Bool, true, false, List, Result, Ok, Err}
+use Rattle.std.specs.Prelude.{◌≡◌, ℕ, Bool, true, false, List, codes, Result, Ok, Err}
 use Rattle.cdb_explain.specs.declared.fault.ExplainFault.{ExplainFault}
 use Rattle.cdb_explain.specs.declared.fault.ExplainFault.TheVariants as explain
 use Rattle.cdb_search.specs.declared.fault.SearchFault.{SearchFault}
 use Rattle.cdb_search.specs.declared.fault.SearchFault.TheVariants as search
+use Rattle.cdb_streams.specs.declared.buffer.OutputFault.{OutputFault}
 use Rattle.cdb_streams.specs.declared.fault.PlayFault.{PlayFault}
 use Rattle.cdb_streams.specs.declared.fault.RaceFault.{RaceFault}
 use Rattle.cdb_program.specs.declared.fault.Fault.{Fault}
-use Rattle.cdb_program.specs.declared.fault.Fault.TheVariants.{Play, Race, NoStep, NoValue, Different, NotFound, DoesNotHold, TooManyEvents}
+use Rattle.cdb_program.specs.declared.fault.Fault.TheVariants.{Play, Race, Journal, NoStep, NoValue, Different, NotFound, DoesNotHold, TooManyEvents}
 
 -- how a request ended
 abbrev pub RequestEnd : Type 0
@@ -18,6 +19,13 @@ abbrev pub IsOfPlay : List ℕ → Result (Unit {0}) PlayFault → RequestEnd �
 IsOfPlay name (Ok done) (Ok its_done) = Unit {0}
 IsOfPlay name (Err fault) (Err (Play its_fault its_name)) = (its_fault ≡ fault) × (its_name.now ≡ name)
 IsOfPlay name played outcome = ⊥
+
+-- it ended as the session did, and else as the keeping of its journal
+abbrev pub IsOfKept : Result (Unit {0}) PlayFault → Result (Unit {0}) OutputFault → RequestEnd → Type 0
+IsOfKept (Err fault) kept outcome = IsOfPlay (codes "standard input") (Err fault) outcome
+IsOfKept (Ok done) (Ok kept) (Ok its_done) = Unit {0}
+IsOfKept (Ok done) (Err fault) (Err (Journal its_fault)) = its_fault ≡ fault
+IsOfKept debugged kept outcome = ⊥
 
 -- it ended as the race did
 abbrev pub IsOfRace : Result (Unit {0}) RaceFault → RequestEnd → Type 0

@@ -1,6 +1,5 @@
 -- Reading files.
-use Rattle.std.specs.Prelude.{◌≡◌, ◌⊎◌, ℕ, ◌≤◌, List, [], ◌∷◌, ◌++◌, length, take, map, Some, Result, Ok, Err, Vec}
-use Rattle.std.specs.Borrow.{Bor}
+use Rattle.std.specs.Prelude.{◌≡◌, ◌⊎◌, ℕ, ◌≤◌, List, [], ◌∷◌, ◌++◌, length, take, Some, Result, Ok, Err, Vec}
 use Rattle.std.specs.Global.{Global}
 use Rattle.std.specs.List.{AllZip}
 use Rattle.cdb_play.specs.Races.{bytes_of}
@@ -11,10 +10,6 @@ use Rattle.cdb_program.specs.Known.{FilesSeen, Seen, content_of, after_opening, 
 use Rattle.cdb_program.specs.Outcomes.{RequestEnd}
 use Rattle.cdb_program.specs.declared.fault.Fault.{Fault}
 use Rattle.cdb_program.specs.declared.fault.Fault.TheVariants.{Play}
-
--- the names of files
-abbrev pub file_names : List (Bor (List ℕ)) → List (List ℕ)
-file_names names = map (λ name. name.now) names
 
 -- how many bytes of a file are read: one more than a setup or a script may have
 abbrev pub most_read : ℕ

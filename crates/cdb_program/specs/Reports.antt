@@ -1,11 +1,13 @@
 -- How the program reports that a request ended.
 use Rattle.std.specs.Prelude.{◌≡◌, ℕ, List, [], ◌++◌, codes, decimal, Result, Ok, Err}
+use Rattle.cdb_shared_session.specs.Reports.{kept_line}
+use Rattle.cdb_streams.specs.Faults.{of_output}
 use Rattle.cdb_streams.specs.FaultTexts.{as_line, play_fault_text, race_fault_text}
 use Rattle.cdb_streams.specs.Statuses.{play_status, race_status}
 use Rattle.cdb_streams.specs.Streams.{Stream, Writes, itself}
 use Rattle.cdb_streams.specs.declared.sink.Failed.{Failed}
 use Rattle.cdb_program.specs.declared.fault.Fault.{Fault}
-use Rattle.cdb_program.specs.declared.fault.Fault.TheVariants.{Play, Race, NoStep, NoValue, Different, NoGoal, NotFound, DoesNotHold, TooManyEvents, TooManySeats, Refused}
+use Rattle.cdb_program.specs.declared.fault.Fault.TheVariants.{Play, Race, Journal, NoStep, NoValue, Different, NoGoal, NotFound, DoesNotHold, TooManyEvents, TooManySeats, Refused}
 
 -- that a goal held in none of so many walks
 abbrev pub not_found_text : ℕ → List ℕ
@@ -22,6 +24,7 @@ fault_text NoGoal = codes "the goal is differ, all, stuck:R or decides:P:V\n"
 fault_text (NotFound walks) = not_found_text walks
 fault_text DoesNotHold = codes "the goal does not hold\n"
 fault_text Different = []
+fault_text (Journal fault) = kept_line (Err fault)
 fault_text TooManySeats = codes "too many seats\n"
 fault_text (Refused reason) = reason.now
 
@@ -36,6 +39,7 @@ fault_status NoGoal = 2
 fault_status (NotFound walks) = 1
 fault_status DoesNotHold = 1
 fault_status Different = 1
+fault_status (Journal fault) = play_status (of_output fault)
 fault_status TooManySeats = 2
 fault_status (Refused reason) = 2
 

@@ -1,13 +1,15 @@
 //! Sessions over what is outside.
 
 ghost use Rattle.std.specs.Prelude.{◌≡◌};
-ghost use Rattle.cdb_program.specs.Debugging.{DebugsFile};
+ghost use Rattle.cdb_program.specs.Debugging.{DebugsFile, DebugsFileKept};
 
-use crate::fault::{Fault, of_play};
+use crate::fault::{Fault, of_kept, of_play};
 use crate::files::{Files, read_file};
 use crate::outside::Outside;
+use crate::seats::make_one;
 use cdb_any_run::AnyRun;
 use cdb_session::debug;
+use cdb_shared_session::debug_kept;
 use cdb_streams::{Sink, Source};
 use std::alloc::Global;
 
@@ -25,4 +27,22 @@ pub fn debug_file<'a, F: Files + Drop, I: Source + Drop, O: Sink + Drop, E: Sink
     let prompt = prompt.as_bytes();
     let debugged = debug::<AnyRun, _>(alloc, json.as_slice(), prompt, &mut outside.streams);
     of_play(debugged, "standard input")
+}
+
+/// The same, and the journal is kept in the file of this name, in which nothing may be yet.
+pub fn debug_file_kept<'a, F: Files + Drop, I: Source + Drop, O: Sink + Drop, E: Sink + Drop>(
+    alloc: Global,
+    setup: &'a str,
+    file: &'a str,
+    prompt: &str,
+    outside: &mut Outside<F, I, O, E>,
+) -> Result<(), Fault<'a>>
+    ensures does { DebugsFileKept setup.entry.now file.entry.now prompt.now outside.old outside.new result }
+    ensures error { outside.new.error ≡ outside.old.error }
+{
+    let json = read_file(alloc, &mut outside.files, setup)?;
+    let file = make_one(alloc, &mut outside.files, file)?;
+    let prompt = prompt.as_bytes();
+    let (debugged, kept) = debug_kept::<AnyRun, _, _>(alloc, json.as_slice(), prompt, &mut outside.streams, file);
+    of_kept(debugged, kept.outcome)
 }

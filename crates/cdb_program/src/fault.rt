@@ -1,10 +1,10 @@
 //! Why a request was not carried out to its end.
 
-ghost use Rattle.cdb_program.specs.Outcomes.{IsOfExplain, IsOfPlay, IsOfRace, IsOfSame, IsOfSearch};
+ghost use Rattle.cdb_program.specs.Outcomes.{IsOfExplain, IsOfKept, IsOfPlay, IsOfRace, IsOfSame, IsOfSearch};
 
 use cdb_explain::ExplainFault;
 use cdb_search::SearchFault;
-use cdb_streams::{PlayFault, RaceFault};
+use cdb_streams::{OutputFault, PlayFault, RaceFault};
 use std::error::Error;
 use std::fmt;
 
@@ -34,6 +34,8 @@ pub enum Fault<'a> {
     DoesNotHold,
     /// The runs that were compared differ, as the output tells. Nothing else is reported.
     Different,
+    /// The journal could not be kept in its file.
+    Journal(OutputFault),
     /// A race of more than 64 processes and scripts.
     TooManySeats,
     /// Nothing was asked for that can be done, and this text says why.
@@ -59,6 +61,10 @@ impl fmt::Display for Fault<'_> {
             Fault::NotFound(walks) => writeln!(f, "not found in {walks} walks"),
             Fault::DoesNotHold => f.write_str(DOES_NOT_HOLD),
             Fault::Different => Ok(()),
+            Fault::Journal(fault) => {
+                let fault = PlayFault::from(*fault);
+                writeln!(f, "journal: {fault}")
+            }
             Fault::TooManySeats => f.write_str("too many seats\n"),
             Fault::Refused(reason) => f.write_str(reason),
         }
@@ -74,6 +80,17 @@ pub fn of_play<'a>(played: Result<(), PlayFault>, name: &'a str) -> Result<(), F
     match played {
         Ok(()) => Ok(()),
         Err(fault) => Err(Fault::Play(fault, name)),
+    }
+}
+
+/// How a request ended that was a session, whose journal was kept so.
+pub fn of_kept<'a>(debugged: Result<(), PlayFault>, kept: Result<(), OutputFault>) -> Result<(), Fault<'a>>
+    ensures { IsOfKept debugged kept result }
+{
+    match (debugged, kept) {
+        (Err(fault), _) => Err(Fault::Play(fault, "standard input")),
+        (Ok(()), Err(fault)) => Err(Fault::Journal(fault)),
+        (Ok(()), Ok(())) => Ok(()),
     }
 }
 

@@ -1,8 +1,9 @@
 //! Files, which are read by their names.
 
 ghost use Rattle.std.specs.Prelude.{[], ◌∷◌};
+ghost use Rattle.cdb_base.specs.Requests.{texts};
 ghost use Rattle.cdb_program.specs.Known.{FilesSeen};
-ghost use Rattle.cdb_program.specs.Reading.{both, many, single, three, file_names, Reads, ReadsFile};
+ghost use Rattle.cdb_program.specs.Reading.{both, many, single, three, Reads, ReadsFile};
 ghost use Rattle.cdb_program.specs.Seating.{FindsSeat, MakesFile};
 
 use crate::fault::Fault;
@@ -124,7 +125,7 @@ pub fn read_each<'a, F: Files>(
     files: &mut F,
     names: &[&'a str],
 ) -> Result<Vec<Vec<u8>>, Fault<'a>>
-    ensures { Reads many (F.seen files.old) (F.seen files.new) (file_names names.now) result }
+    ensures { Reads many (F.seen files.old) (F.seen files.new) (texts names.now) result }
 {
     let mut contents = Vec::new(alloc);
     for name in names {

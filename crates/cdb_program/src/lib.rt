@@ -20,4 +20,4 @@ mod seats;
 pub use fault::Fault;
 pub use files::Files;
 pub use outside::Outside;
-pub use request::{MAX_TURNS, Request, perform};
+pub use request::{Action, MAX_TURNS, perform};

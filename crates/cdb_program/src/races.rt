@@ -3,7 +3,7 @@
 ghost use Rattle.std.specs.Prelude.{◌≡◌, ◌≤◌};
 ghost use Rattle.cdb_play.specs.Races.{bytes_of};
 ghost use Rattle.cdb_program.specs.Racing.{RacesOn, RacesFiles};
-ghost use Rattle.cdb_program.specs.Reading.{file_names};
+ghost use Rattle.cdb_base.specs.Requests.{texts};
 
 use crate::fault::{Fault, of_race};
 use crate::files::{Files, read_each, read_file};
@@ -58,7 +58,7 @@ pub fn race_files<
     outside: &mut Outside<F, I, O, E>,
 ) -> Result<(), Fault<'a>>
     requires { turns ≤ MAX_TURNS }
-    ensures does { RacesFiles setup.entry.now turns (file_names scripts.now)
+    ensures does { RacesFiles setup.entry.now turns (texts scripts.now)
         outside.old outside.new result }
     ensures error { outside.new.error ≡ outside.old.error }
 {

@@ -5,8 +5,9 @@ ghost use Rattle.cdb_program.specs.Reports.{fault_text, fault_status, not_found_
 ghost use Rattle.cdb_streams.specs.Streams.{Writes};
 
 use crate::fault::{DOES_NOT_HOLD, Fault, NO_GOAL};
+use cdb_shared_session::write_kept_fault;
 use cdb_streams::{
-    Failed, Piece, Sink, race_status_of, status_of, write_all, write_each, write_fault,
+    Failed, Piece, PlayFault, Sink, race_status_of, status_of, write_all, write_each, write_fault,
     write_race_fault,
 };
 
@@ -24,6 +25,7 @@ fn status_after(fault: &Fault<'_>) -> u8
     match fault {
         Fault::Play(fault, _) => status_of(fault),
         Fault::Race(fault) => race_status_of(fault),
+        Fault::Journal(fault) => status_of(&PlayFault::from(*fault)),
         Fault::NoStep | Fault::NoValue | Fault::TooManyEvents => NO_STEP,
         Fault::Different | Fault::NotFound(_) | Fault::DoesNotHold => NO_STEP,
         Fault::NoGoal | Fault::TooManySeats | Fault::Refused(_) => USAGE,
@@ -51,6 +53,7 @@ fn write_text<E: Sink>(fault: &Fault<'_>, error: &mut E) -> Result<(), Failed>
     match fault {
         Fault::Play(fault, name) => write_fault(fault, name, error),
         Fault::Race(fault) => write_race_fault(fault, error),
+        Fault::Journal(fault) => write_kept_fault(&Err(*fault), error),
         Fault::NoStep => write_all(error, b"refused 10 NoStep\n"),
         Fault::NoValue => write_all(error, b"no value\n"),
         Fault::TooManyEvents => write_all(error, b"too many events to draw; name a step\n"),

@@ -1,11 +1,12 @@
-//! What the program is asked to do, and that it does it.
+//! What the program does, and that it does it.
 
 ghost use Rattle.std.specs.Prelude.{◌≡◌, ◌≤◌};
-ghost use Rattle.cdb_program.specs.Requests.{Does, IsAlone, Performs, PerformsAlone, Prints, HasTurns};
+ghost use Rattle.cdb_base.specs.Requests.{any_text, asked_for, texts};
+ghost use Rattle.cdb_program.specs.Requests.{DebugsAlone, Does, HasTurns, IsDone, IsNoSession, MayPerform, Performs, PerformsAsked, PerformsSessions, PrintsText};
 
 use crate::clocks::clock_files;
 use crate::compares::compare_files;
-use crate::debugs::debug_file;
+use crate::debugs::{debug_file, debug_file_kept};
 use crate::fault::Fault;
 use crate::files::Files;
 use crate::outside::Outside;
@@ -17,7 +18,7 @@ use crate::replays::replay_files;
 use crate::reports::report;
 use crate::searches::{search_file, shrink_files};
 use crate::seats::perform_shared;
-use cdb_base::Question;
+use cdb_base::Request;
 use cdb_streams::{PlayFault, Sink, Source, write_all};
 use std::alloc::Global;
 use std::sync::Wait;
@@ -27,74 +28,13 @@ use std::time::Clock;
 /// The most turns of a race.
 pub const MAX_TURNS: u32 = 99_999;
 
-/// What the program is asked to do.
+/// What the program does.
 #[derive(Clone, Copy)]
-pub enum Request<'a> {
-    /// Plays the script on standard input, on one process that proposes 7.
-    Script,
-    /// Plays a script file on a run of a setup file.
-    Play {
-        setup: &'a str,
-        script: &'a str,
-    },
-    /// Runs a race of script files on a run of a setup file, with up to `MAX_TURNS` turns for each process.
-    Race {
-        setup: &'a str,
-        turns: u32,
-        scripts: &'a [&'a str],
-    },
-    /// Answers a question of the run that a script file leaves on a setup file.
-    Ask {
-        setup: &'a str,
-        script: &'a str,
-        question: Question,
-    },
-    /// Holds a session on a run of a setup file over standard input and standard output, with this prompt before each
-    /// line.
-    Debug {
-        setup: &'a str,
+pub enum Action<'a> {
+    /// Performs this request; a session here has this prompt before each line.
+    Perform {
+        request: &'a Request<'a>,
         prompt: &'a str,
-    },
-    /// Holds sessions of these seats, 1 to 64, over one run of a setup file, each in a thread of its own, and writes their
-    /// journal to standard output; it is kept meanwhile in the file of this name, if there is one.
-    DebugShared {
-        setup: &'a str,
-        seats: &'a [&'a str],
-        file: Option<&'a str>,
-    },
-    /// Plays a journal file again on a run of a setup file.
-    Replay {
-        setup: &'a str,
-        journal: &'a str,
-    },
-    /// Searches for a run of a setup file in which the goal of this word holds, with this seed and at most so many walks.
-    Search {
-        setup: &'a str,
-        goal: &'a str,
-        seed: u32,
-        walks: u32,
-    },
-    /// Makes a script file small on a run of a setup file, as long as the goal of this word holds.
-    Shrink {
-        setup: &'a str,
-        script: &'a str,
-        goal: &'a str,
-    },
-    /// Tells whether two script files leave the same run on a setup file.
-    Same {
-        setup: &'a str,
-        first: &'a str,
-        second: &'a str,
-    },
-    /// Writes the clocks of the run that a script file leaves on a setup file.
-    Clocks {
-        setup: &'a str,
-        script: &'a str,
-    },
-    /// Writes the page of the run that a script file leaves on a setup file.
-    Page {
-        setup: &'a str,
-        script: &'a str,
     },
     /// Writes a text to standard output.
     Print(&'a str),
@@ -102,14 +42,7 @@ pub enum Request<'a> {
     Refuse(Fault<'a>),
 }
 
-/// Writes a text to standard output.
-fn print<O: Sink>(text: &str, output: &mut O) -> Result<(), Fault<'static>>
-    ensures { Prints text.now (O.stream output.old) (O.stream output.new) result }
-{
-    write_all(output, text.as_bytes()).map_err(|_| Fault::Play(PlayFault::Write, ""))
-}
-
-/// Carries a request out, and reports nothing.
+/// Carries a request out that is not one of sessions, and reports nothing.
 fn carry_out<
     'a,
     R: Threads + Wait + Clock + Sync,
@@ -120,12 +53,12 @@ fn carry_out<
 >(
     threads: &R,
     alloc: Global,
-    request: Request<'a>,
+    request: &'a Request<'a>,
     outside: &mut Outside<F, I, O, E>,
 ) -> Result<(), Fault<'a>>
-    requires turns { HasTurns request }
-    requires alone { IsAlone request }
-    ensures does { Does request.entry outside.old outside.new result }
+    requires turns { HasTurns (asked_for request.now) }
+    requires other { IsNoSession (asked_for request.now) }
+    ensures does { Does (asked_for request.entry.now) outside.old outside.new result }
     ensures error { outside.new.error ≡ outside.old.error }
 {
     match request {
@@ -135,21 +68,20 @@ fn carry_out<
             setup,
             turns,
             scripts,
-        } => race_files(threads, alloc, setup, turns, scripts, outside),
+        } => race_files(threads, alloc, setup, *turns, scripts.as_slice(), outside),
         Request::Ask {
             setup,
             script,
             question,
-        } => answer_files(alloc, setup, script, question, outside),
-        Request::Debug { setup, prompt } => debug_file(alloc, setup, prompt, outside),
-        Request::DebugShared { .. } => unreachable!(),
+        } => answer_files(alloc, setup, script, *question, outside),
+        Request::Debug { .. } => unreachable!(),
         Request::Replay { setup, journal } => replay_files(alloc, setup, journal, outside),
         Request::Search {
             setup,
             goal,
             seed,
             walks,
-        } => search_file(alloc, setup, goal, seed, walks, outside),
+        } => search_file(alloc, setup, goal, *seed, *walks, outside),
         Request::Shrink {
             setup,
             script,
@@ -162,29 +94,118 @@ fn carry_out<
         } => compare_files(alloc, setup, first, second, outside),
         Request::Clocks { setup, script } => clock_files(alloc, setup, script, outside),
         Request::Page { setup, script } => page_files(alloc, setup, script, outside),
-        Request::Print(text) => print(text, &mut outside.streams.output),
-        Request::Refuse(fault) => Err(fault),
     }
 }
 
-/// Carries out a request that has no seats, and reports on standard error how it ended.
+/// Carries out a request that is not one of sessions, and reports on standard error how it ended.
 fn perform_one<
     R: Threads + Wait + Clock + Sync,
     F: Files + Drop,
     I: Source + Drop,
     O: Sink + Drop,
     E: Sink + Drop,
->(threads: &R, alloc: Global, request: Request<'_>, outside: &mut Outside<F, I, O, E>) -> u8
-    requires turns { HasTurns request }
-    requires alone { IsAlone request }
-    ensures { PerformsAlone request.entry outside.old outside.new result }
+>(threads: &R, alloc: Global, request: &Request<'_>, outside: &mut Outside<F, I, O, E>) -> u8
+    requires turns { HasTurns (asked_for request.now) }
+    requires other { IsNoSession (asked_for request.now) }
+    ensures { IsDone (Does (asked_for request.now)) outside.old outside.new result }
 {
     let outcome = carry_out(threads, alloc, request, outside);
     report(outcome, &mut outside.error)
 }
 
-/// Carries a request out, reports on standard error how it ended, and returns the status with which the program
-/// ends: 0 where all went well, else 1 to 9. A fault has one line on standard error, but that two runs differ has none, which
+/// Holds a session here, and keeps its journal in the file of that name, if there is one.
+fn debug_alone<'a, F: Files + Drop, I: Source + Drop, O: Sink + Drop, E: Sink + Drop>(
+    alloc: Global,
+    setup: &'a str,
+    journal: Option<&'a str>,
+    prompt: &'a str,
+    outside: &mut Outside<F, I, O, E>,
+) -> Result<(), Fault<'a>>
+    ensures does { DebugsAlone setup.entry.now (any_text journal.entry) prompt.entry.now
+        outside.old outside.new result }
+    ensures error { outside.new.error ≡ outside.old.error }
+{
+    match journal {
+        Some(file) => debug_file_kept(alloc, setup, file, prompt, outside),
+        None => debug_file(alloc, setup, prompt, outside),
+    }
+}
+
+/// Holds sessions of these seats, or one here without seats, and reports on standard error what failed.
+fn perform_sessions<
+    R: Threads + Wait + Clock + Sync,
+    F: Files + Drop,
+    I: Source + Drop,
+    O: Sink + Drop,
+    E: Sink + Drop,
+>(
+    threads: &R,
+    alloc: Global,
+    setup: &str,
+    seats: &[&str],
+    journal: Option<&str>,
+    prompt: &str,
+    outside: &mut Outside<F, I, O, E>,
+) -> u8
+    ensures { PerformsSessions setup.now (texts seats.now) (any_text journal.entry) prompt.now
+        outside.old outside.new result }
+{
+    if !seats.is_empty() {
+        return perform_shared(threads, alloc, setup, seats, journal, outside);
+    }
+    let debugged = debug_alone(alloc, setup, journal, prompt, outside);
+    report(debugged, &mut outside.error)
+}
+
+/// Performs a request, in which a session here has this prompt, and reports on standard error how it ended.
+fn perform_request<
+    R: Threads + Wait + Clock + Sync,
+    F: Files + Drop,
+    I: Source + Drop,
+    O: Sink + Drop,
+    E: Sink + Drop,
+>(
+    threads: &R,
+    alloc: Global,
+    request: &Request<'_>,
+    prompt: &str,
+    outside: &mut Outside<F, I, O, E>,
+) -> u8
+    requires { HasTurns (asked_for request.now) }
+    ensures { PerformsAsked prompt.now (asked_for request.now) outside.old outside.new result }
+{
+    match request {
+        Request::Debug {
+            setup,
+            seats,
+            journal,
+        } => perform_sessions(
+            threads,
+            alloc,
+            setup,
+            seats.as_slice(),
+            *journal,
+            prompt,
+            outside,
+        ),
+        _ => perform_one(threads, alloc, request, outside),
+    }
+}
+
+/// Writes a text to standard output, and reports on standard error whether that failed.
+fn print<F: Files + Drop, I: Source + Drop, O: Sink + Drop, E: Sink + Drop>(
+    text: &str,
+    outside: &mut Outside<F, I, O, E>,
+) -> u8
+    ensures { IsDone (PrintsText text.now) outside.old outside.new result }
+{
+    let written = write_all(&mut outside.streams.output, text.as_bytes());
+    let printed = written.map_err(|_| Fault::Play(PlayFault::Write, ""));
+    report(printed, &mut outside.error)
+}
+
+/// Performs an action, reports on standard error how it ended, and returns the status with which the program ends: 0
+/// where all went well, else 1 to 9. A fault has one line on standard error, but that two runs differ has none, which
 /// standard output tells; and each seat that failed has one. Nothing else is written there.
 ///
 /// Promise: A request reads the files that it names, in order and no others, up to the first that can't be read; its
@@ -197,14 +218,15 @@ pub fn perform<
     I: Source + Drop,
     O: Sink + Drop,
     E: Sink + Drop,
->(threads: &R, alloc: Global, request: Request<'_>, outside: &mut Outside<F, I, O, E>) -> u8
-    requires { HasTurns request }
-    ensures { Performs request.entry outside.old outside.new result }
+>(threads: &R, alloc: Global, action: Action<'_>, outside: &mut Outside<F, I, O, E>) -> u8
+    requires { MayPerform action }
+    ensures { Performs action.entry outside.old outside.new result }
 {
-    match request {
-        Request::DebugShared { setup, seats, file } => perform_shared(
-            threads, alloc, setup, seats, file, outside,
-        ),
-        _ => perform_one(threads, alloc, request, outside),
+    match action {
+        Action::Perform { request, prompt } => {
+            perform_request(threads, alloc, request, prompt, outside)
+        }
+        Action::Print(text) => print(text, outside),
+        Action::Refuse(fault) => report(Err(fault), &mut outside.error),
     }
 }

@@ -2,8 +2,8 @@
 
 ghost use Rattle.std.specs.Prelude.{◌≡◌, ◌≤◌, ◌∷◌, [], length, option_map, vec_len, IfOk, IfErr};
 ghost use Rattle.cdb_program.specs.Known.{after_opening};
-ghost use Rattle.cdb_program.specs.Reading.{file_names, FailsToRead};
-ghost use Rattle.cdb_program.specs.Requests.{any_file};
+ghost use Rattle.cdb_program.specs.Reading.{FailsToRead};
+ghost use Rattle.cdb_base.specs.Requests.{any_text, texts};
 ghost use Rattle.cdb_program.specs.Seating.{AreOpenersOf, HoldsSeats, IsEmpty, IsFaultOfSeats, IsNewFile, IsOpenerOf, PerformsShared, any_name};
 
 use crate::fault::Fault;
@@ -48,13 +48,13 @@ fn find_each<'a, F: Files>(
     names: &[&'a str],
 ) -> Result<Vec<F::Seat>, Fault<'a>>
     ensures opened { IfOk result
-        (λ _. F.seen files.new ≡ after_opening (F.seen files.old) (file_names names.now)) }
+        (λ _. F.seen files.new ≡ after_opening (F.seen files.old) (texts names.now)) }
     ensures seats { IfOk result
-        (λ openers. AreOpenersOf F.Seat.opens (F.seen files.old) (file_names names.now)
+        (λ openers. AreOpenersOf F.Seat.opens (F.seen files.old) (texts names.now)
         openers.items) }
     ensures count { IfOk result (λ openers. vec_len openers ≡ length names.now) }
     ensures fault { IfErr result
-        (FailsToRead (F.seen files.old) (F.seen files.new) (file_names names.now)) }
+        (FailsToRead (F.seen files.old) (F.seen files.new) (texts names.now)) }
 {
     let mut openers = Vec::new(alloc);
     for name in names {
@@ -72,7 +72,7 @@ fn find_each<'a, F: Files>(
 /// # Errors
 /// `Play(Read, name)` where it has something in it or can't be opened, and `Play(NoMemory, name)` where an allocation
 /// fails.
-fn make_one<'a, F: Files>(alloc: Global, files: &mut F, name: &'a str) -> Result<F::Made, Fault<'a>>
+pub(crate) fn make_one<'a, F: Files>(alloc: Global, files: &mut F, name: &'a str) -> Result<F::Made, Fault<'a>>
     ensures opened { IfOk result
         (λ _. F.seen files.new ≡ after_opening (F.seen files.old) (name.entry.now ∷ [])) }
     ensures file { IfOk result (λ made. IsEmpty (F.Made.stream made)) }
@@ -95,11 +95,11 @@ fn make_any<'a, F: Files>(
     name: Option<&'a str>,
 ) -> Result<Option<F::Made>, Fault<'a>>
     ensures opened { IfOk result (λ _. F.seen files.new
-        ≡ after_opening (F.seen files.old) (any_name (any_file name.entry))) }
+        ≡ after_opening (F.seen files.old) (any_name (any_text name.entry))) }
     ensures file { IfOk result
-        (λ made. IsNewFile (any_file name.entry) (option_map F.Made.stream made)) }
+        (λ made. IsNewFile (any_text name.entry) (option_map F.Made.stream made)) }
     ensures fault { IfErr result
-        (FailsToRead (F.seen files.old) (F.seen files.new) (any_name (any_file name.entry))) }
+        (FailsToRead (F.seen files.old) (F.seen files.new) (any_name (any_text name.entry))) }
 {
     match name {
         Some(given) => match make_one(alloc, files, given) {
@@ -128,8 +128,8 @@ fn hold_seats<
 ) -> Result<u8, Fault<'a>>
     requires { 1 ≤ length seats.now }
     ensures sessions { IfOk result
-        (HoldsSeats setup.entry.now (file_names seats.now) (any_file file.entry) outside.old outside.new) }
-    ensures fault { IfErr result (IsFaultOfSeats setup.entry.now (file_names seats.now) (any_file file.entry)
+        (HoldsSeats setup.entry.now (texts seats.now) (any_text file.entry) outside.old outside.new) }
+    ensures fault { IfErr result (IsFaultOfSeats setup.entry.now (texts seats.now) (any_text file.entry)
         outside.old.files outside.new.files) }
     ensures output { IfErr result (λ _. outside.new.output ≡ outside.old.output) }
     ensures error { IfErr result (λ _. outside.new.error ≡ outside.old.error) }
@@ -173,7 +173,7 @@ pub fn perform_shared<
     outside: &mut Outside<F, I, O, E>,
 ) -> u8
     requires { 1 ≤ length seats.now }
-    ensures { PerformsShared setup.now (file_names seats.now) (any_file file.entry) outside.old outside.new result }
+    ensures { PerformsShared setup.now (texts seats.now) (any_text file.entry) outside.old outside.new result }
 {
     match hold_seats(threads, alloc, setup, seats, file, outside) {
         Ok(status) => status,

@@ -34,6 +34,7 @@ pub mod WhereOk
 pub mod Standing
 pub mod Removed
 pub mod TakenBack
+pub mod OfRun
 -- what stands in a run, and the past of an event
 pub mod Beginnings
 pub mod Flagged

@@ -33,6 +33,12 @@ abbrev pub taken_by : Rules → List Event → Event → Result Event Refusal
 taken_by rules history (Step p k kind) = rules.step history p (act_for kind)
 taken_by rules history (Lost copy) = rules.lose history copy.msg copy.to
 
+-- the same is shown of both
+abbrev pub ShowTheSame : Rules → List Event → List Event → Type 0
+ShowTheSame rules history other =
+    ((p : ℕ) → rules.process history p ≡ rules.process other p) × (rules.mail history ≡ rules.mail other)
+    × (rules.registers history ≡ rules.registers other) × (rules.decisions history ≡ rules.decisions other)
+
 -- The rules keep valid histories, the state that they reach, agreement and validity. SameState says of two histories that they
 -- reach one state.
 pub record KeepHistories (rules : Rules) (SameState : List Event → List Event → Type 0) (setup : Parts) : Type 0 where
@@ -59,6 +65,9 @@ pub record KeepHistories (rules : Rules) (SameState : List Event → List Event 
   pub exchanged : (history other : List Event) → IsExchanged depends history other → IsTrue (rules.valid history)
       → IsTrue (rules.valid other)
   pub same_state : (history other : List Event) → IsExchanged depends history other → SameState other history
+  -- histories that reach one state are equal up to exchange, and what is shown is of the state alone
+  pub exchanges : (history other : List Event) → IsTrue (rules.valid history) → SameState history other → IsExchanged depends history other
+  pub shown : (history other : List Event) → SameState history other → ShowTheSame rules history other
   -- each event of a valid history is the one of its name, and no event depends on a loss
   pub named : (history : List Event) → IsTrue (rules.valid history) → (at : ℕ) (event : Event) → nth history at ≡ Some event
       → IsEventNamed setup.processes history (event_name event) at event

@@ -71,25 +71,27 @@ at_most count most not_more = omega arith
 fits : (json : List ℕ) (refused : NoMemory) → (longest < length json → setup.NoMemory refused ≡ setup.TooLong) → length json ≤ longest
 fits json refused long = at_most (length json) longest (λ more. cc (long more))
 
-module _ (rules : Parts → Rules) (prompt json : List ℕ) where
-  pub setup_failed : (why : SetupFault) → (let read : Result (Unit {0}) SetupFault = Err why in IfFault read (λ first. IsFirstFault first json)) → (longest < length json → why ≡ setup.TooLong)
-      → table.HasDebugged rules prompt json {A = Unit {0}} (Err (of_setup why)) []
-  setup_failed setup.NotJson is long = (is (λ e. cc), refl)
-  setup_failed setup.NotObject is long = (is (λ e. cc), refl)
-  setup_failed setup.UnknownKey is long = (is (λ e. cc), refl)
-  setup_failed (setup.Missing key) is long = (is (λ e. cc), refl)
-  setup_failed setup.BadAlgorithm is long = (is (λ e. cc), refl)
-  setup_failed setup.BadCount is long = (is (λ e. cc), refl)
-  setup_failed setup.BadQuorum is long = (is (λ e. cc), refl)
-  setup_failed (setup.BadInput position) is long = (is (λ e. cc), refl)
-  setup_failed (setup.BadOracle process position) is long = (is (λ e. cc), refl)
-  setup_failed setup.TooLong is long = (is (λ e. cc), refl)
-  setup_failed setup.BadVersion is long = (is (λ e. cc), refl)
-  setup_failed (setup.NoMemory refused) is long = inl (fits json refused long, refl)
+pub setup_failed : (json : List ℕ) (why : SetupFault) → (let read : Result (Unit {0}) SetupFault = Err why in IfFault read (λ first. IsFirstFault first json)) → (longest < length json → why ≡ setup.TooLong)
+    → table.IsFaultOfBeginning json (of_setup why)
+setup_failed json setup.NotJson is long = is (λ e. cc)
+setup_failed json setup.NotObject is long = is (λ e. cc)
+setup_failed json setup.UnknownKey is long = is (λ e. cc)
+setup_failed json (setup.Missing key) is long = is (λ e. cc)
+setup_failed json setup.BadAlgorithm is long = is (λ e. cc)
+setup_failed json setup.BadCount is long = is (λ e. cc)
+setup_failed json setup.BadQuorum is long = is (λ e. cc)
+setup_failed json (setup.BadInput position) is long = is (λ e. cc)
+setup_failed json (setup.BadOracle process position) is long = is (λ e. cc)
+setup_failed json setup.TooLong is long = is (λ e. cc)
+setup_failed json setup.BadVersion is long = is (λ e. cc)
+setup_failed json (setup.NoMemory refused) is long = fits json refused long
 
-  -- there is no memory for a control
-  pub no_control : (given : Parts) → Encodes json given → (refused : NoMemory) → table.HasDebugged rules prompt json {A = Unit {0}} (Err (fault.NoMemory refused)) []
-  no_control given encodes refused = inl (encodes.0, refl)
+module _ (rules : Parts → Rules) (prompt json : List ℕ) where
+  -- there is no control
+  pub not_begun : (fault : PlayFault) → table.IsFaultOfBeginning json fault → table.HasDebugged rules prompt json {A = Unit {0}} (Err fault) []
+  not_begun (fault.Setup why) is = (is, refl)
+  not_begun (fault.NoMemory refused) is = inl (is, refl)
+  not_begun other is = absurd is
 
   on_setup : (given : Parts) → Encodes json given → (returned : Result (Unit {0}) PlayFault) (moves : List Move) → table.IsSession (greeting_at prompt (greeting_text given)) prompt (begun rules given) returned moves → table.HasDebugged rules prompt json returned moves
   on_setup given encodes (Ok done) moves s = (given, encodes, s)

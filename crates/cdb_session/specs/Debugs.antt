@@ -1,5 +1,6 @@
 -- A session with nine seats on a setup in JSON.
 use Rattle.std.specs.Prelude.{◌≡◌, ◌⊎◌, ℕ, ◌≤◌, List, [], ◌++◌, length, Result, Err}
+use Rattle.cdb_control.specs.Journal.{Journaled, opened}
 use Rattle.cdb_rules.specs.Rules.{Rules}
 use Rattle.cdb_setup.specs.Format.{Encodes, longest}
 use Rattle.cdb_setup.specs.Order.{IsFirstFault}
@@ -9,8 +10,20 @@ use Rattle.cdb_streams.specs.declared.fault.PlayFault.{PlayFault}
 use Rattle.cdb_streams.specs.declared.fault.PlayFault.TheVariants as fault
 use Rattle.cdb_session.specs.Greetings.{greeting_at, greeting_text}
 use Rattle.cdb_session.specs.Moves.{Known, Move, read_in, written_in, Makes}
+use Rattle.cdb_session.specs.Requests.{most_seats}
 use Rattle.cdb_session.specs.Sessions.{IsSessionBy}
 use Rattle.cdb_session.specs.Table.{Session, begun, IsDialogue}
+
+-- the control is of the setup that the text of JSON encodes, nothing has happened in it, and this is the setup in words
+abbrev pub IsBegun : List ℕ → Journaled → List ℕ → Type 0
+IsBegun json control greeting =
+    (setup : Parts) × Encodes json setup × (control ≡ opened setup most_seats) × (greeting ≡ greeting_text setup)
+
+-- Why there is no control: the setup's first fault, or memory is out, but not in place of a setup that is too long
+abbrev pub IsFaultOfBeginning : List ℕ → PlayFault → Type 0
+IsFaultOfBeginning json (fault.Setup why) = IsFirstFault why json
+IsFaultOfBeginning json (fault.NoMemory refused) = length json ≤ longest
+IsFaultOfBeginning json other = ⊥
 
 module _ (greeting prompt : List ℕ) (start : Session) where
   -- the first of the lines have their responses in full, and the others not at all

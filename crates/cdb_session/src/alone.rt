@@ -1,8 +1,8 @@
 //! A session over a control of its own, at a prompt or behind a pipe.
 
-ghost use Rattle.std.specs.Prelude.{◌≡◌, IfOk};
+ghost use Rattle.std.specs.Prelude.{◌≡◌, IfOk, IfErr};
 ghost use Rattle.cdb_control.specs.Journal.{opened};
-ghost use Rattle.cdb_session.specs.Debugs.{Debugs};
+ghost use Rattle.cdb_session.specs.Debugs.{Debugs, IsBegun, IsFaultOfBeginning};
 ghost use Rattle.cdb_session.specs.Requests.{most_seats};
 
 use crate::caller::Caller;
@@ -46,6 +46,20 @@ fn open<R: Runs>(alloc: Global, setup: Setup) -> Result<Control<R>, NoMemory>
     }
 }
 
+/// A control of the setup of this text, in which nothing has happened, with nine seats, and the setup in words.
+///
+/// # Errors
+/// `Setup` with the setup's first fault, and `NoMemory` where an allocation fails.
+pub fn begin<R: Runs>(alloc: Global, setup: &[u8]) -> Result<(Control<R>, Vec<u8>), PlayFault>
+    ensures begun { IfOk result (λ begun. IsBegun setup.now begun.0 begun.1.items) }
+    ensures fault { IfErr result (IsFaultOfBeginning setup.now) }
+{
+    let setup = Setup::read(alloc, setup)?;
+    let greeting = greeting_text(alloc, &setup)?;
+    let control = open::<R>(alloc, setup)?;
+    Ok((control, greeting))
+}
+
 /// A session on a run of the setup, in which each line has its response before more input is asked for: a command of
 /// the seat that the session is at, `help`, `seat S`, or `quit`, which ends it; a line that is none of these has its
 /// fault. The prompt is shown before each line, and the setup in words before the first prompt; where the prompt has no
@@ -70,9 +84,8 @@ pub fn debug<R: Runs, T: Console>(
 ) -> Result<(), PlayFault>
     ensures { Debugs R.rules prompt.now setup.now result (T.known console.old) (T.known console.new) }
 {
-    let setup = Setup::read(alloc, setup)?;
-    let greeting = greeting_text(alloc, &setup)?;
-    let control = open::<R>(alloc, setup)?;
+    let begun = begin::<R>(alloc, setup)?;
+    let (control, greeting) = begun;
     let style = Style {
         greeting: greeting_at(greeting.as_slice(), prompt),
         prompt,

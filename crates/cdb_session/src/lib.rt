@@ -24,7 +24,7 @@ mod topic;
 mod typed;
 mod unfinished;
 
-pub use alone::debug;
+pub use alone::{begin, debug};
 pub use caller::Caller;
 pub use console::{Console, write_all};
 pub use greeting::{greeting_at, greeting_text};

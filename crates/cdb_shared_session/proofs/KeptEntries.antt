@@ -1,13 +1,14 @@
 -- What a file has of a journal, piece by piece.
 use Rattle.std.proofs.lemmas.Grind.{common_steps, flat_map-append}
 use Rattle.std.proofs.lemmas.Option.{gets}
-use Rattle.std.proofs.Common.{◌≡◌, ℕ, zero, suc, ◌-◌, ◌≤◌, List, [], ◌∷◌, ◌++◌, length, take, drop, refl, sym, ap, subst, ◌∙◌, arith, length-append, take-append-drop}
+use Rattle.std.proofs.Common.{◌≡◌, ℕ, zero, suc, ◌-◌, ◌≤◌, List, [], ◌∷◌, ◌++◌, length, take, drop, refl, sym, ap, subst, ◌∙◌, arith, length-append, take-append-drop, append-nil}
+use Rattle.std.proofs.lemmas.List.{take_all}
 use Rattle.std.proofs.KnownBytes.{Appends-nil}
 use Rattle.std.specs.Prelude.{Option, Some, None, option_map, IfSome, IfOk, Result, Ok, Err}
 use Rattle.cdb_control.specs.Journal.{Begins}
 use Rattle.cdb_control.specs.declared.control.Entry.{Entry}
 use Rattle.cdb_journal.specs.Journals.{entry_line, journal_text}
-use Rattle.cdb_streams.specs.Endings.{whole_ending}
+use Rattle.cdb_streams.specs.Endings.{whole_ending, Complete, WriterFailed}
 use Rattle.cdb_streams.specs.Streams.{Stream, Takes, Fails}
 use Rattle.cdb_streams.specs.Written.{IsWritten, Only}
 use Rattle.cdb_streams.specs.declared.buffer.OutputFault.{OutputFault}
@@ -113,6 +114,31 @@ module _ {J : Type 0} (stream : J → Stream) where
       by (Err (output.NoMemory refused)) same =
           (take count seen, drop count journal, split, subst (λ (j : J). Takes stream old j (journal_text (take count seen))) (sym same) first.2)
 
+  -- what was kept of a journal, of a longer one
+  pub keeps_longer : (old new : J) (r : Result ℕ Failed) (seen more : List Entry) → Keeps stream old new 0 r seen → Begins seen more → Keeps stream old new 0 r more
+  keeps_longer old new (Ok n) seen more (low, high, taken) begins =
+      let same : take n more ≡ take n seen = ap (λ (l : List Entry). take n l) begins.1 ∙ front seen begins.0 0 n high in (
+        low,
+        omega (arith, high, ap length begins.1 ∙ length-append seen begins.0),
+        subst (λ (l : List Entry). Takes stream old new (journal_text l)) (sym same) taken,
+      )
+  keeps_longer old new (Err failed) seen more broken begins =
+      subst (λ t. Fails stream old new t) (sym (ap journal_text begins.1 ∙ texts seen begins.0)) (fails_first stream old new (journal_text seen) (journal_text begins.0) broken)
+
+  -- what the file lacked was added
+  pub kept_more : (old file new : J) (count : ℕ) (journal : List Entry) → Keeps stream old file 0 (Ok count) journal
+      → IsWritten stream Complete file new (Only (journal_text (drop count journal))) → Keeps stream old new 0 (Ok (length journal)) journal
+  kept_more old file new count journal first (text, is, taken) =
+      let all : take (length journal) journal ≡ journal = take_all (length journal) journal (omega arith) in
+      keeps_then old file new 0 count (Ok (length journal)) journal journal first ([], sym (append-nil journal))
+      (first.1, omega arith, subst (λ (l : List Entry). Takes stream file new (journal_text (drop count l))) (sym all) (subst (λ t. Takes stream file new t) is taken))
+
+  -- or a beginning of it
+  pub kept_broken : (old file new : J) (count : ℕ) (failed : Failed) (journal : List Entry) → Keeps stream old file 0 (Ok count) journal
+      → IsWritten stream WriterFailed file new (Only (journal_text (drop count journal))) → Keeps stream old new 0 (Err failed) journal
+  kept_broken old file new count failed journal first (text, is, broken) =
+      keeps_then old file new 0 count (Err failed) journal journal first ([], sym (append-nil journal)) (subst (λ t. Fails stream file new t) is broken)
+
   -- the writing had failed
   pub kept_failed : (old file : J) (failed : Failed) (seen journal : List Entry) → Begins seen journal → Keeps stream old file 0 (Err failed) seen → IsKept stream (Err output.Write) old file journal
   kept_failed old file failed seen journal begins first =
@@ -134,7 +160,7 @@ module _ {J : Type 0} (stream : J → Stream) where
   abbrev pub seen_kept : Kept J → Kept Stream
   seen_kept kept = record { file = stream kept.file; outcome = kept.outcome }
 
-  seen_is : (r : Result (Unit {0}) OutputFault) (old new : J) (journal : List Entry) → IsKept stream r old new journal → IsKept (λ (s : Stream). s) r (stream old) (stream new) journal
+  pub seen_is : (r : Result (Unit {0}) OutputFault) (old new : J) (journal : List Entry) → IsKept stream r old new journal → IsKept (λ (s : Stream). s) r (stream old) (stream new) journal
   seen_is (Ok done) old new journal kept = kept
   seen_is (Err output.Write) old new journal kept = kept
   seen_is (Err (output.NoMemory refused)) old new journal kept = kept

@@ -1,6 +1,7 @@
 pub mod FinalJournal
 pub mod Promised
 pub mod KeptEntries
+pub mod KeptCalls
 pub mod SetupFaults
 pub mod AllSeats
 pub mod Ended

@@ -3,6 +3,7 @@ pub mod Openings
 pub mod SeatParts
 pub mod SharedSessions
 pub mod Keeping
+pub mod KeptAlone
 pub mod Reports
 pub mod Reported
 pub mod Faults

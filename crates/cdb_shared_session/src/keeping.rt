@@ -125,7 +125,7 @@ pub(crate) fn keep<R: Runs, J: Sink + Drop, Rt: Wait + Clock>(
 }
 
 /// Adds what the file lacks of the journal.
-fn keep_rest<J: Sink + Drop>(
+pub(crate) fn keep_rest<J: Sink + Drop>(
     alloc: Global,
     journal: &[Entry],
     mut file: J,

@@ -8,6 +8,7 @@
 //! ```
 #![tactic(auto)]
 
+mod alone;
 mod endpoint;
 mod keeping;
 mod reports;
@@ -15,8 +16,9 @@ mod seat;
 mod shared;
 mod threads;
 
+pub use alone::debug_kept;
 pub use endpoint::{Endpoint, Finished, Opener};
 pub use keeping::Kept;
-pub use reports::{status_after, write_failures, write_journal};
+pub use reports::{status_after, write_failures, write_journal, write_kept_fault};
 pub use shared::debug_shared;
 pub use threads::{SessionsFault, debug_seats};

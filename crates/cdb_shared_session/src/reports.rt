@@ -95,8 +95,9 @@ fn write_journal_fault<W: Sink>(
     }
 }
 
-/// Writes the line of a file in which the journal was not kept, if it was not.
-fn write_kept_fault<W: Sink>(kept: &Result<(), OutputFault>, out: &mut W) -> Result<(), Failed>
+/// Writes the line of a file in which the journal was not kept, if it was not. Where the writer fails, what was written is a
+/// beginning of the line.
+pub fn write_kept_fault<W: Sink>(kept: &Result<(), OutputFault>, out: &mut W) -> Result<(), Failed>
     ensures { Writes W.stream result out.old out.new (kept_line kept.now) }
 {
     match kept {

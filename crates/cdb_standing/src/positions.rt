@@ -1,15 +1,17 @@
 //! Events by their positions, from 1, for whoever embeds the library: a run names its events. These calls list the whole
 //! history in order, which takes memory.
 
-ghost use Rattle.std.specs.Prelude.{◌≡◌, ℕ, ◌≤◌, length, map, IfOk, OnOk, OnErr, MatchOption, Some};
+ghost use Rattle.std.specs.Prelude.{◌≡◌, ℕ, ◌≤◌, List, length, map, IfOk, OnOk, OnErr, MatchOption, Some};
 ghost use Rattle.cdb_base.specs.Event.{event_name};
+ghost use Rattle.cdb_base.specs.declared.event.Event.{Event as AnEvent};
 ghost use Rattle.cdb_base.specs.Positions.{nth};
 ghost use Rattle.cdb_causal.specs.Causality.{IsFree};
 ghost use Rattle.cdb_causal.specs.Dependence.{depends as depends_of};
 ghost use Rattle.cdb_causal.specs.DirectCauses.{AreDirectCauses};
 ghost use Rattle.cdb_causal.specs.DirectDependents.{is_direct as is_direct_of, CountsDirectDependents};
 ghost use Rattle.cdb_causal.specs.Names.{IsNamedAt, IsNewName, IsPositionOf, IsFirstDependentOrFree};
-ghost use Rattle.cdb_causal.specs.Rollback.{without, consequences as consequences_of};
+ghost use Rattle.cdb_causal.specs.Laws.{AreConsequences};
+ghost use Rattle.cdb_causal.specs.Rollback.{without};
 ghost use Rattle.cdb_standing.specs.Moves.{IsFreeAlone};
 
 use crate::history::History;
@@ -133,11 +135,14 @@ pub fn first_dependent(
     Ok(history.first_dependent(name))
 }
 
-/// The names of the consequences of the event at a position, from 1 to the number of events, in order.
+/// The names of the consequences of the event at a position, from 1 to the number of events, in order: of the least set of
+/// later events each of which depends on that event or on one of them.
 pub fn consequences(alloc: Global, history: &History, at: usize) -> Result<Vec<StepId>, NoMemory>
     requires from_one { 1 ≤ at }
     requires to_len { at ≤ length history.now }
-    ensures { IfOk result (λ names. names.items ≡ map event_name (consequences_of depends_of history.now at)) }
+    ensures { IfOk result (λ names. (events : List AnEvent)
+        × AreConsequences depends_of history.now at events
+        × (names.items ≡ map event_name events)) }
 {
     let name = name_at(alloc, history, at)?;
     let rolled_back = history.rolled_back(alloc, name)?;

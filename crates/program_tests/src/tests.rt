@@ -1,7 +1,8 @@
 //! Requests over files and streams in memory, each call of which fails in turn.
 
 ghost use Rattle.std.specs.Prelude.{IsTrue};
-ghost use Rattle.cdb_program.specs.Requests.{HasTurns};
+ghost use Rattle.cdb_base.specs.Requests.{asked_for};
+ghost use Rattle.cdb_program.specs.Requests.{HasTurns, MayPerform};
 
 mod failures;
 mod files;
@@ -11,7 +12,8 @@ mod reading;
 mod several_seats;
 mod streams;
 
-use cdb_program::{MAX_TURNS, Outside, Request, perform};
+use cdb_base::Request;
+use cdb_program::{Action, MAX_TURNS, Outside, perform};
 use cdb_session::Streams;
 use files::Folder;
 use std::process::Abort;
@@ -49,24 +51,41 @@ struct Ended {
     failures: u64,
 }
 
-/// Whether a race has no more turns than it may have, and sessions have a seat.
-fn has_turns(request: Request<'_>) -> bool
-    ensures { IsTrue result → HasTurns request.entry }
+/// Whether a race has no more turns than it may have.
+fn has_turns(request: &Request<'_>) -> bool
+    ensures { IsTrue result → HasTurns (asked_for request.now) }
 {
     match request {
-        Request::Race { turns, .. } => turns <= MAX_TURNS,
-        Request::DebugShared { seats, .. } => !seats.is_empty(),
+        Request::Race { turns, .. } => *turns <= MAX_TURNS,
         _ => true,
     }
 }
 
-/// Performs a request over the files of the tests and standard input, with this many good calls.
+/// Whether the action may be performed.
+fn may_perform(action: Action<'_>) -> bool
+    ensures { IsTrue result → MayPerform action.entry }
+{
+    match action {
+        Action::Perform { request, .. } => has_turns(request),
+        _ => true,
+    }
+}
+
+/// The action that performs a request.
+fn action<'a>(request: &'a Request<'a>) -> Action<'a> {
+    Action::Perform {
+        request,
+        prompt: "> ",
+    }
+}
+
+/// Performs an action over the files of the tests and standard input, with this many good calls.
 fn performed<R: Threads + Wait + Clock + Sync + Abort + AllocGlobal>(
     rt: &R,
-    request: Request<'_>,
+    action: Action<'_>,
     good: GoodCalls,
 ) -> Ended {
-    assert!(rt; has_turns(request));
+    assert!(rt; may_perform(action));
     let alloc = rt.alloc();
     let mut outside = Outside {
         files: Folder::new(alloc, good.files),
@@ -76,7 +95,7 @@ fn performed<R: Threads + Wait + Clock + Sync + Abort + AllocGlobal>(
         ),
         error: Writer::new(alloc, good.error),
     };
-    let status = perform(rt, alloc, request, &mut outside);
+    let status = perform(rt, alloc, action, &mut outside);
     let Outside {
         files,
         streams,

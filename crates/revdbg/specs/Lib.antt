@@ -2,4 +2,4 @@
 pub mod Requested
 pub mod System
 -- ---- what the code keeps for itself
-pub mod RequestFor
+pub mod ActionFor

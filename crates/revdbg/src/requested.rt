@@ -1,26 +1,24 @@
-//! The request for what the arguments ask for.
+//! The action for what the arguments ask for.
 
-ghost use Rattle.std.specs.Prelude.{◌≡◌, List, Option, Err, IfErr, IfOk, IsOk, OnOk, map, string_bytes};
+ghost use Rattle.std.specs.Prelude.{◌≡◌, Err, IfErr, IfOk, IsOk, OnOk, map, string_bytes};
 ghost use Rattle.std.specs.IoError.{error_kind};
-ghost use Rattle.clap.specs.Words.{Kinds, Row, Text};
-ghost use Rattle.cdb_arguments.specs.Asking.{IsOfKinds, NamesAsked, any_text, texts};
-ghost use Rattle.cdb_program.specs.Requests.{HasTurns};
+ghost use Rattle.clap.specs.Words.{Kinds};
+ghost use Rattle.cdb_arguments.specs.Asking.{IsOfKinds};
 ghost use Rattle.cdb_base.specs.Memory.{no_memory};
-ghost use Rattle.revdbg.specs.RequestFor.{IsRequestFor, Makes};
-ghost use Rattle.revdbg.specs.Requested.{IsAskedBy, IsDebugRequest, IsOutOfMemory, IsRefusal, IsRequestOf, IsUnread, OrOutOfMemory, unread_of};
+ghost use Rattle.cdb_base.specs.Requests.{asked_for, texts};
+ghost use Rattle.cdb_program.specs.Requests.{HasTurns, MayPerform};
+ghost use Rattle.revdbg.specs.ActionFor.{IsActionFor, Makes};
+ghost use Rattle.revdbg.specs.Requested.{IsAskedBy, IsOutOfMemory, IsRefusal, IsUnread, OrOutOfMemory, unread_of};
 
-use cdb_arguments::{AskFault, Asked, ask_status, asked};
-use cdb_base::NoMemory;
-use cdb_program::{Fault, Request};
+use cdb_arguments::{AskFault, ask_status, asked};
+use cdb_base::{NoMemory, Request};
+use cdb_program::{Action, Fault};
 use cdb_streams::PlayFault;
 use std::alloc::{AllocError, Global};
 use std::io;
 
 /// What is reported where an argument is no text.
 const NOT_UTF8: &str = "an argument is not valid UTF-8\n";
-
-/// What is reported where a journal is to be kept of a session without seats.
-const NO_SEAT: &str = "--journal needs a SEAT\n";
 
 /// Why the arguments could not be read.
 #[derive(Clone, Copy)]
@@ -49,129 +47,46 @@ pub enum ArgsError {
     Refused(AskFault, String),
 }
 
-/// The request to report that an allocation failed.
-fn out_of_memory(refused: NoMemory) -> Request<'static>
+/// The report that an allocation failed.
+fn out_of_memory(refused: NoMemory) -> Action<'static>
     ensures memory { IsOutOfMemory result }
-    ensures turns { HasTurns result }
+    ensures turns { MayPerform result }
 {
-    Request::Refuse(Fault::Play(PlayFault::NoMemory(refused), ""))
+    Action::Refuse(Fault::Play(PlayFault::NoMemory(refused), ""))
 }
 
-/// The request for sessions of these seats, or for one without seats, which has this prompt and keeps no journal.
-fn debug_of<'a>(
-    setup: &'a str,
-    seats: &'a [&'a str],
-    file: Option<&'a str>,
-    prompt: &'a str,
-) -> Request<'a>
-    ensures request { IsDebugRequest prompt.now setup.now (texts seats.now) (any_text file.entry) result }
-    ensures turns { HasTurns result }
-{
-    if !seats.is_empty() {
-        return Request::DebugShared { setup, seats, file };
-    }
-    match file {
-        Some(_) => Request::Refuse(Fault::Refused(NO_SEAT)),
-        None => Request::Debug { setup, prompt },
-    }
-}
-
-/// The request for what was asked for, where sessions have this prompt.
-fn request_of<'a>(asked: &'a Asked<'a>, prompt: &'a str) -> Request<'a>
-    ensures request { IsRequestOf prompt.now asked.now result }
-    ensures turns { (found : Option (Text × List Row)) → NamesAsked found asked.now →
-        HasTurns result }
-{
-    match asked {
-        Asked::Script => Request::Script,
-        Asked::Play { setup, script } => Request::Play { setup, script },
-        Asked::Race {
-            setup,
-            turns,
-            scripts,
-        } => Request::Race {
-            setup,
-            turns: *turns,
-            scripts: scripts.as_slice(),
-        },
-        Asked::Ask {
-            setup,
-            script,
-            question,
-        } => Request::Ask {
-            setup,
-            script,
-            question: *question,
-        },
-        Asked::Replay { setup, journal } => Request::Replay { setup, journal },
-        Asked::Search {
-            setup,
-            goal,
-            seed,
-            walks,
-        } => Request::Search {
-            setup,
-            goal,
-            seed: *seed,
-            walks: *walks,
-        },
-        Asked::Shrink {
-            setup,
-            script,
-            goal,
-        } => Request::Shrink {
-            setup,
-            script,
-            goal,
-        },
-        Asked::Same {
-            setup,
-            first,
-            second,
-        } => Request::Same {
-            setup,
-            first,
-            second,
-        },
-        Asked::Clocks { setup, script } => Request::Clocks { setup, script },
-        Asked::Page { setup, script } => Request::Page { setup, script },
-        Asked::Debug { setup, seats, file } => debug_of(setup, seats.as_slice(), *file, prompt),
-    }
-}
-
-/// The request to print help or the version, or to report what is wrong with the arguments, where this is the text.
-fn refusal_of<'a>(fault: &AskFault, text: &'a str) -> Request<'a>
+/// To print help or the version, or to report what is wrong with the arguments, where this is the text.
+fn refusal_of<'a>(fault: &AskFault, text: &'a str) -> Action<'a>
     ensures refusal { (kinds : Kinds) → IsOfKinds kinds fault.now →
         OrOutOfMemory (IsRefusal kinds) result }
-    ensures turns { HasTurns result }
+    ensures turns { MayPerform result }
 {
     match fault {
         AskFault::NoMemory(refused) => out_of_memory(*refused),
-        AskFault::Words(_) if ask_status(fault) == 0 => Request::Print(text),
-        AskFault::Words(_) => Request::Refuse(Fault::Refused(text)),
+        AskFault::Words(_) if ask_status(fault) == 0 => Action::Print(text),
+        AskFault::Words(_) => Action::Refuse(Fault::Refused(text)),
     }
 }
 
-/// The request where the arguments could not be read, for this reason.
-fn report_unread(reason: Unread) -> Request<'static>
+/// The report that the arguments could not be read, for this reason.
+fn report_unread(reason: Unread) -> Action<'static>
     ensures unread { IsUnread reason result }
-    ensures turns { HasTurns result }
+    ensures turns { MayPerform result }
 {
     match reason {
         Unread::NoMemory(refused) => out_of_memory(refused),
-        Unread::NotUtf8 => Request::Refuse(Fault::Refused(NOT_UTF8)),
+        Unread::NotUtf8 => Action::Refuse(Fault::Refused(NOT_UTF8)),
     }
 }
 
-/// The request for what the arguments were found to ask for, where sessions have this prompt.
-pub fn request_for<'a>(asked: &'a Result<Asked<'a>, ArgsError>, prompt: &'a str) -> Request<'a>
-    requires { IfOk asked.now
-        (λ asked. (found : Option (Text × List Row)) × NamesAsked found asked) }
-    ensures request { IsRequestFor prompt.now asked.now result }
-    ensures turns { HasTurns result }
+/// The action for what the arguments were found to ask for, where a session here has this prompt.
+pub fn action_for<'a>(asked: &'a Result<Request<'a>, ArgsError>, prompt: &'a str) -> Action<'a>
+    requires { IfOk asked.now (λ request. HasTurns (asked_for request)) }
+    ensures action { IsActionFor prompt.now asked.now result }
+    ensures turns { MayPerform result }
 {
     match asked {
-        Ok(asked) => request_of(asked, prompt),
+        Ok(request) => Action::Perform { request, prompt },
         Err(ArgsError::Unread(reason)) => report_unread(*reason),
         Err(ArgsError::Refused(fault, text)) => refusal_of(fault, text.as_str()),
     }
@@ -239,11 +154,10 @@ fn refused(alloc: Global, fault: AskFault) -> ArgsError
 pub fn asked_in<'a>(
     alloc: Global,
     read: &'a Result<Vec<&'a str>, Unread>,
-) -> Result<Asked<'a>, ArgsError>
+) -> Result<Request<'a>, ArgsError>
     ensures asked { IfOk read.entry.now (λ found. Makes result
         (λ prompt. IsAskedBy prompt (texts found.items))) }
-    ensures named { IfOk result
-        (λ asked. (found : Option (Text × List Row)) × NamesAsked found asked) }
+    ensures turns { IfOk result (λ request. HasTurns (asked_for request)) }
     ensures unread { IfErr read.entry.now (λ reason. result ≡ Err (ArgsError.Unread reason)) }
 {
     match read {

@@ -2,10 +2,10 @@
 
 ghost use Rattle.std.specs.Prelude.{IfErr, IfOk, map, string_bytes};
 ghost use Rattle.std.specs.IoError.{error_kind};
-ghost use Rattle.cdb_arguments.specs.Asking.{texts};
+ghost use Rattle.cdb_base.specs.Requests.{texts};
 ghost use Rattle.revdbg.specs.Requested.{IsAskedBy, IsUnread, PerformsOne, unread_of};
 
-use crate::requested::{Unread, asked_in, request_for, texts_of};
+use crate::requested::{Unread, action_for, asked_in, texts_of};
 use cdb_program::{Files, Outside, perform};
 use cdb_streams::{Sink, Source};
 use std::alloc::Global;
@@ -34,7 +34,7 @@ fn run<
         (IsUnread reason) outside.old outside.new result) }
 {
     let asked = asked_in(alloc, read);
-    perform(threads, alloc, request_for(&asked, prompt), outside)
+    perform(threads, alloc, action_for(&asked, prompt), outside)
 }
 
 /// Performs what the arguments ask for, as they were read from the system, or reports that they could not be read; and

@@ -3,6 +3,7 @@
 ghost use Rattle.std.specs.Prelude.{◌≡◌, ◌↔◌, IsOk, IfOk};
 ghost use Rattle.std.specs.Result.{result_err};
 ghost use Rattle.cdb_rules.specs.EventRefs.{name_given};
+ghost use Rattle.cdb_rules.specs.Refusals.{IsOfRun};
 ghost use Rattle.cdb_rules.specs.Runs.{step_name, loss_name, CanUndo, LeadsTo, result_of_undo, after_undo};
 ghost use Rattle.cdb_run.specs.Found.{IsNameGiven, IsFound, IsFoundFree};
 ghost use Rattle.cdb_standing.specs.Moves.{IsTakenOut};
@@ -108,12 +109,13 @@ impl<P: Process> Run<P> {
 
     /// Undoes an event, whatever came later in time, or returns the first refusal that holds: `NoProcess`, `NoStep`,
     /// or `NeededBy` the first standing event that depends on it. After a refusal the run is as it was. It takes no
-    /// memory.
+    /// memory. What it returns may be given to `again`.
     pub fn undo_event(&mut self, event: EventRef) -> Result<Event, Refusal>
         ensures returns { result ≡ result_of_undo self.old (name_given event) }
         ensures after { self.new ≡ after_undo self.old (name_given event) }
         ensures free { IsOk result ↔ CanUndo self.old (name_given event) }
         ensures back { IfOk result (λ event. LeadsTo P.table self.new event self.old) }
+        ensures of_run { IfOk result (IsOfRun self.old.setup) }
     {
         let _ranges = self.setup().n();
         let _valid = self.history();
@@ -139,6 +141,7 @@ impl<P: Process> Run<P> {
         ensures after { self.new ≡ after_undo self.old (step_name p k) }
         ensures free { IsOk result ↔ CanUndo self.old (step_name p k) }
         ensures back { IfOk result (λ event. LeadsTo P.table self.new event self.old) }
+        ensures of_run { IfOk result (IsOfRun self.old.setup) }
     {
         self.undo_event(EventRef::Step(p, k))
     }
@@ -149,6 +152,7 @@ impl<P: Process> Run<P> {
         ensures after { self.new ≡ after_undo self.old (loss_name s m p) }
         ensures free { IsOk result ↔ CanUndo self.old (loss_name s m p) }
         ensures back { IfOk result (λ event. LeadsTo P.table self.new event self.old) }
+        ensures of_run { IfOk result (IsOfRun self.old.setup) }
     {
         self.undo_event(EventRef::Lost(s, m, p))
     }

@@ -1,8 +1,9 @@
 //! Each read and each write fails in turn.
 
-use super::{ALL_GOOD, Ended, GoodCalls, performed};
-use cdb_base::{Question, StepAsked};
-use cdb_program::{Fault, Request};
+use super::{ALL_GOOD, Ended, GoodCalls, action, performed};
+use cdb_base::{Question, Request, StepAsked};
+use cdb_program::{Action, Fault};
+use std::alloc::{AllocError, Global};
 use std::process::Abort;
 use std::sync::Wait;
 use std::test::Fail;
@@ -12,12 +13,6 @@ use std::time::Clock;
 const PLAY: Request<'static> = Request::Play {
     setup: "one.json",
     script: "eight.txt",
-};
-
-const RACE: Request<'static> = Request::Race {
-    setup: "two.json",
-    turns: 0,
-    scripts: &["undo.txt", "redo.txt"],
 };
 
 const STEP: StepAsked = StepAsked { p: 1, k: Some(2) };
@@ -69,10 +64,23 @@ const SHRINK: Request<'static> = Request::Shrink {
     goal: "decides:1:7",
 };
 
-const DEBUG: Request<'static> = Request::Debug {
-    setup: "one.json",
-    prompt: "> ",
-};
+/// A race of these scripts on the run of this setup.
+fn race<'a>(alloc: Global, setup: &'a str, scripts: &[&'a str]) -> Result<Request<'a>, AllocError> {
+    Ok(Request::Race {
+        setup,
+        turns: 0,
+        scripts: Vec::from_slice(alloc, scripts)?,
+    })
+}
+
+/// A session at the prompt.
+fn debug<'a>(alloc: Global) -> Request<'a> {
+    Request::Debug {
+        setup: "one.json",
+        seats: Vec::new(alloc),
+        journal: None,
+    }
+}
 
 /// Compares how a request ended of which one call failed.
 fn check<R: Abort>(rt: &R, ended: &Ended, status: u8, error: &str) {
@@ -81,10 +89,10 @@ fn check<R: Abort>(rt: &R, ended: &Ended, status: u8, error: &str) {
     assert_eq!(rt; ended.failures, 1);
 }
 
-/// Performs a request of which the write behind this many good ones fails, after which this many bytes are written.
+/// Performs an action of which the write behind this many good ones fails, after which this many bytes are written.
 fn check_write<R: Threads + Wait + Clock + Sync + Abort + AllocGlobal>(
     rt: &R,
-    request: Request<'_>,
+    action: Action<'_>,
     whole: &[u8],
     good: usize,
     length: usize,
@@ -93,19 +101,33 @@ fn check_write<R: Threads + Wait + Clock + Sync + Abort + AllocGlobal>(
         output: good,
         ..ALL_GOOD
     };
-    let ended = performed(rt, request, calls);
+    let ended = performed(rt, action, calls);
     check(rt, &ended, 7, "output failed\n");
     assert_eq!(rt; ended.output.len(), length);
     assert!(rt; whole.starts_with(ended.output.as_slice()));
 }
 
+/// Performs an action whose text has this length, in which each write of the output fails in turn.
+fn check_writes<R: Threads + Wait + Clock + Sync + Abort + AllocGlobal>(
+    rt: &R,
+    action: Action<'_>,
+    length: usize,
+) {
+    let whole = performed(rt, action, ALL_GOOD);
+    assert_eq!(rt; (whole.status, whole.output.len()), (0, length));
+    // A call takes five bytes.
+    for good in 0..length.div_ceil(5) {
+        check_write(rt, action, whole.output.as_slice(), good, 5 * good);
+    }
+}
+
 #[test]
-fn each_write_of_output_fails_in_turn(rt: HostRuntime) {
+fn each_write_of_output_fails_in_turn(rt: HostRuntime) -> Result<(), Fail> {
     // Each with the length of its text.
     let requests = [
         (Request::Script, 37),
         (PLAY, 107),
-        (RACE, 90),
+        (race(rt.alloc(), "two.json", &["undo.txt", "redo.txt"])?, 90),
         (EXPLAIN, 90),
         (TRAIL, 86),
         (DRAW, 4_738),
@@ -114,16 +136,12 @@ fn each_write_of_output_fails_in_turn(rt: HostRuntime) {
         (REPLAY, 35),
         (SEARCH, 15),
         (SHRINK, 97),
-        (Request::Print("help\n"), 5),
     ];
     for (request, length) in &requests {
-        let whole = performed(&rt, *request, ALL_GOOD);
-        assert_eq!(rt; (whole.status, whole.output.len()), (0, *length));
-        // A call takes five bytes.
-        for good in 0..length.div_ceil(5) {
-            check_write(&rt, *request, whole.output.as_slice(), good, 5 * good);
-        }
+        check_writes(&rt, action(request), *length);
     }
+    check_writes(&rt, Action::Print("help\n"), 5);
+    Ok(())
 }
 
 #[test]
@@ -132,14 +150,15 @@ fn each_write_of_a_session_fails_in_turn(rt: HostRuntime) {
     // prompt.
     let (calls, greeting) = (18, 86);
     let written = [0, 2, 7, 12, 16, 21, 26, 31, 36, 41];
-    let whole = performed(&rt, DEBUG, ALL_GOOD);
+    let debug = debug(rt.alloc());
+    let whole = performed(&rt, action(&debug), ALL_GOOD);
     for good in 0..calls {
-        check_write(&rt, DEBUG, whole.output.as_slice(), good, 5 * good);
+        check_write(&rt, action(&debug), whole.output.as_slice(), good, 5 * good);
     }
     for (good, length) in written.iter().enumerate() {
         check_write(
             &rt,
-            DEBUG,
+            action(&debug),
             whole.output.as_slice(),
             calls + good,
             greeting + *length,
@@ -148,10 +167,10 @@ fn each_write_of_a_session_fails_in_turn(rt: HostRuntime) {
     assert_eq!(rt; (whole.status, whole.output.len()), (0, greeting + 43));
 }
 
-/// Performs a request with this many good writes of the error, which are all of them or not.
+/// Performs an action with this many good writes of the error, which are all of them or not.
 fn check_error<R: Threads + Wait + Clock + Sync + Abort + AllocGlobal>(
     rt: &R,
-    request: Request<'_>,
+    action: Action<'_>,
     whole: &Ended,
     good: usize,
     are_all: bool,
@@ -160,15 +179,27 @@ fn check_error<R: Threads + Wait + Clock + Sync + Abort + AllocGlobal>(
         error: good,
         ..ALL_GOOD
     };
-    let ended = performed(rt, request, calls);
+    let ended = performed(rt, action, calls);
     assert_eq!(rt; ended.status, whole.status);
     assert_eq!(rt; ended.output.len(), 0);
     assert!(rt; whole.error.as_slice().starts_with(ended.error.as_slice()));
     assert_eq!(rt; ended.error.len() == whole.error.len(), are_all);
 }
 
+/// Performs an action as often as there are writes of the error, with one more good one each time.
+fn check_errors<R: Threads + Wait + Clock + Sync + Abort + AllocGlobal>(
+    rt: &R,
+    action: Action<'_>,
+    writes: usize,
+) {
+    let whole = performed(rt, action, ALL_GOOD);
+    for good in 0..=writes {
+        check_error(rt, action, &whole, good, good == writes);
+    }
+}
+
 #[test]
-fn each_write_of_error_fails_in_turn(rt: HostRuntime) {
+fn each_write_of_error_fails_in_turn(rt: HostRuntime) -> Result<(), Fail> {
     // Each piece of a text is written for itself, 5 bytes a call.
     let requests = [
         (
@@ -181,11 +212,7 @@ fn each_write_of_error_fails_in_turn(rt: HostRuntime) {
         ),
         (
             // Pieces of 7, 1, 6, 1, 7, 1, 1, 6 and 1 bytes.
-            Request::Race {
-                setup: "one.json",
-                turns: 0,
-                scripts: &["redo.txt", "number.txt"],
-            },
+            race(rt.alloc(), "one.json", &["redo.txt", "number.txt"])?,
             13,
         ),
         (
@@ -198,57 +225,18 @@ fn each_write_of_error_fails_in_turn(rt: HostRuntime) {
             },
             6,
         ),
-        (Request::Refuse(Fault::Refused("what is wrong\n")), 3),
     ];
     for (request, writes) in &requests {
-        let whole = performed(&rt, *request, ALL_GOOD);
-        for good in 0..=*writes {
-            check_error(&rt, *request, &whole, good, good == *writes);
-        }
+        check_errors(&rt, action(request), *writes);
     }
+    check_errors(&rt, Action::Refuse(Fault::Refused("what is wrong\n")), 3);
+    Ok(())
 }
 
-/// What is reported where the first file of a request can't be read, and then where the next can't.
-const UNREAD: &[(Request<'static>, &'static [&'static str])] = &[
-    (PLAY, &["cannot read one.json\n", "cannot read eight.txt\n"]),
-    (
-        EXPLAIN,
-        &["cannot read one.json\n", "cannot read eight.txt\n"],
-    ),
-    (
-        TRAIL,
-        &["cannot read one.json\n", "cannot read eight.txt\n"],
-    ),
-    (DRAW, &["cannot read one.json\n", "cannot read eight.txt\n"]),
-    (
-        SLICE,
-        &["cannot read one.json\n", "cannot read eight.txt\n"],
-    ),
-    (PAGE, &["cannot read one.json\n", "cannot read eight.txt\n"]),
-    (
-        REPLAY,
-        &["cannot read one.json\n", "cannot read journal.txt\n"],
-    ),
-    (SEARCH, &["cannot read one.json\n"]),
-    (
-        SHRINK,
-        &["cannot read one.json\n", "cannot read eight.txt\n"],
-    ),
-    (DEBUG, &["cannot read one.json\n"]),
-    (
-        RACE,
-        &[
-            "cannot read two.json\n",
-            "cannot read undo.txt\n",
-            "cannot read redo.txt\n",
-        ],
-    ),
-];
-
-/// Performs a request of which the file behind this many good ones can't be read.
+/// Performs an action of which the file behind this many good ones can't be read.
 fn check_file<R: Threads + Wait + Clock + Sync + Abort + AllocGlobal>(
     rt: &R,
-    request: Request<'_>,
+    action: Action<'_>,
     good: usize,
     text: &str,
 ) {
@@ -256,30 +244,53 @@ fn check_file<R: Threads + Wait + Clock + Sync + Abort + AllocGlobal>(
         files: good,
         ..ALL_GOOD
     };
-    let ended = performed(rt, request, calls);
+    let ended = performed(rt, action, calls);
     check(rt, &ended, 3, text);
     assert_eq!(rt; ended.output.len(), 0);
     assert_eq!(rt; ended.opened.checked_sub(1), Some(good));
 }
 
-#[test]
-fn each_file_can_not_be_read_in_turn(rt: HostRuntime) {
-    for (request, texts) in UNREAD {
-        for (good, text) in texts.iter().enumerate() {
-            check_file(&rt, *request, good, text);
-        }
-        let calls = GoodCalls {
-            files: texts.len(),
-            ..ALL_GOOD
-        };
-        assert_eq!(rt; performed(&rt, *request, calls).status, 0);
+/// Performs a request whose files can't be read in turn, where each time this is reported.
+fn check_files<R: Threads + Wait + Clock + Sync + Abort + AllocGlobal>(
+    rt: &R,
+    request: &Request<'_>,
+    texts: &[&str],
+) {
+    for (good, text) in texts.iter().enumerate() {
+        check_file(rt, action(request), good, text);
     }
+    let calls = GoodCalls {
+        files: texts.len(),
+        ..ALL_GOOD
+    };
+    assert_eq!(rt; performed(rt, action(request), calls).status, 0);
 }
 
-/// Performs a request of which the read of standard input behind this many good ones fails; four are all.
+#[test]
+fn each_file_can_not_be_read_in_turn(rt: HostRuntime) -> Result<(), Fail> {
+    let texts = ["cannot read one.json\n", "cannot read eight.txt\n"];
+    for request in &[PLAY, EXPLAIN, TRAIL, DRAW, SLICE, PAGE, SHRINK] {
+        check_files(&rt, request, &texts);
+    }
+    let journal = ["cannot read one.json\n", "cannot read journal.txt\n"];
+    check_files(&rt, &REPLAY, &journal);
+    for request in &[SEARCH, debug(rt.alloc())] {
+        check_files(&rt, request, &["cannot read one.json\n"]);
+    }
+    let race = race(rt.alloc(), "two.json", &["undo.txt", "redo.txt"])?;
+    let texts = [
+        "cannot read two.json\n",
+        "cannot read undo.txt\n",
+        "cannot read redo.txt\n",
+    ];
+    check_files(&rt, &race, &texts);
+    Ok(())
+}
+
+/// Performs an action of which the read of standard input behind this many good ones fails; four are all.
 fn check_input<R: Threads + Wait + Clock + Sync + Abort + AllocGlobal>(
     rt: &R,
-    request: Request<'_>,
+    action: Action<'_>,
     good: usize,
     text: &str,
 ) {
@@ -287,7 +298,7 @@ fn check_input<R: Threads + Wait + Clock + Sync + Abort + AllocGlobal>(
         input: good,
         ..ALL_GOOD
     };
-    let ended = performed(rt, request, calls);
+    let ended = performed(rt, action, calls);
     if good < 4 {
         check(rt, &ended, 3, "cannot read standard input\n");
     } else {
@@ -305,7 +316,7 @@ fn each_read_of_input_fails_in_turn(rt: HostRuntime) {
             ["", "", "", "", "1.1 query 1\nrefused 14 NothingToRedo\n"],
         ),
         (
-            DEBUG,
+            debug(rt.alloc()),
             [
                 "leader-based consensus, 1 process, quorum 1, no copy is lost; help lists the commands\n> ",
                 "leader-based consensus, 1 process, quorum 1, no copy is lost; help lists the commands\n> ",
@@ -317,7 +328,7 @@ fn each_read_of_input_fails_in_turn(rt: HostRuntime) {
     ];
     for (request, texts) in &requests {
         for (good, text) in texts.iter().enumerate() {
-            check_input(&rt, *request, good, text);
+            check_input(&rt, action(request), good, text);
         }
     }
 }
@@ -326,12 +337,13 @@ fn each_read_of_input_fails_in_turn(rt: HostRuntime) {
 fn the_kth_session_is_that_of_the_kth_name_and_one_that_cannot_be_opened_ends_alone(
     rt: HostRuntime,
 ) -> Result<(), Fail> {
-    let shared = Request::DebugShared {
+    let seats = ["decisions.txt", "redo.txt", "shut", "decisions.txt"];
+    let shared = Request::Debug {
         setup: "two.json",
-        seats: &["decisions.txt", "redo.txt", "shut", "decisions.txt"],
-        file: Some("kept.txt"),
+        seats: Vec::from_slice(rt.alloc(), &seats)?,
+        journal: Some("kept.txt"),
     };
-    let ended = performed(&rt, shared, ALL_GOOD);
+    let ended = performed(&rt, action(&shared), ALL_GOOD);
     let journal = str::from_utf8(ended.output.as_slice())?;
     // In which order the seats come is not known.
     for line in &["1 decisions\n", "2 redo\n", "4 decisions\n"] {

@@ -1,12 +1,13 @@
 //! Words that are read while memory is refused. What further words ask for and how they are refused, the calls of
 //! tools/statuses show.
 
-use cdb_arguments::{Asked, ask_status, asked};
+use cdb_arguments::{ask_status, asked};
+use cdb_base::Request;
 
 /// The turns of the race that the words ask for, or the status where they ask for none.
 fn turns_of(rt: &impl AllocGlobal, words: &[&str]) -> Result<u32, u8> {
     match asked(rt.alloc(), words) {
-        Ok(Asked::Race { turns, .. }) => Ok(turns),
+        Ok(Request::Race { turns, .. }) => Ok(turns),
         Ok(_) => Err(0),
         Err(fault) => Err(ask_status(&fault)),
     }

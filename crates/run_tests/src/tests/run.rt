@@ -13,3 +13,4 @@ mod setups;
 mod spared;
 mod texts;
 mod views;
+mod worked;

@@ -1,4 +1,4 @@
-use Rattle.std.proofs.Common.{◌≡◌, ℕ, List, refl, inl, inr, ◌∷◌, []}
+use Rattle.std.proofs.Common.{◌≡◌, refl, inl, inr, ◌∷◌, []}
 use Rattle.std.proofs.lemmas.Result.{err_from_is_err_and}
 use Rattle.cdb_program.proofs.Seen.{compared_seen}
 use Rattle.cdb_program.proofs.compares.compare_files.Goals as goal

@@ -1,7 +1,7 @@
 use Rattle.std.proofs.Common.{◌≡◌, ◌∙◌, ◌+◌, ◌++◌, ◌∷◌, [], take, drop, sym, ap, rules}
 use Rattle.std.proofs.lemmas.Result.{err_from_is_err_and}
 use Rattle.cdb_program.specs.Known.{after_opening}
-use Rattle.cdb_program.specs.Reading.{file_names}
+use Rattle.cdb_base.specs.Requests.{texts}
 use Rattle.cdb_program.proofs.Opening.{bytes_more, fails_at, one_more_name, read_none, read_then, taken_and_left}
 use Rattle.cdb_program.proofs.files.read_each.Goals as goal
 
@@ -18,7 +18,7 @@ returns-in-Err g c =
     let names = c.args.names.now in
     let i = c.loop-name.name-index in
     let read = read_then _ _ _ _ _ _ (c.in_ok-bytes.bytes.items ∷ []) c.loop-name.invariant c.in_ok-bytes.ensures in
-    (file_names (take (i + 1) names), file_names (drop (i + 1) names), taken_and_left names (i + 1), read.0 ∙ ap (after_opening _) (sym (one_more_name names i _ c.loop-name-test.true)))
+    (texts (take (i + 1) names), texts (drop (i + 1) names), taken_and_left names (i + 1), read.0 ∙ ap (after_opening _) (sym (one_more_name names i _ c.loop-name-test.true)))
 
 pub loop-name-preserved : goal.loop-name-preserved
 loop-name-preserved g c =

@@ -1,7 +1,4 @@
 use Rattle.cdb_program.proofs.request.carry_out.Goals as goal
 
-pub returns-in-Debug-clause-does : goal.returns-in-Debug-clause-does
-returns-in-Debug-clause-does g c = rw c.in-Debug.is c.debug_file.ensures.does
-
 pub returns-in-Replay-clause-does : goal.returns-in-Replay-clause-does
 returns-in-Replay-clause-does g c = rw c.in-Replay.is c.replay_files.ensures.does

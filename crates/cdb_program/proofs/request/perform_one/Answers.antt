@@ -1,3 +1,4 @@
+use Rattle.cdb_base.specs.Requests.{asked_for}
 use Rattle.cdb_program.proofs.Reported.{does_but_error}
 use Rattle.cdb_program.proofs.request.perform_one.Goals as goal
 
@@ -5,6 +6,6 @@ pub returns : goal.returns
 returns g c =
     let carried = c.carry_out-outcome.ensures in (
       c.carry_out-outcome.result,
-      does_but_error c.args.request c.args.outside.now _ _ _ (rw (← c.outside.view_is) at carried.does),
+      does_but_error (asked_for c.args.request.now) c.args.outside.now _ _ _ (rw (← c.outside.view_is) at carried.does),
       rw (← carried.error, ← c.outside.view_is) c.report.ensures,
     )

@@ -2,7 +2,7 @@ use Rattle.std.proofs.Common.{◌≡◌, ◌+◌, ◌++◌, ◌∷◌, ◌∙◌
 use Rattle.std.proofs.lemmas.List.{take_all}
 use Rattle.std.proofs.lemmas.Result.{err_from_is_err_and}
 use Rattle.cdb_program.specs.Known.{after_opening}
-use Rattle.cdb_program.specs.Reading.{file_names}
+use Rattle.cdb_base.specs.Requests.{texts}
 use Rattle.cdb_program.specs.Seating.{AreOpenersOf}
 use Rattle.cdb_program.proofs.Opening.{read_none, taken_and_left}
 use Rattle.cdb_program.proofs.Seated.{seat_fails, seat_opened, seat_openers}
@@ -20,7 +20,7 @@ pub returns-in-Err-clause-fault : goal.returns-in-Err-clause-fault
 returns-in-Err-clause-fault g c =
     let names = c.args.names.now in
     let i = c.loop-name.name-index in
-    (file_names (take (i + 1) names), file_names (drop (i + 1) names), taken_and_left names (i + 1), seat_opened _ _ _ names i _ c.loop-name-test.true c.loop-name.invariant.opened c.in_ok-opener.ensures.opened)
+    (texts (take (i + 1) names), texts (drop (i + 1) names), taken_and_left names (i + 1), seat_opened _ _ _ names i _ c.loop-name-test.true c.loop-name.invariant.opened c.in_ok-opener.ensures.opened)
 
 pub loop-name-preserved : goal.loop-name-preserved
 loop-name-preserved g c = record {
@@ -33,8 +33,8 @@ loop-name-preserved g c = record {
 
 pub returns-clause-opened : goal.returns-clause-opened
 returns-clause-opened g c =
-    c.loop-name.invariant.opened ∙ ap (λ (names : List (Bor (List ℕ))). after_opening (g.F.Files.seen c.args.files.now) (file_names names)) (take_all c.loop-name.name-index c.args.names.now c.loop-name-test.false)
+    c.loop-name.invariant.opened ∙ ap (λ (names : List (Bor (List ℕ))). after_opening (g.F.Files.seen c.args.files.now) (texts names)) (take_all c.loop-name.name-index c.args.names.now c.loop-name-test.false)
 
 pub returns-clause-seats : goal.returns-clause-seats
 returns-clause-seats g c =
-    subst (λ (names : List (Bor (List ℕ))). AreOpenersOf g.F.Seat.Opener.opens (g.F.Files.seen c.args.files.now) (file_names names) c.loop-name.openers.items) (take_all c.loop-name.name-index c.args.names.now c.loop-name-test.false) c.loop-name.invariant.seats
+    subst (λ (names : List (Bor (List ℕ))). AreOpenersOf g.F.Seat.Opener.opens (g.F.Files.seen c.args.files.now) (texts names) c.loop-name.openers.items) (take_all c.loop-name.name-index c.args.names.now c.loop-name-test.false) c.loop-name.invariant.seats

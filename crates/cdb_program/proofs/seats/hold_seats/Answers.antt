@@ -2,8 +2,7 @@ use Rattle.std.proofs.Common.{ℕ, List, [], ◌∷◌, Bor, refl, ap, arith}
 use Rattle.std.proofs.lemmas.List.{length-map}
 use Rattle.std.proofs.lemmas.Result.{err_from_is_err_and}
 use Rattle.cdb_agreement.specs.Algorithms.{rules}
-use Rattle.cdb_program.specs.Reading.{file_names}
-use Rattle.cdb_program.specs.Requests.{any_file}
+use Rattle.cdb_base.specs.Requests.{any_text, texts}
 use Rattle.cdb_program.specs.Seating.{any_name}
 use Rattle.std.specs.Prelude.{◌++◌, option_map}
 use Rattle.cdb_program.proofs.Opening.{fails_before, opened_then}
@@ -13,23 +12,23 @@ use Rattle.cdb_program.proofs.seats.hold_seats.Goals as goal
 pub returns-in_err-json-clause-fault : goal.returns-in_err-json-clause-fault
 returns-in_err-json-clause-fault g c =
     let p = err_from_is_err_and c.from_residual.result c.from_residual.ensures.1 in
-    let names = file_names c.args.seats.now in
-    let file = any_file c.args.file in
+    let names = texts c.args.seats.now in
+    let file = any_text c.args.file in
     rw (p.1, p.2, ← c.outside.view_is) (as_fault _ names file _ _ c.in_err-json.field-0.0 (fails_before _ _ (c.args.setup.now ∷ []) (names ++ any_name file) c.in_err-json.field-0.0 c.in_err-json.ensures))
 
 pub returns-in_err-openers-clause-fault : goal.returns-in_err-openers-clause-fault
 returns-in_err-openers-clause-fault g c =
     let p = err_from_is_err_and c.from_residual-in_err-openers.result c.from_residual-in_err-openers.ensures.1 in
-    let names = file_names c.args.seats.now in
-    let file = any_file c.args.file in
+    let names = texts c.args.seats.now in
+    let file = any_text c.args.file in
     let fails = fails_later _ _ _ (c.args.setup.now ∷ []) names c.in_err-openers.field-0.0 c.in_ok-json.ensures.0 c.in_err-openers.ensures.fault in
     rw (p.1, p.2, ← c.outside.view_is) (as_fault _ names file _ _ c.in_err-openers.field-0.0 (fails_before _ _ (c.args.setup.now ∷ names) (any_name file) c.in_err-openers.field-0.0 fails))
 
 pub returns-in_err-file-clause-fault : goal.returns-in_err-file-clause-fault
 returns-in_err-file-clause-fault g c =
     let p = err_from_is_err_and c.from_residual-in_err-file.result c.from_residual-in_err-file.ensures.1 in
-    let names = file_names c.args.seats.now in
-    let file = any_file c.args.file in
+    let names = texts c.args.seats.now in
+    let file = any_text c.args.file in
     let opened = opened_then _ _ _ (c.args.setup.now ∷ []) names c.in_ok-json.ensures.0 c.in_ok-openers.ensures.opened in
     rw (p.1, p.2, ← c.outside.view_is) (as_fault _ names file _ _ c.in_err-file.field-0.0 (fails_later _ _ _ (c.args.setup.now ∷ names) (any_name file) c.in_err-file.field-0.0 opened c.in_err-file.ensures.fault))
 
@@ -37,12 +36,12 @@ pub returns-in-Ok-clause-sessions : goal.returns-in-Ok-clause-sessions
 returns-in-Ok-clause-sessions g c =
     let opens = g.F.Seat.Opener.opens in
     let openers = c.in_ok-openers.openers.items in
-    let names = file_names c.args.seats.now in
+    let names = texts c.args.seats.now in
     let seats = seats_known opens _ _ (c.args.setup.now ∷ []) names openers c.in_ok-json.ensures.0 c.in_ok-openers.ensures.seats in
     let opened = opened_then _ _ _ (c.args.setup.now ∷ []) names c.in_ok-json.ensures.0 c.in_ok-openers.ensures.opened in
     rw (← c.outside.view_is) (
       c.in_ok-json.json.items,
-      (opened_then _ _ _ (c.args.setup.now ∷ names) (any_name (any_file c.args.file)) opened c.in_ok-file.ensures.opened, c.in_ok-json.ensures.1.0),
+      (opened_then _ _ _ (c.args.setup.now ∷ names) (any_name (any_text c.args.file)) opened c.in_ok-file.ensures.opened, c.in_ok-json.ensures.1.0),
       (
         option_map g.F.Made.Sink.stream c.in_ok-file.file,
         c.in_ok-file.ensures.file,
@@ -53,11 +52,11 @@ returns-in-Ok-clause-sessions g c =
 
 pub returns-clause-fault : goal.returns-clause-fault
 returns-clause-fault g c =
-    let names = file_names c.args.seats.now in
+    let names = texts c.args.seats.now in
     let opened = opened_then _ _ _ (c.args.setup.now ∷ []) names c.in_ok-json.ensures.0 c.in_ok-openers.ensures.opened in
     rw (← c.outside.view_is) (
       c.in_ok-json.json.items,
-      (opened_then _ _ _ (c.args.setup.now ∷ names) (any_name (any_file c.args.file)) opened c.in_ok-file.ensures.opened, c.in_ok-json.ensures.1.0),
+      (opened_then _ _ _ (c.args.setup.now ∷ names) (any_name (any_text c.args.file)) opened c.in_ok-file.ensures.opened, c.in_ok-json.ensures.1.0),
       rw (← c.as_slice.ensures.value) c.in-Err.ensures.fault,
     )
 

@@ -1,9 +1,10 @@
 use Rattle.std.proofs.Common.{sym, ap, ◌∙◌, subst, is_ok, true≢false}
-use Rattle.cdb_agreement.proofs.KeptHistories.{last_enabled, next_of_run, taken_again}
+use Rattle.cdb_agreement.proofs.KeptHistories.{taken_again}
 use Rattle.cdb_setup.specs.Parts.{AreInRange}
 use Rattle.cdb_rules.proofs.Granted.{IsLawful}
 use Rattle.cdb_rules.specs.Machines.{machine_of}
 use Rattle.cdb_rules.specs.Runs.{with_result}
+use Rattle.cdb_rules.proofs.OfRun.{last_enabled, next_of_run}
 use Rattle.cdb_trail.proofs.played.take_next.Goals as goal
 
 pub again-requires : goal.again-requires
@@ -11,9 +12,7 @@ again-requires g c =
     let table = g.P.Process.table in
     let setup = c.args.again.now.setup in
     let range : AreInRange setup = subst AreInRange c.setup.ensures c.n-ranges.ensures.ranges in
-    let laws = g.met.P.Process in
-    let lawful : IsLawful (machine_of table setup) = record { query = laws.query_by_state; recv = laws.recv_by_state; send = laws.wish_send; read = laws.wish_read; write = laws.wish_write; local = laws.wish_local } in
-    next_of_run table setup range lawful c.args.again.now.history c.args.event.now c.requires
+    next_of_run table setup range c.args.again.now.history c.args.event.now c.requires
 
 pub unreachable-requires : goal.unreachable-requires
 unreachable-requires g c =
@@ -22,7 +21,7 @@ unreachable-requires g c =
     let range : AreInRange setup = subst AreInRange c.setup.ensures c.n-ranges.ensures.ranges in
     let laws = g.met.P.Process in
     let lawful : IsLawful (machine_of table setup) = record { query = laws.query_by_state; recv = laws.recv_by_state; send = laws.wish_send; read = laws.wish_read; write = laws.wish_write; local = laws.wish_local } in
-    let enabled = last_enabled table setup range lawful c.args.again.now.history c.args.event.now c.requires in
+    let enabled = last_enabled table setup range c.args.again.now.history c.args.event.now c.requires in
     let is = taken_again table setup range lawful c.args.again.now.history c.args.event.now enabled in
     true≢false (ap is_ok (sym is ∙ sym c.in_ok-again.ensures.returns ∙ c.in-Err.is))
 
@@ -33,6 +32,6 @@ returns g c =
     let range : AreInRange setup = subst AreInRange c.setup.ensures c.n-ranges.ensures.ranges in
     let laws = g.met.P.Process in
     let lawful : IsLawful (machine_of table setup) = record { query = laws.query_by_state; recv = laws.recv_by_state; send = laws.wish_send; read = laws.wish_read; write = laws.wish_write; local = laws.wish_local } in
-    let enabled = last_enabled table setup range lawful c.args.again.now.history c.args.event.now c.requires in
+    let enabled = last_enabled table setup range c.args.again.now.history c.args.event.now c.requires in
     let is = taken_again table setup range lawful c.args.again.now.history c.args.event.now enabled in
     c.in_ok-again.ensures.after ∙ ap (with_result c.args.again.now) (c.in_ok-again.ensures.returns ∙ is)

@@ -1,5 +1,5 @@
 use Rattle.std.proofs.Common.{map, string_bytes}
-use Rattle.cdb_arguments.specs.Asking.{texts}
+use Rattle.cdb_base.specs.Requests.{texts}
 use Rattle.revdbg.proofs.Requests.{asked_of_words}
 use Rattle.revdbg.proofs.run.begin.Goals as goal
 

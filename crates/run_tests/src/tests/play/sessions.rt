@@ -11,12 +11,9 @@ use std::process::Abort;
 use std::sync::Wait;
 use std::thread::Threads;
 
-/// Serves the first seat with a command, compares the text of the reply, and exchanges the seats once they met.
+/// Calls a command from the first seat, compares the text of the reply, and exchanges the seats once they met.
 fn told<R: Wait + Abort + AllocGlobal>(rt: &R, pair: Pair, command: Command, text: &str) -> Pair {
-    let (pair, replies, end) = pair.serve(rt, OPEN, &[command]);
-    assert_eq!(rt; end, End::All);
-    say(rt, replies, text);
-    pair.meet(rt).exchanged()
+    pair.call(rt, command, text).meet(rt).exchanged()
 }
 
 /// Compares the number of entries of the journal, the seats of the last ones, and how many events stand.
@@ -128,11 +125,27 @@ fn script(alloc: Global) -> Result<Script, AllocError> {
     Ok(Script::new(commands))
 }
 
+/// How a race of a process and a script ends whose gates pass all calls before these.
+fn raced_up_to<R: Threads + Wait + Sync + Abort + AllocGlobal>(
+    rt: &R,
+    process: u32,
+    script_call: u32,
+) -> Result<(usize, usize, usize), RaceFault> {
+    let setup = try_setup(rt.alloc()).expect(rt, "a setup");
+    let script = script(rt.alloc()).expect(rt, "a script");
+    let gates = vec![in rt.alloc(); Before(process), Before(script_call)].expect(rt, "gates");
+    raced(rt, setup, script, gates)
+}
+
 #[test]
 fn a_race_leaves_the_final_journal_and_the_replies(rt: HostRuntime) {
-    let setup = try_setup(rt.alloc()).expect(&rt, "a setup");
-    let script = script(rt.alloc()).expect(&rt, "a script");
-    let gates = vec![in rt.alloc(); Before(OPEN), Before(OPEN)].expect(&rt, "gates");
-    let found = raced(&rt, setup, script, gates).expect(&rt, "a race");
-    assert_eq!(&rt; found, (9, 8, 1));
+    assert_eq!(&rt; raced_up_to(&rt, OPEN, OPEN), Ok((9, 8, 1)));
+}
+
+#[test]
+fn a_race_that_a_gate_stops_names_the_least_seat_that_was_stopped(rt: HostRuntime) {
+    assert_eq!(&rt; raced_up_to(&rt, OPEN, 1), Err(RaceFault::Stopped(2)));
+    assert_eq!(&rt; raced_up_to(&rt, 3, OPEN), Err(RaceFault::Stopped(1)));
+    assert_eq!(&rt; raced_up_to(&rt, 3, 1), Err(RaceFault::Stopped(1)));
+    assert_eq!(&rt; raced_up_to(&rt, OPEN, 2), Ok((9, 8, 1)));
 }

@@ -170,8 +170,8 @@ impl Example {
         self.run.same_run(&other.run)
     }
 
-    /// Whether both show the same of all processes and registers, and of what has happened.
-    pub fn looks_as<R: Abort + AllocGlobal>(&self, rt: &R, other: &Example) -> bool {
+    /// Whether both show the same of all processes and registers.
+    pub fn stands_as(&self, other: &Example) -> bool {
         for p in &Proc::all() {
             if !is_as_far(&self.run, &other.run, u32::from(p.number())) {
                 return false;
@@ -181,7 +181,11 @@ impl Example {
             }
         }
         is_same_register(&self.run, &other.run, Reg::Dec)
-            && has_same_events(rt, &self.run, &other.run)
+    }
+
+    /// Whether both show the same of all processes and registers, and of what has happened.
+    pub fn looks_as<R: Abort + AllocGlobal>(&self, rt: &R, other: &Example) -> bool {
+        self.stands_as(other) && has_same_events(rt, &self.run, &other.run)
     }
 }
 

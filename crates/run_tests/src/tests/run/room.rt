@@ -85,7 +85,7 @@ fn rooms_are_made_and_taken(rt: HostRuntime) {
     check(&rt, LOSSY, &OF_ALL_THAT_GOES_BACK);
 }
 
-/// A session that has decided, with room for three undos.
+/// A session that has decided, with room for three commands.
 fn with_room<R: Abort + AllocGlobal>(rt: &R) -> Session {
     let mut session = Session::open(rt, ALONE);
     session.repeat(rt, 8, "auto 1");
@@ -107,19 +107,19 @@ fn undone_by(reply: &Reply) -> u16 {
     }
 }
 
-/// Gives an undo, at the first try, and returns the number of the step.
-fn undo<R: Abort + AllocGlobal>(rt: &R, session: &mut Session, line: &str) -> u16 {
+/// Gives an undo, at the first try, and returns the number of the step, 0 where it is refused, and the room that is left.
+fn undo<R: Abort + AllocGlobal>(rt: &R, session: &mut Session, line: &str) -> (u16, u32) {
     let reply = session.try_line(rt, 1, line).expect(rt, line);
     let step = undone_by(&reply);
     reply.close();
-    step
+    (step, session.rooms(rt)[0])
 }
 
 #[test]
 fn three_undos_without_memory(rt: HostRuntime) {
     let mut session = with_room(&rt);
-    assert_eq!(&rt; undo(&rt, &mut session, "undo 1 8"), 8);
-    assert_eq!(&rt; undo(&rt, &mut session, "undo 1 7"), 7);
-    assert_eq!(&rt; undo(&rt, &mut session, "undo 1 6"), 6);
+    assert_eq!(&rt; undo(&rt, &mut session, "undo 1 8"), (8, 2));
+    assert_eq!(&rt; undo(&rt, &mut session, "undo 1 2"), (0, 1));
+    assert_eq!(&rt; undo(&rt, &mut session, "undo 1 7"), (7, 0));
     session.end();
 }

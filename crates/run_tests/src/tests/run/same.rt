@@ -2,6 +2,7 @@
 
 use super::example::{Example, after};
 use super::setups::{ALONE, ALPHA_PAIR, LOSSY, NO_MAJORITY};
+use cdb_rules::EventRef;
 use std::process::Abort;
 
 const FIRST_WRITES_FIRST: &str = "auto 1
@@ -165,14 +166,30 @@ fn runs_are_in_different_states(rt: HostRuntime) {
     compare(&rt, NO_MAJORITY, "step 1 query", "step 1 query 2", false);
     compare(&rt, LOSSY, BOTH_LOST, ONE_LOST, false);
     compare(&rt, ALONE, DECIDED, UNDONE, false);
-    // Both write 7: nothing that is shown differs, and yet one write stood before the other.
-    compare(
-        &rt,
-        ALPHA_PAIR,
-        FIRST_WRITES_FIRST,
-        SECOND_WRITES_FIRST,
-        false,
-    );
     // The first process reads 7 behind one write or behind two.
     compare(&rt, ALPHA_PAIR, BEHIND_ONE_WRITE, BEHIND_TWO_WRITES, false);
+}
+
+#[test]
+fn a_decision_undone_and_taken_again_is_the_same_run(rt: HostRuntime) {
+    let decided = after(&rt, ALONE, DECIDED);
+    let mut again = after(&rt, ALONE, DECIDED);
+    let event = again.undo(EventRef::Step(1, 8)).expect(&rt, "an undo");
+    assert!(&rt; !are_same(&rt, &again, &decided));
+    let taken = again.again(&rt, &event).expect(&rt, "memory");
+    assert!(&rt; taken == Ok(event));
+    assert!(&rt; are_same(&rt, &again, &decided));
+    again.end();
+    decided.end();
+}
+
+#[test]
+fn writes_in_another_order_leave_what_is_shown(rt: HostRuntime) {
+    // Both write 7: of processes and registers the same is shown, and yet one write stood before the other.
+    let first = after(&rt, ALPHA_PAIR, FIRST_WRITES_FIRST);
+    let second = after(&rt, ALPHA_PAIR, SECOND_WRITES_FIRST);
+    assert!(&rt; first.stands_as(&second));
+    assert!(&rt; !are_same(&rt, &first, &second));
+    first.end();
+    second.end();
 }

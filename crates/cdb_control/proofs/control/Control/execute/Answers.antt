@@ -10,6 +10,7 @@ use Rattle.cdb_control.specs.Room.{cost, lowered, room_of}
 use Rattle.cdb_control.specs.State.{State}
 use Rattle.cdb_control.proofs.Along.{obey-setup, IsReplayed-next}
 use Rattle.cdb_control.proofs.Headline.{replayed-headline}
+use Rattle.cdb_control.proofs.Least.{uses_numbers_once}
 use Rattle.cdb_control.proofs.Refused.{keeps_other_lists, kept_if_refused}
 use Rattle.cdb_control.proofs.Room.{HoldsRooms-kept, HoldsRooms-next, rooms-lowered, spends}
 use Rattle.cdb_control.proofs.control.Control.execute.Goals as goal
@@ -150,17 +151,21 @@ lower-requires-clause-to_last g c =
     let seats = c.self.invariant.1.seats in
     omega (arith, many, high, to_last, lists, seats)
 
-pub returns-clause-refused : goal.returns-clause-refused
-returns-clause-refused g c =
+pub returns-clause-reply : goal.returns-clause-reply
+returns-clause-reply g c =
     let i = c.self.inside in
     let rules = g.R.Runs.rules in
     let seat = c.args.seat in
     let command = c.args.command in
-    let replied =
     ap (λ (o : Outcome). o.reply) c.in-Ok.ensures.ok
     ∙ ap (λ (t : State). reply_of (rules i.state.state.setup) t seat command) (sym c.self.invariant.0.replayed)
-    ∙ ap (λ (v : Journaled). reply_in rules v seat command) c.self.view_is in
-    kept_if_refused rules c.args.self.now seat command (returns-clause-journal g c) replied
+    ∙ ap (λ (v : Journaled). reply_in rules v seat command) c.self.view_is
+
+pub returns-clause-refused : goal.returns-clause-refused
+returns-clause-refused g c = kept_if_refused g.R.Runs.rules c.args.self.now c.args.seat c.args.command (returns-clause-journal g c) (returns-clause-reply g c)
 
 pub returns-clause-others : goal.returns-clause-others
 returns-clause-others g c = keeps_other_lists g.R.Runs.rules c.args.self.now c.args.seat c.args.command (returns-clause-journal g c)
+
+pub returns-clause-numbers : goal.returns-clause-numbers
+returns-clause-numbers g c = uses_numbers_once g.R.Runs.rules c.args.self.now c.args.seat c.args.command (returns-clause-journal g c) (returns-clause-reply g c)

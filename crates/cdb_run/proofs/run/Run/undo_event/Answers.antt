@@ -4,6 +4,8 @@ use Rattle.cdb_rules.specs.EventRefs.{name_given}
 use Rattle.cdb_rules.specs.RunView.{RunView}
 use Rattle.cdb_rules.specs.Machines.{machine_of}
 use Rattle.cdb_rules.specs.Runs.{LeadsTo, result_of_undo}
+use Rattle.cdb_rules.specs.Refusals.{IsOfRun}
+use Rattle.cdb_rules.proofs.OfRun.{next_of_run}
 use Rattle.cdb_rules.proofs.TakenBack.{undo_ok_free, undo_leads_back}
 use Rattle.cdb_setup.specs.Parts.{AreInRange}
 use Rattle.cdb_standing.specs.Moves.{IsTakenOut}
@@ -54,3 +56,11 @@ returns-clause-back g c =
     subst (λ (v : RunView). IfOk {E = Refusal} (Ok c.restore.result) (λ event. LeadsTo table v event run)) (sym (returns-clause-after g c))
     (undo_leads_back (machine_of table run.setup) run.setup.processes (machine_each table run.setup ranges) run.history c.history-valid.ensures.valid
     (name_given c.args.event) (Ok c.restore.result) (returns-clause-returns g c))
+
+pub returns-clause-of_run : goal.returns-clause-of_run
+returns-clause-of_run g c =
+    let left = c.restore.new.self in
+    let same = c.restore.ensures.setup in
+    let ranges = subst AreInRange (sym same) (subst AreInRange c.setup.ensures c.n-ranges.ensures.ranges) in
+    let back = returns-clause-back g c in
+    subst (λ setup. IsOfRun setup c.restore.result) same (next_of_run g.P.Process.table left.setup ranges left.history c.restore.result back.0)

@@ -1,0 +1,56 @@
+-- What is asked for under the name of a subcommand.
+use Rattle.std.proofs.Common.{◌≡◌, ℕ, List, Some, ap, codes, refl}
+use Rattle.std.specs.Prelude.{unwrap_or}
+use Rattle.std.specs.Bool.{MatchBool}
+use Rattle.std.specs.Str.{bytes_eq}
+use Rattle.std.proofs.lemmas.Option.{none-some}
+use Rattle.clap.specs.Words.{Row, first_of}
+use Rattle.cdb_base.specs.Requests.{Asked, Script, Play, Race, Ask, Debug, Replay, Search, Shrink, Same, Clocks, Page, Text}
+use Rattle.cdb_base.specs.declared.question.Question.{Question}
+use Rattle.cdb_base.specs.declared.question.Question.TheVariants.{Explain, Trail, Draw, Slice}
+use Rattle.cdb_arguments.specs.Asking.{Asks, IsAnyStepIn, IsNumber, IsStepIn, IsTurns, subcommand_for, text_at, texts_at}
+
+-- a question with a step of these rows
+abbrev pub AsksStep : {S : Type 0} → (List Row → S → Type 0) → (S → Question) → List Row → Asked → Type 0
+AsksStep IsIn question rows asked =
+    (step : _) × IsIn rows step × (asked ≡ Ask (text_at (codes "SETUP") rows) (text_at (codes "SCRIPT") rows) (question step))
+
+-- what the rows of the subcommand of this name ask for
+abbrev pub Means : Text → List Row → Asked → Type 0
+Means name rows asked =
+    let setup = text_at (codes "SETUP") rows in
+    let script = text_at (codes "SCRIPT") rows in
+    MatchBool (bytes_eq name (codes "play")) (asked ≡ Play setup script)
+    (MatchBool (bytes_eq name (codes "race"))
+    ((turns : ℕ) × IsTurns (text_at (codes "TURNS") rows) turns × (asked ≡ Race setup turns (texts_at (codes "SCRIPT") rows)))
+    (MatchBool (bytes_eq name (codes "explain")) (AsksStep IsStepIn (λ step. Explain step) rows asked)
+    (MatchBool (bytes_eq name (codes "trail")) (AsksStep IsStepIn (λ step. Trail step) rows asked)
+    (MatchBool (bytes_eq name (codes "draw")) (AsksStep IsAnyStepIn (λ step. Draw step) rows asked)
+    (MatchBool (bytes_eq name (codes "slice")) (AsksStep IsAnyStepIn (λ step. Slice step) rows asked)
+    (MatchBool (bytes_eq name (codes "debug")) (asked ≡ Debug setup (texts_at (codes "SEAT") rows) (first_of (codes "FILE") rows))
+    (MatchBool (bytes_eq name (codes "replay")) (asked ≡ Replay setup (text_at (codes "JOURNAL") rows))
+    (MatchBool (bytes_eq name (codes "search"))
+    ((seed walks : ℕ) × IsNumber (text_at (codes "SEED") rows) seed × IsNumber (text_at (codes "WALKS") rows) walks
+    × (asked ≡ Search setup (text_at (codes "GOAL") rows) seed walks))
+    (MatchBool (bytes_eq name (codes "shrink")) (asked ≡ Shrink setup script (text_at (codes "GOAL") rows))
+    (MatchBool (bytes_eq name (codes "same")) (asked ≡ Same setup (text_at (codes "FIRST") rows) (text_at (codes "SECOND") rows))
+    (MatchBool (bytes_eq name (codes "clocks")) (asked ≡ Clocks setup script) (asked ≡ Page setup script))))))))))))
+
+some_same : {X : Type 0} (a b : X) → Some a ≡ Some b → a ≡ b
+some_same a b same = ap (λ found. unwrap_or found a) same
+
+pub means : (name : Text) (rows : List Row) (asked : Asked) → subcommand_for asked ≡ Some name → Asks rows asked → Means name rows asked
+means name rows Script is asks = absurd (none-some _ is)
+means name rows (Play setup script) is asks = rw (← some_same _ _ is, asks.0, asks.1) refl
+means name rows (Race setup turns scripts) is asks = rw (← some_same _ _ is, asks.0, asks.1) (turns, asks.2, refl)
+means name rows (Ask setup script (Explain step)) is asks = rw (← some_same _ _ is, asks.0, asks.1) (step, asks.2, refl)
+means name rows (Ask setup script (Trail step)) is asks = rw (← some_same _ _ is, asks.0, asks.1) (step, asks.2, refl)
+means name rows (Ask setup script (Draw step)) is asks = rw (← some_same _ _ is, asks.0, asks.1) (step, asks.2, refl)
+means name rows (Ask setup script (Slice step)) is asks = rw (← some_same _ _ is, asks.0, asks.1) (step, asks.2, refl)
+means name rows (Debug setup seats journal) is asks = rw (← some_same _ _ is, asks.0, asks.1, asks.2) refl
+means name rows (Replay setup journal) is asks = rw (← some_same _ _ is, asks.0, asks.1) refl
+means name rows (Search setup goal seed walks) is asks = rw (← some_same _ _ is, asks.0, asks.1) (seed, walks, asks.2, asks.3, refl)
+means name rows (Shrink setup script goal) is asks = rw (← some_same _ _ is, asks.0, asks.1, asks.2) refl
+means name rows (Same setup first second) is asks = rw (← some_same _ _ is, asks.0, asks.1, asks.2) refl
+means name rows (Clocks setup script) is asks = rw (← some_same _ _ is, asks.0, asks.1) refl
+means name rows (Page setup script) is asks = rw (← some_same _ _ is, asks.0, asks.1) refl

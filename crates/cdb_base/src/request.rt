@@ -1,0 +1,69 @@
+//! What the program is asked to do.
+
+use crate::question::Question;
+
+/// What the program is asked to do. Setups, scripts and journals are named by their files.
+#[derive(Drop)]
+pub enum Request<'a> {
+    /// Plays the script on standard input, on one process that proposes 7.
+    Script,
+    /// Plays a script on a run of a setup.
+    Play {
+        setup: &'a str,
+        script: &'a str,
+    },
+    /// Runs a race of scripts on a run of a setup, with up to 99,999 turns for each process.
+    Race {
+        setup: &'a str,
+        turns: u32,
+        scripts: Vec<&'a str>,
+    },
+    /// Answers a question of the run that a script leaves on a setup; the numbers of a step are 1 to 999,999.
+    Ask {
+        setup: &'a str,
+        script: &'a str,
+        question: Question,
+    },
+    /// Holds a session for each seat, a terminal device or `IN:OUT`, over one run of a setup; without seats one session
+    /// here. The journal is kept meanwhile in the file of this name, if there is one.
+    Debug {
+        setup: &'a str,
+        seats: Vec<&'a str>,
+        journal: Option<&'a str>,
+    },
+    /// Plays a journal again on a run of a setup.
+    Replay {
+        setup: &'a str,
+        journal: &'a str,
+    },
+    /// Searches for a run of a setup in which the goal of this word holds, with this seed and at most so many walks, both
+    /// 1 to 999,999.
+    Search {
+        setup: &'a str,
+        goal: &'a str,
+        seed: u32,
+        walks: u32,
+    },
+    /// Makes a script small on a run of a setup, as long as the goal of this word holds.
+    Shrink {
+        setup: &'a str,
+        script: &'a str,
+        goal: &'a str,
+    },
+    /// Tells whether two scripts leave the same run on a setup.
+    Same {
+        setup: &'a str,
+        first: &'a str,
+        second: &'a str,
+    },
+    /// Writes the clocks of the run that a script leaves on a setup.
+    Clocks {
+        setup: &'a str,
+        script: &'a str,
+    },
+    /// Writes the page of the run that a script leaves on a setup.
+    Page {
+        setup: &'a str,
+        script: &'a str,
+    },
+}

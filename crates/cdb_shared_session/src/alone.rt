@@ -1,0 +1,138 @@
+//! A session alone, whose journal is kept in a file as it goes.
+
+ghost use Rattle.std.specs.Prelude.{◌≡◌};
+ghost use Rattle.cdb_control.specs.Journal.{opened};
+ghost use Rattle.cdb_session.specs.Greetings.{greeting_text};
+ghost use Rattle.cdb_session.specs.Requests.{most_seats};
+ghost use Rattle.cdb_shared_session.specs.KeptAlone.{KeepsOn, HoldsFrom, DebugsKept};
+
+use crate::keeping::{Kept, keep_rest};
+use crate::reports::write_journal;
+use cdb_control::{CallFault, Command, Control, Reply};
+use cdb_rules::Runs;
+use cdb_session::{Caller, Console, Session, Style, begin, greeting_at, run};
+use cdb_streams::{Failed, OutputFault, PlayFault, Sink};
+use std::alloc::Global;
+use std::marker::Model;
+
+/// A control, the file in which its journal is kept, and how many entries the file has.
+#[derive(Drop)]
+struct KeptControl<R: Runs, J> {
+    control: Control<R>,
+    file: J,
+    count: Result<usize, Failed>,
+}
+
+impl<R: Runs, J> Model for KeptControl<R, J> {
+    ghost use Rattle.std.specs.Prelude.{◌≤◌, length, IfOk};
+    ghost use Rattle.cdb_shared_session.specs.KeptAlone.{KeptView};
+
+    ghost Value = { KeptView J };
+
+    ghost view = { λ c. record { control = c.control; file = c.file; count = c.count } };
+
+    ghost invariant = { λ c. IfOk c.count (λ count. count ≤ length c.control.journal) };
+}
+
+impl<R: Runs, J: Sink + Drop> KeptControl<R, J> {
+    /// Adds to the file what it lacks of the journal. Where memory is out it adds nothing.
+    fn keep(&mut self, alloc: Global)
+        ensures control { self.new.control ≡ self.old.control }
+        ensures kept { KeepsOn J.stream self.old self.new }
+    {
+        let Ok(count) = self.count else {
+            return;
+        };
+        let journal = self.control.journal();
+        match write_journal(alloc, &journal[count..], &mut self.file) {
+            Ok(()) => self.count = Ok(journal.len()),
+            Err(OutputFault::Write) => self.count = Err(Failed),
+            Err(OutputFault::NoMemory(_)) => {}
+        }
+    }
+}
+
+impl<R: Runs, J: Sink + Drop> Caller for KeptControl<R, J> {
+    ghost use Rattle.cdb_session.specs.Alone.{whole_part, all_seats};
+    ghost use Rattle.cdb_shared_session.specs.KeptAlone.{IsLaterKept};
+
+    ghost part = { λ c. whole_part R.rules c.control };
+
+    ghost seats = { λ c. all_seats c.control };
+
+    ghost later = { IsLaterKept J.stream };
+
+    fn call(&mut self, alloc: Global, seat: u8, command: Command) -> Result<Reply, CallFault> {
+        let reply = self.control.execute(alloc, seat, command)?;
+        self.keep(alloc);
+        Ok(reply)
+    }
+}
+
+/// A session over a control in which nothing has happened, from its first line to its last.
+fn hold_kept<R: Runs, T: Console, J: Sink + Drop>(
+    alloc: Global,
+    prompt: &[u8],
+    control: Control<R>,
+    greeting: &[u8],
+    console: &mut T,
+    file: J,
+) -> (Result<(), PlayFault>, Kept<J>)
+    requires begun { control ≡ opened control.setup most_seats }
+    requires greeting { greeting.now ≡ greeting_text control.setup }
+    ensures { HoldsFrom J.stream R.rules prompt.now control.setup (T.known console.old) (T.known console.new) file result }
+{
+    let style = Style {
+        greeting: greeting_at(greeting, prompt),
+        prompt,
+        numbered: false,
+        first: 1,
+        chooses: true,
+    };
+    let caller = KeptControl {
+        control,
+        file,
+        count: Ok(0),
+    };
+    let mut session = Session::new(caller, &style);
+    let outcome = run(alloc, &style, &mut session, console);
+    let Session { caller, .. } = session;
+    let KeptControl {
+        control,
+        file,
+        count,
+    } = caller;
+    let kept = keep_rest(alloc, control.journal(), file, count);
+    control.close();
+    (outcome, kept)
+}
+
+/// A session on a run of the setup as `debug` holds it, and beside it the journal in a file, in which nothing is: once a
+/// command is carried out the file has its entry, a line with the seat and the command, before the response is written.
+/// Where the file can't be written, or memory is out, the session goes on; what the file lacks then is added at the end.
+/// Returned are how the session ended, as of `debug`, and the file with how the journal was kept.
+///
+/// # Errors
+/// Those of `debug`. Before the session begins the file is left as it was.
+///
+/// Promise: One journal explains all responses of the session, and the file has it at the end, or a beginning of it where
+/// it could not be written or memory was out.
+pub fn debug_kept<R: Runs, T: Console, J: Sink + Drop>(
+    alloc: Global,
+    setup: &[u8],
+    prompt: &[u8],
+    console: &mut T,
+    file: J,
+) -> (Result<(), PlayFault>, Kept<J>)
+    ensures { DebugsKept J.stream R.rules prompt.now setup.now (T.known console.old) (T.known console.new) file result }
+{
+    match begin::<R>(alloc, setup) {
+        Ok((control, greeting)) => {
+            hold_kept::<R, T, J>(alloc, prompt, control, greeting.as_slice(), console, file)
+        }
+        Err(fault) => {
+            let outcome = Ok(());
+            (Err(fault), Kept { file, outcome })
+        }
+    }
+}

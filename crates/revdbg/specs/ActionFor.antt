@@ -1,0 +1,21 @@
+-- Actions for what the arguments were found to ask for: what the code keeps for itself.
+use Rattle.std.specs.Prelude.{Result, Ok, Err}
+use Rattle.clap.specs.Words.{Kinds}
+use Rattle.cdb_arguments.specs.Asking.{IsOfKinds}
+use Rattle.cdb_base.specs.Requests.{Text, asked_for}
+use Rattle.cdb_base.specs.declared.request.Request.{Request}
+use Rattle.cdb_program.specs.declared.request.Action.{Action}
+use Rattle.revdbg.specs.Requested.{IsPerformed, IsRefusal, IsUnread, OrOutOfMemory}
+use Rattle.revdbg.specs.declared.requested.ArgsError.{ArgsError}
+use Rattle.revdbg.specs.declared.requested.ArgsError.TheVariants.{Unread, Refused}
+
+-- the action for what the arguments ask for, or for why they ask for nothing
+abbrev pub IsActionFor : Text → Result Request ArgsError → Action → Type 0
+IsActionFor prompt (Ok request) action = IsPerformed prompt (asked_for request) action
+IsActionFor prompt (Err (Unread reason)) action = IsUnread reason action
+IsActionFor prompt (Err (Refused fault text)) action =
+    (kinds : Kinds) → IsOfKinds kinds fault → OrOutOfMemory (IsRefusal kinds) action
+
+-- each action for what was found is one of this kind
+abbrev pub Makes : Result Request ArgsError → (Text → Action → Type 0) → Type 0
+Makes found IsIt = (prompt : Text) (action : Action) → IsActionFor prompt found action → IsIt prompt action
