@@ -21,8 +21,8 @@ shown_from-more style s (first ∷ requests) request =
 pub dialogue-more : (style : StyleView) (replies : List ToldReply) (requests : List Request) (request : Request)
     → dialogue style replies (requests ++ request ∷ []) ≡ dialogue style replies requests ++ shown style (along_after style (begun_along style replies) requests) request
 dialogue-more style replies requests request =
-    ap (λ text. style.prompt ++ text) (shown_from-more style (begun_along style replies) requests request)
-    ∙ sym (append_assoc style.prompt (shown_from style (begun_along style replies) requests) (shown style (along_after style (begun_along style replies) requests) request))
+    ap (λ text. (style.greeting ++ style.prompt) ++ text) (shown_from-more style (begun_along style replies) requests request)
+    ∙ sym (append_assoc (style.greeting ++ style.prompt) (shown_from style (begun_along style replies) requests) (shown style (along_after style (begun_along style replies) requests) request))
 
 -- so does what the lines ask for
 pub all_asked-more : (chooses : Bool) (seat : ℕ) (requests : List Request) (request : Request)

@@ -1,6 +1,6 @@
 -- What lines ask for.
 use Rattle.std.proofs.Common.{◌≡◌, ◌≢◌, inl, inr, ℕ, ◌+◌, ◌<◌, nat_lt, rules, Bool, true, false, List, [], ◌∷◌, ◌++◌, length, get_or, refl, sym, ap, subst, ◌∙◌, arith}
-use Rattle.std.specs.Prelude.{if◌then◌else◌}
+use Rattle.std.specs.Prelude.{None, Some, if◌then◌else◌}
 use Rattle.std.specs.List.{AllZip, AllByRecursion}
 use Rattle.std.specs.Str.{bytes_eq}
 use Rattle.std.proofs.lemmas.Bool.{cases_lt}
@@ -37,7 +37,9 @@ not_quit : (request : Request) (line : List ℕ) → AsksFor request line → re
 not_quit (Call command) line asks other is = asks.1.0 (inr (inl is))
 not_quit (Seat seat) line asks other is =
     let first : 115 ≡ 113 = ap (λ bytes. get_or bytes 0 0) (sym asks.1.1 ∙ is) in absurd (omega (arith, first))
-not_quit Help line asks other is =
+not_quit (Help None) line asks other is =
+    let first : 104 ≡ 113 = ap (λ bytes. get_or bytes 0 0) (sym asks.1 ∙ is) in absurd (omega (arith, first))
+not_quit (Help (Some topic)) line asks other is =
     let first : 104 ≡ 113 = ap (λ bytes. get_or bytes 0 0) (sym asks.1 ∙ is) in absurd (omega (arith, first))
 not_quit Quit line asks other is = other refl
 not_quit (Fault fault) line asks other is = asks.1.0 (inr (inl is))

@@ -22,6 +22,8 @@ use Rattle.cdb_text.proofs.Cut.{is_space}
 use Rattle.cdb_text.proofs.Printed.{none_is_space, number_is_spaceless}
 use Rattle.cdb_setup.specs.Format.{longest}
 use Rattle.cdb_setup.specs.Parts.{IsWithin}
+use Rattle.cdb_session.specs.declared.topic.Topic.{Topic}
+use Rattle.cdb_session.specs.declared.topic.Topic.TheVariants as topic
 use Rattle.cdb_session.specs.Laws.{ExactLinesStand}
 use Rattle.cdb_session.specs.Requests.{most_seats, help_line, quit_line, seat_line}
 use Rattle.cdb_session.specs.Typed.{is_blank, is_comment, is_mark, is_word, parts_of, due, only, full, up_to_comment, with_piece, words_meant, line_meant}
@@ -212,7 +214,27 @@ seat_words seat within =
     ∙ ap (λ (words : List (List ℕ)). codes "seat" ∷ words) (slice_split_none is_space (decimal seat) (none_is_space (decimal seat) (number_is_spaceless seat (omega (arith, within.1)))))
 
 pub exact_lines_stand : ExactLinesStand
-exact_lines_stand line (inl (inl is)) = subst (λ (l : List ℕ). line_meant l ≡ l) (sym is) (exact help_line (codes "help" ∷ []) refl (fixed _ _ refl refl refl, tt))
+exact_lines_stand line (inl (inl (None, is))) = subst (λ (l : List ℕ). line_meant l ≡ l) (sym is) (exact (help_line None) (codes "help" ∷ []) refl (fixed _ _ refl refl refl, tt))
+exact_lines_stand line (inl (inl (Some word, is))) =
+    subst (λ (l : List ℕ). line_meant l ≡ l) (sym is)
+    (elim word as (λ (t : Topic). line_meant (help_line (Some t)) ≡ help_line (Some t)) [
+      | topic.Step ↦ exact (help_line (Some topic.Step)) (codes "help" ∷ codes "step" ∷ []) refl (fixed _ _ refl refl refl, (fixed _ _ refl refl refl, tt))
+      | topic.Auto ↦ exact (help_line (Some topic.Auto)) (codes "help" ∷ codes "auto" ∷ []) refl (fixed _ _ refl refl refl, (fixed _ _ refl refl refl, tt))
+      | topic.Lose ↦ exact (help_line (Some topic.Lose)) (codes "help" ∷ codes "lose" ∷ []) refl (fixed _ _ refl refl refl, (fixed _ _ refl refl refl, tt))
+      | topic.Undo ↦ exact (help_line (Some topic.Undo)) (codes "help" ∷ codes "undo" ∷ []) refl (fixed _ _ refl refl refl, (fixed _ _ refl refl refl, tt))
+      | topic.Redo ↦ exact (help_line (Some topic.Redo)) (codes "help" ∷ codes "redo" ∷ []) refl (fixed _ _ refl refl refl, (fixed _ _ refl refl refl, tt))
+      | topic.Forget ↦ exact (help_line (Some topic.Forget)) (codes "help" ∷ codes "forget" ∷ []) refl (fixed _ _ refl refl refl, (fixed _ _ refl refl refl, tt))
+      | topic.Rollback ↦ exact (help_line (Some topic.Rollback)) (codes "help" ∷ codes "rollback" ∷ []) refl (fixed _ _ refl refl refl, (fixed _ _ refl refl refl, tt))
+      | topic.Why ↦ exact (help_line (Some topic.Why)) (codes "help" ∷ codes "why" ∷ []) refl (fixed _ _ refl refl refl, (fixed _ _ refl refl refl, tt))
+      | topic.Break ↦ exact (help_line (Some topic.Break)) (codes "help" ∷ codes "break" ∷ []) refl (fixed _ _ refl refl refl, (fixed _ _ refl refl refl, tt))
+      | topic.Unbreak ↦ exact (help_line (Some topic.Unbreak)) (codes "help" ∷ codes "unbreak" ∷ []) refl (fixed _ _ refl refl refl, (fixed _ _ refl refl refl, tt))
+      | topic.Resume ↦ exact (help_line (Some topic.Resume)) (codes "help" ∷ codes "resume" ∷ []) refl (fixed _ _ refl refl refl, (fixed _ _ refl refl refl, tt))
+      | topic.Show ↦ exact (help_line (Some topic.Show)) (codes "help" ∷ codes "show" ∷ []) refl (fixed _ _ refl refl refl, (fixed _ _ refl refl refl, tt))
+      | topic.Decisions ↦ exact (help_line (Some topic.Decisions)) (codes "help" ∷ codes "decisions" ∷ []) refl (fixed _ _ refl refl refl, (fixed _ _ refl refl refl, tt))
+      | topic.Help ↦ exact (help_line (Some topic.Help)) (codes "help" ∷ codes "help" ∷ []) refl (fixed _ _ refl refl refl, (fixed _ _ refl refl refl, tt))
+      | topic.Quit ↦ exact (help_line (Some topic.Quit)) (codes "help" ∷ codes "quit" ∷ []) refl (fixed _ _ refl refl refl, (fixed _ _ refl refl refl, tt))
+      | topic.Seat ↦ exact (help_line (Some topic.Seat)) (codes "help" ∷ codes "seat" ∷ []) refl (fixed _ _ refl refl refl, (fixed _ _ refl refl refl, tt))
+    ])
 exact_lines_stand line (inl (inr (inl is))) = subst (λ (l : List ℕ). line_meant l ≡ l) (sym is) (exact quit_line (codes "quit" ∷ []) refl (fixed _ _ refl refl refl, tt))
 exact_lines_stand line (inl (inr (inr (seat, within, is)))) =
     let range : IsInRange (number seat) = (within.0, omega (arith, within.1)) in

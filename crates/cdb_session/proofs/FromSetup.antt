@@ -17,6 +17,7 @@ use Rattle.cdb_streams.specs.declared.fault.PlayFault.{PlayFault}
 use Rattle.cdb_streams.specs.declared.fault.PlayFault.TheVariants as fault
 use Rattle.cdb_session.specs.Alone.{whole_part, IsLaterControl, nine}
 use Rattle.cdb_session.specs.Debugs as table
+use Rattle.cdb_session.specs.Greetings.{greeting_at, greeting_text}
 use Rattle.cdb_session.specs.Moves.{Known, Move, read_in, written_in, Makes}
 use Rattle.cdb_session.specs.Parts.{HasCommands}
 use Rattle.cdb_session.specs.Requests.{ended_lines, most_seats}
@@ -29,18 +30,18 @@ use Rattle.cdb_session.proofs.OwnControl.{later_control}
 
 -- ---- by its journal, and by the table
 
-module _ (rules : Parts → Rules) (prompt : List ℕ) (given : Parts) (c : Journaled) (of : c.setup ≡ given) (seats : c.seats ≡ most_seats) (few : length c.journal ≤ MAX_ENTRIES) where
-  answered : (lines : List (List ℕ)) (text : List ℕ) → IsAnswered (nine prompt) (whole_part rules c) lines text → IsDialogue prompt (begun rules given) lines text
+module _ (rules : Parts → Rules) (greeting prompt : List ℕ) (given : Parts) (c : Journaled) (of : c.setup ≡ given) (seats : c.seats ≡ most_seats) (few : length c.journal ≤ MAX_ENTRIES) where
+  answered : (lines : List (List ℕ)) (text : List ℕ) → IsAnswered (nine greeting prompt) (whole_part rules c) lines text → IsDialogue greeting prompt (begun rules given) lines text
   answered lines text (requests, others, asked, is, has) =
-      subst (λ (parts : Parts). IsDialogue prompt (begun rules parts) lines text) of
-      (requests, asked, is ∙ nothing_lost prompt rules c requests others seats few has)
+      subst (λ (parts : Parts). IsDialogue greeting prompt (begun rules parts) lines text) of
+      (requests, asked, is ∙ nothing_lost greeting prompt rules c requests others seats few has)
 
-  served : (lines : List (List ℕ)) (text : List ℕ) → IsServed (nine prompt) (whole_part rules c) lines text → IsDialogue prompt (begun rules given) lines text
+  served : (lines : List (List ℕ)) (text : List ℕ) → IsServed (nine greeting prompt) (whole_part rules c) lines text → IsDialogue greeting prompt (begun rules given) lines text
   served lines text (requests, asked, is, has) =
-      answered lines text (requests, [], asked, is, subst (HasCommands (nine prompt) (whole_part rules c)) (sym (append-nil requests)) has)
+      answered lines text (requests, [], asked, is, subst (HasCommands (nine greeting prompt) (whole_part rules c)) (sym (append-nil requests)) has)
 
-  ends : (returned : Result (Unit {0}) PlayFault) (moves : List Move) → EndsAs (IsAnswered (nine prompt) (whole_part rules c)) (IsServed (nine prompt) (whole_part rules c)) (IsCutShort (nine prompt) (whole_part rules c)) returned moves
-      → EndsAs (IsDialogue prompt (begun rules given)) (IsDialogue prompt (begun rules given)) (table.IsCutShort prompt (begun rules given)) returned moves
+  ends : (returned : Result (Unit {0}) PlayFault) (moves : List Move) → EndsAs (IsAnswered (nine greeting prompt) (whole_part rules c)) (IsServed (nine greeting prompt) (whole_part rules c)) (IsCutShort (nine greeting prompt) (whole_part rules c)) returned moves
+      → EndsAs (IsDialogue greeting prompt (begun rules given)) (IsDialogue greeting prompt (begun rules given)) (table.IsCutShort greeting prompt (begun rules given)) returned moves
   ends (Ok done) moves e = record { responded = served (lines_of (read_in moves)) (written_in moves) e.responded; ended = e.ended }
   ends (Err fault.Read) moves e = (record { responded = served (ended_lines (read_in moves)) (written_in moves) e.0.responded; goes_on = e.0.goes_on; more = e.0.more }, e.1)
   ends (Err fault.Write) moves e = (
@@ -53,7 +54,7 @@ module _ (rules : Parts → Rules) (prompt : List ℕ) (given : Parts) (c : Jour
   ends (Err (fault.Line script line why)) moves e = e
   ends (Err (fault.ScriptTooLong script)) moves e = e
 
-  by_table : (returned : Result (Unit {0}) PlayFault) (moves : List Move) → IsSession (nine prompt) (whole_part rules c) returned moves → table.IsSession prompt (begun rules given) returned moves
+  by_table : (returned : Result (Unit {0}) PlayFault) (moves : List Move) → IsSession (nine greeting prompt) (whole_part rules c) returned moves → table.IsSession greeting prompt (begun rules given) returned moves
   by_table returned moves s = record {
     in_time = λ before ask later is asks.
         let r = s.in_time before ask later is asks in
@@ -92,7 +93,7 @@ module _ (rules : Parts → Rules) (prompt json : List ℕ) where
   not_begun (fault.NoMemory refused) is = inl (is, refl)
   not_begun other is = absurd is
 
-  on_setup : (given : Parts) → Encodes json given → (returned : Result (Unit {0}) PlayFault) (moves : List Move) → table.IsSession prompt (begun rules given) returned moves → table.HasDebugged rules prompt json returned moves
+  on_setup : (given : Parts) → Encodes json given → (returned : Result (Unit {0}) PlayFault) (moves : List Move) → table.IsSession (greeting_at prompt (greeting_text given)) prompt (begun rules given) returned moves → table.HasDebugged rules prompt json returned moves
   on_setup given encodes (Ok done) moves s = (given, encodes, s)
   on_setup given encodes (Err (fault.Setup why)) moves s = absurd s.ends
   on_setup given encodes (Err (fault.Line script line why)) moves s = (given, encodes, s)
@@ -103,10 +104,10 @@ module _ (rules : Parts → Rules) (prompt json : List ℕ) where
 
   -- from a control in which nothing has happened to one that the session has left
   pub debugged : (old new : Known) (given : Parts) → Encodes json given → (first last : Journaled) → first ≡ opened given most_seats → Onward IsLaterControl first last
-      → (returned : Result (Unit {0}) PlayFault) → ((made : List Move) × Makes old new made × IsSession (nine prompt) (whole_part rules last) returned made) → table.Debugs rules prompt json returned old new
+      → (returned : Result (Unit {0}) PlayFault) → ((made : List Move) × Makes old new made × IsSession (nine (greeting_at prompt (greeting_text given)) prompt) (whole_part rules last) returned made) → table.Debugs rules prompt json returned old new
   debugged old new given encodes first last is later returned (made, makes, s) =
       let none : length first.journal ≡ 0 = ap (λ (c : Journaled). length c.journal) is in
       let its = later_control first last (omega (arith, none)) later in
       let of = its.0 ∙ ap (λ (c : Journaled). c.setup) is in
       let seats = its.1 ∙ ap (λ (c : Journaled). c.seats) is in
-      (made, makes, on_setup given encodes returned made (by_table rules prompt given last of seats its.2 returned made s))
+      (made, makes, on_setup given encodes returned made (by_table rules (greeting_at prompt (greeting_text given)) prompt given last of seats its.2 returned made s))

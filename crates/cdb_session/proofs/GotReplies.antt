@@ -19,7 +19,7 @@ MakesNone-refl part = record { calls = refl; replies = refl; full = λ full. ful
 asks_nothing : (seat : ℕ) (request : Request) (part : Part) → FindsFull request [] part → asked_of seat request ≡ [] ⊎ IsFull part
 asks_nothing seat (Call command) part full = inr (full command refl refl)
 asks_nothing seat (Seat chosen) part full = inl refl
-asks_nothing seat Help part full = inl refl
+asks_nothing seat (Help about) part full = inl refl
 asks_nothing seat Quit part full = inl refl
 asks_nothing seat (Fault fault) part full = inl refl
 asks_nothing seat TooLong part full = inl refl
@@ -83,8 +83,8 @@ module _ (style : StyleView) where
   same_line seat old (Seat chosen) got new done more may lines =
       let none = no_reply seat (Seat chosen) got old new (λ command e. cc) done.calls in
       (refl, ap (λ (front : List ToldReply). with_replies (seat_next style.chooses seat (Seat chosen)) (lines + 1) (front ++ more)) none)
-  same_line seat old Help got new done more may lines =
-      let none = no_reply seat Help got old new (λ command e. cc) done.calls in
+  same_line seat old (Help about) got new done more may lines =
+      let none = no_reply seat (Help about) got old new (λ command e. cc) done.calls in
       (refl, ap (λ (front : List ToldReply). with_replies seat (lines + 1) (front ++ more)) none)
   same_line seat old Quit got new done more may lines =
       let none = no_reply seat Quit got old new (λ command e. cc) done.calls in

@@ -38,7 +38,7 @@ grown s (Call command ∷ requests) few =
     grown (after_request s (Call command)) requests (fits MAX_ENTRIES full c d (entry s.seat command) has_room few refl)
     ∙ pick MAX_ENTRIES full c d (entry s.seat command) (all_asked true s.seat requests) is_full refl
 grown s (Seat chosen ∷ requests) few = grown (after_request s (Seat chosen)) requests few
-grown s (Help ∷ requests) few = grown (after_request s Help) requests few
+grown s (Help about ∷ requests) few = grown (after_request s (Help about)) requests few
 grown s (Quit ∷ requests) few = grown (after_request s Quit) requests few
 grown s (Fault fault ∷ requests) few = grown (after_request s (Fault fault)) requests few
 grown s (TooLong ∷ requests) few = grown (after_request s TooLong) requests few

@@ -3,6 +3,7 @@ pub mod MovesInOrder
 pub mod InputEnd
 pub mod WrittenText
 pub mod SeatLines
+pub mod HelpLines
 pub mod FullWords
 pub mod Names
 pub mod TypedWords

@@ -29,7 +29,7 @@ module _ (style : StyleView) where
   pub own_responses : {E : Type 0} (r : Result (Vec ℕ Global) E) (old new : SessionView) (request : Request) → new.part ≡ old.part → ((command : Command) → request ≢ Call command) → IfOk r (λ text. text.items ≡ own_response style old.lines request) → Responds style r old request new
   own_responses (Ok text) old new (Call command) same other is = absurd (other command refl)
   own_responses (Ok text) old new (Seat seat) same other is = ([], subst (HasDone old.seat old.part (Seat seat) []) (sym same) (none_done old.seat old.part (Seat seat) other), is)
-  own_responses (Ok text) old new Help same other is = ([], subst (HasDone old.seat old.part Help []) (sym same) (none_done old.seat old.part Help other), is)
+  own_responses (Ok text) old new (Help about) same other is = ([], subst (HasDone old.seat old.part (Help about) []) (sym same) (none_done old.seat old.part (Help about) other), is)
   own_responses (Ok text) old new Quit same other is = ([], subst (HasDone old.seat old.part Quit []) (sym same) (none_done old.seat old.part Quit other), is)
   own_responses (Ok text) old new (Fault fault) same other is = ([], subst (HasDone old.seat old.part (Fault fault) []) (sym same) (none_done old.seat old.part (Fault fault) other), is)
   own_responses (Ok text) old new TooLong same other is = ([], subst (HasDone old.seat old.part TooLong []) (sym same) (none_done old.seat old.part TooLong other), is)

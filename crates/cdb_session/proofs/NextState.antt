@@ -361,7 +361,7 @@ module _ (style : StyleView) (replies : List ToldReply) where
   -- ---- before the first line
 
   module _ (part : Part) (new : part.calls ≡ []) (made : List Move) (writes : AreWrites made) where
-    pub prompted : written_in made ≡ style.prompt → IsAt style replies made part (begun_along style replies) [] []
+    pub prompted : written_in made ≡ style.greeting ++ style.prompt → IsAt style replies made part (begun_along style replies) [] []
     prompted said =
         record {
           lines = [];
@@ -373,14 +373,14 @@ module _ (style : StyleView) (replies : List ToldReply) where
           unfinished_is = sym unfinished_of_nothing;
           asked = tt;
           goes_on = tt;
-          written = said ∙ sym (append-nil style.prompt);
+          written = said ∙ sym (append-nil (style.greeting ++ style.prompt));
           along_is = refl;
           few = omega (arith, ap length (nothing_read made writes));
           commands = inl new;
           in_time = λ final others has. writes_more (HasResponded (IsAnswered style (part_with replies final))) [] made (nothing_asked (HasResponded (IsAnswered style (part_with replies final)))) writes;
         }
 
-    pub not_prompted : (missing : List ℕ) → style.prompt ≡ written_in made ++ missing → EndsWith FailsToWrite made → IsSession style (part_with replies part) (ended_by output.Write) made
+    pub not_prompted : (missing : List ℕ) → style.greeting ++ style.prompt ≡ written_in made ++ missing → EndsWith FailsToWrite made → IsSession style (part_with replies part) (ended_by output.Write) made
     not_prompted missing said fails =
         record {
           in_time = writes_more (HasResponded (IsAnswered style (part_with replies part))) [] made (nothing_asked (HasResponded (IsAnswered style (part_with replies part)))) writes;
@@ -392,7 +392,7 @@ module _ (style : StyleView) (replies : List ToldReply) where
               missing = missing;
               begins = refl;
               responded = ([], tt, refl, inl new);
-              written = append-nil style.prompt ∙ said;
+              written = append-nil (style.greeting ++ style.prompt) ∙ said;
             },
             fails,
           );

@@ -1,6 +1,6 @@
 -- A line asks for one thing.
 use Rattle.std.proofs.Common.{◌≡◌, inl, inr, ℕ, ◌<◌, ◌≤◌, List, length, get_or, refl, sym, ap, ◌∙◌, arith}
-use Rattle.std.specs.Prelude.{Result, Ok, Err}
+use Rattle.std.specs.Prelude.{Option, Result, Ok, Err}
 use Rattle.cdb_commands.specs.declared.command.Command.{Command}
 use Rattle.cdb_setup.specs.Format.{longest}
 use Rattle.cdb_setup.specs.Parts.{IsWithin}
@@ -8,8 +8,10 @@ use Rattle.cdb_text.specs.Faults.{IsFaultOf}
 use Rattle.cdb_text.specs.Grammar.{IsLineOf}
 use Rattle.cdb_text.specs.declared.fault.LineFault.{LineFault}
 use Rattle.cdb_session.specs.Requests.{AsksFor, IsOwn, most_seats, help_line, quit_line, seat_line}
+use Rattle.cdb_session.specs.declared.topic.Topic.{Topic}
 use Rattle.cdb_session.specs.declared.request.Request.{Request}
 use Rattle.cdb_session.specs.declared.request.Request.TheVariants.{Call, Seat, Help, Quit, Fault, TooLong}
+use Rattle.cdb_session.proofs.HelpLines.{begins_with_h, same_topic}
 use Rattle.cdb_session.proofs.SeatLines.{digit}
 
 -- the first byte of a line that is equal to two
@@ -20,24 +22,24 @@ module _ (line : List ℕ) where
   pub only_too_long : longest < length line → (other : Request) → AsksFor other line → other ≡ TooLong
   only_too_long long (Call command) asks = absurd (omega (arith, long, asks.0))
   only_too_long long (Seat seat) asks = absurd (omega (arith, long, asks.0))
-  only_too_long long Help asks = absurd (omega (arith, long, asks.0))
+  only_too_long long (Help about) asks = absurd (omega (arith, long, asks.0))
   only_too_long long Quit asks = absurd (omega (arith, long, asks.0))
   only_too_long long (Fault fault) asks = absurd (omega (arith, long, asks.0))
   only_too_long long TooLong asks = refl
 
   module _ (few : length line ≤ longest) where
-    pub only_help : line ≡ help_line → (other : Request) → AsksFor other line → other ≡ Help
-    only_help is (Call command) asks = absurd (asks.1.0 (inl is))
-    only_help is (Seat seat) asks = absurd (let e : 104 ≡ 115 = first line help_line (seat_line seat) is asks.1.1 in omega (arith, e))
-    only_help is Help asks = refl
-    only_help is Quit asks = absurd (let e : 104 ≡ 113 = first line help_line quit_line is asks.1 in omega (arith, e))
-    only_help is (Fault fault) asks = absurd (asks.1.0 (inl is))
-    only_help is TooLong asks = absurd (omega (arith, few, asks))
+    pub only_help : (about : Option Topic) → line ≡ help_line about → (other : Request) → AsksFor other line → other ≡ Help about
+    only_help about is (Call command) asks = absurd (asks.1.0 (inl (about, is)))
+    only_help about is (Seat seat) asks = absurd (let e : 104 ≡ 115 = sym (begins_with_h about) ∙ first line (help_line about) (seat_line seat) is asks.1.1 in omega (arith, e))
+    only_help about is (Help another) asks = ap (λ (o : Option Topic). Help o) (same_topic another about (sym asks.1 ∙ is))
+    only_help about is Quit asks = absurd (let e : 104 ≡ 113 = sym (begins_with_h about) ∙ first line (help_line about) quit_line is asks.1 in omega (arith, e))
+    only_help about is (Fault fault) asks = absurd (asks.1.0 (inl (about, is)))
+    only_help about is TooLong asks = absurd (omega (arith, few, asks))
 
     pub only_quit : line ≡ quit_line → (other : Request) → AsksFor other line → other ≡ Quit
     only_quit is (Call command) asks = absurd (asks.1.0 (inr (inl is)))
     only_quit is (Seat seat) asks = absurd (let e : 113 ≡ 115 = first line quit_line (seat_line seat) is asks.1.1 in omega (arith, e))
-    only_quit is Help asks = absurd (let e : 113 ≡ 104 = first line quit_line help_line is asks.1 in omega (arith, e))
+    only_quit is (Help about) asks = absurd (let e : 113 ≡ 104 = first line quit_line (help_line about) is asks.1 ∙ begins_with_h about in omega (arith, e))
     only_quit is Quit asks = refl
     only_quit is (Fault fault) asks = absurd (asks.1.0 (inr (inl is)))
     only_quit is TooLong asks = absurd (omega (arith, few, asks))
@@ -46,7 +48,7 @@ module _ (line : List ℕ) where
     only_seat seat within is (Call command) asks = absurd (asks.1.0 (inr (inr (seat, within, is))))
     only_seat seat within is (Seat another) asks =
         let same : another ≡ seat = omega (arith, digit line seat within is, digit line another asks.1.0 asks.1.1) in ap (λ n. Seat n) same
-    only_seat seat within is Help asks = absurd (let e : 115 ≡ 104 = first line (seat_line seat) help_line is asks.1 in omega (arith, e))
+    only_seat seat within is (Help about) asks = absurd (let e : 115 ≡ 104 = first line (seat_line seat) (help_line about) is asks.1 ∙ begins_with_h about in omega (arith, e))
     only_seat seat within is Quit asks = absurd (let e : 115 ≡ 113 = first line (seat_line seat) quit_line is asks.1 in omega (arith, e))
     only_seat seat within is (Fault fault) asks = absurd (asks.1.0 (inr (inr (seat, within, is))))
     only_seat seat within is TooLong asks = absurd (omega (arith, few, asks))
@@ -55,7 +57,7 @@ module _ (line : List ℕ) where
       pub only_call : (command : Command) → read ≡ Ok command → (other : Request) → AsksFor other line → other ≡ Call command
       only_call command is (Call another) asks = let e = command_is another asks.1.1 in cc
       only_call command is (Seat seat) asks = absurd (other_line (inr (inr (seat, asks.1.0, asks.1.1))))
-      only_call command is Help asks = absurd (other_line (inl asks.1))
+      only_call command is (Help about) asks = absurd (other_line (inl (about, asks.1)))
       only_call command is Quit asks = absurd (other_line (inr (inl asks.1)))
       only_call command is (Fault fault) asks = absurd (let e = fault_is fault asks.1.1 in cc)
       only_call command is TooLong asks = absurd (omega (arith, few, asks))
@@ -63,7 +65,7 @@ module _ (line : List ℕ) where
       pub only_fault : (fault : LineFault) → read ≡ Err fault → (other : Request) → AsksFor other line → other ≡ Fault fault
       only_fault fault is (Call command) asks = absurd (let e = command_is command asks.1.1 in cc)
       only_fault fault is (Seat seat) asks = absurd (other_line (inr (inr (seat, asks.1.0, asks.1.1))))
-      only_fault fault is Help asks = absurd (other_line (inl asks.1))
+      only_fault fault is (Help about) asks = absurd (other_line (inl (about, asks.1)))
       only_fault fault is Quit asks = absurd (other_line (inr (inl asks.1)))
       only_fault fault is (Fault another) asks = let e = fault_is another asks.1.1 in cc
       only_fault fault is TooLong asks = absurd (omega (arith, few, asks))

@@ -37,7 +37,7 @@ table_one prompt = shown_by table.response_to table.after_request prompt
 abbrev table_shown : List ℕ → table.Session → List Request → List ℕ
 table_shown prompt = shown_from_by table.response_to table.after_request prompt
 
-module _ (prompt : List ℕ) where
+module _ (greeting prompt : List ℕ) where
   -- what is left to enter of what these lines ask for, and the session with the replies to that
   abbrev rest_of : table.Session → List Request → List Entry
   rest_of s requests = take (MAX_ENTRIES - length s.control.journal) (all_asked true s.seat requests)
@@ -66,18 +66,18 @@ module _ (prompt : List ℕ) where
   said s command full = (if full then full_text else text_of (reply_in s.rules s.control s.seat command)) ++ prompt
 
   called : (s : table.Session) (command : Command) (requests others : List Request) (full : Bool) → (length s.control.journal == MAX_ENTRIES) ≡ full → length s.control.journal ≤ MAX_ENTRIES
-      → shown_from (nine prompt) (along_of (behind s command full) (requests ++ others)) requests ≡ table_shown prompt (behind s command full) requests
-      → shown_from (nine prompt) (along_of s (Call command ∷ (requests ++ others))) (Call command ∷ requests) ≡ said s command full ++ table_shown prompt (behind s command full) requests
+      → shown_from (nine greeting prompt) (along_of (behind s command full) (requests ++ others)) requests ≡ table_shown prompt (behind s command full) requests
+      → shown_from (nine greeting prompt) (along_of s (Call command ∷ (requests ++ others))) (Call command ∷ requests) ≡ said s command full ++ table_shown prompt (behind s command full) requests
   called s command requests others true is few same =
       let at_most : length s.control.journal ≡ MAX_ENTRIES = (Decides-eqb (length s.control.journal) MAX_ENTRIES).0 is in
       let none : MAX_ENTRIES - length s.control.journal ≡ 0 = none_left (length s.control.journal) MAX_ENTRIES at_most in
       let asked : List Entry = entry s.seat command ∷ all_asked true s.seat (requests ++ others) in
       let with_room : ℕ → List ℕ = λ n. (
       let a : Along = record { seat = s.seat; replies = all_replies_from (s.rules s.control.setup) (control_state s.rules s.control) (take n asked); lines = s.lines } in
-      shown_from (nine prompt) a (Call command ∷ requests)) in
+      shown_from (nine greeting prompt) a (Call command ∷ requests)) in
       let then_room : ℕ → List ℕ = λ n. (
       let a : Along = record { seat = s.seat; replies = all_replies_from (s.rules s.control.setup) (control_state s.rules s.control) (take n (all_asked true s.seat (requests ++ others))); lines = s.lines + 1 } in
-      shown_from (nine prompt) a requests) in
+      shown_from (nine greeting prompt) a requests) in
       ap with_room none ∙ ap (λ text. said s command true ++ text) (sym (ap then_room none) ∙ same)
   called s command requests others false is few same =
       let c = s.control in
@@ -87,10 +87,10 @@ module _ (prompt : List ℕ) where
       let asked : List Entry = entry s.seat command ∷ all_asked true s.seat (requests ++ others) in
       let with_room : ℕ → List ℕ = λ n. (
       let a : Along = record { seat = s.seat; replies = all_replies_from (s.rules c.setup) (control_state s.rules c) (take n asked); lines = s.lines } in
-      shown_from (nine prompt) a (Call command ∷ requests)) in
+      shown_from (nine greeting prompt) a (Call command ∷ requests)) in
       let then_at : State × ℕ → List ℕ = λ p. (
       let a : Along = record { seat = s.seat; replies = all_replies_from (s.rules c.setup) p.0 (take (MAX_ENTRIES - p.1) (all_asked true s.seat (requests ++ others))); lines = s.lines + 1 } in
-      shown_from (nine prompt) a requests) in
+      shown_from (nine greeting prompt) a requests) in
       let there : (State × ℕ) = (control_state s.rules (extended s.rules c s.seat command), length (c.journal ++ entry s.seat command ∷ [])) in
       let here : (State × ℕ) = (obey (s.rules c.setup) (control_state s.rules c) s.seat command, length c.journal + 1) in
       let moved : there ≡ here = λ i. (state_more s.rules c s.seat command i, more i) in
@@ -101,30 +101,30 @@ module _ (prompt : List ℕ) where
   fits s command false is few =
       omega (arith, not_full (length s.control.journal) MAX_ENTRIES few is, length-append s.control.journal (entry s.seat command ∷ []))
 
-  same : (s : table.Session) (requests others : List Request) → length s.control.journal ≤ MAX_ENTRIES → shown_from (nine prompt) (along_of s (requests ++ others)) requests ≡ table_shown prompt s requests
+  same : (s : table.Session) (requests others : List Request) → length s.control.journal ≤ MAX_ENTRIES → shown_from (nine greeting prompt) (along_of s (requests ++ others)) requests ≡ table_shown prompt s requests
   same s [] others few = refl
   same s (Call command ∷ requests) others few =
       let full = length s.control.journal == MAX_ENTRIES in
       called s command requests others full refl few (same (behind s command full) requests others (fits s command full refl few))
   same s (Seat chosen ∷ requests) others few = ap (λ text. table_one prompt s (Seat chosen) ++ text) (same (table.after_request s (Seat chosen)) requests others few)
-  same s (Help ∷ requests) others few = ap (λ text. table_one prompt s Help ++ text) (same (table.after_request s Help) requests others few)
+  same s (Help about ∷ requests) others few = ap (λ text. table_one prompt s (Help about) ++ text) (same (table.after_request s (Help about)) requests others few)
   same s (Quit ∷ requests) others few = ap (λ text. table_one prompt s Quit ++ text) (same (table.after_request s Quit) requests others few)
   same s (Fault fault ∷ requests) others few = ap (λ text. table_one prompt s (Fault fault) ++ text) (same (table.after_request s (Fault fault)) requests others few)
   same s (TooLong ∷ requests) others few = ap (λ text. table_one prompt s TooLong ++ text) (same (table.after_request s TooLong) requests others few)
 
   -- the journal has as many of the entries as it has room for
-  as_many : (rules : Parts → Rules) (c : Journaled) (requests : List Request) → length c.journal ≤ MAX_ENTRIES → HasCommands (nine prompt) (whole_part rules c) requests → c.journal ≡ take MAX_ENTRIES (all_of (nine prompt) requests)
+  as_many : (rules : Parts → Rules) (c : Journaled) (requests : List Request) → length c.journal ≤ MAX_ENTRIES → HasCommands (nine greeting prompt) (whole_part rules c) requests → c.journal ≡ take MAX_ENTRIES (all_of (nine greeting prompt) requests)
   as_many rules c requests few (inl all) = sym (take_all MAX_ENTRIES c.journal few) ∙ ap (take MAX_ENTRIES) all
   as_many rules c requests few (inr some) =
       sym (take_all MAX_ENTRIES c.journal few) ∙ sym (take-append-le MAX_ENTRIES c.journal some.1 (omega (arith, some.0))) ∙ ap (take MAX_ENTRIES) (sym some.2)
 
   -- what a session shows by its journal is what the table says of its requests alone
-  pub nothing_lost : (rules : Parts → Rules) (c : Journaled) (requests others : List Request) → c.seats ≡ most_seats → length c.journal ≤ MAX_ENTRIES → HasCommands (nine prompt) (whole_part rules c) (requests ++ others)
-      → dialogue (nine prompt) (whole_part rules c).replies requests ≡ table.dialogue prompt (table.begun rules c.setup) requests
+  pub nothing_lost : (rules : Parts → Rules) (c : Journaled) (requests others : List Request) → c.seats ≡ most_seats → length c.journal ≤ MAX_ENTRIES → HasCommands (nine greeting prompt) (whole_part rules c) (requests ++ others)
+      → dialogue (nine greeting prompt) (whole_part rules c).replies requests ≡ table.dialogue greeting prompt (table.begun rules c.setup) requests
   unfolding replay
   nothing_lost rules c requests others nine_seats few has =
-      let shows : ℕ × List Entry → List ℕ = λ p. dialogue (nine prompt) (all_replies_from (rules c.setup) (first_control_state c.setup p.0) p.1) requests in
+      let shows : ℕ × List Entry → List ℕ = λ p. dialogue (nine greeting prompt) (all_replies_from (rules c.setup) (first_control_state c.setup p.0) p.1) requests in
       let from : (ℕ × List Entry) = (c.seats, c.journal) in
-      let to : (ℕ × List Entry) = (most_seats, take MAX_ENTRIES (all_of (nine prompt) (requests ++ others))) in
+      let to : (ℕ × List Entry) = (most_seats, take MAX_ENTRIES (all_of (nine greeting prompt) (requests ++ others))) in
       let is : from ≡ to = λ i. (nine_seats i, as_many rules c (requests ++ others) few has i) in
-      ap shows is ∙ ap (λ text. prompt ++ text) (same (table.begun rules c.setup) requests others (omega arith))
+      ap shows is ∙ ap (λ text. (greeting ++ prompt) ++ text) (same (table.begun rules c.setup) requests others (omega arith))

@@ -1,9 +1,10 @@
 -- The lines that choose a seat.
 use Rattle.std.proofs.Common.{◌≡◌, ◌≢◌, inl, inr, ℕ, ◌+◌, ◌-◌, ◌<◌, ◌≤◌, List, [], ◌∷◌, ◌++◌, length, take, drop, get_or, sym, ap, ◌∙◌, arith, drop-cons, take-append-drop}
-use Rattle.std.specs.Prelude.{codes}
+use Rattle.std.specs.Prelude.{codes, Option}
 use Rattle.std.proofs.lemmas.Fmt.{decimal_digit}
 use Rattle.std.proofs.lemmas.List.{length-drop, nil_from_length}
 use Rattle.cdb_setup.specs.Parts.{IsWithin}
+use Rattle.cdb_session.specs.declared.topic.Topic.{Topic}
 use Rattle.cdb_session.specs.Requests.{IsOwn, help_line, quit_line, seat_line, most_seats}
 
 -- such a line has one digit
@@ -37,7 +38,7 @@ module _ (line : List ℕ) (seat : ℕ) (within : IsWithin 1 most_seats seat) (i
   digit = ap (λ bytes. get_or bytes 5 0) whole
 
 -- a line that is none of these is not one of the session's own
-pub not_own : (line : List ℕ) → line ≢ help_line → line ≢ quit_line → ((seat : ℕ) → IsWithin 1 most_seats seat → ¬ (line ≡ seat_line seat)) → ¬ IsOwn line
-not_own line help quit seat (inl is) = help is
+pub not_own : (line : List ℕ) → ((about : Option Topic) → ¬ (line ≡ help_line about)) → line ≢ quit_line → ((seat : ℕ) → IsWithin 1 most_seats seat → ¬ (line ≡ seat_line seat)) → ¬ IsOwn line
+not_own line help quit seat (inl is) = help is.0 is.1
 not_own line help quit seat (inr (inl is)) = quit is
 not_own line help quit seat (inr (inr is)) = seat is.0 is.1 is.2

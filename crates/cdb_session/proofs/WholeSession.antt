@@ -47,7 +47,7 @@ module _ (style : StyleView) where
   -- ---- the first
 
   module _ (before now : Known) (session : SessionView) (fresh : (session.part.calls ≡ []) × (session.part.replies ≡ [])) where
-    pub started : (A E : Type 0) (a : A) → session.lines ≡ 0 → session.seat ≡ style.first → WritesAll {E = E} (Ok a) before now style.prompt → Arrives before now session [] 0
+    pub started : (A E : Type 0) (a : A) → session.lines ≡ 0 → session.seat ≡ style.first → WritesAll {E = E} (Ok a) before now (style.greeting ++ style.prompt) → Arrives before now session [] 0
     started A E a none is_first says = (
       says.0,
       says.1,
@@ -58,7 +58,7 @@ module _ (style : StyleView) where
       open_writes [] says.0 tt says.2,
     )
 
-    pub not_started : (A E : Type 0) (e : E) → WritesAll {A = A} (Err e) before now style.prompt → RespondsToAll style (ended_by output.Write) before now session
+    pub not_started : (A E : Type 0) (e : E) → WritesAll {A = A} (Err e) before now (style.greeting ++ style.prompt) → RespondsToAll style (ended_by output.Write) before now session
     not_started A E e says = (says.0, says.1, not_prompted style session.part.replies session.part fresh.0 says.0 says.2 says.3.0 says.3.1 says.3.2)
 
   -- ---- in between

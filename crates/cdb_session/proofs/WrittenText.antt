@@ -1,10 +1,10 @@
 -- A text that is handed over piece by piece.
-use Rattle.std.proofs.Common.{◌≡◌, ℕ, ◌+◌, ◌-◌, ◌≤◌, List, [], ◌∷◌, ◌++◌, length, take, drop, refl, sym, ap, ◌∙◌, append-nil, take-append-drop}
-use Rattle.std.specs.Prelude.{Ok, Err}
+use Rattle.std.proofs.Common.{◌≡◌, ℕ, ◌+◌, ◌-◌, ◌≤◌, List, [], ◌∷◌, ◌++◌, length, take, drop, refl, sym, ap, ◌∙◌, append-nil, append_assoc, take-append-drop}
+use Rattle.std.specs.Prelude.{Result, Ok, Err}
 use Rattle.std.proofs.lemmas.List.{take_rest, take_all}
 use Rattle.std.proofs.Math.Seq.{take-add}
-use Rattle.cdb_session.specs.Moves.{WritesAll, Known, Move, Wrote, written_in, written_by, AsksForInput, AreWrites, FailsToWrite, Makes}
-use Rattle.cdb_session.proofs.MovesInOrder.{Makes-nothing, Makes-more, written-append}
+use Rattle.cdb_session.specs.Moves.{WritesAll, Known, Move, Wrote, written_in, written_by, AsksForInput, AreWrites, FailsToWrite, EndsWith, Makes}
+use Rattle.cdb_session.proofs.MovesInOrder.{Makes-nothing, Makes-more, EndsWith-more, written-append}
 
 -- the first bytes of the text were taken
 pub record HasWritten (old now : Known) (text : List ℕ) (done : ℕ) : Type 0 where
@@ -53,3 +53,29 @@ module _ (old now new : Known) (text : List ℕ) (done : ℕ) (so : HasWritten o
 -- all of it was taken
 pub all_said : (A E : Type 0) (a : A) (old now : Known) (text : List ℕ) (done : ℕ) → HasWritten old now text done → length text ≤ done → WritesAll {E = E} (Ok a) old now text
 all_said A E a old now text done so all = (so.made, so.makes, so.writes, so.written ∙ take_all done text all)
+
+-- one text after the other
+module _ (A E : Type 0) (old now new : Known) (one other : List ℕ) where
+  pub both_said : (B F : Type 0) (r : Result B F) (a : A) → WritesAll {E = E} (Ok a) old now one → WritesAll r now new other → WritesAll r old new (one ++ other)
+  both_said B F (Ok b) a (made, makes, writes, is) (more, makes_more, writes_more, is_more) = (
+    made ++ more,
+    Makes-more old now new made more makes makes_more,
+    AreWrites-append made more writes writes_more,
+    written-append made more ∙ ap (λ text. text ++ written_in more) is ∙ ap (λ text. one ++ text) is_more,
+  )
+  both_said B F (Err f) a (made, makes, writes, is) (more, makes_more, writes_more, (missing, said, fails)) = (
+    made ++ more,
+    Makes-more old now new made more makes makes_more,
+    AreWrites-append made more writes writes_more,
+    (
+      missing,
+      ap (λ text. one ++ text) said ∙ sym (append_assoc one (written_in more) missing)
+          ∙ ap (λ text. text ++ missing) (ap (λ text. text ++ written_in more) (sym is) ∙ sym (written-append made more)),
+      EndsWith-more FailsToWrite made more fails,
+    ),
+  )
+
+  -- the first was not said whole
+  pub first_cut_off : (B F : Type 0) (e : E) (f : F) → WritesAll {A = A} (Err e) old now one → WritesAll {A = B} (Err f) old now (one ++ other)
+  first_cut_off B F e f (made, makes, writes, (missing, said, fails)) =
+      (made, makes, writes, (missing ++ other, ap (λ text. text ++ other) said ∙ append_assoc (written_in made) missing other, fails))

@@ -33,5 +33,5 @@ abbrev pub IsLaterControl : Journaled → Journaled → Type 0
 IsLaterControl old new = (new.setup ≡ old.setup) × (new.seats ≡ old.seats) × (length new.journal ≤ MAX_ENTRIES)
 
 -- the style of a session with nine seats
-abbrev pub nine : List ℕ → StyleView
-nine prompt = record { prompt = prompt; first = 1; chooses = true }
+abbrev pub nine : List ℕ → List ℕ → StyleView
+nine greeting prompt = record { greeting = greeting; prompt = prompt; first = 1; chooses = true }

@@ -1,14 +1,19 @@
 -- The responses of a session, along its lines.
-use Rattle.std.specs.Prelude.{◌≡◌, ℕ, Bool, true, false, List, [], ◌∷◌, ◌++◌, codes, decimal}
+use Rattle.std.specs.Prelude.{◌≡◌, ℕ, ◌==◌, Bool, true, false, List, [], ◌∷◌, ◌++◌, codes, decimal, drop, if◌then◌else◌, Option, None, Some}
+use Rattle.std.specs.List.{before_first, flat_map}
+use Rattle.std.specs.Str.{bytes_eq}
+use Rattle.std.specs.Str.Lines.{lines}
 use Rattle.cdb_control.specs.FaultTexts.{call_fault_text}
 use Rattle.cdb_control.specs.declared.control.CallFault.TheVariants.{JournalFull}
 use Rattle.cdb_streams.specs.FaultTexts.{as_line}
 use Rattle.cdb_text.specs.LineFaults.{line_fault_text}
 use Rattle.cdb_text.specs.declared.fault.LineFault.{LineFault}
-use Rattle.cdb_text.specs.declared.fault.LineFault.TheVariants.{Empty}
+use Rattle.cdb_text.specs.declared.fault.LineFault.TheVariants.{Empty, Word}
 use Rattle.cdb_session.specs.Requests.{AreAsked}
+use Rattle.cdb_session.specs.Topics.{topic_word}
 use Rattle.cdb_session.specs.declared.help.TheConstants.{COMMANDS, SEATS, OTHERS}
 use Rattle.cdb_session.specs.declared.request.Request.{Request}
+use Rattle.cdb_session.specs.declared.topic.Topic.{Topic}
 use Rattle.cdb_session.specs.declared.request.Request.TheVariants.{Quit}
 
 -- ---- the texts
@@ -37,6 +42,27 @@ seats_help false = []
 abbrev pub help_text : Bool → List ℕ
 help_text seats = COMMANDS.now ++ (seats_help seats ++ OTHERS.now)
 
+-- a line of it is about its first word, which stands behind two spaces
+abbrev pub first_word : List ℕ → List ℕ
+first_word line = before_first (λ byte. byte == 32) (drop 2 line)
+
+abbrev pub line_about : Topic → List ℕ → List ℕ
+line_about topic line = if bytes_eq (first_word line) (topic_word topic) then as_line line else []
+
+-- the lines of it that are about this word
+unfoldable pub lines_about : Topic → List ℕ → List ℕ
+lines_about topic help = flat_map (line_about topic) (lines help)
+
+-- A word that no line is about is a wrong word, as `seat` where no line chooses one.
+abbrev pub or_word_fault : ℕ → List ℕ → List ℕ
+or_word_fault line [] = faulty_line_text line Word
+or_word_fault line (byte ∷ text) = byte ∷ text
+
+-- the response to a line of this number that asks for the help
+abbrev pub help_response : ℕ → Bool → Option Topic → List ℕ
+help_response line seats None = help_text seats
+help_response line seats (Some topic) = or_word_fault line (lines_about topic (help_text seats))
+
 -- ---- all lines
 
 -- The prompt stands before each line, and so after each response but that to `quit`.
@@ -53,11 +79,11 @@ module _ {S : Type 0} (respond : S → Request → List ℕ) (next : S → Reque
   shown_from_by s [] = []
   shown_from_by s (request ∷ requests) = shown_by s request ++ shown_from_by (next s request) requests
 
-  -- all that is shown in a session from this start whose lines ask for this
-  abbrev pub dialogue_by : S → List Request → List ℕ
-  dialogue_by start requests = prompt ++ shown_from_by start requests
+  -- all that is shown in a session from this start whose lines ask for this: the greeting stands before the first prompt
+  abbrev pub dialogue_by : List ℕ → S → List Request → List ℕ
+  dialogue_by greeting start requests = (greeting ++ prompt) ++ shown_from_by start requests
 
   -- the text is what is shown in a session with these lines, of which it responds to those up to `quit`
-  abbrev pub IsDialogueBy : S → List (List ℕ) → List ℕ → Type 0
-  IsDialogueBy start lines text = (requests : List Request) × AreAsked requests lines
-      × (text ≡ dialogue_by start requests)
+  abbrev pub IsDialogueBy : List ℕ → S → List (List ℕ) → List ℕ → Type 0
+  IsDialogueBy greeting start lines text = (requests : List Request) × AreAsked requests lines
+      × (text ≡ dialogue_by greeting start requests)

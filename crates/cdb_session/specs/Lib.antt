@@ -1,9 +1,11 @@
 -- ---- what the public contracts name
 pub mod Moves
+pub mod Topics
 pub mod Typed
 pub mod Requests
 pub mod Styles
 pub mod Dialogues
+pub mod Greetings
 pub mod Parts
 pub mod Replies
 pub mod Table

@@ -11,7 +11,7 @@ use Rattle.cdb_session.specs.Styles.{StyleView, Part, IsFull}
 abbrev pub asked_of : ℕ → Request → List Entry
 asked_of seat (Call command) = entry seat command ∷ []
 asked_of seat (Seat chosen) = []
-asked_of seat Help = []
+asked_of seat (Help about) = []
 asked_of seat Quit = []
 asked_of seat (Fault fault) = []
 asked_of seat TooLong = []
@@ -20,7 +20,7 @@ asked_of seat TooLong = []
 abbrev pub seat_next : Bool → ℕ → Request → ℕ
 seat_next chooses seat (Call command) = seat
 seat_next chooses seat (Seat chosen) = if chooses then chosen else seat
-seat_next chooses seat Help = seat
+seat_next chooses seat (Help about) = seat
 seat_next chooses seat Quit = seat
 seat_next chooses seat (Fault fault) = seat
 seat_next chooses seat TooLong = seat

@@ -3,7 +3,7 @@ use Rattle.std.specs.Prelude.{ℕ, ◌+◌, List, [], ◌∷◌, ◌++◌, codes
 use Rattle.cdb_commands.specs.ToldReply.{ToldReply}
 use Rattle.cdb_text.specs.Texts.{text_of}
 use Rattle.cdb_text.specs.declared.fault.LineFault.TheVariants.{Word}
-use Rattle.cdb_session.specs.Dialogues.{full_text, faulty_line_text, fault_response, long_line_text, help_text, shown_by, shown_from_by}
+use Rattle.cdb_session.specs.Dialogues.{full_text, faulty_line_text, fault_response, long_line_text, help_response, shown_by, shown_from_by}
 use Rattle.cdb_session.specs.Dialogues.{dialogue_by}
 use Rattle.cdb_session.specs.Parts.{seat_next}
 use Rattle.cdb_session.specs.Requests.{seat_line}
@@ -31,7 +31,7 @@ next_replies (reply ∷ replies) = replies
 abbrev pub replies_after : List ToldReply → Request → List ToldReply
 replies_after replies (Call command) = next_replies replies
 replies_after replies (Seat seat) = replies
-replies_after replies Help = replies
+replies_after replies (Help about) = replies
 replies_after replies Quit = replies
 replies_after replies (Fault fault) = replies
 replies_after replies TooLong = replies
@@ -46,7 +46,7 @@ module _ (style : StyleView) where
   own_response lines (Call command) = []
   own_response lines (Seat seat) =
       if style.chooses then (seat_line seat ++ codes "\n") else faulty_line_text (lines + 1) Word
-  own_response lines Help = help_text style.chooses
+  own_response lines (Help about) = help_response (lines + 1) style.chooses about
   own_response lines Quit = []
   own_response lines (Fault fault) = fault_response (lines + 1) fault
   own_response lines TooLong = long_line_text (lines + 1)
@@ -55,7 +55,7 @@ module _ (style : StyleView) where
   abbrev pub response : Along → Request → List ℕ
   response s (Call command) = reply_text s.replies
   response s (Seat seat) = own_response s.lines (Seat seat)
-  response s Help = own_response s.lines Help
+  response s (Help about) = own_response s.lines (Help about)
   response s Quit = []
   response s (Fault fault) = own_response s.lines (Fault fault)
   response s TooLong = own_response s.lines TooLong
@@ -79,7 +79,7 @@ module _ (style : StyleView) where
 
   -- all that is shown in a session whose commands get these replies, and whose lines ask for this
   abbrev pub dialogue : List ToldReply → List Request → List ℕ
-  dialogue replies requests = dialogue_by response next_along style.prompt (begun_along replies) requests
+  dialogue replies requests = dialogue_by response next_along style.prompt style.greeting (begun_along replies) requests
 
   -- the session after these requests
   abbrev pub along_after : Along → List Request → Along

@@ -1,5 +1,5 @@
 -- What the lines of a session ask for.
-use Rattle.std.specs.Prelude.{◌≡◌, ◌⊎◌, ℕ, ◌<◌, ◌≤◌, List, [], ◌∷◌, ◌++◌, length, codes, decimal, if◌then◌else◌, false}
+use Rattle.std.specs.Prelude.{◌≡◌, ◌⊎◌, ℕ, ◌<◌, ◌≤◌, List, [], ◌∷◌, ◌++◌, length, codes, decimal, Option, None, Some, if◌then◌else◌, false}
 use Rattle.std.specs.List.{AllZip, slice_split, All}
 use Rattle.std.specs.Str.{bytes_eq}
 use Rattle.std.specs.Prelude.{nat_eq}
@@ -8,7 +8,9 @@ use Rattle.cdb_setup.specs.Format.{longest}
 use Rattle.cdb_setup.specs.Parts.{IsWithin}
 use Rattle.cdb_text.specs.Faults.{IsFaultOf}
 use Rattle.cdb_text.specs.Grammar.{IsLineOf}
+use Rattle.cdb_session.specs.Topics.{topic_word}
 use Rattle.cdb_session.specs.Typed.{line_meant}
+use Rattle.cdb_session.specs.declared.topic.Topic.{Topic}
 use Rattle.cdb_session.specs.declared.request.Request.{Request}
 use Rattle.cdb_session.specs.declared.request.Request.TheVariants.{Call, Seat, Help, Quit, Fault, TooLong}
 
@@ -24,8 +26,10 @@ ended_lines bytes = without_last (slice_split (λ byte. nat_eq byte 10) bytes)
 
 -- ---- the lines that a session takes beside commands
 
-abbrev pub help_line : List ℕ
-help_line = codes "help"
+-- `help`, or `help WORD`
+abbrev pub help_line : Option Topic → List ℕ
+help_line None = codes "help"
+help_line (Some topic) = codes "help " ++ topic_word topic
 
 abbrev pub quit_line : List ℕ
 quit_line = codes "quit"
@@ -37,7 +41,7 @@ seat_line seat = codes "seat " ++ decimal seat
 -- the line is one of these
 abbrev pub IsOwn : List ℕ → Type 0
 IsOwn line =
-    (line ≡ help_line) ⊎ ((line ≡ quit_line) ⊎ ((seat : ℕ) × IsWithin 1 most_seats seat × (line ≡ seat_line seat)))
+    ((about : Option Topic) × (line ≡ help_line about)) ⊎ ((line ≡ quit_line) ⊎ ((seat : ℕ) × IsWithin 1 most_seats seat × (line ≡ seat_line seat)))
 
 -- ---- what a line asks for
 
@@ -45,7 +49,7 @@ IsOwn line =
 abbrev pub Means : Request → List ℕ → Type 0
 Means (Call command) line = (¬ IsOwn line) × IsLineOf command line
 Means (Seat seat) line = IsWithin 1 most_seats seat × (line ≡ seat_line seat)
-Means Help line = line ≡ help_line
+Means (Help about) line = line ≡ help_line about
 Means Quit line = line ≡ quit_line
 Means (Fault fault) line = (¬ IsOwn line) × IsFaultOf fault line
 Means TooLong line = ⊥

@@ -1,5 +1,5 @@
 -- What a session shows beside its responses, and what calls do to the part of a journal that is its own.
-use Rattle.std.specs.Prelude.{◌≡◌, ℕ, ◌≤◌, Bool, true, List, [], ◌∷◌, ◌++◌, Result, Ok, Err}
+use Rattle.std.specs.Prelude.{◌≡◌, ℕ, ◌≤◌, Bool, true, List, [], ◌∷◌, ◌++◌, decimal, Result, Ok, Err, if◌then◌else◌}
 use Rattle.cdb_base.specs.Limits.{MAX_ENTRIES}
 use Rattle.cdb_commands.specs.ToldReply.{ToldReply, told}
 use Rattle.cdb_commands.specs.declared.reply.Reply.{Reply}
@@ -9,11 +9,16 @@ use Rattle.cdb_control.specs.declared.control.Entry.{Entry}
 use Rattle.cdb_session.specs.Requests.{most_seats}
 use Rattle.cdb_setup.specs.Parts.{IsWithin}
 
--- What is shown before each line, the seat of the first lines, and whether a line may choose another.
+-- What is shown before the first prompt and before each line, the seat of the first lines, and whether a line may choose another.
 pub record StyleView : Type 0 where
+  pub greeting : List ℕ
   pub prompt : List ℕ
   pub first : ℕ
   pub chooses : Bool
+
+-- a prompt with the number of the seat, or without it
+abbrev pub prompt_at : Bool → ℕ → List ℕ → List ℕ
+prompt_at numbered seat prompt = if numbered then (decimal seat ++ prompt) else prompt
 
 -- What a journal has of a session: its entries, in order; the replies to them, each at its position in the journal; and
 -- how many entries the journal has in all.

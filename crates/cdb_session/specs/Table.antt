@@ -5,7 +5,7 @@ use Rattle.cdb_control.specs.Journal.{Journaled, opened, extended, reply_in}
 use Rattle.cdb_rules.specs.Rules.{Rules}
 use Rattle.cdb_setup.specs.Parts.{Parts}
 use Rattle.cdb_text.specs.Texts.{text_of}
-use Rattle.cdb_session.specs.Dialogues.{full_text, fault_response, long_line_text, help_text, dialogue_by}
+use Rattle.cdb_session.specs.Dialogues.{full_text, fault_response, long_line_text, help_response, dialogue_by}
 use Rattle.cdb_session.specs.Dialogues.{IsDialogueBy}
 use Rattle.cdb_session.specs.Parts.{seat_next}
 use Rattle.cdb_session.specs.Requests.{most_seats, seat_line}
@@ -31,7 +31,7 @@ abbrev pub response_to : Session → Request → List ℕ
 response_to s (Call command) =
     if length s.control.journal == MAX_ENTRIES then full_text else text_of (reply_in s.rules s.control s.seat command)
 response_to s (Seat seat) = seat_line seat ++ codes "\n"
-response_to s Help = help_text true
+response_to s (Help about) = help_response (s.lines + 1) true about
 response_to s Quit = []
 response_to s (Fault fault) = fault_response (s.lines + 1) fault
 response_to s TooLong = long_line_text (s.lines + 1)
@@ -42,7 +42,7 @@ control_after s (Call command) =
     if length s.control.journal == MAX_ENTRIES then s.control
     else extended s.rules s.control s.seat command
 control_after s (Seat seat) = s.control
-control_after s Help = s.control
+control_after s (Help about) = s.control
 control_after s Quit = s.control
 control_after s (Fault fault) = s.control
 control_after s TooLong = s.control
@@ -59,14 +59,14 @@ after_request s request =
 
 -- ---- all lines
 
-module _ (prompt : List ℕ) where
+module _ (greeting prompt : List ℕ) where
   -- all that is shown in a session from this start whose lines ask for this
   abbrev pub dialogue : Session → List Request → List ℕ
-  dialogue start requests = dialogue_by response_to after_request prompt start requests
+  dialogue start requests = dialogue_by response_to after_request prompt greeting start requests
 
   -- the text is that of a session from this start with these lines, of which it responds to those up to `quit`
   abbrev pub IsDialogue : Session → List (List ℕ) → List ℕ → Type 0
-  IsDialogue start lines text = IsDialogueBy response_to after_request prompt start lines text
+  IsDialogue start lines text = IsDialogueBy response_to after_request prompt greeting start lines text
 
 -- the session after these requests
 abbrev pub session_after : Session → List Request → Session

@@ -1,9 +1,10 @@
 -- Which line a line stands for, as it is typed.
-use Rattle.std.specs.Prelude.{ℕ, ◌==◌, ◌||◌, ◌&&◌, Bool, false, not, nat_eq, nat_lt, List, [], ◌∷◌, ◌++◌, length, codes, filter, fold, if◌then◌else◌}
+use Rattle.std.specs.Prelude.{ℕ, ◌==◌, ◌||◌, ◌&&◌, Bool, false, not, nat_eq, nat_lt, List, [], ◌∷◌, ◌++◌, length, codes, filter, fold, map, if◌then◌else◌}
 use Rattle.std.specs.List.{list_all, slice_split, join_with_byte, starts_with, before_first, after_first}
 use Rattle.std.specs.Str.{bytes_eq}
 use Rattle.std.specs.Char.{is_ascii_digit}
 use Rattle.cdb_setup.specs.Format.{longest}
+use Rattle.cdb_session.specs.Topics.{topic_word, topics}
 
 -- ---- the pieces of a line
 
@@ -50,9 +51,7 @@ is_word word = not (length word == 0 || bytes_eq word (codes "to"))
 
 -- the words that may begin a line
 abbrev pub first_words : List (List ℕ)
-first_words =
-    codes "step" ∷ codes "auto" ∷ codes "lose" ∷ codes "undo" ∷ codes "redo" ∷ codes "forget" ∷ codes "rollback" ∷ codes "why"
-    ∷ codes "break" ∷ codes "unbreak" ∷ codes "resume" ∷ codes "show" ∷ codes "decisions" ∷ codes "help" ∷ codes "quit" ∷ codes "seat" ∷ []
+first_words = map topic_word topics
 
 -- the words that may follow this one at once
 abbrev pub second_words : List ℕ → List (List ℕ)
@@ -60,7 +59,8 @@ second_words first =
     if bytes_eq first (codes "break") then (codes "decide" ∷ codes "round" ∷ codes "recv" ∷ codes "write" ∷ []) else
     (if bytes_eq first (codes "show") then (codes "regs" ∷ codes "mail" ∷ codes "history" ∷ []) else
     (if bytes_eq first (codes "undo") || (bytes_eq first (codes "rollback") || bytes_eq first (codes "why"))
-    then (codes "lost" ∷ []) else []))
+    then (codes "lost" ∷ [])
+    else (if bytes_eq first (codes "help") then first_words else [])))
 
 -- what a process may be told to do
 abbrev pub acts : List (List ℕ)

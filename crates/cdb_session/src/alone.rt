@@ -7,6 +7,7 @@ ghost use Rattle.cdb_session.specs.Requests.{most_seats};
 
 use crate::caller::Caller;
 use crate::console::Console;
+use crate::greeting::{greeting_at, greeting_text};
 use crate::repl::run;
 use crate::session::Session;
 use crate::style::Style;
@@ -45,22 +46,24 @@ fn open<R: Runs>(alloc: Global, setup: Setup) -> Result<Control<R>, NoMemory>
     }
 }
 
-/// A control of the setup of this text, in which nothing has happened, with nine seats.
+/// A control of the setup of this text, in which nothing has happened, with nine seats, and the setup in words.
 ///
 /// # Errors
 /// `Setup` with the setup's first fault, and `NoMemory` where an allocation fails.
-pub fn begin<R: Runs>(alloc: Global, setup: &[u8]) -> Result<Control<R>, PlayFault>
-    ensures begun { IfOk result (IsBegun setup.now) }
+pub fn begin<R: Runs>(alloc: Global, setup: &[u8]) -> Result<(Control<R>, Vec<u8>), PlayFault>
+    ensures begun { IfOk result (λ begun. IsBegun setup.now begun.0 begun.1.items) }
     ensures fault { IfErr result (IsFaultOfBeginning setup.now) }
 {
     let setup = Setup::read(alloc, setup)?;
+    let greeting = greeting_text(alloc, &setup)?;
     let control = open::<R>(alloc, setup)?;
-    Ok(control)
+    Ok((control, greeting))
 }
 
 /// A session on a run of the setup, in which each line has its response before more input is asked for: a command of
 /// the seat that the session is at, `help`, `seat S`, or `quit`, which ends it; a line that is none of these has its
-/// fault. The prompt is shown before each line. The end of the input, which is asked for once, ends the session too,
+/// fault. The prompt is shown before each line, and the setup in words before the first prompt; where the prompt has no
+/// bytes, neither is. The end of the input, which is asked for once, ends the session too,
 /// and so do 2^63 bytes.
 ///
 /// # Errors
@@ -81,9 +84,12 @@ pub fn debug<R: Runs, T: Console>(
 ) -> Result<(), PlayFault>
     ensures { Debugs R.rules prompt.now setup.now result (T.known console.old) (T.known console.new) }
 {
-    let control = begin::<R>(alloc, setup)?;
+    let begun = begin::<R>(alloc, setup)?;
+    let (control, greeting) = begun;
     let style = Style {
+        greeting: greeting_at(greeting.as_slice(), prompt),
         prompt,
+        numbered: false,
         first: 1,
         chooses: true,
     };

@@ -1,7 +1,8 @@
 //! A session from its first line to its last.
 
-ghost use Rattle.std.specs.Prelude.{◌≡◌, [], ◌-◌, ◌<◌, ◌^◌};
+ghost use Rattle.std.specs.Prelude.{◌≡◌, [], ◌-◌, ◌<◌, ◌^◌, ◌++◌};
 ghost use Rattle.cdb_session.specs.Lines.{seen_by};
+ghost use Rattle.cdb_session.specs.Moves.{WritesAll};
 ghost use Rattle.cdb_session.specs.Styles.{MaySit, Onward};
 ghost use Rattle.cdb_session.specs.Unfinished.{RespondsToLast, RespondsToAll};
 
@@ -10,7 +11,8 @@ use crate::console::{Console, write_all};
 use crate::feed::{feed, respond_to_line};
 use crate::session::Session;
 use crate::style::Style;
-use cdb_streams::PlayFault;
+use cdb_streams::{Failed, PlayFault};
+use itoa::Buffer;
 use std::alloc::Global;
 
 /// How many bytes are asked for at a time.
@@ -40,8 +42,8 @@ fn respond_to_last<C: Caller, T: Console>(
     Ok(())
 }
 
-/// Answers the lines one after the other, from the first one on, up to `quit` or the end of the input. The prompt is
-/// shown before each line. The end of the input ends the session too, and so do 2^63 bytes. After `Read` each line
+/// Answers the lines one after the other, from the first one on, up to `quit` or the end of the input. The
+/// greeting is shown first, and the prompt before each line. The end of the input ends the session too, and so do 2^63 bytes. After `Read` each line
 /// that has ended has its response, after `Write` what was written is a beginning of the responses, and after
 /// `NoMemory` it is the responses to a beginning of the lines.
 pub fn run<C: Caller, T: Console>(
@@ -63,6 +65,27 @@ pub fn run<C: Caller, T: Console>(
     run_from_first(alloc, style, session, &mut unfinished, console)
 }
 
+/// Shows the prompt. It takes no memory.
+fn write_prompt<T: Console>(style: &Style<'_>, console: &mut T) -> Result<(), Failed>
+    ensures { WritesAll result (T.known console.old) (T.known console.new) style.now.prompt }
+{
+    if !style.numbered {
+        return write_all(console, style.prompt);
+    }
+    let mut buffer = Buffer::new();
+    write_all(console, buffer.format(style.first).as_bytes())?;
+    write_all(console, style.prompt)
+}
+
+/// Shows the greeting and the first prompt. It takes no memory.
+fn write_opening<T: Console>(style: &Style<'_>, console: &mut T) -> Result<(), Failed>
+    ensures { WritesAll result (T.known console.old) (T.known console.new)
+        (style.now.greeting ++ style.now.prompt) }
+{
+    write_all(console, style.greeting)?;
+    write_prompt(style, console)
+}
+
 /// Answers the lines as `run` does, and holds in `unfinished`, at first empty, what was read of the next line.
 fn run_from_first<C: Caller, T: Console>(
     alloc: Global,
@@ -81,7 +104,7 @@ fn run_from_first<C: Caller, T: Console>(
         (seen_by C.part session.new) }
     ensures later { Onward C.later session.old.caller session.new.caller }
 {
-    let Ok(()) = write_all(console, style.prompt) else {
+    let Ok(()) = write_opening(style, console) else {
         return Err(PlayFault::Write);
     };
     let mut buffer = [0u8; PIECE];

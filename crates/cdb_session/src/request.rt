@@ -1,10 +1,12 @@
 //! What a line of a session asks for.
 
-ghost use Rattle.std.specs.Prelude.{◌≡◌, ℕ, IfSome, IfNone};
+ghost use Rattle.std.specs.Prelude.{◌≡◌, ℕ, Option, IfSome, IfNone};
 ghost use Rattle.cdb_setup.specs.Parts.{IsWithin};
 ghost use Rattle.cdb_session.specs.declared.request.Request.{Request as RequestName};
+ghost use Rattle.cdb_session.specs.declared.topic.Topic.{Topic as TopicName};
 ghost use Rattle.cdb_session.specs.Requests.{AsksFor, help_line, quit_line, seat_line, most_seats};
 
+use crate::topic::Topic;
 use cdb_base::limits::MAX_BYTES;
 use cdb_control::Command;
 use cdb_text::{LineFault, parse_line};
@@ -16,7 +18,8 @@ pub enum Request {
     Call(Command),
     /// The lines that follow are this seat's, from 1 to 9.
     Seat(u8),
-    Help,
+    /// The help, or what it says about a word.
+    Help(Option<Topic>),
     Quit,
     /// The line is no command, and this is its first fault.
     Fault(LineFault),
@@ -45,6 +48,26 @@ fn seat_of(line: &[u8]) -> Option<u8>
     }
 }
 
+/// How many bytes stand before the word that the help is asked about.
+const HELP_LINE: usize = 5;
+
+/// What the help is asked about.
+fn help_of(line: &[u8]) -> Option<Option<Topic>>
+    ensures some { IfSome result (λ about. line.now ≡ help_line about) }
+    ensures none { IfNone result ((about : Option TopicName) → ¬ (line.now ≡ help_line about)) }
+{
+    if line == b"help".as_slice() {
+        return Some(None);
+    }
+    if line.len() < HELP_LINE || &line[..HELP_LINE] != b"help ".as_slice() {
+        return None;
+    }
+    match Topic::of(&line[HELP_LINE..]) {
+        Some(topic) => Some(Some(topic)),
+        None => None,
+    }
+}
+
 /// What a line asks for that stands for itself, without the byte 10 at its end. It allocates nothing.
 pub fn request_of(line: &[u8]) -> Request
     ensures asks { AsksFor result line.now }
@@ -53,8 +76,8 @@ pub fn request_of(line: &[u8]) -> Request
     if line.len() > MAX_BYTES {
         return Request::TooLong;
     }
-    if line == b"help".as_slice() {
-        return Request::Help;
+    if let Some(about) = help_of(line) {
+        return Request::Help(about);
     }
     if line == b"quit".as_slice() {
         return Request::Quit;

@@ -4,7 +4,7 @@ ghost use Rattle.std.specs.Prelude.{◌≡◌, ◌+◌, ◌-◌, ◌<◌, ◌≤
 ghost use Rattle.cdb_commands.specs.ToldReply.{told};
 ghost use Rattle.cdb_text.specs.Pushes.{Pushes};
 ghost use Rattle.cdb_text.specs.Texts.{text_of};
-ghost use Rattle.cdb_session.specs.Dialogues.{full_text, prompt_after};
+ghost use Rattle.cdb_session.specs.Dialogues.{full_text, help_response, prompt_after};
 ghost use Rattle.cdb_session.specs.Requests.{most_seats, seat_line};
 ghost use Rattle.cdb_setup.specs.Parts.{IsWithin};
 ghost use Rattle.cdb_session.specs.Replies.{own_response};
@@ -13,13 +13,15 @@ ghost use Rattle.cdb_session.specs.Parts.{seat_next};
 ghost use Rattle.cdb_session.specs.Styles.{MaySit, Onward};
 
 use crate::caller::Caller;
-use crate::help::push_help;
+use crate::help::{push_about, push_help};
 use crate::request::Request;
 use crate::response::{push_fault, push_seat, push_too_long};
 use crate::style::Style;
+use crate::topic::Topic;
 use cdb_base::NoMemory;
 use cdb_control::{CallFault, Command, Reply};
 use cdb_text::{LineFault, reply_text};
+use itoa::Buffer;
 use std::alloc::{AllocError, Global};
 
 /// A session between two lines: who carries its commands out, the seat of the next one, and how many lines there were.
@@ -160,11 +162,12 @@ fn own_response(
     ensures { IfOk result (λ text. text.items ≡ own_response style.now lines request) }
 {
     let mut text = String::new(alloc);
-    push_own_response(&mut text, style, lines, request)?;
+    push_own_response(alloc, &mut text, style, lines, request)?;
     Ok(text.into_bytes())
 }
 
 fn push_own_response(
+    alloc: Global,
     text: &mut String,
     style: &Style<'_>,
     lines: u64,
@@ -175,10 +178,26 @@ fn push_own_response(
 {
     match request {
         Request::Seat(seat) => push_chosen(text, style, lines + 1, seat),
-        Request::Help => push_help(text, style.chooses),
+        Request::Help(about) => push_help_response(alloc, text, style, lines + 1, about),
         Request::Quit | Request::Call(_) | Request::Fault(LineFault::Empty) => Ok(()),
         Request::Fault(fault) => push_fault(text, lines + 1, fault),
         Request::TooLong => push_too_long(text, lines + 1),
+    }
+}
+
+/// The response to a line of this number that asks for the help.
+fn push_help_response(
+    alloc: Global,
+    text: &mut String,
+    style: &Style<'_>,
+    line: u64,
+    about: Option<Topic>,
+) -> Result<(), AllocError>
+    ensures { Pushes result text.old text.new (help_response line style.now.chooses about) }
+{
+    match about {
+        None => push_help(text, style.chooses),
+        Some(topic) => push_about(alloc, text, style.chooses, line, topic),
     }
 }
 
@@ -200,6 +219,17 @@ fn push_prompt(text: &mut Vec<u8>, style: &Style<'_>, request: Request) -> Resul
 {
     match request {
         Request::Quit => Ok(()),
-        _ => text.extend_from_slice(style.prompt),
+        _ => push_next_prompt(text, style),
     }
+}
+
+/// Adds the prompt.
+fn push_next_prompt(text: &mut Vec<u8>, style: &Style<'_>) -> Result<(), AllocError>
+    ensures { OnOk result (text.new.items ≡ text.old.items ++ style.now.prompt) }
+{
+    if style.numbered {
+        let mut buffer = Buffer::new();
+        text.extend_from_slice(buffer.format(style.first).as_bytes())?;
+    }
+    text.extend_from_slice(style.prompt)
 }

@@ -108,6 +108,8 @@ fn second_words(first: &[u8]) -> &'static [&'static [u8]]
         || first == b"why".as_slice()
     {
         &LOST
+    } else if first == b"help".as_slice() {
+        &FIRST
     } else {
         &[]
     }

@@ -1,5 +1,5 @@
 -- What the final journal has of all seats.
-use Rattle.std.proofs.Common.{◌≡◌, ℕ, ◌+◌, ◌<◌, ◌≤◌, List, All, length, get_or, refl, sym, ap, ◌∙◌, subst, arith}
+use Rattle.std.proofs.Common.{◌≡◌, ℕ, ◌+◌, ◌<◌, ◌≤◌, List, All, length, get_or, false, refl, sym, ap, ◌∙◌, subst, arith}
 use Rattle.std.specs.Prelude.{Result, Option, Some, None, option_map}
 use Rattle.atomic_table.specs.Seated.{TableId}
 use Rattle.cdb_base.specs.Limits.{MAX_ENTRIES}
@@ -7,27 +7,45 @@ use Rattle.cdb_control.specs.Journal.{Journaled, opened, own, AreOfSeats}
 use Rattle.cdb_session.specs.Moves.{Known}
 use Rattle.cdb_rules.specs.Rules.{Rules}
 use Rattle.cdb_setup.specs.Parts.{Parts}
-use Rattle.cdb_shared.specs.Seats.{SeatView, AreFresh, RestsAt, IsKnownBy, fresh_seat}
+use Rattle.cdb_shared.specs.Seats.{SeatView, AreFresh, RestsAt, IsKnownBy, IsLater, fresh_seat}
 use Rattle.cdb_streams.specs.declared.fault.PlayFault.{PlayFault}
 use Rattle.cdb_streams.specs.declared.source.ReadFault.{ReadFault}
 use Rattle.cdb_shared_session.specs.Openings.{SeatSeen}
 use Rattle.cdb_shared_session.specs.SharedSessions.{HasEnded, IsFinished, AreSessions}
-use Rattle.cdb_shared_session.specs.SeatParts.{seat_style}
+use Rattle.cdb_session.specs.Greetings.{greeting_at, greeting_text}
+use Rattle.cdb_session.specs.Served.{IsSession}
+use Rattle.cdb_session.specs.Styles.{StyleView, prompt_at}
+use Rattle.cdb_shared_session.specs.SeatParts.{is_numbered, part_in, seat_style}
+use Rattle.cdb_shared_session.specs.declared.seat.Welcome.{Welcome}
 use Rattle.cdb_shared_session.specs.Promises.{IsUnused, HasServed, HasRun, AllHaveRun}
 use Rattle.cdb_shared_session.specs.declared.endpoint.Finished.{Finished}
 use Rattle.cdb_shared_session.proofs.Promised.{some_of}
 use Rattle.cdb_shared_session.proofs.FinalJournal.{session_known}
 
-pub all_ready : (shared : TableId) (setup : Parts) (count : ℕ) (seats : List SeatView) → AreFresh shared setup count seats → All (λ seat. IsUnused shared seat) seats
-all_ready shared setup count seats new k d low =
+pub all_ready : (shared : TableId) (setup : Parts) (count : ℕ) (welcome : Welcome) → welcome.greeting.now ≡ greeting_text setup → welcome.seats ≡ count → (seats : List SeatView) → AreFresh shared setup count seats → All (λ seat. IsUnused shared welcome seat) seats
+all_ready shared setup count welcome greets counts seats new k d low =
     let below : k < count = omega (arith, new.many) in
-    subst (λ (s : SeatView). IsUnused shared s) (sym (new.each k d below)) (record { rests = (refl, refl); new = refl })
+    subst (λ (s : SeatView). IsUnused shared welcome s) (sym (new.each k d below)) (record { rests = (refl, refl); new = refl; greeting = greets; seats = counts })
+
+-- a seat in the style that it is welcomed in, by its setup at the end
+abbrev pub welcomed_in : List ℕ → List ℕ → ℕ → ℕ → StyleView
+welcomed_in greeting prompt seats seat = record { greeting = greeting_at prompt greeting; prompt = prompt_at (is_numbered seats prompt) seat prompt; first = seat; chooses = false }
+
+pub same_style : (greeting prompt : List ℕ) (seats : ℕ) (before after : SeatView) → greeting ≡ greeting_text before.setup → seats ≡ before.seats → IsLater before after → welcomed_in greeting prompt seats before.number ≡ seat_style prompt after.setup after.seats before.number
+same_style greeting prompt seats before after greets counts later =
+    let text : greeting ≡ greeting_text after.setup = greets ∙ ap greeting_text (sym later.setup) in
+    let count : seats ≡ after.seats = counts ∙ sym later.seats in
+    λ i. welcomed_in (text i) prompt (count i) before.number
 
 -- what a seat's thread has done, by the final journal
 ended_known : (rules : Parts → Rules) (c : Journaled) (Opens : Result SeatSeen ReadFault → Type 0) (seat : SeatView) (n : ℕ) → seat.number ≡ n → IsKnownBy c seat → length c.journal ≤ MAX_ENTRIES
     → (ended : Option Known) (outcome : Result (Unit {0}) PlayFault) → HasServed rules Opens n seat ended outcome → HasEnded rules c n Opens ended outcome
 ended_known rules c Opens seat n is by few (Some ended) outcome (opening, opens, (made, makes, session)) =
-    (opening, opens, record { made = made; makes = makes; session = session_known rules (seat_style opening.prompt n) c seat n is by few outcome made session })
+    let by_seat = seat_style opening.prompt seat.setup seat.seats n in
+    let by_journal = seat_style opening.prompt c.setup c.seats n in
+    let same : by_seat ≡ by_journal = λ i. seat_style opening.prompt (sym by.setup i) (sym by.seats i) n in
+    let held = session_known rules by_seat c seat n is by few outcome made session in
+    (opening, opens, record { made = made; makes = makes; session = subst (λ (s : StyleView). IsSession s (part_in rules c n) outcome made) same held })
 ended_known rules c Opens seat n is by few None outcome (fault, opens, failed, unseen) = (
   fault,
   opens,

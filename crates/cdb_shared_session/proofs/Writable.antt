@@ -39,7 +39,7 @@ asked_have_lines chooses seat (request ∷ requests) [] asked = absurd asked
 asked_have_lines chooses seat (Call command ∷ requests) (line ∷ lines) asked =
     (asked.0.1.1.1, asked_have_lines chooses (seat_next chooses seat (Call command)) requests lines asked.1)
 asked_have_lines chooses seat (Seat chosen ∷ requests) (line ∷ lines) asked = asked_have_lines chooses (seat_next chooses seat (Seat chosen)) requests lines asked.1
-asked_have_lines chooses seat (Help ∷ requests) (line ∷ lines) asked = asked_have_lines chooses seat requests lines asked.1
+asked_have_lines chooses seat (Help about ∷ requests) (line ∷ lines) asked = asked_have_lines chooses seat requests lines asked.1
 asked_have_lines chooses seat (Quit ∷ requests) (line ∷ lines) asked = asked_have_lines chooses seat requests lines asked.1
 asked_have_lines chooses seat (Fault why ∷ requests) (line ∷ lines) asked = asked_have_lines chooses seat requests lines asked.1
 asked_have_lines chooses seat (TooLong ∷ requests) (line ∷ lines) asked = asked_have_lines chooses seat requests lines asked.1
@@ -96,7 +96,7 @@ of_each_seat seats (e ∷ es) of_seats each = (
 -- what came of a seat has commands of lines alone
 ended_in_range : (rules : Parts → Rules) (c : Journaled) (seat : ℕ) (Opens : Result SeatSeen ReadFault → Type 0) (ended : Option Known) (outcome : Result (Unit {0}) PlayFault) → HasEnded rules c seat Opens ended outcome → InRange (own seat c.journal)
 ended_in_range rules c seat Opens (Some ended) outcome (opening, opens, held) =
-    commands_of seat (own seat c.journal) (session_has_lines (seat_style opening.prompt seat) (part_in rules c seat) outcome held.made held.session)
+    commands_of seat (own seat c.journal) (session_has_lines (seat_style opening.prompt c.setup c.seats seat) (part_in rules c seat) outcome held.made held.session)
 ended_in_range rules c seat Opens None outcome (fault, opens, unopened) = subst InRange (sym unopened.none) tt
 
 pub writable : {P T : Type 0} (rules : Parts → Rules) (known : T → Known) (opens : P → Result SeatSeen ReadFault → Type 0) (setup : Parts) (openers : List P) (c : Journaled) (finished : List (Finished T)) → AreSessions rules known opens setup openers c finished

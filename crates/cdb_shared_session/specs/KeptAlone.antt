@@ -5,6 +5,7 @@ use Rattle.cdb_control.specs.Journal.{Journaled, Begins}
 use Rattle.cdb_rules.specs.Rules.{Rules}
 use Rattle.cdb_session.specs.Alone.{whole_part, nine}
 use Rattle.cdb_session.specs.Debugs.{IsFaultOfBeginning}
+use Rattle.cdb_session.specs.Greetings.{greeting_at, greeting_text}
 use Rattle.cdb_session.specs.Moves.{Known, Move, Makes}
 use Rattle.cdb_session.specs.Requests.{most_seats}
 use Rattle.cdb_session.specs.Served.{IsSession}
@@ -46,7 +47,7 @@ module _ {J : Type 0} (stream : J → Stream) where
     pub control : Journaled
     pub setup_is : control.setup ≡ setup
     pub seats_are : control.seats ≡ most_seats
-    pub session : IsSession (nine prompt) (whole_part rules control) returned made
+    pub session : IsSession (nine (greeting_at prompt (greeting_text setup)) prompt) (whole_part rules control) returned made
     pub keeps : IsKept stream kept.outcome file kept.file control.journal
 
   -- such a session that has made the moves, where those before were known

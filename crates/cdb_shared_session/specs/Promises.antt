@@ -14,14 +14,18 @@ use Rattle.cdb_setup.specs.Parts.{Parts}
 use Rattle.cdb_shared.specs.Seats.{SeatView, RestsAt, IsLater}
 use Rattle.cdb_shared_session.specs.Openings.{SeatSeen}
 use Rattle.cdb_shared_session.specs.SeatParts.{part_seen, seat_style}
+use Rattle.cdb_session.specs.Greetings.{greeting_text}
 use Rattle.cdb_shared_session.specs.declared.endpoint.Finished.{Finished}
+use Rattle.cdb_shared_session.specs.declared.seat.Welcome.{Welcome}
 use Rattle.cdb_shared_session.specs.declared.seat.SeatResult.{SeatResult}
 use Rattle.cdb_shared_session.specs.declared.seat.SeatPromise.{SeatPromise}
 
--- a seat that has seen nothing yet
-pub record IsUnused (shared : TableId) (seat : SeatView) : Type 0 where
+-- a seat that has seen nothing yet, and what it is welcomed with
+pub record IsUnused (shared : TableId) (welcome : Welcome) (seat : SeatView) : Type 0 where
   pub rests : RestsAt shared seat
   pub new : seat.seen ≡ []
+  pub greeting : welcome.greeting.now ≡ greeting_text seat.setup
+  pub seats : welcome.seats ≡ seat.seats
 
 -- the session of a seat in this style, by what the seat has seen at its end
 abbrev pub RunsSeat : {A : Type 0} → (Parts → Rules) → StyleView → SeatView → Result A PlayFault → Known → Known
@@ -35,7 +39,7 @@ abbrev pub HasServed : (Parts → Rules) → (Result SeatSeen ReadFault → Type
     → Result (Unit {0}) PlayFault → Type 0
 HasServed rules Opens number seat (Some ended) outcome =
     (opened : SeatSeen) × Opens (Ok opened)
-    × RunsSeat rules (seat_style opened.prompt number) seat outcome opened.console ended
+    × RunsSeat rules (seat_style opened.prompt seat.setup seat.seats number) seat outcome opened.console ended
 HasServed rules Opens number seat None outcome =
     (fault : ReadFault) × Opens (Err fault) × (outcome ≡ Err (of_reading fault)) × (seat.seen ≡ [])
 

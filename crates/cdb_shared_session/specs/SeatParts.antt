@@ -1,9 +1,10 @@
 -- What a journal has of a seat, and the style of its session.
-use Rattle.std.specs.Prelude.{ℕ, false, List, length, map}
+use Rattle.std.specs.Prelude.{ℕ, ◌&&◌, nat_lt, Bool, false, List, length, map}
 use Rattle.cdb_control.specs.Journal.{Journaled, entry, own, replies_of}
 use Rattle.cdb_rules.specs.Rules.{Rules}
 use Rattle.cdb_setup.specs.Parts.{Parts}
-use Rattle.cdb_session.specs.Styles.{Part, Seats, StyleView}
+use Rattle.cdb_session.specs.Greetings.{greeting_at, greeting_text}
+use Rattle.cdb_session.specs.Styles.{Part, Seats, StyleView, prompt_at}
 use Rattle.cdb_shared.specs.Seats.{SeatView}
 use Rattle.cdb_shared.specs.Sessions.{calls_of, replies_to}
 
@@ -29,6 +30,16 @@ part_seen rules seat =
 abbrev pub own_seat : SeatView → Seats
 own_seat seat = record { lowest = seat.number; highest = seat.number }
 
--- each seat has its own lines, and none chooses another
-abbrev pub seat_style : List ℕ → ℕ → StyleView
-seat_style prompt seat = record { prompt = prompt; first = seat; chooses = false }
+-- where there is more than one seat, a prompt has the number of its own
+abbrev pub is_numbered : ℕ → List ℕ → Bool
+is_numbered seats prompt = nat_lt 1 seats && nat_lt 0 (length prompt)
+
+-- Each seat has its own lines, and none chooses another. Where it has a prompt, it is greeted with the setup.
+abbrev pub seat_style : List ℕ → Parts → ℕ → ℕ → StyleView
+seat_style prompt setup seats seat =
+    record {
+      greeting = greeting_at prompt (greeting_text setup);
+      prompt = prompt_at (is_numbered seats prompt) seat prompt;
+      first = seat;
+      chooses = false;
+    }

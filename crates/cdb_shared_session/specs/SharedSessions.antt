@@ -18,7 +18,7 @@ pub record IsHeld (rules : Parts → Rules) (c : Journaled) (seat : ℕ) (opened
     (outcome : Result (Unit {0}) PlayFault) : Type 0 where
   pub made : List Move
   pub makes : Makes opened.console ended made
-  pub session : IsSession (seat_style opened.prompt seat) (part_in rules c seat) outcome made
+  pub session : IsSession (seat_style opened.prompt c.setup c.seats seat) (part_in rules c seat) outcome made
 
 -- the seat could not be opened, and so the journal has no entry of it
 pub record IsUnopened (c : Journaled) (seat : ℕ) (fault : ReadFault) (outcome : Result (Unit {0}) PlayFault) : Type 0 where

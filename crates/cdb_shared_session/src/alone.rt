@@ -2,6 +2,7 @@
 
 ghost use Rattle.std.specs.Prelude.{◌≡◌};
 ghost use Rattle.cdb_control.specs.Journal.{opened};
+ghost use Rattle.cdb_session.specs.Greetings.{greeting_text};
 ghost use Rattle.cdb_session.specs.Requests.{most_seats};
 ghost use Rattle.cdb_shared_session.specs.KeptAlone.{KeepsOn, HoldsFrom, DebugsKept};
 
@@ -9,7 +10,7 @@ use crate::keeping::{Kept, keep_rest};
 use crate::reports::write_journal;
 use cdb_control::{CallFault, Command, Control, Reply};
 use cdb_rules::Runs;
-use cdb_session::{Caller, Console, Session, Style, begin, run};
+use cdb_session::{Caller, Console, Session, Style, begin, greeting_at, run};
 use cdb_streams::{Failed, OutputFault, PlayFault, Sink};
 use std::alloc::Global;
 use std::marker::Model;
@@ -73,14 +74,18 @@ fn hold_kept<R: Runs, T: Console, J: Sink + Drop>(
     alloc: Global,
     prompt: &[u8],
     control: Control<R>,
+    greeting: &[u8],
     console: &mut T,
     file: J,
 ) -> (Result<(), PlayFault>, Kept<J>)
-    requires { control ≡ opened control.setup most_seats }
+    requires begun { control ≡ opened control.setup most_seats }
+    requires greeting { greeting.now ≡ greeting_text control.setup }
     ensures { HoldsFrom J.stream R.rules prompt.now control.setup (T.known console.old) (T.known console.new) file result }
 {
     let style = Style {
+        greeting: greeting_at(greeting, prompt),
         prompt,
+        numbered: false,
         first: 1,
         chooses: true,
     };
@@ -122,7 +127,9 @@ pub fn debug_kept<R: Runs, T: Console, J: Sink + Drop>(
     ensures { DebugsKept J.stream R.rules prompt.now setup.now (T.known console.old) (T.known console.new) file result }
 {
     match begin::<R>(alloc, setup) {
-        Ok(control) => hold_kept::<R, T, J>(alloc, prompt, control, console, file),
+        Ok((control, greeting)) => {
+            hold_kept::<R, T, J>(alloc, prompt, control, greeting.as_slice(), console, file)
+        }
         Err(fault) => {
             let outcome = Ok(());
             (Err(fault), Kept { file, outcome })

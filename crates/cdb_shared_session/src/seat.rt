@@ -1,13 +1,14 @@
 //! What one thread does with its seat.
 
-ghost use Rattle.std.specs.Prelude.{◌≡◌, false};
-ghost use Rattle.cdb_shared.specs.Seats.{IsLater};
+ghost use Rattle.std.specs.Prelude.{◌≡◌, [], false};
+ghost use Rattle.cdb_shared.specs.Seats.{IsLater, RestsAt};
 ghost use Rattle.cdb_shared_session.specs.Promises.{IsUnused, RunsSeat, HasRun};
+ghost use Rattle.cdb_shared_session.specs.SeatParts.{is_numbered};
 
 use crate::endpoint::{Endpoint, Finished, Opener};
 use cdb_control::{CallFault, Command, Reply};
 use cdb_rules::Runs;
-use cdb_session::{Caller, Console, Session, Style, run};
+use cdb_session::{Caller, Console, Session, Style, greeting_at, run};
 use cdb_shared::{Seat, Shared};
 use cdb_streams::PlayFault;
 use std::alloc::Global;
@@ -49,6 +50,13 @@ impl<'a, R: Runs, Rt: Wait> Caller for SeatCaller<'a, R, Rt> {
     }
 }
 
+/// What each seat is welcomed with: the setup in words, and how many seats there are.
+#[derive(Clone, Copy)]
+pub(crate) struct Welcome<'a> {
+    pub(crate) greeting: &'a [u8],
+    pub(crate) seats: u8,
+}
+
 /// A seat whose thread has ended.
 #[derive(Drop)]
 pub(crate) struct SeatResult<R: Runs, T> {
@@ -78,7 +86,8 @@ fn run_styled<R: Runs, T: Console, Rt: Wait>(
     seat: Seat<R>,
     console: &mut T,
 ) -> (Seat<R>, Result<(), PlayFault>)
-    requires unused { IsUnused shared.now seat }
+    requires rests { RestsAt shared.now seat }
+    requires new { seat.seen ≡ [] }
     requires first { style.now.first ≡ seat.number }
     requires chooses { style.now.chooses ≡ false }
     ensures later { IsLater seat result.0 }
@@ -91,15 +100,23 @@ fn run_styled<R: Runs, T: Console, Rt: Wait>(
     (seat, outcome)
 }
 
+/// Whether the prompt of a seat has its number.
+fn is_numbered(seats: u8, prompt: &[u8]) -> bool
+    ensures { result ≡ is_numbered seats prompt.now }
+{
+    seats > 1 && !prompt.is_empty()
+}
+
 /// A seat's session, once its streams are open; where they can't be opened, there is none.
 pub(crate) fn run_seat<R: Runs, P: Opener, Rt: Wait>(
     shared: &Shared<R>,
     rt: &Rt,
     alloc: Global,
+    welcome: Welcome<'_>,
     seat: Seat<R>,
     opener: P,
 ) -> SeatResult<R, P::Seat>
-    requires { IsUnused shared.now seat }
+    requires { IsUnused shared.now welcome seat }
     ensures { HasRun R.rules P.Seat.known P.opens seat opener result.seat result.finished }
 {
     let Endpoint {
@@ -116,7 +133,9 @@ pub(crate) fn run_seat<R: Runs, P: Opener, Rt: Wait>(
         }
     };
     let style = Style {
+        greeting: greeting_at(welcome.greeting, prompt),
         prompt,
+        numbered: is_numbered(welcome.seats, prompt),
         first: seat.number(),
         chooses: false,
     };

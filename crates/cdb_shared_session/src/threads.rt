@@ -3,6 +3,7 @@
 ghost use Rattle.std.specs.Prelude.{◌≡◌, ◌≤◌, length, vec_len, vec_capacity, All, IfOk, IfErr, OnErr};
 ghost use Rattle.cdb_control.specs.Journal.{opened};
 ghost use Rattle.cdb_journal.specs.Journals.{IsWritable};
+ghost use Rattle.cdb_session.specs.Greetings.{greeting_text};
 ghost use Rattle.cdb_shared_session.specs.SharedSessions.{AreSessions};
 ghost use Rattle.cdb_shared_session.specs.Promises.{IsUnused, IsSeatPromise, AreSeatPromises};
 ghost use Rattle.cdb_shared_session.specs.Promises.{AllKept, AllHaveRun, HasRun};
@@ -11,12 +12,13 @@ ghost use Rattle.cdb_shared.specs.Seats.{fresh_seat, fresh_seats, HasHeadline, I
 
 use crate::endpoint::{Finished, Opener};
 use crate::keeping::{Keeping, Kept, keep, keep_end};
-use crate::seat::{SeatPromise, SeatResult, run_seat};
+use crate::seat::{SeatPromise, SeatResult, Welcome, run_seat};
 use cdb_base::NoMemory;
 use cdb_base::limits::MAX_SEATS;
 use cdb_base::start::{RefusedStart, start};
 use cdb_control::{Control, OpenFault};
 use cdb_rules::Runs;
+use cdb_session::greeting_text;
 use cdb_setup::Setup;
 use cdb_shared::{Seat, Shared, Watch};
 use cdb_streams::Sink;
@@ -61,10 +63,11 @@ fn start_one<'s, E, R: Runs + Send + 's, P: Opener + Send + 's, Rt: Threads + Wa
     alloc: Global,
     shared: &'s Shared<R>,
     going: &'s AtomicU64,
+    welcome: Welcome<'s>,
     seat: Seat<R>,
     opener: P,
 ) -> Result<PromisedHandle<SeatResult<R, P::Seat>, SeatPromise<R, P>>, SessionsFault>
-    requires { IsUnused shared.now seat }
+    requires { IsUnused shared.now welcome seat }
     ensures { IfOk result (λ handle. IsSeatPromise seat opener handle.promise) }
 {
     let promise = SeatPromise {
@@ -75,10 +78,10 @@ fn start_one<'s, E, R: Runs + Send + 's, P: Opener + Send + 's, Rt: Threads + Wa
         scope,
         promise,
         move || -> SeatResult<R, P::Seat>
-            requires { IsUnused shared.now seat }
+            requires { IsUnused shared.now welcome seat }
             ensures { HasRun R.rules P.Seat.known P.opens seat opener result.seat result.finished }
         {
-            let ended = run_seat(shared, rt, alloc, seat, opener);
+            let ended = run_seat(shared, rt, alloc, welcome, seat, opener);
             going.fetch_sub(1, Ordering::SeqCst);
             ended
         },
@@ -93,10 +96,11 @@ fn start_all<'s, E, R: Runs + Send + 's, P: Opener + Send + 's, Rt: Threads + Wa
     alloc: Global,
     shared: &'s Shared<R>,
     going: &'s AtomicU64,
+    welcome: Welcome<'s>,
     mut seats: Vec<Seat<R>>,
     mut openers: Vec<P>,
 ) -> Result<Vec<PromisedHandle<SeatResult<R, P::Seat>, SeatPromise<R, P>>>, SessionsFault>
-    requires ready { All (λ seat. IsUnused shared.now seat) seats.items }
+    requires ready { All (λ seat. IsUnused shared.now welcome seat) seats.items }
     requires openers { vec_len openers ≡ vec_len seats }
     ensures count { IfOk result (λ handles. vec_len handles ≡ vec_len seats) }
     ensures each { IfOk result (λ handles. AreSeatPromises seats openers handles) }
@@ -109,7 +113,7 @@ fn start_all<'s, E, R: Runs + Send + 's, P: Opener + Send + 's, Rt: Threads + Wa
         let Some(opener) = openers.pop() else {
             unreachable!()
         };
-        let handle = start_one(scope, rt, alloc, shared, going, seat, opener)?;
+        let handle = start_one(scope, rt, alloc, shared, going, welcome, seat, opener)?;
         handles.push_reserved(handle);
     }
     Ok(handles)
@@ -158,13 +162,14 @@ fn join_all<
     alloc: Global,
     shared: &'s Shared<R>,
     going: &'s AtomicU64,
+    welcome: Welcome<'s>,
     seats: Vec<Seat<R>>,
     openers: Vec<P>,
     keeping: Keeping<R, J>,
     done: Vec<Seat<R>>,
     all: Vec<Finished<P::Seat>>,
 ) -> Result<Left<R, P, J>, SessionsFault>
-    requires ready { All (λ seat. IsUnused shared.now seat) seats.items }
+    requires ready { All (λ seat. IsUnused shared.now welcome seat) seats.items }
     requires openers { vec_len openers ≡ vec_len seats }
     requires watch { RestsAt shared.now keeping.watch }
     requires counted { IfOk keeping.count (λ count. count ≤ length keeping.watch.seen) }
@@ -177,7 +182,7 @@ fn join_all<
     ensures later { IfOk result (λ r. IsLater keeping.watch r.2.watch) }
     ensures kept { IfOk result (λ r. GoesOnKeeping J.stream keeping r.2) }
 {
-    let handles = start_all(scope, rt, alloc, shared, going, seats, openers)?;
+    let handles = start_all(scope, rt, alloc, shared, going, welcome, seats, openers)?;
     let keeping = keep(shared, rt, alloc, keeping, going);
     let (seats, finished) = join_each(rt, handles, done, all);
     Ok((seats, finished, keeping))
@@ -190,13 +195,14 @@ fn run_all<R: Runs + Send, P: Opener + Send, J: Sink + Drop, Rt: Threads + Wait 
     alloc: Global,
     shared: &Shared<R>,
     going: &AtomicU64,
+    welcome: Welcome<'_>,
     seats: Vec<Seat<R>>,
     openers: Vec<P>,
     keeping: Keeping<R, J>,
     done: Vec<Seat<R>>,
     all: Vec<Finished<P::Seat>>,
 ) -> Result<Left<R, P, J>, SessionsFault>
-    requires ready { All (λ seat. IsUnused shared.now seat) seats.items }
+    requires ready { All (λ seat. IsUnused shared.now welcome seat) seats.items }
     requires openers { vec_len openers ≡ vec_len seats }
     requires watch { RestsAt shared.now keeping.watch }
     requires counted { IfOk keeping.count (λ count. count ≤ length keeping.watch.seen) }
@@ -213,7 +219,7 @@ fn run_all<R: Runs + Send, P: Opener + Send, J: Sink + Drop, Rt: Threads + Wait 
         thread::scope_env(),
         rt,
         |scope| -> Result<Left<R, P, J>, SessionsFault>
-            requires ready { All (λ seat. IsUnused shared.now seat) seats.items }
+            requires ready { All (λ seat. IsUnused shared.now welcome seat) seats.items }
             requires openers { vec_len openers ≡ vec_len seats }
             requires watch { RestsAt shared.now keeping.watch }
             requires counted { IfOk keeping.count (λ count. count ≤ length keeping.watch.seen) }
@@ -221,7 +227,7 @@ fn run_all<R: Runs + Send, P: Opener + Send, J: Sink + Drop, Rt: Threads + Wait 
             requires room { (vec_len seats ≤ vec_capacity done) × (vec_len seats ≤ vec_capacity all) }
         {
             join_all(
-                scope, rt, alloc, shared, going, seats, openers, keeping, done, all,
+                scope, rt, alloc, shared, going, welcome, seats, openers, keeping, done, all,
             )
         },
     )
@@ -264,6 +270,16 @@ fn open_shared<R: Runs, Rt: Wait>(
     }
 }
 
+/// The setup in words.
+fn greet(alloc: Global, setup: &Setup) -> Result<Vec<u8>, SessionsFault>
+    ensures { IfOk result (λ text. text.items ≡ greeting_text setup.now) }
+{
+    match greeting_text(alloc, setup) {
+        Ok(text) => Ok(text),
+        Err(refused) => Err(SessionsFault::NoMemory(refused)),
+    }
+}
+
 /// How sessions ended: the control, what came of each seat, and the file of the journal, if there is one.
 pub type Ended<R, P, J> = (
     Control<R>,
@@ -275,7 +291,8 @@ pub type Ended<R, P, J> = (
 /// own, until all have ended; then the control, whose journal has the commands of all, and what came of each seat, in the
 /// order of the openers, of which the k-th is that of seat k. Each thread opens its own seat, so a seat begins when its
 /// streams are open, and holds no other until then. A line has its response as in a session of one seat, but that no
-/// line chooses a seat. A seat that can't be opened, or whose session ends with a fault, ends alone, and the others go
+/// line chooses a seat. A seat with a prompt is greeted with the setup in words, and where there is more than one seat its
+/// number stands before the prompt. A seat that can't be opened, or whose session ends with a fault, ends alone, and the others go
 /// on. The journal can be written, and a replay of what was written tells each seat what it was told.
 ///
 /// Where there is a file, the journal is kept in it: ten times a second the entries that are new are added in one piece,
@@ -315,6 +332,11 @@ pub fn debug_seats<
     let count = openers.len() as u8;
     let done = reserve(alloc, openers.len())?;
     let all = reserve(alloc, openers.len())?;
+    let greeting = greet(alloc, &setup)?;
+    let welcome = Welcome {
+        greeting: greeting.as_slice(),
+        seats: count,
+    };
     let (shared, seats, watch) = open_shared::<R, Rt>(rt, alloc, setup, count)?;
     let going = AtomicU64::new(u64::from(count));
     let keeping = Keeping {
@@ -323,7 +345,7 @@ pub fn debug_seats<
         count: Ok(0),
     };
     let left = run_all(
-        rt, alloc, &shared, &going, seats, openers, keeping, done, all,
+        rt, alloc, &shared, &going, welcome, seats, openers, keeping, done, all,
     );
     let (seats, finished, keeping) = match left {
         Ok(left) => left,

@@ -149,14 +149,25 @@ fn each_write_of_output_fails_in_turn(rt: HostRuntime) -> Result<(), Fail> {
 
 #[test]
 fn each_write_of_a_session_fails_in_turn(rt: HostRuntime) {
-    // The prompt, and then answers of 12 and 25 bytes, each with the prompt, 5 bytes a call.
+    // The greeting takes 18 calls of 5 bytes at most. Then come the prompt, and answers of 12 and 25 bytes, each with the
+    // prompt.
+    let (calls, greeting) = (18, 86);
     let written = [0, 2, 7, 12, 16, 21, 26, 31, 36, 41];
     let debug = debug(rt.alloc());
     let whole = performed(&rt, action(&debug), ALL_GOOD);
-    for (good, length) in written.iter().enumerate() {
-        check_write(&rt, action(&debug), whole.output.as_slice(), good, *length);
+    for good in 0..calls {
+        check_write(&rt, action(&debug), whole.output.as_slice(), good, 5 * good);
     }
-    assert_eq!(rt; (whole.status, whole.output.len()), (0, 43));
+    for (good, length) in written.iter().enumerate() {
+        check_write(
+            &rt,
+            action(&debug),
+            whole.output.as_slice(),
+            calls + good,
+            greeting + *length,
+        );
+    }
+    assert_eq!(rt; (whole.status, whole.output.len()), (0, greeting + 43));
 }
 
 /// Performs an action with this many good writes of the error, which are all of them or not.
@@ -310,11 +321,11 @@ fn each_read_of_input_fails_in_turn(rt: HostRuntime) {
         (
             debug(rt.alloc()),
             [
-                "> ",
-                "> ",
-                "> 1.1 query 1\n> ",
-                "> 1.1 query 1\n> ",
-                "> 1.1 query 1\n> refused 14 NothingToRedo\n> ",
+                "leader-based consensus, 1 process, quorum 1, no copy is lost; help lists the commands\n> ",
+                "leader-based consensus, 1 process, quorum 1, no copy is lost; help lists the commands\n> ",
+                "leader-based consensus, 1 process, quorum 1, no copy is lost; help lists the commands\n> 1.1 query 1\n> ",
+                "leader-based consensus, 1 process, quorum 1, no copy is lost; help lists the commands\n> 1.1 query 1\n> ",
+                "leader-based consensus, 1 process, quorum 1, no copy is lost; help lists the commands\n> 1.1 query 1\n> refused 14 NothingToRedo\n> ",
             ],
         ),
     ];

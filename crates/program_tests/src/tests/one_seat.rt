@@ -11,6 +11,10 @@ use std::process::Abort;
 const ONE_PROCESS: &[u8] =
     b"{\"algorithm\":\"leader\",\"processes\":1,\"quorum\":1,\"inputs\":[7],\"oracle\":[[1]]}";
 
+/// How the setup greets.
+const GREETING: &str =
+    "leader-based consensus, 1 process, quorum 1, no copy is lost; help lists the commands\n";
+
 /// Lines with their responses.
 const DIALOGUES: [(&[u8], &str); 4] = [
     (b"", ""),
@@ -51,17 +55,23 @@ fn responses_are_the_same_however_few_bytes_come(rt: HostRuntime) {
     }
 }
 
-/// 7 bytes a time are one line each; the responses have 12, 13 and twice 20 bytes, and the prompt has 2.
+/// 7 bytes a time are one line each; the greeting has 86 bytes, the responses have 12, 13 and twice 20, and the prompt
+/// has 2.
 #[test]
 fn each_line_is_answered_before_more_is_asked_for(rt: HostRuntime) {
     let mut console = with_lines(rt.alloc(), b"auto 1\nauto 1\njump 1\nquit..\n", 7);
     let outcome = hold(rt.alloc(), &mut console);
     assert_eq!(rt; outcome, Ok(()));
-    assert_eq!(rt;
-        str::from_utf8(console.said.as_slice()),
-        Ok("> 1.1 query 1\n> 1.2 send 1#1\n> line 3 fault 2 Word\n> line 4 fault 2 Word\n> ")
+    has_said(
+        &rt,
+        &console,
+        b"> 1.1 query 1\n> 1.2 send 1#1\n> line 3 fault 2 Word\n> line 4 fault 2 Word\n> ",
+        75,
     );
-    assert_eq!(rt; console.asked_at.as_slice(), [2, 16, 31, 53, 75].as_slice());
+    assert_eq!(rt;
+        console.asked_at.as_slice(),
+        [88, 102, 117, 139, 161].as_slice()
+    );
 }
 
 /// There are 12 bytes up to the end of the line `quit`.
@@ -70,10 +80,7 @@ fn after_quit_no_more_is_asked_for(rt: HostRuntime) {
     let mut console = with_lines(rt.alloc(), b"auto 1\nquit\nauto 1\n", 1);
     let outcome = hold(rt.alloc(), &mut console);
     assert_eq!(rt; outcome, Ok(()));
-    assert_eq!(rt;
-        str::from_utf8(console.said.as_slice()),
-        Ok("> 1.1 query 1\n> ")
-    );
+    has_said(&rt, &console, b"> 1.1 query 1\n> ", 16);
     assert_eq!(rt; console.asked_at.len(), 12);
     assert_eq!(rt; console.rest, b"auto 1\n".as_slice());
 }
@@ -90,10 +97,12 @@ const LINES: &[u8] = b"auto 1\njump 1\nauto 1\n";
 
 const RESPONSES: &[u8] = b"> 1.1 query 1\n> line 2 fault 2 Word\n> 1.2 send 1#1\n> ";
 
-/// Compares what was said with the beginning of the responses, of this length.
-fn has_said(rt: &impl Abort, console: &Person, length: usize) {
-    assert_eq!(rt; console.said.len(), length);
-    assert!(rt; RESPONSES.starts_with(console.said.as_slice()));
+/// Compares what was said with the greeting and the beginning of the responses, of this length.
+fn has_said(rt: &impl Abort, console: &Person, responses: &[u8], length: usize) {
+    let said = console.said.as_slice();
+    assert_eq!(rt; said.len(), GREETING.len() + length);
+    assert!(rt; said.starts_with(GREETING.as_bytes()));
+    assert!(rt; responses.starts_with(&said[GREETING.len()..]));
 }
 
 /// Lines are read one at a time, of which the one behind this many good reads can't be.
@@ -102,7 +111,7 @@ fn check_read<R: Abort + AllocGlobal>(rt: &R, good_reads: usize, length: usize) 
     console.good_reads = good_reads;
     let outcome = hold(rt.alloc(), &mut console);
     assert_eq!(rt; outcome, Err(PlayFault::Read));
-    has_said(rt, &console, length);
+    has_said(rt, &console, RESPONSES, length);
     assert_eq!(rt; console.asked_at.len().checked_sub(1), Some(good_reads));
 }
 
@@ -117,10 +126,10 @@ fn a_read_that_fails_ends_the_session(rt: HostRuntime) {
 /// Bytes are written one at a time, of which the one behind this many good writes can't be.
 fn check_write<R: Abort + AllocGlobal>(rt: &R, good_writes: usize) {
     let mut console = with_lines(rt.alloc(), LINES, 1);
-    console.good_writes = good_writes;
+    console.good_writes = GREETING.len() + good_writes;
     let outcome = hold(rt.alloc(), &mut console);
     assert_eq!(rt; outcome, Err(PlayFault::Write));
-    has_said(rt, &console, good_writes);
+    has_said(rt, &console, RESPONSES, good_writes);
 }
 
 #[test]

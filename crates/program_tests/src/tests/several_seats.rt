@@ -18,6 +18,10 @@ use std::time::Clock;
 const THREE: &[u8] =
     b"{\"algorithm\":\"leader\",\"processes\":3,\"quorum\":2,\"inputs\":[5,6,7],\"oracle\":[[1],[1],[1]]}";
 
+/// How the setup greets.
+const GREETING: &str =
+    "leader-based consensus, 3 processes, quorum 2, no copy is lost; help lists the commands\n";
+
 /// A seat at which this person sits, or one that can't be opened.
 #[derive(Drop)]
 struct Place {
@@ -41,11 +45,11 @@ impl Opener for Place {
 }
 
 /// Each seat drives a process of its own, and nothing is sent, so that what it is answered depends on no other. The
-/// first can't be written to after its prompt, the third can't be read from after its first line, and the fourth can't be
-/// opened.
+/// first can't be written to after its prompt, which is shown in two writes behind the 13 of the greeting, the third
+/// can't be read from after its first line, and the fourth can't be opened.
 fn four_seats(alloc: Global) -> Result<Vec<Place>, AllocError> {
     let seats: [(&[u8], usize, usize); 3] = [
-        (b"auto 1\nauto 1\n", usize::MAX, 1),
+        (b"auto 1\nauto 1\n", usize::MAX, 15),
         (b"auto 2\nwhy 2 1\n", usize::MAX, usize::MAX),
         (b"auto 3\nauto 3\n", 1, usize::MAX),
     ];
@@ -63,15 +67,17 @@ fn four_seats(alloc: Global) -> Result<Vec<Place>, AllocError> {
 
 fn check_ends<R: Abort>(rt: &R, seats: &[Finished<Person>]) {
     let ends = [
-        (Err(PlayFault::Write), "> "),
-        (Ok(()), "> 2.1 query 1\n> 2.1 because none\n> "),
-        (Err(PlayFault::Read), "> 3.1 query 1\n> "),
+        (Err(PlayFault::Write), "1> "),
+        (Ok(()), "2> 2.1 query 1\n2> 2.1 because none\n2> "),
+        (Err(PlayFault::Read), "3> 3.1 query 1\n3> "),
     ];
     assert!(rt; seats.len() == 4);
     for at in 0..3 {
         assert_eq!(rt; seats[at].outcome, ends[at].0);
         let person = seats[at].console.as_ref().expect(rt, "a console");
-        assert!(rt; person.said.as_slice() == ends[at].1.as_bytes());
+        let said = person.said.as_slice();
+        assert!(rt; said.starts_with(GREETING.as_bytes()));
+        assert!(rt; &said[GREETING.len()..] == ends[at].1.as_bytes());
     }
     assert_eq!(rt; seats[3].outcome, Err(PlayFault::Read));
     assert!(rt; seats[3].console.is_none());

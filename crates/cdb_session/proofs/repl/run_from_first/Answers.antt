@@ -10,8 +10,7 @@ use Rattle.cdb_session.proofs.WholeSession.{Arrives, started, not_started, not_r
 use Rattle.cdb_session.proofs.repl.run_from_first.Goals as goal
 
 pub returns-in_default-clause-all : goal.returns-in_default-clause-all
-returns-in_default-clause-all g c = not_started c.args.style.now _ _ (seen_by g.C.Caller.part c.args.session.now) (c.requires.calls, c.requires.replies) (Unit {0}) (Unit {0}) tt
-    (subst (λ (m : StyleView). WritesAll {A = Unit {0}} {E = Unit {0}} (Err tt) (g.T.Console.known c.args.console.now) (g.T.Console.known c.write_all.new.console) m.prompt) c.style.view_is c.in_default.ensures)
+returns-in_default-clause-all g c = not_started c.args.style.now _ _ (seen_by g.C.Caller.part c.args.session.now) (c.requires.calls, c.requires.replies) (Unit {0}) (Unit {0}) tt c.in_default.ensures
 
 pub returns-in_default-clause-later : goal.returns-in_default-clause-later
 returns-in_default-clause-later g c = stays
@@ -21,14 +20,14 @@ loop-read-init g c =
     let none : c.args.unfinished.now.items ≡ [] = c.requires.empty in
     let first = (seen_by g.C.Caller.part c.args.session.now) in
     let before = g.T.Console.known c.args.console.now in
-    let now = g.T.Console.known c.write_all.new.console in
+    let now = g.T.Console.known c.write_opening.new.console in
     record {
       few = omega (arith, ap length none);
       bound = omega arith;
       lines = omega (arith, c.requires.lines);
       sits = c.requires.sits;
       later = stays;
-      arrives = subst (λ unfinished. Arrives c.args.style.now before now first unfinished 0) (sym none) (started c.args.style.now before now first (c.requires.calls, c.requires.replies) (Unit {0}) (Unit {0}) tt c.requires.lines c.requires.seat (subst (λ (m : StyleView). WritesAll {A = Unit {0}} {E = Unit {0}} (Ok tt) before now m.prompt) c.style.view_is c.in-Ok.ensures));
+      arrives = subst (λ unfinished. Arrives c.args.style.now before now first unfinished 0) (sym none) (started c.args.style.now before now first (c.requires.calls, c.requires.replies) (Unit {0}) (Unit {0}) tt c.requires.lines c.requires.seat c.in-Ok.ensures);
     }
 
 pub returns-in_default-read-clause-all : goal.returns-in_default-read-clause-all

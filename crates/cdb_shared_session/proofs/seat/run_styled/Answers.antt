@@ -10,7 +10,7 @@ pub returns-clause-later : goal.returns-clause-later
 returns-clause-later g c =
     let final = c.run-outcome.new.session.caller in
     let on = subst (λ (s : Session SeatView). Onward IsLater s.caller final) c.new-session.ensures c.run-outcome.ensures.later in
-    subst (IsLater c.args.seat) (sym c.caller.view_is) (later_seat c.args.seat final c.requires.unused.rests.1 on)
+    subst (IsLater c.args.seat) (sym c.caller.view_is) (later_seat c.args.seat final c.requires.rests.1 on)
 
 pub returns-clause-session : goal.returns-clause-session
 returns-clause-session g c =

@@ -1,4 +1,4 @@
-use Rattle.std.proofs.Common.{◌≡◌, ◌≤◌, List, Ok, arith, sym, subst, length}
+use Rattle.std.proofs.Common.{◌≡◌, ◌≤◌, List, Ok, arith, sym, subst, length, ◌∙◌}
 use Rattle.cdb_control.specs.declared.control.Entry.{Entry}
 use Rattle.cdb_control.specs.Journal.{Begins}
 use Rattle.cdb_shared.specs.Seats.{SeatView}
@@ -13,7 +13,7 @@ use Rattle.cdb_shared_session.proofs.threads.debug_seats.Goals as goal
 pub run_all-left-requires-clause-ready : goal.run_all-left-requires-clause-ready
 run_all-left-requires-clause-ready g c κs within =
     let new = fresh_of c.in_ok-shared.shared c.args.setup (length c.args.openers.items) _ _ (omega (arith, c.len-count.ensures, c.args.openers.ok.0)) c.in_ok-shared.ensures.seats in
-    all_ready c.in_ok-shared.shared c.args.setup (length c.args.openers.items) _ new
+    all_ready c.in_ok-shared.shared c.args.setup (length c.args.openers.items) _ (c.as_slice.ensures.value ∙ c.in_ok-greeting.ensures) (omega (arith, c.len-count.ensures, c.args.openers.ok.0)) _ new
 
 pub run_all-left-requires-clause-openers : goal.run_all-left-requires-clause-openers
 run_all-left-requires-clause-openers g c κs within =

@@ -20,7 +20,7 @@ loop-seat-init g c = record {
 }
 
 pub start_one-requires-after_bounds : goal.start_one-requires-after_bounds
-start_one-requires-after_bounds g c κs within = (each_front (λ (k : ℕ) (s : SeatView). IsUnused c.args.shared.now s) _ _ _ c.in-Some.ensures.items c.loop-seat.invariant.ready).1
+start_one-requires-after_bounds g c κs within = (each_front (λ (k : ℕ) (s : SeatView). IsUnused c.args.shared.now c.args.welcome s) _ _ _ c.in-Some.ensures.items c.loop-seat.invariant.ready).1
 
 pub loop-seat-preserved : goal.loop-seat-preserved
 loop-seat-preserved g c =
@@ -39,7 +39,7 @@ loop-seat-preserved g c =
     let at_opener : vec_len c.args.openers - 1 - length c.loop-seat.handles.items ≡ length c.pop-in-Some.new.self.items = omega (arith, openers, seats, c.pop-in-Some.new.self.ok.0, handles, was.count, was.openers, was.many_openers) in
     let at : vec_len c.args.seats - 1 - length c.loop-seat.handles.items ≡ length front = omega (arith, seats, c.pop.new.self.ok.0, handles, was.count) in
     record {
-      ready = (each_front (λ (k : ℕ) (s : SeatView). IsUnused c.args.shared.now s) _ _ _ popped was.ready).0;
+      ready = (each_front (λ (k : ℕ) (s : SeatView). IsUnused c.args.shared.now c.args.welcome s) _ _ _ popped was.ready).0;
       openers = omega (arith, seats, openers);
       left = (seat ∷ was.left.0, whole);
       left_openers = (its ∷ was.left_openers.0, all_openers);

@@ -5,7 +5,7 @@ use Rattle.cdb_shared_session.proofs.threads.start_all.Given as goal
 
 abbrev pub invariant-loop-seat : goal.invariant-loop-seat
 invariant-loop-seat g l = record {
-  ready : All (λ seat. IsUnused l.shared seat) l.seats.items;
+  ready : All (λ seat. IsUnused l.shared l.welcome seat) l.seats.items;
   openers : vec_len l.openers ≡ vec_len l.seats;
   left_openers : (started : List g.row.P.Denot) × (l.fn.openers.items ≡ l.openers.items ++ started);
   left : (started : List SeatView) × (l.fn.seats.items ≡ l.seats.items ++ started);
