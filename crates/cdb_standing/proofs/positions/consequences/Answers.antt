@@ -26,7 +26,8 @@ returns c =
     let long = c.in_ok-rolled_back.rolled_back.ok.0 in
     let past = c.loop-i-test.false in
     let whole = whole event_name rolled c.loop-i.i c.loop-i.names.items _ (omega (arith, end, long, past)) c.loop-i.invariant in
-    let are = c.in_ok-rolled_back.ensures at named in
-    (consequences depends history at,
-    consequences_parted depends history at c.requires.from_one,
-    whole ∙ ap (λ events. map event_name (drop 1 events)) are ∙ ap (map event_name) (behind_it history at named.0 named.1))
+    let are = c.in_ok-rolled_back.ensures at named in (
+      consequences depends history at,
+      consequences_parted depends history at c.requires.from_one,
+      whole ∙ ap (λ events. map event_name (drop 1 events)) are ∙ ap (map event_name) (behind_it history at named.0 named.1),
+    )

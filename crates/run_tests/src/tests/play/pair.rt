@@ -182,13 +182,20 @@ impl Pair {
     }
 
     /// Carries a command out for the first seat, and compares the text of its reply.
-    pub fn call<R: Wait + Abort + AllocGlobal>(self, rt: &R, command: Command, expected: &str) -> Pair {
+    pub fn call<R: Wait + Abort + AllocGlobal>(
+        self,
+        rt: &R,
+        command: Command,
+        expected: &str,
+    ) -> Pair {
         let Pair {
             shared,
             mut first,
             second,
         } = self;
-        let reply = shared.call(rt, rt.alloc(), &mut first, command).expect(rt, expected);
+        let reply = shared
+            .call(rt, rt.alloc(), &mut first, command)
+            .expect(rt, expected);
         let text = reply_text(rt.alloc(), &reply).expect(rt, expected);
         reply.close();
         assert_eq!(rt; text.as_slice(), expected.as_bytes());

@@ -13,8 +13,7 @@ use std::str;
 const FILE: &str = "worked.txt";
 
 /// The example where there is no such file.
-const DEFAULT: &str =
-    r#"{"algorithm":"leader","processes":1,"quorum":1,"inputs":[7],"oracle":[[1]]}
+const DEFAULT: &str = r#"{"algorithm":"leader","processes":1,"quorum":1,"inputs":[7],"oracle":[[1]]}
 auto 1
 auto 1
 undo 1 2
