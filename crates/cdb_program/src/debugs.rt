@@ -43,6 +43,12 @@ pub fn debug_file_kept<'a, F: Files + Drop, I: Source + Drop, O: Sink + Drop, E:
     let json = read_file(alloc, &mut outside.files, setup)?;
     let file = make_one(alloc, &mut outside.files, file)?;
     let prompt = prompt.as_bytes();
-    let (debugged, kept) = debug_kept::<AnyRun, _, _>(alloc, json.as_slice(), prompt, &mut outside.streams, file);
+    let (debugged, kept) = debug_kept::<AnyRun, _, _>(
+        alloc,
+        json.as_slice(),
+        prompt,
+        &mut outside.streams,
+        file,
+    );
     of_kept(debugged, kept.outcome)
 }

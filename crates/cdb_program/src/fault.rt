@@ -84,7 +84,10 @@ pub fn of_play<'a>(played: Result<(), PlayFault>, name: &'a str) -> Result<(), F
 }
 
 /// How a request ended that was a session, whose journal was kept so.
-pub fn of_kept<'a>(debugged: Result<(), PlayFault>, kept: Result<(), OutputFault>) -> Result<(), Fault<'a>>
+pub fn of_kept<'a>(
+    debugged: Result<(), PlayFault>,
+    kept: Result<(), OutputFault>,
+) -> Result<(), Fault<'a>>
     ensures { IsOfKept debugged kept result }
 {
     match (debugged, kept) {

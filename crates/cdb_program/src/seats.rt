@@ -72,7 +72,11 @@ fn find_each<'a, F: Files>(
 /// # Errors
 /// `Play(Read, name)` where it has something in it or can't be opened, and `Play(NoMemory, name)` where an allocation
 /// fails.
-pub(crate) fn make_one<'a, F: Files>(alloc: Global, files: &mut F, name: &'a str) -> Result<F::Made, Fault<'a>>
+pub(crate) fn make_one<'a, F: Files>(
+    alloc: Global,
+    files: &mut F,
+    name: &'a str,
+) -> Result<F::Made, Fault<'a>>
     ensures opened { IfOk result
         (λ _. F.seen files.new ≡ after_opening (F.seen files.old) (name.entry.now ∷ [])) }
     ensures file { IfOk result (λ made. IsEmpty (F.Made.stream made)) }
