@@ -63,7 +63,7 @@ impl Files for Folder {
 
     type Made = Writer;
 
-    ghost use Rattle.std.specs.Prelude.{[], Some};
+    ghost use Rattle.std.specs.Prelude.{[], None, Some};
     ghost use Rattle.cdb_play.specs.Races.{bytes_of};
 
     ghost seen = { λ folder. record {

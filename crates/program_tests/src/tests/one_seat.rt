@@ -100,9 +100,10 @@ const RESPONSES: &[u8] = b"> 1.1 query 1\n> line 2 fault 2 Word\n> 1.2 send 1#1\
 /// Compares what was said with the greeting and the beginning of the responses, of this length.
 fn has_said(rt: &impl Abort, console: &Person, responses: &[u8], length: usize) {
     let said = console.said.as_slice();
-    assert_eq!(rt; said.len(), GREETING.len() + length);
     assert!(rt; said.starts_with(GREETING.as_bytes()));
-    assert!(rt; responses.starts_with(&said[GREETING.len()..]));
+    let responded = &said[GREETING.len()..];
+    assert_eq!(rt; responded.len(), length);
+    assert!(rt; responses.starts_with(responded));
 }
 
 /// Lines are read one at a time, of which the one behind this many good reads can't be.
@@ -126,7 +127,7 @@ fn a_read_that_fails_ends_the_session(rt: HostRuntime) {
 /// Bytes are written one at a time, of which the one behind this many good writes can't be.
 fn check_write<R: Abort + AllocGlobal>(rt: &R, good_writes: usize) {
     let mut console = with_lines(rt.alloc(), LINES, 1);
-    console.good_writes = GREETING.len() + good_writes;
+    console.good_writes = GREETING.len().saturating_add(good_writes);
     let outcome = hold(rt.alloc(), &mut console);
     assert_eq!(rt; outcome, Err(PlayFault::Write));
     has_said(rt, &console, RESPONSES, good_writes);
