@@ -4,6 +4,10 @@ use Rattle.cdb_base.specs.Requests.{Asked, Script, Play, Race, Ask, Frames, Debu
 use Rattle.cdb_base.specs.declared.question.StepAsked.{StepAsked}
 use Rattle.cdb_streams.specs.Streams.{Stream, Takes, Fails, itself}
 use Rattle.cdb_streams.specs.declared.fault.PlayFault.TheVariants.{Write}
+use Rattle.cdb_agreement.specs.Algorithms.{rules}
+use Rattle.cdb_agreement.specs.SameState.{ReachSameState}
+use Rattle.cdb_control.specs.Headline.{Headline}
+use Rattle.cdb_control.specs.Laws.{ForJournals}
 use Rattle.cdb_program.specs.Clocks.{ClocksFiles}
 use Rattle.cdb_program.specs.Comparing.{ComparesFiles}
 use Rattle.cdb_program.specs.Debugging.{DebugsFile, DebugsFileKept}
@@ -114,3 +118,7 @@ abbrev pub Performs : Action → Seen → Seen → ℕ → Type 0
 Performs (Perform request prompt) old new status = PerformsAsked prompt.now (asked_for request.now) old new status
 Performs (Print text) old new status = IsDone (PrintsText text.now) old new status
 Performs (Refuse fault) old new status = IsDone (RefusesFor fault) old new status
+
+-- the headline holds of every journal of commands of seats that there are, on each setup in range, by the rules of either algorithm
+abbrev pub HeadlineHolds : Type 0
+HeadlineHolds = ForJournals (λ setup seats journal. Headline rules ReachSameState setup seats journal)

@@ -2,7 +2,7 @@
 
 ghost use Rattle.std.specs.Prelude.{◌≡◌, ◌≤◌};
 ghost use Rattle.cdb_base.specs.Requests.{any_text, asked_for, texts};
-ghost use Rattle.cdb_program.specs.Requests.{DebugsAlone, Does, DrawsFrames, HasTurns, IsDone, IsNoSession, MayPerform, Performs, PerformsAsked, PerformsSessions, PrintsText};
+ghost use Rattle.cdb_program.specs.Requests.{DebugsAlone, Does, DrawsFrames, HasTurns, IsDone, IsNoSession, HeadlineHolds, MayPerform, Performs, PerformsAsked, PerformsSessions, PrintsText};
 
 use crate::clocks::clock_files;
 use crate::compares::compare_files;
@@ -19,7 +19,9 @@ use crate::replays::replay_files;
 use crate::reports::report;
 use crate::searches::{search_file, shrink_files};
 use crate::seats::perform_shared;
+use cdb_any_run::AnyRun;
 use cdb_base::{Request, StepAsked};
+use cdb_control::laws;
 use cdb_streams::{PlayFault, Sink, Source, write_all};
 use std::alloc::Global;
 use std::sync::Wait;
@@ -242,7 +244,7 @@ fn print<F: Files + Drop, I: Source + Drop, O: Sink + Drop, E: Sink + Drop>(
 /// Promise: A request reads the files that it names, in order and no others, up to the first that can't be read; its
 /// text goes to standard output. How it ended is reported: nothing and status 0 where it is well, else the fault's
 /// text, with the name of what can't be read, on standard error, and its status. The K-th session is held at the
-/// seat of the K-th name, which its own thread opens.
+/// seat of the K-th name, which its own thread opens. Whatever was played for it, the headline holds of its journal.
 pub fn perform<
     R: Threads + Wait + Clock + Sync,
     F: Files + Drop,
@@ -251,8 +253,11 @@ pub fn perform<
     E: Sink + Drop,
 >(threads: &R, alloc: Global, action: Action<'_, '_>, outside: &mut Outside<F, I, O, E>) -> u8
     requires { MayPerform action }
-    ensures { Performs action.entry outside.old outside.new result }
+    ensures performs { Performs action.entry outside.old outside.new result }
+    // Whatever was played for it, the headline holds of its journal.
+    ensures headline { HeadlineHolds }
 {
+    laws::headline::<AnyRun>();
     match action {
         Action::Perform { request, prompt } => {
             perform_request(threads, alloc, request, prompt, outside)
