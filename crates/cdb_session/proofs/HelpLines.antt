@@ -38,6 +38,8 @@ its_topic (Some word) = elim word as (λ (t : Topic). topic_in (help_line (Some 
   | topic.Resume ↦ refl
   | topic.Show ↦ refl
   | topic.Decisions ↦ refl
+  | topic.Explain ↦ refl
+  | topic.Trail ↦ refl
   | topic.Help ↦ refl
   | topic.Quit ↦ refl
   | topic.Seat ↦ refl

@@ -4,6 +4,7 @@ pub mod InputEnd
 pub mod WrittenText
 pub mod SeatLines
 pub mod HelpLines
+pub mod InquiryLines
 pub mod FullWords
 pub mod Names
 pub mod TypedWords

@@ -1,5 +1,6 @@
 -- What one call adds to the journal of a control of one's own.
-use Rattle.std.proofs.Common.{◌≡◌, ◌↔◌, ℕ, ◌≤◌, List, [], ◌∷◌, ◌++◌, length, refl, sym, ap, subst, ◌∙◌}
+use Rattle.std.proofs.Common.{◌≡◌, ◌↔◌, ℕ, ◌≤◌, take, Vec, Global, List, [], ◌∷◌, ◌++◌, length, refl, sym, ap, subst, ◌∙◌, arith, length-append}
+use Rattle.std.proofs.lemmas.List.{take-append-le, take_all}
 use Rattle.std.specs.Prelude.{Result, Ok, Err, IfOk, OnErr}
 use Rattle.cdb_base.specs.Limits.{MAX_ENTRIES}
 use Rattle.cdb_commands.specs.ToldReply.{ToldReply, told}
@@ -14,14 +15,27 @@ use Rattle.cdb_control.specs.declared.control.Entry.{Entry}
 use Rattle.cdb_rules.specs.Rules.{Rules}
 use Rattle.cdb_setup.specs.Parts.{Parts}
 use Rattle.cdb_session.specs.Alone.{all_replies_from, whole_part, IsLaterControl}
-use Rattle.cdb_session.specs.Styles.{Onward, stays, goes, IsCalled, MakesNone, Calls}
+use Rattle.cdb_session.specs.Styles.{Onward, stays, goes, GoesOn, IsCalled, MakesNone, Calls}
+use Rattle.cdb_session.specs.Answers.{run_left, AnswersNow}
+use Rattle.cdb_session.specs.declared.inquiry.Inquiry.{Inquiry}
+use Rattle.cdb_rules.specs.RunView.{RunView}
+use Rattle.cdb_session.proofs.GotReplies.{MakesNone-refl}
 
 all_replies-push : (rules : Rules) (t : State) (es : List Entry) (e : Entry) → all_replies_from rules t (es ++ e ∷ []) ≡ all_replies_from rules t es ++ reply_of rules (replay_from rules t es) e.seat e.command ∷ []
 all_replies-push rules t [] e = refl
 all_replies-push rules t (first ∷ es) e = ap (λ (more : List ToldReply). reply_of rules t first.seat first.command ∷ more) (all_replies-push rules (obey rules t first.seat first.command) es e)
 
 none_made : (rules : Parts → Rules) (old new : Journaled) → new ≡ old → MakesNone (whole_part rules old) (whole_part rules new)
-none_made rules old new same = subst (λ (c : Journaled). MakesNone (whole_part rules old) (whole_part rules c)) (sym same) (record { calls = refl; replies = refl; full = λ full. full })
+none_made rules old new same = subst (λ (c : Journaled). MakesNone (whole_part rules old) (whole_part rules c)) (sym same) (MakesNone-refl (whole_part rules old))
+
+-- the journal begins as before
+goes_on : (rules : Parts → Rules) (c : Journaled) (e : Entry) (rooms : List ℕ) → let more : Journaled = record c { journal = c.journal ++ e ∷ []; rooms = rooms } in GoesOn (whole_part rules c) (whole_part rules more)
+goes_on rules c e rooms =
+    record {
+      longer = omega (arith, length-append c.journal (e ∷ []));
+      calls_in = λ first few. refl;
+      left_by = λ first few. ap (run_left rules c.setup c.seats) (take-append-le first c.journal (e ∷ []) few);
+    }
 
 pub calls_made : (rules : Parts → Rules) (old new : Journaled) (seat : ℕ) (command : Command) (r : Result Reply CallFault) → IfOk r (λ reply. told reply ≡ reply_in rules old seat command) → IfOk r (λ reply. new ≡ extended rules old seat command) → OnErr r (new ≡ old)
     → ((r ≡ Err JournalFull) ↔ (length old.journal ≡ MAX_ENTRIES)) → Calls (whole_part rules old) (entry seat command) r (whole_part rules new)
@@ -29,6 +43,7 @@ unfolding replay
 calls_made rules old new seat command (Ok reply) is made same full =
     let more = extended rules old seat command in
     let one : IsCalled (whole_part rules old) (entry seat command) (told reply) (whole_part rules more) = record {
+      goes_on = goes_on rules old (entry seat command) more.rooms;
       calls = refl;
       replies = all_replies-push (rules old.setup) (first_control_state old.setup old.seats) old.journal (entry seat command) ∙ ap (λ (last : ToldReply). all_replies_from (rules old.setup) (first_control_state old.setup old.seats) old.journal ++ last ∷ []) (sym is);
       room = λ none. (let e : Ok reply ≡ Err JournalFull = full.1 none in cc);
@@ -37,6 +52,19 @@ calls_made rules old new seat command (Ok reply) is made same full =
 calls_made rules old new seat command (Err JournalFull) is made same full = (none_made rules old new same, ap (λ (c : Journaled). length c.journal) same ∙ full.0 refl)
 calls_made rules old new seat command (Err (NoMemory refused)) is made same full = none_made rules old new same
 
+-- the answer of the run as it stands
+pub asked_now : (Answers : RunView → Inquiry → List ℕ → Type 0) (rules : Parts → Rules) (c : Journaled) (inquiry : Inquiry) (text : List ℕ) → Answers (run_left rules c.setup c.seats c.journal) inquiry text → AnswersNow Answers (whole_part rules c) inquiry text
+asked_now Answers rules c inquiry text is =
+    let all : take (length c.journal) c.journal ≡ c.journal = take_all (length c.journal) c.journal (omega arith) in
+    record { all = refl; answers = subst (λ (entries : List Entry). Answers (run_left rules c.setup c.seats entries) inquiry text) (sym all) is }
+
+pub all_asked_now : {E : Type 0} (Answers : RunView → Inquiry → List ℕ → Type 0) (rules : Parts → Rules) (c : Journaled) (inquiry : Inquiry) (r : Result (Vec ℕ Global) E) → IfOk r (λ text. Answers (run_left rules c.setup c.seats c.journal) inquiry text.items) → IfOk r (λ text. AnswersNow Answers (whole_part rules c) inquiry text.items)
+all_asked_now Answers rules c inquiry (Ok text) is = asked_now Answers rules c inquiry text.items is
+all_asked_now Answers rules c inquiry (Err fault) is = tt
+
+pub same_control : (c : Journaled) → length c.journal ≤ MAX_ENTRIES → IsLaterControl c c
+same_control c few = (refl, refl, few)
+
 pub later_control : (first now : Journaled) → length first.journal ≤ MAX_ENTRIES → Onward IsLaterControl first now → IsLaterControl first now
-later_control first _ few stays = (refl, refl, few)
+later_control first _ few stays = same_control first few
 later_control first now few (goes middle _ before later) = let b = later_control first middle few before in (later.0 ∙ b.0, later.1 ∙ b.1, later.2)

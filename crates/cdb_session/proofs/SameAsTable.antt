@@ -1,4 +1,4 @@
--- With a control of its own, a session shows what the table of requests says.
+-- With a control of its own, a session shows what the table of exchanges says.
 use Rattle.std.proofs.Common.{◌≡◌, inl, inr, ℕ, suc, ◌+◌, ◌-◌, ◌<◌, ◌≤◌, ◌==◌, Bool, true, false, List, [], ◌∷◌, ◌++◌, length, take, refl, sym, ap, ◌∙◌, arith, length-append}
 use Rattle.std.specs.Prelude.{if◌then◌else◌}
 use Rattle.std.proofs.lemmas.Bool.Decides.{Decides-eqb}
@@ -12,9 +12,11 @@ use Rattle.cdb_control.specs.State.{State, first_control_state}
 use Rattle.cdb_control.specs.declared.control.Entry.{Entry}
 use Rattle.cdb_session.specs.Table as table
 use Rattle.cdb_session.specs.Requests.{most_seats}
-use Rattle.cdb_session.specs.declared.request.Request.{Request}
-use Rattle.cdb_session.specs.declared.request.Request.TheVariants.{Call, Seat, Help, Quit, Fault, TooLong}
+use Rattle.cdb_session.specs.Exchanges.{Exchange}
+use Rattle.cdb_session.specs.declared.request.Request.TheVariants.{Call, Ask, Seat, Help, Quit, Fault, TooLong}
+use Rattle.cdb_rules.specs.RunView.{RunView}
 use Rattle.cdb_rules.specs.Rules.{Rules}
+use Rattle.cdb_session.specs.declared.inquiry.Inquiry.{Inquiry}
 use Rattle.cdb_setup.specs.Parts.{Parts}
 use Rattle.cdb_text.specs.Texts.{text_of}
 use Rattle.cdb_session.specs.Replies.{Along, shown_from, dialogue}
@@ -31,21 +33,21 @@ one_less n most low = omega (arith, low)
 none_left : (n most : ℕ) → n ≡ most → most - n ≡ 0
 none_left n most is = omega (arith, is)
 
-abbrev table_one : List ℕ → table.Session → Request → List ℕ
-table_one prompt = shown_by table.response_to table.after_request prompt
+abbrev table_one : List ℕ → table.Session → Exchange → List ℕ
+table_one prompt = shown_by table.response_to table.after_line prompt
 
-abbrev table_shown : List ℕ → table.Session → List Request → List ℕ
-table_shown prompt = shown_from_by table.response_to table.after_request prompt
+abbrev table_shown : List ℕ → table.Session → List Exchange → List ℕ
+table_shown prompt = shown_from_by table.response_to table.after_line prompt
 
-module _ (greeting prompt : List ℕ) where
+module _ (Answers : RunView → Inquiry → List ℕ → Type 0) (greeting prompt : List ℕ) where
   -- what is left to enter of what these lines ask for, and the session with the replies to that
-  abbrev rest_of : table.Session → List Request → List Entry
-  rest_of s requests = take (MAX_ENTRIES - length s.control.journal) (all_asked true s.seat requests)
+  abbrev rest_of : table.Session → List Exchange → List Entry
+  rest_of s exchanges = take (MAX_ENTRIES - length s.control.journal) (all_asked true s.seat exchanges)
 
-  abbrev along_of : table.Session → List Request → Along
-  along_of s requests = record {
+  abbrev along_of : table.Session → List Exchange → Along
+  along_of s exchanges = record {
     seat = s.seat;
-    replies = all_replies_from (s.rules s.control.setup) (control_state s.rules s.control) (rest_of s requests);
+    replies = all_replies_from (s.rules s.control.setup) (control_state s.rules s.control) (rest_of s exchanges);
     lines = s.lines;
   }
 
@@ -65,32 +67,32 @@ module _ (greeting prompt : List ℕ) where
   abbrev said : table.Session → Command → Bool → List ℕ
   said s command full = (if full then full_text else text_of (reply_in s.rules s.control s.seat command)) ++ prompt
 
-  called : (s : table.Session) (command : Command) (requests others : List Request) (full : Bool) → (length s.control.journal == MAX_ENTRIES) ≡ full → length s.control.journal ≤ MAX_ENTRIES
-      → shown_from (nine greeting prompt) (along_of (behind s command full) (requests ++ others)) requests ≡ table_shown prompt (behind s command full) requests
-      → shown_from (nine greeting prompt) (along_of s (Call command ∷ (requests ++ others))) (Call command ∷ requests) ≡ said s command full ++ table_shown prompt (behind s command full) requests
-  called s command requests others true is few same =
+  called : (s : table.Session) (command : Command) (answer : List ℕ) (exchanges others : List Exchange) (full : Bool) → (length s.control.journal == MAX_ENTRIES) ≡ full → length s.control.journal ≤ MAX_ENTRIES
+      → shown_from (nine greeting prompt) (along_of (behind s command full) (exchanges ++ others)) exchanges ≡ table_shown prompt (behind s command full) exchanges
+      → shown_from (nine greeting prompt) (along_of s ((Call command, answer) ∷ (exchanges ++ others))) ((Call command, answer) ∷ exchanges) ≡ said s command full ++ table_shown prompt (behind s command full) exchanges
+  called s command answer exchanges others true is few same =
       let at_most : length s.control.journal ≡ MAX_ENTRIES = (Decides-eqb (length s.control.journal) MAX_ENTRIES).0 is in
       let none : MAX_ENTRIES - length s.control.journal ≡ 0 = none_left (length s.control.journal) MAX_ENTRIES at_most in
-      let asked : List Entry = entry s.seat command ∷ all_asked true s.seat (requests ++ others) in
+      let asked : List Entry = entry s.seat command ∷ all_asked true s.seat (exchanges ++ others) in
       let with_room : ℕ → List ℕ = λ n. (
       let a : Along = record { seat = s.seat; replies = all_replies_from (s.rules s.control.setup) (control_state s.rules s.control) (take n asked); lines = s.lines } in
-      shown_from (nine greeting prompt) a (Call command ∷ requests)) in
+      shown_from (nine greeting prompt) a ((Call command, answer) ∷ exchanges)) in
       let then_room : ℕ → List ℕ = λ n. (
-      let a : Along = record { seat = s.seat; replies = all_replies_from (s.rules s.control.setup) (control_state s.rules s.control) (take n (all_asked true s.seat (requests ++ others))); lines = s.lines + 1 } in
-      shown_from (nine greeting prompt) a requests) in
+      let a : Along = record { seat = s.seat; replies = all_replies_from (s.rules s.control.setup) (control_state s.rules s.control) (take n (all_asked true s.seat (exchanges ++ others))); lines = s.lines + 1 } in
+      shown_from (nine greeting prompt) a exchanges) in
       ap with_room none ∙ ap (λ text. said s command true ++ text) (sym (ap then_room none) ∙ same)
-  called s command requests others false is few same =
+  called s command answer exchanges others false is few same =
       let c = s.control in
       let low : length c.journal < MAX_ENTRIES = not_full (length c.journal) MAX_ENTRIES few is in
       let less : MAX_ENTRIES - length c.journal ≡ suc (MAX_ENTRIES - (length c.journal + 1)) = one_less (length c.journal) MAX_ENTRIES low in
       let more : length (c.journal ++ entry s.seat command ∷ []) ≡ length c.journal + 1 = length-append c.journal (entry s.seat command ∷ []) in
-      let asked : List Entry = entry s.seat command ∷ all_asked true s.seat (requests ++ others) in
+      let asked : List Entry = entry s.seat command ∷ all_asked true s.seat (exchanges ++ others) in
       let with_room : ℕ → List ℕ = λ n. (
       let a : Along = record { seat = s.seat; replies = all_replies_from (s.rules c.setup) (control_state s.rules c) (take n asked); lines = s.lines } in
-      shown_from (nine greeting prompt) a (Call command ∷ requests)) in
+      shown_from (nine greeting prompt) a ((Call command, answer) ∷ exchanges)) in
       let then_at : State × ℕ → List ℕ = λ p. (
-      let a : Along = record { seat = s.seat; replies = all_replies_from (s.rules c.setup) p.0 (take (MAX_ENTRIES - p.1) (all_asked true s.seat (requests ++ others))); lines = s.lines + 1 } in
-      shown_from (nine greeting prompt) a requests) in
+      let a : Along = record { seat = s.seat; replies = all_replies_from (s.rules c.setup) p.0 (take (MAX_ENTRIES - p.1) (all_asked true s.seat (exchanges ++ others))); lines = s.lines + 1 } in
+      shown_from (nine greeting prompt) a exchanges) in
       let there : (State × ℕ) = (control_state s.rules (extended s.rules c s.seat command), length (c.journal ++ entry s.seat command ∷ [])) in
       let here : (State × ℕ) = (obey (s.rules c.setup) (control_state s.rules c) s.seat command, length c.journal + 1) in
       let moved : there ≡ here = λ i. (state_more s.rules c s.seat command i, more i) in
@@ -101,30 +103,52 @@ module _ (greeting prompt : List ℕ) where
   fits s command false is few =
       omega (arith, not_full (length s.control.journal) MAX_ENTRIES few is, length-append s.control.journal (entry s.seat command ∷ []))
 
-  same : (s : table.Session) (requests others : List Request) → length s.control.journal ≤ MAX_ENTRIES → shown_from (nine greeting prompt) (along_of s (requests ++ others)) requests ≡ table_shown prompt s requests
+  same : (s : table.Session) (exchanges others : List Exchange) → length s.control.journal ≤ MAX_ENTRIES → shown_from (nine greeting prompt) (along_of s (exchanges ++ others)) exchanges ≡ table_shown prompt s exchanges
   same s [] others few = refl
-  same s (Call command ∷ requests) others few =
+  same s ((Call command, answer) ∷ exchanges) others few =
       let full = length s.control.journal == MAX_ENTRIES in
-      called s command requests others full refl few (same (behind s command full) requests others (fits s command full refl few))
-  same s (Seat chosen ∷ requests) others few = ap (λ text. table_one prompt s (Seat chosen) ++ text) (same (table.after_request s (Seat chosen)) requests others few)
-  same s (Help about ∷ requests) others few = ap (λ text. table_one prompt s (Help about) ++ text) (same (table.after_request s (Help about)) requests others few)
-  same s (Quit ∷ requests) others few = ap (λ text. table_one prompt s Quit ++ text) (same (table.after_request s Quit) requests others few)
-  same s (Fault fault ∷ requests) others few = ap (λ text. table_one prompt s (Fault fault) ++ text) (same (table.after_request s (Fault fault)) requests others few)
-  same s (TooLong ∷ requests) others few = ap (λ text. table_one prompt s TooLong ++ text) (same (table.after_request s TooLong) requests others few)
+      called s command answer exchanges others full refl few (same (behind s command full) exchanges others (fits s command full refl few))
+  same s ((Ask inquiry, answer) ∷ exchanges) others few = ap (λ text. table_one prompt s (Ask inquiry, answer) ++ text) (same (table.after_line s (Ask inquiry, answer)) exchanges others few)
+  same s ((Seat chosen, answer) ∷ exchanges) others few = ap (λ text. table_one prompt s (Seat chosen, answer) ++ text) (same (table.after_line s (Seat chosen, answer)) exchanges others few)
+  same s ((Help about, answer) ∷ exchanges) others few = ap (λ text. table_one prompt s (Help about, answer) ++ text) (same (table.after_line s (Help about, answer)) exchanges others few)
+  same s ((Quit, answer) ∷ exchanges) others few = ap (λ text. table_one prompt s (Quit, answer) ++ text) (same (table.after_line s (Quit, answer)) exchanges others few)
+  same s ((Fault fault, answer) ∷ exchanges) others few = ap (λ text. table_one prompt s (Fault fault, answer) ++ text) (same (table.after_line s (Fault fault, answer)) exchanges others few)
+  same s ((TooLong, answer) ∷ exchanges) others few = ap (λ text. table_one prompt s (TooLong, answer) ++ text) (same (table.after_line s (TooLong, answer)) exchanges others few)
 
   -- the journal has as many of the entries as it has room for
-  as_many : (rules : Parts → Rules) (c : Journaled) (requests : List Request) → length c.journal ≤ MAX_ENTRIES → HasCommands (nine greeting prompt) (whole_part rules c) requests → c.journal ≡ take MAX_ENTRIES (all_of (nine greeting prompt) requests)
-  as_many rules c requests few (inl all) = sym (take_all MAX_ENTRIES c.journal few) ∙ ap (take MAX_ENTRIES) all
-  as_many rules c requests few (inr some) =
+  as_many : (rules : Parts → Rules) (c : Journaled) (exchanges : List Exchange) → length c.journal ≤ MAX_ENTRIES → HasCommands (nine greeting prompt) (whole_part rules c) exchanges → c.journal ≡ take MAX_ENTRIES (all_of (nine greeting prompt) exchanges)
+  as_many rules c exchanges few (inl all) = sym (take_all MAX_ENTRIES c.journal few) ∙ ap (take MAX_ENTRIES) all
+  as_many rules c exchanges few (inr some) =
       sym (take_all MAX_ENTRIES c.journal few) ∙ sym (take-append-le MAX_ENTRIES c.journal some.1 (omega (arith, some.0))) ∙ ap (take MAX_ENTRIES) (sym some.2)
 
-  -- what a session shows by its journal is what the table says of its requests alone
-  pub nothing_lost : (rules : Parts → Rules) (c : Journaled) (requests others : List Request) → c.seats ≡ most_seats → length c.journal ≤ MAX_ENTRIES → HasCommands (nine greeting prompt) (whole_part rules c) (requests ++ others)
-      → dialogue (nine greeting prompt) (whole_part rules c).replies requests ≡ table.dialogue greeting prompt (table.begun rules c.setup) requests
+  -- what a session shows by its journal is what the table says of its exchanges alone
+  pub nothing_lost : (rules : Parts → Rules) (c : Journaled) (exchanges others : List Exchange) → c.seats ≡ most_seats → length c.journal ≤ MAX_ENTRIES → HasCommands (nine greeting prompt) (whole_part rules c) (exchanges ++ others)
+      → dialogue (nine greeting prompt) (whole_part rules c).replies exchanges ≡ table.dialogue Answers greeting prompt (table.begun rules c.setup) exchanges
   unfolding replay
-  nothing_lost rules c requests others nine_seats few has =
-      let shows : ℕ × List Entry → List ℕ = λ p. dialogue (nine greeting prompt) (all_replies_from (rules c.setup) (first_control_state c.setup p.0) p.1) requests in
+  nothing_lost rules c exchanges others nine_seats few has =
+      let shows : ℕ × List Entry → List ℕ = λ p. dialogue (nine greeting prompt) (all_replies_from (rules c.setup) (first_control_state c.setup p.0) p.1) exchanges in
       let from : (ℕ × List Entry) = (c.seats, c.journal) in
-      let to : (ℕ × List Entry) = (most_seats, take MAX_ENTRIES (all_of (nine greeting prompt) (requests ++ others))) in
-      let is : from ≡ to = λ i. (nine_seats i, as_many rules c (requests ++ others) few has i) in
-      ap shows is ∙ ap (λ text. (greeting ++ prompt) ++ text) (same (table.begun rules c.setup) requests others (omega arith))
+      let to : (ℕ × List Entry) = (most_seats, take MAX_ENTRIES (all_of (nine greeting prompt) (exchanges ++ others))) in
+      let is : from ≡ to = λ i. (nine_seats i, as_many rules c (exchanges ++ others) few has i) in
+      ap shows is ∙ ap (λ text. (greeting ++ prompt) ++ text) (same (table.begun rules c.setup) exchanges others (omega arith))
+
+  -- ---- what the run was asked
+
+  -- the run that the table comes to is the one that the first entries leave
+  module _ (rules : Parts → Rules) (c : Journaled) (nine_seats : c.seats ≡ most_seats) where
+    -- the table has come to the first count entries of the journal
+    record IsThere (s : table.Session) (asked : List Entry) (exchanges : List Exchange) (count : ℕ) : Type 0 where
+      rules_are : s.rules ≡ rules
+      setup_is : s.control.setup ≡ c.setup
+      seats_are : s.control.seats ≡ most_seats
+      come_to : s.control.journal ≡ take MAX_ENTRIES asked
+      counted : length asked ≡ count
+      all : c.journal ≡ take MAX_ENTRIES (asked ++ all_asked true s.seat exchanges)
+
+    answered_there : (s : table.Session) (asked : List Entry) (exchanges : List Exchange) (count : ℕ) (inquiry : Inquiry) (text : List ℕ) → IsThere s asked exchanges count
+        → IsTold Answers (whole_part rules c) count inquiry text → Answers (table.run_in s) inquiry text
+    answered_there s asked exchanges count inquiry text at (first, few, which, answers) =
+        let same : take first c.journal ≡ s.control.journal = first_entries asked (all_asked true s.seat exchanges) c.journal first count at.all at.counted few which ∙ sym at.come_to in
+        let run : run_left rules c.setup c.seats (take first c.journal) ≡ table.run_in s =
+        λ i. run_left (sym at.rules_are i) (sym at.setup_is i) ((nine_seats ∙ sym at.seats_are) i) (same i) in
+        subst (λ (r : RunView). Answers r inquiry text) run answers

@@ -9,7 +9,7 @@ use Rattle.cdb_streams.specs.FaultTexts.{as_line}
 use Rattle.cdb_text.specs.LineFaults.{line_fault_text}
 use Rattle.cdb_text.specs.declared.fault.LineFault.{LineFault}
 use Rattle.cdb_text.specs.declared.fault.LineFault.TheVariants.{Empty, Word}
-use Rattle.cdb_session.specs.Requests.{AreAsked}
+use Rattle.cdb_session.specs.Exchanges.{Exchange}
 use Rattle.cdb_session.specs.Topics.{topic_word}
 use Rattle.cdb_session.specs.declared.help.TheConstants.{COMMANDS, SEATS, OTHERS}
 use Rattle.cdb_session.specs.declared.request.Request.{Request}
@@ -70,20 +70,15 @@ abbrev pub prompt_after : List ℕ → Request → List ℕ
 prompt_after prompt Quit = []
 prompt_after prompt request = prompt
 
--- a session of which this is the response to what a line asks for, and this the session after it
-module _ {S : Type 0} (respond : S → Request → List ℕ) (next : S → Request → S) (prompt : List ℕ) where
-  abbrev pub shown_by : S → Request → List ℕ
-  shown_by s request = respond s request ++ prompt_after prompt request
+-- a session of which this is the response at a line, and this the session after it
+module _ {S : Type 0} (respond : S → Exchange → List ℕ) (next : S → Exchange → S) (prompt : List ℕ) where
+  abbrev pub shown_by : S → Exchange → List ℕ
+  shown_by s exchange = respond s exchange ++ prompt_after prompt exchange.0
 
-  abbrev pub shown_from_by : S → List Request → List ℕ
+  abbrev pub shown_from_by : S → List Exchange → List ℕ
   shown_from_by s [] = []
-  shown_from_by s (request ∷ requests) = shown_by s request ++ shown_from_by (next s request) requests
+  shown_from_by s (exchange ∷ exchanges) = shown_by s exchange ++ shown_from_by (next s exchange) exchanges
 
-  -- all that is shown in a session from this start whose lines ask for this: the greeting stands before the first prompt
-  abbrev pub dialogue_by : List ℕ → S → List Request → List ℕ
-  dialogue_by greeting start requests = (greeting ++ prompt) ++ shown_from_by start requests
-
-  -- the text is what is shown in a session with these lines, of which it responds to those up to `quit`
-  abbrev pub IsDialogueBy : List ℕ → S → List (List ℕ) → List ℕ → Type 0
-  IsDialogueBy greeting start lines text = (requests : List Request) × AreAsked requests lines
-      × (text ≡ dialogue_by greeting start requests)
+  -- all that is shown in a session from this start, at these lines: the greeting stands before the first prompt
+  abbrev pub dialogue_by : List ℕ → S → List Exchange → List ℕ
+  dialogue_by greeting start exchanges = (greeting ++ prompt) ++ shown_from_by start exchanges

@@ -5,9 +5,11 @@ ghost use Rattle.cdb_control.specs.Journal.{opened};
 ghost use Rattle.cdb_session.specs.Debugs.{Debugs, IsBegun, IsFaultOfBeginning};
 ghost use Rattle.cdb_session.specs.Requests.{most_seats};
 
+use crate::answers::{Answers, answer_in};
 use crate::caller::Caller;
 use crate::console::Console;
 use crate::greeting::{greeting_at, greeting_text};
+use crate::inquiry::Inquiry;
 use crate::repl::run;
 use crate::session::Session;
 use crate::style::Style;
@@ -17,21 +19,43 @@ use cdb_rules::Runs;
 use cdb_setup::Setup;
 use cdb_streams::PlayFault;
 use std::alloc::Global;
+use std::marker::{Model, PhantomData};
 
 /// How many seats a session has.
 const SEATS: u8 = 9;
 
-impl<R: Runs> Caller for Control<R> {
+/// A control of a session's own, and who answers what is asked of its run.
+#[derive(Drop)]
+struct OwnControl<R: Runs, A> {
+    control: Control<R>,
+    answers: PhantomData<A>,
+}
+
+impl<R: Runs, A> Model for OwnControl<R, A> {
+    ghost use Rattle.cdb_control.specs.Journal.{Journaled};
+
+    ghost Value = { Journaled };
+
+    ghost view = { λ own. own.control };
+}
+
+impl<R: Runs, A: Answers<R>> Caller for OwnControl<R, A> {
     ghost use Rattle.cdb_session.specs.Alone.{whole_part, all_seats, IsLaterControl};
 
     ghost part = { λ c. whole_part R.rules c };
 
     ghost seats = { all_seats };
 
+    ghost answers = { A.answers };
+
     ghost later = { IsLaterControl };
 
     fn call(&mut self, alloc: Global, seat: u8, command: Command) -> Result<Reply, CallFault> {
-        self.execute(alloc, seat, command)
+        self.control.execute(alloc, seat, command)
+    }
+
+    fn ask(&mut self, alloc: Global, inquiry: Inquiry) -> Result<Vec<u8>, NoMemory> {
+        answer_in::<R, A>(alloc, &self.control, inquiry)
     }
 }
 
@@ -76,13 +100,13 @@ pub fn begin<R: Runs>(alloc: Global, setup: &[u8]) -> Result<(Control<R>, Vec<u8
 /// that was read, and has ended at `quit`, at the end of the input, which is asked for once, or after 2^63 bytes. After
 /// a failed read each line that had ended has its response; after a failed write what was written is a beginning of the
 /// responses; after out of memory it is the responses to the first of the lines.
-pub fn debug<R: Runs, T: Console>(
+pub fn debug<R: Runs, A: Answers<R>, T: Console>(
     alloc: Global,
     setup: &[u8],
     prompt: &[u8],
     console: &mut T,
 ) -> Result<(), PlayFault>
-    ensures { Debugs R.rules prompt.now setup.now result (T.known console.old) (T.known console.new) }
+    ensures { Debugs R.rules A.answers prompt.now setup.now result (T.known console.old) (T.known console.new) }
 {
     let begun = begin::<R>(alloc, setup)?;
     let (control, greeting) = begun;
@@ -93,6 +117,10 @@ pub fn debug<R: Runs, T: Console>(
         first: 1,
         chooses: true,
     };
-    let mut session = Session::new(control, &style);
+    let own = OwnControl::<R, A> {
+        control,
+        answers: PhantomData,
+    };
+    let mut session = Session::new(own, &style);
     run(alloc, &style, &mut session, console)
 }

@@ -3,16 +3,18 @@
 //!
 //! ```text
 //! let mut console = Streams::new(Input::new(rt.reader()), Output::new(io::writer(rt)));
-//! let outcome = debug::<R, _>(rt.alloc(), setup, b"> ", &mut console);
+//! let outcome = debug::<R, A, _>(rt.alloc(), setup, b"> ", &mut console);
 //! ```
 #![tactic(auto)]
 
 mod alone;
+mod answers;
 mod caller;
 mod console;
 mod feed;
 mod greeting;
 mod help;
+mod inquiry;
 pub mod laws;
 mod repl;
 mod request;
@@ -25,10 +27,12 @@ mod typed;
 mod unfinished;
 
 pub use alone::{begin, debug};
+pub use answers::{Answers, answer_in, answer_of};
 pub use caller::Caller;
 pub use console::{Console, write_all};
 pub use greeting::{greeting_at, greeting_text};
 pub use help::{COMMANDS, OTHERS, SEATS};
+pub use inquiry::Inquiry;
 pub use repl::run;
 pub use request::{Request, request_of};
 pub use session::Session;

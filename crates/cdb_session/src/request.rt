@@ -6,16 +6,19 @@ ghost use Rattle.cdb_session.specs.declared.request.Request.{Request as RequestN
 ghost use Rattle.cdb_session.specs.declared.topic.Topic.{Topic as TopicName};
 ghost use Rattle.cdb_session.specs.Requests.{AsksFor, help_line, quit_line, seat_line, most_seats};
 
+use crate::inquiry::{Inquiry, inquiry_of};
 use crate::topic::Topic;
 use cdb_base::limits::MAX_BYTES;
 use cdb_control::Command;
 use cdb_text::{LineFault, parse_line};
 
 /// What a line asks for.
-#[derive(Clone, Copy, PartialEq, Eq)]
+#[derive(Clone, Copy)]
 pub enum Request {
     /// The command, by the seat that the session is at.
     Call(Command),
+    /// The answer to this, of the run as it stands.
+    Ask(Inquiry),
     /// The lines that follow are this seat's, from 1 to 9.
     Seat(u8),
     /// The help, or what it says about a word.
@@ -84,6 +87,9 @@ pub fn request_of(line: &[u8]) -> Request
     }
     if let Some(seat) = seat_of(line) {
         return Request::Seat(seat);
+    }
+    if let Some(inquiry) = inquiry_of(line) {
+        return Request::Ask(inquiry);
     }
     match parse_line(line) {
         Ok(command) => Request::Call(command),

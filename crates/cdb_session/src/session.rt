@@ -52,7 +52,7 @@ impl<C: Caller> Session<C> {
         command: Command,
     ) -> Result<Vec<u8>, NoMemory>
         requires { MaySit style.now (C.seats self.old.caller) self.old.seat }
-        ensures responds { Responds style.now result (seen_by C.part self.old)
+        ensures responds { Responds C.answers style.now result (seen_by C.part self.old)
             (Request.Call command) (seen_by C.part self.new) }
         ensures seat { self.new.seat ≡ self.old.seat }
         ensures lines { self.new.lines ≡ self.old.lines }
@@ -66,7 +66,7 @@ impl<C: Caller> Session<C> {
         }
     }
 
-    /// Does what a line asks for that asks for no command, and returns the response.
+    /// Does what a line asks for that asks for no command and nothing of the run, and returns the response.
     fn respond_itself(
         &mut self,
         alloc: Global,
@@ -96,7 +96,7 @@ impl<C: Caller> Session<C> {
         requires sits { MaySit style.now (C.seats self.old.caller) self.old.seat }
         requires chosen { (k : ℕ) → request ≡ Request.Seat k → IsWithin 1 most_seats k }
         requires lines { self.old.lines < 2 ^ 64 - 1 }
-        ensures responds { Responds style.now result (seen_by C.part self.old)
+        ensures responds { Responds C.answers style.now result (seen_by C.part self.old)
             request (seen_by C.part self.new) }
         ensures seat { self.new.seat ≡ seat_next style.now.chooses self.old.seat request }
         ensures lines { self.new.lines ≡ self.old.lines }
@@ -105,6 +105,7 @@ impl<C: Caller> Session<C> {
     {
         match request {
             Request::Call(command) => self.call(alloc, style, command),
+            Request::Ask(inquiry) => self.caller.ask(alloc, inquiry),
             _ => self.respond_itself(alloc, style, request),
         }
     }
@@ -120,7 +121,7 @@ impl<C: Caller> Session<C> {
         requires sits { MaySit style.now (C.seats self.old.caller) self.old.seat }
         requires chosen { (k : ℕ) → request ≡ Request.Seat k → IsWithin 1 most_seats k }
         requires lines { self.old.lines < 2 ^ 64 - 1 }
-        ensures shows { Shows style.now result (seen_by C.part self.old)
+        ensures shows { Shows C.answers style.now result (seen_by C.part self.old)
             request (seen_by C.part self.new) }
         ensures seat { self.new.seat ≡ seat_next style.now.chooses self.old.seat request }
         ensures lines { OnOk result (self.new.lines ≡ self.old.lines + 1) }
@@ -151,7 +152,7 @@ fn text_of(alloc: Global, reply: Reply) -> Result<Vec<u8>, NoMemory>
     text
 }
 
-/// The response to a line that asks for no command, after this many lines.
+/// The response to a line that asks for no command and nothing of the run, after this many lines.
 fn own_response(
     alloc: Global,
     style: &Style<'_>,
@@ -179,7 +180,10 @@ fn push_own_response(
     match request {
         Request::Seat(seat) => push_chosen(text, style, lines + 1, seat),
         Request::Help(about) => push_help_response(alloc, text, style, lines + 1, about),
-        Request::Quit | Request::Call(_) | Request::Fault(LineFault::Empty) => Ok(()),
+        Request::Quit
+        | Request::Call(_)
+        | Request::Ask(_)
+        | Request::Fault(LineFault::Empty) => Ok(()),
         Request::Fault(fault) => push_fault(text, lines + 1, fault),
         Request::TooLong => push_too_long(text, lines + 1),
     }

@@ -10,7 +10,7 @@ use cdb_base::limits::MAX_BYTES;
 use std::alloc::{AllocError, Global};
 
 /// The words that may begin a line.
-const FIRST: [&[u8]; 16] = [
+const FIRST: [&[u8]; 18] = [
     b"step",
     b"auto",
     b"lose",
@@ -24,6 +24,8 @@ const FIRST: [&[u8]; 16] = [
     b"resume",
     b"show",
     b"decisions",
+    b"explain",
+    b"trail",
     b"help",
     b"quit",
     b"seat",

@@ -1,5 +1,5 @@
 use Rattle.cdb_session.proofs.OwnControl.{calls_made}
-use Rattle.cdb_session.proofs.alone.ControlCaller.call.Goals as goal
+use Rattle.cdb_session.proofs.alone.OwnControlCaller.call.Goals as goal
 
 pub returns-clause-call : goal.returns-clause-call
 returns-clause-call g c =
