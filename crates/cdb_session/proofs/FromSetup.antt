@@ -4,7 +4,9 @@ use Rattle.std.specs.Prelude.{Result, Ok, Err}
 use Rattle.cdb_base.specs.declared.no_memory.NoMemory.{NoMemory}
 use Rattle.cdb_base.specs.Limits.{MAX_ENTRIES}
 use Rattle.cdb_control.specs.Journal.{Journaled, opened}
+use Rattle.cdb_rules.specs.RunView.{RunView}
 use Rattle.cdb_rules.specs.Rules.{Rules}
+use Rattle.cdb_session.specs.declared.inquiry.Inquiry.{Inquiry}
 use Rattle.cdb_setup.specs.Faults.{IfFault}
 use Rattle.cdb_setup.specs.Format.{Encodes, longest}
 use Rattle.cdb_setup.specs.Order.{IsFirstFault}
@@ -19,29 +21,29 @@ use Rattle.cdb_session.specs.Alone.{whole_part, IsLaterControl, nine}
 use Rattle.cdb_session.specs.Debugs as table
 use Rattle.cdb_session.specs.Greetings.{greeting_at, greeting_text}
 use Rattle.cdb_session.specs.Moves.{Known, Move, read_in, written_in, Makes}
-use Rattle.cdb_session.specs.Parts.{HasCommands}
+use Rattle.cdb_session.specs.Answers.{HasExchanges}
 use Rattle.cdb_session.specs.Requests.{ended_lines, most_seats}
 use Rattle.cdb_session.specs.Served.{IsAnswered, IsServed, IsCutShort, IsSession}
 use Rattle.cdb_session.specs.Sessions.{EndsAs}
 use Rattle.cdb_session.specs.Styles.{Onward}
 use Rattle.cdb_session.specs.Table.{begun, IsDialogue}
-use Rattle.cdb_session.proofs.SameAsTable.{nothing_lost}
+use Rattle.cdb_session.proofs.SameAsTable.{all_answered, nothing_lost}
 use Rattle.cdb_session.proofs.OwnControl.{later_control}
 
 -- ---- by its journal, and by the table
 
-module _ (rules : Parts → Rules) (greeting prompt : List ℕ) (given : Parts) (c : Journaled) (of : c.setup ≡ given) (seats : c.seats ≡ most_seats) (few : length c.journal ≤ MAX_ENTRIES) where
-  answered : (lines : List (List ℕ)) (text : List ℕ) → IsAnswered (nine greeting prompt) (whole_part rules c) lines text → IsDialogue greeting prompt (begun rules given) lines text
-  answered lines text (requests, others, asked, is, has) =
-      subst (λ (parts : Parts). IsDialogue greeting prompt (begun rules parts) lines text) of
-      (requests, asked, is ∙ nothing_lost greeting prompt rules c requests others seats few has)
+module _ (rules : Parts → Rules) (Answers : RunView → Inquiry → List ℕ → Type 0) (greeting prompt : List ℕ) (given : Parts) (c : Journaled) (of : c.setup ≡ given) (seats : c.seats ≡ most_seats) (few : length c.journal ≤ MAX_ENTRIES) where
+  answered : (lines : List (List ℕ)) (text : List ℕ) → IsAnswered Answers (nine greeting prompt) (whole_part rules c) lines text → IsDialogue Answers greeting prompt (begun rules given) lines text
+  answered lines text (exchanges, others, asked, is, has) =
+      subst (λ (parts : Parts). IsDialogue Answers greeting prompt (begun rules parts) lines text) of
+      (exchanges, asked, all_answered Answers greeting prompt rules c exchanges others seats few has, is ∙ nothing_lost Answers greeting prompt rules c exchanges others seats few has.0)
 
-  served : (lines : List (List ℕ)) (text : List ℕ) → IsServed (nine greeting prompt) (whole_part rules c) lines text → IsDialogue greeting prompt (begun rules given) lines text
-  served lines text (requests, asked, is, has) =
-      answered lines text (requests, [], asked, is, subst (HasCommands (nine greeting prompt) (whole_part rules c)) (sym (append-nil requests)) has)
+  served : (lines : List (List ℕ)) (text : List ℕ) → IsServed Answers (nine greeting prompt) (whole_part rules c) lines text → IsDialogue Answers greeting prompt (begun rules given) lines text
+  served lines text (exchanges, asked, is, has) =
+      answered lines text (exchanges, [], asked, is, subst (HasExchanges Answers (nine greeting prompt) (whole_part rules c)) (sym (append-nil exchanges)) has)
 
-  ends : (returned : Result (Unit {0}) PlayFault) (moves : List Move) → EndsAs (IsAnswered (nine greeting prompt) (whole_part rules c)) (IsServed (nine greeting prompt) (whole_part rules c)) (IsCutShort (nine greeting prompt) (whole_part rules c)) returned moves
-      → EndsAs (IsDialogue greeting prompt (begun rules given)) (IsDialogue greeting prompt (begun rules given)) (table.IsCutShort greeting prompt (begun rules given)) returned moves
+  ends : (returned : Result (Unit {0}) PlayFault) (moves : List Move) → EndsAs (IsAnswered Answers (nine greeting prompt) (whole_part rules c)) (IsServed Answers (nine greeting prompt) (whole_part rules c)) (IsCutShort Answers (nine greeting prompt) (whole_part rules c)) returned moves
+      → EndsAs (IsDialogue Answers greeting prompt (begun rules given)) (IsDialogue Answers greeting prompt (begun rules given)) (table.IsCutShort Answers greeting prompt (begun rules given)) returned moves
   ends (Ok done) moves e = record { responded = served (lines_of (read_in moves)) (written_in moves) e.responded; ended = e.ended }
   ends (Err fault.Read) moves e = (record { responded = served (ended_lines (read_in moves)) (written_in moves) e.0.responded; goes_on = e.0.goes_on; more = e.0.more }, e.1)
   ends (Err fault.Write) moves e = (
@@ -54,7 +56,7 @@ module _ (rules : Parts → Rules) (greeting prompt : List ℕ) (given : Parts) 
   ends (Err (fault.Line script line why)) moves e = e
   ends (Err (fault.ScriptTooLong script)) moves e = e
 
-  by_table : (returned : Result (Unit {0}) PlayFault) (moves : List Move) → IsSession (nine greeting prompt) (whole_part rules c) returned moves → table.IsSession greeting prompt (begun rules given) returned moves
+  by_table : (returned : Result (Unit {0}) PlayFault) (moves : List Move) → IsSession Answers (nine greeting prompt) (whole_part rules c) returned moves → table.IsSession Answers greeting prompt (begun rules given) returned moves
   by_table returned moves s = record {
     in_time = λ before ask later is asks.
         let r = s.in_time before ask later is asks in
@@ -86,14 +88,14 @@ setup_failed json setup.TooLong is long = is (λ e. cc)
 setup_failed json setup.BadVersion is long = is (λ e. cc)
 setup_failed json (setup.NoMemory refused) is long = fits json refused long
 
-module _ (rules : Parts → Rules) (prompt json : List ℕ) where
+module _ (rules : Parts → Rules) (Answers : RunView → Inquiry → List ℕ → Type 0) (prompt json : List ℕ) where
   -- there is no control
-  pub not_begun : (fault : PlayFault) → table.IsFaultOfBeginning json fault → table.HasDebugged rules prompt json {A = Unit {0}} (Err fault) []
+  pub not_begun : (fault : PlayFault) → table.IsFaultOfBeginning json fault → table.HasDebugged rules Answers prompt json {A = Unit {0}} (Err fault) []
   not_begun (fault.Setup why) is = (is, refl)
   not_begun (fault.NoMemory refused) is = inl (is, refl)
   not_begun other is = absurd is
 
-  on_setup : (given : Parts) → Encodes json given → (returned : Result (Unit {0}) PlayFault) (moves : List Move) → table.IsSession (greeting_at prompt (greeting_text given)) prompt (begun rules given) returned moves → table.HasDebugged rules prompt json returned moves
+  on_setup : (given : Parts) → Encodes json given → (returned : Result (Unit {0}) PlayFault) (moves : List Move) → table.IsSession Answers (greeting_at prompt (greeting_text given)) prompt (begun rules given) returned moves → table.HasDebugged rules Answers prompt json returned moves
   on_setup given encodes (Ok done) moves s = (given, encodes, s)
   on_setup given encodes (Err (fault.Setup why)) moves s = absurd s.ends
   on_setup given encodes (Err (fault.Line script line why)) moves s = (given, encodes, s)
@@ -104,10 +106,10 @@ module _ (rules : Parts → Rules) (prompt json : List ℕ) where
 
   -- from a control in which nothing has happened to one that the session has left
   pub debugged : (old new : Known) (given : Parts) → Encodes json given → (first last : Journaled) → first ≡ opened given most_seats → Onward IsLaterControl first last
-      → (returned : Result (Unit {0}) PlayFault) → ((made : List Move) × Makes old new made × IsSession (nine (greeting_at prompt (greeting_text given)) prompt) (whole_part rules last) returned made) → table.Debugs rules prompt json returned old new
+      → (returned : Result (Unit {0}) PlayFault) → ((made : List Move) × Makes old new made × IsSession Answers (nine (greeting_at prompt (greeting_text given)) prompt) (whole_part rules last) returned made) → table.Debugs rules Answers prompt json returned old new
   debugged old new given encodes first last is later returned (made, makes, s) =
       let none : length first.journal ≡ 0 = ap (λ (c : Journaled). length c.journal) is in
       let its = later_control first last (omega (arith, none)) later in
       let of = its.0 ∙ ap (λ (c : Journaled). c.setup) is in
       let seats = its.1 ∙ ap (λ (c : Journaled). c.seats) is in
-      (made, makes, on_setup given encodes returned made (by_table rules (greeting_at prompt (greeting_text given)) prompt given last of seats its.2 returned made s))
+      (made, makes, on_setup given encodes returned made (by_table rules Answers (greeting_at prompt (greeting_text given)) prompt given last of seats its.2 returned made s))

@@ -1,5 +1,5 @@
 -- What one line does to a session, and to what the journal has of it.
-use Rattle.std.proofs.Common.{◌≡◌, ◌≢◌, ◌⊎◌, inl, inr, ℕ, ◌+◌, ◌≤◌, Bool, List, [], ◌∷◌, ◌++◌, length, refl, sym, ap, subst, ◌∙◌, append_assoc, append-nil, arith}
+use Rattle.std.proofs.Common.{◌≡◌, ◌≢◌, ◌⊎◌, inl, inr, ℕ, ◌+◌, ◌≤◌, Bool, List, [], ◌∷◌, ◌++◌, length, refl, sym, ap, subst, ◌∙◌, append_assoc, append-nil, arith, length-append, min}
 use Rattle.cdb_commands.specs.ToldReply.{ToldReply}
 use Rattle.cdb_commands.specs.declared.command.Command.{Command}
 use Rattle.cdb_control.specs.Journal.{entry}
@@ -134,22 +134,25 @@ module _ (Answers : RunView → Inquiry → List ℕ → Type 0) (style : StyleV
 
     -- ---- and what the run was asked
 
-    -- what was told of the journal so far is told of it later
-    told_on : (old new : Part) → GoesOn old new → (count : ℕ) (inquiry : Inquiry) (text : List ℕ) → IsTold Answers old count inquiry text → IsTold Answers new count inquiry text
-    told_on old new on count inquiry text (first, few, which, answers) =
-        let calls = on.calls_in first few in
-        let run = on.left_by first few in
-        (first, omega (arith, few, on.longer), rw calls which, rw run answers)
+    -- of so many commands the journal has as many later as before
+    abbrev AsManyLater : Part → Part → ℕ → Type 0
+    AsManyLater old new most = (n : ℕ) → n ≤ most → min n (length new.calls) ≡ min n (length old.calls)
 
-    all_told_on : (old new : Part) → GoesOn old new → (count : ℕ) (its : List Exchange) → AreTold (IsTold Answers old) count its → AreTold (IsTold Answers new) count its
-    all_told_on old new on count [] told = tt
-    all_told_on old new on count ((Call command, answer) ∷ its) told = all_told_on old new on (count + 1) its told
-    all_told_on old new on count ((Seat chosen, answer) ∷ its) told = all_told_on old new on count its told
-    all_told_on old new on count ((Help about, answer) ∷ its) told = all_told_on old new on count its told
-    all_told_on old new on count ((Quit, answer) ∷ its) told = all_told_on old new on count its told
-    all_told_on old new on count ((Fault fault, answer) ∷ its) told = all_told_on old new on count its told
-    all_told_on old new on count ((TooLong, answer) ∷ its) told = all_told_on old new on count its told
-    all_told_on old new on count ((Ask inquiry, answer) ∷ its) told = (told_on old new on count inquiry answer told.0, all_told_on old new on count its told.1)
+    -- what was told of the journal so far is told of it later
+    told_on : (old new : Part) → GoesOn old new → (count : ℕ) (inquiry : Inquiry) (text : List ℕ) → min count (length new.calls) ≡ min count (length old.calls) → IsTold Answers old count inquiry text → IsTold Answers new count inquiry text
+    told_on old new on count inquiry text many (first, few, which, answers) =
+        let run = on.left_by first few in
+        (first, omega (arith, few, on.longer), on.calls_in first few ∙ which ∙ sym many, rw run answers)
+
+    all_told_on : (old new : Part) → GoesOn old new → (count : ℕ) (its : List Exchange) → AsManyLater old new (count + commands_among its) → AreTold (IsTold Answers old) count its → AreTold (IsTold Answers new) count its
+    all_told_on old new on count [] many told = tt
+    all_told_on old new on count ((Call command, answer) ∷ its) many told = all_told_on old new on (count + 1) its (λ n low. many n (omega (arith, low))) told
+    all_told_on old new on count ((Seat chosen, answer) ∷ its) many told = all_told_on old new on count its many told
+    all_told_on old new on count ((Help about, answer) ∷ its) many told = all_told_on old new on count its many told
+    all_told_on old new on count ((Quit, answer) ∷ its) many told = all_told_on old new on count its many told
+    all_told_on old new on count ((Fault fault, answer) ∷ its) many told = all_told_on old new on count its many told
+    all_told_on old new on count ((TooLong, answer) ∷ its) many told = all_told_on old new on count its many told
+    all_told_on old new on count ((Ask inquiry, answer) ∷ its) many told = (told_on old new on count inquiry answer (many count (omega arith)) told.0, all_told_on old new on count its many told.1)
 
     -- one line more
     one_told : (part : Part) (count : ℕ) (its : List Exchange) (exchange : Exchange) → AreTold (IsTold Answers part) count its
@@ -172,7 +175,7 @@ module _ (Answers : RunView → Inquiry → List ℕ → Type 0) (style : StyleV
     -- the entries that lines ask for are as many as their commands
     as_many_asked : (chooses : Bool) (at : ℕ) (its : List Exchange) → length (all_asked chooses at its) ≡ commands_among its
     as_many_asked chooses at [] = refl
-    as_many_asked chooses at ((Call command, answer) ∷ its) = ap (λ n. 1 + n) (as_many_asked chooses (seat_next chooses at (Call command)) its)
+    as_many_asked chooses at ((Call command, answer) ∷ its) = let others = as_many_asked chooses (seat_next chooses at (Call command)) its in omega (arith, others)
     as_many_asked chooses at ((Ask inquiry, answer) ∷ its) = as_many_asked chooses (seat_next chooses at (Ask inquiry)) its
     as_many_asked chooses at ((Seat chosen, answer) ∷ its) = as_many_asked chooses (seat_next chooses at (Seat chosen)) its
     as_many_asked chooses at ((Help about, answer) ∷ its) = as_many_asked chooses (seat_next chooses at (Help about)) its
@@ -181,19 +184,29 @@ module _ (Answers : RunView → Inquiry → List ℕ → Type 0) (style : StyleV
     as_many_asked chooses at ((TooLong, answer) ∷ its) = as_many_asked chooses (seat_next chooses at TooLong) its
 
     -- the answer of the run as it stands, after all commands so far
+    all_among : (old new : Part) → MakesNone old new → HasCommands style old exchanges → length new.calls ≤ commands_among exchanges
+    all_among old new same (inl all) = omega (arith, ap length (same.calls ∙ all), as_many_asked style.chooses style.first exchanges)
+    all_among old new same (inr some) = omega (arith, ap length same.calls, ap length some.2, length-append old.calls some.1, as_many_asked style.chooses style.first exchanges)
+
     told_now : (old new : Part) → MakesNone old new → (inquiry : Inquiry) (answer : List ℕ) → AnswersNow Answers new inquiry answer → HasCommands style old exchanges → IsTold Answers new (0 + commands_among exchanges) inquiry answer
-    told_now old new same inquiry answer now (inl all) =
-        let many = now.all ∙ ap length (same.calls ∙ all) ∙ as_many_asked style.chooses style.first exchanges in
-        (new.entries, omega arith, inl (omega (arith, many)), now.answers)
-    told_now old new same inquiry answer now (inr some) = (new.entries, omega arith, inr (same.full some.0), now.answers)
+    told_now old new same inquiry answer now has = (new.entries, omega arith, omega (arith, now.all, all_among old new same has), now.answers)
+
+    told_same : (old new : Part) → MakesNone old new → HasExchanges Answers style old exchanges → AreTold (IsTold Answers new) 0 exchanges
+    told_same old new same has = all_told_on old new same.goes_on 0 exchanges (λ n low. ap (λ (calls : List Entry). min n (length calls)) same.calls) has.1
 
     told_at_line : (old : Part) (exchange : Exchange) (new : Part) → MakesNone old new → ((inquiry : Inquiry) → exchange.0 ≡ Ask inquiry → AnswersNow Answers new inquiry exchange.1) → HasExchanges Answers style old exchanges → AreTold (IsTold Answers new) 0 (exchanges ++ exchange ∷ [])
     told_at_line old exchange new same answer has =
-        one_told new 0 exchanges exchange (all_told_on old new same.goes_on 0 exchanges has.1) (λ inquiry asks. told_now old new same inquiry exchange.1 (answer inquiry asks) has.0)
+        one_told new 0 exchanges exchange (told_same old new same has) (λ inquiry asks. told_now old new same inquiry exchange.1 (answer inquiry asks) has.0)
 
-    told_at_call : (old : Part) (command : Command) (answer : List ℕ) (new : Part) → GoesOn old new → HasExchanges Answers style old exchanges → AreTold (IsTold Answers new) 0 (exchanges ++ (Call command, answer) ∷ [])
-    told_at_call old command answer new on has =
-        one_told new 0 exchanges (Call command, answer) (all_told_on old new on 0 exchanges has.1) (λ inquiry asks. absurd cc)
+    -- a command is called where the journal has all those before it
+    as_many_later : (old new : Part) (one : Entry) (reply : ToldReply) → IsCalled old one reply new → HasCommands style old exchanges → AsManyLater old new (0 + commands_among exchanges)
+    as_many_later old new one reply call (inl all) n low =
+        omega (arith, low, ap length call.calls, length-append old.calls (one ∷ []), ap length all, as_many_asked style.chooses style.first exchanges)
+    as_many_later old new one reply call (inr some) n low = absurd (call.room some.0)
+
+    told_at_call : (old : Part) (command : Command) (answer : List ℕ) (reply : ToldReply) (new : Part) → IsCalled old (entry seat command) reply new → HasExchanges Answers style old exchanges → AreTold (IsTold Answers new) 0 (exchanges ++ (Call command, answer) ∷ [])
+    told_at_call old command answer reply new call has =
+        one_told new 0 exchanges (Call command, answer) (all_told_on old new call.goes_on 0 exchanges (as_many_later old new (entry seat command) reply call has.0) has.1) (λ inquiry asks. absurd cc)
 
     -- ---- a line was done
 
@@ -202,7 +215,7 @@ module _ (Answers : RunView → Inquiry → List ℕ → Type 0) (style : StyleV
         (not_called old new exchange done.calls (asks_nothing seat exchange.0 new done.full) has.0, told_at_line old exchange new done.calls done.answer has)
     commands_done old (request, answer) (reply ∷ []) new done has =
         let c = done.calls in
-        subst (λ r. HasExchanges Answers style new (exchanges ++ (r, answer) ∷ [])) (sym c.1) (called old new c.0 answer reply c.2 has.0, told_at_call old c.0 answer new c.2.goes_on has)
+        subst (λ r. HasExchanges Answers style new (exchanges ++ (r, answer) ∷ [])) (sym c.1) (called old new c.0 answer reply c.2 has.0, told_at_call old c.0 answer reply new c.2 has)
     commands_done old exchange (reply ∷ other ∷ others) new done has = absurd done.calls
 
     -- out of memory nothing more was called, or what the line asks for
@@ -212,7 +225,7 @@ module _ (Answers : RunView → Inquiry → List ℕ → Type 0) (style : StyleV
 
     pub commands_lost : (old : Part) (request : Request) (got : List ToldReply) (new : Part) → HasGot seat old request got new → HasExchanges Answers style old exchanges
         → HasExchanges Answers style new exchanges ⊎ HasExchanges Answers style new (exchanges ++ (request, []) ∷ [])
-    commands_lost old request [] new is has = inl (same_commands old new is has.0, all_told_on old new is.goes_on 0 exchanges has.1)
+    commands_lost old request [] new is has = inl (same_commands old new is has.0, told_same old new is has)
     commands_lost old request (reply ∷ []) new is has =
-        inr (subst (λ r. HasExchanges Answers style new (exchanges ++ (r, []) ∷ [])) (sym is.1) (called old new is.0 [] reply is.2 has.0, told_at_call old is.0 [] new is.2.goes_on has))
+        inr (subst (λ r. HasExchanges Answers style new (exchanges ++ (r, []) ∷ [])) (sym is.1) (called old new is.0 [] reply is.2 has.0, told_at_call old is.0 [] reply new is.2 has))
     commands_lost old request (reply ∷ other ∷ others) new is has = absurd is

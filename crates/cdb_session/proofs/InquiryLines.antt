@@ -109,15 +109,15 @@ unfolding inquiry_in
 words_ask [] inquiry e = cc
 words_ask (word ∷ others) inquiry e =
     elim (cases_Bool (bytes_eq word (codes "explain"))) [
-      | inl yes ↦
-          let its = explains others (step_in others) inquiry refl (rw yes at e) in
-          (others, ap (λ (w : List ℕ). w ∷ others) ((bytes_eq-Decides word (codes "explain")).0 yes ∙ sym its.0), its.1)
-      | inr no ↦
+      | inl is ↦
+          let its = explains others (step_in others) inquiry refl (rw is at e) in
+          (others, ap (λ (w : List ℕ). w ∷ others) ((bytes_eq-Decides word (codes "explain")).0 is ∙ sym its.0), its.1)
+      | inr other ↦
           elim (cases_Bool (bytes_eq word (codes "trail"))) [
-            | inl yes ↦
-                let its = trails others (step_in others) inquiry refl (rw (no, yes) at e) in
-                (others, ap (λ (w : List ℕ). w ∷ others) ((bytes_eq-Decides word (codes "trail")).0 yes ∙ sym its.0), its.1)
-            | inr none ↦ let never = rw (no, none) at e in cc
+            | inl is ↦
+                let its = trails others (step_in others) inquiry refl (rw (other, is) at e) in
+                (others, ap (λ (w : List ℕ). w ∷ others) ((bytes_eq-Decides word (codes "trail")).0 is ∙ sym its.0), its.1)
+            | inr neither ↦ let never = rw (other, neither) at e in cc
           ]
     ]
 

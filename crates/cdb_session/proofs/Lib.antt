@@ -21,6 +21,7 @@ pub mod NextState
 pub mod FedBytes
 pub mod WholeSession
 pub mod OwnControl
+pub mod LeftRun
 pub mod SameAsTable
 pub mod JournalCommands
 pub mod FromSetup

@@ -1,9 +1,11 @@
 -- With a control of its own, a session shows what the table of exchanges says.
-use Rattle.std.proofs.Common.{◌≡◌, inl, inr, ℕ, suc, ◌+◌, ◌-◌, ◌<◌, ◌≤◌, ◌==◌, Bool, true, false, List, [], ◌∷◌, ◌++◌, length, take, refl, sym, ap, ◌∙◌, arith, length-append}
+use Rattle.std.proofs.Common.{◌≡◌, inl, inr, ℕ, suc, ◌+◌, ◌-◌, ◌<◌, ◌≤◌, ◌==◌, Bool, true, false, List, [], ◌∷◌, ◌++◌, length, take, refl, sym, ap, subst, ◌∙◌, append_assoc, arith, length-append}
 use Rattle.std.specs.Prelude.{if◌then◌else◌}
 use Rattle.std.proofs.lemmas.Bool.Decides.{Decides-eqb}
 use Rattle.std.proofs.lemmas.Grind.{fold-append}
-use Rattle.std.proofs.lemmas.List.{take_all, take-append-le}
+use Rattle.std.proofs.lemmas.Bool.{cases_lt}
+use Rattle.std.proofs.lemmas.List.{length-take, take_all, take_min, take-append-le}
+use Rattle.std.proofs.Math.Seq.{take-append_seam, take-append-add}
 use Rattle.cdb_base.specs.Limits.{MAX_ENTRIES}
 use Rattle.cdb_commands.specs.declared.command.Command.{Command}
 use Rattle.cdb_control.specs.Commands.{obey}
@@ -22,7 +24,11 @@ use Rattle.cdb_text.specs.Texts.{text_of}
 use Rattle.cdb_session.specs.Replies.{Along, shown_from, dialogue}
 use Rattle.cdb_session.specs.Dialogues.{full_text, shown_by, shown_from_by}
 use Rattle.cdb_session.specs.Alone.{all_replies_from, whole_part, nine}
-use Rattle.cdb_session.specs.Parts.{all_asked, all_of, HasCommands}
+use Rattle.cdb_session.specs.Answers.{AreTold, HasExchanges, IsTold, run_left}
+use Rattle.cdb_session.specs.Parts.{all_asked, all_of, asked_of, seat_next, HasCommands}
+use Rattle.cdb_session.specs.declared.request.Request.{Request}
+use Rattle.cdb_session.proofs.HeldBytes.{take-take_append}
+use Rattle.cdb_session.proofs.JournalCommands.{grown}
 
 not_full : (n most : ℕ) → n ≤ most → (n == most) ≡ false → n < most
 not_full n most few other = grind arith
@@ -134,21 +140,117 @@ module _ (Answers : RunView → Inquiry → List ℕ → Type 0) (greeting promp
 
   -- ---- what the run was asked
 
-  -- the run that the table comes to is the one that the first entries leave
+  -- the first of the lines
+  told_first : (Told : ℕ → Inquiry → List ℕ → Type 0) (count : ℕ) (exchanges others : List Exchange) → AreTold Told count (exchanges ++ others) → AreTold Told count exchanges
+  told_first Told count [] others told = tt
+  told_first Told count ((Call command, answer) ∷ exchanges) others told = told_first Told (count + 1) exchanges others told
+  told_first Told count ((Ask inquiry, answer) ∷ exchanges) others told = (told.0, told_first Told count exchanges others told.1)
+  told_first Told count ((Seat chosen, answer) ∷ exchanges) others told = told_first Told count exchanges others told
+  told_first Told count ((Help about, answer) ∷ exchanges) others told = told_first Told count exchanges others told
+  told_first Told count ((Quit, answer) ∷ exchanges) others told = told_first Told count exchanges others told
+  told_first Told count ((Fault fault, answer) ∷ exchanges) others told = told_first Told count exchanges others told
+  told_first Told count ((TooLong, answer) ∷ exchanges) others told = told_first Told count exchanges others told
+
+  -- a journal that has as many as it can of what was asked for so far, and of more
+  first_entries : (asked rest journal : List Entry) → journal ≡ take MAX_ENTRIES (asked ++ rest) → take (length asked) journal ≡ take MAX_ENTRIES asked
+  first_entries asked rest journal all =
+      elim (cases_lt MAX_ENTRIES (length asked)) [
+        | inl long ↦
+            let cut : take MAX_ENTRIES (asked ++ rest) ≡ take MAX_ENTRIES asked = take-append-le MAX_ENTRIES asked rest (omega (arith, long)) in
+            let few : length journal ≤ length asked = omega (arith, ap length (all ∙ cut), length-take MAX_ENTRIES asked) in
+            take_all (length asked) journal few ∙ all ∙ cut
+        | inr few ↦
+            let n : ℕ = MAX_ENTRIES - length asked in
+            let most : MAX_ENTRIES ≡ length asked + n = omega (arith, few) in
+            let cut : take MAX_ENTRIES (asked ++ rest) ≡ asked ++ take n rest = ap (λ m. take m (asked ++ rest)) most ∙ take-append-add asked rest n in
+            ap (take (length asked)) (all ∙ cut) ∙ take-append_seam asked (take n rest) ∙ sym (take_all MAX_ENTRIES asked few)
+      ]
+
   module _ (rules : Parts → Rules) (c : Journaled) (nine_seats : c.seats ≡ most_seats) where
-    -- the table has come to the first count entries of the journal
+    -- the session has come to the first count entries that were asked for
     record IsThere (s : table.Session) (asked : List Entry) (exchanges : List Exchange) (count : ℕ) : Type 0 where
       rules_are : s.rules ≡ rules
       setup_is : s.control.setup ≡ c.setup
       seats_are : s.control.seats ≡ most_seats
+      few : length s.control.journal ≤ MAX_ENTRIES
       come_to : s.control.journal ≡ take MAX_ENTRIES asked
       counted : length asked ≡ count
       all : c.journal ≡ take MAX_ENTRIES (asked ++ all_asked true s.seat exchanges)
 
+    abbrev AreToldOf : ℕ → List Exchange → Type 0
+    AreToldOf count exchanges = AreTold (IsTold Answers (whole_part rules c)) count exchanges
+
     answered_there : (s : table.Session) (asked : List Entry) (exchanges : List Exchange) (count : ℕ) (inquiry : Inquiry) (text : List ℕ) → IsThere s asked exchanges count
         → IsTold Answers (whole_part rules c) count inquiry text → Answers (table.run_in s) inquiry text
-    answered_there s asked exchanges count inquiry text at (first, few, which, answers) =
-        let same : take first c.journal ≡ s.control.journal = first_entries asked (all_asked true s.seat exchanges) c.journal first count at.all at.counted few which ∙ sym at.come_to in
+    answered_there s asked exchanges count inquiry text at (first, few, is, answers) =
+        let same : take first c.journal ≡ s.control.journal =
+        ap (λ n. take n c.journal) is ∙ take_min count c.journal ∙ ap (λ n. take n c.journal) (sym at.counted)
+        ∙ first_entries asked (all_asked true s.seat exchanges) c.journal at.all ∙ sym at.come_to in
         let run : run_left rules c.setup c.seats (take first c.journal) ≡ table.run_in s =
         λ i. run_left (sym at.rules_are i) (sym at.setup_is i) ((nine_seats ∙ sym at.seats_are) i) (same i) in
         subst (λ (r : RunView). Answers r inquiry text) run answers
+
+    -- after a command
+    same_setup : (full : Bool) (one other : Journaled) → other.setup ≡ one.setup → other.seats ≡ one.seats → let now : Journaled = if full then one else other in (now.setup ≡ one.setup) × (now.seats ≡ one.seats)
+    same_setup true one other setup seats = (refl, refl)
+    same_setup false one other setup seats = (setup, seats)
+
+    then_there : (s : table.Session) (asked : List Entry) (command : Command) (answer : List ℕ) (exchanges : List Exchange) (count : ℕ) → IsThere s asked ((Call command, answer) ∷ exchanges) count
+        → IsThere (table.after_line s (Call command, answer)) (asked ++ entry s.seat command ∷ []) exchanges (count + 1)
+    then_there s asked command answer exchanges count at =
+        let one = entry s.seat command in
+        let more = extended s.rules s.control s.seat command in
+        let kept = same_setup (length s.control.journal == MAX_ENTRIES) s.control more refl refl in
+        let now = grown s ((Call command, answer) ∷ []) at.few in
+        let come : take MAX_ENTRIES (s.control.journal ++ one ∷ []) ≡ take MAX_ENTRIES (asked ++ one ∷ []) =
+        ap (λ (front : List Entry). take MAX_ENTRIES (front ++ one ∷ [])) at.come_to ∙ take-take_append MAX_ENTRIES asked (one ∷ []) in
+        record {
+          rules_are = at.rules_are;
+          setup_is = kept.0 ∙ at.setup_is;
+          seats_are = kept.1 ∙ at.seats_are;
+          few = omega (arith, ap length now, length-take MAX_ENTRIES (s.control.journal ++ one ∷ []));
+          come_to = now ∙ come;
+          counted = omega (arith, length-append asked (one ∷ []), at.counted);
+          all = at.all ∙ ap (take MAX_ENTRIES) (sym (append_assoc asked (one ∷ []) (all_asked true s.seat exchanges)));
+        }
+
+    -- after a line that asks for no command
+    unmoved : (s : table.Session) (asked : List Entry) (request : Request) (answer : List ℕ) (exchanges : List Exchange) (count : ℕ) → IsThere s asked ((request, answer) ∷ exchanges) count
+        → table.control_after s request ≡ s.control → asked_of s.seat request ≡ [] → IsThere (table.after_line s (request, answer)) asked exchanges count
+    unmoved s asked request answer exchanges count at same none =
+        record {
+          rules_are = at.rules_are;
+          setup_is = ap (λ (control : Journaled). control.setup) same ∙ at.setup_is;
+          seats_are = ap (λ (control : Journaled). control.seats) same ∙ at.seats_are;
+          few = rw same at.few;
+          come_to = ap (λ (control : Journaled). control.journal) same ∙ at.come_to;
+          counted = at.counted;
+          all = at.all ∙ ap (λ (front : List Entry). take MAX_ENTRIES (asked ++ (front ++ all_asked true (seat_next true s.seat request) exchanges))) none;
+        }
+
+    answered_from : (s : table.Session) (asked : List Entry) (exchanges others : List Exchange) (count : ℕ) → IsThere s asked (exchanges ++ others) count → AreToldOf count exchanges → table.AreAnswered Answers s exchanges
+    answered_from s asked [] others count at told = tt
+    answered_from s asked ((Call command, answer) ∷ exchanges) others count at told =
+        answered_from (table.after_line s (Call command, answer)) (asked ++ entry s.seat command ∷ []) exchanges others (count + 1) (then_there s asked command answer (exchanges ++ others) count at) told
+    answered_from s asked ((Ask inquiry, answer) ∷ exchanges) others count at told = (
+      answered_there s asked ((Ask inquiry, answer) ∷ (exchanges ++ others)) count inquiry answer at told.0,
+      answered_from (table.after_line s (Ask inquiry, answer)) asked exchanges others count (unmoved s asked (Ask inquiry) answer (exchanges ++ others) count at refl refl) told.1,
+    )
+    answered_from s asked ((Seat chosen, answer) ∷ exchanges) others count at told =
+        answered_from (table.after_line s (Seat chosen, answer)) asked exchanges others count (unmoved s asked (Seat chosen) answer (exchanges ++ others) count at refl refl) told
+    answered_from s asked ((Help about, answer) ∷ exchanges) others count at told =
+        answered_from (table.after_line s (Help about, answer)) asked exchanges others count (unmoved s asked (Help about) answer (exchanges ++ others) count at refl refl) told
+    answered_from s asked ((Quit, answer) ∷ exchanges) others count at told =
+        answered_from (table.after_line s (Quit, answer)) asked exchanges others count (unmoved s asked Quit answer (exchanges ++ others) count at refl refl) told
+    answered_from s asked ((Fault fault, answer) ∷ exchanges) others count at told =
+        answered_from (table.after_line s (Fault fault, answer)) asked exchanges others count (unmoved s asked (Fault fault) answer (exchanges ++ others) count at refl refl) told
+    answered_from s asked ((TooLong, answer) ∷ exchanges) others count at told =
+        answered_from (table.after_line s (TooLong, answer)) asked exchanges others count (unmoved s asked TooLong answer (exchanges ++ others) count at refl refl) told
+
+  pub all_answered : (rules : Parts → Rules) (c : Journaled) (exchanges others : List Exchange) → c.seats ≡ most_seats → length c.journal ≤ MAX_ENTRIES → HasExchanges Answers (nine greeting prompt) (whole_part rules c) (exchanges ++ others)
+      → table.AreAnswered Answers (table.begun rules c.setup) exchanges
+  all_answered rules c exchanges others nine_seats few has =
+      let all : c.journal ≡ take MAX_ENTRIES (all_of (nine greeting prompt) (exchanges ++ others)) = as_many rules c (exchanges ++ others) few has.0 in
+      answered_from rules c nine_seats (table.begun rules c.setup) [] exchanges others 0
+      (record { rules_are = refl; setup_is = refl; seats_are = refl; few = omega arith; come_to = refl; counted = refl; all = all })
+      (told_first (IsTold Answers (whole_part rules c)) 0 exchanges others has.1)

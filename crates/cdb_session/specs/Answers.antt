@@ -1,6 +1,5 @@
 -- Of which run a question is answered.
-use Rattle.std.specs.Prelude.{◌≡◌, ◌⊎◌, ℕ, ◌+◌, ◌≤◌, List, [], ◌∷◌, length}
-use Rattle.cdb_base.specs.Limits.{MAX_ENTRIES}
+use Rattle.std.specs.Prelude.{◌≡◌, ℕ, ◌+◌, ◌≤◌, min, List, [], ◌∷◌, length}
 use Rattle.cdb_control.specs.Journal.{replay}
 use Rattle.cdb_control.specs.declared.control.Entry.{Entry}
 use Rattle.cdb_rules.specs.RunView.{RunView}
@@ -26,11 +25,11 @@ AreTold Told count (other ∷ exchanges) = AreTold Told count exchanges
 
 -- of a run, what is asked of it and a text, whether the text is the answer
 module _ (Answers : RunView → Inquiry → List ℕ → Type 0) where
-  -- The text answers what is asked of the run that the first entries of the journal leave: of the commands of the session just the first
-  -- count are among them, or they are a full journal.
+  -- The text answers what is asked of the run that some first entries of the journal leave, among which are just the first count of the
+  -- commands of the session; all of them, where the journal had no room for so many.
   abbrev pub IsTold : Part → ℕ → Inquiry → List ℕ → Type 0
   IsTold part count inquiry text =
-      (first : ℕ) × (first ≤ part.entries) × ((part.calls_in first ≡ count) ⊎ (first ≡ MAX_ENTRIES)) × Answers (part.left_by first) inquiry text
+      (first : ℕ) × (first ≤ part.entries) × (part.calls_in first ≡ min count (length part.calls)) × Answers (part.left_by first) inquiry text
 
   -- the journal has the commands of these lines, and what they ask of the run is answered so
   abbrev pub HasExchanges : StyleView → Part → List Exchange → Type 0

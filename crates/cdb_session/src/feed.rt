@@ -8,7 +8,7 @@ ghost use Rattle.cdb_setup.specs.Format.{longest};
 
 use crate::caller::Caller;
 use crate::console::{Console, write_all};
-use crate::request::{Request, request_of};
+use crate::request::request_of;
 use crate::session::Session;
 use crate::style::Style;
 use crate::typed::line_meant;
@@ -34,10 +34,11 @@ pub(crate) fn respond_to_line<C: Caller, T: Console>(
 {
     let line = line_meant(alloc, unfinished.as_slice())?;
     let request = request_of(line.as_slice());
+    let is_quit = request.is_quit();
     let text = session.show(alloc, style, request)?;
     write_all(console, text.as_slice())?;
     unfinished.clear();
-    Ok(matches!(request, Request::Quit))
+    Ok(is_quit)
 }
 
 /// Answers each line that ends in these bytes, up to `quit`, and holds what follows the last. Returns whether one was

@@ -56,7 +56,7 @@ fn number_of(word: &[u8]) -> Option<u32>
 
 /// The step that the words behind the first one name.
 fn step_of(words: Option<&[u8]>) -> Option<StepAsked>
-    ensures { result ≡ step_in (words_left words) }
+    ensures { result ≡ step_in (words_left words.entry) }
 {
     let (first, others) = first_word(words?);
     let p = number_of(first)?;

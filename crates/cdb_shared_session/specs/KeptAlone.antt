@@ -2,10 +2,12 @@
 use Rattle.std.specs.Prelude.{◌≡◌, ◌⊎◌, ℕ, ◌≤◌, List, [], length, Result, Ok, Err}
 use Rattle.cdb_base.specs.Limits.{MAX_ENTRIES}
 use Rattle.cdb_control.specs.Journal.{Journaled, Begins}
+use Rattle.cdb_rules.specs.RunView.{RunView}
 use Rattle.cdb_rules.specs.Rules.{Rules}
 use Rattle.cdb_session.specs.Alone.{whole_part, nine}
 use Rattle.cdb_session.specs.Debugs.{IsFaultOfBeginning}
 use Rattle.cdb_session.specs.Greetings.{greeting_at, greeting_text}
+use Rattle.cdb_session.specs.declared.inquiry.Inquiry.{Inquiry}
 use Rattle.cdb_session.specs.Moves.{Known, Move, Makes}
 use Rattle.cdb_session.specs.Requests.{most_seats}
 use Rattle.cdb_session.specs.Served.{IsSession}
@@ -42,18 +44,18 @@ module _ {J : Type 0} (stream : J → Stream) where
   -- ---- what the public contract names
 
   -- One journal explains all responses, and the file took it.
-  pub record HoldsKept (rules : Parts → Rules) (prompt : List ℕ) (setup : Parts) (returned : Result (Unit {0}) PlayFault)
+  pub record HoldsKept (rules : Parts → Rules) (Answers : RunView → Inquiry → List ℕ → Type 0) (prompt : List ℕ) (setup : Parts) (returned : Result (Unit {0}) PlayFault)
       (made : List Move) (file : J) (kept : Kept J) : Type 0 where
     pub control : Journaled
     pub setup_is : control.setup ≡ setup
     pub seats_are : control.seats ≡ most_seats
-    pub session : IsSession (nine (greeting_at prompt (greeting_text setup)) prompt) (whole_part rules control) returned made
+    pub session : IsSession Answers (nine (greeting_at prompt (greeting_text setup)) prompt) (whole_part rules control) returned made
     pub keeps : IsKept stream kept.outcome file kept.file control.journal
 
   -- such a session that has made the moves, where those before were known
-  abbrev pub HoldsFrom : (Parts → Rules) → List ℕ → Parts → Known → Known → J → Result (Unit {0}) PlayFault × Kept J → Type 0
-  HoldsFrom rules prompt setup old new file ended =
-      (made : List Move) × Makes old new made × HoldsKept rules prompt setup ended.0 made file ended.1
+  abbrev pub HoldsFrom : (Parts → Rules) → (RunView → Inquiry → List ℕ → Type 0) → List ℕ → Parts → Known → Known → J → Result (Unit {0}) PlayFault × Kept J → Type 0
+  HoldsFrom rules Answers prompt setup old new file ended =
+      (made : List Move) × Makes old new made × HoldsKept rules Answers prompt setup ended.0 made file ended.1
 
   -- there is no control, and the file is as it was
   abbrev pub IsNotBegun : List ℕ → Known → Known → J → Result (Unit {0}) PlayFault × Kept J → Type 0
@@ -62,7 +64,7 @@ module _ {J : Type 0} (stream : J → Stream) where
   IsNotBegun json old new file (Ok done, kept) = ⊥
 
   -- on the setup that the text of JSON encodes, or there is no session
-  abbrev pub DebugsKept : (Parts → Rules) → List ℕ → List ℕ → Known → Known → J → Result (Unit {0}) PlayFault × Kept J → Type 0
-  DebugsKept rules prompt json old new file ended =
+  abbrev pub DebugsKept : (Parts → Rules) → (RunView → Inquiry → List ℕ → Type 0) → List ℕ → List ℕ → Known → Known → J → Result (Unit {0}) PlayFault × Kept J → Type 0
+  DebugsKept rules Answers prompt json old new file ended =
       IsNotBegun json old new file ended
-      ⊎ ((setup : Parts) × Encodes json setup × HoldsFrom rules prompt setup old new file ended)
+      ⊎ ((setup : Parts) × Encodes json setup × HoldsFrom rules Answers prompt setup old new file ended)

@@ -18,12 +18,13 @@ use cdb_base::limits::MAX_SEATS;
 use cdb_base::start::{RefusedStart, start};
 use cdb_control::{Control, OpenFault};
 use cdb_rules::Runs;
-use cdb_session::greeting_text;
+use cdb_session::{Answers, greeting_text};
 use cdb_setup::Setup;
 use cdb_shared::{Seat, Shared, Watch};
 use cdb_streams::Sink;
 use std::alloc::Global;
 use std::error::Error;
+use std::marker::PhantomData;
 use std::snapshot::Snapshot;
 use std::sync::Wait;
 use std::sync::atomic::{AtomicU64, Ordering};
@@ -57,7 +58,7 @@ impl fmt::Display for SessionsFault {
 impl Error for SessionsFault {}
 
 /// Starts a thread for one seat, which is one fewer of those that are going on once it has ended.
-fn start_one<'s, E, R: Runs + Send + 's, P: Opener + Send + 's, Rt: Threads + Wait + Sync>(
+fn start_one<'s, E, R: Runs + Send + 's, A: Answers<R> + 's, P: Opener + Send + 's, Rt: Threads + Wait + Sync>(
     scope: &Scope<'s, E>,
     rt: &'s Rt,
     alloc: Global,
@@ -66,11 +67,12 @@ fn start_one<'s, E, R: Runs + Send + 's, P: Opener + Send + 's, Rt: Threads + Wa
     welcome: Welcome<'s>,
     seat: Seat<R>,
     opener: P,
-) -> Result<PromisedHandle<SeatResult<R, P::Seat>, SeatPromise<R, P>>, SessionsFault>
+) -> Result<PromisedHandle<SeatResult<R, P::Seat>, SeatPromise<R, A, P>>, SessionsFault>
     requires { IsUnused shared.now welcome seat }
     ensures { IfOk result (λ handle. IsSeatPromise seat opener handle.promise) }
 {
-    let promise = SeatPromise {
+    let promise = SeatPromise::<R, A, P> {
+        answers: PhantomData,
         seat: Snapshot::of(&seat),
         opener: Snapshot::of(&opener),
     };
@@ -79,9 +81,9 @@ fn start_one<'s, E, R: Runs + Send + 's, P: Opener + Send + 's, Rt: Threads + Wa
         promise,
         move || -> SeatResult<R, P::Seat>
             requires { IsUnused shared.now welcome seat }
-            ensures { HasRun R.rules P.Seat.known P.opens seat opener result.seat result.finished }
+            ensures { HasRun R.rules A.answers P.Seat.known P.opens seat opener result.seat result.finished }
         {
-            let ended = run_seat(shared, rt, alloc, welcome, seat, opener);
+            let ended = run_seat::<R, A, P, Rt>(shared, rt, alloc, welcome, seat, opener);
             going.fetch_sub(1, Ordering::SeqCst);
             ended
         },
@@ -90,7 +92,7 @@ fn start_one<'s, E, R: Runs + Send + 's, P: Opener + Send + 's, Rt: Threads + Wa
 }
 
 /// Starts a thread for each seat, the last seat's first.
-fn start_all<'s, E, R: Runs + Send + 's, P: Opener + Send + 's, Rt: Threads + Wait + Sync>(
+fn start_all<'s, E, R: Runs + Send + 's, A: Answers<R> + 's, P: Opener + Send + 's, Rt: Threads + Wait + Sync>(
     scope: &Scope<'s, E>,
     rt: &'s Rt,
     alloc: Global,
@@ -99,7 +101,7 @@ fn start_all<'s, E, R: Runs + Send + 's, P: Opener + Send + 's, Rt: Threads + Wa
     welcome: Welcome<'s>,
     mut seats: Vec<Seat<R>>,
     mut openers: Vec<P>,
-) -> Result<Vec<PromisedHandle<SeatResult<R, P::Seat>, SeatPromise<R, P>>>, SessionsFault>
+) -> Result<Vec<PromisedHandle<SeatResult<R, P::Seat>, SeatPromise<R, A, P>>>, SessionsFault>
     requires ready { All (λ seat. IsUnused shared.now welcome seat) seats.items }
     requires openers { vec_len openers ≡ vec_len seats }
     ensures count { IfOk result (λ handles. vec_len handles ≡ vec_len seats) }
@@ -113,7 +115,7 @@ fn start_all<'s, E, R: Runs + Send + 's, P: Opener + Send + 's, Rt: Threads + Wa
         let Some(opener) = openers.pop() else {
             unreachable!()
         };
-        let handle = start_one(scope, rt, alloc, shared, going, welcome, seat, opener)?;
+        let handle = start_one::<E, R, A, P, Rt>(scope, rt, alloc, shared, going, welcome, seat, opener)?;
         handles.push_reserved(handle);
     }
     Ok(handles)
@@ -121,16 +123,16 @@ fn start_all<'s, E, R: Runs + Send + 's, P: Opener + Send + 's, Rt: Threads + Wa
 
 /// Joins the threads, of which the last seat's comes first, and adds the seats and how their sessions ended, the first
 /// seat's first, to lists that have room for them.
-fn join_each<R: Runs, P: Opener, Rt: Threads>(
+fn join_each<R: Runs, A: Answers<R>, P: Opener, Rt: Threads>(
     rt: &Rt,
-    mut handles: Vec<PromisedHandle<SeatResult<R, P::Seat>, SeatPromise<R, P>>>,
+    mut handles: Vec<PromisedHandle<SeatResult<R, P::Seat>, SeatPromise<R, A, P>>>,
     mut seats: Vec<Seat<R>>,
     mut all: Vec<Finished<P::Seat>>,
 ) -> (Vec<Seat<R>>, Vec<Finished<P::Seat>>)
     requires empty { (vec_len seats ≡ 0) × (vec_len all ≡ 0) }
     requires room { (vec_len handles ≤ vec_capacity seats) × (vec_len handles ≤ vec_capacity all) }
     ensures count { (vec_len result.0 ≡ vec_len handles) × (vec_len result.1 ≡ vec_len handles) }
-    ensures each { AllKept R.rules P.Seat.known P.opens handles.items result.0.items result.1.items }
+    ensures each { AllKept R.rules A.answers P.Seat.known P.opens handles.items result.0.items result.1.items }
 {
     while let Some(handle) = handles.pop() {
         let SeatResult { seat, finished } = handle.join(rt);
@@ -153,6 +155,7 @@ fn join_all<
     's,
     E,
     R: Runs + Send + 's,
+    A: Answers<R> + 's,
     P: Opener + Send + 's,
     J: Sink + Drop,
     Rt: Threads + Wait + Clock + Sync,
@@ -178,19 +181,19 @@ fn join_all<
     ensures count { IfOk result
         (λ r. (vec_len r.0 ≡ vec_len seats) × (vec_len r.1 ≡ vec_len seats)) }
     ensures each { IfOk result
-        (λ r. AllHaveRun R.rules P.Seat.known P.opens seats.items openers.items r.0.items r.1.items) }
+        (λ r. AllHaveRun R.rules A.answers P.Seat.known P.opens seats.items openers.items r.0.items r.1.items) }
     ensures later { IfOk result (λ r. IsLater keeping.watch r.2.watch) }
     ensures kept { IfOk result (λ r. GoesOnKeeping J.stream keeping r.2) }
 {
-    let handles = start_all(scope, rt, alloc, shared, going, welcome, seats, openers)?;
+    let handles = start_all::<E, R, A, P, Rt>(scope, rt, alloc, shared, going, welcome, seats, openers)?;
     let keeping = keep(shared, rt, alloc, keeping, going);
-    let (seats, finished) = join_each(rt, handles, done, all);
+    let (seats, finished) = join_each::<R, A, P, Rt>(rt, handles, done, all);
     Ok((seats, finished, keeping))
 }
 
 /// Serves every seat in a thread of its own, keeps the journal meanwhile, and joins them all; the seats and how their
 /// sessions ended are added to lists that have room for them.
-fn run_all<R: Runs + Send, P: Opener + Send, J: Sink + Drop, Rt: Threads + Wait + Clock + Sync>(
+fn run_all<R: Runs + Send, A: Answers<R>, P: Opener + Send, J: Sink + Drop, Rt: Threads + Wait + Clock + Sync>(
     rt: &Rt,
     alloc: Global,
     shared: &Shared<R>,
@@ -211,7 +214,7 @@ fn run_all<R: Runs + Send, P: Opener + Send, J: Sink + Drop, Rt: Threads + Wait 
     ensures count { IfOk result
         (λ r. (vec_len r.0 ≡ vec_len seats) × (vec_len r.1 ≡ vec_len seats)) }
     ensures each { IfOk result
-        (λ r. AllHaveRun R.rules P.Seat.known P.opens seats.items openers.items r.0.items r.1.items) }
+        (λ r. AllHaveRun R.rules A.answers P.Seat.known P.opens seats.items openers.items r.0.items r.1.items) }
     ensures later { IfOk result (λ r. IsLater keeping.watch r.2.watch) }
     ensures kept { IfOk result (λ r. GoesOnKeeping J.stream keeping r.2) }
 {
@@ -226,7 +229,7 @@ fn run_all<R: Runs + Send, P: Opener + Send, J: Sink + Drop, Rt: Threads + Wait 
             requires empty { (vec_len done ≡ 0) × (vec_len all ≡ 0) }
             requires room { (vec_len seats ≤ vec_capacity done) × (vec_len seats ≤ vec_capacity all) }
         {
-            join_all(
+            join_all::<_, R, A, P, J, Rt>(
                 scope, rt, alloc, shared, going, welcome, seats, openers, keeping, done, all,
             )
         },
@@ -280,6 +283,16 @@ fn greet(alloc: Global, setup: &Setup) -> Result<Vec<u8>, SessionsFault>
     }
 }
 
+/// The same setup.
+fn copy(alloc: Global, setup: &Setup) -> Result<Setup, SessionsFault>
+    ensures { IfOk result (λ again. again ≡ setup.now) }
+{
+    match setup.copy(alloc) {
+        Ok(again) => Ok(again),
+        Err(refused) => Err(SessionsFault::NoMemory(refused)),
+    }
+}
+
 /// How sessions ended: the control, what came of each seat, and the file of the journal, if there is one.
 pub type Ended<R, P, J> = (
     Control<R>,
@@ -311,6 +324,7 @@ pub type Ended<R, P, J> = (
 /// written or memory was out.
 pub fn debug_seats<
     R: Runs + Send,
+    A: Answers<R>,
     P: Opener + Send,
     J: Sink + Drop,
     Rt: Threads + Wait + Clock + Sync,
@@ -324,7 +338,7 @@ pub fn debug_seats<
     requires some { 1 ≤ vec_len openers }
     requires fits { vec_len openers ≤ MAX_SEATS }
     ensures sessions { IfOk result
-        (λ r. AreSessions R.rules P.Seat.known P.opens setup openers.items r.0 r.1.items) }
+        (λ r. AreSessions R.rules A.answers P.Seat.known P.opens setup openers.items r.0 r.1.items) }
     ensures kept { IfOk result (λ r. HasKept J.stream file r.2 r.0.journal) }
     ensures writable { IfOk result (λ r. IsWritable r.0) }
     ensures headline { IfOk result (λ r. HasHeadline R.rules R.same_state r.0) }
@@ -333,7 +347,9 @@ pub fn debug_seats<
     let done = reserve(alloc, openers.len())?;
     let all = reserve(alloc, openers.len())?;
     let greeting = greet(alloc, &setup)?;
+    let again = copy(alloc, &setup)?;
     let welcome = Welcome {
+        setup: &again,
         greeting: greeting.as_slice(),
         seats: count,
     };
@@ -344,7 +360,7 @@ pub fn debug_seats<
         file,
         count: Ok(0),
     };
-    let left = run_all(
+    let left = run_all::<R, A, P, J, Rt>(
         rt, alloc, &shared, &going, welcome, seats, openers, keeping, done, all,
     );
     let (seats, finished, keeping) = match left {

@@ -1,7 +1,8 @@
-use Rattle.std.proofs.Common.{rules, ◌≢◌, refl}
+use Rattle.std.proofs.Common.{rules, ◌≢◌, refl, sym}
 use Rattle.std.specs.Prelude.{Ok, Err}
 use Rattle.cdb_session.specs.Requests.{quit_line}
 use Rattle.cdb_session.proofs.OneRequest.{only_help, only_inquiry, only_seat, only_call, only_fault}
+use Rattle.cdb_session.proofs.InquiryLines.{inquiry_says, no_inquiry}
 use Rattle.cdb_session.proofs.SeatLines.{not_own}
 use Rattle.cdb_session.proofs.request.request_of.Goals as goal
 
@@ -12,6 +13,9 @@ pub returns-in-Some-seat_of-clause-only : goal.returns-in-Some-seat_of-clause-on
 returns-in-Some-seat_of-clause-only c =
     let its = c.in-Some-seat_of.ensures.some in
     only_seat c.args.line.now c.if-line-gt-MAX_BYTES.false c.in-Some-seat_of.seat its.0 its.1
+
+pub returns-in-Some-inquiry_of-clause-asks : goal.returns-in-Some-inquiry_of-clause-asks
+returns-in-Some-inquiry_of-clause-asks c = (c.if-line-gt-MAX_BYTES.false, inquiry_says c.args.line.now c.in-Some-inquiry_of.inquiry (sym c.in-Some-inquiry_of.ensures))
 
 pub returns-in-Some-inquiry_of-clause-only : goal.returns-in-Some-inquiry_of-clause-only
 returns-in-Some-inquiry_of-clause-only c = only_inquiry c.args.line.now c.if-line-gt-MAX_BYTES.false c.in-Some-inquiry_of.inquiry (inquiry_says c.args.line.now c.in-Some-inquiry_of.inquiry (sym c.in-Some-inquiry_of.ensures))
