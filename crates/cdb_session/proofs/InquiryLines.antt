@@ -10,6 +10,7 @@ use Rattle.cdb_base.specs.declared.question.StepAsked.{StepAsked}
 use Rattle.cdb_text.specs.Commands.{number}
 use Rattle.cdb_text.specs.Grammar.{IsInRange, part_text, words_of}
 use Rattle.cdb_text.specs.Reading.{number_of}
+use Rattle.cdb_text.proofs.Cut.{some_word}
 use Rattle.cdb_text.proofs.Numbers.{number_again, number_says}
 use Rattle.cdb_session.specs.Inquiries.{AreStepWords, IsInquiryLine, inquiry_word, numbers_of, step_asked}
 use Rattle.cdb_session.specs.InquiryWords.{step_with, last_step, numbered_step, step_in, inquiry_in}
@@ -126,3 +127,12 @@ inquiry_says line inquiry e = words_ask (words_of line) inquiry e
 
 pub no_inquiry : (line : List ℕ) → inquiry_in (words_of line) ≡ None → (inquiry : Inquiry) → ¬ IsInquiryLine inquiry line
 no_inquiry line none inquiry is = let e = sym none ∙ inquiry_again line inquiry is in cc
+
+-- three words and more name no step
+no_third : (first second : List ℕ) (words : List (List ℕ)) → words ≢ [] → step_in (first ∷ second ∷ words) ≡ None
+unfolding step_in
+no_third first second [] some = absurd (some refl)
+no_third first second (third ∷ words) some = refl
+
+pub too_many : (words : List (List ℕ)) (first second rest : List ℕ) → words ≡ first ∷ second ∷ words_of rest → None ≡ step_in words
+too_many words first second rest is = sym (ap step_in is ∙ no_third first second (words_of rest) (some_word rest))

@@ -52,19 +52,6 @@ calls_made rules old new seat command (Ok reply) is made same full =
 calls_made rules old new seat command (Err JournalFull) is made same full = (none_made rules old new same, ap (λ (c : Journaled). length c.journal) same ∙ full.0 refl)
 calls_made rules old new seat command (Err (NoMemory refused)) is made same full = none_made rules old new same
 
--- the answer of the run as it stands
-pub asked_now : (Answers : RunView → Inquiry → List ℕ → Type 0) (rules : Parts → Rules) (c : Journaled) (inquiry : Inquiry) (text : List ℕ) → Answers (run_left rules c.setup c.seats c.journal) inquiry text → AnswersNow Answers (whole_part rules c) inquiry text
-asked_now Answers rules c inquiry text is =
-    let all : take (length c.journal) c.journal ≡ c.journal = take_all (length c.journal) c.journal (omega arith) in
-    record { all = refl; answers = subst (λ (entries : List Entry). Answers (run_left rules c.setup c.seats entries) inquiry text) (sym all) is }
-
-pub all_asked_now : {E : Type 0} (Answers : RunView → Inquiry → List ℕ → Type 0) (rules : Parts → Rules) (c : Journaled) (inquiry : Inquiry) (r : Result (Vec ℕ Global) E) → IfOk r (λ text. Answers (run_left rules c.setup c.seats c.journal) inquiry text.items) → IfOk r (λ text. AnswersNow Answers (whole_part rules c) inquiry text.items)
-all_asked_now Answers rules c inquiry (Ok text) is = asked_now Answers rules c inquiry text.items is
-all_asked_now Answers rules c inquiry (Err fault) is = tt
-
-pub same_control : (c : Journaled) → length c.journal ≤ MAX_ENTRIES → IsLaterControl c c
-same_control c few = (refl, refl, few)
-
 pub later_control : (first now : Journaled) → length first.journal ≤ MAX_ENTRIES → Onward IsLaterControl first now → IsLaterControl first now
-later_control first _ few stays = same_control first few
+later_control first _ few stays = (refl, refl, few)
 later_control first now few (goes middle _ before later) = let b = later_control first middle few before in (later.0 ∙ b.0, later.1 ∙ b.1, later.2)

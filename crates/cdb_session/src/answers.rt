@@ -136,8 +136,9 @@ pub fn answer_in<R: Runs, A: Answers<R>>(
     control: &Control<R>,
     inquiry: Inquiry,
 ) -> Result<Vec<u8>, NoMemory>
-    ensures { IfOk result (λ text. A.answers
+    ensures answer { IfOk result (λ text. A.answers
         (run_left R.rules control.now.setup control.now.seats control.now.journal) inquiry text.items) }
+    ensures limit { length control.now.journal ≤ MAX_ENTRIES }
 {
     let seats = control.seats();
     answer_of::<R, A>(alloc, control.run().setup(), seats, control.journal(), inquiry)

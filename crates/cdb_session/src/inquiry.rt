@@ -55,6 +55,7 @@ fn number_of(word: &[u8]) -> Option<u32>
 }
 
 /// The step that the words behind the first one name.
+#[tactic(auto, unfolding(crate::specs::InquiryWords::step_in))]
 fn step_of(words: Option<&[u8]>) -> Option<StepAsked>
     ensures { result ≡ step_in (words_left words.entry) }
 {
@@ -73,6 +74,7 @@ fn step_of(words: Option<&[u8]>) -> Option<StepAsked>
 }
 
 /// What a line asks of the run, if it does.
+#[tactic(auto, unfolding(crate::specs::InquiryWords::inquiry_in))]
 pub(crate) fn inquiry_of(line: &[u8]) -> Option<Inquiry>
     ensures { result ≡ inquiry_in (words_of line.now) }
 {
