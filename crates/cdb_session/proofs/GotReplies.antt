@@ -16,6 +16,7 @@ use Rattle.cdb_session.specs.Unfinished.{MoreMayFollow}
 use Rattle.cdb_session.specs.Lines.{HasGot, FindsFull, HasDone}
 use Rattle.cdb_session.specs.Parts.{all_asked, asked_of, seat_next, seat_behind, all_of, HasCommands}
 use Rattle.cdb_session.proofs.Along.{all_asked-more}
+use Rattle.cdb_session.proofs.ToldOn.{AsManyLater, all_told_on}
 
 GoesOn-refl : (part : Part) → GoesOn part part
 GoesOn-refl part = record { longer = omega arith; calls_in = λ first few. refl; left_by = λ first few. refl }
@@ -134,26 +135,6 @@ module _ (Answers : RunView → Inquiry → List ℕ → Type 0) (style : StyleV
 
     -- ---- and what the run was asked
 
-    -- of so many commands the journal has as many later as before
-    abbrev AsManyLater : Part → Part → ℕ → Type 0
-    AsManyLater old new most = (n : ℕ) → n ≤ most → min n (length new.calls) ≡ min n (length old.calls)
-
-    -- what was told of the journal so far is told of it later
-    told_on : (old new : Part) → GoesOn old new → (count : ℕ) (inquiry : Inquiry) (text : List ℕ) → min count (length new.calls) ≡ min count (length old.calls) → IsTold Answers old count inquiry text → IsTold Answers new count inquiry text
-    told_on old new on count inquiry text many (first, few, which, answers) =
-        let run = on.left_by first few in
-        (first, omega (arith, few, on.longer), on.calls_in first few ∙ which ∙ sym many, rw run answers)
-
-    all_told_on : (old new : Part) → GoesOn old new → (count : ℕ) (its : List Exchange) → AsManyLater old new (count + commands_among its) → AreTold (IsTold Answers old) count its → AreTold (IsTold Answers new) count its
-    all_told_on old new on count [] many told = tt
-    all_told_on old new on count ((Call command, answer) ∷ its) many told = all_told_on old new on (count + 1) its (λ n low. many n (omega (arith, low))) told
-    all_told_on old new on count ((Seat chosen, answer) ∷ its) many told = all_told_on old new on count its many told
-    all_told_on old new on count ((Help about, answer) ∷ its) many told = all_told_on old new on count its many told
-    all_told_on old new on count ((Quit, answer) ∷ its) many told = all_told_on old new on count its many told
-    all_told_on old new on count ((Fault fault, answer) ∷ its) many told = all_told_on old new on count its many told
-    all_told_on old new on count ((TooLong, answer) ∷ its) many told = all_told_on old new on count its many told
-    all_told_on old new on count ((Ask inquiry, answer) ∷ its) many told = (told_on old new on count inquiry answer (many count (omega arith)) told.0, all_told_on old new on count its many told.1)
-
     -- one line more
     one_told : (part : Part) (count : ℕ) (its : List Exchange) (exchange : Exchange) → AreTold (IsTold Answers part) count its
         → ((inquiry : Inquiry) → exchange.0 ≡ Ask inquiry → IsTold Answers part (count + commands_among its) inquiry exchange.1) → AreTold (IsTold Answers part) count (its ++ exchange ∷ [])
@@ -192,7 +173,7 @@ module _ (Answers : RunView → Inquiry → List ℕ → Type 0) (style : StyleV
     told_now old new same inquiry answer now has = (new.entries, omega arith, omega (arith, now.all, all_among old new same has), now.answers)
 
     told_same : (old new : Part) → MakesNone old new → HasExchanges Answers style old exchanges → AreTold (IsTold Answers new) 0 exchanges
-    told_same old new same has = all_told_on old new same.goes_on 0 exchanges (λ n low. ap (λ (calls : List Entry). min n (length calls)) same.calls) has.1
+    told_same old new same has = all_told_on Answers old new same.goes_on 0 exchanges (λ n low. ap (λ (calls : List Entry). min n (length calls)) same.calls) has.1
 
     told_at_line : (old : Part) (exchange : Exchange) (new : Part) → MakesNone old new → ((inquiry : Inquiry) → exchange.0 ≡ Ask inquiry → AnswersNow Answers new inquiry exchange.1) → HasExchanges Answers style old exchanges → AreTold (IsTold Answers new) 0 (exchanges ++ exchange ∷ [])
     told_at_line old exchange new same answer has =
@@ -206,7 +187,7 @@ module _ (Answers : RunView → Inquiry → List ℕ → Type 0) (style : StyleV
 
     told_at_call : (old : Part) (command : Command) (answer : List ℕ) (reply : ToldReply) (new : Part) → IsCalled old (entry seat command) reply new → HasExchanges Answers style old exchanges → AreTold (IsTold Answers new) 0 (exchanges ++ (Call command, answer) ∷ [])
     told_at_call old command answer reply new call has =
-        one_told new 0 exchanges (Call command, answer) (all_told_on old new call.goes_on 0 exchanges (as_many_later old new (entry seat command) reply call has.0) has.1) (λ inquiry asks. absurd cc)
+        one_told new 0 exchanges (Call command, answer) (all_told_on Answers old new call.goes_on 0 exchanges (as_many_later old new (entry seat command) reply call has.0) has.1) (λ inquiry asks. absurd cc)
 
     -- ---- a line was done
 

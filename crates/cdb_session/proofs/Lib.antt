@@ -15,6 +15,7 @@ pub mod Emptiness
 pub mod HeldBytes
 pub mod CallChain
 pub mod Along
+pub mod ToldOn
 pub mod GotReplies
 pub mod LineResponse
 pub mod NextState

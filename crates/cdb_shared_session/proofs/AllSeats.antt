@@ -2,10 +2,12 @@
 use Rattle.std.proofs.Common.{◌≡◌, ℕ, ◌+◌, ◌<◌, ◌≤◌, List, All, length, get_or, false, refl, sym, ap, ◌∙◌, subst, arith}
 use Rattle.std.specs.Prelude.{Result, Option, Some, None, option_map}
 use Rattle.atomic_table.specs.Seated.{TableId}
-use Rattle.cdb_base.specs.Limits.{MAX_ENTRIES}
+use Rattle.cdb_base.specs.Limits.{MAX_ENTRIES, MAX_SEATS}
 use Rattle.cdb_control.specs.Journal.{Journaled, opened, own, AreOfSeats}
 use Rattle.cdb_session.specs.Moves.{Known}
+use Rattle.cdb_rules.specs.RunView.{RunView}
 use Rattle.cdb_rules.specs.Rules.{Rules}
+use Rattle.cdb_session.specs.declared.inquiry.Inquiry.{Inquiry}
 use Rattle.cdb_setup.specs.Parts.{Parts}
 use Rattle.cdb_shared.specs.Seats.{SeatView, AreFresh, RestsAt, IsKnownBy, IsLater, fresh_seat}
 use Rattle.cdb_streams.specs.declared.fault.PlayFault.{PlayFault}
@@ -22,10 +24,10 @@ use Rattle.cdb_shared_session.specs.declared.endpoint.Finished.{Finished}
 use Rattle.cdb_shared_session.proofs.Promised.{some_of}
 use Rattle.cdb_shared_session.proofs.FinalJournal.{session_known}
 
-pub all_ready : (shared : TableId) (setup : Parts) (count : ℕ) (welcome : Welcome) → welcome.greeting.now ≡ greeting_text setup → welcome.seats ≡ count → (seats : List SeatView) → AreFresh shared setup count seats → All (λ seat. IsUnused shared welcome seat) seats
-all_ready shared setup count welcome greets counts seats new k d low =
+pub all_ready : (shared : TableId) (setup : Parts) (count : ℕ) (welcome : Welcome) → welcome.greeting.now ≡ greeting_text setup → welcome.seats ≡ count → welcome.setup.now ≡ setup → (1 ≤ welcome.seats) × (welcome.seats ≤ MAX_SEATS) → (seats : List SeatView) → AreFresh shared setup count seats → All (λ seat. IsUnused shared welcome seat) seats
+all_ready shared setup count welcome greets counts same some seats new k d low =
     let below : k < count = omega (arith, new.many) in
-    subst (λ (s : SeatView). IsUnused shared welcome s) (sym (new.each k d below)) (record { rests = (refl, refl); new = refl; greeting = greets; seats = counts })
+    subst (λ (s : SeatView). IsUnused shared welcome s) (sym (new.each k d below)) (record { rests = (refl, refl); new = refl; greeting = greets; seats = counts; setup = same; some = some })
 
 -- a seat in the style that it is welcomed in, by its setup at the end
 abbrev pub welcomed_in : List ℕ → List ℕ → ℕ → ℕ → StyleView
@@ -38,28 +40,28 @@ same_style greeting prompt seats before after greets counts later =
     λ i. welcomed_in (text i) prompt (count i) before.number
 
 -- what a seat's thread has done, by the final journal
-ended_known : (rules : Parts → Rules) (c : Journaled) (Opens : Result SeatSeen ReadFault → Type 0) (seat : SeatView) (n : ℕ) → seat.number ≡ n → IsKnownBy c seat → length c.journal ≤ MAX_ENTRIES
-    → (ended : Option Known) (outcome : Result (Unit {0}) PlayFault) → HasServed rules Opens n seat ended outcome → HasEnded rules c n Opens ended outcome
-ended_known rules c Opens seat n is by few (Some ended) outcome (opening, opens, (made, makes, session)) =
+ended_known : (rules : Parts → Rules) (Answers : RunView → Inquiry → List ℕ → Type 0) (c : Journaled) (Opens : Result SeatSeen ReadFault → Type 0) (seat : SeatView) (n : ℕ) → seat.number ≡ n → IsKnownBy c seat → length c.journal ≤ MAX_ENTRIES
+    → (ended : Option Known) (outcome : Result (Unit {0}) PlayFault) → HasServed rules Answers Opens n seat ended outcome → HasEnded rules Answers c n Opens ended outcome
+ended_known rules Answers c Opens seat n is by few (Some ended) outcome (opening, opens, (made, makes, session)) =
     let by_seat = seat_style opening.prompt seat.setup seat.seats n in
     let by_journal = seat_style opening.prompt c.setup c.seats n in
     let same : by_seat ≡ by_journal = λ i. seat_style opening.prompt (sym by.setup i) (sym by.seats i) n in
-    let held = session_known rules by_seat c seat n is by few outcome made session in
-    (opening, opens, record { made = made; makes = makes; session = subst (λ (s : StyleView). IsSession s (part_in rules c n) outcome made) same held })
-ended_known rules c Opens seat n is by few None outcome (fault, opens, failed, unseen) = (
+    let held = session_known rules Answers by_seat c seat n is by few outcome made session in
+    (opening, opens, record { made = made; makes = makes; session = subst (λ (s : StyleView). IsSession Answers s (part_in rules c n) outcome made) same held })
+ended_known rules Answers c Opens seat n is by few None outcome (fault, opens, failed, unseen) = (
   fault,
   opens,
   record { none = (λ i. own (sym is i) c.journal) ∙ by.calls ∙ ap (own seat.number) unseen; outcome_is = failed },
 )
 
-module _ {P T : Type 0} (rules : Parts → Rules) (known : T → Known) (opens : P → Result SeatSeen ReadFault → Type 0) (shared : TableId) (setup : Parts) (openers : List P) (before : List SeatView) (seats : List SeatView) (finished : List (Finished T))
-    (new : AreFresh shared setup (length openers) before) (many : length seats ≡ length openers) (all : AllHaveRun rules known opens before openers seats finished) where
+module _ {P T : Type 0} (rules : Parts → Rules) (Answers : RunView → Inquiry → List ℕ → Type 0) (known : T → Known) (opens : P → Result SeatSeen ReadFault → Type 0) (shared : TableId) (setup : Parts) (openers : List P) (before : List SeatView) (seats : List SeatView) (finished : List (Finished T))
+    (new : AreFresh shared setup (length openers) before) (many : length seats ≡ length openers) (all : AllHaveRun rules Answers known opens before openers seats finished) where
   abbrev nobody : SeatView
   nobody = fresh_seat shared (opened setup 0) 0
 
   -- what the thread of a seat has handed back
-  run_by : (k : ℕ) (p : P) (seat : SeatView) (a : Finished T) → k < length openers → HasRun rules known opens (fresh_seat shared (opened setup (length openers)) (1 + k)) (get_or openers k p) (get_or seats k seat) (get_or finished k a)
-  run_by k p seat a low = subst (λ (b : SeatView). HasRun rules known opens b (get_or openers k p) (get_or seats k seat) (get_or finished k a)) (new.each k nobody low) (all k seat a (omega (arith, many, low)) nobody p)
+  run_by : (k : ℕ) (p : P) (seat : SeatView) (a : Finished T) → k < length openers → HasRun rules Answers known opens (fresh_seat shared (opened setup (length openers)) (1 + k)) (get_or openers k p) (get_or seats k seat) (get_or finished k a)
+  run_by k p seat a low = subst (λ (b : SeatView). HasRun rules Answers known opens b (get_or openers k p) (get_or seats k seat) (get_or finished k a)) (new.each k nobody low) (all k seat a (omega (arith, many, low)) nobody p)
 
   module _ (some : Finished T) where
     pub all_rest : All (λ seat. RestsAt shared seat) seats
@@ -69,7 +71,7 @@ module _ {P T : Type 0} (rules : Parts → Rules) (known : T → Known) (opens :
         (its.home, its.rests)
 
   module _ (c : Journaled) (by : All (λ seat. IsKnownBy c seat) seats) (few : length c.journal ≤ MAX_ENTRIES) where
-    one : (k : ℕ) (p : P) (a : Finished T) → k < length openers → IsFinished rules known c (k + 1) (opens (get_or openers k p)) (get_or finished k a)
+    one : (k : ℕ) (p : P) (a : Finished T) → k < length openers → IsFinished rules Answers known c (k + 1) (opens (get_or openers k p)) (get_or finished k a)
     one k p a low =
         let opener = get_or openers k p in
         let seat = get_or seats k nobody in
@@ -77,10 +79,10 @@ module _ {P T : Type 0} (rules : Parts → Rules) (known : T → Known) (opens :
         let its = run_by k p nobody a low in
         let add_one : 1 + k ≡ k + 1 = omega arith in
         let number : seat.number ≡ k + 1 = its.later.number ∙ add_one in
-        let served = subst (λ (n : ℕ). HasServed rules (opens opener) n seat (option_map known ended.console) ended.outcome) add_one its.served in
-        ended_known rules c (opens opener) seat (k + 1) number (by k nobody (omega (arith, many, low))) few (option_map known ended.console) ended.outcome served
+        let served = subst (λ (n : ℕ). HasServed rules Answers (opens opener) n seat (option_map known ended.console) ended.outcome) add_one its.served in
+        ended_known rules Answers c (opens opener) seat (k + 1) number (by k nobody (omega (arith, many, low))) few (option_map known ended.console) ended.outcome served
 
-    pub sessions : 1 ≤ length openers → AreOfSeats c.seats c.journal → length finished ≡ length openers → AreSessions rules known opens setup openers c finished
+    pub sessions : 1 ≤ length openers → AreOfSeats c.seats c.journal → length finished ≡ length openers → AreSessions rules Answers known opens setup openers c finished
     sessions some entries responded =
         let p = some_of openers (omega (arith, some)) in
         let a = some_of finished (omega (arith, some, responded)) in

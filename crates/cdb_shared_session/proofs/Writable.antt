@@ -7,14 +7,16 @@ use Rattle.cdb_commands.specs.declared.command.Command.{Command}
 use Rattle.cdb_control.specs.Journal.{Journaled, AreOfSeats, entry, own}
 use Rattle.cdb_control.specs.declared.control.Entry.{Entry}
 use Rattle.cdb_journal.specs.Journals.{IsWritable}
+use Rattle.cdb_rules.specs.RunView.{RunView}
 use Rattle.cdb_rules.specs.Rules.{Rules}
+use Rattle.cdb_session.specs.Exchanges.{Exchange}
+use Rattle.cdb_session.specs.declared.inquiry.Inquiry.{Inquiry}
 use Rattle.cdb_session.specs.Moves.{Known, Move, read_in}
 use Rattle.cdb_session.specs.Parts.{HasCommands, all_asked, seat_next}
 use Rattle.cdb_session.specs.Requests.{Asks, AreAsked, ended_lines, up_to_quit}
 use Rattle.cdb_session.specs.Served.{IsSession}
 use Rattle.cdb_session.specs.Styles.{Part, StyleView}
-use Rattle.cdb_session.specs.declared.request.Request.{Request}
-use Rattle.cdb_session.specs.declared.request.Request.TheVariants.{Call, Seat, Help, Quit, Fault, TooLong}
+use Rattle.cdb_session.specs.declared.request.Request.TheVariants.{Call, Ask, Seat, Help, Quit, Fault, TooLong}
 use Rattle.cdb_setup.specs.Parts.{Parts}
 use Rattle.cdb_streams.specs.Lines.{lines_of}
 use Rattle.cdb_streams.specs.declared.fault.PlayFault.{PlayFault}
@@ -33,35 +35,36 @@ HaveLines entries = AllByRecursion (λ e. HasNumbersInRange e.command) entries
 -- ---- of one seat
 
 -- what lines ask for has lines
-asked_have_lines : (chooses : Bool) (seat : ℕ) (requests : List Request) (lines : List (List ℕ)) → AllZip Asks requests lines → HaveLines (all_asked chooses seat requests)
+asked_have_lines : (chooses : Bool) (seat : ℕ) (exchanges : List Exchange) (lines : List (List ℕ)) → AllZip Asks exchanges lines → HaveLines (all_asked chooses seat exchanges)
 asked_have_lines chooses seat [] lines asked = tt
-asked_have_lines chooses seat (request ∷ requests) [] asked = absurd asked
-asked_have_lines chooses seat (Call command ∷ requests) (line ∷ lines) asked =
-    (asked.0.1.1.1, asked_have_lines chooses (seat_next chooses seat (Call command)) requests lines asked.1)
-asked_have_lines chooses seat (Seat chosen ∷ requests) (line ∷ lines) asked = asked_have_lines chooses (seat_next chooses seat (Seat chosen)) requests lines asked.1
-asked_have_lines chooses seat (Help about ∷ requests) (line ∷ lines) asked = asked_have_lines chooses seat requests lines asked.1
-asked_have_lines chooses seat (Quit ∷ requests) (line ∷ lines) asked = asked_have_lines chooses seat requests lines asked.1
-asked_have_lines chooses seat (Fault why ∷ requests) (line ∷ lines) asked = asked_have_lines chooses seat requests lines asked.1
-asked_have_lines chooses seat (TooLong ∷ requests) (line ∷ lines) asked = asked_have_lines chooses seat requests lines asked.1
+asked_have_lines chooses seat (exchange ∷ exchanges) [] asked = absurd asked
+asked_have_lines chooses seat ((Call command, answer) ∷ exchanges) (line ∷ lines) asked =
+    (asked.0.1.1.1, asked_have_lines chooses (seat_next chooses seat (Call command)) exchanges lines asked.1)
+asked_have_lines chooses seat ((Ask inquiry, answer) ∷ exchanges) (line ∷ lines) asked = asked_have_lines chooses seat exchanges lines asked.1
+asked_have_lines chooses seat ((Seat chosen, answer) ∷ exchanges) (line ∷ lines) asked = asked_have_lines chooses (seat_next chooses seat (Seat chosen)) exchanges lines asked.1
+asked_have_lines chooses seat ((Help about, answer) ∷ exchanges) (line ∷ lines) asked = asked_have_lines chooses seat exchanges lines asked.1
+asked_have_lines chooses seat ((Quit, answer) ∷ exchanges) (line ∷ lines) asked = asked_have_lines chooses seat exchanges lines asked.1
+asked_have_lines chooses seat ((Fault why, answer) ∷ exchanges) (line ∷ lines) asked = asked_have_lines chooses seat exchanges lines asked.1
+asked_have_lines chooses seat ((TooLong, answer) ∷ exchanges) (line ∷ lines) asked = asked_have_lines chooses seat exchanges lines asked.1
 
 first_have_lines : (first more : List Entry) → HaveLines (first ++ more) → HaveLines first
 first_have_lines [] more all = tt
 first_have_lines (e ∷ first) more all = (all.0, first_have_lines first more all.1)
 
-module _ (style : StyleView) (part : Part) where
-  calls_have_lines : (requests : List Request) (lines : List (List ℕ)) → AreAsked requests lines → HasCommands style part requests → HaveLines part.calls
-  calls_have_lines requests lines asked has =
-      let all = asked_have_lines style.chooses style.first requests (up_to_quit lines) asked in
+module _ (Answers : RunView → Inquiry → List ℕ → Type 0) (style : StyleView) (part : Part) where
+  calls_have_lines : (exchanges : List Exchange) (lines : List (List ℕ)) → AreAsked exchanges lines → HasCommands style part exchanges → HaveLines part.calls
+  calls_have_lines exchanges lines asked has =
+      let all = asked_have_lines style.chooses style.first exchanges (up_to_quit lines) asked in
       elim has [
         | inl same ↦ subst HaveLines (sym same) all
         | inr (full, missing, same) ↦ first_have_lines part.calls missing (subst HaveLines same all)
       ]
 
-  session_has_lines : (returned : Result (Unit {0}) PlayFault) (moves : List Move) → IsSession style part returned moves → HaveLines part.calls
-  session_has_lines (Ok done) moves s = let r = s.ends.responded in calls_have_lines r.0 (lines_of (read_in moves)) r.1 r.3
-  session_has_lines (Err fault.Read) moves s = let r = s.ends.0.responded in calls_have_lines r.0 (ended_lines (read_in moves)) r.1 r.3
-  session_has_lines (Err fault.Write) moves s = let r = s.ends.0.responded in calls_have_lines r.0 s.ends.0.lines r.1 r.3
-  session_has_lines (Err (fault.NoMemory refused)) moves s = let r = s.ends.commands in calls_have_lines r.0 (s.ends.lines ++ s.ends.next) r.1 r.2
+  session_has_lines : (returned : Result (Unit {0}) PlayFault) (moves : List Move) → IsSession Answers style part returned moves → HaveLines part.calls
+  session_has_lines (Ok done) moves s = let r = s.ends.responded in calls_have_lines r.0 (lines_of (read_in moves)) r.1 r.3.0
+  session_has_lines (Err fault.Read) moves s = let r = s.ends.0.responded in calls_have_lines r.0 (ended_lines (read_in moves)) r.1 r.3.0
+  session_has_lines (Err fault.Write) moves s = let r = s.ends.0.responded in calls_have_lines r.0 s.ends.0.lines r.1 r.3.0
+  session_has_lines (Err (fault.NoMemory refused)) moves s = let r = s.ends.commands in calls_have_lines r.0 (s.ends.lines ++ s.ends.next) r.1 r.2.0
   session_has_lines (Err (fault.Setup why)) moves s = absurd s.ends
   session_has_lines (Err (fault.Line script line why)) moves s = absurd s.ends
   session_has_lines (Err (fault.ScriptTooLong script)) moves s = absurd s.ends
@@ -94,14 +97,14 @@ of_each_seat seats (e ∷ es) of_seats each = (
 )
 
 -- what came of a seat has commands of lines alone
-ended_in_range : (rules : Parts → Rules) (c : Journaled) (seat : ℕ) (Opens : Result SeatSeen ReadFault → Type 0) (ended : Option Known) (outcome : Result (Unit {0}) PlayFault) → HasEnded rules c seat Opens ended outcome → InRange (own seat c.journal)
-ended_in_range rules c seat Opens (Some ended) outcome (opening, opens, held) =
-    commands_of seat (own seat c.journal) (session_has_lines (seat_style opening.prompt c.setup c.seats seat) (part_in rules c seat) outcome held.made held.session)
-ended_in_range rules c seat Opens None outcome (fault, opens, unopened) = subst InRange (sym unopened.none) tt
+ended_in_range : (rules : Parts → Rules) (Answers : RunView → Inquiry → List ℕ → Type 0) (c : Journaled) (seat : ℕ) (Opens : Result SeatSeen ReadFault → Type 0) (ended : Option Known) (outcome : Result (Unit {0}) PlayFault) → HasEnded rules Answers c seat Opens ended outcome → InRange (own seat c.journal)
+ended_in_range rules Answers c seat Opens (Some ended) outcome (opening, opens, held) =
+    commands_of seat (own seat c.journal) (session_has_lines Answers (seat_style opening.prompt c.setup c.seats seat) (part_in rules c seat) outcome held.made held.session)
+ended_in_range rules Answers c seat Opens None outcome (fault, opens, unopened) = subst InRange (sym unopened.none) tt
 
-pub writable : {P T : Type 0} (rules : Parts → Rules) (known : T → Known) (opens : P → Result SeatSeen ReadFault → Type 0) (setup : Parts) (openers : List P) (c : Journaled) (finished : List (Finished T)) → AreSessions rules known opens setup openers c finished
+pub writable : {P T : Type 0} (rules : Parts → Rules) (Answers : RunView → Inquiry → List ℕ → Type 0) (known : T → Known) (opens : P → Result SeatSeen ReadFault → Type 0) (setup : Parts) (openers : List P) (c : Journaled) (finished : List (Finished T)) → AreSessions rules Answers known opens setup openers c finished
     → length openers ≤ MAX_SEATS → length c.journal ≤ MAX_ENTRIES → IsWritable c
-writable rules known opens setup openers c finished all fits few =
+writable rules Answers known opens setup openers c finished all fits few =
     record {
       seats = omega (arith, all.seats_are, fits);
       of_seats = all.entries;
@@ -113,6 +116,6 @@ writable rules known opens setup openers c finished all fits few =
           let number : k + 1 ≡ seat = omega (arith, low) in
           let ended = get_or finished k a in
           subst (λ (n : ℕ). InRange (own n c.journal)) number
-          (ended_in_range rules c (k + 1) (opens (get_or openers k p)) (option_map known ended.console) ended.outcome (all.each k p a below)));
+          (ended_in_range rules Answers c (k + 1) (opens (get_or openers k p)) (option_map known ended.console) ended.outcome (all.each k p a below)));
       few = few;
     }

@@ -1,8 +1,9 @@
 -- What the thread of a seat promises, and what it hands back.
-use Rattle.std.specs.Prelude.{◌≡◌, ℕ, ◌-◌, ◌<◌, List, [], length, slice_index_or, Result, Ok, Err, Vec, vec_len, Option, Some, None, option_map}
+use Rattle.std.specs.Prelude.{◌≡◌, ℕ, ◌-◌, ◌<◌, ◌≤◌, List, [], length, slice_index_or, Result, Ok, Err, Vec, vec_len, Option, Some, None, option_map}
 use Rattle.std.specs.Global.{Global}
 use Rattle.std.specs.declared.thread.PromisedHandle.{PromisedHandle}
 use Rattle.atomic_table.specs.Seated.{TableId}
+use Rattle.cdb_base.specs.Limits.{MAX_SEATS}
 use Rattle.cdb_session.specs.Moves.{Known, Move, Makes}
 use Rattle.cdb_session.specs.Served.{IsSession}
 use Rattle.cdb_session.specs.Styles.{StyleView}
@@ -29,6 +30,7 @@ pub record IsUnused (shared : TableId) (welcome : Welcome) (seat : SeatView) : T
   pub greeting : welcome.greeting.now ≡ greeting_text seat.setup
   pub seats : welcome.seats ≡ seat.seats
   pub setup : welcome.setup.now ≡ seat.setup
+  pub some : (1 ≤ welcome.seats) × (welcome.seats ≤ MAX_SEATS)
 
 -- the session of a seat in this style, by what the seat has seen at its end
 abbrev pub RunsSeat : {A : Type 0} → (Parts → Rules) → (RunView → Inquiry → List ℕ → Type 0) → StyleView → SeatView → Result A PlayFault → Known → Known
@@ -54,26 +56,26 @@ pub record HasRun {P T : Type 0} (rules : Parts → Rules) (Answers : RunView �
   pub served : HasServed rules Answers (opens opener) before.number seat (option_map known finished.console) finished.outcome
 
 -- a promise of this seat and this opener
-pub record IsSeatPromise {R P : Type 0} (seat : SeatView) (opener : P) (promise : SeatPromise R P) : Type 0 where
+pub record IsSeatPromise {R A P : Type 0} (seat : SeatView) (opener : P) (promise : SeatPromise R A P) : Type 0 where
   pub seat_is : promise.seat.value ≡ seat
   pub opener_is : promise.opener.value ≡ opener
 
 -- each handle promises that of a seat and its opener, the last seat's first
-abbrev pub AreSeatPromises : {R P T : Type 0} → Vec SeatView Global → Vec P Global
-    → Vec (PromisedHandle (SeatResult R T) (SeatPromise R P)) Global → Type 0
-AreSeatPromises {R} {P} {T} seats openers handles =
-    (k : ℕ) (before : SeatView) (opener : P) (handle : PromisedHandle (SeatResult R T) (SeatPromise R P))
+abbrev pub AreSeatPromises : {R A P T : Type 0} → Vec SeatView Global → Vec P Global
+    → Vec (PromisedHandle (SeatResult R T) (SeatPromise R A P)) Global → Type 0
+AreSeatPromises {R} {A} {P} {T} seats openers handles =
+    (k : ℕ) (before : SeatView) (opener : P) (handle : PromisedHandle (SeatResult R T) (SeatPromise R A P))
     → k < vec_len seats
     → IsSeatPromise (slice_index_or seats.items (vec_len seats - 1 - k) before)
     (slice_index_or openers.items (vec_len openers - 1 - k) opener) (slice_index_or handles.items k handle).promise
 
 -- What the threads hand back, the first seat's first: each keeps the promise of its handle, of which the last seat's
 -- comes first.
-abbrev pub AllKept : {R P T : Type 0} → (Parts → Rules) → (RunView → Inquiry → List ℕ → Type 0) → (T → Known) → (P → Result SeatSeen ReadFault → Type 0)
-    → List (PromisedHandle (SeatResult R T) (SeatPromise R P)) → List SeatView → List (Finished T) → Type 0
-AllKept {R} {P} {T} rules Answers known opens handles seats finished =
+abbrev pub AllKept : {R A P T : Type 0} → (Parts → Rules) → (RunView → Inquiry → List ℕ → Type 0) → (T → Known) → (P → Result SeatSeen ReadFault → Type 0)
+    → List (PromisedHandle (SeatResult R T) (SeatPromise R A P)) → List SeatView → List (Finished T) → Type 0
+AllKept {R} {A} {P} {T} rules Answers known opens handles seats finished =
     (k : ℕ) (seat : SeatView) (its : Finished T) → k < length seats
-    → (handle : PromisedHandle (SeatResult R T) (SeatPromise R P))
+    → (handle : PromisedHandle (SeatResult R T) (SeatPromise R A P))
     → let there = slice_index_or handles (length handles - 1 - k) handle in
     HasRun rules Answers known opens there.promise.seat.value there.promise.opener.value
     (slice_index_or seats k seat) (slice_index_or finished k its)

@@ -1,6 +1,7 @@
 //! What one thread does with its seat.
 
-ghost use Rattle.std.specs.Prelude.{◌≡◌, [], false};
+ghost use Rattle.std.specs.Prelude.{◌≡◌, ◌≤◌, [], false};
+ghost use Rattle.cdb_base.specs.Limits.{MAX_SEATS};
 ghost use Rattle.cdb_shared.specs.Seats.{IsLater, RestsAt};
 ghost use Rattle.cdb_shared_session.specs.Promises.{IsUnused, RunsSeat, HasRun};
 ghost use Rattle.cdb_shared_session.specs.SeatParts.{is_numbered};
@@ -110,6 +111,7 @@ fn run_styled<R: Runs, A: Answers<R>, T: Console, Rt: Wait>(
     requires new { seat.seen ≡ [] }
     requires setup { welcome.setup.now ≡ seat.setup }
     requires seats { welcome.seats ≡ seat.seats }
+    requires some { (1 ≤ welcome.seats) × (welcome.seats ≤ MAX_SEATS) }
     requires first { style.now.first ≡ seat.number }
     requires chooses { style.now.chooses ≡ false }
     ensures later { IsLater seat result.0 }

@@ -54,7 +54,7 @@ fn outcome_of<J: Drop>(kept: Option<Kept<J>>) -> Result<(), OutputFault>
 /// memory; the status is that of a journal that was not written, else of the least seat that failed.
 pub fn debug_shared<
     R: Runs + Send,
-    A: Answers<R>,
+    A: Answers<R> + Send,
     P: Opener + Send,
     J: Sink + Drop,
     Rt: Threads + Wait + Clock + Sync,

@@ -58,7 +58,7 @@ impl fmt::Display for SessionsFault {
 impl Error for SessionsFault {}
 
 /// Starts a thread for one seat, which is one fewer of those that are going on once it has ended.
-fn start_one<'s, E, R: Runs + Send + 's, A: Answers<R> + 's, P: Opener + Send + 's, Rt: Threads + Wait + Sync>(
+fn start_one<'s, E, R: Runs + Send + 's, A: Answers<R> + Send + 's, P: Opener + Send + 's, Rt: Threads + Wait + Sync>(
     scope: &Scope<'s, E>,
     rt: &'s Rt,
     alloc: Global,
@@ -92,7 +92,7 @@ fn start_one<'s, E, R: Runs + Send + 's, A: Answers<R> + 's, P: Opener + Send + 
 }
 
 /// Starts a thread for each seat, the last seat's first.
-fn start_all<'s, E, R: Runs + Send + 's, A: Answers<R> + 's, P: Opener + Send + 's, Rt: Threads + Wait + Sync>(
+fn start_all<'s, E, R: Runs + Send + 's, A: Answers<R> + Send + 's, P: Opener + Send + 's, Rt: Threads + Wait + Sync>(
     scope: &Scope<'s, E>,
     rt: &'s Rt,
     alloc: Global,
@@ -155,7 +155,7 @@ fn join_all<
     's,
     E,
     R: Runs + Send + 's,
-    A: Answers<R> + 's,
+    A: Answers<R> + Send + 's,
     P: Opener + Send + 's,
     J: Sink + Drop,
     Rt: Threads + Wait + Clock + Sync,
@@ -193,7 +193,7 @@ fn join_all<
 
 /// Serves every seat in a thread of its own, keeps the journal meanwhile, and joins them all; the seats and how their
 /// sessions ended are added to lists that have room for them.
-fn run_all<R: Runs + Send, A: Answers<R>, P: Opener + Send, J: Sink + Drop, Rt: Threads + Wait + Clock + Sync>(
+fn run_all<R: Runs + Send, A: Answers<R> + Send, P: Opener + Send, J: Sink + Drop, Rt: Threads + Wait + Clock + Sync>(
     rt: &Rt,
     alloc: Global,
     shared: &Shared<R>,
@@ -324,7 +324,7 @@ pub type Ended<R, P, J> = (
 /// written or memory was out.
 pub fn debug_seats<
     R: Runs + Send,
-    A: Answers<R>,
+    A: Answers<R> + Send,
     P: Opener + Send,
     J: Sink + Drop,
     Rt: Threads + Wait + Clock + Sync,

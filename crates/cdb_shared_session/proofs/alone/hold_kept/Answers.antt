@@ -33,14 +33,14 @@ returns g c =
     let prompt = c.args.prompt.now in
     let whole = greeting_at prompt (greeting_text c.args.control.setup) in
     let greeted : c.greeting_at.result.now ≡ whole = c.greeting_at.ensures ∙ ap (greeting_at prompt) c.requires.greeting in
-    let ran = subst (λ (greeting : List ℕ). IsSession (nine greeting prompt) (whole_part rules last.control) c.run-outcome.result made.0) greeted made.2 in (
+    let ran = subst (λ (greeting : List ℕ). IsSession g.A.Answers.answers (nine greeting prompt) (whole_part rules last.control) c.run-outcome.result made.0) greeted made.2 in (
       made.0,
       made.1,
       record {
         control = c.caller.inside.control;
         setup_is = its.setup;
         seats_are = its.seats ∙ ap (λ (d : Journaled). d.seats) c.requires.begun;
-        session = subst (λ (v : KeptView g.row.J.Denot). IsSession (nine whole prompt) (whole_part rules v.control) c.run-outcome.result made.0) (sym c.caller.view_is) ran;
+        session = subst (λ (v : KeptView g.row.J.Denot). IsSession g.A.Answers.answers (nine whole prompt) (whole_part rules v.control) c.run-outcome.result made.0) (sym c.caller.view_is) ran;
         keeps = subst (λ (l : List Entry). IsKept stream c.keep_rest-kept.result.outcome c.args.file c.keep_rest-kept.result.file l) entries added;
       },
     )

@@ -14,4 +14,4 @@ returns-clause-later g c =
 
 pub returns-clause-session : goal.returns-clause-session
 returns-clause-session g c =
-    subst (λ (seat : SeatView). RunsSeat g.R.Runs.rules c.args.style.now seat c.run-outcome.result (g.T.Console.known c.args.console.now) (g.T.Console.known c.run-outcome.new.console)) (sym c.caller.view_is) c.run-outcome.ensures.all
+    subst (λ (seat : SeatView). RunsSeat g.R.Runs.rules g.A.Answers.answers c.args.style.now seat c.run-outcome.result (g.T.Console.known c.args.console.now) (g.T.Console.known c.run-outcome.new.console)) (sym c.caller.view_is) c.run-outcome.ensures.all
