@@ -7,6 +7,7 @@ use Rattle.cdb_shared_session.specs.declared.keeping.Kept.{Kept}
 use Rattle.cdb_streams.specs.Streams.{Stream, itself}
 use Rattle.cdb_streams.specs.declared.fault.PlayFault.{PlayFault}
 use Rattle.cdb_agreement.specs.Algorithms.{rules}
+use Rattle.cdb_program.specs.Answers.{IsAnswer}
 use Rattle.cdb_program.specs.Known.{Seen, after_opening}
 use Rattle.cdb_program.specs.Outcomes.{RequestEnd, IsOfPlay, IsOfKept}
 use Rattle.cdb_program.specs.Reading.{HasRead, CannotReadFiles, AreFirstBytes, most_read}
@@ -27,7 +28,7 @@ console_of seen = record {
 abbrev pub DebugsBytes : List ℕ → List ℕ → Seen → Seen → RequestEnd → Type 0
 DebugsBytes json prompt old new outcome =
     (debugged : Result (Unit {0}) PlayFault) × IsOfPlay (codes "standard input") debugged outcome
-    × Debugs rules prompt json debugged (console_of old) (console_of new)
+    × Debugs rules IsAnswer prompt json debugged (console_of old) (console_of new)
 
 -- The file of the setup is read, and then the session takes place. Where the file can't be read, no input is.
 abbrev pub DebugsFile : List ℕ → List ℕ → Seen → Seen → RequestEnd → Type 0
@@ -39,7 +40,7 @@ DebugsFile setup prompt old new outcome =
 abbrev pub DebugsBytesKept : List ℕ → List ℕ → Seen → Seen → RequestEnd → Type 0
 DebugsBytesKept json prompt old new outcome =
     (file : Stream) × (ended : Result (Unit {0}) PlayFault × Kept Stream) × IsEmpty file × IsOfKept ended.0 (ended.1).outcome outcome
-    × DebugsKept itself rules prompt json (console_of old) (console_of new) file ended
+    × DebugsKept itself rules IsAnswer prompt json (console_of old) (console_of new) file ended
 
 -- The file of the setup is read, that of the journal is made, and then the session takes place. Where one of them can't be opened, no
 -- input is read.

@@ -8,6 +8,7 @@ use Rattle.cdb_streams.specs.Streams.{Stream, itself}
 use Rattle.cdb_streams.specs.declared.source.ReadFault.{ReadFault}
 use Rattle.cdb_streams.specs.declared.source.ReadFault.TheVariants as reading
 use Rattle.cdb_agreement.specs.Algorithms.{rules}
+use Rattle.cdb_program.specs.Answers.{IsAnswer}
 use Rattle.cdb_program.specs.Known.{FilesSeen, Seen, seat_of, after_opening, after_failing}
 use Rattle.cdb_program.specs.Reading.{AreFirstBytes, FailsToRead, most_read}
 use Rattle.cdb_program.specs.Reports.{IsReported}
@@ -84,7 +85,7 @@ abbrev pub HoldsSeats : List ℕ → List (List ℕ) → Option (List ℕ) → S
 HoldsSeats setup seats file old new status =
     (json : List ℕ) × HasSeated old.files new.files setup seats file json
     × ((made : Option Stream) × IsNewFile file made
-    × RunsSessions rules (λ known. known) (CanOpenSeat old.files) itself itself itself json seats made old.output new.output old.error new.error
+    × RunsSessions rules IsAnswer (λ known. known) (CanOpenSeat old.files) itself itself itself json seats made old.output new.output old.error new.error
     status)
 
 -- there were sessions of these seats, or not; standard input is left as it is

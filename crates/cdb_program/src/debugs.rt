@@ -3,6 +3,7 @@
 ghost use Rattle.std.specs.Prelude.{◌≡◌};
 ghost use Rattle.cdb_program.specs.Debugging.{DebugsFile, DebugsFileKept};
 
+use crate::answers::Printed;
 use crate::fault::{Fault, of_kept, of_play};
 use crate::files::{Files, read_file};
 use crate::outside::Outside;
@@ -25,7 +26,7 @@ pub fn debug_file<'a, F: Files + Drop, I: Source + Drop, O: Sink + Drop, E: Sink
 {
     let json = read_file(alloc, &mut outside.files, setup)?;
     let prompt = prompt.as_bytes();
-    let debugged = debug::<AnyRun, _>(alloc, json.as_slice(), prompt, &mut outside.streams);
+    let debugged = debug::<AnyRun, Printed, _>(alloc, json.as_slice(), prompt, &mut outside.streams);
     of_play(debugged, "standard input")
 }
 
@@ -43,7 +44,7 @@ pub fn debug_file_kept<'a, F: Files + Drop, I: Source + Drop, O: Sink + Drop, E:
     let json = read_file(alloc, &mut outside.files, setup)?;
     let file = make_one(alloc, &mut outside.files, file)?;
     let prompt = prompt.as_bytes();
-    let (debugged, kept) = debug_kept::<AnyRun, _, _>(
+    let (debugged, kept) = debug_kept::<AnyRun, Printed, _, _>(
         alloc,
         json.as_slice(),
         prompt,

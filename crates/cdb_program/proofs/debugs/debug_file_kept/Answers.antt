@@ -5,6 +5,7 @@ use Rattle.cdb_agreement.specs.Algorithms.{rules}
 use Rattle.cdb_streams.specs.declared.fault.PlayFault.{PlayFault}
 use Rattle.cdb_shared_session.specs.KeptAlone.{DebugsKept}
 use Rattle.cdb_shared_session.specs.declared.keeping.Kept.{Kept}
+use Rattle.cdb_program.specs.Answers.{IsAnswer}
 use Rattle.cdb_program.proofs.Opening.{opened_then, fails_before}
 use Rattle.cdb_program.proofs.Seated.{fails_later}
 use Rattle.cdb_program.proofs.Seen.{debugged_of}
@@ -37,6 +38,6 @@ returns-clause-does g c =
         (ended.0, seen_kept g.F.Made.Sink.stream ended.1),
         c.in_ok-file.ensures.file,
         c.of_kept.ensures,
-        debugged_of stream rules c.args.prompt.now c.in_ok-json.json.items _ _ c.as_bytes-prompt.ensures.value c.as_slice.ensures.value _ _ c.in_ok-file.file ended c.debug_kept-debugged.ensures,
+        debugged_of stream rules IsAnswer c.args.prompt.now c.in_ok-json.json.items _ _ c.as_bytes-prompt.ensures.value c.as_slice.ensures.value _ _ c.in_ok-file.file ended c.debug_kept-debugged.ensures,
       ),
     ))

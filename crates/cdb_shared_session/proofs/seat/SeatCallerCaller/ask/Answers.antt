@@ -1,6 +1,6 @@
-use Rattle.std.proofs.Common.{◌≡◌, List, ℕ, sym, ap, subst, ◌∙◌}
+use Rattle.std.proofs.Common.{◌≡◌, sym, subst, ◌∙◌}
 use Rattle.std.specs.Prelude.{IfOk}
-use Rattle.cdb_control.specs.declared.control.Entry.{Entry}
+use Rattle.cdb_rules.specs.RunView.{RunView}
 use Rattle.cdb_session.specs.Answers.{run_left}
 use Rattle.cdb_session.specs.Styles.{MakesNone}
 use Rattle.cdb_shared.specs.Seats.{SeatView}
@@ -25,4 +25,11 @@ returns-clause-ask g c =
 pub returns-clause-answer : goal.returns-clause-answer
 returns-clause-answer g c =
     let rules = g.R.Runs.rules in
-    asked_now rules g.A.Answers.answers c.journal.new.seat c.args.inquiry c.answer_of.result ?
+    let answers = g.A.Answers.answers in
+    let seat = c.journal.new.seat in
+    let so = c.in_ok-journal.ensures in
+    let setup = c.self.invariant.1 ∙ sym so.seat.setup in
+    let seats = c.self.invariant.2 ∙ sym so.seat.seats in
+    let seen : c.as_slice.result.now ≡ seat.seen = c.as_slice.ensures.value ∙ so.entries in
+    asked_now rules answers seat c.args.inquiry c.answer_of.result
+    (subst (λ (run : RunView). IfOk c.answer_of.result (λ text. answers run c.args.inquiry text.items)) (λ i. run_left rules (setup i) (seats i) (seen i)) c.answer_of.ensures)
