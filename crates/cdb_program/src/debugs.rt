@@ -26,7 +26,12 @@ pub fn debug_file<'a, F: Files + Drop, I: Source + Drop, O: Sink + Drop, E: Sink
 {
     let json = read_file(alloc, &mut outside.files, setup)?;
     let prompt = prompt.as_bytes();
-    let debugged = debug::<AnyRun, Printed, _>(alloc, json.as_slice(), prompt, &mut outside.streams);
+    let debugged = debug::<AnyRun, Printed, _>(
+        alloc,
+        json.as_slice(),
+        prompt,
+        &mut outside.streams,
+    );
     of_play(debugged, "standard input")
 }
 

@@ -29,11 +29,7 @@ pub trait Answers<R: Runs> {
 }
 
 /// Carries out the command of an entry, for its seat.
-fn carry_out<R: Runs>(
-    alloc: Global,
-    control: &mut Control<R>,
-    entry: Entry,
-) -> Result<(), NoMemory>
+fn carry_out<R: Runs>(alloc: Global, control: &mut Control<R>, entry: Entry) -> Result<(), NoMemory>
     requires seat { IsWithin 1 control.old.seats entry.seat }
     requires room { length control.old.journal < MAX_ENTRIES }
     ensures { OnOk result (control.new ≡ extended R.rules control.old entry.seat entry.command) }
@@ -140,6 +136,6 @@ pub fn answer_in<R: Runs, A: Answers<R>>(
         (run_left R.rules control.now.setup control.now.seats control.now.journal) inquiry text.items) }
     ensures limit { length control.now.journal ≤ MAX_ENTRIES }
 {
-    let seats = control.seats();
-    answer_of::<R, A>(alloc, control.run().setup(), seats, control.journal(), inquiry)
+    let (setup, seats) = (control.run().setup(), control.seats());
+    answer_of::<R, A>(alloc, setup, seats, control.journal(), inquiry)
 }

@@ -180,10 +180,9 @@ fn push_own_response(
     match request {
         Request::Seat(seat) => push_chosen(text, style, lines + 1, seat),
         Request::Help(about) => push_help_response(alloc, text, style, lines + 1, about),
-        Request::Quit
-        | Request::Call(_)
-        | Request::Ask(_)
-        | Request::Fault(LineFault::Empty) => Ok(()),
+        Request::Quit | Request::Call(_) | Request::Ask(_) | Request::Fault(LineFault::Empty) => Ok(
+            (),
+        ),
         Request::Fault(fault) => push_fault(text, lines + 1, fault),
         Request::TooLong => push_too_long(text, lines + 1),
     }

@@ -171,9 +171,9 @@ impl<T: Runs> Shared<T> {
         ensures seats { AreOfSeats seat.new.seats seat.new.seen }
         ensures limit { length seat.new.seen ≤ MAX_ENTRIES }
     {
-        let control = take(rt, &self.turn, &mut seat.pass);
-        let entries = Vec::from_slice(alloc, control.journal());
-        give(rt, &self.turn, &mut seat.pass, control);
+        let held = take(rt, &self.turn, &mut seat.pass);
+        let entries = Vec::from_slice(alloc, held.journal());
+        give(rt, &self.turn, &mut seat.pass, held);
         entries.map_err(NoMemory::from)
     }
 

@@ -10,9 +10,7 @@ use crate::endpoint::{Endpoint, Finished, Opener};
 use cdb_base::NoMemory;
 use cdb_control::{CallFault, Command, Reply};
 use cdb_rules::Runs;
-use cdb_session::{
-    Answers, Caller, Console, Inquiry, Session, Style, answer_of, greeting_at, run,
-};
+use cdb_session::{Answers, Caller, Console, Inquiry, Session, Style, answer_of, greeting_at, run};
 use cdb_setup::Setup;
 use cdb_shared::{Seat, Shared};
 use cdb_streams::PlayFault;
@@ -171,7 +169,15 @@ pub(crate) fn run_seat<R: Runs, A: Answers<R>, P: Opener, Rt: Wait>(
         first: seat.number(),
         chooses: false,
     };
-    let (seat, outcome) = run_styled::<R, A, _, Rt>(shared, rt, alloc, welcome, &style, seat, &mut console);
+    let (seat, outcome) = run_styled::<R, A, _, Rt>(
+        shared,
+        rt,
+        alloc,
+        welcome,
+        &style,
+        seat,
+        &mut console,
+    );
     SeatResult {
         seat,
         finished: Finished {

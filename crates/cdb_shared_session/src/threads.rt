@@ -58,7 +58,14 @@ impl fmt::Display for SessionsFault {
 impl Error for SessionsFault {}
 
 /// Starts a thread for one seat, which is one fewer of those that are going on once it has ended.
-fn start_one<'s, E, R: Runs + Send + 's, A: Answers<R> + Send + 's, P: Opener + Send + 's, Rt: Threads + Wait + Sync>(
+fn start_one<
+    's,
+    E,
+    R: Runs + Send + 's,
+    A: Answers<R> + Send + 's,
+    P: Opener + Send + 's,
+    Rt: Threads + Wait + Sync,
+>(
     scope: &Scope<'s, E>,
     rt: &'s Rt,
     alloc: Global,
@@ -92,7 +99,14 @@ fn start_one<'s, E, R: Runs + Send + 's, A: Answers<R> + Send + 's, P: Opener + 
 }
 
 /// Starts a thread for each seat, the last seat's first.
-fn start_all<'s, E, R: Runs + Send + 's, A: Answers<R> + Send + 's, P: Opener + Send + 's, Rt: Threads + Wait + Sync>(
+fn start_all<
+    's,
+    E,
+    R: Runs + Send + 's,
+    A: Answers<R> + Send + 's,
+    P: Opener + Send + 's,
+    Rt: Threads + Wait + Sync,
+>(
     scope: &Scope<'s, E>,
     rt: &'s Rt,
     alloc: Global,
@@ -115,7 +129,9 @@ fn start_all<'s, E, R: Runs + Send + 's, A: Answers<R> + Send + 's, P: Opener + 
         let Some(opener) = openers.pop() else {
             unreachable!()
         };
-        let handle = start_one::<E, R, A, P, Rt>(scope, rt, alloc, shared, going, welcome, seat, opener)?;
+        let handle = start_one::<E, R, A, P, Rt>(
+            scope, rt, alloc, shared, going, welcome, seat, opener,
+        )?;
         handles.push_reserved(handle);
     }
     Ok(handles)
@@ -185,7 +201,9 @@ fn join_all<
     ensures later { IfOk result (λ r. IsLater keeping.watch r.2.watch) }
     ensures kept { IfOk result (λ r. GoesOnKeeping J.stream keeping r.2) }
 {
-    let handles = start_all::<E, R, A, P, Rt>(scope, rt, alloc, shared, going, welcome, seats, openers)?;
+    let handles = start_all::<E, R, A, P, Rt>(
+        scope, rt, alloc, shared, going, welcome, seats, openers,
+    )?;
     let keeping = keep(shared, rt, alloc, keeping, going);
     let (seats, finished) = join_each::<R, A, P, Rt>(rt, handles, done, all);
     Ok((seats, finished, keeping))
@@ -193,7 +211,13 @@ fn join_all<
 
 /// Serves every seat in a thread of its own, keeps the journal meanwhile, and joins them all; the seats and how their
 /// sessions ended are added to lists that have room for them.
-fn run_all<R: Runs + Send, A: Answers<R> + Send, P: Opener + Send, J: Sink + Drop, Rt: Threads + Wait + Clock + Sync>(
+fn run_all<
+    R: Runs + Send,
+    A: Answers<R> + Send,
+    P: Opener + Send,
+    J: Sink + Drop,
+    Rt: Threads + Wait + Clock + Sync,
+>(
     rt: &Rt,
     alloc: Global,
     shared: &Shared<R>,
