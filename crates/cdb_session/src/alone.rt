@@ -85,8 +85,8 @@ pub fn begin<R: Runs>(alloc: Global, setup: &[u8]) -> Result<(Control<R>, Vec<u8
 }
 
 /// A session on a run of the setup, in which each line has its response before more input is asked for: a command of
-/// the seat that the session is at, `help`, `seat S`, or `quit`, which ends it; a line that is none of these has its
-/// fault. The prompt is shown before each line, and the setup in words before the first prompt; where the prompt has no
+/// the seat that the session is at, `explain P [K]` and `trail P [K]`, which ask something of the run and make no entry,
+/// `help`, `seat S`, or `quit`, which ends it; a line that is none of these has its fault. The prompt is shown before each line, and the setup in words before the first prompt; where the prompt has no
 /// bytes, neither is. The end of the input, which is asked for once, ends the session too,
 /// and so do 2^63 bytes.
 ///
@@ -97,9 +97,10 @@ pub fn begin<R: Runs>(alloc: Global, setup: &[u8]) -> Result<(Control<R>, Vec<u8
 ///
 /// Promise: Whenever a session asks for more input, all lines that it was given so far have their responses in full,
 /// none of them was `quit`, and the input was not at its end. At the end it has written exactly the dialogue of all
-/// that was read, and has ended at `quit`, at the end of the input, which is asked for once, or after 2^63 bytes. After
-/// a failed read each line that had ended has its response; after a failed write what was written is a beginning of the
-/// responses; after out of memory it is the responses to the first of the lines.
+/// that was read, and has ended at `quit`, at the end of the input, which is asked for once, or after 2^63 bytes. What
+/// a line asks of the run is answered of the one that the commands before it have led to. After a failed read each line
+/// that had ended has its response; after a failed write what was written is a beginning of the responses; after out of
+/// memory it is the responses to the first of the lines.
 pub fn debug<R: Runs, A: Answers<R>, T: Console>(
     alloc: Global,
     setup: &[u8],
