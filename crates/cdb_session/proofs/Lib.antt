@@ -6,6 +6,7 @@ pub mod SeatLines
 pub mod HelpLines
 pub mod FullWords
 pub mod Names
+pub mod Dues
 pub mod TypedWords
 pub mod ExactLines
 pub mod AskedLines

@@ -2,6 +2,8 @@
 pub mod Moves
 pub mod Topics
 pub mod Typed
+pub mod FaultyLines
+pub mod Due
 pub mod Requests
 pub mod Styles
 pub mod Dialogues

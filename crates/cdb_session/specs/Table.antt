@@ -33,7 +33,7 @@ response_to s (Call command) =
 response_to s (Seat seat) = seat_line seat ++ codes "\n"
 response_to s (Help about) = help_response (s.lines + 1) true about
 response_to s Quit = []
-response_to s (Fault fault) = fault_response (s.lines + 1) fault
+response_to s (Fault faulty) = fault_response (s.lines + 1) true faulty
 response_to s TooLong = long_line_text (s.lines + 1)
 
 -- the control after it: a command has an entry, unless the journal is full

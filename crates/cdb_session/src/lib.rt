@@ -10,6 +10,7 @@
 mod alone;
 mod caller;
 mod console;
+mod due;
 mod feed;
 mod greeting;
 mod help;
@@ -30,7 +31,7 @@ pub use console::{Console, write_all};
 pub use greeting::{greeting_at, greeting_text};
 pub use help::{COMMANDS, OTHERS, SEATS};
 pub use repl::run;
-pub use request::{Request, request_of};
+pub use request::{FaultyLine, Request, request_of};
 pub use session::Session;
 pub use streams::Streams;
 pub use style::Style;
