@@ -8,7 +8,7 @@ ghost use Rattle.cdb_setup.specs.Format.{longest};
 
 use crate::caller::Caller;
 use crate::console::{Console, write_all};
-use crate::request::{Request, request_of};
+use crate::request::request_of;
 use crate::session::Session;
 use crate::style::Style;
 use crate::typed::line_meant;
@@ -37,7 +37,7 @@ pub(crate) fn respond_to_line<C: Caller, T: Console>(
     let text = session.show(alloc, style, &request)?;
     write_all(console, text.as_slice())?;
     unfinished.clear();
-    Ok(matches!(request, Request::Quit))
+    Ok(request.is_quit())
 }
 
 /// Answers each line that ends in these bytes, up to `quit`, and holds what follows the last. Returns whether one was

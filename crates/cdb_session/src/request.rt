@@ -1,6 +1,6 @@
 //! What a line of a session asks for.
 
-ghost use Rattle.std.specs.Prelude.{◌≡◌, ℕ, Option, IfSome, IfNone};
+ghost use Rattle.std.specs.Prelude.{◌≡◌, ◌↔◌, ℕ, Option, IfSome, IfNone, IsTrue};
 ghost use Rattle.cdb_setup.specs.Parts.{IsWithin};
 ghost use Rattle.cdb_session.specs.declared.request.Request.{Request as RequestName};
 ghost use Rattle.cdb_session.specs.declared.topic.Topic.{Topic as TopicName};
@@ -41,6 +41,15 @@ pub enum Request<'a> {
     Fault(FaultyLine<'a>),
     /// The line has more than 1,048,576 bytes.
     TooLong,
+}
+
+impl Request<'_> {
+    /// Whether the session is to end.
+    pub(crate) fn is_quit(&self) -> bool
+        ensures { IsTrue result ↔ (self.now ≡ Request.Quit) }
+    {
+        matches!(self, Request::Quit)
+    }
 }
 
 /// How many bytes a line has that chooses a seat.

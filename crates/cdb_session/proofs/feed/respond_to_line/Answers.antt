@@ -40,6 +40,5 @@ pub returns-clause-unfinished : goal.returns-clause-unfinished
 returns-clause-unfinished g c =
     let meant : c.as_slice-2.result.now ≡ line_meant c.args.unfinished.now.items = c.as_slice-2.ensures.value ∙ c.in_ok-line.ensures ∙ ap line_meant c.as_slice.ensures.value in
     let asks = subst (AsksFor c.request_of-request.result) meant c.request_of-request.ensures.asks in
-    let quit_exactly : IsTrue c.eq.result ↔ (c.request_of-request.result ≡ Quit) = search rules in
     let says = subst (WritesAll c.write_all.result (g.T.Console.known c.args.console.now) (g.T.Console.known c.write_all.new.console)) c.as_slice-3.ensures.value c.write_all.ensures in
-    line_is_done c.args.style.now _ _ (seen_by g.C.Caller.part c.args.session.now) (seen_by g.C.Caller.part c.show.new.self) c.args.unfinished.now.items c.clear.new.self.items c.request_of-request.result asks NoMemory c.in_ok-text.text (Unit {0}) (Unit {0}) tt c.eq.result c.in_ok-text.ensures.shows (rw (c.in_ok-write_all.was) at says) c.in_ok-text.ensures.lines c.in_ok-text.ensures.seat c.clear.ensures.items quit_exactly
+    line_is_done c.args.style.now _ _ (seen_by g.C.Caller.part c.args.session.now) (seen_by g.C.Caller.part c.show.new.self) c.args.unfinished.now.items c.clear.new.self.items c.request_of-request.result asks NoMemory c.in_ok-text.text (Unit {0}) (Unit {0}) tt c.is_quit.result c.in_ok-text.ensures.shows (rw (c.in_ok-write_all.was) at says) c.in_ok-text.ensures.lines c.in_ok-text.ensures.seat c.clear.ensures.items c.is_quit.ensures
