@@ -87,12 +87,7 @@ impl Due {
             | Due::Step
             | Due::Round
             | Due::Breakpoint => true,
-            Due::Command
-            | Due::Act
-            | Due::Stop
-            | Due::Register
-            | Due::Seat
-            | Due::Nothing => false,
+            Due::Command | Due::Act | Due::Stop | Due::Register | Due::Seat | Due::Nothing => false,
         }
     }
 
@@ -108,12 +103,8 @@ impl Due {
             Due::Stop => &STOPS,
             Due::Register => &REGISTERS,
             Due::Seat => &SEATS,
-            Due::Process
-            | Due::Message
-            | Due::Step
-            | Due::Round
-            | Due::Breakpoint
-            | Due::Nothing => &[],
+            Due::Process | Due::Message | Due::Step | Due::Round | Due::Breakpoint | Due::Nothing =>
+                &[],
         }
     }
 
@@ -158,7 +149,13 @@ fn act(words: &[&[u8]]) -> &'static [Due]
         return &[Due::Command, Due::Process, Due::Act];
     };
     if *act == b"recv".as_slice() {
-        return &[Due::Command, Due::Process, Due::Act, Due::Process, Due::Message];
+        return &[
+            Due::Command,
+            Due::Process,
+            Due::Act,
+            Due::Process,
+            Due::Message,
+        ];
     }
     if *act == b"query".as_slice() && !others.is_empty() {
         return &[Due::Command, Due::Process, Due::Act, Due::Process];

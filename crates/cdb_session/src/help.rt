@@ -106,12 +106,7 @@ fn push_lines_about(
 }
 
 /// Adds what the help says about a word, or a fault of the line of this number where it says nothing.
-fn push_or_fault(
-    text: &mut String,
-    line: u64,
-    topic: Topic,
-    about: &str,
-) -> Result<(), AllocError>
+fn push_or_fault(text: &mut String, line: u64, topic: Topic, about: &str) -> Result<(), AllocError>
     ensures { Pushes result text.old text.new (or_word_fault line topic about.now) }
 {
     if about.is_empty() {

@@ -212,7 +212,11 @@ fn push_chosen(text: &mut String, style: &Style<'_>, line: u64, seat: u8) -> Res
 }
 
 /// Adds the prompt, which stands before each further line, and nothing after `quit`.
-fn push_prompt(text: &mut Vec<u8>, style: &Style<'_>, request: &Request<'_>) -> Result<(), AllocError>
+fn push_prompt(
+    text: &mut Vec<u8>,
+    style: &Style<'_>,
+    request: &Request<'_>,
+) -> Result<(), AllocError>
     ensures { OnOk result
         (text.new.items ≡ text.old.items ++ prompt_after style.now.prompt request.now) }
 {

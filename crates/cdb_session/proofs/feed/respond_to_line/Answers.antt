@@ -1,11 +1,9 @@
-use Rattle.std.proofs.Common.{rules, ◌≡◌, refl, ap, subst, ◌∙◌}
-use Rattle.std.specs.Prelude.{IsTrue, ◌↔◌}
+use Rattle.std.proofs.Common.{◌≡◌, refl, ap, subst, ◌∙◌}
 use Rattle.std.proofs.lemmas.Result.{err_from_is_err_and}
 use Rattle.cdb_base.specs.declared.no_memory.NoMemory.{NoMemory}
 use Rattle.cdb_session.specs.Moves.{WritesAll}
 use Rattle.cdb_session.specs.Requests.{AsksFor}
 use Rattle.cdb_session.specs.Typed.{line_meant}
-use Rattle.cdb_session.specs.declared.request.Request.TheVariants.{Quit}
 use Rattle.cdb_session.specs.Lines.{seen_by}
 use Rattle.cdb_session.specs.Styles.{stays}
 use Rattle.cdb_session.proofs.LineResponse.{line_is_unread, line_is_lost, line_is_broken, line_is_done}

@@ -1,4 +1,4 @@
-use Rattle.std.proofs.Common.{rules, arith, ◌≡◌, ◌<◌, length}
+use Rattle.std.proofs.Common.{rules, ◌≡◌, ◌<◌, length}
 use Rattle.cdb_session.proofs.Emptiness.{none_where_empty, some_where_not_empty}
 use Rattle.cdb_session.proofs.HelpLines.{fault_where_none, no_fault_where_some}
 use Rattle.cdb_session.proofs.help.push_or_fault.Goals as goal
