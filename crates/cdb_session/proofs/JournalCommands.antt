@@ -44,4 +44,4 @@ grown s (Fault fault ∷ requests) few = grown (after_request s (Fault fault)) r
 grown s (TooLong ∷ requests) few = grown (after_request s TooLong) requests few
 
 pub journal_has_the_commands : JournalHasTheCommands
-journal_has_the_commands rules setup requests = grown (begun rules setup) requests (omega arith)
+journal_has_the_commands rules setup entries requests few = grown (begun rules setup entries) requests few

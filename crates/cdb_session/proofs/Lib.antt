@@ -20,6 +20,7 @@ pub mod LineResponse
 pub mod NextState
 pub mod FedBytes
 pub mod WholeSession
+pub mod CameSince
 pub mod OwnControl
 pub mod SameAsTable
 pub mod JournalCommands

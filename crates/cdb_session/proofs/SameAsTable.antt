@@ -1,17 +1,18 @@
 -- With a control of its own, a session shows what the table of requests says.
-use Rattle.std.proofs.Common.{◌≡◌, inl, inr, ℕ, suc, ◌+◌, ◌-◌, ◌<◌, ◌≤◌, ◌==◌, Bool, true, false, List, [], ◌∷◌, ◌++◌, length, take, refl, sym, ap, ◌∙◌, arith, length-append}
+use Rattle.std.proofs.Common.{◌≡◌, inl, inr, ℕ, suc, ◌+◌, ◌-◌, ◌<◌, ◌≤◌, ◌==◌, Bool, true, false, List, [], ◌∷◌, ◌++◌, length, take, drop, refl, sym, ap, ◌∙◌, arith, length-append}
 use Rattle.std.specs.Prelude.{if◌then◌else◌}
 use Rattle.std.proofs.lemmas.Bool.Decides.{Decides-eqb}
 use Rattle.std.proofs.lemmas.Grind.{fold-append}
+use Rattle.std.proofs.Math.Seq.{drop-append_seam}
 use Rattle.std.proofs.lemmas.List.{take_all, take-append-le}
-use Rattle.cdb_base.specs.Limits.{MAX_ENTRIES}
+use Rattle.cdb_base.specs.Limits.{MAX_ENTRIES, MAX_SEATS}
+use Rattle.cdb_commands.specs.ToldReply.{ToldReply}
 use Rattle.cdb_commands.specs.declared.command.Command.{Command}
 use Rattle.cdb_control.specs.Commands.{obey}
-use Rattle.cdb_control.specs.Journal.{Journaled, entry, extended, reply_in, control_state, replay}
+use Rattle.cdb_control.specs.Journal.{Journaled, Begins, entry, extended, reply_in, control_state, replay, replay_from}
 use Rattle.cdb_control.specs.State.{State, first_control_state}
 use Rattle.cdb_control.specs.declared.control.Entry.{Entry}
 use Rattle.cdb_session.specs.Table as table
-use Rattle.cdb_session.specs.Requests.{most_seats}
 use Rattle.cdb_session.specs.declared.request.Request.{Request}
 use Rattle.cdb_session.specs.declared.request.Request.TheVariants.{Call, Seat, Help, Quit, Fault, TooLong}
 use Rattle.cdb_rules.specs.Rules.{Rules}
@@ -21,6 +22,10 @@ use Rattle.cdb_session.specs.Replies.{Along, shown_from, dialogue}
 use Rattle.cdb_session.specs.Dialogues.{full_text, shown_by, shown_from_by}
 use Rattle.cdb_session.specs.Alone.{all_replies_from, whole_part, nine}
 use Rattle.cdb_session.specs.Parts.{all_asked, all_of, HasCommands}
+use Rattle.cdb_session.specs.Since.{since}
+use Rattle.cdb_session.specs.Styles.{Part}
+use Rattle.cdb_journal.specs.OpenedFrom.{opened_from}
+use Rattle.cdb_session.proofs.OwnControl.{all_replies-append}
 
 not_full : (n most : ℕ) → n ≤ most → (n == most) ≡ false → n < most
 not_full n most few other = grind arith
@@ -36,6 +41,10 @@ table_one prompt = shown_by table.response_to table.after_request prompt
 
 abbrev table_shown : List ℕ → table.Session → List Request → List ℕ
 table_shown prompt = shown_from_by table.response_to table.after_request prompt
+
+-- what came to the journal of a control that went on from these entries
+abbrev pub came : (Parts → Rules) → Journaled → List Entry → Part
+came rules c before = since (whole_part rules (opened_from c.setup MAX_SEATS before)) (whole_part rules c)
 
 module _ (greeting prompt : List ℕ) where
   -- what is left to enter of what these lines ask for, and the session with the replies to that
@@ -112,19 +121,30 @@ module _ (greeting prompt : List ℕ) where
   same s (Fault fault ∷ requests) others few = ap (λ text. table_one prompt s (Fault fault) ++ text) (same (table.after_request s (Fault fault)) requests others few)
   same s (TooLong ∷ requests) others few = ap (λ text. table_one prompt s TooLong ++ text) (same (table.after_request s TooLong) requests others few)
 
-  -- the journal has as many of the entries as it has room for
-  as_many : (rules : Parts → Rules) (c : Journaled) (requests : List Request) → length c.journal ≤ MAX_ENTRIES → HasCommands (nine greeting prompt) (whole_part rules c) requests → c.journal ≡ take MAX_ENTRIES (all_of (nine greeting prompt) requests)
-  as_many rules c requests few (inl all) = sym (take_all MAX_ENTRIES c.journal few) ∙ ap (take MAX_ENTRIES) all
-  as_many rules c requests few (inr some) =
-      sym (take_all MAX_ENTRIES c.journal few) ∙ sym (take-append-le MAX_ENTRIES c.journal some.1 (omega (arith, some.0))) ∙ ap (take MAX_ENTRIES) (sym some.2)
+  -- the journal has as many of the entries as it has room for behind those that it went on from
+  as_many : (before its : List Entry) (part : Part) (requests : List Request) → part.calls ≡ its → part.entries ≡ length before + length its → length before + length its ≤ MAX_ENTRIES → HasCommands (nine greeting prompt) part requests
+      → its ≡ take (MAX_ENTRIES - length before) (all_of (nine greeting prompt) requests)
+  as_many before its part requests are many few (inl all) =
+      sym (take_all (MAX_ENTRIES - length before) its (omega (arith, few))) ∙ ap (take (MAX_ENTRIES - length before)) (sym are ∙ all)
+  as_many before its part requests are many few (inr some) =
+      let room : MAX_ENTRIES - length before ≤ length its = omega (arith, some.0, many) in
+      sym (take_all (MAX_ENTRIES - length before) its (omega (arith, few))) ∙ sym (take-append-le (MAX_ENTRIES - length before) its some.1 room)
+      ∙ ap (take (MAX_ENTRIES - length before)) (ap (λ (calls : List Entry). calls ++ some.1) (sym are) ∙ sym some.2)
 
   -- what a session shows by its journal is what the table says of its requests alone
-  pub nothing_lost : (rules : Parts → Rules) (c : Journaled) (requests others : List Request) → c.seats ≡ most_seats → length c.journal ≤ MAX_ENTRIES → HasCommands (nine greeting prompt) (whole_part rules c) (requests ++ others)
-      → dialogue (nine greeting prompt) (whole_part rules c).replies requests ≡ table.dialogue greeting prompt (table.begun rules c.setup) requests
+  pub nothing_lost : (rules : Parts → Rules) (c : Journaled) (before : List Entry) (requests others : List Request) → c.seats ≡ MAX_SEATS → Begins before c.journal → length c.journal ≤ MAX_ENTRIES
+      → HasCommands (nine greeting prompt) (came rules c before) (requests ++ others)
+      → dialogue (nine greeting prompt) (came rules c before).replies requests ≡ table.dialogue greeting prompt (table.begun rules c.setup before) requests
   unfolding replay
-  nothing_lost rules c requests others nine_seats few has =
-      let shows : ℕ × List Entry → List ℕ = λ p. dialogue (nine greeting prompt) (all_replies_from (rules c.setup) (first_control_state c.setup p.0) p.1) requests in
-      let from : (ℕ × List Entry) = (c.seats, c.journal) in
-      let to : (ℕ × List Entry) = (most_seats, take MAX_ENTRIES (all_of (nine greeting prompt) (requests ++ others))) in
-      let is : from ≡ to = λ i. (nine_seats i, as_many rules c (requests ++ others) few has i) in
-      ap shows is ∙ ap (λ text. (greeting ++ prompt) ++ text) (same (table.begun rules c.setup) requests others (omega arith))
+  nothing_lost rules c before requests others seats (its, is) few has =
+      let t = first_control_state c.setup MAX_SEATS in
+      let of = rules c.setup in
+      let front = all_replies_from of t before in
+      let many : length c.journal ≡ length before + length its = ap length is ∙ length-append before its in
+      let calls : drop (length before) c.journal ≡ its = ap (drop (length before)) is ∙ drop-append_seam before its in
+      let shown : (came rules c before).replies ≡ all_replies_from of (replay_from of t before) its =
+      (λ i. drop (length front) (all_replies_from of (first_control_state c.setup (seats i)) (is i)))
+      ∙ ap (drop (length front)) (all_replies-append of t before its) ∙ drop-append_seam front (all_replies_from of (replay_from of t before) its) in
+      let all = as_many before its (came rules c before) (requests ++ others) calls many (omega (arith, few, many)) has in
+      ap (λ (replies : List ToldReply). dialogue (nine greeting prompt) replies requests) (shown ∙ ap (all_replies_from of (replay_from of t before)) all)
+      ∙ ap (λ text. (greeting ++ prompt) ++ text) (same (table.begun rules c.setup before) requests others (omega (arith, few, many)))

@@ -3,7 +3,7 @@ use Rattle.std.specs.Prelude.{◌≡◌, ◌≤◌, ℕ, true, List, [], ◌∷�
 use Rattle.cdb_base.specs.Limits.{MAX_ENTRIES}
 use Rattle.cdb_commands.specs.ToldReply.{ToldReply}
 use Rattle.cdb_control.specs.Commands.{reply_of, obey}
-use Rattle.cdb_control.specs.Journal.{Journaled}
+use Rattle.cdb_control.specs.Journal.{Journaled, Begins}
 use Rattle.cdb_control.specs.State.{State, first_control_state}
 use Rattle.cdb_control.specs.declared.control.Entry.{Entry}
 use Rattle.cdb_rules.specs.Rules.{Rules}
@@ -29,9 +29,12 @@ abbrev pub all_seats : Journaled → Seats
 all_seats c = record { lowest = 1; highest = c.seats }
 
 -- the same control, later, whose journal has room for what it holds
-abbrev pub IsLaterControl : Journaled → Journaled → Type 0
-IsLaterControl old new = (new.setup ≡ old.setup) × (new.seats ≡ old.seats) × (length new.journal ≤ MAX_ENTRIES)
+pub record IsLaterControl (old new : Journaled) : Type 0 where
+  pub setup : new.setup ≡ old.setup
+  pub seats : new.seats ≡ old.seats
+  pub begins : Begins old.journal new.journal
+  pub few : length new.journal ≤ MAX_ENTRIES
 
--- the style of a session with nine seats
+-- the style of a session whose lines choose one of nine seats
 abbrev pub nine : List ℕ → List ℕ → StyleView
 nine greeting prompt = record { greeting = greeting; prompt = prompt; first = 1; chooses = true }

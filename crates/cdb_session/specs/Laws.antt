@@ -1,9 +1,10 @@
 -- The journal of a session, and its lines.
-use Rattle.std.specs.Prelude.{◌≡◌, ◌⊎◌, true, ℕ, List, take}
+use Rattle.std.specs.Prelude.{◌≡◌, ◌⊎◌, ◌≤◌, true, ℕ, List, ◌++◌, length, take}
 use Rattle.cdb_base.specs.Limits.{MAX_ENTRIES}
 use Rattle.cdb_rules.specs.Rules.{Rules}
 use Rattle.cdb_setup.specs.Parts.{Parts}
 use Rattle.cdb_commands.specs.declared.command.Command.{Command}
+use Rattle.cdb_control.specs.declared.control.Entry.{Entry}
 use Rattle.cdb_text.specs.Grammar.{IsLineOf}
 use Rattle.cdb_session.specs.Parts.{all_asked}
 use Rattle.cdb_session.specs.Requests.{IsOwn}
@@ -11,11 +12,12 @@ use Rattle.cdb_session.specs.Table.{begun, session_after}
 use Rattle.cdb_session.specs.Typed.{line_meant}
 use Rattle.cdb_session.specs.declared.request.Request.{Request}
 
--- the journal has the commands, in order and each once, as many as it has room for
+-- behind the entries that the session goes on from the journal has the commands, in order and each once, as many as it has
+-- room for
 abbrev pub JournalHasTheCommands : Type 0
 JournalHasTheCommands =
-    (rules : Parts → Rules) (setup : Parts) (requests : List Request)
-    → (session_after (begun rules setup) requests).control.journal ≡ take MAX_ENTRIES (all_asked true 1 requests)
+    (rules : Parts → Rules) (setup : Parts) (entries : List Entry) (requests : List Request) → length entries ≤ MAX_ENTRIES
+    → (session_after (begun rules setup entries) requests).control.journal ≡ take MAX_ENTRIES (entries ++ all_asked true 1 requests)
 
 -- a line of a command, and each that a session takes beside commands, stands for itself
 abbrev pub ExactLinesStand : Type 0

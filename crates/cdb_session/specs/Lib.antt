@@ -12,6 +12,7 @@ pub mod Parts
 pub mod Replies
 pub mod Table
 pub mod Sessions
+pub mod Since
 pub mod Served
 pub mod Debugs
 pub mod Laws

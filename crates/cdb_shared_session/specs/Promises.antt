@@ -1,10 +1,11 @@
 -- What the thread of a seat promises, and what it hands back.
-use Rattle.std.specs.Prelude.{◌≡◌, ℕ, ◌-◌, ◌<◌, List, [], length, slice_index_or, Result, Ok, Err, Vec, vec_len, Option, Some, None, option_map}
+use Rattle.std.specs.Prelude.{◌≡◌, ℕ, ◌-◌, ◌<◌, List, length, slice_index_or, Result, Ok, Err, Vec, vec_len, Option, Some, None, option_map}
 use Rattle.std.specs.Global.{Global}
 use Rattle.std.specs.declared.thread.PromisedHandle.{PromisedHandle}
 use Rattle.atomic_table.specs.Seated.{TableId}
-use Rattle.cdb_session.specs.Moves.{Known, Move, Makes}
-use Rattle.cdb_session.specs.Served.{IsSession}
+use Rattle.cdb_session.specs.Moves.{Known}
+use Rattle.cdb_session.specs.Served.{HoldsSession}
+use Rattle.cdb_session.specs.Since.{since}
 use Rattle.cdb_session.specs.Styles.{StyleView}
 use Rattle.cdb_streams.specs.Faults.{of_reading}
 use Rattle.cdb_streams.specs.declared.fault.PlayFault.{PlayFault}
@@ -20,35 +21,33 @@ use Rattle.cdb_shared_session.specs.declared.seat.Welcome.{Welcome}
 use Rattle.cdb_shared_session.specs.declared.seat.SeatResult.{SeatResult}
 use Rattle.cdb_shared_session.specs.declared.seat.SeatPromise.{SeatPromise}
 
--- a seat that has seen nothing yet, and what it is welcomed with
+-- a seat before its session, and what it is welcomed with
 pub record IsUnused (shared : TableId) (welcome : Welcome) (seat : SeatView) : Type 0 where
   pub rests : RestsAt shared seat
-  pub new : seat.seen ≡ []
   pub greeting : welcome.greeting.now ≡ greeting_text seat.setup
   pub seats : welcome.seats ≡ seat.seats
 
--- the session of a seat in this style, by what the seat has seen at its end
-abbrev pub RunsSeat : {A : Type 0} → (Parts → Rules) → StyleView → SeatView → Result A PlayFault → Known → Known
+-- the session of a seat in this style, by what the seat has seen before it and at its end
+abbrev pub RunsSeat : {A : Type 0} → (Parts → Rules) → StyleView → SeatView → SeatView → Result A PlayFault → Known → Known
     → Type 0
-RunsSeat rules style seat returned old new =
-    (made : List Move) × Makes old new made × IsSession style (part_seen rules seat) returned made
+RunsSeat rules style before seat = HoldsSession style (since (part_seen rules before) (part_seen rules seat))
 
--- what the thread of the seat of this number has done, by the seat that it hands back and by what the streams were at the
--- end, if they could be opened
-abbrev pub HasServed : (Parts → Rules) → (Result SeatSeen ReadFault → Type 0) → ℕ → SeatView → Option Known
+-- what the thread of a seat has done, by the seat that it hands back and by what the streams were at the end, if they could be
+-- opened
+abbrev pub HasServed : (Parts → Rules) → (Result SeatSeen ReadFault → Type 0) → SeatView → SeatView → Option Known
     → Result (Unit {0}) PlayFault → Type 0
-HasServed rules Opens number seat (Some ended) outcome =
+HasServed rules Opens before seat (Some ended) outcome =
     (opened : SeatSeen) × Opens (Ok opened)
-    × RunsSeat rules (seat_style opened.prompt seat.setup seat.seats number) seat outcome opened.console ended
-HasServed rules Opens number seat None outcome =
-    (fault : ReadFault) × Opens (Err fault) × (outcome ≡ Err (of_reading fault)) × (seat.seen ≡ [])
+    × RunsSeat rules (seat_style opened.prompt seat.setup seat.seats before.number) before seat outcome opened.console ended
+HasServed rules Opens before seat None outcome =
+    (fault : ReadFault) × Opens (Err fault) × (outcome ≡ Err (of_reading fault)) × (seat.seen ≡ before.seen)
 
 -- what the seat's thread hands back, the seat and how its session ended, says what the seat has done with its opener
 pub record HasRun {P T : Type 0} (rules : Parts → Rules) (known : T → Known)
     (opens : P → Result SeatSeen ReadFault → Type 0) (before : SeatView) (opener : P) (seat : SeatView)
     (finished : Finished T) : Type 0 where
   pub later : IsLater before seat
-  pub served : HasServed rules (opens opener) before.number seat (option_map known finished.console) finished.outcome
+  pub served : HasServed rules (opens opener) before seat (option_map known finished.console) finished.outcome
 
 -- a promise of this seat and this opener
 pub record IsSeatPromise {R P : Type 0} (seat : SeatView) (opener : P) (promise : SeatPromise R P) : Type 0 where

@@ -1,16 +1,17 @@
 //! A session alone, whose journal is kept in a file as it goes.
 
-ghost use Rattle.std.specs.Prelude.{◌≡◌};
-ghost use Rattle.cdb_control.specs.Journal.{opened};
+ghost use Rattle.std.specs.Prelude.{◌≡◌, ◌≤◌, length};
+ghost use Rattle.cdb_base.specs.Limits.{MAX_ENTRIES};
 ghost use Rattle.cdb_session.specs.Greetings.{greeting_text};
 ghost use Rattle.cdb_session.specs.Requests.{most_seats};
 ghost use Rattle.cdb_shared_session.specs.KeptAlone.{KeepsOn, HoldsFrom, DebugsKept};
 
 use crate::keeping::{Kept, keep_rest};
 use crate::reports::write_journal;
+use cdb_base::limits::MAX_SEATS;
 use cdb_control::{CallFault, Command, Control, Reply};
 use cdb_rules::Runs;
-use cdb_session::{Caller, Console, Session, Style, begin, greeting_at, run};
+use cdb_session::{Caller, Console, Style, begin, greeting_at, run};
 use cdb_streams::{Failed, OutputFault, PlayFault, Sink};
 use std::alloc::Global;
 use std::marker::Model;
@@ -69,7 +70,7 @@ impl<R: Runs, J: Sink + Drop> Caller for KeptControl<R, J> {
     }
 }
 
-/// A session over a control in which nothing has happened, from its first line to its last.
+/// A session over a control, from its first line to its last.
 fn hold_kept<R: Runs, T: Console, J: Sink + Drop>(
     alloc: Global,
     prompt: &[u8],
@@ -78,9 +79,10 @@ fn hold_kept<R: Runs, T: Console, J: Sink + Drop>(
     console: &mut T,
     file: J,
 ) -> (Result<(), PlayFault>, Kept<J>)
-    requires begun { control ≡ opened control.setup most_seats }
+    requires seats { most_seats ≤ control.seats }
+    requires few { length control.journal ≤ MAX_ENTRIES }
     requires greeting { greeting.now ≡ greeting_text control.setup }
-    ensures { HoldsFrom J.stream R.rules prompt.now control.setup (T.known console.old) (T.known console.new) file result }
+    ensures { HoldsFrom J.stream R.rules prompt.now control (T.known console.old) (T.known console.new) file result }
 {
     let style = Style {
         greeting: greeting_at(greeting, prompt),
@@ -94,9 +96,7 @@ fn hold_kept<R: Runs, T: Console, J: Sink + Drop>(
         file,
         count: Ok(0),
     };
-    let mut session = Session::new(caller, &style);
-    let outcome = run(alloc, &style, &mut session, console);
-    let Session { caller, .. } = session;
+    let (caller, outcome) = run(alloc, &style, caller, console);
     let KeptControl {
         control,
         file,
@@ -108,7 +108,8 @@ fn hold_kept<R: Runs, T: Console, J: Sink + Drop>(
 }
 
 /// A session on a run of the setup as `debug` holds it, and beside it the journal in a file, in which nothing is: once a
-/// command is carried out the file has its entry, a line with the seat and the command, before the response is written.
+/// command is carried out the file has its entry, a line with the seat and the command, before the response is written; the
+/// entries that the session goes on from stand before all others.
 /// Where the file can't be written, or memory is out, the session goes on; what the file lacks then is added at the end.
 /// Returned are how the session ended, as of `debug`, and the file with how the journal was kept.
 ///
@@ -120,13 +121,15 @@ fn hold_kept<R: Runs, T: Console, J: Sink + Drop>(
 pub fn debug_kept<R: Runs, T: Console, J: Sink + Drop>(
     alloc: Global,
     setup: &[u8],
+    from: &[u8],
     prompt: &[u8],
     console: &mut T,
     file: J,
 ) -> (Result<(), PlayFault>, Kept<J>)
-    ensures { DebugsKept J.stream R.rules prompt.now setup.now (T.known console.old) (T.known console.new) file result }
+    ensures { DebugsKept J.stream R.rules prompt.now setup.now from.now
+        (T.known console.old) (T.known console.new) file result }
 {
-    match begin::<R>(alloc, setup) {
+    match begin::<R>(alloc, setup, from, MAX_SEATS) {
         Ok((control, greeting)) => {
             hold_kept::<R, T, J>(alloc, prompt, control, greeting.as_slice(), console, file)
         }

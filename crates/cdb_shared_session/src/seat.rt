@@ -1,6 +1,6 @@
 //! What one thread does with its seat.
 
-ghost use Rattle.std.specs.Prelude.{◌≡◌, [], false};
+ghost use Rattle.std.specs.Prelude.{◌≡◌, false};
 ghost use Rattle.cdb_shared.specs.Seats.{IsLater, RestsAt};
 ghost use Rattle.cdb_shared_session.specs.Promises.{IsUnused, RunsSeat, HasRun};
 ghost use Rattle.cdb_shared_session.specs.SeatParts.{is_numbered};
@@ -8,7 +8,7 @@ ghost use Rattle.cdb_shared_session.specs.SeatParts.{is_numbered};
 use crate::endpoint::{Endpoint, Finished, Opener};
 use cdb_control::{CallFault, Command, Reply};
 use cdb_rules::Runs;
-use cdb_session::{Caller, Console, Session, Style, greeting_at, run};
+use cdb_session::{Caller, Console, Style, greeting_at, run};
 use cdb_shared::{Seat, Shared};
 use cdb_streams::PlayFault;
 use std::alloc::Global;
@@ -87,15 +87,12 @@ fn run_styled<R: Runs, T: Console, Rt: Wait>(
     console: &mut T,
 ) -> (Seat<R>, Result<(), PlayFault>)
     requires rests { RestsAt shared.now seat }
-    requires new { seat.seen ≡ [] }
     requires first { style.now.first ≡ seat.number }
     requires chooses { style.now.chooses ≡ false }
     ensures later { IsLater seat result.0 }
-    ensures session { RunsSeat R.rules style.now result.0 result.1 (T.known console.old) (T.known console.new) }
+    ensures session { RunsSeat R.rules style.now seat result.0 result.1 (T.known console.old) (T.known console.new) }
 {
-    let mut session = Session::new(SeatCaller { shared, rt, seat }, style);
-    let outcome = run(alloc, style, &mut session, console);
-    let Session { caller, .. } = session;
+    let (caller, outcome) = run(alloc, style, SeatCaller { shared, rt, seat }, console);
     let SeatCaller { seat, .. } = caller;
     (seat, outcome)
 }

@@ -1,7 +1,6 @@
 //! Starting and joining the threads of the seats.
 
 ghost use Rattle.std.specs.Prelude.{◌≡◌, ◌≤◌, length, vec_len, vec_capacity, All, IfOk, IfErr, OnErr};
-ghost use Rattle.cdb_control.specs.Journal.{opened};
 ghost use Rattle.cdb_journal.specs.Journals.{IsWritable};
 ghost use Rattle.cdb_session.specs.Greetings.{greeting_text};
 ghost use Rattle.cdb_shared_session.specs.SharedSessions.{AreSessions};
@@ -14,12 +13,9 @@ use crate::endpoint::{Finished, Opener};
 use crate::keeping::{Keeping, Kept, keep, keep_end};
 use crate::seat::{SeatPromise, SeatResult, Welcome, run_seat};
 use cdb_base::NoMemory;
-use cdb_base::limits::MAX_SEATS;
 use cdb_base::start::{RefusedStart, start};
-use cdb_control::{Control, OpenFault};
+use cdb_control::Control;
 use cdb_rules::Runs;
-use cdb_session::greeting_text;
-use cdb_setup::Setup;
 use cdb_shared::{Seat, Shared, Watch};
 use cdb_streams::Sink;
 use std::alloc::Global;
@@ -243,40 +239,21 @@ fn reserve<X: Drop>(alloc: Global, count: usize) -> Result<Vec<X>, SessionsFault
     }
 }
 
-/// A control of the setup in which nothing has happened, shared, with this many seats and a watch.
-fn open_shared<R: Runs, Rt: Wait>(
+/// A control, shared, with a watch.
+fn share<R: Runs, Rt: Wait>(
     rt: &Rt,
     alloc: Global,
-    setup: Setup,
-    count: u8,
+    control: Control<R>,
 ) -> Result<(Shared<R>, Vec<Seat<R>>, Watch<R>), SessionsFault>
-    requires some { 1 ≤ count }
-    requires fits { count ≤ MAX_SEATS }
-    ensures seats { IfOk result
-        (λ r. r.1.items ≡ fresh_seats r.0 (opened setup count) 1 count) }
-    ensures watch { IfOk result (λ r. r.2 ≡ fresh_seat r.0 (opened setup count) 0) }
+    ensures seats { IfOk result (λ r. r.1.items ≡ fresh_seats r.0 control 1 control.seats) }
+    ensures watch { IfOk result (λ r. r.2 ≡ fresh_seat r.0 control 0) }
 {
-    let control = match Control::open(alloc, setup, count) {
-        Ok(control) => control,
-        Err(OpenFault::NoMemory(refused)) => return Err(SessionsFault::NoMemory(refused)),
-        Err(OpenFault::Seats) => unreachable!(),
-    };
     match Shared::open_watched(rt, alloc, control) {
         Ok(opened) => Ok(opened),
         Err((control, refused)) => {
             control.close();
             Err(SessionsFault::NoMemory(refused))
         }
-    }
-}
-
-/// The setup in words.
-fn greet(alloc: Global, setup: &Setup) -> Result<Vec<u8>, SessionsFault>
-    ensures { IfOk result (λ text. text.items ≡ greeting_text setup.now) }
-{
-    match greeting_text(alloc, setup) {
-        Ok(text) => Ok(text),
-        Err(refused) => Err(SessionsFault::NoMemory(refused)),
     }
 }
 
@@ -287,11 +264,11 @@ pub type Ended<R, P, J> = (
     Option<Kept<J>>,
 );
 
-/// Sessions of as many seats as there are openers, from 1 to 64, over one run of the setup, each in a thread of its
-/// own, until all have ended; then the control, whose journal has the commands of all, and what came of each seat, in the
-/// order of the openers, of which the k-th is that of seat k. Each thread opens its own seat, so a seat begins when its
+/// Sessions of as many seats as there are openers, from 1 to 64, over one control, each in a thread of its
+/// own, until all have ended; then the control, whose journal has the commands of all behind its entries so far, and what came
+/// of each seat, in the order of the openers, of which the k-th is that of seat k. Each thread opens its own seat, so a seat begins when its
 /// streams are open, and holds no other until then. A line has its response as in a session of one seat, but that no
-/// line chooses a seat. A seat with a prompt is greeted with the setup in words, and where there is more than one seat its
+/// line chooses a seat. A seat with a prompt is greeted with this greeting, the setup in words, and where there is more than one seat its
 /// number stands before the prompt. A seat that can't be opened, or whose session ends with a fault, ends alone, and the others go
 /// on. The journal can be written, and a replay of what was written tells each seat what it was told.
 ///
@@ -317,14 +294,17 @@ pub fn debug_seats<
 >(
     rt: &Rt,
     alloc: Global,
-    setup: Setup,
+    control: Control<R>,
+    greeting: &[u8],
     openers: Vec<P>,
     file: Option<J>,
 ) -> Result<Ended<R, P, J>, SessionsFault>
     requires some { 1 ≤ vec_len openers }
-    requires fits { vec_len openers ≤ MAX_SEATS }
+    requires seats { vec_len openers ≡ control.seats }
+    requires writable { IsWritable control }
+    requires greeting { greeting.now ≡ greeting_text control.setup }
     ensures sessions { IfOk result
-        (λ r. AreSessions R.rules P.Seat.known P.opens setup openers.items r.0 r.1.items) }
+        (λ r. AreSessions R.rules P.Seat.known P.opens control openers.items r.0 r.1.items) }
     ensures kept { IfOk result (λ r. HasKept J.stream file r.2 r.0.journal) }
     ensures writable { IfOk result (λ r. IsWritable r.0) }
     ensures headline { IfOk result (λ r. HasHeadline R.rules R.same_state r.0) }
@@ -332,12 +312,11 @@ pub fn debug_seats<
     let count = openers.len() as u8;
     let done = reserve(alloc, openers.len())?;
     let all = reserve(alloc, openers.len())?;
-    let greeting = greet(alloc, &setup)?;
     let welcome = Welcome {
-        greeting: greeting.as_slice(),
+        greeting,
         seats: count,
     };
-    let (shared, seats, watch) = open_shared::<R, Rt>(rt, alloc, setup, count)?;
+    let (shared, seats, watch) = share(rt, alloc, control)?;
     let going = AtomicU64::new(u64::from(count));
     let keeping = Keeping {
         watch,
