@@ -57,7 +57,7 @@ found_is p (y ∷ xs) x e =
     ]
 
 -- a word that is read as a topic is its word
-topic_says : (word : List ℕ) (t : Topic) → topic_of word ≡ Some t → word ≡ topic_word t
+pub topic_says : (word : List ℕ) (t : Topic) → topic_of word ≡ Some t → word ≡ topic_word t
 unfolding topic_of
 topic_says word t e = (bytes_eq-Decides word (topic_word t)).0 (found_is (λ its. bytes_eq word (topic_word its)) topics t e)
 

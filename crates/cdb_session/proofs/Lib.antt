@@ -9,6 +9,7 @@ pub mod Names
 pub mod Dues
 pub mod TypedWords
 pub mod ExactLines
+pub mod SoundLines
 pub mod AskedLines
 pub mod OneRequest
 pub mod Emptiness

@@ -137,7 +137,7 @@ dues_of (word ∷ words) = Command ∷ behind_first (topic_of word) words
 
 -- ---- what is amiss in a line
 
--- nothing; or the line ends where this is due; or this word stands where something else is due
+-- nothing is; or the line ends where this is due; or where this is due, another word stands
 pub data Amiss : Type 0 where
   nothing : Amiss
   ends : Due → Amiss

@@ -6,6 +6,7 @@ use Rattle.cdb_setup.specs.Parts.{Parts}
 use Rattle.cdb_commands.specs.declared.command.Command.{Command}
 use Rattle.cdb_control.specs.declared.control.Entry.{Entry}
 use Rattle.cdb_text.specs.Grammar.{IsLineOf}
+use Rattle.cdb_session.specs.Due.{amiss_in, nothing}
 use Rattle.cdb_session.specs.Parts.{all_asked}
 use Rattle.cdb_session.specs.Requests.{IsOwn}
 use Rattle.cdb_session.specs.Table.{begun, session_after}
@@ -23,3 +24,8 @@ JournalHasTheCommands =
 abbrev pub ExactLinesStand : Type 0
 ExactLinesStand =
     (line : List ℕ) → (IsOwn line ⊎ ((command : Command) × IsLineOf command line)) → line_meant line ≡ line
+
+-- a line in which nothing is amiss is that of a command, or one that a session takes beside commands
+abbrev pub SoundLinesAreTaken : Type 0
+SoundLinesAreTaken =
+    (line : List ℕ) → amiss_in true line ≡ nothing → IsOwn line ⊎ ((command : Command) × IsLineOf command line)
