@@ -3,3 +3,4 @@ pub mod Lines
 pub mod Again
 pub mod Read
 pub mod Telling
+pub mod CarriedOut

@@ -2,4 +2,5 @@
 pub mod Journals
 pub mod Told
 pub mod Replays
+pub mod OpenedFrom
 pub mod Laws

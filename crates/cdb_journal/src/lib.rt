@@ -8,10 +8,12 @@
 #![tactic(auto)]
 
 pub mod laws;
+mod opening;
 mod reading;
 mod replays;
 mod text;
 
+pub use opening::open_from;
 pub use reading::{MOST_JOURNAL, entries_of, read_entries};
 pub use replays::replay;
 pub use text::journal_text;

@@ -19,7 +19,7 @@ use Rattle.cdb_session.proofs.Along.{all_asked-more}
 use Rattle.cdb_session.proofs.ToldOn.{AsManyLater, all_told_on}
 
 GoesOn-refl : (part : Part) → GoesOn part part
-GoesOn-refl part = record { longer = omega arith; calls_in = λ first few. refl; left_by = λ first few. refl }
+GoesOn-refl part = record { before = refl; longer = omega arith; calls_in = λ first few. refl; left_by = λ first few. refl }
 
 pub MakesNone-refl : (part : Part) → MakesNone part part
 MakesNone-refl part = record { goes_on = GoesOn-refl part; calls = refl; replies = refl; full = λ full. full }
@@ -170,7 +170,7 @@ module _ (Answers : RunView → Inquiry → List ℕ → Type 0) (style : StyleV
     all_among old new same (inr some) = omega (arith, ap length same.calls, ap length some.2, length-append old.calls some.1, as_many_asked style.chooses style.first exchanges)
 
     told_now : (old new : Part) → MakesNone old new → (inquiry : Inquiry) (answer : List ℕ) → AnswersNow Answers new inquiry answer → HasCommands style old exchanges → IsTold Answers new (0 + commands_among exchanges) inquiry answer
-    told_now old new same inquiry answer now has = (new.entries, omega arith, omega (arith, now.all, all_among old new same has), now.answers)
+    told_now old new same inquiry answer now has = (new.entries, now.since, omega arith, omega (arith, now.all, all_among old new same has), now.answers)
 
     told_same : (old new : Part) → MakesNone old new → HasExchanges Answers style old exchanges → AreTold (IsTold Answers new) 0 exchanges
     told_same old new same has = all_told_on Answers old new same.goes_on 0 exchanges (λ n low. ap (λ (calls : List Entry). min n (length calls)) same.calls) has.1

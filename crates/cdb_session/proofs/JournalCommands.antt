@@ -45,4 +45,4 @@ grown s ((Fault fault, answer) ∷ exchanges) few = grown (after_line s (Fault f
 grown s ((TooLong, answer) ∷ exchanges) few = grown (after_line s (TooLong, answer)) exchanges few
 
 pub journal_has_the_commands : JournalHasTheCommands
-journal_has_the_commands rules setup exchanges = grown (begun rules setup) exchanges (omega arith)
+journal_has_the_commands rules setup entries exchanges few = grown (begun rules setup entries) exchanges few

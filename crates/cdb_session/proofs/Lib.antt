@@ -7,8 +7,10 @@ pub mod HelpLines
 pub mod InquiryLines
 pub mod FullWords
 pub mod Names
+pub mod Dues
 pub mod TypedWords
 pub mod ExactLines
+pub mod SoundLines
 pub mod AskedLines
 pub mod OneRequest
 pub mod Emptiness
@@ -21,6 +23,7 @@ pub mod LineResponse
 pub mod NextState
 pub mod FedBytes
 pub mod WholeSession
+pub mod CameSince
 pub mod OwnControl
 pub mod LeftRun
 pub mod SameAsTable

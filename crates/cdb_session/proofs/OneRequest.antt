@@ -76,14 +76,16 @@ module _ (line : List ℕ) where
       only_call command is (Seat seat) asks = absurd (other_line (inr (inr (inl (seat, asks.1.0, asks.1.1)))))
       only_call command is (Help about) asks = absurd (other_line (inl (about, asks.1)))
       only_call command is Quit asks = absurd (other_line (inr (inl asks.1)))
-      only_call command is (Fault fault) asks = absurd (let e = fault_is fault asks.1.1 in cc)
+      only_call command is (Fault faulty) asks = absurd (let e = fault_is faulty.fault asks.1.1 in cc)
       only_call command is TooLong asks = absurd (omega (arith, few, asks))
 
-      pub only_fault : (fault : LineFault) → read ≡ Err fault → (other : Request) → AsksFor other line → other ≡ Fault fault
+      pub only_fault : (fault : LineFault) → read ≡ Err fault → (other : Request) → AsksFor other line → other ≡ Fault (record { line = line; fault = fault })
       only_fault fault is (Call command) asks = absurd (let e = command_is command asks.1.1 in cc)
       only_fault fault is (Ask inquiry) asks = absurd (other_line (inr (inr (inr (inquiry, asks.1)))))
       only_fault fault is (Seat seat) asks = absurd (other_line (inr (inr (inl (seat, asks.1.0, asks.1.1)))))
       only_fault fault is (Help about) asks = absurd (other_line (inl (about, asks.1)))
       only_fault fault is Quit asks = absurd (other_line (inr (inl asks.1)))
-      only_fault fault is (Fault another) asks = let e = fault_is another asks.1.1 in cc
+      only_fault fault is (Fault another) asks =
+          let same : another.fault ≡ fault = (let e = fault_is another.fault asks.1.1 in cc) in
+          ap (λ (line : List ℕ). Fault (record { line = line; fault = another.fault })) asks.1.2 ∙ ap (λ (fault : LineFault). Fault (record { line = line; fault = fault })) same
       only_fault fault is TooLong asks = absurd (omega (arith, few, asks))

@@ -12,6 +12,7 @@ use Rattle.cdb_control.specs.State.{State, first_control_state}
 use Rattle.cdb_control.specs.declared.control.CallFault.{CallFault}
 use Rattle.cdb_control.specs.declared.control.CallFault.TheVariants.{JournalFull, NoMemory}
 use Rattle.cdb_control.specs.declared.control.Entry.{Entry}
+use Rattle.cdb_control.proofs.Own.{Begins-refl, Begins-trans}
 use Rattle.cdb_rules.specs.Rules.{Rules}
 use Rattle.cdb_setup.specs.Parts.{Parts}
 use Rattle.cdb_session.specs.Alone.{all_replies_from, whole_part, IsLaterControl}
@@ -21,9 +22,9 @@ use Rattle.cdb_session.specs.declared.inquiry.Inquiry.{Inquiry}
 use Rattle.cdb_rules.specs.RunView.{RunView}
 use Rattle.cdb_session.proofs.GotReplies.{MakesNone-refl}
 
-all_replies-push : (rules : Rules) (t : State) (es : List Entry) (e : Entry) → all_replies_from rules t (es ++ e ∷ []) ≡ all_replies_from rules t es ++ reply_of rules (replay_from rules t es) e.seat e.command ∷ []
-all_replies-push rules t [] e = refl
-all_replies-push rules t (first ∷ es) e = ap (λ (more : List ToldReply). reply_of rules t first.seat first.command ∷ more) (all_replies-push rules (obey rules t first.seat first.command) es e)
+pub all_replies-append : (rules : Rules) (t : State) (es fs : List Entry) → all_replies_from rules t (es ++ fs) ≡ all_replies_from rules t es ++ all_replies_from rules (replay_from rules t es) fs
+all_replies-append rules t [] fs = refl
+all_replies-append rules t (e ∷ es) fs = ap (λ (more : List ToldReply). reply_of rules t e.seat e.command ∷ more) (all_replies-append rules (obey rules t e.seat e.command) es fs)
 
 none_made : (rules : Parts → Rules) (old new : Journaled) → new ≡ old → MakesNone (whole_part rules old) (whole_part rules new)
 none_made rules old new same = subst (λ (c : Journaled). MakesNone (whole_part rules old) (whole_part rules c)) (sym same) (MakesNone-refl (whole_part rules old))
@@ -32,6 +33,7 @@ none_made rules old new same = subst (λ (c : Journaled). MakesNone (whole_part 
 goes_on : (rules : Parts → Rules) (c : Journaled) (e : Entry) (rooms : List ℕ) → let more : Journaled = record c { journal = c.journal ++ e ∷ []; rooms = rooms } in GoesOn (whole_part rules c) (whole_part rules more)
 goes_on rules c e rooms =
     record {
+      before = refl;
       longer = omega (arith, length-append c.journal (e ∷ []));
       calls_in = λ first few. refl;
       left_by = λ first few. ap (run_left rules c.setup c.seats) (take-append-le first c.journal (e ∷ []) few);
@@ -45,7 +47,7 @@ calls_made rules old new seat command (Ok reply) is made same full =
     let one : IsCalled (whole_part rules old) (entry seat command) (told reply) (whole_part rules more) = record {
       goes_on = goes_on rules old (entry seat command) more.rooms;
       calls = refl;
-      replies = all_replies-push (rules old.setup) (first_control_state old.setup old.seats) old.journal (entry seat command) ∙ ap (λ (last : ToldReply). all_replies_from (rules old.setup) (first_control_state old.setup old.seats) old.journal ++ last ∷ []) (sym is);
+      replies = all_replies-append (rules old.setup) (first_control_state old.setup old.seats) old.journal (entry seat command ∷ []) ∙ ap (λ (last : ToldReply). all_replies_from (rules old.setup) (first_control_state old.setup old.seats) old.journal ++ last ∷ []) (sym is);
       room = λ none. (let e : Ok reply ≡ Err JournalFull = full.1 none in cc);
     } in
     subst (λ (c : Journaled). IsCalled (whole_part rules old) (entry seat command) (told reply) (whole_part rules c)) (sym made) one
@@ -53,5 +55,12 @@ calls_made rules old new seat command (Err JournalFull) is made same full = (non
 calls_made rules old new seat command (Err (NoMemory refused)) is made same full = none_made rules old new same
 
 pub later_control : (first now : Journaled) → length first.journal ≤ MAX_ENTRIES → Onward IsLaterControl first now → IsLaterControl first now
-later_control first _ few stays = (refl, refl, few)
-later_control first now few (goes middle _ before later) = let b = later_control first middle few before in (later.0 ∙ b.0, later.1 ∙ b.1, later.2)
+later_control first _ few stays = record { setup = refl; seats = refl; begins = Begins-refl first.journal; few = few }
+later_control first now few (goes middle _ before later) =
+    let b = later_control first middle few before in
+    record {
+      setup = later.setup ∙ b.setup;
+      seats = later.seats ∙ b.seats;
+      begins = Begins-trans first.journal middle.journal now.journal b.begins later.begins;
+      few = later.few;
+    }

@@ -1,19 +1,19 @@
 -- With a control of its own, a session shows what the table of exchanges says.
-use Rattle.std.proofs.Common.{◌≡◌, inl, inr, ℕ, suc, ◌+◌, ◌-◌, ◌<◌, ◌≤◌, ◌==◌, Bool, true, false, List, [], ◌∷◌, ◌++◌, length, take, refl, sym, ap, subst, ◌∙◌, append_assoc, arith, length-append}
+use Rattle.std.proofs.Common.{◌≡◌, inl, inr, ℕ, suc, ◌+◌, ◌-◌, ◌<◌, ◌≤◌, ◌==◌, Bool, true, false, List, [], ◌∷◌, ◌++◌, length, take, drop, min, refl, sym, ap, subst, ◌∙◌, append_assoc, arith, length-append}
 use Rattle.std.specs.Prelude.{if◌then◌else◌}
 use Rattle.std.proofs.lemmas.Bool.Decides.{Decides-eqb}
 use Rattle.std.proofs.lemmas.Grind.{fold-append}
+use Rattle.std.proofs.Math.Seq.{drop-append_seam, take-append_seam, take-append-add}
 use Rattle.std.proofs.lemmas.Bool.{cases_lt}
-use Rattle.std.proofs.lemmas.List.{length-take, take_all, take_min, take-append-le}
-use Rattle.std.proofs.Math.Seq.{take-append_seam, take-append-add}
-use Rattle.cdb_base.specs.Limits.{MAX_ENTRIES}
+use Rattle.std.proofs.lemmas.List.{length-drop, length-take, take_all, take_min, take-append-le}
+use Rattle.cdb_base.specs.Limits.{MAX_ENTRIES, MAX_SEATS}
+use Rattle.cdb_commands.specs.ToldReply.{ToldReply}
 use Rattle.cdb_commands.specs.declared.command.Command.{Command}
 use Rattle.cdb_control.specs.Commands.{obey}
-use Rattle.cdb_control.specs.Journal.{Journaled, entry, extended, reply_in, control_state, replay}
+use Rattle.cdb_control.specs.Journal.{Journaled, Begins, entry, extended, reply_in, control_state, replay, replay_from}
 use Rattle.cdb_control.specs.State.{State, first_control_state}
 use Rattle.cdb_control.specs.declared.control.Entry.{Entry}
 use Rattle.cdb_session.specs.Table as table
-use Rattle.cdb_session.specs.Requests.{most_seats}
 use Rattle.cdb_session.specs.Exchanges.{Exchange}
 use Rattle.cdb_session.specs.declared.request.Request.TheVariants.{Call, Ask, Seat, Help, Quit, Fault, TooLong}
 use Rattle.cdb_rules.specs.RunView.{RunView}
@@ -29,6 +29,10 @@ use Rattle.cdb_session.specs.Parts.{all_asked, all_of, asked_of, seat_next, HasC
 use Rattle.cdb_session.specs.declared.request.Request.{Request}
 use Rattle.cdb_session.proofs.HeldBytes.{take-take_append}
 use Rattle.cdb_session.proofs.JournalCommands.{grown}
+use Rattle.cdb_session.specs.Since.{since}
+use Rattle.cdb_session.specs.Styles.{Part}
+use Rattle.cdb_journal.specs.OpenedFrom.{opened_from}
+use Rattle.cdb_session.proofs.OwnControl.{all_replies-append}
 
 not_full : (n most : ℕ) → n ≤ most → (n == most) ≡ false → n < most
 not_full n most few other = grind arith
@@ -44,6 +48,10 @@ table_one prompt = shown_by table.response_to table.after_line prompt
 
 abbrev table_shown : List ℕ → table.Session → List Exchange → List ℕ
 table_shown prompt = shown_from_by table.response_to table.after_line prompt
+
+-- what came to the journal of a control that went on from these entries
+abbrev pub came : (Parts → Rules) → Journaled → List Entry → Part
+came rules c before = since (whole_part rules (opened_from c.setup MAX_SEATS before)) (whole_part rules c)
 
 module _ (Answers : RunView → Inquiry → List ℕ → Type 0) (greeting prompt : List ℕ) where
   -- what is left to enter of what these lines ask for, and the session with the replies to that
@@ -121,22 +129,33 @@ module _ (Answers : RunView → Inquiry → List ℕ → Type 0) (greeting promp
   same s ((Fault fault, answer) ∷ exchanges) others few = ap (λ text. table_one prompt s (Fault fault, answer) ++ text) (same (table.after_line s (Fault fault, answer)) exchanges others few)
   same s ((TooLong, answer) ∷ exchanges) others few = ap (λ text. table_one prompt s (TooLong, answer) ++ text) (same (table.after_line s (TooLong, answer)) exchanges others few)
 
-  -- the journal has as many of the entries as it has room for
-  as_many : (rules : Parts → Rules) (c : Journaled) (exchanges : List Exchange) → length c.journal ≤ MAX_ENTRIES → HasCommands (nine greeting prompt) (whole_part rules c) exchanges → c.journal ≡ take MAX_ENTRIES (all_of (nine greeting prompt) exchanges)
-  as_many rules c exchanges few (inl all) = sym (take_all MAX_ENTRIES c.journal few) ∙ ap (take MAX_ENTRIES) all
-  as_many rules c exchanges few (inr some) =
-      sym (take_all MAX_ENTRIES c.journal few) ∙ sym (take-append-le MAX_ENTRIES c.journal some.1 (omega (arith, some.0))) ∙ ap (take MAX_ENTRIES) (sym some.2)
+  -- the journal has as many of the entries as it has room for behind those that it went on from
+  as_many : (before its : List Entry) (part : Part) (exchanges : List Exchange) → part.calls ≡ its → part.entries ≡ length before + length its → length before + length its ≤ MAX_ENTRIES → HasCommands (nine greeting prompt) part exchanges
+      → its ≡ take (MAX_ENTRIES - length before) (all_of (nine greeting prompt) exchanges)
+  as_many before its part exchanges are many few (inl all) =
+      sym (take_all (MAX_ENTRIES - length before) its (omega (arith, few))) ∙ ap (take (MAX_ENTRIES - length before)) (sym are ∙ all)
+  as_many before its part exchanges are many few (inr some) =
+      let room : MAX_ENTRIES - length before ≤ length its = omega (arith, some.0, many) in
+      sym (take_all (MAX_ENTRIES - length before) its (omega (arith, few))) ∙ sym (take-append-le (MAX_ENTRIES - length before) its some.1 room)
+      ∙ ap (take (MAX_ENTRIES - length before)) (ap (λ (calls : List Entry). calls ++ some.1) (sym are) ∙ sym some.2)
 
   -- what a session shows by its journal is what the table says of its exchanges alone
-  pub nothing_lost : (rules : Parts → Rules) (c : Journaled) (exchanges others : List Exchange) → c.seats ≡ most_seats → length c.journal ≤ MAX_ENTRIES → HasCommands (nine greeting prompt) (whole_part rules c) (exchanges ++ others)
-      → dialogue (nine greeting prompt) (whole_part rules c).replies exchanges ≡ table.dialogue Answers greeting prompt (table.begun rules c.setup) exchanges
+  pub nothing_lost : (rules : Parts → Rules) (c : Journaled) (before : List Entry) (exchanges others : List Exchange) → c.seats ≡ MAX_SEATS → Begins before c.journal → length c.journal ≤ MAX_ENTRIES
+      → HasCommands (nine greeting prompt) (came rules c before) (exchanges ++ others)
+      → dialogue (nine greeting prompt) (came rules c before).replies exchanges ≡ table.dialogue Answers greeting prompt (table.begun rules c.setup before) exchanges
   unfolding replay
-  nothing_lost rules c exchanges others nine_seats few has =
-      let shows : ℕ × List Entry → List ℕ = λ p. dialogue (nine greeting prompt) (all_replies_from (rules c.setup) (first_control_state c.setup p.0) p.1) exchanges in
-      let from : (ℕ × List Entry) = (c.seats, c.journal) in
-      let to : (ℕ × List Entry) = (most_seats, take MAX_ENTRIES (all_of (nine greeting prompt) (exchanges ++ others))) in
-      let is : from ≡ to = λ i. (nine_seats i, as_many rules c (exchanges ++ others) few has i) in
-      ap shows is ∙ ap (λ text. (greeting ++ prompt) ++ text) (same (table.begun rules c.setup) exchanges others (omega arith))
+  nothing_lost rules c before exchanges others seats (its, is) few has =
+      let t = first_control_state c.setup MAX_SEATS in
+      let of = rules c.setup in
+      let front = all_replies_from of t before in
+      let many : length c.journal ≡ length before + length its = ap length is ∙ length-append before its in
+      let calls : drop (length before) c.journal ≡ its = ap (drop (length before)) is ∙ drop-append_seam before its in
+      let shown : (came rules c before).replies ≡ all_replies_from of (replay_from of t before) its =
+      (λ i. drop (length front) (all_replies_from of (first_control_state c.setup (seats i)) (is i)))
+      ∙ ap (drop (length front)) (all_replies-append of t before its) ∙ drop-append_seam front (all_replies_from of (replay_from of t before) its) in
+      let all = as_many before its (came rules c before) (exchanges ++ others) calls many (omega (arith, few, many)) has in
+      ap (λ (replies : List ToldReply). dialogue (nine greeting prompt) replies exchanges) (shown ∙ ap (all_replies_from of (replay_from of t before)) all)
+      ∙ ap (λ text. (greeting ++ prompt) ++ text) (same (table.begun rules c.setup before) exchanges others (omega (arith, few, many)))
 
   -- ---- what the run was asked
 
@@ -166,28 +185,29 @@ module _ (Answers : RunView → Inquiry → List ℕ → Type 0) (greeting promp
             ap (take (length asked)) (all ∙ cut) ∙ take-append_seam asked (take n rest) ∙ sym (take_all MAX_ENTRIES asked few)
       ]
 
-  module _ (rules : Parts → Rules) (c : Journaled) (nine_seats : c.seats ≡ most_seats) where
-    -- the session has come to the first count entries that were asked for
+  module _ (rules : Parts → Rules) (c : Journaled) (before : List Entry) (seats : c.seats ≡ MAX_SEATS) (longer : length before ≤ length c.journal) where
+    -- behind the entries that it goes on from the session has come to the first count that were asked for
     record IsThere (s : table.Session) (asked : List Entry) (exchanges : List Exchange) (count : ℕ) : Type 0 where
       rules_are : s.rules ≡ rules
       setup_is : s.control.setup ≡ c.setup
-      seats_are : s.control.seats ≡ most_seats
+      seats_are : s.control.seats ≡ MAX_SEATS
       few : length s.control.journal ≤ MAX_ENTRIES
       come_to : s.control.journal ≡ take MAX_ENTRIES asked
-      counted : length asked ≡ count
+      counted : length asked ≡ length before + count
       all : c.journal ≡ take MAX_ENTRIES (asked ++ all_asked true s.seat exchanges)
 
     abbrev AreToldOf : ℕ → List Exchange → Type 0
-    AreToldOf count exchanges = AreTold (IsTold Answers (whole_part rules c)) count exchanges
+    AreToldOf count exchanges = AreTold (IsTold Answers (came rules c before)) count exchanges
 
     answered_there : (s : table.Session) (asked : List Entry) (exchanges : List Exchange) (count : ℕ) (inquiry : Inquiry) (text : List ℕ) → IsThere s asked exchanges count
-        → IsTold Answers (whole_part rules c) count inquiry text → Answers (table.run_in s) inquiry text
-    answered_there s asked exchanges count inquiry text at (first, few, is, answers) =
+        → IsTold Answers (came rules c before) count inquiry text → Answers (table.run_in s) inquiry text
+    answered_there s asked exchanges count inquiry text at (first, low, few, is, answers) =
+        let whole : first ≡ min (length before + count) (length c.journal) = omega (arith, low, few, is, longer, length-drop (length before) c.journal) in
         let same : take first c.journal ≡ s.control.journal =
-        ap (λ n. take n c.journal) is ∙ take_min count c.journal ∙ ap (λ n. take n c.journal) (sym at.counted)
+        ap (λ n. take n c.journal) whole ∙ take_min (length before + count) c.journal ∙ ap (λ n. take n c.journal) (sym at.counted)
         ∙ first_entries asked (all_asked true s.seat exchanges) c.journal at.all ∙ sym at.come_to in
         let run : run_left rules c.setup c.seats (take first c.journal) ≡ table.run_in s =
-        λ i. run_left (sym at.rules_are i) (sym at.setup_is i) ((nine_seats ∙ sym at.seats_are) i) (same i) in
+        λ i. run_left (sym at.rules_are i) (sym at.setup_is i) ((seats ∙ sym at.seats_are) i) (same i) in
         subst (λ (r : RunView). Answers r inquiry text) run answers
 
     -- after a command
@@ -247,10 +267,17 @@ module _ (Answers : RunView → Inquiry → List ℕ → Type 0) (greeting promp
     answered_from s asked ((TooLong, answer) ∷ exchanges) others count at told =
         answered_from (table.after_line s (TooLong, answer)) asked exchanges others count (unmoved s asked TooLong answer (exchanges ++ others) count at refl refl) told
 
-  pub all_answered : (rules : Parts → Rules) (c : Journaled) (exchanges others : List Exchange) → c.seats ≡ most_seats → length c.journal ≤ MAX_ENTRIES → HasExchanges Answers (nine greeting prompt) (whole_part rules c) (exchanges ++ others)
-      → table.AreAnswered Answers (table.begun rules c.setup) exchanges
-  all_answered rules c exchanges others nine_seats few has =
-      let all : c.journal ≡ take MAX_ENTRIES (all_of (nine greeting prompt) (exchanges ++ others)) = as_many rules c (exchanges ++ others) few has.0 in
-      answered_from rules c nine_seats (table.begun rules c.setup) [] exchanges others 0
-      (record { rules_are = refl; setup_is = refl; seats_are = refl; few = omega arith; come_to = refl; counted = refl; all = all })
-      (told_first (IsTold Answers (whole_part rules c)) 0 exchanges others has.1)
+  pub all_answered : (rules : Parts → Rules) (c : Journaled) (before : List Entry) (exchanges others : List Exchange) → c.seats ≡ MAX_SEATS → Begins before c.journal → length c.journal ≤ MAX_ENTRIES
+      → HasExchanges Answers (nine greeting prompt) (came rules c before) (exchanges ++ others) → table.AreAnswered Answers (table.begun rules c.setup before) exchanges
+  all_answered rules c before exchanges others seats (its, is) few has =
+      let many : length c.journal ≡ length before + length its = ap length is ∙ length-append before its in
+      let calls : drop (length before) c.journal ≡ its = ap (drop (length before)) is ∙ drop-append_seam before its in
+      let n : ℕ = MAX_ENTRIES - length before in
+      let room : MAX_ENTRIES ≡ length before + n = omega (arith, few, many) in
+      let as = as_many before its (came rules c before) (exchanges ++ others) calls many (omega (arith, few, many)) has.0 in
+      let all : c.journal ≡ take MAX_ENTRIES (before ++ all_of (nine greeting prompt) (exchanges ++ others)) =
+      is ∙ ap (λ (more : List Entry). before ++ more) as ∙ sym (ap (λ m. take m (before ++ all_of (nine greeting prompt) (exchanges ++ others))) room ∙ take-append-add before (all_of (nine greeting prompt) (exchanges ++ others)) n) in
+      let fits_before : length before ≤ MAX_ENTRIES = omega (arith, few, many) in
+      answered_from rules c before seats (omega (arith, many)) (table.begun rules c.setup before) before exchanges others 0
+      (record { rules_are = refl; setup_is = refl; seats_are = refl; few = fits_before; come_to = sym (take_all MAX_ENTRIES before fits_before); counted = omega arith; all = all })
+      (told_first (IsTold Answers (came rules c before)) 0 exchanges others has.1)

@@ -14,9 +14,9 @@ AsManyLater old new most = (n : ℕ) → n ≤ most → min n (length new.calls)
 module _ (Answers : RunView → Inquiry → List ℕ → Type 0) where
   -- what was told of the journal so far is told of it later
   told_on : (old new : Part) → GoesOn old new → (count : ℕ) (inquiry : Inquiry) (text : List ℕ) → min count (length new.calls) ≡ min count (length old.calls) → IsTold Answers old count inquiry text → IsTold Answers new count inquiry text
-  told_on old new on count inquiry text many (first, few, which, answers) =
+  told_on old new on count inquiry text many (first, low, few, which, answers) =
       let run = on.left_by first few in
-      (first, omega (arith, few, on.longer), on.calls_in first few ∙ which ∙ sym many, rw run answers)
+      (first, omega (arith, low, on.before), omega (arith, few, on.longer), on.calls_in first few ∙ which ∙ sym many, rw run answers)
 
   pub all_told_on : (old new : Part) → GoesOn old new → (count : ℕ) (its : List Exchange) → AsManyLater old new (count + commands_among its) → AreTold (IsTold Answers old) count its → AreTold (IsTold Answers new) count its
   all_told_on old new on count [] many told = tt

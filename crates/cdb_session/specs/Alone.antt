@@ -3,7 +3,7 @@ use Rattle.std.specs.Prelude.{◌≡◌, ◌≤◌, ℕ, true, List, [], ◌∷�
 use Rattle.cdb_base.specs.Limits.{MAX_ENTRIES}
 use Rattle.cdb_commands.specs.ToldReply.{ToldReply}
 use Rattle.cdb_control.specs.Commands.{reply_of, obey}
-use Rattle.cdb_control.specs.Journal.{Journaled}
+use Rattle.cdb_control.specs.Journal.{Journaled, Begins}
 use Rattle.cdb_control.specs.State.{State, first_control_state}
 use Rattle.cdb_control.specs.declared.control.Entry.{Entry}
 use Rattle.cdb_rules.specs.Rules.{Rules}
@@ -23,6 +23,7 @@ whole_part rules c =
     record {
       calls = c.journal;
       replies = all_replies_from (rules c.setup) (first_control_state c.setup c.seats) c.journal;
+      before = 0;
       entries = length c.journal;
       calls_in = λ first. first;
       left_by = λ first. run_left rules c.setup c.seats (take first c.journal);
@@ -32,8 +33,11 @@ abbrev pub all_seats : Journaled → Seats
 all_seats c = record { lowest = 1; highest = c.seats }
 
 -- the same control, later, whose journal has room for what it holds
-abbrev pub IsLaterControl : Journaled → Journaled → Type 0
-IsLaterControl old new = (new.setup ≡ old.setup) × (new.seats ≡ old.seats) × (length new.journal ≤ MAX_ENTRIES)
+pub record IsLaterControl (old new : Journaled) : Type 0 where
+  pub setup : new.setup ≡ old.setup
+  pub seats : new.seats ≡ old.seats
+  pub begins : Begins old.journal new.journal
+  pub few : length new.journal ≤ MAX_ENTRIES
 
 -- a control with this journal, whatever room there is
 pub record HasJournal (setup : Parts) (seats : ℕ) (entries : List Entry) (control : Journaled) : Type 0 where
@@ -41,6 +45,6 @@ pub record HasJournal (setup : Parts) (seats : ℕ) (entries : List Entry) (cont
   pub seats_are : control.seats ≡ seats
   pub entries_are : control.journal ≡ entries
 
--- the style of a session with nine seats
+-- the style of a session whose lines choose one of nine seats
 abbrev pub nine : List ℕ → List ℕ → StyleView
 nine greeting prompt = record { greeting = greeting; prompt = prompt; first = 1; chooses = true }

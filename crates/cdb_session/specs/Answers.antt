@@ -25,11 +25,11 @@ AreTold Told count (other ∷ exchanges) = AreTold Told count exchanges
 
 -- of a run, what is asked of it and a text, whether the text is the answer
 module _ (Answers : RunView → Inquiry → List ℕ → Type 0) where
-  -- The text answers what is asked of the run that some first entries of the journal leave, among which are just the first count of the
-  -- commands of the session; all of them, where the journal had no room for so many.
+  -- The text answers what is asked of the run that some first entries of the journal leave: those before the session, and among the others
+  -- just the first count of its commands; all of them, where the journal had no room for so many.
   abbrev pub IsTold : Part → ℕ → Inquiry → List ℕ → Type 0
   IsTold part count inquiry text =
-      (first : ℕ) × (first ≤ part.entries) × (part.calls_in first ≡ min count (length part.calls)) × Answers (part.left_by first) inquiry text
+      (first : ℕ) × (part.before ≤ first) × (first ≤ part.entries) × (part.calls_in first ≡ min count (length part.calls)) × Answers (part.left_by first) inquiry text
 
   -- the journal has the commands of these lines, and what they ask of the run is answered so
   abbrev pub HasExchanges : StyleView → Part → List Exchange → Type 0
@@ -41,5 +41,6 @@ module _ (Answers : RunView → Inquiry → List ℕ → Type 0) where
 
   -- the text answers what is asked of the run that the journal leaves as it stands
   pub record AnswersNow (part : Part) (inquiry : Inquiry) (text : List ℕ) : Type 0 where
+    pub since : part.before ≤ part.entries
     pub all : part.calls_in part.entries ≡ length part.calls
     pub answers : Answers (part.left_by part.entries) inquiry text

@@ -1,31 +1,40 @@
--- A session with nine seats on a setup in JSON.
-use Rattle.std.specs.Prelude.{◌≡◌, ◌⊎◌, ℕ, ◌≤◌, List, [], ◌++◌, length, Result, Err}
-use Rattle.cdb_control.specs.Journal.{Journaled, opened}
+-- A session whose lines choose one of nine seats, on a setup in JSON, which goes on from a journal.
+use Rattle.std.specs.Prelude.{◌≡◌, ◌⊎◌, ℕ, ◌≤◌, List, [], ◌++◌, length, Result, Ok, Err}
+use Rattle.cdb_base.specs.Limits.{MAX_SEATS}
+use Rattle.cdb_control.specs.Journal.{Journaled}
+use Rattle.cdb_control.specs.declared.control.Entry.{Entry}
+use Rattle.cdb_journal.specs.OpenedFrom.{IsFaultOfOpening, IsJournalOf, IsOpenedFrom}
 use Rattle.cdb_rules.specs.RunView.{RunView}
 use Rattle.cdb_rules.specs.Rules.{Rules}
 use Rattle.cdb_setup.specs.Format.{Encodes, longest}
 use Rattle.cdb_setup.specs.Order.{IsFirstFault}
 use Rattle.cdb_setup.specs.Parts.{Parts}
+use Rattle.cdb_streams.specs.Faults.{IsSetup}
 use Rattle.cdb_streams.specs.Lines.{lines_of}
 use Rattle.cdb_streams.specs.declared.fault.PlayFault.{PlayFault}
 use Rattle.cdb_streams.specs.declared.fault.PlayFault.TheVariants as fault
+use Rattle.cdb_streams.specs.declared.script.ScriptFault.TheVariants as script
 use Rattle.cdb_session.specs.Greetings.{greeting_at, greeting_text}
 use Rattle.cdb_session.specs.declared.inquiry.Inquiry.{Inquiry}
 use Rattle.cdb_session.specs.Moves.{Known, Move, read_in, written_in, Makes}
-use Rattle.cdb_session.specs.Requests.{most_seats}
 use Rattle.cdb_session.specs.Sessions.{IsSessionBy}
 use Rattle.cdb_session.specs.Table.{Session, begun, IsDialogue}
 
--- the control is of the setup that the text of JSON encodes, nothing has happened in it, and this is the setup in words
-abbrev pub IsBegun : List ℕ → Journaled → List ℕ → Type 0
-IsBegun json control greeting =
-    (setup : Parts) × Encodes json setup × (control ≡ opened setup most_seats) × (greeting ≡ greeting_text setup)
+-- the control is of the setup that the text of JSON encodes, it goes on from this journal, and this is the setup in words
+abbrev pub IsBegun : List ℕ → List ℕ → ℕ → Journaled → List ℕ → Type 0
+IsBegun json from seats control greeting =
+    (setup : Parts) × Encodes json setup × IsOpenedFrom setup seats from control × (greeting ≡ greeting_text setup)
 
--- Why there is no control: the setup's first fault, or memory is out, but not in place of a setup that is too long
-abbrev pub IsFaultOfBeginning : List ℕ → PlayFault → Type 0
-IsFaultOfBeginning json (fault.Setup why) = IsFirstFault why json
-IsFaultOfBeginning json (fault.NoMemory refused) = length json ≤ longest
-IsFaultOfBeginning json other = ⊥
+-- Why there is no control: the setup's first fault, else that of the journal; or memory is out, but not in place of a setup
+-- that is too long
+abbrev pub IsFaultOfBeginning : List ℕ → List ℕ → ℕ → PlayFault → Type 0
+IsFaultOfBeginning json from seats (fault.Setup why) = IsFirstFault why json
+IsFaultOfBeginning json from seats (fault.Line number line why) =
+    IsSetup json × (number ≡ 1) × IsFaultOfOpening seats from (script.Line line why)
+IsFaultOfBeginning json from seats (fault.ScriptTooLong number) =
+    IsSetup json × (number ≡ 1) × IsFaultOfOpening seats from script.TooLong
+IsFaultOfBeginning json from seats (fault.NoMemory refused) = length json ≤ longest
+IsFaultOfBeginning json from seats other = ⊥
 
 module _ (Answers : RunView → Inquiry → List ℕ → Type 0) (greeting prompt : List ℕ) (start : Session) where
   -- the first of the lines have their responses in full, and the others not at all
@@ -39,21 +48,19 @@ module _ (Answers : RunView → Inquiry → List ℕ → Type 0) (greeting promp
   abbrev pub IsSession : {A : Type 0} → Result A PlayFault → List Move → Type 0
   IsSession returned moves = IsSessionBy (IsDialogue Answers greeting prompt start) (IsDialogue Answers greeting prompt start) IsCutShort returned moves
 
-module _ (rules : Parts → Rules) (Answers : RunView → Inquiry → List ℕ → Type 0) (prompt json : List ℕ) where
-  -- such a session on the setup that the text of JSON encodes
+module _ (rules : Parts → Rules) (Answers : RunView → Inquiry → List ℕ → Type 0) (prompt json from : List ℕ) where
+  -- such a session on the setup that the text of JSON encodes, which goes on from the journal
   abbrev pub IsSessionOn : {A : Type 0} → Result A PlayFault → List Move → Type 0
   IsSessionOn returned moves =
-      (setup : Parts) × Encodes json setup
-      × IsSession Answers (greeting_at prompt (greeting_text setup)) prompt (begun rules setup) returned moves
+      (setup : Parts) × (entries : List Entry) × Encodes json setup × IsJournalOf MAX_SEATS entries from
+      × IsSession Answers (greeting_at prompt (greeting_text setup)) prompt (begun rules setup entries) returned moves
 
-  -- The moves of a call, by what it returned. A fault of the setup comes before all else, and memory may run out before
-  -- there is a session, but not in place of a setup that is too long.
-  abbrev pub HasDebugged : {A : Type 0} → Result A PlayFault → List Move → Type 0
-  HasDebugged (Err (fault.Setup why)) moves = IsFirstFault why json × (moves ≡ [])
-  HasDebugged {A} (Err (fault.NoMemory refused)) moves =
-      ((length json ≤ longest) × (moves ≡ [])) ⊎ IsSessionOn {A = A} (Err (fault.NoMemory refused)) moves
-  HasDebugged returned moves = IsSessionOn returned moves
+  -- there was no session, and nothing was read or written
+  abbrev pub IsNone : {A : Type 0} → Result A PlayFault → List Move → Type 0
+  IsNone (Ok done) moves = ⊥
+  IsNone (Err fault) moves = IsFaultOfBeginning json from MAX_SEATS fault × (moves ≡ [])
 
-  -- the moves that the call has made, where those before were known, are such
+  -- the moves that the call has made, where those before were known, are those of a session, or there was none
   abbrev pub Debugs : {A : Type 0} → Result A PlayFault → Known → Known → Type 0
-  Debugs returned old new = (made : List Move) × Makes old new made × HasDebugged returned made
+  Debugs returned old new =
+      (made : List Move) × Makes old new made × (IsNone returned made ⊎ IsSessionOn returned made)

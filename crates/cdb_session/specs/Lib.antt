@@ -2,6 +2,8 @@
 pub mod Moves
 pub mod Topics
 pub mod Typed
+pub mod FaultyLines
+pub mod Due
 pub mod Inquiries
 pub mod Exchanges
 pub mod Requests
@@ -13,6 +15,7 @@ pub mod Answers
 pub mod Replies
 pub mod Table
 pub mod Sessions
+pub mod Since
 pub mod Served
 pub mod Debugs
 pub mod Laws

@@ -5,12 +5,16 @@ use Rattle.cdb_text.specs.Texts.{text_of}
 use Rattle.cdb_text.specs.declared.fault.LineFault.TheVariants.{Word}
 use Rattle.cdb_session.specs.Dialogues.{full_text, faulty_line_text, fault_response, long_line_text, help_response, shown_by, shown_from_by}
 use Rattle.cdb_session.specs.Dialogues.{dialogue_by}
+use Rattle.cdb_session.specs.Due.{stands}
 use Rattle.cdb_session.specs.Exchanges.{Exchange}
 use Rattle.cdb_session.specs.Parts.{seat_next}
 use Rattle.cdb_session.specs.Requests.{seat_line}
 use Rattle.cdb_session.specs.Styles.{StyleView}
+use Rattle.cdb_session.specs.Topics.{topic_word}
+use Rattle.cdb_session.specs.declared.due.Due.TheVariants.{Command}
 use Rattle.cdb_session.specs.declared.request.Request.{Request}
 use Rattle.cdb_session.specs.declared.request.Request.TheVariants.{Call, Ask, Seat, Help, Quit, Fault, TooLong}
+use Rattle.cdb_session.specs.declared.topic.Topic.TheVariants as topic
 
 -- A session between two lines: its seat, the replies to the commands that follow, and how many lines there were.
 pub record Along : Type 0 where
@@ -48,10 +52,12 @@ module _ (style : StyleView) where
   own_response lines (Call command) = []
   own_response lines (Ask inquiry) = []
   own_response lines (Seat seat) =
-      if style.chooses then (seat_line seat ++ codes "\n") else faulty_line_text (lines + 1) Word
+      if style.chooses
+      then (seat_line seat ++ codes "\n")
+      else faulty_line_text (lines + 1) Word (stands Command (topic_word topic.Seat))
   own_response lines (Help about) = help_response (lines + 1) style.chooses about
   own_response lines Quit = []
-  own_response lines (Fault fault) = fault_response (lines + 1) fault
+  own_response lines (Fault faulty) = fault_response (lines + 1) style.chooses faulty
   own_response lines TooLong = long_line_text (lines + 1)
 
   -- The response at a line. Where no line chooses a seat, one that does has a wrong word.

@@ -58,7 +58,7 @@ Means (Ask inquiry) line = IsInquiryLine inquiry line
 Means (Seat seat) line = IsWithin 1 most_seats seat × (line ≡ seat_line seat)
 Means (Help about) line = line ≡ help_line about
 Means Quit line = line ≡ quit_line
-Means (Fault fault) line = (¬ IsOwn line) × IsFaultOf fault line
+Means (Fault faulty) line = (¬ IsOwn line) × IsFaultOf faulty.fault line × (faulty.line ≡ line)
 Means TooLong line = ⊥
 
 -- What a line asks for that stands for itself. One that is longer than a script can be is too long, whatever it is.

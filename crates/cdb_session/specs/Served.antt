@@ -2,7 +2,7 @@
 use Rattle.std.specs.Prelude.{◌≡◌, ℕ, ◌≤◌, List, ◌++◌, length, Result}
 use Rattle.cdb_streams.specs.Lines.{lines_of}
 use Rattle.cdb_streams.specs.declared.fault.PlayFault.{PlayFault}
-use Rattle.cdb_session.specs.Moves.{Move, read_in, written_in}
+use Rattle.cdb_session.specs.Moves.{Known, Move, Makes, read_in, written_in}
 use Rattle.cdb_rules.specs.RunView.{RunView}
 use Rattle.cdb_session.specs.Answers.{HasExchanges, HasExchangesOf}
 use Rattle.cdb_session.specs.Exchanges.{Exchange}
@@ -40,3 +40,7 @@ module _ (Answers : RunView → Inquiry → List ℕ → Type 0) (style : StyleV
   -- a session that has made these moves, and returned this
   abbrev pub IsSession : {A : Type 0} → Result A PlayFault → List Move → Type 0
   IsSession returned moves = IsSessionBy IsAnswered IsServed IsCutShort returned moves
+
+  -- such a session, from what was known of its console before to what is known after
+  abbrev pub HoldsSession : {A : Type 0} → Result A PlayFault → Known → Known → Type 0
+  HoldsSession returned old new = (made : List Move) × Makes old new made × IsSession returned made

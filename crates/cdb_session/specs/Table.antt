@@ -1,7 +1,9 @@
--- The table of a session with nine seats: the response to each line, by the control that the lines before have led to.
+-- The table of a session whose lines choose one of nine seats: the response to each line, by the control that the lines before have led to.
 use Rattle.std.specs.Prelude.{◌≡◌, ℕ, ◌+◌, ◌==◌, true, List, [], ◌∷◌, ◌++◌, length, fold, codes, if◌then◌else◌}
-use Rattle.cdb_base.specs.Limits.{MAX_ENTRIES}
-use Rattle.cdb_control.specs.Journal.{Journaled, opened, extended, reply_in}
+use Rattle.cdb_base.specs.Limits.{MAX_ENTRIES, MAX_SEATS}
+use Rattle.cdb_control.specs.Journal.{Journaled, extended, reply_in}
+use Rattle.cdb_control.specs.declared.control.Entry.{Entry}
+use Rattle.cdb_journal.specs.OpenedFrom.{opened_from}
 use Rattle.cdb_rules.specs.RunView.{RunView}
 use Rattle.cdb_rules.specs.Rules.{Rules}
 use Rattle.cdb_setup.specs.Parts.{Parts}
@@ -10,7 +12,7 @@ use Rattle.cdb_session.specs.Dialogues.{full_text, fault_response, long_line_tex
 use Rattle.cdb_session.specs.Answers.{run_left}
 use Rattle.cdb_session.specs.Exchanges.{Exchange}
 use Rattle.cdb_session.specs.Parts.{seat_next}
-use Rattle.cdb_session.specs.Requests.{AreAsked, most_seats, seat_line}
+use Rattle.cdb_session.specs.Requests.{AreAsked, seat_line}
 use Rattle.cdb_session.specs.declared.inquiry.Inquiry.{Inquiry}
 use Rattle.cdb_session.specs.declared.request.Request.{Request}
 use Rattle.cdb_session.specs.declared.request.Request.TheVariants.{Call, Ask, Seat, Help, Quit, Fault, TooLong}
@@ -23,9 +25,15 @@ pub record Session : Type 0 where
   pub seat : ℕ
   pub lines : ℕ
 
--- before the first line
-abbrev pub begun : (Parts → Rules) → Parts → Session
-begun rules setup = record { rules = rules; control = opened setup most_seats; seat = 1; lines = 0 }
+-- before the first line of a session that goes on from a journal of these entries, of whichever seats
+abbrev pub begun : (Parts → Rules) → Parts → List Entry → Session
+begun rules setup entries =
+    record {
+      rules = rules;
+      control = opened_from setup MAX_SEATS entries;
+      seat = 1;
+      lines = 0;
+    }
 
 -- ---- one line
 
@@ -37,7 +45,7 @@ response_to s (Ask inquiry, answer) = answer
 response_to s (Seat seat, answer) = seat_line seat ++ codes "\n"
 response_to s (Help about, answer) = help_response (s.lines + 1) true about
 response_to s (Quit, answer) = []
-response_to s (Fault fault, answer) = fault_response (s.lines + 1) fault
+response_to s (Fault faulty, answer) = fault_response (s.lines + 1) true faulty
 response_to s (TooLong, answer) = long_line_text (s.lines + 1)
 
 -- the control after it: a command has an entry, unless the journal is full

@@ -1,9 +1,8 @@
 //! A session over a control of its own, at a prompt or behind a pipe.
 
-ghost use Rattle.std.specs.Prelude.{◌≡◌, IfOk, IfErr};
-ghost use Rattle.cdb_control.specs.Journal.{opened};
+ghost use Rattle.std.specs.Prelude.{◌≤◌, IfOk, IfErr};
+ghost use Rattle.cdb_base.specs.Limits.{MAX_SEATS};
 ghost use Rattle.cdb_session.specs.Debugs.{Debugs, IsBegun, IsFaultOfBeginning};
-ghost use Rattle.cdb_session.specs.Requests.{most_seats};
 
 use crate::answers::{Answers, answer_in};
 use crate::caller::Caller;
@@ -11,18 +10,15 @@ use crate::console::Console;
 use crate::greeting::{greeting_at, greeting_text};
 use crate::inquiry::Inquiry;
 use crate::repl::run;
-use crate::session::Session;
 use crate::style::Style;
-use cdb_base::NoMemory;
-use cdb_control::{CallFault, Command, Control, OpenFault, Reply};
+use cdb_base::limits::MAX_SEATS;
+use cdb_control::{CallFault, Command, Control, Reply};
+use cdb_journal::open_from;
 use cdb_rules::Runs;
 use cdb_setup::Setup;
 use cdb_streams::PlayFault;
 use std::alloc::Global;
 use std::marker::{Model, PhantomData};
-
-/// How many seats a session has.
-const SEATS: u8 = 9;
 
 /// A control of a session's own, and who answers what is asked of its run.
 #[derive(Drop)]
@@ -59,39 +55,39 @@ impl<R: Runs, A: Answers<R>> Caller for OwnControl<R, A> {
     }
 }
 
-/// A control of a setup in which nothing has happened, with nine seats.
-fn open<R: Runs>(alloc: Global, setup: Setup) -> Result<Control<R>, NoMemory>
-    ensures { IfOk result (λ control. control ≡ opened setup most_seats) }
-{
-    match Control::open(alloc, setup, SEATS) {
-        Ok(control) => Ok(control),
-        Err(OpenFault::NoMemory(refused)) => Err(refused),
-        Err(OpenFault::Seats) => unreachable!(),
-    }
-}
-
-/// A control of the setup of this text, in which nothing has happened, with nine seats, and the setup in words.
+/// A control of the setup of this text with 1 to 64 seats, which goes on from a journal, and the setup in words.
 ///
 /// # Errors
-/// `Setup` with the setup's first fault, and `NoMemory` where an allocation fails.
-pub fn begin<R: Runs>(alloc: Global, setup: &[u8]) -> Result<(Control<R>, Vec<u8>), PlayFault>
-    ensures begun { IfOk result (λ begun. IsBegun setup.now begun.0 begun.1.items) }
-    ensures fault { IfErr result (IsFaultOfBeginning setup.now) }
+/// `Setup` with the setup's first fault; else `Line` and `ScriptTooLong`, as of script 1, where the journal is none, and `Line`
+/// with the fault Number for its first line of a seat beyond the last. `NoMemory` where an allocation fails.
+pub fn begin<R: Runs>(
+    alloc: Global,
+    setup: &[u8],
+    from: &[u8],
+    seats: u8,
+) -> Result<(Control<R>, Vec<u8>), PlayFault>
+    requires from_one { 1 ≤ seats }
+    requires to_last { seats ≤ MAX_SEATS }
+    ensures begun { IfOk result
+        (λ begun. IsBegun setup.now from.now seats begun.0 begun.1.items) }
+    ensures fault { IfErr result (IsFaultOfBeginning setup.now from.now seats) }
 {
     let setup = Setup::read(alloc, setup)?;
     let greeting = greeting_text(alloc, &setup)?;
-    let control = open::<R>(alloc, setup)?;
+    let control = open_from::<R>(alloc, setup, seats, from)?;
     Ok((control, greeting))
 }
 
-/// A session on a run of the setup, in which each line has its response before more input is asked for: a command of
-/// the seat that the session is at, `explain P [K]` and `trail P [K]`, which ask something of the run and make no entry,
-/// `help`, `seat S`, or `quit`, which ends it; a line that is none of these has its fault. The prompt is shown before each line, and the setup in words before the first prompt; where the prompt has no
+/// A session on a run of the setup, which goes on from a journal of whichever seats; one without bytes has no entries.
+/// Each line has its response before more input is asked for: a command of the seat that the session is at,
+/// `explain P [K]` and `trail P [K]`, which ask something of the run and make no entry, `help`, `seat S`, or `quit`,
+/// which ends it; a line that is none of these has its fault. The prompt is shown before each line, and the setup in
+/// words before the first prompt; where the prompt has no
 /// bytes, neither is. The end of the input, which is asked for once, ends the session too,
 /// and so do 2^63 bytes.
 ///
 /// # Errors
-/// `Setup` with the setup's first fault, before any input is asked for. `Read` where the reading failed: each line is
+/// Those of `begin`, with 64 seats, before any input is asked for. `Read` where the reading failed: each line is
 /// responded to. `Write` where the writing failed: what was written is a beginning of the responses. `NoMemory` where
 /// an allocation fails: what was written are the responses to a beginning of the lines.
 ///
@@ -104,12 +100,14 @@ pub fn begin<R: Runs>(alloc: Global, setup: &[u8]) -> Result<(Control<R>, Vec<u8
 pub fn debug<R: Runs, A: Answers<R>, T: Console>(
     alloc: Global,
     setup: &[u8],
+    from: &[u8],
     prompt: &[u8],
     console: &mut T,
 ) -> Result<(), PlayFault>
-    ensures { Debugs R.rules A.answers prompt.now setup.now result (T.known console.old) (T.known console.new) }
+    ensures { Debugs R.rules A.answers prompt.now setup.now from.now result
+        (T.known console.old) (T.known console.new) }
 {
-    let begun = begin::<R>(alloc, setup)?;
+    let begun = begin::<R>(alloc, setup, from, MAX_SEATS)?;
     let (control, greeting) = begun;
     let style = Style {
         greeting: greeting_at(greeting.as_slice(), prompt),
@@ -122,6 +120,8 @@ pub fn debug<R: Runs, A: Answers<R>, T: Console>(
         control,
         answers: PhantomData,
     };
-    let mut session = Session::new(own, &style);
-    run(alloc, &style, &mut session, console)
+    let (own, outcome) = run(alloc, &style, own, console);
+    let OwnControl { control, .. } = own;
+    control.close();
+    outcome
 }

@@ -34,11 +34,10 @@ pub(crate) fn respond_to_line<C: Caller, T: Console>(
 {
     let line = line_meant(alloc, unfinished.as_slice())?;
     let request = request_of(line.as_slice());
-    let is_quit = request.is_quit();
-    let text = session.show(alloc, style, request)?;
+    let text = session.show(alloc, style, &request)?;
     write_all(console, text.as_slice())?;
     unfinished.clear();
-    Ok(is_quit)
+    Ok(request.is_quit())
 }
 
 /// Answers each line that ends in these bytes, up to `quit`, and holds what follows the last. Returns whether one was

@@ -2,6 +2,8 @@
 
 ghost use Rattle.std.specs.Prelude.{◌≡◌, [], ◌-◌, ◌<◌, ◌^◌, ◌++◌};
 ghost use Rattle.cdb_session.specs.Lines.{seen_by};
+ghost use Rattle.cdb_session.specs.Served.{HoldsSession};
+ghost use Rattle.cdb_session.specs.Since.{since};
 ghost use Rattle.cdb_session.specs.Moves.{WritesAll};
 ghost use Rattle.cdb_session.specs.Styles.{MaySit, Onward};
 ghost use Rattle.cdb_session.specs.Unfinished.{RespondsToLast, RespondsToAll};
@@ -10,6 +12,7 @@ use crate::caller::Caller;
 use crate::console::{Console, write_all};
 use crate::feed::{feed, respond_to_line};
 use crate::session::Session;
+use crate::since::Since;
 use crate::style::Style;
 use cdb_streams::{Failed, PlayFault};
 use itoa::Buffer;
@@ -42,27 +45,28 @@ fn respond_to_last<C: Caller, T: Console>(
     Ok(())
 }
 
-/// Answers the lines one after the other, from the first one on, up to `quit` or the end of the input. The
-/// greeting is shown first, and the prompt before each line. The end of the input ends the session too, and so do 2^63 bytes. After `Read` each line
-/// that has ended has its response, after `Write` what was written is a beginning of the responses, and after
-/// `NoMemory` it is the responses to a beginning of the lines.
+/// Answers the lines one after the other, from the first one on, up to `quit` or the end of the input, and hands the caller
+/// back. Of what the caller's journal has, the session is what comes to it. The greeting is shown first, and the prompt before
+/// each line. The end of the input ends the session too, and so do 2^63 bytes. After `Read` each line that has ended has its
+/// response, after `Write` what was written is a beginning of the responses, and after `NoMemory` it is the responses to a
+/// beginning of the lines.
 pub fn run<C: Caller, T: Console>(
     alloc: Global,
     style: &Style<'_>,
-    session: &mut Session<C>,
+    caller: C,
     console: &mut T,
-) -> Result<(), PlayFault>
-    requires sits { MaySit style.now (C.seats session.old.caller) session.old.seat }
-    requires calls { (C.part session.old.caller).calls ≡ [] }
-    requires replies { (C.part session.old.caller).replies ≡ [] }
-    requires lines { session.old.lines ≡ 0 }
-    requires seat { session.old.seat ≡ style.now.first }
-    ensures all { RespondsToAll C.answers style.now result (T.known console.old) (T.known console.new)
-        (seen_by C.part session.new) }
-    ensures later { Onward C.later session.old.caller session.new.caller }
+) -> (C, Result<(), PlayFault>)
+    requires sits { MaySit style.now (C.seats caller) style.now.first }
+    ensures session { HoldsSession C.answers style.now (since (C.part caller) (C.part result.0)) result.1
+        (T.known console.old) (T.known console.new) }
+    ensures later { Onward C.later caller result.0 }
 {
+    let mut session = Session::new(Since::new(caller), style);
     let mut unfinished = Vec::new(alloc);
-    run_from_first(alloc, style, session, &mut unfinished, console)
+    let outcome = run_from_first(alloc, style, &mut session, &mut unfinished, console);
+    let Session { caller: since, .. } = session;
+    let Since { caller, .. } = since;
+    (caller, outcome)
 }
 
 /// Shows the prompt. It takes no memory.

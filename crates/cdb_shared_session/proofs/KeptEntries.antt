@@ -55,9 +55,9 @@ module _ {J : Type 0} (stream : J → Stream) where
   pub keeps_none : (file : J) (from : ℕ) (seen : List Entry) → from ≤ length seen → Takes stream file file [] → Keeps stream file file from (Ok from) seen
   keeps_none file from seen low none = (omega arith, low, subst (λ text. Takes stream file file text) (sym (ap journal_text (none_between seen from))) none)
 
-  pub kept_at_first : (file : Option J) → AreKept stream file file (Ok 0) []
-  kept_at_first None = tt
-  kept_at_first (Some file) = keeps_none file 0 [] (omega arith) (Appends-nil (stream file).bytes, refl)
+  pub kept_at_first : (file : Option J) (seen : List Entry) → AreKept stream file file (Ok 0) seen
+  kept_at_first None seen = tt
+  kept_at_first (Some file) seen = keeps_none file 0 seen (omega arith) (Appends-nil (stream file).bytes, refl)
 
   -- what was kept before, and what was kept of what was seen then
   pub keeps_then : (old mid new : J) (from to : ℕ) (r : Result ℕ Failed) (before seen : List Entry) → Keeps stream old mid from (Ok to) before → Begins before seen

@@ -1,6 +1,7 @@
 -- Sessions of several seats on a setup in JSON, and what is written once they have ended.
-use Rattle.std.specs.Prelude.{◌≡◌, ℕ, ◌≤◌, List, length, Option, Result}
+use Rattle.std.specs.Prelude.{◌≡◌, ℕ, List, length, Option, Result}
 use Rattle.cdb_control.specs.Journal.{Journaled}
+use Rattle.cdb_session.specs.Debugs.{IsFaultOfBeginning}
 use Rattle.cdb_session.specs.Moves.{Known}
 use Rattle.cdb_streams.specs.Endings.{whole_ending}
 use Rattle.cdb_streams.specs.Streams.{Stream, Writes}
@@ -9,14 +10,14 @@ use Rattle.cdb_streams.specs.declared.buffer.OutputFault.{OutputFault}
 use Rattle.cdb_streams.specs.declared.sink.Failed.{Failed}
 use Rattle.cdb_streams.specs.declared.source.ReadFault.{ReadFault}
 use Rattle.cdb_streams.specs.declared.fault.RaceFault.{RaceFault}
+use Rattle.cdb_streams.specs.declared.fault.PlayFault.TheVariants as play
 use Rattle.cdb_streams.specs.declared.fault.RaceFault.TheVariants as fault
-use Rattle.cdb_rules.specs.RunView.{RunView}
+use Rattle.cdb_streams.specs.Faults.{IsSetup}
 use Rattle.cdb_rules.specs.Rules.{Rules}
-use Rattle.cdb_session.specs.declared.inquiry.Inquiry.{Inquiry}
-use Rattle.cdb_setup.specs.Format.{Encodes, longest}
-use Rattle.cdb_setup.specs.Order.{IsFirstFault}
+use Rattle.cdb_setup.specs.Format.{Encodes}
 use Rattle.cdb_setup.specs.Parts.{Parts}
 use Rattle.cdb_journal.specs.Journals.{IsWritable, journal_text}
+use Rattle.cdb_journal.specs.OpenedFrom.{IsOpenedFrom}
 use Rattle.cdb_shared_session.specs.Openings.{SeatSeen}
 use Rattle.cdb_shared_session.specs.SharedSessions.{AreSessions}
 use Rattle.cdb_shared_session.specs.Keeping.{HasKept, kept_outcome}
@@ -24,17 +25,19 @@ use Rattle.cdb_shared_session.specs.declared.keeping.Kept.{Kept}
 use Rattle.cdb_shared_session.specs.Reports.{outcomes, failures_text, status_of}
 use Rattle.cdb_shared_session.specs.declared.endpoint.Finished.{Finished}
 
--- the sessions have ended, the journal was kept in the file where there was one, it was written, and what failed was
+-- the sessions, which go on from a journal, have ended; the journal was kept in the file where there was one, it was written, and what failed was
 -- reported, as far as that went, and this is the status
-pub record RunsSessions {P T J O E : Type 0} (rules : Parts → Rules) (Answers : RunView → Inquiry → List ℕ → Type 0) (known : T → Known)
+pub record RunsSessions {P T J O E : Type 0} (rules : Parts → Rules) (known : T → Known)
     (opens : P → Result SeatSeen ReadFault → Type 0) (file_stream : J → Stream) (output_stream : O → Stream)
-    (error_stream : E → Stream) (json : List ℕ) (openers : List P) (file : Option J) (output output_after : O)
+    (error_stream : E → Stream) (json from : List ℕ) (openers : List P) (file : Option J) (output output_after : O)
     (error error_after : E) (status : ℕ) : Type 0 where
   pub setup : Parts
   pub encodes : Encodes json setup
+  pub begun : Journaled
+  pub goes_on : IsOpenedFrom setup (length openers) from begun
   pub control : Journaled
   pub finished : List (Finished T)
-  pub sessions : AreSessions rules Answers known opens setup openers control finished
+  pub sessions : AreSessions rules known opens begun openers control finished
   -- so a replay of what is written tells each seat what it was told
   pub writable : IsWritable control
   pub kept : Option (Kept J)
@@ -45,10 +48,12 @@ pub record RunsSessions {P T J O E : Type 0} (rules : Parts → Rules) (Answers 
   pub lines : Writes error_stream reported error error_after (failures_text written (kept_outcome kept) (outcomes finished))
   pub status_is : status ≡ status_of written (kept_outcome kept) (outcomes finished)
 
--- The setup's first fault, or memory or a thread is not there; a setup that is too long is told so, and no thread is
--- started for one with a fault.
-abbrev pub IsFaultOfSessions : List ℕ → RaceFault → Type 0
-IsFaultOfSessions json (fault.Setup why) = IsFirstFault why json
-IsFaultOfSessions json (fault.NoMemory refused) = length json ≤ longest
-IsFaultOfSessions json (fault.Spawn refused) = (setup : Parts) × Encodes json setup
-IsFaultOfSessions json other = ⊥
+-- The setup's first fault, else that of the journal for so many seats; or memory or a thread is not there. A setup that is
+-- too long is told so, and no thread is started for one with a fault.
+abbrev pub IsFaultOfSessions : List ℕ → List ℕ → ℕ → RaceFault → Type 0
+IsFaultOfSessions json from seats (fault.Setup why) = IsFaultOfBeginning json from seats (play.Setup why)
+IsFaultOfSessions json from seats (fault.Line number line why) = IsFaultOfBeginning json from seats (play.Line number line why)
+IsFaultOfSessions json from seats (fault.ScriptTooLong number) = IsFaultOfBeginning json from seats (play.ScriptTooLong number)
+IsFaultOfSessions json from seats (fault.NoMemory refused) = IsFaultOfBeginning json from seats (play.NoMemory refused)
+IsFaultOfSessions json from seats (fault.Spawn refused) = IsSetup json
+IsFaultOfSessions json from seats other = ⊥

@@ -1,33 +1,30 @@
 //! A session alone, whose journal is kept in a file as it goes.
 
-ghost use Rattle.std.specs.Prelude.{◌≡◌};
-ghost use Rattle.cdb_control.specs.Journal.{opened};
+ghost use Rattle.std.specs.Prelude.{◌≡◌, ◌≤◌, length};
+ghost use Rattle.cdb_base.specs.Limits.{MAX_ENTRIES};
 ghost use Rattle.cdb_session.specs.Greetings.{greeting_text};
 ghost use Rattle.cdb_session.specs.Requests.{most_seats};
 ghost use Rattle.cdb_shared_session.specs.KeptAlone.{KeepsOn, HoldsFrom, DebugsKept};
 
 use crate::keeping::{Kept, keep_rest};
 use crate::reports::write_journal;
-use cdb_base::NoMemory;
+use cdb_base::limits::MAX_SEATS;
 use cdb_control::{CallFault, Command, Control, Reply};
 use cdb_rules::Runs;
-use cdb_session::{
-    Answers, Caller, Console, Inquiry, Session, Style, answer_in, begin, greeting_at, run,
-};
+use cdb_session::{Caller, Console, Style, begin, greeting_at, run};
 use cdb_streams::{Failed, OutputFault, PlayFault, Sink};
 use std::alloc::Global;
-use std::marker::{Model, PhantomData};
+use std::marker::Model;
 
 /// A control, the file in which its journal is kept, and how many entries the file has.
 #[derive(Drop)]
-struct KeptControl<R: Runs, A, J> {
+struct KeptControl<R: Runs, J> {
     control: Control<R>,
-    answers: PhantomData<A>,
     file: J,
     count: Result<usize, Failed>,
 }
 
-impl<R: Runs, A, J> Model for KeptControl<R, A, J> {
+impl<R: Runs, J> Model for KeptControl<R, J> {
     ghost use Rattle.std.specs.Prelude.{◌≤◌, length, IfOk};
     ghost use Rattle.cdb_shared_session.specs.KeptAlone.{KeptView};
 
@@ -38,7 +35,7 @@ impl<R: Runs, A, J> Model for KeptControl<R, A, J> {
     ghost invariant = { λ c. IfOk c.count (λ count. count ≤ length c.control.journal) };
 }
 
-impl<R: Runs, A, J: Sink + Drop> KeptControl<R, A, J> {
+impl<R: Runs, J: Sink + Drop> KeptControl<R, J> {
     /// Adds to the file what it lacks of the journal. Where memory is out it adds nothing.
     fn keep(&mut self, alloc: Global)
         ensures control { self.new.control ≡ self.old.control }
@@ -56,15 +53,13 @@ impl<R: Runs, A, J: Sink + Drop> KeptControl<R, A, J> {
     }
 }
 
-impl<R: Runs, A: Answers<R>, J: Sink + Drop> Caller for KeptControl<R, A, J> {
+impl<R: Runs, J: Sink + Drop> Caller for KeptControl<R, J> {
     ghost use Rattle.cdb_session.specs.Alone.{whole_part, all_seats};
     ghost use Rattle.cdb_shared_session.specs.KeptAlone.{IsLaterKept};
 
     ghost part = { λ c. whole_part R.rules c.control };
 
     ghost seats = { λ c. all_seats c.control };
-
-    ghost answers = { A.answers };
 
     ghost later = { IsLaterKept J.stream };
 
@@ -73,14 +68,10 @@ impl<R: Runs, A: Answers<R>, J: Sink + Drop> Caller for KeptControl<R, A, J> {
         self.keep(alloc);
         Ok(reply)
     }
-
-    fn ask(&mut self, alloc: Global, inquiry: Inquiry) -> Result<Vec<u8>, NoMemory> {
-        answer_in::<R, A>(alloc, &self.control, inquiry)
-    }
 }
 
-/// A session over a control in which nothing has happened, from its first line to its last.
-fn hold_kept<R: Runs, A: Answers<R>, T: Console, J: Sink + Drop>(
+/// A session over a control, from its first line to its last.
+fn hold_kept<R: Runs, T: Console, J: Sink + Drop>(
     alloc: Global,
     prompt: &[u8],
     control: Control<R>,
@@ -88,9 +79,10 @@ fn hold_kept<R: Runs, A: Answers<R>, T: Console, J: Sink + Drop>(
     console: &mut T,
     file: J,
 ) -> (Result<(), PlayFault>, Kept<J>)
-    requires begun { control ≡ opened control.setup most_seats }
+    requires seats { most_seats ≤ control.seats }
+    requires few { length control.journal ≤ MAX_ENTRIES }
     requires greeting { greeting.now ≡ greeting_text control.setup }
-    ensures { HoldsFrom J.stream R.rules A.answers prompt.now control.setup (T.known console.old) (T.known console.new) file result }
+    ensures { HoldsFrom J.stream R.rules prompt.now control (T.known console.old) (T.known console.new) file result }
 {
     let style = Style {
         greeting: greeting_at(greeting, prompt),
@@ -99,20 +91,16 @@ fn hold_kept<R: Runs, A: Answers<R>, T: Console, J: Sink + Drop>(
         first: 1,
         chooses: true,
     };
-    let caller = KeptControl::<R, A, J> {
+    let caller = KeptControl {
         control,
-        answers: PhantomData,
         file,
         count: Ok(0),
     };
-    let mut session = Session::new(caller, &style);
-    let outcome = run(alloc, &style, &mut session, console);
-    let Session { caller, .. } = session;
+    let (caller, outcome) = run(alloc, &style, caller, console);
     let KeptControl {
         control,
         file,
         count,
-        ..
     } = caller;
     let kept = keep_rest(alloc, control.journal(), file, count);
     control.close();
@@ -120,7 +108,8 @@ fn hold_kept<R: Runs, A: Answers<R>, T: Console, J: Sink + Drop>(
 }
 
 /// A session on a run of the setup as `debug` holds it, and beside it the journal in a file, in which nothing is: once a
-/// command is carried out the file has its entry, a line with the seat and the command, before the response is written.
+/// command is carried out the file has its entry, a line with the seat and the command, before the response is written; the
+/// entries that the session goes on from stand before all others.
 /// Where the file can't be written, or memory is out, the session goes on; what the file lacks then is added at the end.
 /// Returned are how the session ended, as of `debug`, and the file with how the journal was kept.
 ///
@@ -129,18 +118,20 @@ fn hold_kept<R: Runs, A: Answers<R>, T: Console, J: Sink + Drop>(
 ///
 /// Promise: One journal explains all responses of the session, and the file has it at the end, or a beginning of it where
 /// it could not be written or memory was out.
-pub fn debug_kept<R: Runs, A: Answers<R>, T: Console, J: Sink + Drop>(
+pub fn debug_kept<R: Runs, T: Console, J: Sink + Drop>(
     alloc: Global,
     setup: &[u8],
+    from: &[u8],
     prompt: &[u8],
     console: &mut T,
     file: J,
 ) -> (Result<(), PlayFault>, Kept<J>)
-    ensures { DebugsKept J.stream R.rules A.answers prompt.now setup.now (T.known console.old) (T.known console.new) file result }
+    ensures { DebugsKept J.stream R.rules prompt.now setup.now from.now
+        (T.known console.old) (T.known console.new) file result }
 {
-    match begin::<R>(alloc, setup) {
+    match begin::<R>(alloc, setup, from, MAX_SEATS) {
         Ok((control, greeting)) => {
-            hold_kept::<R, A, T, J>(alloc, prompt, control, greeting.as_slice(), console, file)
+            hold_kept::<R, T, J>(alloc, prompt, control, greeting.as_slice(), console, file)
         }
         Err(fault) => {
             let outcome = Ok(());

@@ -1,6 +1,7 @@
 //! Sessions of several seats, from the text of their setup to what is written once they have ended.
 
-ghost use Rattle.std.specs.Prelude.{◌≡◌, ◌≤◌, vec_len, IfOk, IfErr, OnErr};
+ghost use Rattle.std.specs.Prelude.{◌≡◌, ◌≤◌, ℕ, List, vec_len, IfOk, IfErr, OnErr};
+ghost use Rattle.cdb_session.specs.Debugs.{IsFaultOfBeginning};
 ghost use Rattle.cdb_shared_session.specs.Faults.{of_sessions};
 ghost use Rattle.cdb_shared_session.specs.Keeping.{kept_outcome};
 ghost use Rattle.cdb_shared_session.specs.Reported.{RunsSessions, IsFaultOfSessions};
@@ -11,9 +12,8 @@ use crate::reports::{status_after, write_failures, write_journal};
 use crate::threads::{SessionsFault, debug_seats};
 use cdb_base::limits::MAX_SEATS;
 use cdb_rules::Runs;
-use cdb_session::Answers;
-use cdb_setup::Setup;
-use cdb_streams::{OutputFault, RaceFault, Sink};
+use cdb_session::begin;
+use cdb_streams::{OutputFault, PlayFault, RaceFault, Sink};
 use std::alloc::Global;
 use std::sync::Wait;
 use std::thread::Threads;
@@ -29,6 +29,20 @@ fn of_sessions(fault: SessionsFault) -> RaceFault
     }
 }
 
+/// The fault of sessions for which there was no control. A beginning neither reads nor writes.
+fn of_beginning(fault: PlayFault) -> RaceFault
+    ensures { (json from : List ℕ) (seats : ℕ) → IsFaultOfBeginning json from seats fault →
+        IsFaultOfSessions json from seats result }
+{
+    match fault {
+        PlayFault::Setup(fault) => RaceFault::Setup(fault),
+        PlayFault::Line(script, line, fault) => RaceFault::Line(script, line, fault),
+        PlayFault::ScriptTooLong(script) => RaceFault::ScriptTooLong(script),
+        PlayFault::NoMemory(refused) => RaceFault::NoMemory(refused),
+        PlayFault::Read | PlayFault::Write => RaceFault::Write,
+    }
+}
+
 /// How a journal was kept; without a file there is no fault.
 fn outcome_of<J: Drop>(kept: Option<Kept<J>>) -> Result<(), OutputFault>
     ensures { result ≡ kept_outcome kept }
@@ -39,7 +53,8 @@ fn outcome_of<J: Drop>(kept: Option<Kept<J>>) -> Result<(), OutputFault>
     }
 }
 
-/// Holds sessions of as many seats as there are openers, from 1 to 64, over one run of the setup, until all have ended;
+/// Holds sessions of as many seats as there are openers, from 1 to 64, over one run of the setup, which go on from a journal of
+/// these seats, until all have ended; a journal without bytes has no entries;
 /// each seat is opened in its own thread, and one that can't be opened has failed. Where there is a file, the journal is
 /// kept in it meanwhile. Then the journal is written to the output, a line for each entry, and to the other output a line
 /// for each seat that failed, and one where the journal could not be written or kept; these lines take no memory. Returned
@@ -47,14 +62,13 @@ fn outcome_of<J: Drop>(kept: Option<Kept<J>>) -> Result<(), OutputFault>
 /// where none did.
 ///
 /// # Errors
-/// `Setup` with the setup's first fault, and then no session was begun; `Spawn` where a thread can't be started, and
+/// `Setup`, `Line` and `ScriptTooLong` as of `begin`, and then no session was begun; `Spawn` where a thread can't be started, and
 /// `NoMemory` where an allocation fails before the sessions have ended. Nothing was written to either output.
 ///
 /// Promise: That journal is written, `S LINE` for each entry, and a line for each seat that failed, which takes no
 /// memory; the status is that of a journal that was not written, else of the least seat that failed.
 pub fn debug_shared<
     R: Runs + Send,
-    A: Answers<R> + Send,
     P: Opener + Send,
     J: Sink + Drop,
     Rt: Threads + Wait + Clock + Sync,
@@ -64,6 +78,7 @@ pub fn debug_shared<
     rt: &Rt,
     alloc: Global,
     setup: &[u8],
+    from: &[u8],
     openers: Vec<P>,
     file: Option<J>,
     output: &mut O,
@@ -71,16 +86,17 @@ pub fn debug_shared<
 ) -> Result<u8, RaceFault>
     requires some { 1 ≤ vec_len openers }
     requires fits { vec_len openers ≤ MAX_SEATS }
-    ensures sessions { IfOk result (RunsSessions R.rules A.answers P.Seat.known P.opens J.stream O.stream E.stream
-        setup.now openers.items file output.old output.new error.old error.new) }
-    ensures fault { IfErr result (IsFaultOfSessions setup.now) }
+    ensures sessions { IfOk result (RunsSessions R.rules P.Seat.known P.opens J.stream O.stream E.stream
+        setup.now from.now openers.items file output.old output.new error.old error.new) }
+    ensures fault { IfErr result (IsFaultOfSessions setup.now from.now (vec_len openers)) }
     ensures unwritten { OnErr result ((output.new ≡ output.old) × (error.new ≡ error.old)) }
 {
-    let setup = match Setup::read(alloc, setup) {
-        Ok(setup) => setup,
-        Err(fault) => return Err(RaceFault::from(fault)),
+    let count = openers.len() as u8;
+    let (control, greeting) = match begin::<R>(alloc, setup, from, count) {
+        Ok(begun) => begun,
+        Err(fault) => return Err(of_beginning(fault)),
     };
-    let ended = debug_seats::<R, A, P, J, Rt>(rt, alloc, setup, openers, file);
+    let ended = debug_seats::<R, P, J, Rt>(rt, alloc, control, greeting.as_slice(), openers, file);
     let (control, finished, kept) = match ended {
         Ok(sessions) => sessions,
         Err(fault) => return Err(of_sessions(fault)),

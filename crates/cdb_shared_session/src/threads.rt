@@ -1,7 +1,6 @@
 //! Starting and joining the threads of the seats.
 
 ghost use Rattle.std.specs.Prelude.{◌≡◌, ◌≤◌, length, vec_len, vec_capacity, All, IfOk, IfErr, OnErr};
-ghost use Rattle.cdb_control.specs.Journal.{opened};
 ghost use Rattle.cdb_journal.specs.Journals.{IsWritable};
 ghost use Rattle.cdb_session.specs.Greetings.{greeting_text};
 ghost use Rattle.cdb_shared_session.specs.SharedSessions.{AreSessions};
@@ -14,17 +13,13 @@ use crate::endpoint::{Finished, Opener};
 use crate::keeping::{Keeping, Kept, keep, keep_end};
 use crate::seat::{SeatPromise, SeatResult, Welcome, run_seat};
 use cdb_base::NoMemory;
-use cdb_base::limits::MAX_SEATS;
 use cdb_base::start::{RefusedStart, start};
-use cdb_control::{Control, OpenFault};
+use cdb_control::Control;
 use cdb_rules::Runs;
-use cdb_session::{Answers, greeting_text};
-use cdb_setup::Setup;
 use cdb_shared::{Seat, Shared, Watch};
 use cdb_streams::Sink;
 use std::alloc::Global;
 use std::error::Error;
-use std::marker::PhantomData;
 use std::snapshot::Snapshot;
 use std::sync::Wait;
 use std::sync::atomic::{AtomicU64, Ordering};
@@ -58,14 +53,7 @@ impl fmt::Display for SessionsFault {
 impl Error for SessionsFault {}
 
 /// Starts a thread for one seat, which is one fewer of those that are going on once it has ended.
-fn start_one<
-    's,
-    E,
-    R: Runs + Send + 's,
-    A: Answers<R> + Send + 's,
-    P: Opener + Send + 's,
-    Rt: Threads + Wait + Sync,
->(
+fn start_one<'s, E, R: Runs + Send + 's, P: Opener + Send + 's, Rt: Threads + Wait + Sync>(
     scope: &Scope<'s, E>,
     rt: &'s Rt,
     alloc: Global,
@@ -74,12 +62,11 @@ fn start_one<
     welcome: Welcome<'s>,
     seat: Seat<R>,
     opener: P,
-) -> Result<PromisedHandle<SeatResult<R, P::Seat>, SeatPromise<R, A, P>>, SessionsFault>
+) -> Result<PromisedHandle<SeatResult<R, P::Seat>, SeatPromise<R, P>>, SessionsFault>
     requires { IsUnused shared.now welcome seat }
     ensures { IfOk result (λ handle. IsSeatPromise seat opener handle.promise) }
 {
-    let promise = SeatPromise::<R, A, P> {
-        answers: PhantomData,
+    let promise = SeatPromise {
         seat: Snapshot::of(&seat),
         opener: Snapshot::of(&opener),
     };
@@ -88,9 +75,9 @@ fn start_one<
         promise,
         move || -> SeatResult<R, P::Seat>
             requires { IsUnused shared.now welcome seat }
-            ensures { HasRun R.rules A.answers P.Seat.known P.opens seat opener result.seat result.finished }
+            ensures { HasRun R.rules P.Seat.known P.opens seat opener result.seat result.finished }
         {
-            let ended = run_seat::<R, A, P, Rt>(shared, rt, alloc, welcome, seat, opener);
+            let ended = run_seat(shared, rt, alloc, welcome, seat, opener);
             going.fetch_sub(1, Ordering::SeqCst);
             ended
         },
@@ -99,14 +86,7 @@ fn start_one<
 }
 
 /// Starts a thread for each seat, the last seat's first.
-fn start_all<
-    's,
-    E,
-    R: Runs + Send + 's,
-    A: Answers<R> + Send + 's,
-    P: Opener + Send + 's,
-    Rt: Threads + Wait + Sync,
->(
+fn start_all<'s, E, R: Runs + Send + 's, P: Opener + Send + 's, Rt: Threads + Wait + Sync>(
     scope: &Scope<'s, E>,
     rt: &'s Rt,
     alloc: Global,
@@ -115,7 +95,7 @@ fn start_all<
     welcome: Welcome<'s>,
     mut seats: Vec<Seat<R>>,
     mut openers: Vec<P>,
-) -> Result<Vec<PromisedHandle<SeatResult<R, P::Seat>, SeatPromise<R, A, P>>>, SessionsFault>
+) -> Result<Vec<PromisedHandle<SeatResult<R, P::Seat>, SeatPromise<R, P>>>, SessionsFault>
     requires ready { All (λ seat. IsUnused shared.now welcome seat) seats.items }
     requires openers { vec_len openers ≡ vec_len seats }
     ensures count { IfOk result (λ handles. vec_len handles ≡ vec_len seats) }
@@ -129,9 +109,7 @@ fn start_all<
         let Some(opener) = openers.pop() else {
             unreachable!()
         };
-        let handle = start_one::<E, R, A, P, Rt>(
-            scope, rt, alloc, shared, going, welcome, seat, opener,
-        )?;
+        let handle = start_one(scope, rt, alloc, shared, going, welcome, seat, opener)?;
         handles.push_reserved(handle);
     }
     Ok(handles)
@@ -139,16 +117,16 @@ fn start_all<
 
 /// Joins the threads, of which the last seat's comes first, and adds the seats and how their sessions ended, the first
 /// seat's first, to lists that have room for them.
-fn join_each<R: Runs, A: Answers<R>, P: Opener, Rt: Threads>(
+fn join_each<R: Runs, P: Opener, Rt: Threads>(
     rt: &Rt,
-    mut handles: Vec<PromisedHandle<SeatResult<R, P::Seat>, SeatPromise<R, A, P>>>,
+    mut handles: Vec<PromisedHandle<SeatResult<R, P::Seat>, SeatPromise<R, P>>>,
     mut seats: Vec<Seat<R>>,
     mut all: Vec<Finished<P::Seat>>,
 ) -> (Vec<Seat<R>>, Vec<Finished<P::Seat>>)
     requires empty { (vec_len seats ≡ 0) × (vec_len all ≡ 0) }
     requires room { (vec_len handles ≤ vec_capacity seats) × (vec_len handles ≤ vec_capacity all) }
     ensures count { (vec_len result.0 ≡ vec_len handles) × (vec_len result.1 ≡ vec_len handles) }
-    ensures each { AllKept R.rules A.answers P.Seat.known P.opens handles.items result.0.items result.1.items }
+    ensures each { AllKept R.rules P.Seat.known P.opens handles.items result.0.items result.1.items }
 {
     while let Some(handle) = handles.pop() {
         let SeatResult { seat, finished } = handle.join(rt);
@@ -171,7 +149,6 @@ fn join_all<
     's,
     E,
     R: Runs + Send + 's,
-    A: Answers<R> + Send + 's,
     P: Opener + Send + 's,
     J: Sink + Drop,
     Rt: Threads + Wait + Clock + Sync,
@@ -197,27 +174,19 @@ fn join_all<
     ensures count { IfOk result
         (λ r. (vec_len r.0 ≡ vec_len seats) × (vec_len r.1 ≡ vec_len seats)) }
     ensures each { IfOk result
-        (λ r. AllHaveRun R.rules A.answers P.Seat.known P.opens seats.items openers.items r.0.items r.1.items) }
+        (λ r. AllHaveRun R.rules P.Seat.known P.opens seats.items openers.items r.0.items r.1.items) }
     ensures later { IfOk result (λ r. IsLater keeping.watch r.2.watch) }
     ensures kept { IfOk result (λ r. GoesOnKeeping J.stream keeping r.2) }
 {
-    let handles = start_all::<E, R, A, P, Rt>(
-        scope, rt, alloc, shared, going, welcome, seats, openers,
-    )?;
+    let handles = start_all(scope, rt, alloc, shared, going, welcome, seats, openers)?;
     let keeping = keep(shared, rt, alloc, keeping, going);
-    let (seats, finished) = join_each::<R, A, P, Rt>(rt, handles, done, all);
+    let (seats, finished) = join_each(rt, handles, done, all);
     Ok((seats, finished, keeping))
 }
 
 /// Serves every seat in a thread of its own, keeps the journal meanwhile, and joins them all; the seats and how their
 /// sessions ended are added to lists that have room for them.
-fn run_all<
-    R: Runs + Send,
-    A: Answers<R> + Send,
-    P: Opener + Send,
-    J: Sink + Drop,
-    Rt: Threads + Wait + Clock + Sync,
->(
+fn run_all<R: Runs + Send, P: Opener + Send, J: Sink + Drop, Rt: Threads + Wait + Clock + Sync>(
     rt: &Rt,
     alloc: Global,
     shared: &Shared<R>,
@@ -238,7 +207,7 @@ fn run_all<
     ensures count { IfOk result
         (λ r. (vec_len r.0 ≡ vec_len seats) × (vec_len r.1 ≡ vec_len seats)) }
     ensures each { IfOk result
-        (λ r. AllHaveRun R.rules A.answers P.Seat.known P.opens seats.items openers.items r.0.items r.1.items) }
+        (λ r. AllHaveRun R.rules P.Seat.known P.opens seats.items openers.items r.0.items r.1.items) }
     ensures later { IfOk result (λ r. IsLater keeping.watch r.2.watch) }
     ensures kept { IfOk result (λ r. GoesOnKeeping J.stream keeping r.2) }
 {
@@ -253,7 +222,7 @@ fn run_all<
             requires empty { (vec_len done ≡ 0) × (vec_len all ≡ 0) }
             requires room { (vec_len seats ≤ vec_capacity done) × (vec_len seats ≤ vec_capacity all) }
         {
-            join_all::<_, R, A, P, J, Rt>(
+            join_all(
                 scope, rt, alloc, shared, going, welcome, seats, openers, keeping, done, all,
             )
         },
@@ -270,50 +239,21 @@ fn reserve<X: Drop>(alloc: Global, count: usize) -> Result<Vec<X>, SessionsFault
     }
 }
 
-/// A control of the setup in which nothing has happened, shared, with this many seats and a watch.
-fn open_shared<R: Runs, Rt: Wait>(
+/// A control, shared, with a watch.
+fn share<R: Runs, Rt: Wait>(
     rt: &Rt,
     alloc: Global,
-    setup: Setup,
-    count: u8,
+    control: Control<R>,
 ) -> Result<(Shared<R>, Vec<Seat<R>>, Watch<R>), SessionsFault>
-    requires some { 1 ≤ count }
-    requires fits { count ≤ MAX_SEATS }
-    ensures seats { IfOk result
-        (λ r. r.1.items ≡ fresh_seats r.0 (opened setup count) 1 count) }
-    ensures watch { IfOk result (λ r. r.2 ≡ fresh_seat r.0 (opened setup count) 0) }
+    ensures seats { IfOk result (λ r. r.1.items ≡ fresh_seats r.0 control 1 control.seats) }
+    ensures watch { IfOk result (λ r. r.2 ≡ fresh_seat r.0 control 0) }
 {
-    let control = match Control::open(alloc, setup, count) {
-        Ok(control) => control,
-        Err(OpenFault::NoMemory(refused)) => return Err(SessionsFault::NoMemory(refused)),
-        Err(OpenFault::Seats) => unreachable!(),
-    };
     match Shared::open_watched(rt, alloc, control) {
         Ok(opened) => Ok(opened),
         Err((control, refused)) => {
             control.close();
             Err(SessionsFault::NoMemory(refused))
         }
-    }
-}
-
-/// The setup in words.
-fn greet(alloc: Global, setup: &Setup) -> Result<Vec<u8>, SessionsFault>
-    ensures { IfOk result (λ text. text.items ≡ greeting_text setup.now) }
-{
-    match greeting_text(alloc, setup) {
-        Ok(text) => Ok(text),
-        Err(refused) => Err(SessionsFault::NoMemory(refused)),
-    }
-}
-
-/// The same setup.
-fn copy(alloc: Global, setup: &Setup) -> Result<Setup, SessionsFault>
-    ensures { IfOk result (λ again. again ≡ setup.now) }
-{
-    match setup.copy(alloc) {
-        Ok(again) => Ok(again),
-        Err(refused) => Err(SessionsFault::NoMemory(refused)),
     }
 }
 
@@ -324,13 +264,14 @@ pub type Ended<R, P, J> = (
     Option<Kept<J>>,
 );
 
-/// Sessions of as many seats as there are openers, from 1 to 64, over one run of the setup, each in a thread of its
-/// own, until all have ended; then the control, whose journal has the commands of all, and what came of each seat, in the
-/// order of the openers, of which the k-th is that of seat k. Each thread opens its own seat, so a seat begins when its
+/// Sessions of as many seats as there are openers, from 1 to 64, over one control, each in a thread of its
+/// own, until all have ended; then the control, whose journal has the commands of all behind its entries so far, and what came
+/// of each seat, in the order of the openers, of which the k-th is that of seat k. Each thread opens its own seat, so a seat begins when its
 /// streams are open, and holds no other until then. A line has its response as in a session of one seat, but that no
-/// line chooses a seat. A seat with a prompt is greeted with the setup in words, and where there is more than one seat its
+/// line chooses a seat. A seat with a prompt is greeted with this greeting, the setup in words, and where there is more than one seat its
 /// number stands before the prompt. A seat that can't be opened, or whose session ends with a fault, ends alone, and the others go
-/// on. The journal can be written, and a replay of what was written tells each seat what it was told.
+/// on. Where the journal so far can be written, the whole journal can be too, and a replay of what was written tells each seat what it
+/// was told.
 ///
 /// Where there is a file, the journal is kept in it: ten times a second the entries that are new are added in one piece,
 /// and the last ones once all sessions have ended. Where it can't be written, the sessions go on.
@@ -342,50 +283,47 @@ pub type Ended<R, P, J> = (
 ///
 /// Promise: With several seats one journal explains the responses to each: it has the commands of each seat's lines, in
 /// order and each once, or the first of them and is full; each seat got the replies to them there, in full before it
-/// was asked for more; no entry is of another seat. What a line of a seat asks of the run is answered of the run that a
-/// beginning of the journal leaves, which has of the seat just the commands of the lines before. A seat is opened in its own thread; one that can't be opened has no
+/// was asked for more; no entry is of another seat. A seat is opened in its own thread; one that can't be opened has no
 /// entry, and ends with that fault. A seat that fails ends alone; only after out of memory the journal may have one
 /// command more than had its reply. The file has the journal at the end, or a beginning of it where it could not be
 /// written or memory was out.
 pub fn debug_seats<
     R: Runs + Send,
-    A: Answers<R> + Send,
     P: Opener + Send,
     J: Sink + Drop,
     Rt: Threads + Wait + Clock + Sync,
 >(
     rt: &Rt,
     alloc: Global,
-    setup: Setup,
+    control: Control<R>,
+    greeting: &[u8],
     openers: Vec<P>,
     file: Option<J>,
 ) -> Result<Ended<R, P, J>, SessionsFault>
     requires some { 1 ≤ vec_len openers }
-    requires fits { vec_len openers ≤ MAX_SEATS }
+    requires seats { vec_len openers ≡ control.seats }
+    requires greeting { greeting.now ≡ greeting_text control.setup }
     ensures sessions { IfOk result
-        (λ r. AreSessions R.rules A.answers P.Seat.known P.opens setup openers.items r.0 r.1.items) }
+        (λ r. AreSessions R.rules P.Seat.known P.opens control openers.items r.0 r.1.items) }
     ensures kept { IfOk result (λ r. HasKept J.stream file r.2 r.0.journal) }
-    ensures writable { IfOk result (λ r. IsWritable r.0) }
+    ensures writable { IfOk result (λ r. IsWritable control → IsWritable r.0) }
     ensures headline { IfOk result (λ r. HasHeadline R.rules R.same_state r.0) }
 {
-    let count = openers.len() as u8;
+    let count = control.seats();
     let done = reserve(alloc, openers.len())?;
     let all = reserve(alloc, openers.len())?;
-    let greeting = greet(alloc, &setup)?;
-    let again = copy(alloc, &setup)?;
     let welcome = Welcome {
-        setup: &again,
-        greeting: greeting.as_slice(),
+        greeting,
         seats: count,
     };
-    let (shared, seats, watch) = open_shared::<R, Rt>(rt, alloc, setup, count)?;
+    let (shared, seats, watch) = share(rt, alloc, control)?;
     let going = AtomicU64::new(u64::from(count));
     let keeping = Keeping {
         watch,
         file,
         count: Ok(0),
     };
-    let left = run_all::<R, A, P, J, Rt>(
+    let left = run_all(
         rt, alloc, &shared, &going, welcome, seats, openers, keeping, done, all,
     );
     let (seats, finished, keeping) = match left {

@@ -37,7 +37,7 @@ pub returns-in-Err-clause-asks : goal.returns-in-Err-clause-asks
 returns-in-Err-clause-asks c =
     let line = c.args.line.now in
     let no_quit : line ≢ quit_line = search rules in
-    (c.if-line-gt-MAX_BYTES.false, (not_own line c.in_default.ensures.none no_quit c.in_default-seat_of.ensures.none (no_inquiry line (sym c.in_default-inquiry_of.ensures)), (c.in-Err.ensures.fault c.in-Err.fault).0 refl))
+    (c.if-line-gt-MAX_BYTES.false, (not_own line c.in_default.ensures.none no_quit c.in_default-seat_of.ensures.none (no_inquiry line (sym c.in_default-inquiry_of.ensures)), (c.in-Err.ensures.fault c.in-Err.fault).0 refl, refl))
 
 pub returns-in-Err-clause-only : goal.returns-in-Err-clause-only
 returns-in-Err-clause-only c =
