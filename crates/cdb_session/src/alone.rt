@@ -11,6 +11,7 @@ use crate::greeting::{greeting_at, greeting_text};
 use crate::inquiry::Inquiry;
 use crate::repl::run;
 use crate::style::Style;
+use cdb_base::NoMemory;
 use cdb_base::limits::MAX_SEATS;
 use cdb_control::{CallFault, Command, Control, Reply};
 use cdb_journal::open_from;

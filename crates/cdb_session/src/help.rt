@@ -46,7 +46,8 @@ pub const SEATS: &str = "  seat 1 .. seat 9      makes the lines after it those 
 
 /// The other lines that a session takes.
 pub const OTHERS: &str =
-    "  explain P [K]         prints what led to step K of P, or to its last step
+    "  auto P N              does auto P N times, until it is refused
+  explain P [K]         prints what led to step K of P, or to its last step
   trail P [K]           prints how a value came to that step
   help                  lists the commands
   help WORD             lists the lines that begin with WORD
