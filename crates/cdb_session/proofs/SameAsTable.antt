@@ -274,9 +274,9 @@ module _ (Answers : RunView → Inquiry → List ℕ → Type 0) (greeting promp
       let calls : drop (length before) c.journal ≡ its = ap (drop (length before)) is ∙ drop-append_seam before its in
       let n : ℕ = MAX_ENTRIES - length before in
       let room : MAX_ENTRIES ≡ length before + n = omega (arith, few, many) in
-      let as = as_many before its (came rules c before) (exchanges ++ others) calls many (omega (arith, few, many)) has.0 in
+      let many_are = as_many before its (came rules c before) (exchanges ++ others) calls many (omega (arith, few, many)) has.0 in
       let all : c.journal ≡ take MAX_ENTRIES (before ++ all_of (nine greeting prompt) (exchanges ++ others)) =
-      is ∙ ap (λ (more : List Entry). before ++ more) as ∙ sym (ap (λ m. take m (before ++ all_of (nine greeting prompt) (exchanges ++ others))) room ∙ take-append-add before (all_of (nine greeting prompt) (exchanges ++ others)) n) in
+      is ∙ ap (λ (more : List Entry). before ++ more) many_are ∙ sym (ap (λ m. take m (before ++ all_of (nine greeting prompt) (exchanges ++ others))) room ∙ take-append-add before (all_of (nine greeting prompt) (exchanges ++ others)) n) in
       let fits_before : length before ≤ MAX_ENTRIES = omega (arith, few, many) in
       answered_from rules c before seats (omega (arith, many)) (table.begun rules c.setup before) before exchanges others 0
       (record { rules_are = refl; setup_is = refl; seats_are = refl; few = fits_before; come_to = sym (take_all MAX_ENTRIES before fits_before); counted = omega arith; all = all })

@@ -389,6 +389,6 @@ unfolding amiss_in
 sound_lines_are_taken line is =
     elim (all_taken (words_of line) is) [
       | inl (inl own) ↦ inl (subst IsOwn (join_with_byte-slice_split 32 line) own)
-      | inl (inr asks) ↦ inl (inr (inr (inr asks)))
+      | inl (inr (inquiry, others, are, its)) ↦ inl (inr (inr (inr (inquiry, (others, are, its)))))
       | inr command ↦ inr command
     ]

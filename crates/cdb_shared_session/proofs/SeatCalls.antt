@@ -43,6 +43,7 @@ module _ (rules : Parts → Rules) where
       let first_seen : (first : ℕ) → first ≤ length old.seen → take first new.seen ≡ take first old.seen =
       λ first few. ap (take first) later.begins.1 ∙ take-append-le first old.seen later.begins.0 few in
       record {
+        before = refl;
         longer = omega (arith, ap length later.begins.1, length-append old.seen later.begins.0);
         calls_in = λ first few. (λ i. length (own (later.number i) (first_seen first few i)));
         left_by = λ first few. (λ i. run_left rules (later.setup i) (later.seats i) (first_seen first few i));
@@ -92,6 +93,7 @@ pub asked_now : {E : Type 0} (rules : Parts → Rules) (Answers : RunView → In
 asked_now rules Answers seat inquiry (Ok text) is =
     let all : take (length seat.seen) seat.seen ≡ seat.seen = take_all (length seat.seen) seat.seen (omega arith) in
     record {
+      since = omega arith;
       all = ap (λ (seen : List Entry). length (own seat.number seen)) all ∙ sym (map-length (entry seat.number) (calls_of seat));
       answers = subst (λ (seen : List Entry). Answers (run_left rules seat.setup seat.seats seen) inquiry text.items) (sym all) is;
     }

@@ -2,6 +2,7 @@
 
 use super::person::{Person, with_lines};
 use cdb_any_run::AnyRun;
+use cdb_program::Printed;
 use cdb_session::debug;
 use cdb_setup::SetupFault;
 use cdb_streams::PlayFault;
@@ -35,13 +36,13 @@ line 6 fault 5 Missing: a step is due
 
 /// Holds a session at a prompt with someone.
 fn hold(alloc: Global, console: &mut Person) -> Result<(), PlayFault> {
-    debug::<AnyRun, _>(alloc, ONE_PROCESS, b"", b"> ", console)
+    debug::<AnyRun, Printed, _>(alloc, ONE_PROCESS, b"", b"> ", console)
 }
 
 /// Holds a session without a prompt, in which this many bytes come at a time.
 fn check_responses<R: Abort + AllocGlobal>(rt: &R, lines: &'static [u8], said: &str, most: usize) {
     let mut console = with_lines(rt.alloc(), lines, most);
-    let outcome = debug::<AnyRun, _>(rt.alloc(), ONE_PROCESS, b"", b"", &mut console);
+    let outcome = debug::<AnyRun, Printed, _>(rt.alloc(), ONE_PROCESS, b"", b"", &mut console);
     assert_eq!(rt; outcome, Ok(()));
     assert_eq!(rt; str::from_utf8(console.said.as_slice()), Ok(said));
 }
@@ -88,7 +89,7 @@ fn after_quit_no_more_is_asked_for(rt: HostRuntime) {
 #[test]
 fn a_bad_setup_is_found_before_all_else(rt: HostRuntime) {
     let mut console = with_lines(rt.alloc(), b"auto 1\n", 7);
-    let outcome = debug::<AnyRun, _>(rt.alloc(), b"[]", b"", b"> ", &mut console);
+    let outcome = debug::<AnyRun, Printed, _>(rt.alloc(), b"[]", b"", b"> ", &mut console);
     assert_eq!(rt; outcome, Err(PlayFault::Setup(SetupFault::NotObject)));
     assert_eq!(rt; (console.said.len(), console.asked_at.len()), (0, 0));
 }
