@@ -2,7 +2,6 @@
 use Rattle.std.specs.Prelude.{◌≡◌, ◌⊎◌, ℕ, ◌<◌, ◌≤◌, Bool, true, List, [], ◌∷◌, ◌++◌, length, Result, Ok, Err, Vec}
 use Rattle.std.specs.Global.{Global}
 use Rattle.cdb_commands.specs.ToldReply.{ToldReply, is_refused}
-use Rattle.cdb_control.specs.Journal.{entry}
 use Rattle.cdb_control.specs.declared.control.Entry.{Entry}
 use Rattle.cdb_rules.specs.RunView.{RunView}
 use Rattle.cdb_session.specs.Answers.{AnswersNow}
@@ -12,7 +11,7 @@ use Rattle.cdb_session.specs.declared.request.Request.{Request}
 use Rattle.cdb_session.specs.declared.request.Request.TheVariants.{Call, Ask}
 use Rattle.cdb_session.specs.Styles.{StyleView, Part, IsFull, IsCalled, AreCalled, MakesNone}
 use Rattle.cdb_session.specs.Dialogues.{full_text}
-use Rattle.cdb_session.specs.Parts.{IsGiven}
+use Rattle.cdb_session.specs.Parts.{IsGiven, entries_of}
 use Rattle.cdb_session.specs.Repeats.{times_given}
 use Rattle.cdb_text.specs.Texts.{text_of}
 use Rattle.cdb_session.specs.Replies.{Along, response, shown}
@@ -32,15 +31,14 @@ seen_by part s = record { part = part s.caller; seat = s.seat; lines = s.lines }
 abbrev pub at_line : SessionView → List ToldReply → Along
 at_line session got = record { seat = session.seat; replies = got; lines = session.lines }
 
--- The session has given the command that the line asks for, if it does, as often as it got one of these replies.
+-- the session has given the command that the line asks for, if it asks for one, and got each time one of these replies
 abbrev pub HasGot : ℕ → Part → Request → List ToldReply → Part → Type 0
-HasGot seat old (Call command times) got new = AreCalled old (entry seat command) got new
-HasGot seat old other got new = MakesNone old new × (got ≡ [])
+HasGot seat old request got new = AreCalled old (entries_of seat request (length got)) got new
 
 -- what was given of it was to be given
 abbrev pub IsToBeGiven : Request → List ToldReply → Type 0
 IsToBeGiven (Call command times) got = (length got ≤ times) × (times_given (length got) got ≡ length got)
-IsToBeGiven other got = Unit {0}
+IsToBeGiven other got = got ≡ []
 
 -- what the line asks for was begun
 pub record HasBegun (seat : ℕ) (old : Part) (request : Request) (new : Part) : Type 0 where

@@ -14,10 +14,18 @@ abbrev pub IsGiven : Exchange → List ToldReply → Type 0
 IsGiven (Call command times, outcome) replies = outcome.given ≡ times_given times replies
 IsGiven other replies = Unit {0}
 
--- the entries that a line of this seat asks for
+-- the entries of a line of this seat whose command was given so often
+abbrev pub entries_of : ℕ → Request → ℕ → List Entry
+entries_of seat (Call command times) count = replicate count (entry seat command)
+entries_of seat (Ask inquiry) count = []
+entries_of seat (Seat chosen) count = []
+entries_of seat (Help about) count = []
+entries_of seat Quit count = []
+entries_of seat (Fault fault) count = []
+entries_of seat TooLong count = []
+
 abbrev pub asked_of : ℕ → Exchange → List Entry
-asked_of seat (Call command times, outcome) = replicate outcome.given (entry seat command)
-asked_of seat other = []
+asked_of seat exchange = entries_of seat exchange.0 exchange.1.given
 
 -- the seat of the next line
 abbrev pub seat_next : Bool → ℕ → Request → ℕ

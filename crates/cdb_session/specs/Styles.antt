@@ -1,5 +1,5 @@
 -- What a session shows beside its responses, and what calls do to the part of a journal that is its own.
-use Rattle.std.specs.Prelude.{◌≡◌, ℕ, ◌≤◌, Bool, true, List, [], ◌∷◌, ◌++◌, decimal, length, replicate, Result, Ok, Err, if◌then◌else◌}
+use Rattle.std.specs.Prelude.{◌≡◌, ℕ, ◌≤◌, Bool, true, List, [], ◌∷◌, ◌++◌, decimal, Result, Ok, Err, if◌then◌else◌}
 use Rattle.cdb_base.specs.Limits.{MAX_ENTRIES}
 use Rattle.cdb_commands.specs.ToldReply.{ToldReply, told}
 use Rattle.cdb_commands.specs.declared.reply.Reply.{Reply}
@@ -56,10 +56,10 @@ pub record MakesNone (old new : Part) : Type 0 where
   pub replies : new.replies ≡ old.replies
   pub full : IsFull old → IsFull new
 
--- the session made this entry as often as it got one of these replies
-pub record AreCalled (old : Part) (one : Entry) (got : List ToldReply) (new : Part) : Type 0 where
+-- the session made these entries, and got these replies, of which there are none where the journal was full
+pub record AreCalled (old : Part) (made : List Entry) (got : List ToldReply) (new : Part) : Type 0 where
   pub goes_on : GoesOn old new
-  pub calls : new.calls ≡ old.calls ++ replicate (length got) one
+  pub calls : new.calls ≡ old.calls ++ made
   pub replies : new.replies ≡ old.replies ++ got
   pub full : IsFull old → (got ≡ []) × IsFull new
 

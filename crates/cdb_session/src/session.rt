@@ -73,12 +73,12 @@ impl<C: Caller> Session<C> {
         &mut self,
         alloc: Global,
         style: &Style<'_>,
-        command: Command,
+        command: &Command,
         times: u32,
     ) -> Result<Vec<u8>, NoMemory>
         requires { MaySit style.now (C.seats self.old.caller) self.old.seat }
         ensures responds { Responds C.answers style.now result (seen_by C.part self.old)
-            (Request.Call command times) (seen_by C.part self.new) }
+            (Request.Call command.now times) (seen_by C.part self.new) }
         ensures seat { self.new.seat ≡ self.old.seat }
         ensures lines { self.new.lines ≡ self.old.lines }
         ensures seats { C.seats self.new.caller ≡ C.seats self.old.caller }
@@ -86,7 +86,7 @@ impl<C: Caller> Session<C> {
     {
         let mut text = Vec::new(alloc);
         for _ in 0..times {
-            if self.call(alloc, style, command, &mut text)? {
+            if self.call(alloc, style, *command, &mut text)? {
                 break;
             }
         }
@@ -131,7 +131,7 @@ impl<C: Caller> Session<C> {
         ensures later { Onward C.later self.old.caller self.new.caller }
     {
         match request {
-            Request::Call(command, times) => self.call_times(alloc, style, *command, *times),
+            Request::Call(command, times) => self.call_times(alloc, style, command, *times),
             Request::Ask(inquiry) => self.caller.ask(alloc, *inquiry),
             _ => self.respond_itself(alloc, style, request),
         }
