@@ -87,5 +87,5 @@ module _ (Answers : RunView → Inquiry → List ℕ → Type 0) (style : StyleV
     )
 
   -- there is no memory for the prompt
-  pub unprompted : {E F : Type 0} (text : Vec ℕ Global) (e : F) (old new : SessionView) (request : Request) → Responds Answers style {E = E} (Ok text) old request new → Shows Answers style {E = F} (Err e) old request new
-  unprompted text e old new request (outcome, got, done, is) = begun_where_done Answers old.seat old.part new.part request outcome got done
+  pub unprompted : (E F : Type 0) (text : Vec ℕ Global) (e : F) (old new : SessionView) (request : Request) → Responds Answers style {E = E} (Ok text) old request new → Shows Answers style {E = F} (Err e) old request new
+  unprompted E F text e old new request (outcome, got, done, is) = begun_where_done Answers old.seat old.part new.part request outcome got done

@@ -87,7 +87,7 @@ impl<C: Caller> Session<C> {
         let mut text = Vec::new(alloc);
         for _ in 0..times {
             if self.call(alloc, style, *command, &mut text)? {
-                break;
+                return Ok(text);
             }
         }
         Ok(text)
