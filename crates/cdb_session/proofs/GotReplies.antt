@@ -274,16 +274,18 @@ module _ (Answers : RunView → Inquiry → List ℕ → Type 0) (style : StyleV
             omega (arith, ap length same, no_more_than old has.0)) in (
               has_more old new exchange got done.calls done.fits done.full has.0,
               one_told (IsDoneAfter Answers (part_with replies new)) 0 exchanges exchange (told_later exchange.0 got done.calls has)
-              (told_at exchange done.answer few, given_behind exchange got more done.given done.fits (λ low. may (done.full low)) left),
+                  (told_at exchange done.answer few, given_behind exchange got more done.given done.fits (λ low. may (done.full low)) left),
             )
 
       nothing_lost : (request : Request) (got : List ToldReply) → HasGot seat old request got new → got ≡ [] → HasExchanges Answers style (part_with replies old) exchanges → HasExchanges Answers style (part_with replies new) exchanges
       nothing_lost request got calls nothing has =
-          let same : new.calls ≡ old.calls = calls.calls ∙ ap (λ (g : List ToldReply). old.calls ++ entries_of seat request (length g)) nothing ∙ ap (λ (made : List Entry). old.calls ++ made) (no_entry seat request) ∙ append-nil old.calls in
-          (elim has.0 [
-            | inl all ↦ inl (same ∙ all)
-            | inr some ↦ inr ((calls.full some.0).1, some.1, some.2 ∙ ap (λ (front : List Entry). front ++ some.1) (sym same))
-          ], told_later request got calls has)
+          let same : new.calls ≡ old.calls = calls.calls ∙ ap (λ (g : List ToldReply). old.calls ++ entries_of seat request (length g)) nothing ∙ ap (λ (made : List Entry). old.calls ++ made) (no_entry seat request) ∙ append-nil old.calls in (
+            elim has.0 [
+              | inl all ↦ inl (same ∙ all)
+              | inr some ↦ inr ((calls.full some.0).1, some.1, some.2 ∙ ap (λ (front : List Entry). front ++ some.1) (sym same))
+            ],
+            told_later request got calls has,
+          )
 
       pub commands_lost : (request : Request) (begun : HasBegun seat old request new) → drop (commands_among exchanges) replies ≡ begun.got ++ [] → HasExchanges Answers style (part_with replies old) exchanges → HasPart exchanges replies new request
       commands_lost (Call command times) begun left has =

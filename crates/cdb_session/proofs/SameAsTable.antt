@@ -114,7 +114,7 @@ module _ (rules : Parts → Rules) (seat : ℕ) (command : Command) where
   -- as often as it can be
   some_given : (times : ℕ) (replies : List ToldReply) → 1 ≤ times_given (suc times) replies
   some_given times [] = omega arith
-  some_given times (reply ∷ replies) = elim (cases_Bool (is_refused reply)) [ | inl is ↦ rw is (omega arith) | inr is ↦ rw is (omega arith) ]
+  some_given times (reply ∷ replies) = elim (cases_Bool (is_refused reply)) [ inl is ↦ rw is (omega arith) | inr is ↦ rw is (omega arith) ]
 
   given_there : (times count : ℕ) (c : Journaled) (rest : List Entry) → length c.journal ≤ MAX_ENTRIES → count ≡ times_given times (replies_at rules c (replicate count one ++ rest)) → count ≡ table.given_to rules seat command c times
   given_there zero count c rest few is = is
