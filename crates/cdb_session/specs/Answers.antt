@@ -37,7 +37,7 @@ module _ (Answers : RunView → Inquiry → List ℕ → Type 0) where
   abbrev pub IsDoneAfter : Part → ℕ → Exchange → Type 0
   IsDoneAfter part count exchange = IsAnsweredAfter part count exchange × IsGiven exchange (drop count part.replies)
 
-  -- the journal has the commands of these lines, each as often as it is to be given, and what they ask of the run is answered so
+  -- the journal has the commands of these lines, each as often as it is to be given, and the questions are answered so
   abbrev pub HasExchanges : StyleView → Part → List Exchange → Type 0
   HasExchanges style part exchanges = HasCommands style part exchanges × AreTold (IsDoneAfter part) 0 exchanges
 

@@ -46,7 +46,8 @@ pub record HasBegun (seat : ℕ) (old : Part) (request : Request) (new : Part) :
   pub calls : HasGot seat old request got new
   pub due : IsToBeGiven request got
 
--- One command more was given, with a reply or without, and the text of that was added. It was the last where this is true.
+-- The command was given once more, and the text of the reply added, or that the journal is full. Where this is true it was
+-- the last time.
 abbrev pub GivesOnce : {E : Type 0} → Result Bool E → Part → Entry → List ℕ → List ℕ → Part → Type 0
 GivesOnce (Ok last) old one before text new =
     ((reply : ToldReply) × IsCalled old one reply new × (last ≡ is_refused reply) × (text ≡ before ++ text_of reply))
@@ -56,9 +57,11 @@ GivesOnce (Err fault) old one before text new = MakesNone old new ⊎ ((reply : 
 module _ (Answers : RunView → Inquiry → List ℕ → Type 0) where
   -- where the line asks something of the run, this answers it
   abbrev pub IsAnsweredAt : Exchange → Part → Type 0
-  IsAnsweredAt exchange part = (inquiry : Inquiry) → exchange.0 ≡ Ask inquiry → AnswersNow Answers part inquiry exchange.1.answer
+  IsAnsweredAt exchange part =
+      (inquiry : Inquiry) → exchange.0 ≡ Ask inquiry → AnswersNow Answers part inquiry exchange.1.answer
 
-  -- What a line asks for was done, by this seat, with these replies. Where its command was given once more, the journal is full.
+  -- What a line asks for was done, by this seat, with these replies. Where its command was given more often, the journal is
+  -- full.
   pub record HasDone (seat : ℕ) (old : Part) (exchange : Exchange) (got : List ToldReply) (new : Part) : Type 0 where
     pub calls : HasGot seat old exchange.0 got new
     pub given : IsGiven exchange got

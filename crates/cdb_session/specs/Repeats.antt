@@ -13,8 +13,8 @@ abbrev pub IsRepeatLine : ℕ → ℕ → List ℕ → Type 0
 IsRepeatLine p times line =
     (words_of line ≡ map part_text (repeat_parts p times)) × AllByRecursion IsInRange (repeat_parts p times)
 
--- How often a command is given that is to be given so many times, by the replies that follow: until it is refused, or has no reply since the
--- journal is full.
+-- How often a command is given that is to be given so many times, by the replies that follow: until it is refused, or there
+-- is no reply since the journal is full.
 abbrev pub times_given : ℕ → List ToldReply → ℕ
 times_given zero replies = 0
 times_given (suc times) [] = 1

@@ -76,7 +76,8 @@ Asks exchange line = AsksFor exchange.0 (line_meant line)
 
 -- the line asks for that, or for its command more often
 abbrev pub AsksForNoLess : Exchange → List ℕ → Type 0
-AsksForNoLess (Call command times, outcome) line = (all : ℕ) × (times ≤ all) × AsksFor (Call command all) (line_meant line)
+AsksForNoLess (Call command times, outcome) line =
+    (all : ℕ) × (times ≤ all) × AsksFor (Call command all) (line_meant line)
 AsksForNoLess other line = Asks other line
 
 -- the line is `quit`, as it is typed

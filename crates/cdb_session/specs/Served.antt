@@ -27,8 +27,8 @@ module _ (Answers : RunView → Inquiry → List ℕ → Type 0) (style : StyleV
       (exchanges : List Exchange) × AreAsked exchanges lines × (text ≡ dialogue style part.replies exchanges)
       × HasExchanges Answers style part exchanges
 
-  -- the journal has the commands of these lines, and of the next line its command, given once or more often, if not as often as it asks for
-  pub record HasBegun (lines next : List (List ℕ)) : Type 0 where
+  -- the journal has the commands of these lines, and of the next line's command as often as it was given until then
+  pub record HasCommandsSoFar (lines next : List (List ℕ)) : Type 0 where
     pub exchanges : List Exchange
     pub begun : List Exchange
     pub asked : AreAsked exchanges lines
@@ -44,7 +44,7 @@ module _ (Answers : RunView → Inquiry → List ℕ → Type 0) (style : StyleV
     pub begins : lines_of (read_in moves) ≡ (lines ++ next) ++ others
     pub one : length next ≤ 1
     pub responded : IsAnswered lines (written_in moves)
-    pub commands : HasBegun lines next
+    pub commands : HasCommandsSoFar lines next
 
   -- a session that has made these moves, and returned this
   abbrev pub IsSession : {A : Type 0} → Result A PlayFault → List Move → Type 0

@@ -51,7 +51,7 @@ module _ (rules : Parts → Rules) (seat : ℕ) (command : Command) where
   abbrev pub control_behind : Journaled → Journaled
   control_behind control = if is_full control then control else extended rules control seat command
 
-  -- how often it is given that is to be given so many times: until it is refused, or the journal is full
+  -- how often it is given, of so many times: until it is refused, or the journal is full
   abbrev pub given_to : Journaled → ℕ → ℕ
   given_to control zero = 0
   given_to control (suc times) =
@@ -105,7 +105,7 @@ run_in s = run_left s.rules s.control.setup s.control.seats s.control.journal
 
 -- of a run, what is asked of it and a text, whether the text is the answer
 module _ (Answers : RunView → Inquiry → List ℕ → Type 0) where
-  -- what a line asks of the run is answered by the one that its control has come to then, and its command is given as often as it can be
+  -- A command is given as often as it can be. What a line asks of the run is answered by the one that the control has come to.
   abbrev pub IsAnsweredIn : Session → Exchange → Type 0
   IsAnsweredIn s (Call command times, outcome) = outcome.given ≡ given_to s.rules s.seat command s.control times
   IsAnsweredIn s (Ask inquiry, outcome) = Answers (run_in s) inquiry outcome.answer

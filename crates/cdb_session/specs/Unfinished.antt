@@ -56,7 +56,8 @@ module _ (Answers : RunView → Inquiry → List ℕ → Type 0) (style : StyleV
   -- so far the session has responded in time, whatever its journal will have of it beside these commands
   abbrev pub RespondsOnTime : List ToldReply → List Exchange → List Move → Type 0
   RespondsOnTime replies exchanges moves =
-      (final : Part) (others : List Exchange) → HasExchanges Answers style (part_with replies final) (exchanges ++ others)
+      (final : Part) (others : List Exchange)
+      → HasExchanges Answers style (part_with replies final) (exchanges ++ others)
       → RespondsInTime (IsAnswered Answers style (part_with replies final)) moves
 
   -- After these moves the lines that have ended have their responses, with these of the replies. Of the next line this

@@ -95,11 +95,11 @@ pub fn begin<R: Runs>(
 ///
 /// Promise: Whenever a session asks for more input, all lines that it was given so far have their responses in full,
 /// none of them was `quit`, and the input was not at its end. At the end it has written exactly the dialogue of all
-/// that was read, and has ended at `quit`, at the end of the input, which is asked for once, or after 2^63 bytes. What
-/// a line asks of the run is answered of the one that the commands before it have led to. A line that repeats a command
-/// gives it as often as it says, or until it is refused or the journal is full, and its response is the texts of all replies. After a failed read each line
-/// that had ended has its response; after a failed write what was written is a beginning of the responses; after out of
-/// memory it is the responses to the first of the lines.
+/// that was read, and has ended at `quit`, at the end of the input, which is asked for once, or after 2^63 bytes.
+/// What a line asks of the run is answered of the one that the commands before it have led to. A line that repeats a
+/// command gives it as often as it says, or until it is refused or the journal is full, and its response is the texts
+/// of all replies. After a failed read each line that had ended has its response; after a failed write what was
+/// written is a beginning of the responses; after out of memory it is the responses to the first of the lines.
 pub fn debug<R: Runs, A: Answers<R>, T: Console>(
     alloc: Global,
     setup: &[u8],

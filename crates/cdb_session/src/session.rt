@@ -172,7 +172,8 @@ fn push_full(text: &mut Vec<u8>) -> Result<bool, NoMemory>
 
 /// Adds the text of a reply, which is given up. Returns whether it is a refusal.
 fn push_reply(alloc: Global, text: &mut Vec<u8>, reply: Reply) -> Result<bool, NoMemory>
-    ensures { IfOk result (λ last. (last ≡ is_refused (told reply)) × (text.new.items ≡ text.old.items ++ text_of (told reply))) }
+    ensures { IfOk result (λ last. (last ≡ is_refused (told reply))
+        × (text.new.items ≡ text.old.items ++ text_of (told reply))) }
 {
     let refused = matches!(reply, Reply::Refused(_));
     let added = reply_text(alloc, &reply);
