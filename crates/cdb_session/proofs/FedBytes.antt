@@ -11,7 +11,7 @@ use Rattle.cdb_session.specs.Unfinished.{IsOver, part_with, ended_well, ended_by
 use Rattle.cdb_session.specs.Requests.{HasNoEnd}
 use Rattle.cdb_session.specs.Moves.{Known, Move, AreWrites, Makes}
 use Rattle.cdb_rules.specs.RunView.{RunView}
-use Rattle.cdb_session.specs.Exchanges.{Exchange, Outcome, commands_among}
+use Rattle.cdb_session.specs.Exchanges.{Outcome, commands_among}
 use Rattle.cdb_session.specs.declared.inquiry.Inquiry.{Inquiry}
 use Rattle.cdb_session.specs.declared.request.Request.{Request}
 use Rattle.cdb_session.specs.declared.request.Request.TheVariants.{Quit}

@@ -9,7 +9,7 @@ use Rattle.cdb_control.specs.Journal.{entry}
 use Rattle.cdb_control.specs.declared.control.Entry.{Entry}
 use Rattle.cdb_rules.specs.RunView.{RunView}
 use Rattle.cdb_text.specs.Texts.{text_of}
-use Rattle.cdb_session.specs.Answers.{AnswersNow, AreTold, IsTold, IsAnsweredAfter, IsDoneAfter, HasExchanges}
+use Rattle.cdb_session.specs.Answers.{AnswersNow, AreTold, IsAnsweredAfter, IsDoneAfter, HasExchanges}
 use Rattle.cdb_session.specs.Exchanges.{Exchange, Outcome, given_at, commands_among}
 use Rattle.cdb_session.specs.declared.inquiry.Inquiry.{Inquiry}
 use Rattle.cdb_session.specs.declared.request.Request.{Request}

@@ -1,11 +1,8 @@
 -- What a session answers to one line.
-use Rattle.std.proofs.Common.{◌≡◌, ◌≢◌, inl, inr, ◌+◌, ℕ, List, [], ◌∷◌, length, refl, sym, ap, subst, ◌∙◌, arith, Vec, Global}
+use Rattle.std.proofs.Common.{◌≡◌, ◌≢◌, inl, inr, ◌+◌, ℕ, List, [], refl, sym, subst, ◌∙◌, arith, Vec, Global}
 use Rattle.std.specs.Prelude.{Result, Ok, Err, IfOk, IsTrue, ◌↔◌, Bool}
 use Rattle.cdb_base.specs.Memory.{no_memory}
-use Rattle.cdb_commands.specs.ToldReply.{ToldReply}
 use Rattle.cdb_commands.specs.declared.command.Command.{Command}
-use Rattle.cdb_control.specs.Journal.{entry}
-use Rattle.cdb_text.specs.Texts.{text_of}
 use Rattle.cdb_session.specs.Moves.{WritesAll, Known, Makes}
 use Rattle.cdb_session.specs.Requests.{AsksFor}
 use Rattle.cdb_rules.specs.RunView.{RunView}

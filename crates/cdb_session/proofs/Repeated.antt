@@ -1,6 +1,6 @@
 -- A command that is given several times, one time after the other.
-use Rattle.std.proofs.Common.{◌≡◌, inl, inr, ℕ, zero, suc, ◌+◌, ◌-◌, ◌<◌, ◌≤◌, Bool, true, false, List, [], ◌∷◌, ◌++◌, length, refl, sym, ap, subst, ◌∙◌, append_assoc, append-nil, arith, length-append, Vec, Global}
-use Rattle.std.specs.Prelude.{if◌then◌else◌, replicate, Result, Ok, Err}
+use Rattle.std.proofs.Common.{◌≡◌, inl, inr, ℕ, zero, suc, ◌+◌, ◌-◌, ◌<◌, Bool, true, false, List, [], ◌∷◌, ◌++◌, length, refl, sym, ap, ◌∙◌, append_assoc, append-nil, arith, length-append, Vec, Global}
+use Rattle.std.specs.Prelude.{if◌then◌else◌, replicate, Ok, Err}
 use Rattle.std.specs.List.{AllByRecursion}
 use Rattle.std.proofs.lemmas.List.{replicate_more}
 use Rattle.cdb_commands.specs.ToldReply.{ToldReply, is_refused}
@@ -10,11 +10,10 @@ use Rattle.cdb_control.specs.declared.control.Entry.{Entry}
 use Rattle.cdb_rules.specs.RunView.{RunView}
 use Rattle.cdb_text.specs.Texts.{text_of}
 use Rattle.cdb_session.specs.Dialogues.{full_text}
-use Rattle.cdb_session.specs.Exchanges.{Outcome}
-use Rattle.cdb_session.specs.Lines.{SessionView, HasBegun, HasDone, Responds, GivesOnce}
+use Rattle.cdb_session.specs.Lines.{SessionView, HasBegun, Responds, GivesOnce}
 use Rattle.cdb_session.specs.Repeats.{times_given}
 use Rattle.cdb_session.specs.Replies.{replies_text}
-use Rattle.cdb_session.specs.Styles.{StyleView, Part, IsFull, AreCalled, IsCalled, MakesNone}
+use Rattle.cdb_session.specs.Styles.{StyleView, Part, AreCalled, IsCalled, MakesNone}
 use Rattle.cdb_session.specs.declared.inquiry.Inquiry.{Inquiry}
 use Rattle.cdb_session.specs.declared.request.Request.TheVariants.{Call}
 use Rattle.cdb_session.proofs.GotReplies.{GoesOn-trans, MakesNone-refl, none_called}

@@ -20,9 +20,8 @@ use Rattle.cdb_rules.specs.RunView.{RunView}
 use Rattle.cdb_rules.specs.Rules.{Rules}
 use Rattle.cdb_session.specs.declared.inquiry.Inquiry.{Inquiry}
 use Rattle.cdb_setup.specs.Parts.{Parts}
-use Rattle.cdb_text.specs.Texts.{text_of}
 use Rattle.cdb_session.specs.Replies.{Along, shown_from, dialogue, reply_text, next_replies, replies_text}
-use Rattle.cdb_session.specs.Dialogues.{full_text, shown_by, shown_from_by}
+use Rattle.cdb_session.specs.Dialogues.{shown_by, shown_from_by}
 use Rattle.cdb_session.specs.Alone.{all_replies_from, whole_part, nine}
 use Rattle.cdb_session.specs.Answers.{AreTold, HasExchanges, IsDoneAfter, IsTold, run_left}
 use Rattle.cdb_session.specs.Parts.{all_asked, all_of, asked_of, seat_next, HasCommands}

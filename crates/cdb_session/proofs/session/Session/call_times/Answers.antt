@@ -1,10 +1,10 @@
-use Rattle.std.proofs.Common.{◌+◌, ◌++◌, ◌∷◌, [], length, ℕ, refl, sym, ap, subst, ◌∙◌, arith, length-append, Err, Ok}
+use Rattle.std.proofs.Common.{◌+◌, ◌++◌, ◌∷◌, [], ℕ, refl, ap, subst, ◌∙◌, arith, length-append, Err, Ok}
 use Rattle.std.proofs.lemmas.Result.{err_from_is_err_and}
 use Rattle.cdb_base.specs.declared.no_memory.NoMemory.{NoMemory}
 use Rattle.cdb_control.specs.Journal.{entry}
-use Rattle.cdb_session.specs.Lines.{SessionView, GivesOnce, seen_by}
+use Rattle.cdb_session.specs.Lines.{GivesOnce, seen_by}
 use Rattle.cdb_session.specs.Styles.{stays, goes}
-use Rattle.cdb_session.proofs.Repeated.{HasRepeated, begun_repeat, repeated_more, all_given, last_given, cut_short}
+use Rattle.cdb_session.proofs.Repeated.{begun_repeat, repeated_more, all_given, last_given, cut_short}
 use Rattle.cdb_session.proofs.session.Session.call_times.Goals as goal
 
 pub loop-init : goal.loop-init
