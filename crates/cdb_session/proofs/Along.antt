@@ -1,8 +1,9 @@
 -- A dialogue grows by one response after the other.
-use Rattle.std.proofs.Common.{◌≡◌, ℕ, Bool, List, [], ◌∷◌, ◌++◌, refl, sym, ap, ◌∙◌, append_assoc, append-nil}
+use Rattle.std.proofs.Common.{◌≡◌, ℕ, Bool, List, [], ◌∷◌, ◌++◌, drop, refl, sym, ap, ◌∙◌, append_assoc, append-nil}
 use Rattle.std.proofs.lemmas.Grind.{fold-append}
+use Rattle.std.proofs.lemmas.List.{drop-drop}
 use Rattle.cdb_commands.specs.ToldReply.{ToldReply}
-use Rattle.cdb_session.specs.Exchanges.{Exchange}
+use Rattle.cdb_session.specs.Exchanges.{Exchange, commands_among, given_at}
 use Rattle.cdb_control.specs.declared.control.Entry.{Entry}
 use Rattle.cdb_session.specs.Styles.{StyleView}
 use Rattle.cdb_session.specs.Parts.{asked_of, seat_next, seat_behind, all_asked}
@@ -26,11 +27,16 @@ dialogue-more style replies exchanges exchange =
 
 -- so does what the lines ask for
 pub all_asked-more : (chooses : Bool) (seat : ℕ) (exchanges : List Exchange) (exchange : Exchange)
-    → all_asked chooses seat (exchanges ++ exchange ∷ []) ≡ all_asked chooses seat exchanges ++ asked_of (seat_behind chooses seat exchanges) exchange.0
-all_asked-more chooses seat [] exchange = append-nil (asked_of seat exchange.0)
+    → all_asked chooses seat (exchanges ++ exchange ∷ []) ≡ all_asked chooses seat exchanges ++ asked_of (seat_behind chooses seat exchanges) exchange
+all_asked-more chooses seat [] exchange = append-nil (asked_of seat exchange)
 all_asked-more chooses seat (first ∷ exchanges) exchange =
-    ap (λ (more : List Entry). asked_of seat first.0 ++ more) (all_asked-more chooses (seat_next chooses seat first.0) exchanges exchange)
-    ∙ sym (append_assoc (asked_of seat first.0) (all_asked chooses (seat_next chooses seat first.0) exchanges) (asked_of (seat_behind chooses (seat_next chooses seat first.0) exchanges) exchange.0))
+    ap (λ (more : List Entry). asked_of seat first ++ more) (all_asked-more chooses (seat_next chooses seat first.0) exchanges exchange)
+    ∙ sym (append_assoc (asked_of seat first) (all_asked chooses (seat_next chooses seat first.0) exchanges) (asked_of (seat_behind chooses (seat_next chooses seat first.0) exchanges) exchange))
+
+-- the replies that are left are those behind the replies to these lines
+pub replies_along : (style : StyleView) (s : Along) (exchanges : List Exchange) → (along_after style s exchanges).replies ≡ drop (commands_among exchanges) s.replies
+replies_along style s [] = refl
+replies_along style s (exchange ∷ exchanges) = replies_along style (next_along style s exchange) exchanges ∙ drop-drop (commands_among exchanges) (given_at exchange) s.replies
 
 -- the seat of a session is that which its lines chose last
 pub seat_along : (style : StyleView) (s : Along) (exchanges : List Exchange) → (along_after style s exchanges).seat ≡ seat_behind style.chooses s.seat exchanges

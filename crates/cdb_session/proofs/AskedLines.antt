@@ -11,8 +11,8 @@ use Rattle.cdb_setup.specs.Format.{longest}
 use Rattle.cdb_session.specs.Unfinished.{unfinished_of}
 use Rattle.cdb_session.specs.Requests.{Asks, AsksFor, IsQuit, HaveQuit, quit_line, up_to_quit}
 use Rattle.cdb_session.specs.Typed.{line_meant}
-use Rattle.cdb_session.proofs.InquiryLines.{no_quit}
-use Rattle.cdb_session.proofs.OneRequest.{only_too_long}
+use Rattle.cdb_session.proofs.InquiryLines.{no_quit, repeats_no_other}
+use Rattle.cdb_session.proofs.OneRequest.{only_too_long, repeats}
 use Rattle.cdb_session.specs.Exchanges.{Exchange}
 use Rattle.cdb_session.specs.declared.request.Request.{Request}
 use Rattle.cdb_session.specs.declared.request.Request.TheVariants.{Call, Ask, Seat, Help, Quit, Fault, TooLong}
@@ -36,7 +36,8 @@ asks_whole (request, answer) line asks =
 
 -- a line that asks for something else is not `quit`
 not_quit : (request : Request) (line : List ℕ) → AsksFor request line → request ≢ Quit → line ≢ quit_line
-not_quit (Call command) line asks other is = asks.1.0 (inr (inl is))
+not_quit (Call command times) line asks other is =
+    let r = repeats line command times asks.1 (inr (inl is)) in repeats_no_other line quit_line 113 r.0 times r.2 is refl (λ e. omega (arith, e))
 not_quit (Ask inquiry) line asks other is = no_quit line inquiry asks.1 is
 not_quit (Seat seat) line asks other is =
     let first : 115 ≡ 113 = ap (λ bytes. get_or bytes 0 0) (sym asks.1.1 ∙ is) in absurd (omega (arith, first))

@@ -1,5 +1,5 @@
 -- A session looks at the bytes that it was given, whatever replies will follow.
-use Rattle.std.proofs.Common.{◌⊎◌, inl, inr, ◌≡◌, ◌≢◌, rules, ℕ, ◌+◌, ◌<◌, Bool, true, false, List, [], ◌∷◌, ◌++◌, length, take, refl, sym, ap, subst, ◌∙◌, append_assoc, append-nil}
+use Rattle.std.proofs.Common.{◌⊎◌, inl, inr, ◌≡◌, ◌≢◌, rules, ℕ, ◌+◌, ◌<◌, Bool, true, false, List, [], ◌∷◌, ◌++◌, drop, length, take, refl, sym, ap, subst, ◌∙◌, append_assoc, append-nil}
 use Rattle.std.specs.Prelude.{Result, Ok, Err, IsTrue}
 use Rattle.cdb_base.specs.Memory.{no_memory as refused}
 use Rattle.cdb_commands.specs.ToldReply.{ToldReply}
@@ -11,7 +11,7 @@ use Rattle.cdb_session.specs.Unfinished.{IsOver, part_with, ended_well, ended_by
 use Rattle.cdb_session.specs.Requests.{HasNoEnd}
 use Rattle.cdb_session.specs.Moves.{Known, Move, AreWrites, Makes}
 use Rattle.cdb_rules.specs.RunView.{RunView}
-use Rattle.cdb_session.specs.Exchanges.{Exchange}
+use Rattle.cdb_session.specs.Exchanges.{Outcome, commands_among}
 use Rattle.cdb_session.specs.declared.inquiry.Inquiry.{Inquiry}
 use Rattle.cdb_session.specs.declared.request.Request.{Request}
 use Rattle.cdb_session.specs.declared.request.Request.TheVariants.{Quit}
@@ -20,7 +20,7 @@ use Rattle.cdb_session.proofs.WrittenText.{AreWrites-append}
 use Rattle.cdb_session.specs.Styles.{StyleView, Part}
 use Rattle.cdb_session.specs.Replies.{Along, begun_along}
 use Rattle.cdb_session.specs.Parts.{seat_behind}
-use Rattle.cdb_session.proofs.Along.{seat_along}
+use Rattle.cdb_session.proofs.Along.{replies_along, seat_along}
 use Rattle.cdb_session.specs.Unfinished.{IsAt, MoreMayFollow, StaysAt, IsLineDone, IsLineBroken, IsRequestLost, RespondsToLine, HasEndedAs, Feeds}
 use Rattle.cdb_session.specs.Lines.{SessionView, HasGot, at_line}
 use Rattle.cdb_session.specs.Served.{IsSession}
@@ -33,6 +33,9 @@ false_is_not_true b is holds = search rules
 true_is_true : (b : Bool) → b ≡ true → IsTrue b
 true_is_true b is = search rules
 
+nothing : Outcome
+nothing = record { given = 0; answer = [] }
+
 no_more : (part : Part) → MoreMayFollow [] part
 no_more part full = refl
 
@@ -40,6 +43,10 @@ module _ (Answers : RunView → Inquiry → List ℕ → Type 0) (style : StyleV
   -- the seat of a session is that which its lines chose last
   sits : {replies : List ToldReply} {moves : List Move} {part : Part} {along : Along} {unfinished left : List ℕ} (at : IsAt Answers style replies moves part along unfinished left) → along.seat ≡ seat_behind style.chooses style.first at.exchanges
   sits {replies} at = ap (λ (s : Along). s.seat) at.along_is ∙ seat_along style (begun_along style replies) at.exchanges
+
+  -- the replies that are left follow those to the commands so far
+  behind : {replies : List ToldReply} {moves : List Move} {part : Part} {along : Along} {unfinished left : List ℕ} (at : IsAt Answers style replies moves part along unfinished left) → drop (commands_among at.exchanges) replies ≡ along.replies
+  behind {replies} at = sym (ap (λ (s : Along). s.replies) at.along_is ∙ replies_along style (begun_along style replies) at.exchanges)
 
   -- where no reply follows, the replies are those of the seat
   finish : (returned : Result (Unit {0}) PlayFault) (moves : List Move) (session : SessionView) → IsSession Answers style (part_with (session.part.replies ++ []) session.part) returned moves → HasEndedAs Answers style returned moves session
@@ -66,7 +73,7 @@ module _ (Answers : RunView → Inquiry → List ℕ → Type 0) (style : StyleV
         let now = before_line moves old unfinished (10 ∷ left) at new.part d.exchange.0 d.got d.done.calls more may in
         let same = same_line Answers style old.seat old.part d.exchange d.got new.part d.done more may old.lines in
         let other : d.exchange.0 ≢ Quit = λ is. (let yes : IsTrue was_quit = d.quit_exactly.1 is in absurd (false_is_not_true was_quit goes_on yes)) in
-        line_responded Answers style (new.part.replies ++ more) moves old.part (at_line old (d.got ++ more)) unfinished left now d.exchange d.asks new.part (commands_done Answers style old.seat now.exchanges (sits now) old.part d.exchange d.got new.part d.done now.commands) made d.writes
+        line_responded Answers style (new.part.replies ++ more) moves old.part (at_line old (d.got ++ more)) unfinished left now d.exchange d.asks new.part (commands_done Answers style old.seat now.exchanges (sits now) (new.part.replies ++ more) old.part new.part more may d.exchange d.got (behind now) d.done now.commands) made d.writes
         (at_line new more) kept (d.written ∙ same.0) ((λ i. let s : Along = record { seat = d.seat i; replies = more; lines = d.lines i } in s) ∙ sym same.1) d.lines d.emptied other
 
     line_quits : (kept : List ℕ) (was_quit : Bool) (made : List Move) → IsLineDone Answers style old new unfinished kept was_quit made → was_quit ≡ true → HasEndedAs Answers style ended_well (moves ++ made) new
@@ -74,7 +81,7 @@ module _ (Answers : RunView → Inquiry → List ℕ → Type 0) (style : StyleV
         let now = before_line moves old unfinished (10 ∷ left) at new.part d.exchange.0 d.got d.done.calls [] (no_more new.part) in
         let same = same_line Answers style old.seat old.part d.exchange d.got new.part d.done [] (no_more new.part) old.lines in
         finish ended_well (moves ++ made) new
-        (line_quit Answers style (new.part.replies ++ []) moves old.part (at_line old (d.got ++ [])) unfinished left now d.exchange d.asks new.part (commands_done Answers style old.seat now.exchanges (sits now) old.part d.exchange d.got new.part d.done now.commands) made d.writes
+        (line_quit Answers style (new.part.replies ++ []) moves old.part (at_line old (d.got ++ [])) unfinished left now d.exchange d.asks new.part (commands_done Answers style old.seat now.exchanges (sits now) (new.part.replies ++ []) old.part new.part [] (no_more new.part) d.exchange d.got (behind now) d.done now.commands) made d.writes
         (d.written ∙ same.0) (d.quit_exactly.0 (true_is_true was_quit quit_exactly)))
 
     line_breaks : (made : List Move) → IsLineBroken Answers style old new unfinished made → HasEndedAs Answers style (ended_by output.Write) (moves ++ made) new
@@ -82,15 +89,15 @@ module _ (Answers : RunView → Inquiry → List ℕ → Type 0) (style : StyleV
         let now = before_line moves old unfinished (10 ∷ left) at new.part d.exchange.0 d.got d.done.calls [] (no_more new.part) in
         let same = same_line Answers style old.seat old.part d.exchange d.got new.part d.done [] (no_more new.part) old.lines in
         finish (ended_by output.Write) (moves ++ made) new
-        (line_broken Answers style (new.part.replies ++ []) moves old.part (at_line old (d.got ++ [])) unfinished left now d.exchange d.asks new.part (commands_done Answers style old.seat now.exchanges (sits now) old.part d.exchange d.got new.part d.done now.commands) made d.writes
+        (line_broken Answers style (new.part.replies ++ []) moves old.part (at_line old (d.got ++ [])) unfinished left now d.exchange d.asks new.part (commands_done Answers style old.seat now.exchanges (sits now) (new.part.replies ++ []) old.part new.part [] (no_more new.part) d.exchange d.got (behind now) d.done now.commands) made d.writes
         d.missing (sym same.0 ∙ d.written) d.fails)
 
     line_loses : (new ≡ old) ⊎ IsRequestLost Answers style old new unfinished → HasEndedAs Answers style (ended_by (output.NoMemory refused)) moves new
     line_loses (inl same) = subst (HasEndedAs Answers style (ended_by (output.NoMemory refused)) moves) (sym same) (out_of_memory moves old unfinished (10 ∷ left) at)
     line_loses (inr d) =
-        let now = before_line moves old unfinished (10 ∷ left) at new.part d.request d.got d.done [] (no_more new.part) in
+        let now = before_line moves old unfinished (10 ∷ left) at new.part d.request d.begun.got d.begun.calls [] (no_more new.part) in
         finish (ended_by (output.NoMemory refused)) moves new
-        (line_lost Answers style (new.part.replies ++ []) moves old.part (at_line old (d.got ++ [])) unfinished left now (d.request, []) d.asks new.part (commands_lost Answers style old.seat now.exchanges (sits now) old.part d.request d.got new.part d.done now.commands))
+        (line_lost Answers style (new.part.replies ++ []) moves old.part (at_line old (d.begun.got ++ [])) unfinished left now (d.request, nothing) d.asks new.part (commands_lost Answers style old.seat now.exchanges (sits now) (new.part.replies ++ []) old.part new.part d.request d.begun (behind now) now.commands))
 
   module _ (moves : List Move) (old : SessionView) (unfinished : List ℕ) (at : StaysAt Answers style moves old unfinished []) (over : IsOver moves) where
     pub last_is_none : length unfinished ≡ 0 → HasEndedAs Answers style ended_well moves old
@@ -102,7 +109,7 @@ module _ (Answers : RunView → Inquiry → List ℕ → Type 0) (style : StyleV
           let now = before_line moves old unfinished [] at new.part d.exchange.0 d.got d.done.calls [] (no_more new.part) in
           let same = same_line Answers style old.seat old.part d.exchange d.got new.part d.done [] (no_more new.part) old.lines in
           finish ended_well (moves ++ made) new
-          (last_responded Answers style (new.part.replies ++ []) moves old.part (at_line old (d.got ++ [])) unfinished now over some d.exchange d.asks new.part (commands_done Answers style old.seat now.exchanges (sits now) old.part d.exchange d.got new.part d.done now.commands) made d.writes
+          (last_responded Answers style (new.part.replies ++ []) moves old.part (at_line old (d.got ++ [])) unfinished now over some d.exchange d.asks new.part (commands_done Answers style old.seat now.exchanges (sits now) (new.part.replies ++ []) old.part new.part [] (no_more new.part) d.exchange d.got (behind now) d.done now.commands) made d.writes
           (d.written ∙ same.0))
 
       pub last_breaks : (made : List Move) → IsLineBroken Answers style old new unfinished made → HasEndedAs Answers style (ended_by output.Write) (moves ++ made) new
@@ -110,15 +117,15 @@ module _ (Answers : RunView → Inquiry → List ℕ → Type 0) (style : StyleV
           let now = before_line moves old unfinished [] at new.part d.exchange.0 d.got d.done.calls [] (no_more new.part) in
           let same = same_line Answers style old.seat old.part d.exchange d.got new.part d.done [] (no_more new.part) old.lines in
           finish (ended_by output.Write) (moves ++ made) new
-          (last_broken Answers style (new.part.replies ++ []) moves old.part (at_line old (d.got ++ [])) unfinished now over some d.exchange d.asks new.part (commands_done Answers style old.seat now.exchanges (sits now) old.part d.exchange d.got new.part d.done now.commands) made d.writes
+          (last_broken Answers style (new.part.replies ++ []) moves old.part (at_line old (d.got ++ [])) unfinished now over some d.exchange d.asks new.part (commands_done Answers style old.seat now.exchanges (sits now) (new.part.replies ++ []) old.part new.part [] (no_more new.part) d.exchange d.got (behind now) d.done now.commands) made d.writes
           d.missing (sym same.0 ∙ d.written) d.fails)
 
       pub last_loses : (new ≡ old) ⊎ IsRequestLost Answers style old new unfinished → HasEndedAs Answers style (ended_by (output.NoMemory refused)) moves new
       last_loses (inl same) = subst (HasEndedAs Answers style (ended_by (output.NoMemory refused)) moves) (sym same) (out_of_memory moves old unfinished [] at)
       last_loses (inr d) =
-          let now = before_line moves old unfinished [] at new.part d.request d.got d.done [] (no_more new.part) in
+          let now = before_line moves old unfinished [] at new.part d.request d.begun.got d.begun.calls [] (no_more new.part) in
           finish (ended_by (output.NoMemory refused)) moves new
-          (last_lost Answers style (new.part.replies ++ []) moves old.part (at_line old (d.got ++ [])) unfinished now over some (d.request, []) d.asks new.part (commands_lost Answers style old.seat now.exchanges (sits now) old.part d.request d.got new.part d.done now.commands))
+          (last_lost Answers style (new.part.replies ++ []) moves old.part (at_line old (d.begun.got ++ [])) unfinished now over some (d.request, nothing) d.asks new.part (commands_lost Answers style old.seat now.exchanges (sits now) (new.part.replies ++ []) old.part new.part d.request d.begun (behind now) now.commands))
 
   -- from the first of the bytes on, up to those that are left
   abbrev pub Goes : Known → SessionView → List ℕ → List ℕ → Known → SessionView → List ℕ → List ℕ → Type 0

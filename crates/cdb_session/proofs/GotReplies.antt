@@ -1,64 +1,131 @@
 -- What one line does to a session, and to what the journal has of it.
-use Rattle.std.proofs.Common.{◌≡◌, ◌≢◌, ◌⊎◌, inl, inr, ℕ, ◌+◌, ◌≤◌, Bool, List, [], ◌∷◌, ◌++◌, length, refl, sym, ap, subst, ◌∙◌, append_assoc, append-nil, arith, length-append, min}
-use Rattle.cdb_commands.specs.ToldReply.{ToldReply}
+use Rattle.std.proofs.Common.{◌≡◌, ◌≢◌, ◌⊎◌, inl, inr, ℕ, zero, suc, ◌+◌, ◌-◌, ◌<◌, ◌≤◌, Bool, true, false, List, [], ◌∷◌, ◌++◌, drop, length, refl, sym, ap, subst, ◌∙◌, append_assoc, append-nil, arith, length-append, min}
+use Rattle.std.specs.Prelude.{if◌then◌else◌, replicate}
+use Rattle.std.proofs.lemmas.Bool.{cases_lt}
+use Rattle.std.proofs.lemmas.List.{length-replicate, replicate-append-replicate, nil_from_length}
+use Rattle.cdb_commands.specs.ToldReply.{ToldReply, is_refused}
 use Rattle.cdb_commands.specs.declared.command.Command.{Command}
 use Rattle.cdb_control.specs.Journal.{entry}
 use Rattle.cdb_control.specs.declared.control.Entry.{Entry}
 use Rattle.cdb_rules.specs.RunView.{RunView}
-use Rattle.cdb_session.specs.Answers.{AnswersNow, AreTold, IsTold, HasExchanges}
-use Rattle.cdb_session.specs.Exchanges.{Exchange, commands_among}
+use Rattle.cdb_text.specs.Texts.{text_of}
+use Rattle.cdb_session.specs.Answers.{AnswersNow, AreTold, IsAnsweredAfter, IsDoneAfter, HasExchanges}
+use Rattle.cdb_session.specs.Exchanges.{Exchange, Outcome, given_at, commands_among}
 use Rattle.cdb_session.specs.declared.inquiry.Inquiry.{Inquiry}
 use Rattle.cdb_session.specs.declared.request.Request.{Request}
 use Rattle.cdb_session.specs.declared.request.Request.TheVariants.{Call, Ask, Seat, Help, Quit, Fault, TooLong}
-use Rattle.cdb_session.specs.Styles.{StyleView, Part, GoesOn, IsFull, IsCalled, MakesNone}
-use Rattle.cdb_session.specs.Replies.{Along, response, next_along, shown}
-use Rattle.cdb_session.specs.Unfinished.{MoreMayFollow}
-use Rattle.cdb_session.specs.Lines.{HasGot, FindsFull, HasDone}
-use Rattle.cdb_session.specs.Parts.{all_asked, asked_of, seat_next, seat_behind, all_of, HasCommands}
+use Rattle.cdb_session.specs.Repeats.{times_given}
+use Rattle.cdb_session.specs.Requests.{AsksFor, AsksForNoLess}
+use Rattle.cdb_session.specs.Styles.{StyleView, Part, GoesOn, IsFull, AreCalled, MakesNone}
+use Rattle.cdb_session.specs.Replies.{Along, next_along, replies_text, shown}
+use Rattle.cdb_session.specs.Typed.{line_meant}
+use Rattle.cdb_session.specs.Unfinished.{MoreMayFollow, part_with}
+use Rattle.cdb_session.specs.Lines.{HasBegun, HasGot, HasDone}
+use Rattle.cdb_session.specs.Parts.{IsGiven, all_asked, asked_of, entries_of, seat_next, seat_behind, all_of, HasCommands}
 use Rattle.cdb_session.proofs.Along.{all_asked-more}
 use Rattle.cdb_session.proofs.ToldOn.{AsManyLater, all_told_on}
 
 GoesOn-refl : (part : Part) → GoesOn part part
 GoesOn-refl part = record { before = refl; longer = omega arith; calls_in = λ first few. refl; left_by = λ first few. refl }
 
+pub GoesOn-trans : (old now new : Part) → GoesOn old now → GoesOn now new → GoesOn old new
+GoesOn-trans old now new a b =
+    record {
+      before = b.before ∙ a.before;
+      longer = omega (arith, a.longer, b.longer);
+      calls_in = λ first few. b.calls_in first (omega (arith, few, a.longer)) ∙ a.calls_in first few;
+      left_by = λ first few. b.left_by first (omega (arith, few, a.longer)) ∙ a.left_by first few;
+    }
+
 pub MakesNone-refl : (part : Part) → MakesNone part part
 MakesNone-refl part = record { goes_on = GoesOn-refl part; calls = refl; replies = refl; full = λ full. full }
 
-asks_nothing : (seat : ℕ) (request : Request) (part : Part) → FindsFull request [] part → asked_of seat request ≡ [] ⊎ IsFull part
-asks_nothing seat (Call command) part full = inr (full command refl refl)
-asks_nothing seat (Ask inquiry) part full = inl refl
-asks_nothing seat (Seat chosen) part full = inl refl
-asks_nothing seat (Help about) part full = inl refl
-asks_nothing seat Quit part full = inl refl
-asks_nothing seat (Fault fault) part full = inl refl
-asks_nothing seat TooLong part full = inl refl
+pub none_called : (old new : Part) → MakesNone old new → AreCalled old [] [] new
+none_called old new same =
+    record { goes_on = same.goes_on; calls = same.calls ∙ sym (append-nil old.calls); replies = same.replies ∙ sym (append-nil old.replies); full = λ full. (refl, same.full full) }
+
+-- no entry stands for a command that was not given
+pub no_entry : (seat : ℕ) (request : Request) → entries_of seat request 0 ≡ []
+no_entry seat (Call command times) = refl
+no_entry seat (Ask inquiry) = refl
+no_entry seat (Seat chosen) = refl
+no_entry seat (Help about) = refl
+no_entry seat Quit = refl
+no_entry seat (Fault fault) = refl
+no_entry seat TooLong = refl
+
+pub none_got : (seat : ℕ) (request : Request) (old new : Part) → MakesNone old new → HasGot seat old request [] new
+none_got seat request old new same = subst (λ (made : List Entry). AreCalled old made [] new) (sym (no_entry seat request)) (none_called old new same)
+
+pub none : (got : List ToldReply) → length got ≤ 0 → got ≡ []
+none got few = nil_from_length got (omega (arith, few))
 
 -- ---- a line that asks for no command and nothing of the run
 
-pub none_done : (Answers : RunView → Inquiry → List ℕ → Type 0) (seat : ℕ) (part : Part) (request : Request) (answer : List ℕ) → ((command : Command) → request ≢ Call command) → ((inquiry : Inquiry) → request ≢ Ask inquiry) → HasDone Answers seat part (request, answer) [] part
-none_done Answers seat part request answer other and_other = record { calls = MakesNone-refl part; full = λ command is. absurd (other command is); answer = λ inquiry is. absurd (and_other inquiry is) }
+given_nothing : (request : Request) (outcome : Outcome) → ((command : Command) (times : ℕ) → request ≢ Call command times) → IsGiven (request, outcome) []
+given_nothing (Call command times) outcome other = absurd (other command times refl)
+given_nothing (Ask inquiry) outcome other = tt
+given_nothing (Seat chosen) outcome other = tt
+given_nothing (Help about) outcome other = tt
+given_nothing Quit outcome other = tt
+given_nothing (Fault fault) outcome other = tt
+given_nothing TooLong outcome other = tt
+
+given_not : (request : Request) (outcome : Outcome) → ((command : Command) (times : ℕ) → request ≢ Call command times) → given_at (request, outcome) ≡ 0
+given_not (Call command times) outcome other = absurd (other command times refl)
+given_not (Ask inquiry) outcome other = refl
+given_not (Seat chosen) outcome other = refl
+given_not (Help about) outcome other = refl
+given_not Quit outcome other = refl
+given_not (Fault fault) outcome other = refl
+given_not TooLong outcome other = refl
+
+pub none_done : (Answers : RunView → Inquiry → List ℕ → Type 0) (seat : ℕ) (old new : Part) (request : Request) (outcome : Outcome) → MakesNone old new → ((command : Command) (times : ℕ) → request ≢ Call command times) → ((inquiry : Inquiry) → request ≡ Ask inquiry → AnswersNow Answers new inquiry outcome.answer)
+    → HasDone Answers seat old (request, outcome) [] new
+none_done Answers seat old new request outcome same other answers =
+    record {
+      calls = none_got seat request old new same;
+      given = given_nothing request outcome other;
+      fits = omega arith;
+      full = λ low. absurd (omega (arith, low, given_not request outcome other));
+      answer = answers;
+    }
 
 -- ---- from the replies that follow a line to those that follow the line before
 
-module _ (seat : ℕ) (old : Part) (request : Request) where
-  follow_got : (got : List ToldReply) (new : Part) → HasGot seat old request got new → (more : List ToldReply) → MoreMayFollow more new → MoreMayFollow (got ++ more) old
-  follow_got [] new is more may full = may (is.full full)
-  follow_got (reply ∷ []) new is more may full = absurd (is.2.room full)
-  follow_got (reply ∷ other ∷ others) new is more may full = absurd is
+module _ (seat : ℕ) (old : Part) (request : Request) (got : List ToldReply) (new : Part) (is : HasGot seat old request got new) (more : List ToldReply) where
+  pub may_follow : MoreMayFollow more new → MoreMayFollow (got ++ more) old
+  may_follow may full = let its = is.full full in λ i. its.0 i ++ may its.1 i
 
-  replies_got : (got : List ToldReply) (new : Part) → HasGot seat old request got new → new.replies ≡ old.replies ++ got
-  replies_got [] new is = is.replies ∙ sym (append-nil old.replies)
-  replies_got (reply ∷ []) new is = is.2.replies
-  replies_got (reply ∷ other ∷ others) new is = absurd is
-
-  module _ (got : List ToldReply) (new : Part) (is : HasGot seat old request got new) (more : List ToldReply) where
-    pub may_follow : MoreMayFollow more new → MoreMayFollow (got ++ more) old
-    may_follow may = follow_got got new is more may
-
-    pub same_replies : old.replies ++ (got ++ more) ≡ new.replies ++ more
-    same_replies = sym (append_assoc old.replies got more) ∙ ap (λ front. front ++ more) (sym (replies_got got new is))
+  pub same_replies : old.replies ++ (got ++ more) ≡ new.replies ++ more
+  same_replies = sym (append_assoc old.replies got more) ∙ ap (λ front. front ++ more) (sym is.replies)
 
 -- ---- the answer is that of the replies that were got
+
+texts_same : (count : ℕ) (got more : List ToldReply) → length got ≤ count → (length got < count → more ≡ []) → replies_text count got ≡ replies_text count (got ++ more)
+texts_same zero got more fits last = refl
+texts_same (suc count) [] more fits last = ap (replies_text (suc count)) (sym (last (omega arith)))
+texts_same (suc count) (reply ∷ got) more fits last = ap (λ text. text_of reply ++ text) (texts_same count got more (omega (arith, fits)) (λ low. last (omega (arith, low))))
+
+left_same : (count : ℕ) (got more : List ToldReply) → length got ≤ count → (length got < count → more ≡ []) → drop count (got ++ more) ≡ more
+left_same zero [] more fits last = refl
+left_same zero (reply ∷ got) more fits last = absurd (omega (arith, fits))
+left_same (suc count) [] more fits last = ap (drop (suc count)) (last (omega arith)) ∙ sym (last (omega arith))
+left_same (suc count) (reply ∷ got) more fits last = left_same count got more (omega (arith, fits)) (λ low. last (omega (arith, low)))
+
+-- the first reply is a refusal, or not
+abbrev first_and : Bool → ℕ → ℕ
+first_and refused count = if refused then 1 else (1 + count)
+
+by_reply : (there here n : ℕ) (more : List ToldReply) (refused : Bool) → (n ≤ here → (n < here → more ≡ []) → there ≡ here) → suc n ≤ first_and refused here → (suc n < first_and refused here → more ≡ []) → first_and refused there ≡ first_and refused here
+by_reply there here n more true rest fits last = refl
+by_reply there here n more false rest fits last = let e = rest (omega (arith, fits)) (λ low. last (omega (arith, low))) in omega (arith, e)
+
+given_same : (times : ℕ) (got more : List ToldReply) → length got ≤ times_given times got → (length got < times_given times got → more ≡ []) → times_given times (got ++ more) ≡ times_given times got
+given_same zero got more fits last = refl
+given_same (suc times) [] more fits last = ap (times_given (suc times)) (last (omega arith))
+given_same (suc times) (reply ∷ got) more fits last =
+    by_reply (times_given times (got ++ more)) (times_given times got) (length got) more (is_refused reply) (given_same times got more) fits last
 
 module _ (Answers : RunView → Inquiry → List ℕ → Type 0) (style : StyleView) where
   abbrev with_replies : ℕ → ℕ → List ToldReply → Along
@@ -70,143 +137,196 @@ module _ (Answers : RunView → Inquiry → List ℕ → Type 0) (style : StyleV
       (shown style (with_replies seat lines got) exchange ≡ shown style (with_replies seat lines (got ++ more)) exchange)
       × (next_along style (with_replies seat lines (got ++ more)) exchange ≡ with_replies (seat_next style.chooses seat exchange.0) (lines + 1) more)
 
-  call_text : (seat : ℕ) (command : Command) (answer : List ℕ) (got more : List ToldReply) (lines : ℕ) → (got ≡ [] → more ≡ []) → (old new : Part) → HasGot seat old (Call command) got new
-      → (response style (with_replies seat lines got) (Call command, answer) ≡ response style (with_replies seat lines (got ++ more)) (Call command, answer))
-      × (next_along style (with_replies seat lines (got ++ more)) (Call command, answer) ≡ with_replies seat (lines + 1) more)
-  call_text seat command answer [] [] lines none old new is = (refl, refl)
-  call_text seat command answer [] (other ∷ more) lines none old new is = let e : (other ∷ more) ≡ [] = none refl in absurd (omega (arith, ap length e))
-  call_text seat command answer (reply ∷ []) more lines none old new is = (refl, refl)
-  call_text seat command answer (reply ∷ other ∷ others) more lines none old new is = absurd is
-
-  -- a line that asks for no command gets no reply
-  no_reply : (seat : ℕ) (request : Request) (got : List ToldReply) (old new : Part) → ((command : Command) → request ≢ Call command) → HasGot seat old request got new → got ≡ []
-  no_reply seat request [] old new other is = refl
-  no_reply seat request (reply ∷ []) old new other is = absurd (other is.0 is.1)
-  no_reply seat request (reply ∷ second ∷ others) old new other is = absurd is
-
   -- what is shown and what is left does not depend on what follows
   pub same_line : (seat : ℕ) (old : Part) (exchange : Exchange) (got : List ToldReply) (new : Part) → HasDone Answers seat old exchange got new → (more : List ToldReply) → MoreMayFollow more new → (lines : ℕ) → SameLine seat exchange got more lines
-  same_line seat old (Call command, answer) got new done more may lines =
-      let it = call_text seat command answer got more lines (λ none. may (done.full command refl none)) old new done.calls in
-      (ap (λ text. text ++ style.prompt) it.0, it.1)
-  same_line seat old (Ask inquiry, answer) got new done more may lines =
-      let none = no_reply seat (Ask inquiry) got old new (λ command e. cc) done.calls in
-      (refl, ap (λ (front : List ToldReply). with_replies seat (lines + 1) (front ++ more)) none)
-  same_line seat old (Seat chosen, answer) got new done more may lines =
-      let none = no_reply seat (Seat chosen) got old new (λ command e. cc) done.calls in
-      (refl, ap (λ (front : List ToldReply). with_replies (seat_next style.chooses seat (Seat chosen)) (lines + 1) (front ++ more)) none)
-  same_line seat old (Help about, answer) got new done more may lines =
-      let none = no_reply seat (Help about) got old new (λ command e. cc) done.calls in
-      (refl, ap (λ (front : List ToldReply). with_replies seat (lines + 1) (front ++ more)) none)
-  same_line seat old (Quit, answer) got new done more may lines =
-      let none = no_reply seat Quit got old new (λ command e. cc) done.calls in
-      (refl, ap (λ (front : List ToldReply). with_replies seat (lines + 1) (front ++ more)) none)
-  same_line seat old (Fault fault, answer) got new done more may lines =
-      let none = no_reply seat (Fault fault) got old new (λ command e. cc) done.calls in
-      (refl, ap (λ (front : List ToldReply). with_replies seat (lines + 1) (front ++ more)) none)
-  same_line seat old (TooLong, answer) got new done more may lines =
-      let none = no_reply seat TooLong got old new (λ command e. cc) done.calls in
-      (refl, ap (λ (front : List ToldReply). with_replies seat (lines + 1) (front ++ more)) none)
+  same_line seat old (Call command times, outcome) got new done more may lines = (
+    ap (λ text. text ++ style.prompt) (texts_same outcome.given got more done.fits (λ low. may (done.full low))),
+    ap (λ (left : List ToldReply). with_replies seat (lines + 1) left) (left_same outcome.given got more done.fits (λ low. may (done.full low))),
+  )
+  same_line seat old (Ask inquiry, outcome) got new done more may lines = (refl, ap (λ (front : List ToldReply). with_replies seat (lines + 1) (front ++ more)) (none got done.fits))
+  same_line seat old (Seat chosen, outcome) got new done more may lines = (refl, ap (λ (front : List ToldReply). with_replies (seat_next style.chooses seat (Seat chosen)) (lines + 1) (front ++ more)) (none got done.fits))
+  same_line seat old (Help about, outcome) got new done more may lines = (refl, ap (λ (front : List ToldReply). with_replies seat (lines + 1) (front ++ more)) (none got done.fits))
+  same_line seat old (Quit, outcome) got new done more may lines = (refl, ap (λ (front : List ToldReply). with_replies seat (lines + 1) (front ++ more)) (none got done.fits))
+  same_line seat old (Fault fault, outcome) got new done more may lines = (refl, ap (λ (front : List ToldReply). with_replies seat (lines + 1) (front ++ more)) (none got done.fits))
+  same_line seat old (TooLong, outcome) got new done more may lines = (refl, ap (λ (front : List ToldReply). with_replies seat (lines + 1) (front ++ more)) (none got done.fits))
 
   -- ---- the session's entries, at a line of the seat that the lines before chose
 
+  -- the entries that a line asks for begin with those that were made, and are these where all were made
+  abbrev AskedBehind : ℕ → Exchange → ℕ → Type 0
+  AskedBehind seat exchange count = (rest : List Entry) × (asked_of seat exchange ≡ entries_of seat exchange.0 count ++ rest) × (given_at exchange ≤ count → rest ≡ [])
+
+  asked_behind : (seat : ℕ) (exchange : Exchange) (count : ℕ) → count ≤ given_at exchange → AskedBehind seat exchange count
+  asked_behind seat (Call command times, outcome) count fits =
+      let one = entry seat command in
+      let both : count + (outcome.given - count) ≡ outcome.given = omega (arith, fits) in (
+        replicate (outcome.given - count) one,
+        ap (λ n. replicate n one) (sym both) ∙ sym (replicate-append-replicate count (outcome.given - count) one),
+        λ most. let nothing : outcome.given - count ≡ 0 = omega (arith, most) in ap (λ n. replicate n one) nothing,
+      )
+  asked_behind seat (Ask inquiry, outcome) count fits = ([], refl, λ most. refl)
+  asked_behind seat (Seat chosen, outcome) count fits = ([], refl, λ most. refl)
+  asked_behind seat (Help about, outcome) count fits = ([], refl, λ most. refl)
+  asked_behind seat (Quit, outcome) count fits = ([], refl, λ most. refl)
+  asked_behind seat (Fault fault, outcome) count fits = ([], refl, λ most. refl)
+  asked_behind seat (TooLong, outcome) count fits = ([], refl, λ most. refl)
+
+  -- the entries that a line asks for are as many as its commands
+  as_many_at : (seat : ℕ) (exchange : Exchange) → length (asked_of seat exchange) ≡ given_at exchange
+  as_many_at seat (Call command times, outcome) = length-replicate outcome.given (entry seat command)
+  as_many_at seat (Ask inquiry, outcome) = refl
+  as_many_at seat (Seat chosen, outcome) = refl
+  as_many_at seat (Help about, outcome) = refl
+  as_many_at seat (Quit, outcome) = refl
+  as_many_at seat (Fault fault, outcome) = refl
+  as_many_at seat (TooLong, outcome) = refl
+
+  as_many_asked : (chooses : Bool) (at : ℕ) (its : List Exchange) → length (all_asked chooses at its) ≡ commands_among its
+  as_many_asked chooses at [] = refl
+  as_many_asked chooses at (exchange ∷ its) =
+      omega (arith, length-append (asked_of at exchange) (all_asked chooses (seat_next chooses at exchange.0) its), as_many_at at exchange, as_many_asked chooses (seat_next chooses at exchange.0) its)
+
+  -- one line more
+  one_told : (Told : ℕ → Exchange → Type 0) (count : ℕ) (its : List Exchange) (exchange : Exchange) → AreTold Told count its → Told (count + commands_among its) exchange → AreTold Told count (its ++ exchange ∷ [])
+  one_told Told count [] exchange told is = (subst (λ n. Told n exchange) (omega arith) is, tt)
+  one_told Told count (first ∷ its) exchange told is = (told.0, one_told Told (count + given_at first) its exchange told.1 (subst (λ n. Told n exchange) (omega arith) is))
+
+  -- out of memory nothing was done of a line, or its command was given, once or more often
+  abbrev pub HasPart : List Exchange → List ToldReply → Part → Request → Type 0
+  HasPart exchanges replies new request =
+      HasExchanges Answers style (part_with replies new) exchanges
+      ⊎ ((begun : Exchange) × HasExchanges Answers style (part_with replies new) (exchanges ++ begun ∷ []) × ((line : List ℕ) → AsksFor request (line_meant line) → AsksForNoLess begun line))
+
   module _ (seat : ℕ) (exchanges : List Exchange) (is_seat : seat ≡ seat_behind style.chooses style.first exchanges) where
-    all_of-more : (exchange : Exchange) → all_of style (exchanges ++ exchange ∷ []) ≡ all_of style exchanges ++ asked_of seat exchange.0
+    all_of-more : (exchange : Exchange) → all_of style (exchanges ++ exchange ∷ []) ≡ all_of style exchanges ++ asked_of seat exchange
     all_of-more exchange =
-        all_asked-more style.chooses style.first exchanges exchange ∙ ap (λ (its : ℕ). all_of style exchanges ++ asked_of its exchange.0) (sym is_seat)
+        all_asked-more style.chooses style.first exchanges exchange ∙ ap (λ (its : ℕ). all_of style exchanges ++ asked_of its exchange) (sym is_seat)
 
-    -- a command that was called
-    called : (old new : Part) (command : Command) (answer : List ℕ) (reply : ToldReply) → IsCalled old (entry seat command) reply new → HasCommands style old exchanges → HasCommands style new (exchanges ++ (Call command, answer) ∷ [])
-    called old new command answer reply call (inl all) = inl (call.calls ∙ ap (λ (calls : List Entry). calls ++ entry seat command ∷ []) all ∙ sym (all_of-more (Call command, answer)))
-    called old new command answer reply call (inr some) = absurd (call.room some.0)
+    -- ---- a line that gives a command
 
-    -- nothing was called, and the journal is full or nothing was asked for
-    not_called : (old new : Part) (exchange : Exchange) → MakesNone old new → (asked_of seat exchange.0 ≡ [] ⊎ IsFull new) → HasCommands style old exchanges → HasCommands style new (exchanges ++ exchange ∷ [])
-    not_called old new exchange same (inl none) (inl all) =
-        inl (same.calls ∙ all ∙ sym (all_of-more exchange ∙ ap (λ (more : List Entry). all_of style exchanges ++ more) none ∙ append-nil (all_of style exchanges)))
-    not_called old new exchange same (inr full) (inl all) =
-        inr (full, asked_of seat exchange.0, all_of-more exchange ∙ ap (λ (calls : List Entry). calls ++ asked_of seat exchange.0) (sym all ∙ sym same.calls))
-    not_called old new exchange same which (inr some) = inr (
-      same.full some.0,
-      some.1 ++ asked_of seat exchange.0,
-      all_of-more exchange ∙ ap (λ (calls : List Entry). calls ++ asked_of seat exchange.0) some.2 ∙ append_assoc old.calls some.1 (asked_of seat exchange.0)
-          ∙ ap (λ (calls : List Entry). calls ++ (some.1 ++ asked_of seat exchange.0)) (sym same.calls),
-    )
+    has_more : (old new : Part) (exchange : Exchange) (got : List ToldReply) → HasGot seat old exchange.0 got new → length got ≤ given_at exchange → (length got < given_at exchange → IsFull new) → HasCommands style old exchanges → HasCommands style new (exchanges ++ exchange ∷ [])
+    has_more old new exchange got calls fits full (inl all) =
+        let behind = asked_behind seat exchange (length got) fits in
+        let whole : all_of style (exchanges ++ exchange ∷ []) ≡ new.calls ++ behind.0 =
+        all_of-more exchange ∙ (λ i. sym all i ++ behind.1 i) ∙ sym (append_assoc old.calls (entries_of seat exchange.0 (length got)) behind.0) ∙ ap (λ (front : List Entry). front ++ behind.0) (sym calls.calls) in
+        elim (cases_lt (length got) (given_at exchange)) [
+          | inl short ↦ inr (full short, behind.0, whole)
+          | inr most ↦ inl (sym (append-nil new.calls) ∙ ap (λ (rest : List Entry). new.calls ++ rest) (sym (behind.2 most)) ∙ sym whole)
+        ]
+    has_more old new exchange got calls fits full (inr some) =
+        let its = calls.full some.0 in
+        let same : new.calls ≡ old.calls = calls.calls ∙ ap (λ (g : List ToldReply). old.calls ++ entries_of seat exchange.0 (length g)) its.0 ∙ ap (λ (made : List Entry). old.calls ++ made) (no_entry seat exchange.0) ∙ append-nil old.calls in
+        inr (
+          its.1,
+          some.1 ++ asked_of seat exchange,
+          all_of-more exchange ∙ ap (λ (front : List Entry). front ++ asked_of seat exchange) some.2 ∙ append_assoc old.calls some.1 (asked_of seat exchange)
+              ∙ ap (λ (front : List Entry). front ++ (some.1 ++ asked_of seat exchange)) (sym same),
+        )
 
-    -- ---- and what the run was asked
+    -- the journal has all the commands before
+    as_many_later : (old new : Part) (request : Request) (got : List ToldReply) → HasGot seat old request got new → HasCommands style old exchanges → AsManyLater old new (0 + commands_among exchanges)
+    as_many_later old new request got calls (inl all) n low =
+        omega (arith, low, ap length calls.calls, length-append old.calls (entries_of seat request (length got)), ap length all, as_many_asked style.chooses style.first exchanges)
+    as_many_later old new request got calls (inr some) n low =
+        let its = calls.full some.0 in
+        let same : new.calls ≡ old.calls = calls.calls ∙ ap (λ (g : List ToldReply). old.calls ++ entries_of seat request (length g)) its.0 ∙ ap (λ (made : List Entry). old.calls ++ made) (no_entry seat request) ∙ append-nil old.calls in
+        ap (λ (made : List Entry). min n (length made)) same
 
-    -- one line more
-    one_told : (part : Part) (count : ℕ) (its : List Exchange) (exchange : Exchange) → AreTold (IsTold Answers part) count its
-        → ((inquiry : Inquiry) → exchange.0 ≡ Ask inquiry → IsTold Answers part (count + commands_among its) inquiry exchange.1) → AreTold (IsTold Answers part) count (its ++ exchange ∷ [])
-    one_told part count [] (Ask inquiry, answer) told is = (subst (λ n. IsTold Answers part n inquiry answer) (omega arith) (is inquiry refl), tt)
-    one_told part count [] (Call command, answer) told is = tt
-    one_told part count [] (Seat chosen, answer) told is = tt
-    one_told part count [] (Help about, answer) told is = tt
-    one_told part count [] (Quit, answer) told is = tt
-    one_told part count [] (Fault fault, answer) told is = tt
-    one_told part count [] (TooLong, answer) told is = tt
-    one_told part count ((Call command, answer) ∷ its) exchange told is = one_told part (count + 1) its exchange told (λ inquiry asks. subst (λ n. IsTold Answers part n inquiry exchange.1) (omega arith) (is inquiry asks))
-    one_told part count ((Ask inquiry, answer) ∷ its) exchange told is = (told.0, one_told part count its exchange told.1 is)
-    one_told part count ((Seat chosen, answer) ∷ its) exchange told is = one_told part count its exchange told is
-    one_told part count ((Help about, answer) ∷ its) exchange told is = one_told part count its exchange told is
-    one_told part count ((Quit, answer) ∷ its) exchange told is = one_told part count its exchange told is
-    one_told part count ((Fault fault, answer) ∷ its) exchange told is = one_told part count its exchange told is
-    one_told part count ((TooLong, answer) ∷ its) exchange told is = one_told part count its exchange told is
+    no_more_than : (part : Part) → HasCommands style part exchanges → length part.calls ≤ commands_among exchanges
+    no_more_than part (inl all) = omega (arith, ap length all, as_many_asked style.chooses style.first exchanges)
+    no_more_than part (inr some) = omega (arith, ap length some.2, length-append part.calls some.1, as_many_asked style.chooses style.first exchanges)
 
-    -- the entries that lines ask for are as many as their commands
-    as_many_asked : (chooses : Bool) (at : ℕ) (its : List Exchange) → length (all_asked chooses at its) ≡ commands_among its
-    as_many_asked chooses at [] = refl
-    as_many_asked chooses at ((Call command, answer) ∷ its) = let others = as_many_asked chooses (seat_next chooses at (Call command)) its in omega (arith, others)
-    as_many_asked chooses at ((Ask inquiry, answer) ∷ its) = as_many_asked chooses (seat_next chooses at (Ask inquiry)) its
-    as_many_asked chooses at ((Seat chosen, answer) ∷ its) = as_many_asked chooses (seat_next chooses at (Seat chosen)) its
-    as_many_asked chooses at ((Help about, answer) ∷ its) = as_many_asked chooses (seat_next chooses at (Help about)) its
-    as_many_asked chooses at ((Quit, answer) ∷ its) = as_many_asked chooses (seat_next chooses at Quit) its
-    as_many_asked chooses at ((Fault fault, answer) ∷ its) = as_many_asked chooses (seat_next chooses at (Fault fault)) its
-    as_many_asked chooses at ((TooLong, answer) ∷ its) = as_many_asked chooses (seat_next chooses at TooLong) its
+    module _ (replies : List ToldReply) (old new : Part) where
+      told_later : (request : Request) (got : List ToldReply) → HasGot seat old request got new → HasExchanges Answers style (part_with replies old) exchanges → AreTold (IsDoneAfter Answers (part_with replies new)) 0 exchanges
+      told_later request got calls has = all_told_on Answers (part_with replies old) (part_with replies new) (on calls.goes_on) refl 0 exchanges (as_many_later old new request got calls has.0) has.1
+        where
+          on : GoesOn old new → GoesOn (part_with replies old) (part_with replies new)
+          on k = record { before = k.before; longer = k.longer; calls_in = k.calls_in; left_by = k.left_by }
 
-    -- the answer of the run as it stands, after all commands so far
-    all_among : (old new : Part) → MakesNone old new → HasCommands style old exchanges → length new.calls ≤ commands_among exchanges
-    all_among old new same (inl all) = omega (arith, ap length (same.calls ∙ all), as_many_asked style.chooses style.first exchanges)
-    all_among old new same (inr some) = omega (arith, ap length same.calls, ap length some.2, length-append old.calls some.1, as_many_asked style.chooses style.first exchanges)
+      -- the answer of the run as it stands, after all commands so far
+      told_at : (exchange : Exchange) → ((inquiry : Inquiry) → exchange.0 ≡ Ask inquiry → AnswersNow Answers new inquiry exchange.1.answer) → (given_at exchange ≡ 0 → length new.calls ≤ commands_among exchanges) → IsAnsweredAfter Answers (part_with replies new) (0 + commands_among exchanges) exchange
+      told_at (Call command times, outcome) answer few = tt
+      told_at (Ask inquiry, outcome) answer few = let now = answer inquiry refl in (new.entries, now.since, omega arith, omega (arith, now.all, few refl), now.answers)
+      told_at (Seat chosen, outcome) answer few = tt
+      told_at (Help about, outcome) answer few = tt
+      told_at (Quit, outcome) answer few = tt
+      told_at (Fault fault, outcome) answer few = tt
+      told_at (TooLong, outcome) answer few = tt
 
-    told_now : (old new : Part) → MakesNone old new → (inquiry : Inquiry) (answer : List ℕ) → AnswersNow Answers new inquiry answer → HasCommands style old exchanges → IsTold Answers new (0 + commands_among exchanges) inquiry answer
-    told_now old new same inquiry answer now has = (new.entries, now.since, omega arith, omega (arith, now.all, all_among old new same has), now.answers)
+      given_behind : (exchange : Exchange) (got more : List ToldReply) → IsGiven exchange got → length got ≤ given_at exchange → (length got < given_at exchange → more ≡ []) → drop (commands_among exchanges) replies ≡ got ++ more → IsGiven exchange (drop (0 + commands_among exchanges) replies)
+      given_behind (Call command times, outcome) got more given fits last left =
+          given ∙ sym (given_same times got more (omega (arith, fits, given)) (λ low. last (omega (arith, low, given)))) ∙ ap (times_given times) (sym left ∙ ap (λ (n : ℕ). drop n replies) (let e : commands_among exchanges ≡ 0 + commands_among exchanges = omega arith in e))
+      given_behind (Ask inquiry, outcome) got more given fits last left = tt
+      given_behind (Seat chosen, outcome) got more given fits last left = tt
+      given_behind (Help about, outcome) got more given fits last left = tt
+      given_behind (Quit, outcome) got more given fits last left = tt
+      given_behind (Fault fault, outcome) got more given fits last left = tt
+      given_behind (TooLong, outcome) got more given fits last left = tt
 
-    told_same : (old new : Part) → MakesNone old new → HasExchanges Answers style old exchanges → AreTold (IsTold Answers new) 0 exchanges
-    told_same old new same has = all_told_on Answers old new same.goes_on 0 exchanges (λ n low. ap (λ (calls : List Entry). min n (length calls)) same.calls) has.1
+      -- ---- a line was done
 
-    told_at_line : (old : Part) (exchange : Exchange) (new : Part) → MakesNone old new → ((inquiry : Inquiry) → exchange.0 ≡ Ask inquiry → AnswersNow Answers new inquiry exchange.1) → HasExchanges Answers style old exchanges → AreTold (IsTold Answers new) 0 (exchanges ++ exchange ∷ [])
-    told_at_line old exchange new same answer has =
-        one_told new 0 exchanges exchange (told_same old new same has) (λ inquiry asks. told_now old new same inquiry exchange.1 (answer inquiry asks) has.0)
+      module _ (more : List ToldReply) (may : MoreMayFollow more new) where
+        pub commands_done : (exchange : Exchange) (got : List ToldReply) → drop (commands_among exchanges) replies ≡ got ++ more → HasDone Answers seat old exchange got new → HasExchanges Answers style (part_with replies old) exchanges → HasExchanges Answers style (part_with replies new) (exchanges ++ exchange ∷ [])
+        commands_done exchange got left done has =
+            let few : given_at exchange ≡ 0 → length new.calls ≤ commands_among exchanges = (λ nothing.
+            let short = none got (omega (arith, done.fits, nothing)) in
+            let same : new.calls ≡ old.calls = done.calls.calls ∙ ap (λ (g : List ToldReply). old.calls ++ entries_of seat exchange.0 (length g)) short ∙ ap (λ (made : List Entry). old.calls ++ made) (no_entry seat exchange.0) ∙ append-nil old.calls in
+            omega (arith, ap length same, no_more_than old has.0)) in (
+              has_more old new exchange got done.calls done.fits done.full has.0,
+              one_told (IsDoneAfter Answers (part_with replies new)) 0 exchanges exchange (told_later exchange.0 got done.calls has)
+                  (told_at exchange done.answer few, given_behind exchange got more done.given done.fits (λ low. may (done.full low)) left),
+            )
 
-    -- a command is called where the journal has all those before it
-    as_many_later : (old new : Part) (one : Entry) (reply : ToldReply) → IsCalled old one reply new → HasCommands style old exchanges → AsManyLater old new (0 + commands_among exchanges)
-    as_many_later old new one reply call (inl all) n low =
-        omega (arith, low, ap length call.calls, length-append old.calls (one ∷ []), ap length all, as_many_asked style.chooses style.first exchanges)
-    as_many_later old new one reply call (inr some) n low = absurd (call.room some.0)
+      nothing_lost : (request : Request) (got : List ToldReply) → HasGot seat old request got new → got ≡ [] → HasExchanges Answers style (part_with replies old) exchanges → HasExchanges Answers style (part_with replies new) exchanges
+      nothing_lost request got calls nothing has =
+          let same : new.calls ≡ old.calls = calls.calls ∙ ap (λ (g : List ToldReply). old.calls ++ entries_of seat request (length g)) nothing ∙ ap (λ (made : List Entry). old.calls ++ made) (no_entry seat request) ∙ append-nil old.calls in (
+            elim has.0 [
+              | inl all ↦ inl (same ∙ all)
+              | inr some ↦ inr ((calls.full some.0).1, some.1, some.2 ∙ ap (λ (front : List Entry). front ++ some.1) (sym same))
+            ],
+            told_later request got calls has,
+          )
 
-    told_at_call : (old : Part) (command : Command) (answer : List ℕ) (reply : ToldReply) (new : Part) → IsCalled old (entry seat command) reply new → HasExchanges Answers style old exchanges → AreTold (IsTold Answers new) 0 (exchanges ++ (Call command, answer) ∷ [])
-    told_at_call old command answer reply new call has =
-        one_told new 0 exchanges (Call command, answer) (all_told_on Answers old new call.goes_on 0 exchanges (as_many_later old new (entry seat command) reply call has.0) has.1) (λ inquiry asks. absurd cc)
+      pub commands_lost : (request : Request) (begun : HasBegun seat old request new) → drop (commands_among exchanges) replies ≡ begun.got ++ [] → HasExchanges Answers style (part_with replies old) exchanges → HasPart exchanges replies new request
+      commands_lost (Call command times) begun left has =
+          let got = begun.got in
+          let exchange : Exchange = (Call command (length got), record { given = length got; answer = [] }) in
+          let done : HasDone Answers seat old exchange got new = record { calls = begun.calls; given = sym begun.due.1; fits = omega arith; full = λ low. absurd (omega (arith, low)); answer = λ inquiry asks. absurd cc } in
+          inr (exchange, commands_done [] (λ full. refl) exchange got left done has, λ line asks. (times, begun.due.0, asks))
+      commands_lost (Ask inquiry) begun left has = inl (nothing_lost (Ask inquiry) begun.got begun.calls begun.due has)
+      commands_lost (Seat chosen) begun left has = inl (nothing_lost (Seat chosen) begun.got begun.calls begun.due has)
+      commands_lost (Help about) begun left has = inl (nothing_lost (Help about) begun.got begun.calls begun.due has)
+      commands_lost Quit begun left has = inl (nothing_lost Quit begun.got begun.calls begun.due has)
+      commands_lost (Fault fault) begun left has = inl (nothing_lost (Fault fault) begun.got begun.calls begun.due has)
+      commands_lost TooLong begun left has = inl (nothing_lost TooLong begun.got begun.calls begun.due has)
 
-    -- ---- a line was done
+-- ---- what was done was begun
 
-    pub commands_done : (old : Part) (exchange : Exchange) (got : List ToldReply) (new : Part) → HasDone Answers seat old exchange got new → HasExchanges Answers style old exchanges → HasExchanges Answers style new (exchanges ++ exchange ∷ [])
-    commands_done old exchange [] new done has =
-        (not_called old new exchange done.calls (asks_nothing seat exchange.0 new done.full) has.0, told_at_line old exchange new done.calls done.answer has)
-    commands_done old (request, answer) (reply ∷ []) new done has =
-        let c = done.calls in
-        subst (λ r. HasExchanges Answers style new (exchanges ++ (r, answer) ∷ [])) (sym c.1) (called old new c.0 answer reply c.2 has.0, told_at_call old c.0 answer reply new c.2 has)
-    commands_done old exchange (reply ∷ other ∷ others) new done has = absurd done.calls
+no_more_given : (times : ℕ) (replies : List ToldReply) → times_given times replies ≤ times
+no_more_given zero replies = omega arith
+no_more_given (suc times) [] = omega arith
+no_more_given (suc times) (reply ∷ replies) = at_most (is_refused reply) (times_given times replies) times (no_more_given times replies)
+  where
+    at_most : (refused : Bool) (count most : ℕ) → count ≤ most → first_and refused count ≤ suc most
+    at_most true count most few = omega arith
+    at_most false count most few = omega (arith, few)
 
-    -- out of memory nothing more was called, or what the line asks for
-    same_commands : (old new : Part) → MakesNone old new → HasCommands style old exchanges → HasCommands style new exchanges
-    same_commands old new same (inl all) = inl (same.calls ∙ all)
-    same_commands old new same (inr some) = inr (same.full some.0, some.1, some.2 ∙ ap (λ (calls : List Entry). calls ++ some.1) (sym same.calls))
+all_given : (times : ℕ) (got : List ToldReply) → length got ≤ times_given times got → times_given (length got) got ≡ length got
+all_given times [] fits = refl
+all_given zero (reply ∷ got) fits = absurd (omega (arith, fits))
+all_given (suc times) (reply ∷ got) fits = whole (is_refused reply) got (times_given times got) (all_given times got) fits
+  where
+    whole : (refused : Bool) (got : List ToldReply) (here : ℕ) → (length got ≤ here → times_given (length got) got ≡ length got) → suc (length got) ≤ first_and refused here → first_and refused (times_given (length got) got) ≡ suc (length got)
+    whole true got here rest fits = let few : length got ≡ 0 = omega (arith, fits) in omega (arith, few)
+    whole false got here rest fits = let e = rest (omega (arith, fits)) in omega (arith, e)
 
-    pub commands_lost : (old : Part) (request : Request) (got : List ToldReply) (new : Part) → HasGot seat old request got new → HasExchanges Answers style old exchanges
-        → HasExchanges Answers style new exchanges ⊎ HasExchanges Answers style new (exchanges ++ (request, []) ∷ [])
-    commands_lost old request [] new is has = inl (same_commands old new is has.0, told_same old new is has)
-    commands_lost old request (reply ∷ []) new is has =
-        inr (subst (λ r. HasExchanges Answers style new (exchanges ++ (r, []) ∷ [])) (sym is.1) (called old new is.0 [] reply is.2 has.0, told_at_call old is.0 [] reply new is.2 has))
-    commands_lost old request (reply ∷ other ∷ others) new is has = absurd is
+pub begun_where_done : (Answers : RunView → Inquiry → List ℕ → Type 0) (seat : ℕ) (old new : Part) (request : Request) (outcome : Outcome) (got : List ToldReply) → HasDone Answers seat old (request, outcome) got new → HasBegun seat old request new
+begun_where_done Answers seat old new (Call command times) outcome got done =
+    let fits : length got ≤ times_given times got = omega (arith, done.fits, done.given) in
+    record { got = got; calls = done.calls; due = (let few = no_more_given times got in omega (arith, fits, few), all_given times got fits) }
+begun_where_done Answers seat old new (Ask inquiry) outcome got done = record { got = got; calls = done.calls; due = none got done.fits }
+begun_where_done Answers seat old new (Seat chosen) outcome got done = record { got = got; calls = done.calls; due = none got done.fits }
+begun_where_done Answers seat old new (Help about) outcome got done = record { got = got; calls = done.calls; due = none got done.fits }
+begun_where_done Answers seat old new Quit outcome got done = record { got = got; calls = done.calls; due = none got done.fits }
+begun_where_done Answers seat old new (Fault fault) outcome got done = record { got = got; calls = done.calls; due = none got done.fits }
+begun_where_done Answers seat old new TooLong outcome got done = record { got = got; calls = done.calls; due = none got done.fits }

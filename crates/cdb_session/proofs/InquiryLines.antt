@@ -1,5 +1,5 @@
 -- The lines that ask something of the run.
-use Rattle.std.proofs.Common.{◌≡◌, ◌≢◌, inl, inr, ℕ, ◌<◌, ◌≤◌, Bool, true, List, [], ◌∷◌, ◌++◌, length, get_or, decimal, refl, sym, ap, subst, ◌∙◌, arith}
+use Rattle.std.proofs.Common.{◌≡◌, ◌≢◌, inl, inr, ℕ, ◌<◌, List, [], ◌∷◌, length, get_or, decimal, refl, sym, ap, subst, ◌∙◌, arith}
 use Rattle.std.specs.Prelude.{codes, map, Option, None, Some, option_map}
 use Rattle.std.specs.List.{AllByRecursion, join_with_byte}
 use Rattle.std.specs.Str.{bytes_eq}
@@ -13,7 +13,8 @@ use Rattle.cdb_text.specs.Reading.{number_of}
 use Rattle.cdb_text.proofs.Cut.{some_word}
 use Rattle.cdb_text.proofs.Numbers.{number_again, number_says}
 use Rattle.cdb_session.specs.Inquiries.{AreStepWords, IsInquiryLine, inquiry_word, numbers_of, step_asked}
-use Rattle.cdb_session.specs.InquiryWords.{step_with, last_step, numbered_step, step_in, inquiry_in}
+use Rattle.cdb_session.specs.InquiryWords.{step_with, last_step, numbered_step, step_in, with_count, repeat_in, inquiry_in}
+use Rattle.cdb_session.specs.Repeats.{IsRepeatLine, repeat_parts}
 use Rattle.cdb_session.specs.Requests.{help_line, quit_line, seat_line}
 use Rattle.cdb_session.specs.declared.inquiry.Inquiry.{Inquiry}
 use Rattle.cdb_session.specs.declared.inquiry.Inquiry.TheVariants.{Explain, Trail}
@@ -136,3 +137,55 @@ no_third first second (third ∷ words) some = refl
 
 pub too_many : (words : List (List ℕ)) (first second rest : List ℕ) → words ≡ first ∷ second ∷ words_of rest → None ≡ step_in words
 too_many words first second rest is = sym (ap step_in is ∙ no_third first second (words_of rest) (some_word rest))
+
+-- ---- a command that is repeated
+
+first_of_repeat : (line : List ℕ) (p times : ℕ) → IsRepeatLine p times line → get_or line 0 0 ≡ 97
+first_of_repeat line p times is =
+    ap (λ bytes. get_or bytes 0 0) (sym (join_with_byte-slice_split 32 line) ∙ ap (join_with_byte 32) is.0) ∙ first_of_words (codes "auto") (map part_text (number p ∷ number times ∷ [])) (omega arith)
+
+-- such a line is none of the others
+pub repeats_no_other : (line other : List ℕ) (byte p times : ℕ) → IsRepeatLine p times line → line ≡ other → get_or other 0 0 ≡ byte → byte ≢ 97 → ⊥
+repeats_no_other line other byte p times is same first no_a = no_a (sym first ∙ ap (λ bytes. get_or bytes 0 0) (sym same) ∙ first_of_repeat line p times is)
+
+pub repeats_no_inquiry : (line : List ℕ) (inquiry : Inquiry) (p times : ℕ) → IsInquiryLine inquiry line → IsRepeatLine p times line → ⊥
+repeats_no_inquiry line (Explain step) p times is repeats = let e : 101 ≡ 97 = sym (first_byte line (Explain step) is) ∙ first_of_repeat line p times repeats in omega (arith, e)
+repeats_no_inquiry line (Trail step) p times is repeats = let e : 116 ≡ 97 = sym (first_byte line (Trail step) is) ∙ first_of_repeat line p times repeats in omega (arith, e)
+
+pub repeat_again : (line : List ℕ) (p times : ℕ) → IsRepeatLine p times line → repeat_in (words_of line) ≡ Some (p, times)
+unfolding repeat_in
+repeat_again line p times is = ap repeat_in is.0 ∙ ap with_count (step_again p (Some times) is.1.1)
+
+same_pair : (one other : ℕ × ℕ) → Some one ≡ Some other → (one.0 ≡ other.0) × (one.1 ≡ other.1)
+same_pair one other e = let same : one ≡ other = cc in (ap (λ (both : ℕ × ℕ). both.0) same, ap (λ (both : ℕ × ℕ). both.1) same)
+
+pub one_repeat : (line : List ℕ) (p times q count : ℕ) → IsRepeatLine p times line → IsRepeatLine q count line → (p ≡ q) × (times ≡ count)
+one_repeat line p times q count is other =
+    same_pair (p, times) (q, count) (sym (repeat_again line p times is) ∙ repeat_again line q count other)
+
+counted_in : (others : List (List ℕ)) (q : ℕ) (k : Option ℕ) (p times : ℕ) → step_in others ≡ Some (step_with q k) → with_count (Some (step_with q k)) ≡ Some (p, times) → AreStepWords (step_with p (Some times)) others
+counted_in others q None p times reads e = cc
+counted_in others q (Some n) p times reads e =
+    let same : ◌≡◌ {A = ℕ × ℕ} (q, n) (p, times) = cc in
+    step_says others (step_with p (Some times)) (reads ∙ (λ i. Some (step_with (same i).0 (Some (same i).1))))
+
+counted : (others : List (List ℕ)) (found : Option StepAsked) (p times : ℕ) → step_in others ≡ found → with_count found ≡ Some (p, times) → AreStepWords (step_with p (Some times)) others
+counted others None p times reads e = cc
+counted others (Some step) p times reads e = counted_in others step.p step.k p times reads e
+
+words_repeat : (words : List (List ℕ)) (p times : ℕ) → repeat_in words ≡ Some (p, times) → (words ≡ map part_text (repeat_parts p times)) × AllByRecursion IsInRange (repeat_parts p times)
+unfolding repeat_in
+words_repeat [] p times e = cc
+words_repeat (word ∷ others) p times e =
+    elim (cases_Bool (bytes_eq word (codes "auto"))) [
+      | inl is ↦
+          let its = counted others (step_in others) p times refl (rw is at e) in
+          ((λ i. (bytes_eq-Decides word (codes "auto")).0 is i ∷ its.are i), (tt, its.in_range))
+      | inr other ↦ let never = rw other at e in cc
+    ]
+
+pub repeat_says : (line : List ℕ) (p times : ℕ) → repeat_in (words_of line) ≡ Some (p, times) → IsRepeatLine p times line
+repeat_says line p times e = words_repeat (words_of line) p times e
+
+pub no_repeat : (line : List ℕ) → repeat_in (words_of line) ≡ None → (p times : ℕ) → ¬ IsRepeatLine p times line
+no_repeat line none p times is = let e = sym none ∙ repeat_again line p times is in cc

@@ -1,12 +1,15 @@
 -- The journal of a session grows by its commands.
-use Rattle.std.proofs.Common.{◌≡◌, ℕ, ◌<◌, ◌≤◌, ◌==◌, Bool, true, false, List, [], ◌∷◌, ◌++◌, length, take, refl, sym, ap, ◌∙◌, append_assoc, append-nil, arith, length-append}
-use Rattle.std.specs.Prelude.{if◌then◌else◌}
+use Rattle.std.proofs.Common.{◌≡◌, ℕ, zero, suc, ◌<◌, ◌≤◌, ◌==◌, Bool, true, false, List, [], ◌∷◌, ◌++◌, length, take, refl, sym, ap, ◌∙◌, append_assoc, append-nil, arith, length-append}
+use Rattle.std.specs.Prelude.{replicate, if◌then◌else◌}
 use Rattle.std.proofs.lemmas.Bool.Decides.{Decides-eqb}
 use Rattle.std.proofs.lemmas.List.{take_all, take-append-le}
 use Rattle.cdb_base.specs.Limits.{MAX_ENTRIES}
+use Rattle.cdb_commands.specs.declared.command.Command.{Command}
+use Rattle.cdb_rules.specs.Rules.{Rules}
+use Rattle.cdb_setup.specs.Parts.{Parts}
 use Rattle.cdb_control.specs.Journal.{Journaled, entry, extended}
 use Rattle.cdb_control.specs.declared.control.Entry.{Entry}
-use Rattle.cdb_session.specs.Table.{Session, begun, after_line, session_after}
+use Rattle.cdb_session.specs.Table.{Session, begun, after_line, control_behind, control_behind_all, session_after}
 use Rattle.cdb_session.specs.Laws.{JournalHasTheCommands}
 use Rattle.cdb_session.specs.Parts.{all_asked}
 use Rattle.cdb_session.specs.Exchanges.{Exchange}
@@ -27,16 +30,26 @@ fits most false c d one room few is = omega (arith, room refl, ap length is, len
 not_full : (n most : ℕ) → n ≤ most → (n == most) ≡ false → n < most
 not_full n most few other = grind arith
 
+-- a command that is given several times
+pub fits_one : (rules : Parts → Rules) (seat : ℕ) (command : Command) (c : Journaled) → length c.journal ≤ MAX_ENTRIES → length (control_behind rules seat command c).journal ≤ MAX_ENTRIES
+fits_one rules seat command c few = fits MAX_ENTRIES (length c.journal == MAX_ENTRIES) c (extended rules c seat command) (entry seat command) (λ no. not_full (length c.journal) MAX_ENTRIES few no) few refl
+
+grown_one : (rules : Parts → Rules) (seat : ℕ) (command : Command) (c : Journaled) (others : List Entry) → take MAX_ENTRIES ((control_behind rules seat command c).journal ++ others) ≡ take MAX_ENTRIES (c.journal ++ entry seat command ∷ others)
+grown_one rules seat command c others =
+    pick MAX_ENTRIES (length c.journal == MAX_ENTRIES) c (extended rules c seat command) (entry seat command) others (λ yes. let e = (Decides-eqb (length c.journal) MAX_ENTRIES).0 yes in omega (arith, e)) refl
+
+pub grown_all : (rules : Parts → Rules) (seat : ℕ) (command : Command) (c : Journaled) (count : ℕ) (others : List Entry) → length c.journal ≤ MAX_ENTRIES → let now = control_behind_all rules seat command c count in
+    (take MAX_ENTRIES (now.journal ++ others) ≡ take MAX_ENTRIES (c.journal ++ (replicate count (entry seat command) ++ others))) × (length now.journal ≤ MAX_ENTRIES)
+grown_all rules seat command c zero others few = (refl, few)
+grown_all rules seat command c (suc count) others few =
+    let more = grown_all rules seat command (control_behind rules seat command c) count others (fits_one rules seat command c few) in
+    (more.0 ∙ grown_one rules seat command c (replicate count (entry seat command) ++ others), more.1)
+
 pub grown : (s : Session) (exchanges : List Exchange) → length s.control.journal ≤ MAX_ENTRIES → (session_after s exchanges).control.journal ≡ take MAX_ENTRIES (s.control.journal ++ all_asked true s.seat exchanges)
 grown s [] few = sym (ap (take MAX_ENTRIES) (append-nil s.control.journal) ∙ take_all MAX_ENTRIES s.control.journal few)
-grown s ((Call command, answer) ∷ exchanges) few =
-    let c = s.control in
-    let d = extended s.rules c s.seat command in
-    let full = length c.journal == MAX_ENTRIES in
-    let is_full : full ≡ true → MAX_ENTRIES ≤ length c.journal = λ yes. let e = (Decides-eqb (length c.journal) MAX_ENTRIES).0 yes in omega (arith, e) in
-    let has_room : full ≡ false → length c.journal < MAX_ENTRIES = λ no. not_full (length c.journal) MAX_ENTRIES few no in
-    grown (after_line s (Call command, answer)) exchanges (fits MAX_ENTRIES full c d (entry s.seat command) has_room few refl)
-    ∙ pick MAX_ENTRIES full c d (entry s.seat command) (all_asked true s.seat exchanges) is_full refl
+grown s ((Call command times, outcome) ∷ exchanges) few =
+    let more = grown_all s.rules s.seat command s.control outcome.given (all_asked true s.seat exchanges) few in
+    grown (after_line s (Call command times, outcome)) exchanges more.1 ∙ more.0
 grown s ((Ask inquiry, answer) ∷ exchanges) few = grown (after_line s (Ask inquiry, answer)) exchanges few
 grown s ((Seat chosen, answer) ∷ exchanges) few = grown (after_line s (Seat chosen, answer)) exchanges few
 grown s ((Help about, answer) ∷ exchanges) few = grown (after_line s (Help about, answer)) exchanges few

@@ -19,6 +19,7 @@ pub mod CallChain
 pub mod Along
 pub mod ToldOn
 pub mod GotReplies
+pub mod Repeated
 pub mod LineResponse
 pub mod NextState
 pub mod FedBytes

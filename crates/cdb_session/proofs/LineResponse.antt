@@ -1,11 +1,8 @@
 -- What a session answers to one line.
-use Rattle.std.proofs.Common.{◌≡◌, ◌≢◌, inl, inr, ◌+◌, ℕ, List, [], ◌∷◌, length, refl, sym, ap, subst, ◌∙◌, arith, Vec, Global}
+use Rattle.std.proofs.Common.{◌≡◌, ◌≢◌, inl, inr, ◌+◌, ℕ, List, [], refl, sym, subst, ◌∙◌, arith, Vec, Global}
 use Rattle.std.specs.Prelude.{Result, Ok, Err, IfOk, IsTrue, ◌↔◌, Bool}
 use Rattle.cdb_base.specs.Memory.{no_memory}
-use Rattle.cdb_commands.specs.ToldReply.{ToldReply}
 use Rattle.cdb_commands.specs.declared.command.Command.{Command}
-use Rattle.cdb_control.specs.Journal.{entry}
-use Rattle.cdb_text.specs.Texts.{text_of}
 use Rattle.cdb_session.specs.Moves.{WritesAll, Known, Makes}
 use Rattle.cdb_session.specs.Requests.{AsksFor}
 use Rattle.cdb_rules.specs.RunView.{RunView}
@@ -16,39 +13,50 @@ use Rattle.cdb_session.specs.declared.request.Request.{Request}
 use Rattle.cdb_session.specs.declared.request.Request.TheVariants.{Call, Ask, Seat, Help, Quit, Fault, TooLong}
 use Rattle.cdb_session.proofs.MovesInOrder.{Makes-nothing}
 use Rattle.cdb_streams.specs.declared.buffer.OutputFault.TheVariants as output
-use Rattle.cdb_session.specs.Styles.{StyleView, IsCalled, MakesNone}
+use Rattle.cdb_session.specs.Styles.{StyleView, MakesNone}
 use Rattle.cdb_session.specs.Replies.{own_response}
 use Rattle.cdb_session.specs.Parts.{seat_next}
 use Rattle.cdb_session.specs.Unfinished.{RespondsToLine}
-use Rattle.cdb_session.specs.Lines.{SessionView, HasDone, Responds, Shows}
-use Rattle.cdb_session.proofs.GotReplies.{MakesNone-refl, none_done}
+use Rattle.cdb_session.specs.Lines.{SessionView, HasDone, IsToBeGiven, Responds, Shows}
+use Rattle.cdb_session.proofs.GotReplies.{MakesNone-refl, begun_where_done, none_done, none_got}
 
 module _ (Answers : RunView → Inquiry → List ℕ → Type 0) (style : StyleView) where
-  -- a command was carried out
-  pub call_responds : {E : Type 0} (r : Result (Vec ℕ Global) E) (old new : SessionView) (command : Command) (reply : ToldReply) → IsCalled old.part (entry old.seat command) reply new.part → IfOk r (λ text. text.items ≡ text_of reply) → Responds Answers style r old (Call command) new
-  call_responds (Ok text) old new command reply call is = ([], reply ∷ [], record { calls = (command, refl, call); full = λ c asks none. let long = ap length none in absurd (omega (arith, long)); answer = λ inquiry asks. absurd cc }, is)
-  call_responds (Err fault) old new command reply call is = (reply ∷ [], (command, refl, call))
-
   -- the run was asked
   pub ask_responds : {E : Type 0} (r : Result (Vec ℕ Global) E) (old new : SessionView) (inquiry : Inquiry) → MakesNone old.part new.part → IfOk r (λ text. AnswersNow Answers new.part inquiry text.items) → Responds Answers style r old (Ask inquiry) new
   ask_responds (Ok text) old new inquiry none is = (
-    text.items,
+    record { given = 0; answer = text.items },
     [],
-    record { calls = none; full = λ command asks. absurd cc; answer = λ other asks. let same : inquiry ≡ other = cc in subst (λ i. AnswersNow Answers new.part i text.items) same is },
+    none_done Answers old.seat old.part new.part (Ask inquiry) (record { given = 0; answer = text.items }) none (λ command times e. cc) (λ other asks. let same : inquiry ≡ other = cc in subst (λ i. AnswersNow Answers new.part i text.items) same is),
     refl,
   )
-  ask_responds (Err fault) old new inquiry none is = ([], none)
+  ask_responds (Err fault) old new inquiry none is = record { got = []; calls = none_got old.seat (Ask inquiry) old.part new.part none; due = refl }
 
   -- a line that asks for no command and nothing of the run
-  pub own_responses : {E : Type 0} (r : Result (Vec ℕ Global) E) (old new : SessionView) (request : Request) → new.part ≡ old.part → ((command : Command) → request ≢ Call command) → ((inquiry : Inquiry) → request ≢ Ask inquiry) → IfOk r (λ text. text.items ≡ own_response style old.lines request) → Responds Answers style r old request new
-  own_responses (Ok text) old new (Call command) same other and_other is = absurd (other command refl)
+  nothing_due : (request : Request) → IsToBeGiven request []
+  nothing_due (Call command times) = (omega arith, refl)
+  nothing_due (Ask inquiry) = refl
+  nothing_due (Seat seat) = refl
+  nothing_due (Help about) = refl
+  nothing_due Quit = refl
+  nothing_due (Fault fault) = refl
+  nothing_due TooLong = refl
+
+  module _ (old new : SessionView) (same : new.part ≡ old.part) where
+    made_none : MakesNone old.part new.part
+    made_none = subst (MakesNone old.part) (sym same) (MakesNone-refl old.part)
+
+    own_done : (request : Request) → ((command : Command) (times : ℕ) → request ≢ Call command times) → ((inquiry : Inquiry) → request ≢ Ask inquiry) → HasDone Answers old.seat old.part (request, record { given = 0; answer = [] }) [] new.part
+    own_done request other and_other = none_done Answers old.seat old.part new.part request (record { given = 0; answer = [] }) made_none other (λ inquiry asks. absurd (and_other inquiry asks))
+
+  pub own_responses : {E : Type 0} (r : Result (Vec ℕ Global) E) (old new : SessionView) (request : Request) → new.part ≡ old.part → ((command : Command) (times : ℕ) → request ≢ Call command times) → ((inquiry : Inquiry) → request ≢ Ask inquiry) → IfOk r (λ text. text.items ≡ own_response style old.lines request) → Responds Answers style r old request new
+  own_responses (Ok text) old new (Call command times) same other and_other is = absurd (other command times refl)
   own_responses (Ok text) old new (Ask inquiry) same other and_other is = absurd (and_other inquiry refl)
-  own_responses (Ok text) old new (Seat seat) same other and_other is = ([], [], subst (HasDone Answers old.seat old.part (Seat seat, []) []) (sym same) (none_done Answers old.seat old.part (Seat seat) [] other and_other), is)
-  own_responses (Ok text) old new (Help about) same other and_other is = ([], [], subst (HasDone Answers old.seat old.part (Help about, []) []) (sym same) (none_done Answers old.seat old.part (Help about) [] other and_other), is)
-  own_responses (Ok text) old new Quit same other and_other is = ([], [], subst (HasDone Answers old.seat old.part (Quit, []) []) (sym same) (none_done Answers old.seat old.part Quit [] other and_other), is)
-  own_responses (Ok text) old new (Fault fault) same other and_other is = ([], [], subst (HasDone Answers old.seat old.part (Fault fault, []) []) (sym same) (none_done Answers old.seat old.part (Fault fault) [] other and_other), is)
-  own_responses (Ok text) old new TooLong same other and_other is = ([], [], subst (HasDone Answers old.seat old.part (TooLong, []) []) (sym same) (none_done Answers old.seat old.part TooLong [] other and_other), is)
-  own_responses (Err fault) old new request same other and_other is = ([], subst (MakesNone old.part) (sym same) (MakesNone-refl old.part))
+  own_responses (Ok text) old new (Seat seat) same other and_other is = (record { given = 0; answer = [] }, [], own_done old new same (Seat seat) other and_other, is)
+  own_responses (Ok text) old new (Help about) same other and_other is = (record { given = 0; answer = [] }, [], own_done old new same (Help about) other and_other, is)
+  own_responses (Ok text) old new Quit same other and_other is = (record { given = 0; answer = [] }, [], own_done old new same Quit other and_other, is)
+  own_responses (Ok text) old new (Fault fault) same other and_other is = (record { given = 0; answer = [] }, [], own_done old new same (Fault fault) other and_other, is)
+  own_responses (Ok text) old new TooLong same other and_other is = (record { given = 0; answer = [] }, [], own_done old new same TooLong other and_other, is)
+  own_responses (Err fault) old new request same other and_other is = record { got = []; calls = none_got old.seat request old.part new.part (made_none old new same); due = nothing_due request }
 
   -- ---- a held line
 
@@ -58,7 +66,7 @@ module _ (Answers : RunView → Inquiry → List ℕ → Type 0) (style : StyleV
 
   module _ (before behind : Known) (old new : SessionView) (unfinished kept : List ℕ) (request : Request) (asks : AsksFor request (line_meant unfinished)) where
     pub line_is_lost : (E : Type 0) (e : E) → before ≡ behind → (let r : Result (Vec ℕ Global) E = Err e in Shows Answers style r old request new) → RespondsToLine Answers style (Err (output.NoMemory no_memory)) before behind old new unfinished kept
-    line_is_lost E e same s = ([], subst (λ now. Makes before now []) same (Makes-nothing before), record { lost = inr (record { request = request; asks = asks; got = s.0; done = s.1 }); none = refl })
+    line_is_lost E e same s = ([], subst (λ now. Makes before now []) same (Makes-nothing before), record { lost = inr (record { request = request; asks = asks; begun = s }); none = refl })
 
     pub line_is_broken : (E : Type 0) (text : Vec ℕ Global) (A F : Type 0) (f : F) → Shows Answers style {E = E} (Ok text) old request new → WritesAll {A = A} {E = F} (Err f) before behind text.items → RespondsToLine Answers style (Err output.Write) before behind old new unfinished kept
     line_is_broken E text A F f s says = (
@@ -74,3 +82,7 @@ module _ (Answers : RunView → Inquiry → List ℕ → Type 0) (style : StyleV
       says.1,
       record { exchange = (request, s.0); asks = asks; writes = says.2; got = s.1; done = s.2; written = says.3 ∙ s.3; lines = one; seat = seat; emptied = emptied; quit_exactly = quit_exactly },
     )
+
+  -- there is no memory for the prompt
+  pub unprompted : (E F : Type 0) (text : Vec ℕ Global) (e : F) (old new : SessionView) (request : Request) → Responds Answers style {E = E} (Ok text) old request new → Shows Answers style {E = F} (Err e) old request new
+  unprompted E F text e old new request (outcome, got, done, is) = begun_where_done Answers old.seat old.part new.part request outcome got done

@@ -1,5 +1,5 @@
 -- A session goes from one of its states to the next, with replies that are given.
-use Rattle.std.proofs.Common.{◌≡◌, ◌≢◌, ◌⊎◌, inl, inr, ℕ, ◌+◌, ◌<◌, ◌≤◌, false, List, [], ◌∷◌, ◌++◌, length, take, nat_eq, refl, sym, ap, subst, ◌∙◌, append_assoc, append-nil, arith, length-append}
+use Rattle.std.proofs.Common.{◌≡◌, ◌≢◌, inl, inr, ℕ, ◌+◌, ◌<◌, ◌≤◌, false, List, [], ◌∷◌, ◌++◌, length, take, nat_eq, refl, sym, ap, subst, ◌∙◌, append_assoc, append-nil, arith, length-append}
 use Rattle.std.specs.Prelude.{Result, Err}
 use Rattle.std.specs.List.{AllZip, AllByRecursion}
 use Rattle.std.proofs.lemmas.List.{length-take, take_all, nil_from_length}
@@ -13,7 +13,7 @@ use Rattle.cdb_streams.specs.declared.fault.PlayFault.TheVariants as fault
 use Rattle.cdb_setup.specs.Format.{longest}
 use Rattle.cdb_session.specs.Unfinished.{IsOver, with_ends, unfinished_of, part_with, ended_well, ended_by}
 use Rattle.cdb_session.specs.Typed.{line_meant}
-use Rattle.cdb_session.specs.Requests.{HasNoEnd, Asks, AsksFor, AreAsked, HaveQuit, IsQuit, ended_lines, up_to_quit}
+use Rattle.cdb_session.specs.Requests.{HasNoEnd, Asks, AsksFor, AsksForNoLess, AreAsked, HaveQuit, IsQuit, ended_lines, up_to_quit}
 use Rattle.cdb_session.specs.Moves.{Move, Read, ReadFailed, read_in, written_in, AsksForInput, AreWrites, FailsToWrite, EndsWith}
 use Rattle.cdb_session.specs.Sessions.{most_input, HasEnded, IsOpen, HasResponded, RespondsInTime, by_quit, at_end, at_most}
 use Rattle.cdb_rules.specs.RunView.{RunView}
@@ -31,6 +31,7 @@ use Rattle.cdb_session.specs.Styles.{StyleView, Part}
 use Rattle.cdb_session.specs.Answers.{HasExchanges}
 use Rattle.cdb_session.specs.Served.{IsAnswered, IsServed, IsSession}
 use Rattle.cdb_session.proofs.Along.{along_after-more, dialogue-more}
+use Rattle.cdb_session.proofs.GotReplies.{HasPart}
 
 ended-more : (lines : List (List ℕ)) (line : List ℕ) → AllByRecursion HasNoEnd lines → HasNoEnd line → AllByRecursion HasNoEnd (lines ++ line ∷ [])
 ended-more [] line are is = (is, tt)
@@ -113,7 +114,7 @@ module _ (Answers : RunView → Inquiry → List ℕ → Type 0) (style : StyleV
     asked_so_far : AreAsked at.exchanges at.lines
     asked_so_far = asked_all at.exchanges at.lines at.asked at.goes_on
 
-    responded_so_far : left ≡ [] → IsOpen moves → (final : Part) (others : List Exchange) → HasExchanges Answers style final (at.exchanges ++ others) → HasResponded (IsAnswered Answers style (part_with replies final)) moves
+    responded_so_far : left ≡ [] → IsOpen moves → (final : Part) (others : List Exchange) → HasExchanges Answers style (part_with replies final) (at.exchanges ++ others) → HasResponded (IsAnswered Answers style (part_with replies final)) moves
     responded_so_far none still final others has =
         let lines = lines_so_far none in
         record {
@@ -123,10 +124,10 @@ module _ (Answers : RunView → Inquiry → List ℕ → Type 0) (style : StyleV
         }
 
     -- it has responded in time, where the journal has no further command
-    no_further : (final : Part) → HasExchanges Answers style final at.exchanges → HasExchanges Answers style final (at.exchanges ++ [])
-    no_further final has = subst (HasExchanges Answers style final) (sym (append-nil at.exchanges)) has
+    no_further : (final : Part) → HasExchanges Answers style (part_with replies final) at.exchanges → HasExchanges Answers style (part_with replies final) (at.exchanges ++ [])
+    no_further final has = subst (HasExchanges Answers style (part_with replies final)) (sym (append-nil at.exchanges)) has
 
-    in_time_so_far : (final : Part) → HasExchanges Answers style final at.exchanges → RespondsInTime (IsAnswered Answers style (part_with replies final)) moves
+    in_time_so_far : (final : Part) → HasExchanges Answers style (part_with replies final) at.exchanges → RespondsInTime (IsAnswered Answers style (part_with replies final)) moves
     in_time_so_far final has = at.in_time final [] (no_further final has)
 
     -- the lines begin with those that have ended
@@ -134,7 +135,7 @@ module _ (Answers : RunView → Inquiry → List ℕ → Type 0) (style : StyleV
     lines_begin = ap lines_of at.read ∙ lines_of_joined at.lines (at.line ++ left) at.ended
 
     -- memory is out, and the journal has nothing of the next line, or its command too
-    pub lost_before : (new : Part) → HasExchanges Answers style new at.exchanges → IsSession Answers style (part_with replies new) (ended_by (output.NoMemory no_memory)) moves
+    pub lost_before : (new : Part) → HasExchanges Answers style (part_with replies new) at.exchanges → IsSession Answers style (part_with replies new) (ended_by (output.NoMemory no_memory)) moves
     lost_before new has =
         record {
           in_time = in_time_so_far new has;
@@ -145,23 +146,23 @@ module _ (Answers : RunView → Inquiry → List ℕ → Type 0) (style : StyleV
             begins = lines_begin ∙ ap (λ front. front ++ lines_of (at.line ++ left)) (sym (append-nil at.lines));
             one = omega arith;
             responded = (at.exchanges, [], asked_so_far, at.written, no_further new has);
-            commands = (at.exchanges, subst (λ lines. AreAsked at.exchanges lines) (sym (append-nil at.lines)) asked_so_far, has);
+            commands = record { exchanges = at.exchanges; begun = []; asked = asked_so_far; next_asked = tt; commands = no_further new has };
           };
         }
 
-    lost_behind : (new : Part) (exchange : Exchange) → Asks exchange at.line → (others : List (List ℕ)) → lines_of (read_in moves) ≡ (at.lines ++ at.line ∷ []) ++ others → HasExchanges Answers style new (at.exchanges ++ exchange ∷ [])
+    lost_behind : (new : Part) (begun : Exchange) → AsksForNoLess begun at.line → (others : List (List ℕ)) → lines_of (read_in moves) ≡ (at.lines ++ at.line ∷ []) ++ others → HasExchanges Answers style (part_with replies new) (at.exchanges ++ begun ∷ [])
         → IsSession Answers style (part_with replies new) (ended_by (output.NoMemory no_memory)) moves
-    lost_behind new exchange asks others begins has =
+    lost_behind new begun asks others begins has =
         record {
-          in_time = at.in_time new (exchange ∷ []) has;
+          in_time = at.in_time new (begun ∷ []) has;
           ends = record {
             lines = at.lines;
             next = at.line ∷ [];
             others = others;
             begins = begins;
             one = omega arith;
-            responded = (at.exchanges, exchange ∷ [], asked_so_far, at.written, has);
-            commands = (at.exchanges ++ exchange ∷ [], asked_with at.exchanges at.lines exchange at.line at.asked at.goes_on asks, has);
+            responded = (at.exchanges, begun ∷ [], asked_so_far, at.written, has);
+            commands = record { exchanges = at.exchanges; begun = begun ∷ []; asked = asked_so_far; next_asked = (asks, tt); commands = has };
           };
         }
 
@@ -222,15 +223,15 @@ module _ (Answers : RunView → Inquiry → List ℕ → Type 0) (style : StyleV
     text_now : written_in made ≡ shown style along exchange → written_in (moves ++ made) ≡ dialogue style replies (at.exchanges ++ exchange ∷ [])
     text_now said = written-append moves made ∙ ap (λ text. written_in moves ++ text) said ∙ text_before
 
-    still_in_time : (final : Part) (others : List Exchange) → HasExchanges Answers style final ((at.exchanges ++ exchange ∷ []) ++ others) → RespondsInTime (IsAnswered Answers style (part_with replies final)) (moves ++ made)
-    still_in_time final others has = writes_more (HasResponded (IsAnswered Answers style (part_with replies final))) moves made (at.in_time final (exchange ∷ others) (subst (HasExchanges Answers style final) (append_assoc at.exchanges (exchange ∷ []) others) has)) writes
+    still_in_time : (final : Part) (others : List Exchange) → HasExchanges Answers style (part_with replies final) ((at.exchanges ++ exchange ∷ []) ++ others) → RespondsInTime (IsAnswered Answers style (part_with replies final)) (moves ++ made)
+    still_in_time final others has = writes_more (HasResponded (IsAnswered Answers style (part_with replies final))) moves made (at.in_time final (exchange ∷ others) (subst (HasExchanges Answers style (part_with replies final)) (append_assoc at.exchanges (exchange ∷ []) others) has)) writes
 
-    in_time_now : (final : Part) → HasExchanges Answers style final (at.exchanges ++ exchange ∷ []) → RespondsInTime (IsAnswered Answers style (part_with replies final)) (moves ++ made)
+    in_time_now : (final : Part) → HasExchanges Answers style (part_with replies final) (at.exchanges ++ exchange ∷ []) → RespondsInTime (IsAnswered Answers style (part_with replies final)) (moves ++ made)
     in_time_now final has = writes_more (HasResponded (IsAnswered Answers style (part_with replies final))) moves made (at.in_time final (exchange ∷ []) has) writes
 
     -- the writing failed
     broken : (others : List (List ℕ)) → lines_of (read_in moves) ≡ (at.lines ++ at.line ∷ []) ++ others → (missing : List ℕ) → shown style along exchange ≡ written_in made ++ missing → EndsWith FailsToWrite made
-        → (new : Part) → HasExchanges Answers style new (at.exchanges ++ exchange ∷ []) → IsSession Answers style (part_with replies new) (ended_by output.Write) (moves ++ made)
+        → (new : Part) → HasExchanges Answers style (part_with replies new) (at.exchanges ++ exchange ∷ []) → IsSession Answers style (part_with replies new) (ended_by output.Write) (moves ++ made)
     broken others begins missing said fails new has =
         record {
           in_time = in_time_now new has;
@@ -264,11 +265,11 @@ module _ (Answers : RunView → Inquiry → List ℕ → Type 0) (style : StyleV
     now_lines = ap lines_of now_read ∙ lines_of_joined (at.lines ++ at.line ∷ []) left now_ended
 
     -- memory is out
-    pub line_lost : HasExchanges Answers style new at.exchanges ⊎ HasExchanges Answers style new (at.exchanges ++ exchange ∷ []) → IsSession Answers style (part_with replies new) (ended_by (output.NoMemory no_memory)) moves
+    pub line_lost : HasPart Answers style at.exchanges replies new exchange.0 → IsSession Answers style (part_with replies new) (ended_by (output.NoMemory no_memory)) moves
     line_lost (inl has) = lost_before moves part along unfinished (10 ∷ left) at new has
-    line_lost (inr has) = lost_behind moves part along unfinished (10 ∷ left) at new exchange (whole_line moves part along unfinished (10 ∷ left) at exchange asks [] tt) (lines_of left) now_lines has
+    line_lost (inr (begun, has, all)) = lost_behind moves part along unfinished (10 ∷ left) at new begun (all at.line (whole_line moves part along unfinished (10 ∷ left) at exchange asks [] tt)) (lines_of left) now_lines has
 
-    module _ (has : HasExchanges Answers style new (at.exchanges ++ exchange ∷ [])) (made : List Move) (writes : AreWrites made) where
+    module _ (has : HasExchanges Answers style (part_with replies new) (at.exchanges ++ exchange ∷ [])) (made : List Move) (writes : AreWrites made) where
       pub line_broken : (missing : List ℕ) → shown style along exchange ≡ written_in made ++ missing → EndsWith FailsToWrite made → IsSession Answers style (part_with replies new) (ended_by output.Write) (moves ++ made)
       line_broken missing said fails = broken moves part along unfinished (10 ∷ left) at exchange asks made writes (lines_of left) now_lines missing said fails new has
 
@@ -325,11 +326,11 @@ module _ (Answers : RunView → Inquiry → List ℕ → Type 0) (style : StyleV
 
     -- a last line without its end
     module _ (some : 0 < length unfinished) (exchange : Exchange) (asks : Asks exchange unfinished) (new : Part) where
-      pub last_lost : HasExchanges Answers style new at.exchanges ⊎ HasExchanges Answers style new (at.exchanges ++ exchange ∷ []) → IsSession Answers style (part_with replies new) (ended_by (output.NoMemory no_memory)) moves
+      pub last_lost : HasPart Answers style at.exchanges replies new exchange.0 → IsSession Answers style (part_with replies new) (ended_by (output.NoMemory no_memory)) moves
       last_lost (inl has) = lost_before moves part along unfinished [] at new has
-      last_lost (inr has) = lost_behind moves part along unfinished [] at new exchange (whole_line moves part along unfinished [] at exchange asks [] tt) [] (last_lines some ∙ sym (append-nil (at.lines ++ at.line ∷ []))) has
+      last_lost (inr (begun, has, all)) = lost_behind moves part along unfinished [] at new begun (all at.line (whole_line moves part along unfinished [] at exchange asks [] tt)) [] (last_lines some ∙ sym (append-nil (at.lines ++ at.line ∷ []))) has
 
-      module _ (has : HasExchanges Answers style new (at.exchanges ++ exchange ∷ [])) (made : List Move) (writes : AreWrites made) where
+      module _ (has : HasExchanges Answers style (part_with replies new) (at.exchanges ++ exchange ∷ [])) (made : List Move) (writes : AreWrites made) where
         pub last_broken : (missing : List ℕ) → shown style along exchange ≡ written_in made ++ missing → EndsWith FailsToWrite made → IsSession Answers style (part_with replies new) (ended_by output.Write) (moves ++ made)
         last_broken missing said fails = broken moves part along unfinished [] at exchange asks made writes [] (last_lines some ∙ sym (append-nil (at.lines ++ at.line ∷ []))) missing said fails new has
 

@@ -1,6 +1,6 @@
 -- What one call adds to the journal of a control of one's own.
-use Rattle.std.proofs.Common.{◌≡◌, ◌↔◌, ℕ, ◌≤◌, take, Vec, Global, List, [], ◌∷◌, ◌++◌, length, refl, sym, ap, subst, ◌∙◌, arith, length-append}
-use Rattle.std.proofs.lemmas.List.{take-append-le, take_all}
+use Rattle.std.proofs.Common.{◌≡◌, ◌↔◌, ℕ, ◌≤◌, List, [], ◌∷◌, ◌++◌, length, refl, sym, ap, subst, ◌∙◌, arith, length-append}
+use Rattle.std.proofs.lemmas.List.{take-append-le}
 use Rattle.std.specs.Prelude.{Result, Ok, Err, IfOk, OnErr}
 use Rattle.cdb_base.specs.Limits.{MAX_ENTRIES}
 use Rattle.cdb_commands.specs.ToldReply.{ToldReply, told}
@@ -17,9 +17,7 @@ use Rattle.cdb_rules.specs.Rules.{Rules}
 use Rattle.cdb_setup.specs.Parts.{Parts}
 use Rattle.cdb_session.specs.Alone.{all_replies_from, whole_part, IsLaterControl}
 use Rattle.cdb_session.specs.Styles.{Onward, stays, goes, GoesOn, IsCalled, MakesNone, Calls}
-use Rattle.cdb_session.specs.Answers.{run_left, AnswersNow}
-use Rattle.cdb_session.specs.declared.inquiry.Inquiry.{Inquiry}
-use Rattle.cdb_rules.specs.RunView.{RunView}
+use Rattle.cdb_session.specs.Answers.{run_left}
 use Rattle.cdb_session.proofs.GotReplies.{MakesNone-refl}
 
 pub all_replies-append : (rules : Rules) (t : State) (es fs : List Entry) → all_replies_from rules t (es ++ fs) ≡ all_replies_from rules t es ++ all_replies_from rules (replay_from rules t es) fs

@@ -27,8 +27,9 @@ use Rattle.cdb_session.specs.Inquiries.{AreStepWords, inquiry_word, step_asked}
 use Rattle.cdb_session.specs.InquiryWords.{step_with}
 use Rattle.cdb_session.specs.declared.inquiry.Inquiry.{Inquiry}
 use Rattle.cdb_session.specs.declared.inquiry.Inquiry.TheVariants.{Explain, Trail}
-use Rattle.cdb_session.specs.Due.{amiss_in, asked, behind, behind_act, behind_first, behind_stop, copy, dues_of, event, first_amiss, is_number, may_stand, nothing, registers, seats}
+use Rattle.cdb_session.specs.Due.{amiss_in, with_process, behind, behind_act, behind_first, behind_stop, copy, dues_of, event, first_amiss, is_number, may_stand, nothing, registers, seats}
 use Rattle.cdb_session.specs.Laws.{SoundLinesAreTaken}
+use Rattle.cdb_session.specs.Repeats.{repeat_parts}
 use Rattle.cdb_session.specs.Requests.{IsOwn, most_seats}
 use Rattle.cdb_session.specs.Topics.{topic_of, topic_word, topics}
 use Rattle.cdb_session.specs.Typed.{acts, second_words}
@@ -122,6 +123,9 @@ round word is = alone (is_number word) is
 breakpoint : TakesNumbers due.Breakpoint
 breakpoint word is = alone (is_number word) is
 
+count : TakesNumbers due.Count
+count word is = alone (is_number word) is
+
 -- the words are as many numbers
 abbrev AreNumbers : List Due → List (List ℕ) → Type 0
 AreNumbers [] words = words ≡ []
@@ -141,8 +145,12 @@ numbers (its ∷ dues) all (word ∷ words) is =
 abbrev AskInWords : List (List ℕ) → Type 0
 AskInWords words = (inquiry : Inquiry) × (others : List (List ℕ)) × (words ≡ inquiry_word inquiry ∷ others) × AreStepWords (step_asked inquiry) others
 
+-- the words repeat a command
+abbrev RepeatInWords : List (List ℕ) → Type 0
+RepeatInWords words = (p times : ℕ) × (words ≡ map part_text (repeat_parts p times)) × AllByRecursion IsInRange (repeat_parts p times)
+
 abbrev IsTaken : List (List ℕ) → Type 0
-IsTaken words = (IsOwn (join_with_byte 32 words) ⊎ AskInWords words) ⊎ ((command : Command) × AreWordsOf command words)
+IsTaken words = (IsOwn (join_with_byte 32 words) ⊎ (AskInWords words ⊎ RepeatInWords words)) ⊎ ((command : Command) × AreWordsOf command words)
 
 taken_alike : (one other : List (List ℕ)) → one ≡ other → IsTaken other → IsTaken one
 taken_alike one other is taken = subst IsTaken (sym is) taken
@@ -326,14 +334,14 @@ help_taken (word ∷ words) is =
     none_taken (codes "help" ∷ word ∷ []) words (inl (inl (inl (Some found.0, ap (λ (w : List ℕ). codes "help " ++ w) (topic_says word found.0 found.1))))) here.1
 
 -- `explain P [K]`, or `trail P [K]`
-asked_taken : (first : List ℕ) (make : StepAsked → Inquiry) → ((s : StepAsked) → first ≡ inquiry_word (make s)) → ((s : StepAsked) → s ≡ step_asked (make s)) → (words : List (List ℕ)) → IsSound (asked words) words → IsTaken (first ∷ words)
+asked_taken : (first : List ℕ) (make : StepAsked → Inquiry) → ((s : StepAsked) → first ≡ inquiry_word (make s)) → ((s : StepAsked) → s ≡ step_asked (make s)) → (words : List (List ℕ)) → IsSound (with_process due.Step words) words → IsTaken (first ∷ words)
 asked_taken first make word_is step_is [] is = absurd cc
 asked_taken first make word_is step_is (word ∷ []) is =
     let here = next due.Process [] word [] is in
     let p = a_number word (process word here.0) in
     let s = step_with p.0 None in
     let its : AreStepWords s (word ∷ []) = record { are = ap (λ (w : List ℕ). w ∷ []) p.2; in_range = (p.1, tt) } in
-    inl (inr (make s, word ∷ [], ap (λ (w : List ℕ). w ∷ word ∷ []) (word_is s), subst (λ (t : StepAsked). AreStepWords t (word ∷ [])) (step_is s) its))
+    inl (inr (inl (make s, word ∷ [], ap (λ (w : List ℕ). w ∷ word ∷ []) (word_is s), subst (λ (t : StepAsked). AreStepWords t (word ∷ [])) (step_is s) its)))
 asked_taken first make word_is step_is (word ∷ second ∷ words) is =
     let here = next due.Process (due.Step ∷ []) word (second ∷ words) is in
     let there = next due.Step [] second words here.1 in
@@ -342,11 +350,18 @@ asked_taken first make word_is step_is (word ∷ second ∷ words) is =
     let s = step_with p.0 (Some k.0) in
     let its : AreStepWords s (word ∷ second ∷ []) = record { are = (λ i. p.2 i ∷ k.2 i ∷ []); in_range = (p.1, (k.1, tt)) } in
     none_taken (first ∷ word ∷ second ∷ []) words
-    (inl (inr (make s, word ∷ second ∷ [], ap (λ (w : List ℕ). w ∷ word ∷ second ∷ []) (word_is s), subst (λ (t : StepAsked). AreStepWords t (word ∷ second ∷ [])) (step_is s) its))) there.1
+    (inl (inr (inl (make s, word ∷ second ∷ [], ap (λ (w : List ℕ). w ∷ word ∷ second ∷ []) (word_is s), subst (λ (t : StepAsked). AreStepWords t (word ∷ second ∷ [])) (step_is s) its)))) there.1
+
+-- `auto P`, or `auto P N`
+auto_taken : (words : List (List ℕ)) → IsSound (with_process due.Count words) words → IsTaken (codes "auto" ∷ words)
+auto_taken [] is = absurd cc
+auto_taken (word ∷ []) is = one_taken (codes "auto" ∷ []) due.Process process (word ∷ []) (λ p range. inr (command.Auto p, (refl, (tt, (range, tt))))) is
+auto_taken (word ∷ second ∷ words) is =
+    two_taken (codes "auto" ∷ []) due.Process due.Count process count (word ∷ second ∷ words) (λ p times of_p of_times. inl (inr (inr (p, times, refl, (tt, (of_p, (of_times, tt))))))) is
 
 by_topic : (first : Topic) (words : List (List ℕ)) → IsSound (behind first words) words → IsTaken (topic_word first ∷ words)
 by_topic topic.Step words is = step_taken words is
-by_topic topic.Auto words is = one_taken (codes "auto" ∷ []) due.Process process words (λ p range. inr (command.Auto p, (refl, (tt, (range, tt))))) is
+by_topic topic.Auto words is = auto_taken words is
 by_topic topic.Lose words is =
     copy_taken (codes "lose" ∷ []) words (λ s m p of_s of_m of_p. inr (command.Lose s m p, (refl, (tt, (of_s, (of_m, (of_p, tt))))))) is
 by_topic topic.Undo words is =
@@ -389,6 +404,7 @@ unfolding amiss_in
 sound_lines_are_taken line is =
     elim (all_taken (words_of line) is) [
       | inl (inl own) ↦ inl (subst IsOwn (join_with_byte-slice_split 32 line) own)
-      | inl (inr (inquiry, others, are, its)) ↦ inl (inr (inr (inr (inquiry, (others, are, its)))))
+      | inl (inr (inl (inquiry, others, are, its))) ↦ inl (inr (inr (inr (inl (inquiry, (others, are, its))))))
+      | inl (inr (inr (p, times, are, range))) ↦ inl (inr (inr (inr (inr (p, times, (are, range))))))
       | inr command ↦ inr command
     ]

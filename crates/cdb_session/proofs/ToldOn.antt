@@ -1,8 +1,10 @@
 -- What was told of a journal is told of a longer one.
-use Rattle.std.proofs.Common.{◌≡◌, ℕ, ◌+◌, ◌≤◌, List, [], ◌∷◌, length, sym, ◌∙◌, arith, min}
+use Rattle.std.proofs.Common.{◌≡◌, ℕ, ◌+◌, ◌≤◌, List, [], ◌∷◌, drop, length, subst, sym, ◌∙◌, arith, min}
+use Rattle.cdb_commands.specs.ToldReply.{ToldReply}
+use Rattle.cdb_session.specs.Parts.{IsGiven}
 use Rattle.cdb_rules.specs.RunView.{RunView}
-use Rattle.cdb_session.specs.Answers.{AreTold, IsTold}
-use Rattle.cdb_session.specs.Exchanges.{Exchange, commands_among}
+use Rattle.cdb_session.specs.Answers.{AreTold, IsTold, IsAnsweredAfter, IsDoneAfter}
+use Rattle.cdb_session.specs.Exchanges.{Exchange, commands_among, given_at}
 use Rattle.cdb_session.specs.Styles.{Part, GoesOn}
 use Rattle.cdb_session.specs.declared.inquiry.Inquiry.{Inquiry}
 use Rattle.cdb_session.specs.declared.request.Request.TheVariants.{Call, Ask, Seat, Help, Quit, Fault, TooLong}
@@ -18,12 +20,18 @@ module _ (Answers : RunView → Inquiry → List ℕ → Type 0) where
       let run = on.left_by first few in
       (first, omega (arith, low, on.before), omega (arith, few, on.longer), on.calls_in first few ∙ which ∙ sym many, rw run answers)
 
-  pub all_told_on : (old new : Part) → GoesOn old new → (count : ℕ) (its : List Exchange) → AsManyLater old new (count + commands_among its) → AreTold (IsTold Answers old) count its → AreTold (IsTold Answers new) count its
-  all_told_on old new on count [] many told = tt
-  all_told_on old new on count ((Call command, answer) ∷ its) many told = all_told_on old new on (count + 1) its (λ n low. many n (omega (arith, low))) told
-  all_told_on old new on count ((Seat chosen, answer) ∷ its) many told = all_told_on old new on count its many told
-  all_told_on old new on count ((Help about, answer) ∷ its) many told = all_told_on old new on count its many told
-  all_told_on old new on count ((Quit, answer) ∷ its) many told = all_told_on old new on count its many told
-  all_told_on old new on count ((Fault fault, answer) ∷ its) many told = all_told_on old new on count its many told
-  all_told_on old new on count ((TooLong, answer) ∷ its) many told = all_told_on old new on count its many told
-  all_told_on old new on count ((Ask inquiry, answer) ∷ its) many told = (told_on old new on count inquiry answer (many count (omega arith)) told.0, all_told_on old new on count its many told.1)
+  answered_on : (old new : Part) → GoesOn old new → (count : ℕ) → min count (length new.calls) ≡ min count (length old.calls) → (exchange : Exchange) → IsAnsweredAfter Answers old count exchange → IsAnsweredAfter Answers new count exchange
+  answered_on old new on count many (Call command times, outcome) is = tt
+  answered_on old new on count many (Ask inquiry, outcome) is = told_on old new on count inquiry outcome.answer many is
+  answered_on old new on count many (Seat chosen, outcome) is = tt
+  answered_on old new on count many (Help about, outcome) is = tt
+  answered_on old new on count many (Quit, outcome) is = tt
+  answered_on old new on count many (Fault fault, outcome) is = tt
+  answered_on old new on count many (TooLong, outcome) is = tt
+
+  pub all_told_on : (old new : Part) → GoesOn old new → new.replies ≡ old.replies → (count : ℕ) (its : List Exchange) → AsManyLater old new (count + commands_among its) → AreTold (IsDoneAfter Answers old) count its → AreTold (IsDoneAfter Answers new) count its
+  all_told_on old new on same count [] many told = tt
+  all_told_on old new on same count (exchange ∷ its) many told = (
+    (answered_on old new on count (many count (omega arith)) exchange told.0.0, subst (λ (replies : List ToldReply). IsGiven exchange (drop count replies)) (sym same) told.0.1),
+    all_told_on old new on same (count + given_at exchange) its (λ n low. many n (omega (arith, low))) told.1,
+  )

@@ -3,7 +3,7 @@ use Rattle.std.proofs.Common.{◌≡◌, ℕ, ◌+◌, ◌-◌, ◌≤◌, List,
 use Rattle.std.specs.Prelude.{Result, Ok, Err}
 use Rattle.std.proofs.lemmas.List.{take_rest, take_all}
 use Rattle.std.proofs.Math.Seq.{take-add}
-use Rattle.cdb_session.specs.Moves.{WritesAll, Known, Move, Wrote, written_in, written_by, AsksForInput, AreWrites, FailsToWrite, EndsWith, Makes}
+use Rattle.cdb_session.specs.Moves.{WritesAll, Known, Move, Wrote, written_in, written_by, AsksForInput, AreWrites, FailsToWrite, Makes}
 use Rattle.cdb_session.proofs.MovesInOrder.{Makes-nothing, Makes-more, EndsWith-more, written-append}
 
 -- the first bytes of the text were taken

@@ -7,7 +7,7 @@ use Rattle.cdb_text.specs.Grammar.{words_of}
 use Rattle.cdb_session.specs.Topics.{topic_of}
 use Rattle.cdb_session.specs.Typed.{acts, first_words, is_digits, second_words}
 use Rattle.cdb_session.specs.declared.due.Due.{Due}
-use Rattle.cdb_session.specs.declared.due.Due.TheVariants.{Command, Process, ProcessOrLost, ProcessOrView, Act, Stop, Message, Step, Round, Breakpoint, Register, Seat, Nothing}
+use Rattle.cdb_session.specs.declared.due.Due.TheVariants.{Command, Process, ProcessOrLost, ProcessOrView, Act, Stop, Message, Step, Round, Breakpoint, Register, Seat, Count, Nothing}
 use Rattle.cdb_session.specs.declared.topic.Topic.{Topic}
 use Rattle.cdb_session.specs.declared.topic.Topic.TheVariants as topic
 
@@ -26,6 +26,7 @@ due_text Round = codes "a round"
 due_text Breakpoint = codes "a breakpoint"
 due_text Register = codes "r1 to r9 or dec"
 due_text Seat = codes "a seat from 1 to 9"
+due_text Count = codes "a count"
 due_text Nothing = codes "nothing more"
 
 abbrev pub takes_number : Due → Bool
@@ -41,6 +42,7 @@ takes_number Round = true
 takes_number Breakpoint = true
 takes_number Register = false
 takes_number Seat = false
+takes_number Count = true
 takes_number Nothing = false
 
 abbrev pub registers : List (List ℕ)
@@ -66,6 +68,7 @@ words_at Round = []
 words_at Breakpoint = []
 words_at Register = registers
 words_at Seat = seats
+words_at Count = []
 words_at Nothing = []
 
 -- one to six digits, the first not 0
@@ -106,16 +109,16 @@ behind_stop stop =
     if bytes_eq stop (codes "round") then (Process ∷ Round ∷ []) else
     (if bytes_eq stop (codes "write") then (Register ∷ []) else (Process ∷ []))
 
--- behind `explain` and `trail`: `P [K]`
-abbrev pub asked : List (List ℕ) → List Due
-asked [] = Process ∷ []
-asked (process ∷ words) = Process ∷ maybe Step words
+-- behind `explain` and `trail`: `P [K]`; behind `auto`: `P [N]`
+abbrev pub with_process : Due → List (List ℕ) → List Due
+with_process due [] = Process ∷ []
+with_process due (process ∷ words) = Process ∷ maybe due words
 
 -- behind the first word
 abbrev pub behind : Topic → List (List ℕ) → List Due
 behind topic.Step (process ∷ act ∷ words) = Process ∷ Act ∷ behind_act act words
 behind topic.Step words = Process ∷ Act ∷ []
-behind topic.Auto words = Process ∷ []
+behind topic.Auto words = with_process Count words
 behind topic.Lose words = copy
 behind topic.Undo words = event words
 behind topic.Redo words = []
@@ -128,8 +131,8 @@ behind topic.Unbreak words = Breakpoint ∷ []
 behind topic.Resume words = []
 behind topic.Show words = ProcessOrView ∷ []
 behind topic.Decisions words = []
-behind topic.Explain words = asked words
-behind topic.Trail words = asked words
+behind topic.Explain words = with_process Step words
+behind topic.Trail words = with_process Step words
 behind topic.Help words = maybe Command words
 behind topic.Quit words = []
 behind topic.Seat words = Seat ∷ []

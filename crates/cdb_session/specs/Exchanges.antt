@@ -1,14 +1,22 @@
--- What a line asks for, and what it is answered with.
+-- What a line asks for, with what came of it.
 use Rattle.std.specs.Prelude.{ℕ, ◌+◌, List, [], ◌∷◌}
 use Rattle.cdb_session.specs.declared.request.Request.{Request}
 use Rattle.cdb_session.specs.declared.request.Request.TheVariants.{Call}
 
--- what a line asks for, and the answer where it asks something of the run
-abbrev pub Exchange : Type 0
-Exchange = Request × List ℕ
+-- how often the command of a line was given, and the answer to it where it asks something of the run
+pub record Outcome : Type 0 where
+  pub given : ℕ
+  pub answer : List ℕ
 
--- how many of them ask for a command
+abbrev pub Exchange : Type 0
+Exchange = Request × Outcome
+
+-- how many commands were given at a line
+abbrev pub given_at : Exchange → ℕ
+given_at (Call command times, outcome) = outcome.given
+given_at other = 0
+
+-- and at all of these
 abbrev pub commands_among : List Exchange → ℕ
 commands_among [] = 0
-commands_among ((Call command, answer) ∷ exchanges) = 1 + commands_among exchanges
-commands_among (other ∷ exchanges) = commands_among exchanges
+commands_among (exchange ∷ exchanges) = given_at exchange + commands_among exchanges

@@ -26,6 +26,15 @@ step_in (first ∷ []) = last_step (number_of first)
 step_in (first ∷ second ∷ []) = numbered_step (number_of first) (number_of second)
 step_in (first ∷ second ∷ third ∷ words) = None
 
+-- the process and the count of a command that is repeated
+abbrev pub with_count : Option StepAsked → Option (ℕ × ℕ)
+with_count None = None
+with_count (Some step) = option_map (λ k. (step.p, k)) step.k
+
+unfoldable pub repeat_in : List (List ℕ) → Option (ℕ × ℕ)
+repeat_in [] = None
+repeat_in (word ∷ others) = if bytes_eq word (codes "auto") then with_count (step_in others) else None
+
 -- what the words ask of the run, if they do
 unfoldable pub inquiry_in : List (List ℕ) → Option Inquiry
 inquiry_in [] = None

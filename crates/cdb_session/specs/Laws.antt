@@ -13,8 +13,8 @@ use Rattle.cdb_session.specs.Requests.{IsOwn}
 use Rattle.cdb_session.specs.Table.{begun, session_after}
 use Rattle.cdb_session.specs.Typed.{line_meant}
 
--- behind the entries that the session goes on from the journal has the commands, in order and each once, as many as it has
--- room for
+-- behind the entries that the session goes on from the journal has the commands, in order and each as often as it was given,
+-- as many as it has room for
 abbrev pub JournalHasTheCommands : Type 0
 JournalHasTheCommands =
     (rules : Parts → Rules) (setup : Parts) (entries : List Entry) (exchanges : List Exchange) → length entries ≤ MAX_ENTRIES

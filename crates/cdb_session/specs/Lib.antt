@@ -5,6 +5,7 @@ pub mod Typed
 pub mod FaultyLines
 pub mod Due
 pub mod Inquiries
+pub mod Repeats
 pub mod Exchanges
 pub mod Requests
 pub mod Styles

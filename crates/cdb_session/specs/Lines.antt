@@ -1,16 +1,19 @@
 -- What one line does.
-use Rattle.std.specs.Prelude.{◌≡◌, ℕ, List, [], ◌∷◌, Result, Ok, Err, Vec}
+use Rattle.std.specs.Prelude.{◌≡◌, ◌⊎◌, ℕ, ◌<◌, ◌≤◌, Bool, true, List, [], ◌++◌, length, Result, Ok, Err, Vec}
 use Rattle.std.specs.Global.{Global}
-use Rattle.cdb_commands.specs.ToldReply.{ToldReply}
-use Rattle.cdb_commands.specs.declared.command.Command.{Command}
-use Rattle.cdb_control.specs.Journal.{entry}
+use Rattle.cdb_commands.specs.ToldReply.{ToldReply, is_refused}
+use Rattle.cdb_control.specs.declared.control.Entry.{Entry}
 use Rattle.cdb_rules.specs.RunView.{RunView}
 use Rattle.cdb_session.specs.Answers.{AnswersNow}
-use Rattle.cdb_session.specs.Exchanges.{Exchange}
+use Rattle.cdb_session.specs.Exchanges.{Exchange, Outcome, given_at}
 use Rattle.cdb_session.specs.declared.inquiry.Inquiry.{Inquiry}
 use Rattle.cdb_session.specs.declared.request.Request.{Request}
 use Rattle.cdb_session.specs.declared.request.Request.TheVariants.{Call, Ask}
-use Rattle.cdb_session.specs.Styles.{StyleView, Part, IsFull, IsCalled, MakesNone}
+use Rattle.cdb_session.specs.Styles.{StyleView, Part, IsFull, IsCalled, AreCalled, MakesNone}
+use Rattle.cdb_session.specs.Dialogues.{full_text}
+use Rattle.cdb_session.specs.Parts.{IsGiven, entries_of}
+use Rattle.cdb_session.specs.Repeats.{times_given}
+use Rattle.cdb_text.specs.Texts.{text_of}
 use Rattle.cdb_session.specs.Replies.{Along, response, shown}
 use Rattle.cdb_session.specs.declared.session.Session.{Session}
 
@@ -28,39 +31,55 @@ seen_by part s = record { part = part s.caller; seat = s.seat; lines = s.lines }
 abbrev pub at_line : SessionView → List ToldReply → Along
 at_line session got = record { seat = session.seat; replies = got; lines = session.lines }
 
--- a command without a reply found the journal full
-abbrev pub FindsFull : Request → List ToldReply → Part → Type 0
-FindsFull request got part = (command : Command) → request ≡ Call command → got ≡ [] → IsFull part
-
--- The session has called nothing since, or the command that the line asks for, and got this reply to it.
+-- the session has given the command that the line asks for, if it asks for one, and got each time one of these replies
 abbrev pub HasGot : ℕ → Part → Request → List ToldReply → Part → Type 0
-HasGot seat old request [] new = MakesNone old new
-HasGot seat old request (reply ∷ []) new = (command : Command) × (request ≡ Call command)
-    × IsCalled old (entry seat command) reply new
-HasGot seat old request (reply ∷ other ∷ more) new = ⊥
+HasGot seat old request got new = AreCalled old (entries_of seat request (length got)) got new
+
+-- what was given of it was to be given
+abbrev pub IsToBeGiven : Request → List ToldReply → Type 0
+IsToBeGiven (Call command times) got = (length got ≤ times) × (times_given (length got) got ≡ length got)
+IsToBeGiven other got = got ≡ []
+
+-- what the line asks for was begun
+pub record HasBegun (seat : ℕ) (old : Part) (request : Request) (new : Part) : Type 0 where
+  pub got : List ToldReply
+  pub calls : HasGot seat old request got new
+  pub due : IsToBeGiven request got
+
+-- The command was given once more, and the text of the reply added, or that the journal is full. Where this is true it was
+-- the last time.
+abbrev pub GivesOnce : {E : Type 0} → Result Bool E → Part → Entry → List ℕ → List ℕ → Part → Type 0
+GivesOnce (Ok last) old one before text new =
+    ((reply : ToldReply) × IsCalled old one reply new × (last ≡ is_refused reply) × (text ≡ before ++ text_of reply))
+    ⊎ (MakesNone old new × IsFull new × (last ≡ true) × (text ≡ before ++ full_text))
+GivesOnce (Err fault) old one before text new = MakesNone old new ⊎ ((reply : ToldReply) × IsCalled old one reply new)
 
 module _ (Answers : RunView → Inquiry → List ℕ → Type 0) where
   -- where the line asks something of the run, this answers it
   abbrev pub IsAnsweredAt : Exchange → Part → Type 0
-  IsAnsweredAt exchange part = (inquiry : Inquiry) → exchange.0 ≡ Ask inquiry → AnswersNow Answers part inquiry exchange.1
+  IsAnsweredAt exchange part =
+      (inquiry : Inquiry) → exchange.0 ≡ Ask inquiry → AnswersNow Answers part inquiry exchange.1.answer
 
-  -- what a line asks for was done, by this seat, with these replies, none or one
+  -- What a line asks for was done, by this seat, with these replies. Where its command was given more often, the journal is
+  -- full.
   pub record HasDone (seat : ℕ) (old : Part) (exchange : Exchange) (got : List ToldReply) (new : Part) : Type 0 where
     pub calls : HasGot seat old exchange.0 got new
-    pub full : FindsFull exchange.0 got new
+    pub given : IsGiven exchange got
+    pub fits : length got ≤ given_at exchange
+    pub full : length got < given_at exchange → IsFull new
     pub answer : IsAnsweredAt exchange new
 
   module _ (style : StyleView) where
-    -- The response to a line that asks for this. Out of memory it may have been done.
+    -- The response to a line that asks for this. Out of memory it may have been begun.
     abbrev pub Responds : {E : Type 0} → Result (Vec ℕ Global) E → SessionView → Request → SessionView → Type 0
     Responds (Ok text) old request new =
-        (answer : List ℕ) × (got : List ToldReply) × HasDone old.seat old.part (request, answer) got new.part
-        × (text.items ≡ response style (at_line old got) (request, answer))
-    Responds (Err fault) old request new = (got : List ToldReply) × HasGot old.seat old.part request got new.part
+        (outcome : Outcome) × (got : List ToldReply) × HasDone old.seat old.part (request, outcome) got new.part
+        × (text.items ≡ response style (at_line old got) (request, outcome))
+    Responds (Err fault) old request new = HasBegun old.seat old.part request new.part
 
     -- what is shown then
     abbrev pub Shows : {E : Type 0} → Result (Vec ℕ Global) E → SessionView → Request → SessionView → Type 0
     Shows (Ok text) old request new =
-        (answer : List ℕ) × (got : List ToldReply) × HasDone old.seat old.part (request, answer) got new.part
-        × (text.items ≡ shown style (at_line old got) (request, answer))
-    Shows (Err fault) old request new = (got : List ToldReply) × HasGot old.seat old.part request got new.part
+        (outcome : Outcome) × (got : List ToldReply) × HasDone old.seat old.part (request, outcome) got new.part
+        × (text.items ≡ shown style (at_line old got) (request, outcome))
+    Shows (Err fault) old request new = HasBegun old.seat old.part request new.part

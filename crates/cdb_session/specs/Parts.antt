@@ -1,25 +1,35 @@
 -- The entries that the lines of a session ask for.
-use Rattle.std.specs.Prelude.{◌≡◌, ◌⊎◌, ℕ, Bool, List, [], ◌∷◌, ◌++◌, fold, if◌then◌else◌}
+use Rattle.std.specs.Prelude.{◌≡◌, ◌⊎◌, ℕ, Bool, List, [], ◌∷◌, ◌++◌, fold, replicate, if◌then◌else◌}
+use Rattle.cdb_commands.specs.ToldReply.{ToldReply}
 use Rattle.cdb_control.specs.Journal.{entry}
 use Rattle.cdb_control.specs.declared.control.Entry.{Entry}
 use Rattle.cdb_session.specs.Exchanges.{Exchange}
+use Rattle.cdb_session.specs.Repeats.{times_given}
 use Rattle.cdb_session.specs.declared.request.Request.{Request}
 use Rattle.cdb_session.specs.declared.request.Request.TheVariants.{Call, Ask, Seat, Help, Quit, Fault, TooLong}
 use Rattle.cdb_session.specs.Styles.{StyleView, Part, IsFull}
 
--- the entry that a line of this seat asks for, if it asks for one
-abbrev pub asked_of : ℕ → Request → List Entry
-asked_of seat (Call command) = entry seat command ∷ []
-asked_of seat (Ask inquiry) = []
-asked_of seat (Seat chosen) = []
-asked_of seat (Help about) = []
-asked_of seat Quit = []
-asked_of seat (Fault fault) = []
-asked_of seat TooLong = []
+-- a command was given as often as it is by the replies that follow
+abbrev pub IsGiven : Exchange → List ToldReply → Type 0
+IsGiven (Call command times, outcome) replies = outcome.given ≡ times_given times replies
+IsGiven other replies = Unit {0}
+
+-- the entries of a line of this seat whose command was given so often
+abbrev pub entries_of : ℕ → Request → ℕ → List Entry
+entries_of seat (Call command times) count = replicate count (entry seat command)
+entries_of seat (Ask inquiry) count = []
+entries_of seat (Seat chosen) count = []
+entries_of seat (Help about) count = []
+entries_of seat Quit count = []
+entries_of seat (Fault fault) count = []
+entries_of seat TooLong count = []
+
+abbrev pub asked_of : ℕ → Exchange → List Entry
+asked_of seat exchange = entries_of seat exchange.0 exchange.1.given
 
 -- the seat of the next line
 abbrev pub seat_next : Bool → ℕ → Request → ℕ
-seat_next chooses seat (Call command) = seat
+seat_next chooses seat (Call command times) = seat
 seat_next chooses seat (Ask inquiry) = seat
 seat_next chooses seat (Seat chosen) = if chooses then chosen else seat
 seat_next chooses seat (Help about) = seat
@@ -34,7 +44,7 @@ seat_behind chooses seat exchanges = fold (λ its exchange. seat_next chooses it
 -- what the lines ask for, each of the seat that was chosen last
 abbrev pub all_asked : Bool → ℕ → List Exchange → List Entry
 all_asked chooses seat [] = []
-all_asked chooses seat (exchange ∷ exchanges) = asked_of seat exchange.0
+all_asked chooses seat (exchange ∷ exchanges) = asked_of seat exchange
     ++ all_asked chooses (seat_next chooses seat exchange.0) exchanges
 
 module _ (style : StyleView) where

@@ -1,12 +1,12 @@
 -- The responses of a session by the replies to its commands, whatever else its journal has.
-use Rattle.std.specs.Prelude.{ℕ, ◌+◌, List, [], ◌∷◌, ◌++◌, codes, fold, if◌then◌else◌}
+use Rattle.std.specs.Prelude.{ℕ, zero, suc, ◌+◌, List, [], ◌∷◌, ◌++◌, codes, drop, fold, if◌then◌else◌}
 use Rattle.cdb_commands.specs.ToldReply.{ToldReply}
 use Rattle.cdb_text.specs.Texts.{text_of}
 use Rattle.cdb_text.specs.declared.fault.LineFault.TheVariants.{Word}
 use Rattle.cdb_session.specs.Dialogues.{full_text, faulty_line_text, fault_response, long_line_text, help_response, shown_by, shown_from_by}
 use Rattle.cdb_session.specs.Dialogues.{dialogue_by}
 use Rattle.cdb_session.specs.Due.{stands}
-use Rattle.cdb_session.specs.Exchanges.{Exchange}
+use Rattle.cdb_session.specs.Exchanges.{Exchange, given_at}
 use Rattle.cdb_session.specs.Parts.{seat_next}
 use Rattle.cdb_session.specs.Requests.{seat_line}
 use Rattle.cdb_session.specs.Styles.{StyleView}
@@ -32,15 +32,10 @@ abbrev pub next_replies : List ToldReply → List ToldReply
 next_replies [] = []
 next_replies (reply ∷ replies) = replies
 
--- the replies that are left then
-abbrev pub replies_after : List ToldReply → Request → List ToldReply
-replies_after replies (Call command) = next_replies replies
-replies_after replies (Ask inquiry) = replies
-replies_after replies (Seat seat) = replies
-replies_after replies (Help about) = replies
-replies_after replies Quit = replies
-replies_after replies (Fault fault) = replies
-replies_after replies TooLong = replies
+-- so one that is given several times
+abbrev pub replies_text : ℕ → List ToldReply → List ℕ
+replies_text zero replies = []
+replies_text (suc count) replies = reply_text replies ++ replies_text count (next_replies replies)
 
 module _ (style : StyleView) where
   -- before the first line of a session whose commands get these replies
@@ -49,7 +44,7 @@ module _ (style : StyleView) where
 
   -- the response to a line that asks for no command and nothing of the run, after this many lines
   abbrev pub own_response : ℕ → Request → List ℕ
-  own_response lines (Call command) = []
+  own_response lines (Call command times) = []
   own_response lines (Ask inquiry) = []
   own_response lines (Seat seat) =
       if style.chooses
@@ -62,20 +57,20 @@ module _ (style : StyleView) where
 
   -- The response at a line. Where no line chooses a seat, one that does has a wrong word.
   abbrev pub response : Along → Exchange → List ℕ
-  response s (Call command, answer) = reply_text s.replies
-  response s (Ask inquiry, answer) = answer
-  response s (Seat seat, answer) = own_response s.lines (Seat seat)
-  response s (Help about, answer) = own_response s.lines (Help about)
-  response s (Quit, answer) = []
-  response s (Fault fault, answer) = own_response s.lines (Fault fault)
-  response s (TooLong, answer) = own_response s.lines TooLong
+  response s (Call command times, outcome) = replies_text outcome.given s.replies
+  response s (Ask inquiry, outcome) = outcome.answer
+  response s (Seat seat, outcome) = own_response s.lines (Seat seat)
+  response s (Help about, outcome) = own_response s.lines (Help about)
+  response s (Quit, outcome) = []
+  response s (Fault fault, outcome) = own_response s.lines (Fault fault)
+  response s (TooLong, outcome) = own_response s.lines TooLong
 
   -- the session after the line
   abbrev pub next_along : Along → Exchange → Along
   next_along s exchange =
       record {
         seat = seat_next style.chooses s.seat exchange.0;
-        replies = replies_after s.replies exchange.0;
+        replies = drop (given_at exchange) s.replies;
         lines = s.lines + 1;
       }
 

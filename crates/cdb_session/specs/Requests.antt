@@ -5,11 +5,13 @@ use Rattle.std.specs.Str.{bytes_eq}
 use Rattle.std.specs.Prelude.{nat_eq}
 use Rattle.cdb_base.specs.Positions.{without_last}
 use Rattle.cdb_setup.specs.Format.{longest}
+use Rattle.cdb_commands.specs.declared.command.Command.TheVariants.{Auto}
 use Rattle.cdb_setup.specs.Parts.{IsWithin}
 use Rattle.cdb_text.specs.Faults.{IsFaultOf}
 use Rattle.cdb_text.specs.Grammar.{IsLineOf}
 use Rattle.cdb_session.specs.Exchanges.{Exchange}
 use Rattle.cdb_session.specs.Inquiries.{IsInquiryLine}
+use Rattle.cdb_session.specs.Repeats.{IsRepeatLine}
 use Rattle.cdb_session.specs.Topics.{topic_word}
 use Rattle.cdb_session.specs.Typed.{line_meant}
 use Rattle.cdb_session.specs.declared.inquiry.Inquiry.{Inquiry}
@@ -47,13 +49,15 @@ IsOwn line =
     ((about : Option Topic) × (line ≡ help_line about))
     ⊎ ((line ≡ quit_line)
     ⊎ (((seat : ℕ) × IsWithin 1 most_seats seat × (line ≡ seat_line seat))
-    ⊎ ((inquiry : Inquiry) × IsInquiryLine inquiry line)))
+    ⊎ (((inquiry : Inquiry) × IsInquiryLine inquiry line)
+    ⊎ ((p : ℕ) × (times : ℕ) × IsRepeatLine p times line))))
 
 -- ---- what a line asks for
 
 -- What a line that is not too long asks for: one of these, a command, or nothing, and then it has a fault.
 abbrev pub Means : Request → List ℕ → Type 0
-Means (Call command) line = (¬ IsOwn line) × IsLineOf command line
+Means (Call command times) line =
+    ((¬ IsOwn line) × IsLineOf command line × (times ≡ 1)) ⊎ ((p : ℕ) × (command ≡ Auto p) × IsRepeatLine p times line)
 Means (Ask inquiry) line = IsInquiryLine inquiry line
 Means (Seat seat) line = IsWithin 1 most_seats seat × (line ≡ seat_line seat)
 Means (Help about) line = line ≡ help_line about
@@ -69,6 +73,12 @@ AsksFor request line = (length line ≤ longest) × Means request line
 -- What a line asks for, as it is typed.
 abbrev pub Asks : Exchange → List ℕ → Type 0
 Asks exchange line = AsksFor exchange.0 (line_meant line)
+
+-- the line asks for that, or for its command more often
+abbrev pub AsksForNoLess : Exchange → List ℕ → Type 0
+AsksForNoLess (Call command times, outcome) line =
+    (all : ℕ) × (times ≤ all) × AsksFor (Call command all) (line_meant line)
+AsksForNoLess other line = Asks other line
 
 -- the line is `quit`, as it is typed
 abbrev pub IsQuit : List ℕ → Type 0

@@ -1,13 +1,14 @@
 -- What a session has done, by its moves and by what its journal has of it.
 use Rattle.std.specs.Prelude.{◌≡◌, ℕ, ◌≤◌, List, ◌++◌, length, Result}
+use Rattle.std.specs.List.{AllZip}
 use Rattle.cdb_streams.specs.Lines.{lines_of}
 use Rattle.cdb_streams.specs.declared.fault.PlayFault.{PlayFault}
 use Rattle.cdb_session.specs.Moves.{Known, Move, Makes, read_in, written_in}
 use Rattle.cdb_rules.specs.RunView.{RunView}
-use Rattle.cdb_session.specs.Answers.{HasExchanges, HasExchangesOf}
+use Rattle.cdb_session.specs.Answers.{HasExchanges}
 use Rattle.cdb_session.specs.Exchanges.{Exchange}
 use Rattle.cdb_session.specs.Replies.{dialogue}
-use Rattle.cdb_session.specs.Requests.{AreAsked}
+use Rattle.cdb_session.specs.Requests.{AreAsked, AsksForNoLess}
 use Rattle.cdb_session.specs.Sessions.{IsSessionBy}
 use Rattle.cdb_session.specs.Styles.{StyleView, Part}
 use Rattle.cdb_session.specs.declared.inquiry.Inquiry.{Inquiry}
@@ -26,8 +27,16 @@ module _ (Answers : RunView → Inquiry → List ℕ → Type 0) (style : StyleV
       (exchanges : List Exchange) × AreAsked exchanges lines × (text ≡ dialogue style part.replies exchanges)
       × HasExchanges Answers style part exchanges
 
+  -- the journal has the commands of these lines, and of the next line's command as often as it was given until then
+  pub record HasCommandsSoFar (lines next : List (List ℕ)) : Type 0 where
+    pub exchanges : List Exchange
+    pub begun : List Exchange
+    pub asked : AreAsked exchanges lines
+    pub next_asked : AllZip AsksForNoLess begun next
+    pub commands : HasExchanges Answers style part (exchanges ++ begun)
+
   -- The first of the lines have their responses in full, and the others not at all. The journal has the commands of the
-  -- first lines, and maybe that of the next line too.
+  -- first lines, and of the next line what was given of its command.
   pub record IsCutShort (moves : List Move) : Type 0 where
     pub lines : List (List ℕ)
     pub next : List (List ℕ)
@@ -35,7 +44,7 @@ module _ (Answers : RunView → Inquiry → List ℕ → Type 0) (style : StyleV
     pub begins : lines_of (read_in moves) ≡ (lines ++ next) ++ others
     pub one : length next ≤ 1
     pub responded : IsAnswered lines (written_in moves)
-    pub commands : HasExchangesOf Answers style part (lines ++ next)
+    pub commands : HasCommandsSoFar lines next
 
   -- a session that has made these moves, and returned this
   abbrev pub IsSession : {A : Type 0} → Result A PlayFault → List Move → Type 0

@@ -56,6 +56,13 @@ pub record MakesNone (old new : Part) : Type 0 where
   pub replies : new.replies ≡ old.replies
   pub full : IsFull old → IsFull new
 
+-- the session made these entries, and got these replies, of which there are none where the journal was full
+pub record AreCalled (old : Part) (made : List Entry) (got : List ToldReply) (new : Part) : Type 0 where
+  pub goes_on : GoesOn old new
+  pub calls : new.calls ≡ old.calls ++ made
+  pub replies : new.replies ≡ old.replies ++ got
+  pub full : IsFull old → (got ≡ []) × IsFull new
+
 -- a call, by what it returned
 abbrev pub Calls : Part → Entry → Result Reply CallFault → Part → Type 0
 Calls old one (Ok reply) new = IsCalled old one (told reply) new

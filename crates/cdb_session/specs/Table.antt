@@ -1,6 +1,8 @@
 -- The table of a session whose lines choose one of nine seats: the response to each line, by the control that the lines before have led to.
-use Rattle.std.specs.Prelude.{◌≡◌, ℕ, ◌+◌, ◌==◌, true, List, [], ◌∷◌, ◌++◌, length, fold, codes, if◌then◌else◌}
+use Rattle.std.specs.Prelude.{◌≡◌, ℕ, zero, suc, ◌+◌, ◌==◌, ◌||◌, Bool, true, List, [], ◌∷◌, ◌++◌, length, fold, codes, if◌then◌else◌}
 use Rattle.cdb_base.specs.Limits.{MAX_ENTRIES, MAX_SEATS}
+use Rattle.cdb_commands.specs.ToldReply.{is_refused}
+use Rattle.cdb_commands.specs.declared.command.Command.{Command}
 use Rattle.cdb_control.specs.Journal.{Journaled, extended, reply_in}
 use Rattle.cdb_control.specs.declared.control.Entry.{Entry}
 use Rattle.cdb_journal.specs.OpenedFrom.{opened_from}
@@ -14,7 +16,6 @@ use Rattle.cdb_session.specs.Exchanges.{Exchange}
 use Rattle.cdb_session.specs.Parts.{seat_next}
 use Rattle.cdb_session.specs.Requests.{AreAsked, seat_line}
 use Rattle.cdb_session.specs.declared.inquiry.Inquiry.{Inquiry}
-use Rattle.cdb_session.specs.declared.request.Request.{Request}
 use Rattle.cdb_session.specs.declared.request.Request.TheVariants.{Call, Ask, Seat, Help, Quit, Fault, TooLong}
 
 -- A session between two lines: the rules of its run, its control, whose state is the replay of its journal, the seat
@@ -35,37 +36,58 @@ begun rules setup entries =
       lines = 0;
     }
 
+-- ---- a command that is given at a control, once or several times
+
+module _ (rules : Parts → Rules) (seat : ℕ) (command : Command) where
+  abbrev pub is_full : Journaled → Bool
+  is_full control = length control.journal == MAX_ENTRIES
+
+  -- it has the text of its reply, unless the journal is full
+  abbrev pub text_at : Journaled → List ℕ
+  text_at control = if is_full control then full_text else text_of (reply_in rules control seat command)
+
+  -- the control after it: it has an entry, unless the journal is full
+  abbrev pub control_behind : Journaled → Journaled
+  control_behind control = if is_full control then control else extended rules control seat command
+
+  -- how often it is given, of so many times: until it is refused, or the journal is full
+  abbrev pub given_to : Journaled → ℕ → ℕ
+  given_to control zero = 0
+  given_to control (suc times) =
+      if is_full control || is_refused (reply_in rules control seat command) then 1
+      else (1 + given_to (extended rules control seat command) times)
+
+  abbrev pub texts_at : Journaled → ℕ → List ℕ
+  texts_at control zero = []
+  texts_at control (suc count) = text_at control ++ texts_at (control_behind control) count
+
+  abbrev pub control_behind_all : Journaled → ℕ → Journaled
+  control_behind_all control zero = control
+  control_behind_all control (suc count) = control_behind_all (control_behind control) count
+
 -- ---- one line
 
--- The response at a line. A command has the text of its reply, unless the journal is full.
+-- the response at a line
 abbrev pub response_to : Session → Exchange → List ℕ
-response_to s (Call command, answer) =
-    if length s.control.journal == MAX_ENTRIES then full_text else text_of (reply_in s.rules s.control s.seat command)
-response_to s (Ask inquiry, answer) = answer
-response_to s (Seat seat, answer) = seat_line seat ++ codes "\n"
-response_to s (Help about, answer) = help_response (s.lines + 1) true about
-response_to s (Quit, answer) = []
-response_to s (Fault faulty, answer) = fault_response (s.lines + 1) true faulty
-response_to s (TooLong, answer) = long_line_text (s.lines + 1)
+response_to s (Call command times, outcome) = texts_at s.rules s.seat command s.control outcome.given
+response_to s (Ask inquiry, outcome) = outcome.answer
+response_to s (Seat seat, outcome) = seat_line seat ++ codes "\n"
+response_to s (Help about, outcome) = help_response (s.lines + 1) true about
+response_to s (Quit, outcome) = []
+response_to s (Fault faulty, outcome) = fault_response (s.lines + 1) true faulty
+response_to s (TooLong, outcome) = long_line_text (s.lines + 1)
 
--- the control after it: a command has an entry, unless the journal is full
-abbrev pub control_after : Session → Request → Journaled
-control_after s (Call command) =
-    if length s.control.journal == MAX_ENTRIES then s.control
-    else extended s.rules s.control s.seat command
-control_after s (Ask inquiry) = s.control
-control_after s (Seat seat) = s.control
-control_after s (Help about) = s.control
-control_after s Quit = s.control
-control_after s (Fault fault) = s.control
-control_after s TooLong = s.control
+-- the control after it
+abbrev pub control_after : Session → Exchange → Journaled
+control_after s (Call command times, outcome) = control_behind_all s.rules s.seat command s.control outcome.given
+control_after s other = s.control
 
 -- the session after the line
 abbrev pub after_line : Session → Exchange → Session
 after_line s exchange =
     record {
       rules = s.rules;
-      control = control_after s exchange.0;
+      control = control_after s exchange;
       seat = seat_next true s.seat exchange.0;
       lines = s.lines + 1;
     }
@@ -82,11 +104,15 @@ run_in s = run_left s.rules s.control.setup s.control.seats s.control.journal
 
 -- of a run, what is asked of it and a text, whether the text is the answer
 module _ (Answers : RunView → Inquiry → List ℕ → Type 0) where
-  -- what a line asks of the run is answered by the one that its control has come to then
+  -- A command is given as often as it can be. What a line asks of the run is answered by the one that the control has come to.
+  abbrev pub IsAnsweredIn : Session → Exchange → Type 0
+  IsAnsweredIn s (Call command times, outcome) = outcome.given ≡ given_to s.rules s.seat command s.control times
+  IsAnsweredIn s (Ask inquiry, outcome) = Answers (run_in s) inquiry outcome.answer
+  IsAnsweredIn s other = Unit {0}
+
   abbrev pub AreAnswered : Session → List Exchange → Type 0
   AreAnswered s [] = Unit {0}
-  AreAnswered s ((Ask inquiry, answer) ∷ exchanges) = Answers (run_in s) inquiry answer × AreAnswered (after_line s (Ask inquiry, answer)) exchanges
-  AreAnswered s (other ∷ exchanges) = AreAnswered (after_line s other) exchanges
+  AreAnswered s (exchange ∷ exchanges) = IsAnsweredIn s exchange × AreAnswered (after_line s exchange) exchanges
 
   module _ (greeting prompt : List ℕ) where
     -- all that is shown in a session from this start at these lines

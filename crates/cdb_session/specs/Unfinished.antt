@@ -20,7 +20,7 @@ use Rattle.cdb_streams.specs.Faults.{of_output}
 use Rattle.cdb_setup.specs.Format.{longest}
 use Rattle.cdb_session.specs.Styles.{StyleView, Part, IsFull}
 use Rattle.cdb_session.specs.Replies.{Along, begun_along, along_after, shown, dialogue}
-use Rattle.cdb_session.specs.Lines.{SessionView, HasDone, HasGot, at_line}
+use Rattle.cdb_session.specs.Lines.{SessionView, HasDone, HasBegun, at_line}
 use Rattle.cdb_session.specs.Parts.{seat_next}
 use Rattle.cdb_session.specs.Served.{IsAnswered, IsSession}
 use Rattle.cdb_session.specs.Sessions.{most_input, RespondsInTime}
@@ -56,7 +56,8 @@ module _ (Answers : RunView → Inquiry → List ℕ → Type 0) (style : StyleV
   -- so far the session has responded in time, whatever its journal will have of it beside these commands
   abbrev pub RespondsOnTime : List ToldReply → List Exchange → List Move → Type 0
   RespondsOnTime replies exchanges moves =
-      (final : Part) (others : List Exchange) → HasExchanges Answers style final (exchanges ++ others)
+      (final : Part) (others : List Exchange)
+      → HasExchanges Answers style (part_with replies final) (exchanges ++ others)
       → RespondsInTime (IsAnswered Answers style (part_with replies final)) moves
 
   -- After these moves the lines that have ended have their responses, with these of the replies. Of the next line this
@@ -75,7 +76,7 @@ module _ (Answers : RunView → Inquiry → List ℕ → Type 0) (style : StyleV
     pub written : written_in moves ≡ dialogue style replies exchanges
     pub along_is : along ≡ along_after style (begun_along style replies) exchanges
     pub few : along.lines + length left ≤ length (read_in moves)
-    pub commands : HasExchanges Answers style part exchanges
+    pub commands : HasExchanges Answers style (part_with replies part) exchanges
     pub in_time : RespondsOnTime replies exchanges moves
 
   -- so it is whatever replies will follow
@@ -113,8 +114,7 @@ module _ (Answers : RunView → Inquiry → List ℕ → Type 0) (style : StyleV
   pub record IsRequestLost (old new : SessionView) (unfinished : List ℕ) : Type 0 where
     pub request : Request
     pub asks : AsksFor request (line_meant unfinished)
-    pub got : List ToldReply
-    pub done : HasGot old.seat old.part request got new.part
+    pub begun : HasBegun old.seat old.part request new.part
 
   -- nothing of the response was written, and memory is out
   pub record IsLineLost (old new : SessionView) (unfinished : List ℕ) (made : List Move) : Type 0 where

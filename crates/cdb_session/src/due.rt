@@ -5,7 +5,7 @@ ghost use Rattle.std.specs.List.{list_any};
 ghost use Rattle.std.specs.Str.{bytes_eq};
 ghost use Rattle.cdb_text.specs.Grammar.{words_of};
 ghost use Rattle.cdb_text.specs.Pushes.{Pushes};
-ghost use Rattle.cdb_session.specs.Due.{due_text, takes_number, words_at, is_number, may_stand, event, asked, behind, dues_of};
+ghost use Rattle.cdb_session.specs.Due.{due_text, takes_number, words_at, is_number, may_stand, event, with_process, behind, dues_of};
 ghost use Rattle.cdb_session.specs.Due.{ends, stands, first_amiss, amiss_in, shown_byte, shown_word, amiss_text};
 
 use crate::topic::Topic;
@@ -31,6 +31,8 @@ pub enum Due {
     Breakpoint,
     Register,
     Seat,
+    /// How often.
+    Count,
     /// The line is to end.
     Nothing,
 }
@@ -71,6 +73,7 @@ impl Due {
             Due::Breakpoint => "a breakpoint",
             Due::Register => "r1 to r9 or dec",
             Due::Seat => "a seat from 1 to 9",
+            Due::Count => "a count",
             Due::Nothing => "nothing more",
         }
     }
@@ -86,7 +89,8 @@ impl Due {
             | Due::Message
             | Due::Step
             | Due::Round
-            | Due::Breakpoint => true,
+            | Due::Breakpoint
+            | Due::Count => true,
             Due::Command | Due::Act | Due::Stop | Due::Register | Due::Seat | Due::Nothing => false,
         }
     }
@@ -103,8 +107,13 @@ impl Due {
             Due::Stop => &STOPS,
             Due::Register => &REGISTERS,
             Due::Seat => &SEATS,
-            Due::Process | Due::Message | Due::Step | Due::Round | Due::Breakpoint | Due::Nothing =>
-                &[],
+            Due::Process
+            | Due::Message
+            | Due::Step
+            | Due::Round
+            | Due::Breakpoint
+            | Due::Count
+            | Due::Nothing => &[],
         }
     }
 
@@ -177,9 +186,19 @@ fn stop(words: &[&[u8]]) -> &'static [Due]
     }
 }
 
+/// What is due in a line that begins with `auto`, where these are its other words.
+fn repeated(words: &[&[u8]]) -> &'static [Due]
+    ensures { result.now ≡ Due.Command ∷ with_process Due.Count (map (λ it. it.now) words.now) }
+{
+    match words {
+        [] | [_] => &[Due::Command, Due::Process],
+        _ => &[Due::Command, Due::Process, Due::Count],
+    }
+}
+
 /// What is due in a line that begins with `explain` or `trail`, where these are its other words.
 fn asked(words: &[&[u8]]) -> &'static [Due]
-    ensures { result.now ≡ Due.Command ∷ asked (map (λ it. it.now) words.now) }
+    ensures { result.now ≡ Due.Command ∷ with_process Due.Step (map (λ it. it.now) words.now) }
 {
     match words {
         [] | [_] => &[Due::Command, Due::Process],
@@ -193,7 +212,7 @@ fn line_of(first: Topic, words: &[&[u8]]) -> &'static [Due]
 {
     match first {
         Topic::Step => act(words),
-        Topic::Auto => &[Due::Command, Due::Process],
+        Topic::Auto => repeated(words),
         Topic::Lose => &[Due::Command, Due::Process, Due::Message, Due::Process],
         Topic::Undo | Topic::Rollback | Topic::Why => event(words),
         Topic::Break => stop(words),

@@ -45,8 +45,8 @@ pub const COMMANDS: &str =
 pub const SEATS: &str = "  seat 1 .. seat 9      makes the lines after it those of that seat\n";
 
 /// The other lines that a session takes.
-pub const OTHERS: &str =
-    "  explain P [K]         prints what led to step K of P, or to its last step
+pub const OTHERS: &str = "  auto P N              does auto P N times, until it is refused
+  explain P [K]         prints what led to step K of P, or to its last step
   trail P [K]           prints how a value came to that step
   help                  lists the commands
   help WORD             lists the lines that begin with WORD

@@ -5,7 +5,7 @@ ghost use Rattle.std.specs.Str.Parse.{AllDigits, digits_value};
 ghost use Rattle.cdb_text.specs.Grammar.{words_of};
 ghost use Rattle.cdb_text.specs.Reading.{number_of};
 ghost use Rattle.cdb_text.specs.Words.{words_left};
-ghost use Rattle.cdb_session.specs.InquiryWords.{inquiry_in, step_in};
+ghost use Rattle.cdb_session.specs.InquiryWords.{inquiry_in, repeat_in, step_in};
 
 use cdb_base::StepAsked;
 
@@ -71,6 +71,19 @@ fn step_of(words: Option<&[u8]>) -> Option<StepAsked>
         }
         (_, Some(_)) => None,
     }
+}
+
+/// The process and the count of a line `auto P N`.
+#[tactic(auto, unfolding(crate::specs::InquiryWords::repeat_in))]
+pub(crate) fn repeat_of(line: &[u8]) -> Option<(u32, u32)>
+    ensures { result ≡ repeat_in (words_of line.now) }
+{
+    let (word, others) = first_word(line);
+    if word != b"auto".as_slice() {
+        return None;
+    }
+    let step = step_of(others)?;
+    Some((step.p, step.k?))
 }
 
 /// What a line asks of the run, if it does.

@@ -6,7 +6,7 @@ ghost use Rattle.cdb_session.specs.declared.request.Request.{Request as RequestN
 ghost use Rattle.cdb_session.specs.declared.topic.Topic.{Topic as TopicName};
 ghost use Rattle.cdb_session.specs.Requests.{AsksFor, help_line, quit_line, seat_line, most_seats};
 
-use crate::inquiry::{Inquiry, inquiry_of};
+use crate::inquiry::{Inquiry, inquiry_of, repeat_of};
 use crate::topic::Topic;
 use cdb_base::limits::MAX_BYTES;
 use cdb_control::Command;
@@ -31,8 +31,8 @@ impl<'a> Model for FaultyLine<'a> {
 /// What a line asks for.
 #[derive(Drop)]
 pub enum Request<'a> {
-    /// The command, by the seat that the session is at.
-    Call(Command),
+    /// The command, by the seat that the session is at, so many times, from 1 to 999,999, or until it is refused.
+    Call(Command, u32),
     /// The answer to this, of the run as it stands.
     Ask(Inquiry),
     /// The lines that follow are this seat's, from 1 to 9.
@@ -116,8 +116,11 @@ pub fn request_of(line: &[u8]) -> Request<'_>
     if let Some(inquiry) = inquiry_of(line) {
         return Request::Ask(inquiry);
     }
+    if let Some((p, times)) = repeat_of(line) {
+        return Request::Call(Command::Auto(p), times);
+    }
     match parse_line(line) {
-        Ok(command) => Request::Call(command),
+        Ok(command) => Request::Call(command, 1),
         Err(fault) => Request::Fault(FaultyLine { line, fault }),
     }
 }

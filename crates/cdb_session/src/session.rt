@@ -1,14 +1,15 @@
 //! A session: what its lines have led to.
 
 ghost use Rattle.std.specs.Prelude.{◌≡◌, ◌+◌, ◌-◌, ◌<◌, ◌≤◌, ◌^◌, ◌++◌, ℕ, codes, true, IfOk, OnOk};
-ghost use Rattle.cdb_commands.specs.ToldReply.{told};
+ghost use Rattle.cdb_commands.specs.ToldReply.{is_refused, told};
 ghost use Rattle.cdb_text.specs.Pushes.{Pushes};
 ghost use Rattle.cdb_text.specs.Texts.{text_of};
 ghost use Rattle.cdb_session.specs.Dialogues.{full_text, help_response, prompt_after};
 ghost use Rattle.cdb_session.specs.Requests.{most_seats, seat_line};
 ghost use Rattle.cdb_setup.specs.Parts.{IsWithin};
 ghost use Rattle.cdb_session.specs.Replies.{own_response};
-ghost use Rattle.cdb_session.specs.Lines.{Responds, Shows, seen_by};
+ghost use Rattle.cdb_control.specs.Journal.{entry};
+ghost use Rattle.cdb_session.specs.Lines.{GivesOnce, Responds, Shows, seen_by};
 ghost use Rattle.cdb_session.specs.Parts.{seat_next};
 ghost use Rattle.cdb_session.specs.Styles.{MaySit, Onward};
 
@@ -44,26 +45,52 @@ impl<C: Caller> Session<C> {
         }
     }
 
-    /// Carries a command out, and returns the text of the reply.
+    /// Gives a command once, and adds the text of the reply. Returns whether it was refused, or the journal is full.
     fn call(
         &mut self,
         alloc: Global,
         style: &Style<'_>,
         command: Command,
-    ) -> Result<Vec<u8>, NoMemory>
+        text: &mut Vec<u8>,
+    ) -> Result<bool, NoMemory>
         requires { MaySit style.now (C.seats self.old.caller) self.old.seat }
-        ensures responds { Responds C.answers style.now result (seen_by C.part self.old)
-            (Request.Call command) (seen_by C.part self.new) }
+        ensures gives { GivesOnce result (C.part self.old.caller) (entry self.old.seat command) text.old.items
+            text.new.items (C.part self.new.caller) }
         ensures seat { self.new.seat ≡ self.old.seat }
         ensures lines { self.new.lines ≡ self.old.lines }
         ensures seats { C.seats self.new.caller ≡ C.seats self.old.caller }
         ensures later { C.later self.old.caller self.new.caller }
     {
         match self.caller.call(alloc, self.seat, command) {
-            Ok(reply) => text_of(alloc, reply),
-            Err(CallFault::JournalFull) => text_of_full(alloc),
+            Ok(reply) => push_reply(alloc, text, reply),
+            Err(CallFault::JournalFull) => push_full(text),
             Err(CallFault::NoMemory(refused)) => Err(refused),
         }
+    }
+
+    /// Gives a command so many times, or until it is refused, and returns the texts of the replies.
+    fn call_times(
+        &mut self,
+        alloc: Global,
+        style: &Style<'_>,
+        command: &Command,
+        times: u32,
+    ) -> Result<Vec<u8>, NoMemory>
+        requires { MaySit style.now (C.seats self.old.caller) self.old.seat }
+        ensures responds { Responds C.answers style.now result (seen_by C.part self.old)
+            (Request.Call command.now times) (seen_by C.part self.new) }
+        ensures seat { self.new.seat ≡ self.old.seat }
+        ensures lines { self.new.lines ≡ self.old.lines }
+        ensures seats { C.seats self.new.caller ≡ C.seats self.old.caller }
+        ensures later { Onward C.later self.old.caller self.new.caller }
+    {
+        let mut text = Vec::new(alloc);
+        for _ in 0..times {
+            if self.call(alloc, style, *command, &mut text)? {
+                return Ok(text);
+            }
+        }
+        Ok(text)
     }
 
     /// Does what a line asks for that asks for no command and nothing of the run, and returns the response.
@@ -104,7 +131,7 @@ impl<C: Caller> Session<C> {
         ensures later { Onward C.later self.old.caller self.new.caller }
     {
         match request {
-            Request::Call(command) => self.call(alloc, style, *command),
+            Request::Call(command, times) => self.call_times(alloc, style, command, *times),
             Request::Ask(inquiry) => self.caller.ask(alloc, *inquiry),
             _ => self.respond_itself(alloc, style, request),
         }
@@ -135,20 +162,24 @@ impl<C: Caller> Session<C> {
     }
 }
 
-/// The response to a command for which the journal has no room.
-fn text_of_full(alloc: Global) -> Result<Vec<u8>, NoMemory>
-    ensures { IfOk result (λ text. text.items ≡ full_text) }
+/// Adds that the journal has no room, and returns that no command is to follow.
+fn push_full(text: &mut Vec<u8>) -> Result<bool, NoMemory>
+    ensures { IfOk result (λ last. (last ≡ true) × (text.new.items ≡ text.old.items ++ full_text)) }
 {
-    Ok(b"journal full\n".to_vec(alloc)?)
+    text.extend_from_slice(b"journal full\n")?;
+    Ok(true)
 }
 
-/// The text of a reply, which is given up.
-fn text_of(alloc: Global, reply: Reply) -> Result<Vec<u8>, NoMemory>
-    ensures { IfOk result (λ text. text.items ≡ text_of (told reply)) }
+/// Adds the text of a reply, which is given up. Returns whether it is a refusal.
+fn push_reply(alloc: Global, text: &mut Vec<u8>, reply: Reply) -> Result<bool, NoMemory>
+    ensures { IfOk result (λ last. (last ≡ is_refused (told reply))
+        × (text.new.items ≡ text.old.items ++ text_of (told reply))) }
 {
-    let text = reply_text(alloc, &reply);
+    let refused = matches!(reply, Reply::Refused(_));
+    let added = reply_text(alloc, &reply);
     reply.close();
-    text
+    text.extend_from_slice(added?.as_slice())?;
+    Ok(refused)
 }
 
 /// The response to a line that asks for no command and nothing of the run, after this many lines.
@@ -179,7 +210,7 @@ fn push_own_response(
     match request {
         Request::Seat(seat) => push_chosen(text, style, lines + 1, *seat),
         Request::Help(about) => push_help_response(alloc, text, style, lines + 1, *about),
-        Request::Quit | Request::Call(_) | Request::Ask(_) => Ok(()),
+        Request::Quit | Request::Call(_, _) | Request::Ask(_) => Ok(()),
         Request::Fault(faulty) => push_faulty(alloc, text, lines + 1, style.chooses, faulty),
         Request::TooLong => push_too_long(text, lines + 1),
     }

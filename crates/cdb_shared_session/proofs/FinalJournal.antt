@@ -69,7 +69,7 @@ module _ (rules : Parts → Rules) (Answers : RunView → Inquiry → List ℕ �
   has_known : (exchanges : List Exchange) → HasExchanges Answers style by_seat exchanges → HasExchanges Answers style by_journal exchanges
   has_known exchanges has = (
     commands_known exchanges has.0,
-    all_told_on Answers by_seat by_journal goes_on 0 exchanges (λ m low. ap (λ (calls : List Entry). min m (length calls)) (sym came_known)) has.1,
+    all_told_on Answers by_seat by_journal goes_on (ap (drop (length first.replies)) (sym replies_known)) 0 exchanges (λ m low. ap (λ (calls : List Entry). min m (length calls)) (sym came_known)) has.1,
   )
 
   same_text : (exchanges : List Exchange) (text : List ℕ) → text ≡ dialogue style by_seat.replies exchanges → text ≡ dialogue style by_journal.replies exchanges
@@ -97,7 +97,13 @@ module _ (rules : Parts → Rules) (Answers : RunView → Inquiry → List ℕ �
     begins = e.begins;
     one = e.one;
     responded = answered_known e.lines (written_in moves) e.responded;
-    commands = (e.commands.0, e.commands.1, has_known e.commands.0 e.commands.2);
+    commands = record {
+      exchanges = e.commands.exchanges;
+      begun = e.commands.begun;
+      asked = e.commands.asked;
+      next_asked = e.commands.next_asked;
+      commands = has_known (e.commands.exchanges ++ e.commands.begun) e.commands.commands;
+    };
   }
   ends_known (Err (fault.Setup why)) moves e = e
   ends_known (Err (fault.Line script line why)) moves e = e

@@ -1,6 +1,5 @@
 -- A control that keeps its journal in a file, call by call.
 use Rattle.std.proofs.Common.{◌≡◌, ℕ, ◌≤◌, List, [], ◌∷◌, ◌++◌, length, refl, sym, ap, subst, ◌∙◌, append_assoc, append-nil}
-use Rattle.std.specs.Prelude.{Result, Ok, Err}
 use Rattle.cdb_base.specs.Limits.{MAX_ENTRIES}
 use Rattle.cdb_commands.specs.declared.command.Command.{Command}
 use Rattle.cdb_control.specs.Journal.{Journaled, Begins, entry, extended}

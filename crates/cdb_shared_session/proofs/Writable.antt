@@ -17,11 +17,14 @@ use Rattle.cdb_rules.specs.Rules.{Rules}
 use Rattle.cdb_session.specs.Exchanges.{Exchange}
 use Rattle.cdb_session.specs.declared.inquiry.Inquiry.{Inquiry}
 use Rattle.cdb_session.specs.Moves.{Known, Move, read_in}
-use Rattle.cdb_session.specs.Parts.{HasCommands, all_asked, seat_next}
-use Rattle.cdb_session.specs.Requests.{Asks, AreAsked, ended_lines, up_to_quit}
+use Rattle.cdb_rules.proofs.Alls.{all-replicate}
+use Rattle.cdb_session.specs.Parts.{HasCommands, all_asked, asked_of, entries_of, seat_next}
+use Rattle.cdb_session.specs.Requests.{Asks, AsksFor, AsksForNoLess, AreAsked, ended_lines, up_to_quit}
+use Rattle.cdb_session.specs.Typed.{line_meant}
 use Rattle.cdb_session.specs.Served.{IsSession}
 use Rattle.cdb_session.specs.Since.{since}
 use Rattle.cdb_session.specs.Styles.{Part, StyleView}
+use Rattle.cdb_session.specs.declared.request.Request.{Request}
 use Rattle.cdb_session.specs.declared.request.Request.TheVariants.{Call, Ask, Seat, Help, Quit, Fault, TooLong}
 use Rattle.cdb_setup.specs.Parts.{Parts}
 use Rattle.cdb_streams.specs.Lines.{lines_of}
@@ -40,37 +43,84 @@ HaveLines entries = AllByRecursion (λ e. HasNumbersInRange e.command) entries
 
 -- ---- of one seat
 
--- what lines ask for has lines
-asked_have_lines : (chooses : Bool) (seat : ℕ) (exchanges : List Exchange) (lines : List (List ℕ)) → AllZip Asks exchanges lines → HaveLines (all_asked chooses seat exchanges)
-asked_have_lines chooses seat [] lines asked = tt
-asked_have_lines chooses seat (exchange ∷ exchanges) [] asked = absurd asked
-asked_have_lines chooses seat ((Call command, answer) ∷ exchanges) (line ∷ lines) asked =
-    (asked.0.1.1.1, asked_have_lines chooses (seat_next chooses seat (Call command)) exchanges lines asked.1)
-asked_have_lines chooses seat ((Ask inquiry, answer) ∷ exchanges) (line ∷ lines) asked = asked_have_lines chooses seat exchanges lines asked.1
-asked_have_lines chooses seat ((Seat chosen, answer) ∷ exchanges) (line ∷ lines) asked = asked_have_lines chooses (seat_next chooses seat (Seat chosen)) exchanges lines asked.1
-asked_have_lines chooses seat ((Help about, answer) ∷ exchanges) (line ∷ lines) asked = asked_have_lines chooses seat exchanges lines asked.1
-asked_have_lines chooses seat ((Quit, answer) ∷ exchanges) (line ∷ lines) asked = asked_have_lines chooses seat exchanges lines asked.1
-asked_have_lines chooses seat ((Fault why, answer) ∷ exchanges) (line ∷ lines) asked = asked_have_lines chooses seat exchanges lines asked.1
-asked_have_lines chooses seat ((TooLong, answer) ∷ exchanges) (line ∷ lines) asked = asked_have_lines chooses seat exchanges lines asked.1
+-- a line's command has a line
+abbrev HasLine : Request → Type 0
+HasLine (Call command times) = HasNumbersInRange command
+HasLine other = Unit {0}
+
+asked_has_line : (request : Request) (line : List ℕ) → AsksFor request line → HasLine request
+asked_has_line (Call command times) line (few, inl once) = once.1.1
+asked_has_line (Call command times) line (few, inr (p, is, repeat)) = subst HasNumbersInRange (sym is) (tt, (repeat.1.1.0, tt))
+asked_has_line (Ask inquiry) line asks = tt
+asked_has_line (Seat chosen) line asks = tt
+asked_has_line (Help about) line asks = tt
+asked_has_line Quit line asks = tt
+asked_has_line (Fault why) line asks = tt
+asked_has_line TooLong line asks = tt
+
+begun_has_line : (exchange : Exchange) (line : List ℕ) → AsksForNoLess exchange line → HasLine exchange.0
+begun_has_line (Call command times, outcome) line (all, few, asks) = asked_has_line (Call command all) (line_meant line) asks
+begun_has_line (Ask inquiry, outcome) line asks = tt
+begun_has_line (Seat chosen, outcome) line asks = tt
+begun_has_line (Help about, outcome) line asks = tt
+begun_has_line (Quit, outcome) line asks = tt
+begun_has_line (Fault why, outcome) line asks = tt
+begun_has_line (TooLong, outcome) line asks = tt
+
+abbrev HaveLine : List Exchange → Type 0
+HaveLine exchanges = AllByRecursion (λ exchange. HasLine exchange.0) exchanges
+
+all_have_line : (Asking : Exchange → List ℕ → Type 0) → ((exchange : Exchange) (line : List ℕ) → Asking exchange line → HasLine exchange.0) → (exchanges : List Exchange) (lines : List (List ℕ)) → AllZip Asking exchanges lines → HaveLine exchanges
+all_have_line Asking has [] lines asked = tt
+all_have_line Asking has (exchange ∷ exchanges) [] asked = absurd asked
+all_have_line Asking has (exchange ∷ exchanges) (line ∷ lines) asked = (has exchange line asked.0, all_have_line Asking has exchanges lines asked.1)
+
+have_line-append : (exchanges others : List Exchange) → HaveLine exchanges → HaveLine others → HaveLine (exchanges ++ others)
+have_line-append [] others all more = more
+have_line-append (exchange ∷ exchanges) others all more = (all.0, have_line-append exchanges others all.1 more)
+
+both_have_lines : (first more : List Entry) → HaveLines first → HaveLines more → HaveLines (first ++ more)
+both_have_lines [] more a b = b
+both_have_lines (e ∷ first) more a b = (a.0, both_have_lines first more a.1 b)
+
+-- so what lines ask for has lines
+entries_have_line : (seat : ℕ) (request : Request) (count : ℕ) → HasLine request → HaveLines (entries_of seat request count)
+entries_have_line seat (Call command times) count has = all-replicate (λ e. HasNumbersInRange e.command) count (entry seat command) has
+entries_have_line seat (Ask inquiry) count has = tt
+entries_have_line seat (Seat chosen) count has = tt
+entries_have_line seat (Help about) count has = tt
+entries_have_line seat Quit count has = tt
+entries_have_line seat (Fault why) count has = tt
+entries_have_line seat TooLong count has = tt
+
+asked_have_lines : (chooses : Bool) (seat : ℕ) (exchanges : List Exchange) → HaveLine exchanges → HaveLines (all_asked chooses seat exchanges)
+asked_have_lines chooses seat [] all = tt
+asked_have_lines chooses seat (exchange ∷ exchanges) all =
+    both_have_lines (asked_of seat exchange) (all_asked chooses (seat_next chooses seat exchange.0) exchanges) (entries_have_line seat exchange.0 exchange.1.given all.0) (asked_have_lines chooses (seat_next chooses seat exchange.0) exchanges all.1)
 
 first_have_lines : (first more : List Entry) → HaveLines (first ++ more) → HaveLines first
 first_have_lines [] more all = tt
 first_have_lines (e ∷ first) more all = (all.0, first_have_lines first more all.1)
 
 module _ (Answers : RunView → Inquiry → List ℕ → Type 0) (style : StyleView) (part : Part) where
-  calls_have_lines : (exchanges : List Exchange) (lines : List (List ℕ)) → AreAsked exchanges lines → HasCommands style part exchanges → HaveLines part.calls
-  calls_have_lines exchanges lines asked has =
-      let all = asked_have_lines style.chooses style.first exchanges (up_to_quit lines) asked in
+  calls_have_lines : (exchanges : List Exchange) → HaveLine exchanges → HasCommands style part exchanges → HaveLines part.calls
+  calls_have_lines exchanges asked has =
+      let all = asked_have_lines style.chooses style.first exchanges asked in
       elim has [
         | inl same ↦ subst HaveLines (sym same) all
         | inr (full, missing, same) ↦ first_have_lines part.calls missing (subst HaveLines same all)
       ]
 
+  have_line : (exchanges : List Exchange) (lines : List (List ℕ)) → AreAsked exchanges lines → HaveLine exchanges
+  have_line exchanges lines asked = all_have_line Asks (λ exchange line asks. asked_has_line exchange.0 (line_meant line) asks) exchanges (up_to_quit lines) asked
+
   session_has_lines : (returned : Result (Unit {0}) PlayFault) (moves : List Move) → IsSession Answers style part returned moves → HaveLines part.calls
-  session_has_lines (Ok done) moves s = let r = s.ends.responded in calls_have_lines r.0 (lines_of (read_in moves)) r.1 r.3.0
-  session_has_lines (Err fault.Read) moves s = let r = s.ends.0.responded in calls_have_lines r.0 (ended_lines (read_in moves)) r.1 r.3.0
-  session_has_lines (Err fault.Write) moves s = let r = s.ends.0.responded in calls_have_lines r.0 s.ends.0.lines r.1 r.3.0
-  session_has_lines (Err (fault.NoMemory refused)) moves s = let r = s.ends.commands in calls_have_lines r.0 (s.ends.lines ++ s.ends.next) r.1 r.2.0
+  session_has_lines (Ok done) moves s = let r = s.ends.responded in calls_have_lines r.0 (have_line r.0 (lines_of (read_in moves)) r.1) r.3.0
+  session_has_lines (Err fault.Read) moves s = let r = s.ends.0.responded in calls_have_lines r.0 (have_line r.0 (ended_lines (read_in moves)) r.1) r.3.0
+  session_has_lines (Err fault.Write) moves s = let r = s.ends.0.responded in calls_have_lines r.0 (have_line r.0 s.ends.0.lines r.1) r.3.0
+  session_has_lines (Err (fault.NoMemory refused)) moves s =
+      let r = s.ends.commands in
+      calls_have_lines (r.exchanges ++ r.begun) (have_line-append r.exchanges r.begun (have_line r.exchanges s.ends.lines r.asked) (all_have_line AsksForNoLess begun_has_line r.begun s.ends.next r.next_asked)) r.commands.0
   session_has_lines (Err (fault.Setup why)) moves s = absurd s.ends
   session_has_lines (Err (fault.Line script line why)) moves s = absurd s.ends
   session_has_lines (Err (fault.ScriptTooLong script)) moves s = absurd s.ends
@@ -124,10 +174,6 @@ module _ (rules : Parts → Rules) (Answers : RunView → Inquiry → List ℕ �
       commands_of seat (own seat its)
       (subst HaveLines calls_came (session_has_lines Answers (seat_style opening.prompt c.setup c.seats seat) (since (part_in rules begun seat) (part_in rules c seat)) outcome held.made held.session))
   ended_in_range Opens None outcome (fault, opens, unopened) = subst InRange (sym (none_came unopened.none)) tt
-
-both_have_lines : (first more : List Entry) → HaveLines first → HaveLines more → HaveLines (first ++ more)
-both_have_lines [] more a b = b
-both_have_lines (e ∷ first) more a b = (a.0, both_have_lines first more a.1 b)
 
 later_of_seats : (seats : ℕ) (first more : List Entry) → AreOfSeats seats (first ++ more) → AreOfSeats seats more
 later_of_seats seats [] more all = all

@@ -98,7 +98,12 @@ pub fn debug_shared<
         Err(fault) => return Err(of_beginning(fault)),
     };
     let ended = debug_seats::<R, A, P, J, Rt>(
-        rt, alloc, control, greeting.as_slice(), openers, file,
+        rt,
+        alloc,
+        control,
+        greeting.as_slice(),
+        openers,
+        file,
     );
     let (control, finished, kept) = match ended {
         Ok(sessions) => sessions,

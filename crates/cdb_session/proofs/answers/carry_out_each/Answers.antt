@@ -1,6 +1,6 @@
 use Rattle.std.proofs.Common.{◌≡◌, ◌+◌, ◌++◌, ◌∷◌, [], refl, sym, ap, ◌∙◌, arith, length, get_or, take, List}
 use Rattle.std.proofs.lemmas.List.{length-take, take_more}
-use Rattle.cdb_control.specs.Journal.{Journaled, entry}
+use Rattle.cdb_control.specs.Journal.{Journaled}
 use Rattle.cdb_control.specs.declared.control.Entry.{Entry}
 use Rattle.cdb_session.proofs.LeftRun.{seat_at}
 use Rattle.cdb_session.proofs.answers.carry_out_each.Goals as goal

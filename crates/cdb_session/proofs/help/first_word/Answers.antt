@@ -1,4 +1,4 @@
-use Rattle.std.proofs.Common.{◌≡◌, ◌-◌, ◌==◌, ◌≤◌, Bool, ℕ, List, length, take, drop, position, refl, sym, subst, ◌∙◌, rules, tests}
+use Rattle.std.proofs.Common.{◌≡◌, ◌-◌, ◌==◌, Bool, ℕ, List, length, take, drop, position, refl, sym, subst, ◌∙◌, rules, tests}
 use Rattle.std.specs.List.{before_first, position_or_len}
 use Rattle.std.proofs.lemmas.List.{take_rest, take_all}
 use Rattle.std.proofs.lemmas.Iterator.{YieldsList-from_slice}

@@ -1,4 +1,4 @@
-use Rattle.std.proofs.Common.{◌≡◌, ◌∷◌, ◌++◌, [], map, take, length, get_or, ℕ, List, Bor, sym, ap, ◌∙◌, append_assoc, append-nil, arith}
+use Rattle.std.proofs.Common.{◌≡◌, ◌++◌, [], map, take, get_or, ℕ, List, Bor, sym, ap, ◌∙◌, append_assoc, arith}
 use Rattle.std.specs.Prelude.{string_bytes}
 use Rattle.std.proofs.lemmas.List.{take_all}
 use Rattle.cdb_session.specs.Dialogues.{line_about, lines_about}

@@ -2,9 +2,7 @@ use Rattle.std.proofs.Common.{◌≡◌, ◌+◌, List, ℕ, [], sym, ap, subst,
 use Rattle.std.proofs.lemmas.List.{length-take}
 use Rattle.std.proofs.lemmas.Result.{err_from_is_err_and}
 use Rattle.cdb_session.specs.Lines.{seen_by}
-use Rattle.std.specs.Prelude.{Ok, Err}
-use Rattle.cdb_session.specs.Moves.{WritesAll}
-use Rattle.cdb_session.specs.Styles.{StyleView, stays}
+use Rattle.cdb_session.specs.Styles.{stays}
 use Rattle.cdb_session.proofs.CallChain.{Onward-trans}
 use Rattle.cdb_session.proofs.WholeSession.{Arrives, started, not_started, not_read, over_at_most, over_at_end, goes_on, quits, breaks}
 use Rattle.cdb_session.proofs.repl.run_from_first.Goals as goal

@@ -1,5 +1,5 @@
-use Rattle.std.proofs.Common.{◌≡◌, ◌≤◌, arith, rules, length, take, drop, sym, ap, ◌∙◌}
-use Rattle.std.specs.Prelude.{codes, Some, None}
+use Rattle.std.proofs.Common.{◌≡◌, arith, rules, take, sym, ap, ◌∙◌}
+use Rattle.std.specs.Prelude.{codes}
 use Rattle.std.proofs.lemmas.List.{take_rest}
 use Rattle.cdb_session.specs.Topics.{topic_of}
 use Rattle.cdb_session.proofs.HelpLines.{is_help, is_no_help}

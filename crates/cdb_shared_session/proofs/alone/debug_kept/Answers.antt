@@ -1,4 +1,4 @@
-use Rattle.std.proofs.Common.{inl, inr, refl}
+use Rattle.std.proofs.Common.{inl, refl}
 use Rattle.cdb_session.proofs.MovesInOrder.{Makes-nothing}
 use Rattle.cdb_shared_session.proofs.alone.debug_kept.Goals as goal
 

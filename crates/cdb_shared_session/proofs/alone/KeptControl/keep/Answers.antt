@@ -1,8 +1,8 @@
-use Rattle.std.proofs.Common.{◌≡◌, List, sym, ap, subst, ◌∙◌, length, take, drop, ◌-◌}
+use Rattle.std.proofs.Common.{List, sym, ap, subst, ◌∙◌, length, take, drop, ◌-◌}
 use Rattle.std.specs.Prelude.{Result, ℕ, Ok, Err}
 use Rattle.cdb_control.specs.declared.control.Entry.{Entry}
 use Rattle.cdb_journal.specs.Journals.{journal_text}
-use Rattle.cdb_streams.specs.Endings.{Ending, whole_ending, Complete, WriterFailed}
+use Rattle.cdb_streams.specs.Endings.{whole_ending}
 use Rattle.cdb_streams.specs.Written.{IsWritten, Only}
 use Rattle.cdb_streams.specs.declared.buffer.OutputFault.{OutputFault}
 use Rattle.cdb_streams.specs.declared.sink.Failed.{Failed}

@@ -1,11 +1,11 @@
-use Rattle.std.proofs.Common.{◌≡◌, sym, ap, subst, ◌∙◌}
+use Rattle.std.proofs.Common.{sym, ap, subst}
 use Rattle.std.specs.Prelude.{Result}
 use Rattle.cdb_commands.specs.ToldReply.{told}
 use Rattle.cdb_commands.specs.declared.reply.Reply.{Reply}
 use Rattle.cdb_control.specs.Journal.{Journaled, entry}
 use Rattle.cdb_control.specs.declared.control.CallFault.{CallFault}
 use Rattle.cdb_session.specs.Alone.{whole_part}
-use Rattle.cdb_session.specs.Styles.{Part, Calls, IsCalled}
+use Rattle.cdb_session.specs.Styles.{Calls, IsCalled}
 use Rattle.cdb_session.proofs.OwnControl.{calls_made}
 use Rattle.cdb_shared_session.specs.KeptAlone.{KeptView, IsLaterKept}
 use Rattle.cdb_shared_session.proofs.KeptCalls.{one_more}
