@@ -1,3 +1,4 @@
+pub mod OnAndOn
 pub mod Listing
 pub mod Following
 pub mod Tracing

@@ -7,6 +7,7 @@
 #![tactic(auto)]
 
 mod entries;
+mod live;
 pub mod laws;
 mod links;
 mod page;
@@ -14,4 +15,5 @@ pub mod parts;
 mod text;
 mod writes;
 
+pub use live::{LivePage, Rewritten};
 pub use writes::write_page;
