@@ -1,5 +1,5 @@
 -- A session with nine seats, from the text of its setup to its end.
-use Rattle.std.proofs.Common.{◌≡◌, inl, inr, ℕ, ◌<◌, ◌≤◌, List, [], ◌++◌, length, refl, sym, ap, subst, ◌∙◌, append_assoc, append-nil, arith}
+use Rattle.std.proofs.Common.{◌≡◌, inr, ℕ, ◌<◌, ◌≤◌, List, [], ◌++◌, length, refl, sym, ap, subst, ◌∙◌, append_assoc, append-nil, arith}
 use Rattle.std.specs.Prelude.{Result, Ok, Err}
 use Rattle.cdb_base.specs.declared.no_memory.NoMemory.{NoMemory}
 use Rattle.cdb_base.specs.Limits.{MAX_ENTRIES, MAX_SEATS}
@@ -23,7 +23,7 @@ use Rattle.cdb_streams.specs.declared.script.ScriptFault.TheVariants as bad
 use Rattle.cdb_session.specs.Alone.{whole_part, IsLaterControl, nine}
 use Rattle.cdb_session.specs.Debugs as table
 use Rattle.cdb_session.specs.Greetings.{greeting_at, greeting_text}
-use Rattle.cdb_session.specs.Moves.{Known, Move, read_in, written_in, Makes}
+use Rattle.cdb_session.specs.Moves.{Known, Move, read_in, written_in}
 use Rattle.cdb_session.specs.Parts.{HasCommands}
 use Rattle.cdb_session.specs.Requests.{ended_lines}
 use Rattle.cdb_session.specs.Since.{since}

@@ -11,7 +11,7 @@ use Rattle.cdb_shared_session.specs.Openings.{SeatSeen}
 use Rattle.cdb_shared_session.specs.SharedSessions.{HasEnded}
 
 -- where all that it can give is of this kind
-pub ended_by : (rules : Parts → Rules) (c : Journaled) (seat : ℕ) (Opens Others : Result SeatSeen ReadFault → Type 0) → ((opened : Result SeatSeen ReadFault) → Opens opened → Others opened)
-    → (ended : Option Known) (outcome : Result (Unit {0}) PlayFault) → HasEnded rules c seat Opens ended outcome → HasEnded rules c seat Others ended outcome
-ended_by rules c seat Opens Others of (Some ended) outcome (opened, opens, held) = (opened, of (Ok opened) opens, held)
-ended_by rules c seat Opens Others of None outcome (fault, opens, unopened) = (fault, of (Err fault) opens, unopened)
+pub ended_by : (rules : Parts → Rules) (begun c : Journaled) (seat : ℕ) (Opens Others : Result SeatSeen ReadFault → Type 0) → ((opened : Result SeatSeen ReadFault) → Opens opened → Others opened)
+    → (ended : Option Known) (outcome : Result (Unit {0}) PlayFault) → HasEnded rules begun c seat Opens ended outcome → HasEnded rules begun c seat Others ended outcome
+ended_by rules begun c seat Opens Others of (Some ended) outcome (opened, opens, held) = (opened, of (Ok opened) opens, held)
+ended_by rules begun c seat Opens Others of None outcome (fault, opens, unopened) = (fault, of (Err fault) opens, unopened)

@@ -4,12 +4,14 @@ use Rattle.std.proofs.Math.Seq.{drop-append_seam}
 use Rattle.std.proofs.lemmas.List.{drop_all, map-append}
 use Rattle.std.specs.List.{AllByRecursion, AllZip}
 use Rattle.std.specs.Prelude.{Result, Ok, Err, Option, Some, None, option_map}
-use Rattle.cdb_base.specs.Limits.{MAX_ENTRIES}
+use Rattle.cdb_base.specs.Limits.{MAX_ENTRIES, MAX_SEATS}
 use Rattle.cdb_commands.specs.declared.command.Command.{Command}
 use Rattle.cdb_control.specs.Journal.{Journaled, AreOfSeats, entry, own}
 use Rattle.cdb_control.specs.declared.control.Entry.{Entry}
 use Rattle.cdb_control.proofs.Own.{own-append}
-use Rattle.cdb_journal.specs.Journals.{IsWritable}
+use Rattle.cdb_journal.specs.Journals.{AreEntriesOf, IsWritable}
+use Rattle.cdb_journal.specs.OpenedFrom.{IsOpenedFrom}
+use Rattle.cdb_journal.proofs.Telling.{read_few}
 use Rattle.cdb_rules.specs.Rules.{Rules}
 use Rattle.cdb_session.specs.Moves.{Known, Move, read_in}
 use Rattle.cdb_session.specs.Parts.{HasCommands, all_asked, seat_next}
@@ -135,17 +137,29 @@ writable rules known opens begun openers c finished all can of few =
     let is = all.begins.1 in
     let of_seats = later_of_seats c.seats begun.journal its (subst (AreOfSeats c.seats) is all.entries) in
     let ranges = of_each_seat c.seats its of_seats (λ seat low high.
-        let k = seat - 1 in
-        let below : k < length openers = omega (arith, all.seats_are, low, high) in
-        let p = some_of openers (omega (arith, below)) in
-        let a = some_of finished (omega (arith, below, all.many)) in
-        let number : k + 1 ≡ seat = omega (arith, low) in
-        let ended = get_or finished k a in
-        subst (λ (n : ℕ). InRange (own n its)) number
-        (ended_in_range rules begun c its is (k + 1) (opens (get_or openers k p)) (option_map known ended.console) ended.outcome (all.each k p a below))) in
+    let k = seat - 1 in
+    let below : k < length openers = omega (arith, all.seats_are, low, high) in
+    let p = some_of openers (omega (arith, below)) in
+    let a = some_of finished (omega (arith, below, all.many)) in
+    let number : k + 1 ≡ seat = omega (arith, low) in
+    let ended = get_or finished k a in
+    subst (λ (n : ℕ). InRange (own n its)) number
+    (ended_in_range rules begun c its is (k + 1) (opens (get_or openers k p)) (option_map known ended.console) ended.outcome (all.each k p a below))) in
     record {
       seats = omega (arith, all.seats_are, of, can.seats);
       of_seats = all.entries;
       ranges = subst HaveLines (sym is) (both_have_lines begun.journal its can.ranges ranges);
       few = few;
     }
+
+-- ---- of a control that goes on from a journal
+
+entries_have_lines : (entries : List Entry) (lines : List (List ℕ)) → AreEntriesOf entries lines → HaveLines entries
+entries_have_lines [] lines are = tt
+entries_have_lines (e ∷ es) [] are = absurd are
+entries_have_lines (e ∷ es) (line ∷ lines) are = (are.0.3.1, entries_have_lines es lines are.1)
+
+pub opened_writable : (setup : Parts) (seats : ℕ) (from : List ℕ) (c : Journaled) → seats ≤ MAX_SEATS → IsOpenedFrom setup seats from c → IsWritable c
+opened_writable setup seats from c few (entries, lines, is) =
+    subst IsWritable (sym is)
+    (record { seats = few; of_seats = lines.1; ranges = entries_have_lines entries _ lines.0.1; few = read_few entries from lines.0 })

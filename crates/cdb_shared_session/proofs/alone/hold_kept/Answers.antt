@@ -19,11 +19,11 @@ returns g c =
     let begun = c.args.control in
     let first : KeptView g.row.J.Denot = record { control = begun; file = c.args.file; count = Ok 0 } in
     let last = c.run-caller.result.0 in
-    let at_end : KeptView g.row.J.Denot = record { control = last.inside.control; file = last.inside.file; count = last.inside.count } in
-    let its : IsLaterKept stream first at_end = subst (IsLaterKept stream first) (sym last.view_is) (later_kept stream first last c.requires.few c.run-caller.ensures.later) in
+    let at_end : KeptView g.row.J.Denot = record { control = c.caller.inside.control; file = c.caller.inside.file; count = c.caller.inside.count } in
+    let its : IsLaterKept stream first at_end = subst (IsLaterKept stream first) (sym c.caller.view_is) (later_kept stream first last c.requires.few c.run-caller.ensures.later) in
     let kept = its.keeps c.args.file (keeps_none stream c.args.file 0 begun.journal (omega arith) (Appends-nil (stream c.args.file).bytes, refl)) in
     let entries = c.journal.ensures.entries in
-    let added = c.keep_rest-kept.ensures c.args.file last.inside.control.journal ([], entries ∙ sym (append-nil last.inside.control.journal)) kept in
+    let added = c.keep_rest-kept.ensures c.args.file c.caller.inside.control.journal ([], entries ∙ sym (append-nil c.caller.inside.control.journal)) kept in
     let made = c.run-caller.ensures.session in
     let prompt = c.args.prompt.now in
     let whole = greeting_at prompt (greeting_text begun.setup) in
@@ -32,11 +32,11 @@ returns g c =
       made.0,
       made.1,
       record {
-        control = last.inside.control;
+        control = c.caller.inside.control;
         setup_is = its.setup;
         seats_are = its.seats;
         begins = its.begins;
-        session = subst (λ (v : KeptView g.row.J.Denot). IsSession (nine whole prompt) (since (whole_part rules begun) (whole_part rules v.control)) c.run-caller.result.1 made.0) (sym last.view_is) ran;
+        session = subst (λ (v : KeptView g.row.J.Denot). IsSession (nine whole prompt) (since (whole_part rules begun) (whole_part rules v.control)) c.run-caller.result.1 made.0) (sym c.caller.view_is) ran;
         keeps = subst (λ (l : List Entry). IsKept stream c.keep_rest-kept.result.outcome c.args.file c.keep_rest-kept.result.file l) entries added;
       },
     )

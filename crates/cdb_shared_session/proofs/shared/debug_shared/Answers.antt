@@ -1,4 +1,6 @@
-use Rattle.std.proofs.Common.{sym, ap, subst, ◌∙◌, arith, length, List}
+use Rattle.std.proofs.Common.{◌≡◌, ◌≤◌, ℕ, sym, ap, subst, ◌∙◌, arith, length, List, vec_len}
+use Rattle.cdb_base.specs.Limits.{MAX_SEATS}
+use Rattle.cdb_journal.specs.OpenedFrom.{IsOpenedFrom}
 use Rattle.cdb_control.specs.declared.control.Entry.{Entry}
 use Rattle.cdb_streams.specs.Endings.{whole_ending}
 use Rattle.cdb_streams.specs.Streams.{Writes}
@@ -8,24 +10,37 @@ use Rattle.cdb_shared_session.specs.Reported.{IsFaultOfSessions}
 use Rattle.cdb_shared_session.specs.Keeping.{kept_outcome}
 use Rattle.cdb_shared_session.specs.Reports.{outcomes, failures_text, status_of}
 use Rattle.cdb_shared_session.specs.declared.endpoint.Finished.{Finished}
-use Rattle.cdb_shared_session.proofs.SetupFaults.{setup_failed, threads_failed}
+use Rattle.cdb_shared_session.proofs.SetupFaults.{threads_failed}
+use Rattle.cdb_shared_session.proofs.Writable.{opened_writable}
 use Rattle.cdb_shared_session.proofs.shared.debug_shared.Goals as goal
 
+pub debug_seats-ended-requires-clause-writable : goal.debug_seats-ended-requires-clause-writable
+debug_seats-ended-requires-clause-writable g c κs within =
+    let few : c.len-count.result ≤ MAX_SEATS = omega (arith, c.requires.fits, c.len-count.ensures) in
+    opened_writable c.in-Ok.ensures.begun.0 c.len-count.result c.args.from.now c.in-Ok.begun.0 few c.in-Ok.ensures.begun.2
+
 pub returns-in-Err-clause-fault : goal.returns-in-Err-clause-fault
-returns-in-Err-clause-fault g c = subst (IsFaultOfSessions c.args.setup.now) (sym c.from.ensures) (setup_failed c.args.setup.now c.in-Err.fault c.in-Err.ensures.fault (λ long. cc (c.in-Err.ensures.too_long long)))
+returns-in-Err-clause-fault g c =
+    subst (λ (seats : ℕ). IsFaultOfSessions c.args.setup.now c.args.from.now seats c.of_beginning.result) c.len-count.ensures
+    (c.of_beginning.ensures c.args.setup.now c.args.from.now c.len-count.result c.in-Err.ensures.fault)
 
 pub returns-in-Err-ended-clause-fault : goal.returns-in-Err-ended-clause-fault
-returns-in-Err-ended-clause-fault g c = subst (IsFaultOfSessions c.args.setup.now) (sym c.of_sessions.ensures) (threads_failed c.args.setup.now c.in-Ok.setup _ c.in-Ok.ensures.found)
+returns-in-Err-ended-clause-fault g c =
+    subst (IsFaultOfSessions c.args.setup.now c.args.from.now (vec_len c.args.openers)) (sym c.of_sessions.ensures)
+    (threads_failed c.args.setup.now c.args.from.now (vec_len c.args.openers) c.in-Ok.ensures.begun.0 _ c.in-Ok.ensures.begun.1)
 
 pub write_failures-requires : goal.write_failures-requires
-write_failures-requires g c = omega (arith, c.requires.fits, ap length c.as_slice.ensures.value, c.in-Ok-ended.ensures.sessions.many, c.args.openers.ok.0)
+write_failures-requires g c = omega (arith, c.requires.fits, ap length c.as_slice-2.ensures.value, c.in-Ok-ended.ensures.sessions.many, c.args.openers.ok.0)
 
 pub returns-clause-sessions : goal.returns-clause-sessions
 returns-clause-sessions g c =
     let written = c.write_journal-written.result in
+    let many : c.len-count.result ≡ length c.args.openers.items = omega (arith, c.len-count.ensures, c.args.openers.ok.0) in
     record {
-      setup = c.in-Ok.setup;
-      encodes = c.in-Ok.ensures.found;
+      setup = c.in-Ok.ensures.begun.0;
+      encodes = c.in-Ok.ensures.begun.1;
+      begun = c.in-Ok.begun.0;
+      goes_on = subst (λ (seats : ℕ). IsOpenedFrom c.in-Ok.ensures.begun.0 seats c.args.from.now c.in-Ok.begun.0) many c.in-Ok.ensures.begun.2;
       control = c.in-Ok-ended.sessions.0;
       finished = c.in-Ok-ended.sessions.1.items;
       sessions = c.in-Ok-ended.ensures.sessions;
@@ -35,6 +50,6 @@ returns-clause-sessions g c =
       written = written;
       journal = subst (λ (es : List Entry). IsWritten g.O.Sink.stream (whole_ending written) c.args.output.now c.write_journal-written.new.out (Only (journal_text es))) c.journal.ensures.entries c.write_journal-written.ensures;
       reported = c.write_failures.result;
-      lines = subst (λ (l : List (Finished g.row.P-Seat.Denot)). Writes g.E.Sink.stream c.write_failures.result c.args.error.now c.write_failures.new.out (failures_text written (kept_outcome c.in-Ok-ended.sessions.2) (outcomes l))) c.as_slice.ensures.value (rw (← c.outcome_of-kept.ensures) c.write_failures.ensures);
-      status_is = rw (← c.outcome_of-kept.ensures) c.status_after.ensures ∙ ap (λ (l : List (Finished g.row.P-Seat.Denot)). status_of written (kept_outcome c.in-Ok-ended.sessions.2) (outcomes l)) c.as_slice-2.ensures.value;
+      lines = subst (λ (l : List (Finished g.row.P-Seat.Denot)). Writes g.E.Sink.stream c.write_failures.result c.args.error.now c.write_failures.new.out (failures_text written (kept_outcome c.in-Ok-ended.sessions.2) (outcomes l))) c.as_slice-2.ensures.value (rw (← c.outcome_of-kept.ensures) c.write_failures.ensures);
+      status_is = rw (← c.outcome_of-kept.ensures) c.status_after.ensures ∙ ap (λ (l : List (Finished g.row.P-Seat.Denot)). status_of written (kept_outcome c.in-Ok-ended.sessions.2) (outcomes l)) c.as_slice-3.ensures.value;
     }
