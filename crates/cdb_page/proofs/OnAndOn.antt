@@ -8,7 +8,7 @@ use Rattle.std.proofs.lemmas.List.Elements.{All-append, All-cons, All-nil, All-w
 use Rattle.cdb_explain.specs.declared.fault.ExplainFault.{ExplainFault}
 use Rattle.cdb_streams.specs.Streams.{Stream}
 use Rattle.cdb_streams.specs.declared.sink.Failed.{Failed}
-use Rattle.cdb_page.specs.Live.{EndsLine, EndsWithPage, Live, KeepsUp, HasTaken, IsPageSoFar, Shows, ShowsLines, Versions, journal_so_far, made_with, taken_of, with_version}
+use Rattle.cdb_page.specs.Live.{EndsLine, EndsWithPage, Live, KeepsUp, HasTaken, IsMadeWith, IsPageSoFar, Shows, ShowsLines, Versions, files_of, journal_so_far, made_with, taken_of, with_version}
 use Rattle.cdb_page.specs.OfJournals.{IsFaultOfJournalPage, IsPageOfJournal}
 
 -- ---- what the file of the journal took
@@ -144,11 +144,23 @@ same_front a b x y long is = (
   sym (drop-append_seam a x) ∙ ap (drop (length a)) is ∙ ap (λ (n : ℕ). drop n (b ++ y)) long ∙ drop-append_seam b y,
 )
 
--- the same beginning is of the same setup and the same journal
-pub made_with_same : (json from text its_json its_from its_text : List ℕ) → made_with its_json its_from ++ its_text ≡ made_with json from ++ text
+same_setup : (json from text its_json its_from its_text : List ℕ)
+    → ((length its_json ∷ its_json) ++ (length its_from ∷ its_from)) ++ its_text ≡ ((length json ∷ json) ++ (length from ∷ from)) ++ text
     → (its_json ≡ json) × (its_from ≡ from) × (its_text ≡ text)
-made_with_same json from text its_json its_from its_text is =
+same_setup json from text its_json its_from its_text is =
     let one = same_front its_json json ((length its_from ∷ its_from) ++ its_text) ((length from ∷ from) ++ text) (ap first_of is)
     (sym (append_assoc its_json (length its_from ∷ its_from) its_text) ∙ ap rest_of is ∙ append_assoc json (length from ∷ from) text) in
     let two = same_front its_from from its_text text (ap first_of one.1) (ap rest_of one.1) in
     (one.0, two.0, two.1)
+
+-- what holds the same at its beginning was made with the same, and then it holds the same too
+pub made_with_same : {A : Type 0} (it : Live) (journal : Option A) (json from text : List ℕ)
+    → made_with it.journal it.json it.from ++ it.taken ≡ made_with journal json from ++ text
+    → IsMadeWith journal json from it × (it.taken ≡ text)
+made_with_same it journal json from text is =
+    let same = same_setup json from text it.json it.from it.taken (ap rest_of is) in
+    (record { files = ap first_of is; json_is = same.0; from_is = same.1 }, same.2)
+
+pub as_many_files : {A B : Type 0} (f : A → B) (file : Option A) → files_of (option_map f file) ≡ files_of file
+as_many_files f None = refl
+as_many_files f (Some file) = refl

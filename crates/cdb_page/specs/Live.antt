@@ -36,13 +36,18 @@ pub record Live : Type 0 where
   pub versions : Versions
   pub outcome : Result (Unit {0}) ExplainFault
 
--- As a writer it holds what it was made with, each behind its length, and then what it took. So one that holds the same beginning has the
--- same setup.
-abbrev pub made_with : List ℕ → List ℕ → List ℕ
-made_with json from = (length json ∷ json) ++ (length from ∷ from)
+-- whether there is a file, as a number
+abbrev pub files_of : {A : Type 0} → Option A → ℕ
+files_of None = 0
+files_of (Some file) = 1
+
+-- As a writer it holds what it was made with, each text behind its length, and then what it took. So one that holds the same at its
+-- beginning is of the same setup.
+abbrev pub made_with : {A : Type 0} → Option A → List ℕ → List ℕ → List ℕ
+made_with journal json from = files_of journal ∷ (length json ∷ json) ++ (length from ∷ from)
 
 abbrev pub stream_of : Live → Stream
-stream_of it = record { bytes = Some (made_with it.json it.from ++ it.taken); failures = it.failures }
+stream_of it = record { bytes = Some (made_with it.journal it.json it.from ++ it.taken); failures = it.failures }
 
 -- the writer was empty, and took this text
 abbrev pub HasTaken : List ℕ → Stream → Type 0
@@ -98,8 +103,8 @@ pub record KeepsUp (it : Live) : Type 0 where
   pub last : IfOk it.outcome (λ _. IfSome it.versions (EndsWithPage it.json (journal_so_far it.from it.taken)))
   pub fault : IfErr it.outcome (IsFaultOfJournalPage it.json (journal_so_far it.from it.taken))
 
--- with what it begins: it has taken nothing
-pub record IsBegun (json from : List ℕ) (it : Live) : Type 0 where
+-- it is the one that was made with these
+pub record IsMadeWith {A : Type 0} (journal : Option A) (json from : List ℕ) (it : Live) : Type 0 where
+  pub files : files_of it.journal ≡ files_of journal
   pub json_is : it.json ≡ json
   pub from_is : it.from ≡ from
-  pub taken : it.taken ≡ []

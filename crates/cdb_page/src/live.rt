@@ -4,7 +4,7 @@ ghost use Rattle.std.specs.Prelude.{◌≡◌, ◌↔◌, ◌≤◌, ℕ, List, 
 ghost use Rattle.std.specs.Io.{WritesAtMost};
 ghost use Rattle.cdb_agreement.specs.Algorithms.{rules};
 ghost use Rattle.cdb_base.specs.Limits.{MAX_ENTRIES as most_entries};
-ghost use Rattle.cdb_page.specs.Live.{EndsLine, KeepsUp, HasFileTaken, IsBegun, Shows, ShowsLines, taken_of};
+ghost use Rattle.cdb_page.specs.Live.{EndsLine, KeepsUp, HasFileTaken, IsMadeWith, Shows, ShowsLines, files_of, taken_of};
 ghost use Rattle.cdb_page.specs.OfJournals.{IsFaultOfJournalPage, IsPageOfJournal, IsRunOfJournal};
 ghost use Rattle.cdb_rules.specs.ByRules.{IsInOrder};
 ghost use Rattle.cdb_streams.specs.Streams.{is_failure};
@@ -145,7 +145,8 @@ impl<'a, J: Sink + Drop, P: Rewritten + Drop> LivePage<'a, J, P> {
     ) -> Result<Self, NoMemory>
         requires empty { HasFileTaken J.stream journal [] }
         requires new { IfSome (P.versions page) (λ texts. texts ≡ []) }
-        ensures { IfOk result (IsBegun setup.now from.now) }
+        ensures made { IfOk result (IsMadeWith journal setup.now from.now) }
+        ensures empty { IfOk result (λ it. it.taken ≡ []) }
     {
         let taken = Vec::with_capacity(alloc, MOST_JOURNAL)?;
         let outcome = show(alloc, setup, from, &mut page);
@@ -173,6 +174,7 @@ impl<'a, J: Sink + Drop, P: Rewritten + Drop> LivePage<'a, J, P> {
 /// Takes a beginning of a piece: as much of it as the file takes, where there is one.
 fn pass_on<J: Sink>(piece: &[u8], file: &mut Option<J>) -> Result<usize, Failed>
     ensures within { WritesAtMost result piece.now }
+    ensures same { files_of file.new ≡ files_of file.old }
     ensures file { (text : List ℕ) → HasFileTaken J.stream file.old text →
         HasFileTaken J.stream file.new (text ++ taken_of result piece.now) }
 {
@@ -191,6 +193,7 @@ fn take<J: Sink>(
 ) -> Result<usize, Failed>
     requires { HasFileTaken J.stream file.old taken.old.items }
     ensures within { WritesAtMost result piece.now }
+    ensures same { files_of file.new ≡ files_of file.old }
     ensures file { HasFileTaken J.stream file.new taken.new.items }
     ensures taken { taken.new.items ≡ taken.old.items ++ taken_of result piece.now }
 {

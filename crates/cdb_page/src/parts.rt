@@ -190,6 +190,7 @@ const draw = () => {
     + 'Dashed: what a rollback would remove too. Pale: the rest.';
   write(byId('kept'), kept);
   write(byId('event'), asked);
+  history.replaceState(null, '', '#' + (asked ? encodeURIComponent(nameOf(asked)) : ''));
 };
 
 // ---- what is asked for
@@ -235,6 +236,10 @@ document.addEventListener('keydown', event => {
   event.preventDefault();
 });
 document.querySelector('form').addEventListener('submit', event => event.preventDefault());
+
+// The event that is asked about is named in the address, and so it is asked about again where the page is loaded again.
+const named = decodeURIComponent(location.hash.slice(1));
+asked = texts.findIndex((text, i) => nameOf(i + 1) === named) + 1;
 draw();
 </script>
 </body>
