@@ -70,11 +70,12 @@ draw_app =
 abbrev pub slice_app : App
 slice_app = on_any_step (codes "slice") []
 
--- `debug [--journal FILE] SETUP [SEAT..]`
+-- `debug [--journal FILE] [--from JOURNAL] SETUP [SEAT..]`
 abbrev pub debug_app : App
 debug_app =
     with_arguments (codes "debug")
-    (required_rule (codes "SETUP") ∷ several (new_rule (codes "SEAT")) ∷ option_rule (codes "FILE") (codes "journal") ∷ [])
+    (required_rule (codes "SETUP") ∷ several (new_rule (codes "SEAT")) ∷ option_rule (codes "FILE") (codes "journal")
+    ∷ option_rule (codes "JOURNAL") (codes "from") ∷ [])
 
 -- `replay SETUP JOURNAL`
 abbrev pub replay_app : App

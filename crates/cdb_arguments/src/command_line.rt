@@ -112,6 +112,8 @@ pub(crate) enum Argument {
     Second,
     /// The option of the file in which a journal is kept.
     Kept,
+    /// The option of the journal that sessions go on from.
+    From,
     /// The option of the columns to a row.
     Columns,
     /// The option of the folder of frames.
@@ -220,7 +222,12 @@ impl Subcommand {
                 Argument::AnyProcess,
                 Argument::Step,
             ],
-            Subcommand::Debug => &[Argument::Setup, Argument::Seats, Argument::Kept],
+            Subcommand::Debug => &[
+                Argument::Setup,
+                Argument::Seats,
+                Argument::Kept,
+                Argument::From,
+            ],
             Subcommand::Replay => &[Argument::Setup, Argument::Journal],
             Subcommand::Shrink => &[Argument::Setup, Argument::Script, Argument::Goal],
             Subcommand::Search => &[
@@ -361,6 +368,12 @@ fn argument_of<'a>(alloc: Global, argument: &Argument) -> Arg<'a>
             "FILE",
             "journal",
             "A file in which the journal is kept while the sessions go on; it has to be new or empty",
+        ),
+        Argument::From => option(
+            alloc,
+            "JOURNAL",
+            "from",
+            "The file of a journal that the sessions go on from: its commands are carried out first",
         ),
         Argument::Columns => counted(option(
             alloc,

@@ -34,10 +34,12 @@ pub enum Request<'a> {
         step: Option<StepAsked>,
     },
     /// Holds a session for each seat, a terminal device or `IN:OUT`, over one run of a setup; without seats one session
-    /// here. The journal is kept meanwhile in the file of this name, if there is one.
+    /// here. They go on from the journal of the one name, if there is one, and their journal is kept meanwhile in the file of
+    /// the other name, if there is one.
     Debug {
         setup: &'a str,
         seats: Vec<&'a str>,
+        from: Option<&'a str>,
         journal: Option<&'a str>,
     },
     /// Plays a journal again on a run of a setup.

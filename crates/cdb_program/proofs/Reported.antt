@@ -19,7 +19,7 @@ does_but_error (Race setup turns scripts) old new error outcome does = does
 does_but_error (Ask setup script question) old new error outcome does = does
 does_but_error (Frames setup script folder columns None) old new error outcome does = does
 does_but_error (Frames setup script folder columns (Some step)) old new error outcome does = does
-does_but_error (Debug setup seats journal) old new error outcome does = does
+does_but_error (Debug setup seats from journal) old new error outcome does = does
 does_but_error (Replay setup journal) old new error outcome does = does
 does_but_error (Search setup goal seed walks) old new error outcome does = does
 does_but_error (Shrink setup script goal) old new error outcome does = does
@@ -33,14 +33,14 @@ pub record IsDoneAlone (asked : Asked) : Type 0 where
   pub performs : (prompt : Text) (old new : Seen) (status : ℕ) → IsDone (Does asked) old new status → PerformsAsked prompt asked old new status
 
 pub done_alone : (it : Request)
-    → ((setup : Bor Text) (seats : Vec (Bor Text) Global) (journal : Option (Bor Text)) → it ≡ request.Debug setup seats journal → ⊥)
+    → ((setup : Bor Text) (seats : Vec (Bor Text) Global) (from journal : Option (Bor Text)) → it ≡ request.Debug setup seats from journal → ⊥)
     → IsDoneAlone (asked_for it)
 done_alone request.Script other = record { no_session = tt; performs = λ prompt old new status done. done }
 done_alone (request.Play setup script) other = record { no_session = tt; performs = λ prompt old new status done. done }
 done_alone (request.Race setup turns scripts) other = record { no_session = tt; performs = λ prompt old new status done. done }
 done_alone (request.Ask setup script question) other = record { no_session = tt; performs = λ prompt old new status done. done }
 done_alone (request.Frames setup script folder columns step) other = record { no_session = tt; performs = λ prompt old new status done. done }
-done_alone (request.Debug setup seats journal) other = absurd (other setup seats journal refl)
+done_alone (request.Debug setup seats from journal) other = absurd (other setup seats from journal refl)
 done_alone (request.Replay setup journal) other = record { no_session = tt; performs = λ prompt old new status done. done }
 done_alone (request.Search setup goal seed walks) other = record { no_session = tt; performs = λ prompt old new status done. done }
 done_alone (request.Shrink setup script goal) other = record { no_session = tt; performs = λ prompt old new status done. done }
@@ -50,18 +50,18 @@ done_alone (request.Page setup script) other = record { no_session = tt; perform
 
 -- ---- sessions
 
-pub debugs_but_error : (setup prompt : Text) (journal : Option Text) (old new : Seen) (error : Stream) (outcome : RequestEnd)
-    → DebugsAlone setup journal prompt old new outcome → DebugsAlone setup journal prompt old (record new { error = error }) outcome
-debugs_but_error setup prompt None old new error outcome does = does
-debugs_but_error setup prompt (Some journal) old new error outcome does = does
+pub debugs_but_error : (setup prompt : Text) (from journal : Option Text) (old new : Seen) (error : Stream) (outcome : RequestEnd)
+    → DebugsAlone setup from journal prompt old new outcome → DebugsAlone setup from journal prompt old (record new { error = error }) outcome
+debugs_but_error setup prompt from None old new error outcome does = does
+debugs_but_error setup prompt from (Some journal) old new error outcome does = does
 
-module _ (setup prompt : Text) (journal : Option Text) (old new : Seen) (status : ℕ) where
-  pub done_here : (seats : List (Bor Text)) → length seats ≡ 0 → IsDone (DebugsAlone setup journal prompt) old new status
-      → PerformsSessions setup (texts seats) journal prompt old new status
+module _ (setup prompt : Text) (from journal : Option Text) (old new : Seen) (status : ℕ) where
+  pub done_here : (seats : List (Bor Text)) → length seats ≡ 0 → IsDone (DebugsAlone setup from journal prompt) old new status
+      → PerformsSessions setup (texts seats) from journal prompt old new status
   done_here [] none done = done
   done_here (seat ∷ seats) none done = absurd (omega arith)
 
-  pub done_at_seats : (seats : List (Bor Text)) → length seats ≢ 0 → PerformsShared setup (texts seats) journal old new status
-      → PerformsSessions setup (texts seats) journal prompt old new status
+  pub done_at_seats : (seats : List (Bor Text)) → length seats ≢ 0 → PerformsShared setup (texts seats) from journal old new status
+      → PerformsSessions setup (texts seats) from journal prompt old new status
   done_at_seats [] some done = absurd (some refl)
   done_at_seats (seat ∷ seats) some done = done

@@ -3,6 +3,7 @@ use Rattle.std.proofs.Common.{◌≡◌, ℕ, zero, suc, ◌+◌, ◌<◌, List,
 use Rattle.std.specs.Prelude.{Option, Some, None, option_map, Result, Err}
 use Rattle.std.proofs.lemmas.List.{length-map, get_or-map}
 use Rattle.cdb_session.specs.Moves.{Known}
+use Rattle.cdb_journal.specs.OpenedFrom.{IsOpenedFrom}
 use Rattle.cdb_shared_session.specs.Openings.{SeatSeen}
 use Rattle.cdb_shared_session.specs.SharedSessions.{HasEnded, IsFinished}
 use Rattle.cdb_shared_session.specs.Reported.{RunsSessions}
@@ -16,14 +17,14 @@ use Rattle.cdb_setup.specs.Parts.{Parts}
 use Rattle.cdb_streams.specs.declared.fault.PlayFault.{PlayFault}
 use Rattle.cdb_streams.specs.declared.fault.PlayFault.TheVariants as play
 use Rattle.cdb_base.specs.Requests.{texts}
-use Rattle.cdb_program.specs.Known.{FilesSeen, after_opening, after_failing}
+use Rattle.cdb_program.specs.Known.{FilesSeen, after_opening, after_failing, any_name}
 use Rattle.cdb_program.specs.Reading.{FailsToRead}
 use Rattle.cdb_program.specs.declared.fault.Fault.{Fault}
 use Rattle.cdb_program.specs.declared.fault.Fault.TheVariants.{Play, Race, NoStep, NoValue, Different, NoGoal, NotFound, DoesNotHold, TooManyEvents, TooManySeats, Refused, Journal}
 use Rattle.cdb_streams.specs.Faults.{of_reading}
 use Rattle.cdb_streams.specs.declared.source.ReadFault.{ReadFault}
 use Rattle.cdb_streams.specs.declared.source.ReadFault.TheVariants as reading
-use Rattle.cdb_program.specs.Seating.{AreOpenersOf, CanOpenSeat, FindsSeat, IsFaultOfSeats, IsOpenerOf, MakesFile, any_name}
+use Rattle.cdb_program.specs.Seating.{AreOpenersOf, CanOpenSeat, FindsSeat, IsFaultOfSeats, IsOpenerOf, MakesFile}
 use Rattle.cdb_streams.specs.Endings.{whole_ending}
 use Rattle.cdb_streams.specs.Streams.{Stream, Writes}
 use Rattle.cdb_streams.specs.declared.sink.Failed.{Failed}
@@ -38,19 +39,19 @@ one_fails P opens old new name reading.Failed is = ([], [], refl, is)
 one_fails P opens old new name (reading.NoMemory refused) is = ([], name.now ∷ [], refl, is ∙ (read_none old).0)
 
 -- what can't be read or opened is why there are no sessions
-pub as_fault : (setup : List ℕ) (seats : List (List ℕ)) (file : Option (List ℕ)) (old new : FilesSeen) (fault : Fault) → FailsToRead old new (setup ∷ (seats ++ any_name file)) fault → IsFaultOfSeats setup seats file old new fault
-as_fault setup seats file old new (Play why name) fails = fails
-as_fault setup seats file old new (Race why) fails = absurd fails
-as_fault setup seats file old new (Journal why) fails = fails
-as_fault setup seats file old new NoStep fails = fails
-as_fault setup seats file old new NoValue fails = fails
-as_fault setup seats file old new TooManyEvents fails = fails
-as_fault setup seats file old new NoGoal fails = fails
-as_fault setup seats file old new (NotFound walks) fails = fails
-as_fault setup seats file old new DoesNotHold fails = fails
-as_fault setup seats file old new Different fails = fails
-as_fault setup seats file old new TooManySeats fails = absurd fails
-as_fault setup seats file old new (Refused reason) fails = fails
+pub as_fault : (setup : List ℕ) (seats : List (List ℕ)) (from file : Option (List ℕ)) (old new : FilesSeen) (fault : Fault) → FailsToRead old new (setup ∷ (any_name from ++ (seats ++ any_name file))) fault → IsFaultOfSeats setup seats from file old new fault
+as_fault setup seats from file old new (Play why name) fails = fails
+as_fault setup seats from file old new (Race why) fails = absurd fails
+as_fault setup seats from file old new (Journal why) fails = fails
+as_fault setup seats from file old new NoStep fails = fails
+as_fault setup seats from file old new NoValue fails = fails
+as_fault setup seats from file old new TooManyEvents fails = fails
+as_fault setup seats from file old new NoGoal fails = fails
+as_fault setup seats from file old new (NotFound walks) fails = fails
+as_fault setup seats from file old new DoesNotHold fails = fails
+as_fault setup seats from file old new Different fails = fails
+as_fault setup seats from file old new TooManySeats fails = absurd fails
+as_fault setup seats from file old new (Refused reason) fails = fails
 
 pub no_file : (P : Type 0) (stream : P → Stream) (old new : FilesSeen) (name : Bor (List ℕ)) (fault : ReadFault) → (let made : Result P ReadFault = Err fault in MakesFile stream old new name.now made) → FailsToRead old new (name.now ∷ []) (Play (of_reading fault) name)
 no_file P stream old new name reading.Failed is = ([], [], refl, is)
@@ -153,23 +154,26 @@ module _ {T : Type 0} (known : T → Known) where
 
 -- sessions that took place, by what is known of their seats, of what each read and wrote, and of the streams
 module _ {P T J O E : Type 0} (rules : Parts → Rules) (known : T → Known) (opens : P → Result SeatSeen ReadFault → Type 0) (file_stream : J → Stream) (output_stream : O → Stream) (error_stream : E → Stream) where
-  pub holds_seen : (files : FilesSeen) (names : List (List ℕ)) (json : List ℕ) (openers : List P) (file : Option J) (output output_after : O) (error error_after : E) (status : ℕ)
-      → AreOpenersOf opens files names openers → RunsSessions rules known opens file_stream output_stream error_stream json openers file output output_after error error_after status
-      → RunsSessions rules (λ (k : Known). k) (CanOpenSeat files) (λ (s : Stream). s) (λ (s : Stream). s) (λ (s : Stream). s) json names (option_map file_stream file) (output_stream output) (output_stream output_after) (error_stream error)
+  pub holds_seen : (files : FilesSeen) (names : List (List ℕ)) (json from : List ℕ) (openers : List P) (file : Option J) (output output_after : O) (error error_after : E) (status : ℕ)
+      → AreOpenersOf opens files names openers → RunsSessions rules known opens file_stream output_stream error_stream json from openers file output output_after error error_after status
+      → RunsSessions rules (λ (k : Known). k) (CanOpenSeat files) (λ (s : Stream). s) (λ (s : Stream). s) (λ (s : Stream). s) json from names (option_map file_stream file) (output_stream output) (output_stream output_after) (error_stream error)
       (error_stream error_after) status
-  holds_seen files names json openers file output output_after error error_after status are h =
+  holds_seen files names json from openers file output output_after error error_after status are h =
       let same = same_outcomes known h.finished in
       let same_kept = outcome_seen file_stream h.kept in
       let many = as_many opens files names openers are in
       record {
         setup = h.setup;
         encodes = h.encodes;
+        begun = h.begun;
+        goes_on = subst (λ (n : ℕ). IsOpenedFrom h.setup n from h.begun) (sym many) h.goes_on;
         control = h.control;
         finished = map (known_finished known) h.finished;
         writable = h.writable;
         sessions = record {
           setup_is = h.sessions.setup_is;
           seats_are = h.sessions.seats_are ∙ sym many;
+          begins = h.sessions.begins;
           entries = h.sessions.entries;
           many = length-map h.finished (known_finished known) ∙ h.sessions.many ∙ sym many;
           each = λ k n a low.
@@ -177,10 +181,10 @@ module _ {P T J O E : Type 0} (rules : Parts → Rules) (known : T → Known) (o
               let d = some_of openers (omega (arith, below)) in
               let e = some_of h.finished (omega (arith, below, h.sessions.many)) in
               let ended = get_or h.finished k e in
-              let its = ended_by rules h.control (k + 1) (opens (get_or openers k d)) (CanOpenSeat files (get_or names k n)) (opener_at opens files names openers k n d are below) (option_map known ended.console) ended.outcome (h.sessions.each k d e below) in
+              let its = ended_by rules h.begun h.control (k + 1) (opens (get_or openers k d)) (CanOpenSeat files (get_or names k n)) (opener_at opens files names openers k n d are below) (option_map known ended.console) ended.outcome (h.sessions.each k d e below) in
               let finished = sym (get_or-map (known_finished known) h.finished k e a (omega (arith, below, h.sessions.many))) in
-              subst (λ (x : Finished Known). IsFinished rules (λ (k : Known). k) h.control (k + 1) (CanOpenSeat files (get_or names k n)) x) finished
-              (subst (λ (o : Option Known). HasEnded rules h.control (k + 1) (CanOpenSeat files (get_or names k n)) o ended.outcome) (sym (same_known (option_map known ended.console))) its);
+              subst (λ (x : Finished Known). IsFinished rules (λ (k : Known). k) h.begun h.control (k + 1) (CanOpenSeat files (get_or names k n)) x) finished
+              (subst (λ (o : Option Known). HasEnded rules h.begun h.control (k + 1) (CanOpenSeat files (get_or names k n)) o ended.outcome) (sym (same_known (option_map known ended.console))) its);
         };
         kept = option_map (seen_kept file_stream) h.kept;
         keeps = kept_seen file_stream file h.kept _ h.keeps;

@@ -101,14 +101,16 @@ shrink_seen reader writer json goal shrunk script rest old new wrote fault same 
 }
 
 -- the same of a session whose journal was kept
-debugged_seen : {J : Type 0} (stream : J → Stream) (rules_of : Parts → Rules) (prompt json : List ℕ) (old new : Known) (file : J) (ended : Result (Unit {0}) PlayFault × Kept J)
-    → DebugsKept stream rules_of prompt json old new file ended → DebugsKept itself rules_of prompt json old new (stream file) (ended.0, seen_kept stream ended.1)
-debugged_seen stream rules_of prompt json old new file (Err fault, kept) (inl (is, makes, same)) = inl (is, makes, ap (seen_kept stream) same)
-debugged_seen stream rules_of prompt json old new file (Ok done, kept) (inl not) = absurd not
-debugged_seen stream rules_of prompt json old new file (returned, kept) (inr (setup, encodes, (made, makes, holds))) =
+debugged_seen : {J : Type 0} (stream : J → Stream) (rules_of : Parts → Rules) (prompt json from : List ℕ) (old new : Known) (file : J) (ended : Result (Unit {0}) PlayFault × Kept J)
+    → DebugsKept stream rules_of prompt json from old new file ended → DebugsKept itself rules_of prompt json from old new (stream file) (ended.0, seen_kept stream ended.1)
+debugged_seen stream rules_of prompt json from old new file (Err fault, kept) (inl (is, makes, same)) = inl (is, makes, ap (seen_kept stream) same)
+debugged_seen stream rules_of prompt json from old new file (Ok done, kept) (inl not) = absurd not
+debugged_seen stream rules_of prompt json from old new file (returned, kept) (inr (setup, begun, encodes, opened, (made, makes, holds))) =
     inr (
       setup,
+      begun,
       encodes,
+      opened,
       (
         made,
         makes,
@@ -116,6 +118,7 @@ debugged_seen stream rules_of prompt json old new file (returned, kept) (inr (se
           control = holds.control;
           setup_is = holds.setup_is;
           seats_are = holds.seats_are;
+          begins = holds.begins;
           session = holds.session;
           keeps = seen_is stream kept.outcome file kept.file (holds.control).journal holds.keeps;
         },
@@ -123,8 +126,8 @@ debugged_seen stream rules_of prompt json old new file (returned, kept) (inr (se
     )
 
 -- so of texts that are equal to these
-pub debugged_of : {J : Type 0} (stream : J → Stream) (rules_of : Parts → Rules) (prompt json its_prompt its_json : List ℕ) → its_prompt ≡ prompt → its_json ≡ json → (old new : Known) (file : J) (ended : Result (Unit {0}) PlayFault × Kept J)
-    → DebugsKept stream rules_of its_prompt its_json old new file ended → DebugsKept itself rules_of prompt json old new (stream file) (ended.0, seen_kept stream ended.1)
-debugged_of stream rules_of prompt json its_prompt its_json same_prompt same_json old new file ended d =
-    debugged_seen stream rules_of prompt json old new file ended
-    (subst (λ (text : List ℕ). DebugsKept stream rules_of text json old new file ended) same_prompt (subst (λ (text : List ℕ). DebugsKept stream rules_of its_prompt text old new file ended) same_json d))
+pub debugged_of : {J : Type 0} (stream : J → Stream) (rules_of : Parts → Rules) (texts others : List ℕ × List ℕ × List ℕ) → others ≡ texts → (old new : Known) (file : J) (ended : Result (Unit {0}) PlayFault × Kept J)
+    → DebugsKept stream rules_of others.0 others.1 others.2 old new file ended → DebugsKept itself rules_of texts.0 texts.1 texts.2 old new (stream file) (ended.0, seen_kept stream ended.1)
+debugged_of stream rules_of texts others same old new file ended d =
+    debugged_seen stream rules_of texts.0 texts.1 texts.2 old new file ended
+    (subst (λ (all : List ℕ × List ℕ × List ℕ). DebugsKept stream rules_of all.0 all.1 all.2 old new file ended) same d)

@@ -1,5 +1,5 @@
 -- What is known of the outside of the program.
-use Rattle.std.specs.Prelude.{ℕ, List, ◌++◌, Option, option_map, bytes_eq}
+use Rattle.std.specs.Prelude.{ℕ, List, [], ◌∷◌, ◌++◌, Option, Some, None, option_map, bytes_eq}
 use Rattle.std.specs.List.{find}
 use Rattle.cdb_shared_session.specs.Openings.{SeatSeen}
 use Rattle.cdb_streams.specs.Streams.{Stream, one_more}
@@ -44,3 +44,8 @@ after_failing files names = record (after_opening files names) { failures = one_
 -- and once these were written too
 abbrev pub after_writing : FilesSeen → List (List ℕ × List ℕ) → FilesSeen
 after_writing files more = record files { written = option_map (λ before. before ++ more) files.written }
+
+-- a name that may be left out, as a list
+abbrev pub any_name : Option (List ℕ) → List (List ℕ)
+any_name None = []
+any_name (Some name) = name ∷ []

@@ -35,7 +35,7 @@ HasTurns asked = Unit {0}
 
 -- what is asked for is not one of sessions
 abbrev pub IsNoSession : Asked → Type 0
-IsNoSession (Debug setup seats journal) = ⊥
+IsNoSession (Debug setup seats from journal) = ⊥
 IsNoSession asked = Unit {0}
 
 -- no file is opened, and standard input is left as it is
@@ -65,7 +65,7 @@ Does (Race setup turns scripts) old new outcome = RacesFiles setup turns scripts
 Does (Ask setup script question) old new outcome = AsksFiles setup script question old new outcome
 Does (Frames setup script folder columns step) old new outcome =
     DrawsFrames setup script folder columns step old new outcome
-Does (Debug setup seats journal) old new outcome = ⊥
+Does (Debug setup seats from journal) old new outcome = ⊥
 Does (Replay setup journal) old new outcome = ReplaysFiles setup journal old new outcome
 Does (Search setup goal seed walks) old new outcome = SearchesFile setup goal walks old new outcome
 Does (Shrink setup script goal) old new outcome = ShrinksFiles setup script goal old new outcome
@@ -86,10 +86,10 @@ PrintsText text old new outcome = ReadsNothing old new × Prints text old.output
 abbrev pub RefusesFor : Fault → Seen → Seen → RequestEnd → Type 0
 RefusesFor fault old new outcome = ReadsNothing old new × (new.output ≡ old.output) × (outcome ≡ Err fault)
 
--- a session here, with this prompt, whose journal is kept in a file where one is named
-abbrev pub DebugsAlone : Text → Option Text → Text → Seen → Seen → RequestEnd → Type 0
-DebugsAlone setup None prompt old new outcome = DebugsFile setup prompt old new outcome
-DebugsAlone setup (Some journal) prompt old new outcome = DebugsFileKept setup journal prompt old new outcome
+-- a session here, with this prompt, which goes on from a journal and whose journal is kept in a file, where these are named
+abbrev pub DebugsAlone : Text → Option Text → Option Text → Text → Seen → Seen → RequestEnd → Type 0
+DebugsAlone setup from None prompt old new outcome = DebugsFile setup from prompt old new outcome
+DebugsAlone setup from (Some journal) prompt old new outcome = DebugsFileKept setup from journal prompt old new outcome
 
 -- this was done, and how it ended was reported
 abbrev pub IsDone : (Seen → Seen → RequestEnd → Type 0) → Seen → Seen → ℕ → Type 0
@@ -97,15 +97,15 @@ IsDone DoesIt old new status =
     (outcome : RequestEnd) × DoesIt old new outcome × IsReported outcome old.error new.error status
 
 -- sessions of these seats, or one here without seats
-abbrev pub PerformsSessions : Text → List Text → Option Text → Text → Seen → Seen → ℕ → Type 0
-PerformsSessions setup [] journal prompt old new status = IsDone (DebugsAlone setup journal prompt) old new status
-PerformsSessions setup (seat ∷ seats) journal prompt old new status =
-    PerformsShared setup (seat ∷ seats) journal old new status
+abbrev pub PerformsSessions : Text → List Text → Option Text → Option Text → Text → Seen → Seen → ℕ → Type 0
+PerformsSessions setup [] from journal prompt old new status = IsDone (DebugsAlone setup from journal prompt) old new status
+PerformsSessions setup (seat ∷ seats) from journal prompt old new status =
+    PerformsShared setup (seat ∷ seats) from journal old new status
 
 -- what was asked for was done, a session here with this prompt, and how it ended was reported
 abbrev pub PerformsAsked : Text → Asked → Seen → Seen → ℕ → Type 0
-PerformsAsked prompt (Debug setup seats journal) old new status =
-    PerformsSessions setup seats journal prompt old new status
+PerformsAsked prompt (Debug setup seats from journal) old new status =
+    PerformsSessions setup seats from journal prompt old new status
 PerformsAsked prompt asked old new status = IsDone (Does asked) old new status
 
 -- what an action performs has turns

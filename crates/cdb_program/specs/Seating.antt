@@ -8,8 +8,9 @@ use Rattle.cdb_streams.specs.Streams.{Stream, itself}
 use Rattle.cdb_streams.specs.declared.source.ReadFault.{ReadFault}
 use Rattle.cdb_streams.specs.declared.source.ReadFault.TheVariants as reading
 use Rattle.cdb_agreement.specs.Algorithms.{rules}
-use Rattle.cdb_program.specs.Known.{FilesSeen, Seen, seat_of, after_opening, after_failing}
-use Rattle.cdb_program.specs.Reading.{AreFirstBytes, FailsToRead, most_read}
+use Rattle.cdb_program.specs.Beginning.{AreOfBeginning}
+use Rattle.cdb_program.specs.Known.{FilesSeen, Seen, seat_of, after_opening, after_failing, any_name}
+use Rattle.cdb_program.specs.Reading.{FailsToRead}
 use Rattle.cdb_program.specs.Reports.{IsReported}
 use Rattle.cdb_program.specs.declared.fault.Fault.{Fault}
 use Rattle.cdb_program.specs.declared.fault.Fault.TheVariants.{Race, TooManySeats}
@@ -49,45 +50,43 @@ MakesFile stream old new name (Ok file) = (new ≡ after_opening old (name ∷ [
 MakesFile stream old new name (Err reading.Failed) = new ≡ after_failing old (name ∷ [])
 MakesFile stream old new name (Err (reading.NoMemory refused)) = new ≡ old
 
--- a name that may be left out, as a list
-abbrev pub any_name : Option (List ℕ) → List (List ℕ)
-any_name None = []
-any_name (Some name) = name ∷ []
-
 -- where a file was asked for, there is one, and at first nothing was in it
 abbrev pub IsNewFile : Option (List ℕ) → Option Stream → Type 0
 IsNewFile None None = Unit {0}
 IsNewFile (Some name) (Some stream) = IsEmpty stream
 IsNewFile name stream = ⊥
 
--- the file of the setup was read, and gave these bytes, then these seats were found, in order, and then this file was made,
--- if one was asked for
-abbrev pub HasSeated : FilesSeen → FilesSeen → List ℕ → List (List ℕ) → Option (List ℕ) → List ℕ → Type 0
-HasSeated old new setup seats file json =
-    (new ≡ after_opening old (setup ∷ (seats ++ any_name file))) × AreFirstBytes old most_read setup json
+-- the file of the setup was read, then that of the journal if one was named, and they gave these bytes; then these seats were
+-- found, in order, and then this file was made, if one was asked for
+abbrev pub HasSeated : FilesSeen → FilesSeen → List ℕ → List (List ℕ) → Option (List ℕ) → Option (List ℕ) → List ℕ → List ℕ → Type 0
+HasSeated old new setup seats from file json journal =
+    (new ≡ after_opening old (setup ∷ (any_name from ++ (seats ++ any_name file)))) × AreOfBeginning old setup from json journal
 
--- Why there were no sessions: there are too many seats, and then no file was opened; the setup has a fault, or memory or threads
--- are out; or the setup can't be opened, or a seat or the file is refused, and then nothing after it was opened.
-abbrev pub IsFaultOfSeats : List ℕ → List (List ℕ) → Option (List ℕ) → FilesSeen → FilesSeen → Fault → Type 0
-IsFaultOfSeats setup seats file old new TooManySeats = (MAX_SEATS < length seats) × (new ≡ old)
-IsFaultOfSeats setup seats file old new (Race why) = (json : List ℕ) × HasSeated old new setup seats file json × IsFaultOfSessions json why
-IsFaultOfSeats setup seats file old new other = FailsToRead old new (setup ∷ (seats ++ any_name file)) other
+-- Why there were no sessions: there are too many seats, and then no file was opened; the setup or the journal has a fault, or memory or
+-- threads are out; or one of the two can't be opened, or a seat or the file is refused, and then nothing after it was opened.
+abbrev pub IsFaultOfSeats : List ℕ → List (List ℕ) → Option (List ℕ) → Option (List ℕ) → FilesSeen → FilesSeen → Fault → Type 0
+IsFaultOfSeats setup seats from file old new TooManySeats = (MAX_SEATS < length seats) × (new ≡ old)
+IsFaultOfSeats setup seats from file old new (Race why) =
+    (json journal : List ℕ) × HasSeated old new setup seats from file json journal × IsFaultOfSessions json journal (length seats) why
+IsFaultOfSeats setup seats from file old new other = FailsToRead old new (setup ∷ (any_name from ++ (seats ++ any_name file))) other
 
 -- there were no sessions, nothing was written to standard output, and why is reported
-abbrev pub RefusesSeats : List ℕ → List (List ℕ) → Option (List ℕ) → Seen → Seen → ℕ → Type 0
-RefusesSeats setup seats file old new status =
-    (fault : Fault) × IsFaultOfSeats setup seats file old.files new.files fault × (new.output ≡ old.output) × IsReported (Err fault) old.error new.error status
+abbrev pub RefusesSeats : List ℕ → List (List ℕ) → Option (List ℕ) → Option (List ℕ) → Seen → Seen → ℕ → Type 0
+RefusesSeats setup seats from file old new status =
+    (fault : Fault) × IsFaultOfSeats setup seats from file old.files new.files fault × (new.output ≡ old.output)
+    × IsReported (Err fault) old.error new.error status
 
--- There were sessions, the k-th at the k-th seat, of which it is known what each read and wrote. The journal was kept in the
--- file, if there was one; it was written to standard output, and what failed was reported.
-abbrev pub HoldsSeats : List ℕ → List (List ℕ) → Option (List ℕ) → Seen → Seen → ℕ → Type 0
-HoldsSeats setup seats file old new status =
-    (json : List ℕ) × HasSeated old.files new.files setup seats file json
+-- There were sessions, the k-th at the k-th seat, of which it is known what each read and wrote; they went on from the journal. Their
+-- journal was kept in the file, if there was one; it was written to standard output, and what failed was reported.
+abbrev pub HoldsSeats : List ℕ → List (List ℕ) → Option (List ℕ) → Option (List ℕ) → Seen → Seen → ℕ → Type 0
+HoldsSeats setup seats from file old new status =
+    (json journal : List ℕ) × HasSeated old.files new.files setup seats from file json journal
     × ((made : Option Stream) × IsNewFile file made
-    × RunsSessions rules (λ known. known) (CanOpenSeat old.files) itself itself itself json seats made old.output new.output old.error new.error
-    status)
+    × RunsSessions rules (λ known. known) (CanOpenSeat old.files) itself itself itself json journal seats made old.output new.output old.error
+    new.error status)
 
 -- there were sessions of these seats, or not; standard input is left as it is
-abbrev pub PerformsShared : List ℕ → List (List ℕ) → Option (List ℕ) → Seen → Seen → ℕ → Type 0
-PerformsShared setup seats file old new status =
-    (new.input ≡ old.input) × (RefusesSeats setup seats file old new status ⊎ HoldsSeats setup seats file old new status)
+abbrev pub PerformsShared : List ℕ → List (List ℕ) → Option (List ℕ) → Option (List ℕ) → Seen → Seen → ℕ → Type 0
+PerformsShared setup seats from file old new status =
+    (new.input ≡ old.input)
+    × (RefusesSeats setup seats from file old new status ⊎ HoldsSeats setup seats from file old new status)

@@ -1,6 +1,7 @@
 //! What the program `revdbg` does with a request, over an outside of files, standard input and two outputs.
 #![tactic(auto)]
 
+mod beginning;
 mod clocks;
 mod compares;
 mod debugs;

@@ -35,7 +35,7 @@ fn read_journal<'a, F: Files>(
 ///
 /// # Errors
 /// Those of `read_journal`, of the first file that can't be read; the one after it is not opened.
-fn read_both<'a, F: Files>(
+pub(crate) fn read_both<'a, F: Files>(
     alloc: Global,
     files: &mut F,
     setup: &'a str,

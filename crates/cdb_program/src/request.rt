@@ -146,21 +146,23 @@ fn perform_one<
     report(outcome, &mut outside.error)
 }
 
-/// Holds a session here, and keeps its journal in the file of that name, if there is one.
+/// Holds a session here, which goes on from the journal of the one name, if there is one, and keeps its journal in the file of
+/// the other name, if there is one.
 fn debug_alone<'a, F: Files + Drop, I: Source + Drop, O: Sink + Drop, E: Sink + Drop>(
     alloc: Global,
     setup: &'a str,
+    from: Option<&'a str>,
     journal: Option<&'a str>,
     prompt: &'a str,
     outside: &mut Outside<F, I, O, E>,
 ) -> Result<(), Fault<'a>>
-    ensures does { DebugsAlone setup.entry.now (any_text journal.entry) prompt.entry.now
+    ensures does { DebugsAlone setup.entry.now (any_text from.entry) (any_text journal.entry) prompt.entry.now
         outside.old outside.new result }
     ensures error { outside.new.error ≡ outside.old.error }
 {
     match journal {
-        Some(file) => debug_file_kept(alloc, setup, file, prompt, outside),
-        None => debug_file(alloc, setup, prompt, outside),
+        Some(file) => debug_file_kept(alloc, setup, from, file, prompt, outside),
+        None => debug_file(alloc, setup, from, prompt, outside),
     }
 }
 
@@ -176,17 +178,18 @@ fn perform_sessions<
     alloc: Global,
     setup: &str,
     seats: &[&str],
+    from: Option<&str>,
     journal: Option<&str>,
     prompt: &str,
     outside: &mut Outside<F, I, O, E>,
 ) -> u8
-    ensures { PerformsSessions setup.now (texts seats.now) (any_text journal.entry) prompt.now
+    ensures { PerformsSessions setup.now (texts seats.now) (any_text from.entry) (any_text journal.entry) prompt.now
         outside.old outside.new result }
 {
     if !seats.is_empty() {
-        return perform_shared(threads, alloc, setup, seats, journal, outside);
+        return perform_shared(threads, alloc, setup, seats, from, journal, outside);
     }
-    let debugged = debug_alone(alloc, setup, journal, prompt, outside);
+    let debugged = debug_alone(alloc, setup, from, journal, prompt, outside);
     report(debugged, &mut outside.error)
 }
 
@@ -211,12 +214,14 @@ fn perform_request<
         Request::Debug {
             setup,
             seats,
+            from,
             journal,
         } => perform_sessions(
             threads,
             alloc,
             setup,
             seats.as_slice(),
+            *from,
             *journal,
             prompt,
             outside,

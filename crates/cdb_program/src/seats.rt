@@ -1,13 +1,14 @@
 //! Sessions of several seats, of what is outside.
 
 ghost use Rattle.std.specs.Prelude.{◌≡◌, ◌≤◌, ◌∷◌, [], length, option_map, vec_len, IfOk, IfErr};
-ghost use Rattle.cdb_program.specs.Known.{after_opening};
+ghost use Rattle.cdb_program.specs.Known.{after_opening, any_name};
 ghost use Rattle.cdb_program.specs.Reading.{FailsToRead};
 ghost use Rattle.cdb_base.specs.Requests.{any_text, texts};
-ghost use Rattle.cdb_program.specs.Seating.{AreOpenersOf, HoldsSeats, IsEmpty, IsFaultOfSeats, IsNewFile, IsOpenerOf, PerformsShared, any_name};
+ghost use Rattle.cdb_program.specs.Seating.{AreOpenersOf, HoldsSeats, IsEmpty, IsFaultOfSeats, IsNewFile, IsOpenerOf, PerformsShared};
 
+use crate::beginning::read_beginning;
 use crate::fault::Fault;
-use crate::files::{Files, read_file};
+use crate::files::Files;
 use crate::outside::Outside;
 use crate::reports::report;
 use cdb_any_run::AnyRun;
@@ -114,7 +115,8 @@ fn make_any<'a, F: Files>(
     }
 }
 
-/// Holds sessions of these seats over one run of a setup file, and returns the status. A fault is not reported yet.
+/// Holds sessions of these seats over one run of a setup file, which go on from a journal if one is
+/// named, and returns the status. A fault is not reported yet.
 fn hold_seats<
     'a,
     R: Threads + Wait + Clock + Sync,
@@ -127,13 +129,15 @@ fn hold_seats<
     alloc: Global,
     setup: &'a str,
     seats: &[&'a str],
+    from: Option<&'a str>,
     file: Option<&'a str>,
     outside: &mut Outside<F, I, O, E>,
 ) -> Result<u8, Fault<'a>>
     requires { 1 ≤ length seats.now }
     ensures sessions { IfOk result
-        (HoldsSeats setup.entry.now (texts seats.now) (any_text file.entry) outside.old outside.new) }
-    ensures fault { IfErr result (IsFaultOfSeats setup.entry.now (texts seats.now) (any_text file.entry)
+        (HoldsSeats setup.entry.now (texts seats.now) (any_text from.entry) (any_text file.entry)
+        outside.old outside.new) }
+    ensures fault { IfErr result (IsFaultOfSeats setup.entry.now (texts seats.now) (any_text from.entry) (any_text file.entry)
         outside.old.files outside.new.files) }
     ensures output { IfErr result (λ _. outside.new.output ≡ outside.old.output) }
     ensures error { IfErr result (λ _. outside.new.error ≡ outside.old.error) }
@@ -142,7 +146,7 @@ fn hold_seats<
     if seats.len() > usize::from(MAX_SEATS) {
         return Err(Fault::TooManySeats);
     }
-    let json = read_file(alloc, &mut outside.files, setup)?;
+    let (json, journal) = read_beginning(alloc, &mut outside.files, setup, from)?;
     let openers = find_each(alloc, &mut outside.files, seats)?;
     let file = make_any(alloc, &mut outside.files, file)?;
     let (output, error) = (&mut outside.streams.output, &mut outside.error);
@@ -150,6 +154,7 @@ fn hold_seats<
         threads,
         alloc,
         json.as_slice(),
+        journal.as_slice(),
         openers,
         file,
         output,
@@ -160,7 +165,7 @@ fn hold_seats<
     }
 }
 
-/// Holds sessions of these seats, one at least, over one run of a setup file, reports on standard error what failed, and
+/// Holds sessions of these seats, one at least, over one run of a setup file, from a journal on if one is named, reports on standard error what failed, and
 /// returns the status with which the program ends.
 pub fn perform_shared<
     R: Threads + Wait + Clock + Sync,
@@ -173,13 +178,15 @@ pub fn perform_shared<
     alloc: Global,
     setup: &str,
     seats: &[&str],
+    from: Option<&str>,
     file: Option<&str>,
     outside: &mut Outside<F, I, O, E>,
 ) -> u8
     requires { 1 ≤ length seats.now }
-    ensures { PerformsShared setup.now (texts seats.now) (any_text file.entry) outside.old outside.new result }
+    ensures { PerformsShared setup.now (texts seats.now) (any_text from.entry) (any_text file.entry)
+        outside.old outside.new result }
 {
-    match hold_seats(threads, alloc, setup, seats, file, outside) {
+    match hold_seats(threads, alloc, setup, seats, from, file, outside) {
         Ok(status) => status,
         Err(fault) => report(Err(fault), &mut outside.error),
     }

@@ -81,6 +81,7 @@ fn debug<'a>(alloc: Global) -> Request<'a> {
     Request::Debug {
         setup: "one.json",
         seats: Vec::new(alloc),
+        from: None,
         journal: None,
     }
 }
@@ -344,6 +345,7 @@ fn the_kth_session_is_that_of_the_kth_name_and_one_that_cannot_be_opened_ends_al
     let shared = Request::Debug {
         setup: "two.json",
         seats: Vec::from_slice(rt.alloc(), &seats)?,
+        from: None,
         journal: Some("kept.txt"),
     };
     let ended = performed(&rt, action(&shared), ALL_GOOD);

@@ -35,13 +35,13 @@ line 6 fault 5 Missing
 
 /// Holds a session at a prompt with someone.
 fn hold(alloc: Global, console: &mut Person) -> Result<(), PlayFault> {
-    debug::<AnyRun, _>(alloc, ONE_PROCESS, b"> ", console)
+    debug::<AnyRun, _>(alloc, ONE_PROCESS, b"", b"> ", console)
 }
 
 /// Holds a session without a prompt, in which this many bytes come at a time.
 fn check_responses<R: Abort + AllocGlobal>(rt: &R, lines: &'static [u8], said: &str, most: usize) {
     let mut console = with_lines(rt.alloc(), lines, most);
-    let outcome = debug::<AnyRun, _>(rt.alloc(), ONE_PROCESS, b"", &mut console);
+    let outcome = debug::<AnyRun, _>(rt.alloc(), ONE_PROCESS, b"", b"", &mut console);
     assert_eq!(rt; outcome, Ok(()));
     assert_eq!(rt; str::from_utf8(console.said.as_slice()), Ok(said));
 }
