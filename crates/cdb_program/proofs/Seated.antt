@@ -43,6 +43,7 @@ pub as_fault : (setup : List ℕ) (seats : List (List ℕ)) (from file : Option 
 as_fault setup seats from file old new (Play why name) fails = fails
 as_fault setup seats from file old new (Race why) fails = absurd fails
 as_fault setup seats from file old new (Journal why) fails = fails
+as_fault setup seats from file old new (Page why) fails = fails
 as_fault setup seats from file old new NoStep fails = fails
 as_fault setup seats from file old new NoValue fails = fails
 as_fault setup seats from file old new TooManyEvents fails = fails
@@ -77,6 +78,7 @@ fails_later old mid new first second (Play (play.ScriptTooLong script) name) bef
 fails_later old mid new first second (Play play.Write name) before fails = absurd fails
 fails_later old mid new first second (Race fault) before fails = absurd fails
 fails_later old mid new first second (Journal why) before fails = absurd fails
+fails_later old mid new first second (Page why) before fails = absurd fails
 fails_later old mid new first second NoStep before fails = absurd fails
 fails_later old mid new first second NoValue before fails = absurd fails
 fails_later old mid new first second TooManyEvents before fails = absurd fails

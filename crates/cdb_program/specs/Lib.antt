@@ -16,4 +16,5 @@ pub mod Clocks
 pub mod Beginning
 pub mod Debugging
 pub mod Seating
+pub mod LivePages
 pub mod Requests

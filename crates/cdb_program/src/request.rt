@@ -1,8 +1,8 @@
 //! What the program does, and that it does it.
 
-ghost use Rattle.std.specs.Prelude.{◌≡◌, ◌≤◌};
+ghost use Rattle.std.specs.Prelude.{◌≡◌, ◌≤◌, length};
 ghost use Rattle.cdb_base.specs.Requests.{any_text, asked_for, texts};
-ghost use Rattle.cdb_program.specs.Requests.{DebugsAlone, Does, DrawsFrames, HasTurns, IsDone, IsNoSession, HeadlineHolds, MayPerform, Performs, PerformsAsked, PerformsSessions, PrintsText};
+ghost use Rattle.cdb_program.specs.Requests.{DebugsAlone, Does, DrawsFrames, HasTurns, IsDone, IsNoSession, HeadlineHolds, MayPerform, Performs, PerformsAsked, PerformsSeats, PerformsSessions, PrintsText};
 
 use crate::clocks::clock_files;
 use crate::compares::compare_files;
@@ -10,6 +10,7 @@ use crate::debugs::{debug_file, debug_file_kept};
 use crate::fault::Fault;
 use crate::files::Files;
 use crate::frames::frame_files;
+use crate::live_pages::{debug_file_paged, perform_paged};
 use crate::outside::Outside;
 use crate::pages::page_files;
 use crate::plays::{play_files, play_input};
@@ -146,23 +147,54 @@ fn perform_one<
     report(outcome, &mut outside.error)
 }
 
-/// Holds a session here, which goes on from the journal of the one name, if there is one, and keeps its journal in the file of
-/// the other name, if there is one.
+/// Holds a session here, which goes on from the journal of the first name, if there is one, and keeps its journal in the file of the
+/// second name and a page of its run in that of the third, where these are there.
 fn debug_alone<'a, F: Files + Drop, I: Source + Drop, O: Sink + Drop, E: Sink + Drop>(
     alloc: Global,
     setup: &'a str,
     from: Option<&'a str>,
     journal: Option<&'a str>,
+    page: Option<&'a str>,
     prompt: &'a str,
     outside: &mut Outside<F, I, O, E>,
 ) -> Result<(), Fault<'a>>
-    ensures does { DebugsAlone setup.entry.now (any_text from.entry) (any_text journal.entry) prompt.entry.now
-        outside.old outside.new result }
+    ensures does { DebugsAlone setup.entry.now (any_text from.entry) (any_text journal.entry) (any_text page.entry)
+        prompt.entry.now outside.old outside.new result }
     ensures error { outside.new.error ≡ outside.old.error }
 {
-    match journal {
-        Some(file) => debug_file_kept(alloc, setup, from, file, prompt, outside),
-        None => debug_file(alloc, setup, from, prompt, outside),
+    match (journal, page) {
+        (journal, Some(page)) => {
+            debug_file_paged(alloc, setup, from, journal, page, prompt, outside)
+        }
+        (Some(file), None) => debug_file_kept(alloc, setup, from, file, prompt, outside),
+        (None, None) => debug_file(alloc, setup, from, prompt, outside),
+    }
+}
+
+/// Performs sessions of these seats, one at least, with a page of their run in a file, if one is named.
+fn perform_seats<
+    R: Threads + Wait + Clock + Sync,
+    F: Files + Drop,
+    I: Source + Drop,
+    O: Sink + Drop,
+    E: Sink + Drop,
+>(
+    threads: &R,
+    alloc: Global,
+    setup: &str,
+    seats: &[&str],
+    from: Option<&str>,
+    journal: Option<&str>,
+    page: Option<&str>,
+    outside: &mut Outside<F, I, O, E>,
+) -> u8
+    requires { 1 ≤ length seats.now }
+    ensures { PerformsSeats setup.now (texts seats.now) (any_text from.entry) (any_text journal.entry) (any_text page.entry)
+        outside.old outside.new result }
+{
+    match page {
+        Some(page) => perform_paged(threads, alloc, setup, seats, from, journal, page, outside),
+        None => perform_shared(threads, alloc, setup, seats, from, journal, outside),
     }
 }
 
@@ -180,16 +212,17 @@ fn perform_sessions<
     seats: &[&str],
     from: Option<&str>,
     journal: Option<&str>,
+    page: Option<&str>,
     prompt: &str,
     outside: &mut Outside<F, I, O, E>,
 ) -> u8
-    ensures { PerformsSessions setup.now (texts seats.now) (any_text from.entry) (any_text journal.entry) prompt.now
-        outside.old outside.new result }
+    ensures { PerformsSessions setup.now (texts seats.now) (any_text from.entry) (any_text journal.entry)
+        (any_text page.entry) prompt.now outside.old outside.new result }
 {
     if !seats.is_empty() {
-        return perform_shared(threads, alloc, setup, seats, from, journal, outside);
+        return perform_seats(threads, alloc, setup, seats, from, journal, page, outside);
     }
-    let debugged = debug_alone(alloc, setup, from, journal, prompt, outside);
+    let debugged = debug_alone(alloc, setup, from, journal, page, prompt, outside);
     report(debugged, &mut outside.error)
 }
 
@@ -216,6 +249,7 @@ fn perform_request<
             seats,
             from,
             journal,
+            page,
         } => perform_sessions(
             threads,
             alloc,
@@ -223,6 +257,7 @@ fn perform_request<
             seats.as_slice(),
             *from,
             *journal,
+            *page,
             prompt,
             outside,
         ),

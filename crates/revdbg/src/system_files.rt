@@ -6,6 +6,7 @@ ghost use Rattle.revdbg.specs.System.{read_fault_of};
 
 use crate::seats::{pair_of, path_of, prompt_at};
 use cdb_base::NoMemory;
+use cdb_page::Rewritten;
 use cdb_program::Files;
 use cdb_session::Streams;
 use cdb_shared_session::{Endpoint, Opener};
@@ -120,6 +121,40 @@ fn write_new(rt: &HostRuntime, part: &str, name: &str, bytes: &[u8]) -> io::Resu
     fs::rename(rt, part, name)
 }
 
+/// Writes a file as a whole, in the place of what has its name. After an error that is as it was.
+fn write_in_place(
+    rt: &HostRuntime,
+    alloc: Global,
+    name: &str,
+    bytes: &[u8],
+) -> Result<(), OutputFault> {
+    let part = format!(in alloc; "{name}.part")?;
+    match write_new(rt, part.as_str(), name, bytes) {
+        Ok(()) => Ok(()),
+        Err(_) => {
+            let _ = fs::remove_file(rt, part.as_str());
+            Err(OutputFault::Write)
+        }
+    }
+}
+
+/// A file of a page, which is written anew.
+#[derive(Drop)]
+pub struct SystemPage {
+    rt: HostRuntime,
+    name: String,
+}
+
+impl Rewritten for SystemPage {
+    ghost use Rattle.std.specs.Prelude.{None};
+
+    ghost versions = { λ _. None };
+
+    fn rewrite(&mut self, alloc: Global, text: &[u8]) -> Result<(), OutputFault> {
+        write_in_place(&self.rt, alloc, self.name.as_str(), text)
+    }
+}
+
 /// The fault of a file that could not be opened, where this is the system's error.
 fn fault_of(error: &io::Error) -> ReadFault
     ensures { result ≡ read_fault_of (error_kind error.now) }
@@ -154,6 +189,8 @@ impl<'a> Files for SystemFiles<'a> {
     type Seat = SystemSeat;
 
     type Made = Output<File>;
+
+    type Page = SystemPage;
 
     ghost use Rattle.std.specs.Prelude.{[], None};
 
@@ -206,6 +243,13 @@ impl<'a> Files for SystemFiles<'a> {
         }
     }
 
+    fn make_page(&mut self, alloc: Global, name: &str) -> Result<SystemPage, ReadFault> {
+        self.make_file(alloc, name)?;
+        let rt = *self.rt;
+        let name = String::from_str(alloc, name)?;
+        Ok(SystemPage { rt, name })
+    }
+
     fn take_folder(&mut self, _alloc: Global, name: &str) -> Result<(), ReadFault> {
         match empty_folder(self.rt, name) {
             Ok(()) => Ok(()),
@@ -220,14 +264,7 @@ impl<'a> Files for SystemFiles<'a> {
     }
 
     fn write_whole(&mut self, alloc: Global, name: &str, bytes: &[u8]) -> Result<(), OutputFault> {
-        let part = format!(in alloc; "{name}.part")?;
-        match write_new(self.rt, part.as_str(), name, bytes) {
-            Ok(()) => Ok(()),
-            Err(_) => {
-                let _ = fs::remove_file(self.rt, part.as_str());
-                Err(OutputFault::Write)
-            }
-        }
+        write_in_place(self.rt, alloc, name, bytes)
     }
 
     fn show_progress(&self, done: u32, all: u32) {
