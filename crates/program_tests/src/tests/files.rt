@@ -1,6 +1,7 @@
 //! Files in memory.
 
 use super::streams::{Arrival, Writer};
+use cdb_page::Rewritten;
 use cdb_program::Files;
 use cdb_streams::{OutputFault, ReadFault};
 use std::alloc::{AllocError, Global};
