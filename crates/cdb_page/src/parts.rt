@@ -21,9 +21,9 @@ pub const HEAD: &str = "\
 <title>A run of revdbg</title>
 ";
 
-/// What comes then where the page is loaded again.
+/// What comes then where the page is loaded again. What stands behind `#` in its address stays.
 pub const REFRESH: &str = "\
-<meta http-equiv='refresh' content='2'>
+<script>setTimeout(() => location.reload(), 2000)</script>
 ";
 
 /// What comes then, before the picture.

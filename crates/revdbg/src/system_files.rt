@@ -27,8 +27,8 @@ type SeatConsole = Streams<Input<File>, Output<File>>;
 pub struct SystemFiles<'a> {
     rt: &'a HostRuntime,
     failures: u64,
-    /// The names of the seats that were found.
-    seats: Vec<String>,
+    /// The names of the seats that were found, and of the files that were made.
+    taken: Vec<String>,
 }
 
 impl<'a> SystemFiles<'a> {
@@ -37,14 +37,17 @@ impl<'a> SystemFiles<'a> {
         SystemFiles {
             rt,
             failures: 0,
-            seats: Vec::new(rt.alloc()),
+            taken: Vec::new(rt.alloc()),
         }
     }
 
-    /// Whether a seat that was found reads from or writes to the file of this name.
-    fn is_of_seat(&self, name: &str) -> bool {
-        for seat in &self.seats {
-            if let Some((input, output)) = pair_of(seat.as_str()) {
+    /// Whether this is the name of a file that was made, or that a seat reads from or writes to.
+    fn is_taken(&self, name: &str) -> bool {
+        for taken in &self.taken {
+            if taken.as_str() == name {
+                return true;
+            }
+            if let Some((input, output)) = pair_of(taken.as_str()) {
                 if input == name || output == name {
                     return true;
                 }
@@ -221,18 +224,22 @@ impl<'a> Files for SystemFiles<'a> {
         let rt = *self.rt;
         let found = String::from_str(alloc, name)?;
         let name = String::from_str(alloc, name)?;
-        self.seats.push(found).map_err(AllocError::from)?;
+        self.taken.push(found).map_err(AllocError::from)?;
         Ok(SystemSeat { rt, name })
     }
 
-    fn make_file(&mut self, _alloc: Global, name: &str) -> Result<Output<File>, ReadFault> {
-        let made = if self.is_of_seat(name) {
+    fn make_file(&mut self, alloc: Global, name: &str) -> Result<Output<File>, ReadFault> {
+        let taken = String::from_str(alloc, name)?;
+        let made = if self.is_taken(name) {
             Err(io::Error::from(ErrorKind::AlreadyExists))
         } else {
             empty_file(self.rt, name)
         };
         match made {
-            Ok(file) => Ok(Output::new(file)),
+            Ok(file) => {
+                self.taken.push(taken).map_err(AllocError::from)?;
+                Ok(Output::new(file))
+            }
             Err(error) => {
                 let fault = fault_of(&error);
                 if fault == ReadFault::Failed {
