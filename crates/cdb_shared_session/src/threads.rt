@@ -270,7 +270,8 @@ pub type Ended<R, P, J> = (
 /// streams are open, and holds no other until then. A line has its response as in a session of one seat, but that no
 /// line chooses a seat. A seat with a prompt is greeted with this greeting, the setup in words, and where there is more than one seat its
 /// number stands before the prompt. A seat that can't be opened, or whose session ends with a fault, ends alone, and the others go
-/// on. The journal can be written, and a replay of what was written tells each seat what it was told.
+/// on. Where the journal so far can be written, the whole journal can be too, and a replay of what was written tells each seat what it
+/// was told.
 ///
 /// Where there is a file, the journal is kept in it: ten times a second the entries that are new are added in one piece,
 /// and the last ones once all sessions have ended. Where it can't be written, the sessions go on.
@@ -301,15 +302,14 @@ pub fn debug_seats<
 ) -> Result<Ended<R, P, J>, SessionsFault>
     requires some { 1 ≤ vec_len openers }
     requires seats { vec_len openers ≡ control.seats }
-    requires writable { IsWritable control }
     requires greeting { greeting.now ≡ greeting_text control.setup }
     ensures sessions { IfOk result
         (λ r. AreSessions R.rules P.Seat.known P.opens control openers.items r.0 r.1.items) }
     ensures kept { IfOk result (λ r. HasKept J.stream file r.2 r.0.journal) }
-    ensures writable { IfOk result (λ r. IsWritable r.0) }
+    ensures writable { IfOk result (λ r. IsWritable control → IsWritable r.0) }
     ensures headline { IfOk result (λ r. HasHeadline R.rules R.same_state r.0) }
 {
-    let count = openers.len() as u8;
+    let count = control.seats();
     let done = reserve(alloc, openers.len())?;
     let all = reserve(alloc, openers.len())?;
     let welcome = Welcome {

@@ -88,7 +88,7 @@ fn after_quit_no_more_is_asked_for(rt: HostRuntime) {
 #[test]
 fn a_bad_setup_is_found_before_all_else(rt: HostRuntime) {
     let mut console = with_lines(rt.alloc(), b"auto 1\n", 7);
-    let outcome = debug::<AnyRun, _>(rt.alloc(), b"[]", b"> ", &mut console);
+    let outcome = debug::<AnyRun, _>(rt.alloc(), b"[]", b"", b"> ", &mut console);
     assert_eq!(rt; outcome, Err(PlayFault::Setup(SetupFault::NotObject)));
     assert_eq!(rt; (console.said.len(), console.asked_at.len()), (0, 0));
 }

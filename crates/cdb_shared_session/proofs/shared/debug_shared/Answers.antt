@@ -14,11 +14,6 @@ use Rattle.cdb_shared_session.proofs.SetupFaults.{threads_failed}
 use Rattle.cdb_shared_session.proofs.Writable.{opened_writable}
 use Rattle.cdb_shared_session.proofs.shared.debug_shared.Goals as goal
 
-pub debug_seats-ended-requires-clause-writable : goal.debug_seats-ended-requires-clause-writable
-debug_seats-ended-requires-clause-writable g c κs within =
-    let few : c.len-count.result ≤ MAX_SEATS = omega (arith, c.requires.fits, c.len-count.ensures) in
-    opened_writable c.in-Ok.ensures.begun.0 c.len-count.result c.args.from.now c.in-Ok.begun.0 few c.in-Ok.ensures.begun.2
-
 pub returns-in-Err-clause-fault : goal.returns-in-Err-clause-fault
 returns-in-Err-clause-fault g c =
     subst (λ (seats : ℕ). IsFaultOfSessions c.args.setup.now c.args.from.now seats c.of_beginning.result) c.len-count.ensures
@@ -36,6 +31,7 @@ pub returns-clause-sessions : goal.returns-clause-sessions
 returns-clause-sessions g c =
     let written = c.write_journal-written.result in
     let many : c.len-count.result ≡ length c.args.openers.items = omega (arith, c.len-count.ensures, c.args.openers.ok.0) in
+    let few : c.len-count.result ≤ MAX_SEATS = omega (arith, c.requires.fits, c.len-count.ensures) in
     record {
       setup = c.in-Ok.ensures.begun.0;
       encodes = c.in-Ok.ensures.begun.1;
@@ -44,7 +40,12 @@ returns-clause-sessions g c =
       control = c.in-Ok-ended.sessions.0;
       finished = c.in-Ok-ended.sessions.1.items;
       sessions = c.in-Ok-ended.ensures.sessions;
+<<<<<<< HEAD
       writable = c.in-Ok-ended.ensures.writable;
+=======
+      writable = c.in-Ok-ended.ensures.writable (opened_writable c.in-Ok.ensures.begun.0 c.len-count.result c.args.from.now c.in-Ok.begun.0 few c.in-Ok.ensures.begun.2);
+      kept = c.in-Ok-ended.sessions.2;
+>>>>>>> from
       keeps = c.in-Ok-ended.ensures.kept;
       written = written;
       journal = subst (λ (es : List Entry). IsWritten g.O.Sink.stream (whole_ending written) c.args.output.now c.write_journal-written.new.out (Only (journal_text es))) c.journal.ensures.entries c.write_journal-written.ensures;

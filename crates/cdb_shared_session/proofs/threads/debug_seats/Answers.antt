@@ -12,7 +12,7 @@ use Rattle.cdb_shared_session.proofs.threads.debug_seats.Goals as goal
 pub run_all-left-requires-clause-ready : goal.run_all-left-requires-clause-ready
 run_all-left-requires-clause-ready g c κs within =
     let new = dealt c.in_ok-shared.shared c.args.control c.in_ok-shared.seats.items c.in_ok-shared.ensures.seats in
-    all_ready c.in_ok-shared.shared c.args.control _ c.requires.greeting (omega (arith, c.len-count.ensures, c.requires.seats)) _ new
+    all_ready c.in_ok-shared.shared c.args.control _ c.requires.greeting (omega (arith, c.seats-count.ensures.0, c.requires.seats)) _ new
 
 pub run_all-left-requires-clause-openers : goal.run_all-left-requires-clause-openers
 run_all-left-requires-clause-openers g c κs within =
@@ -57,7 +57,7 @@ returns-clause-sessions g c =
     sessions g.R.Runs.rules g.P.Seat.Console.known g.P.Opener.opens c.in_ok-shared.shared c.args.control openers.items before.items seats.items finished.items new of many c.in-Ok.ensures.each c.finish_watched-control.result c.finish_watched-control.ensures.known c.journal.ensures.limit some c.journal.ensures.seats responded
 
 pub returns-clause-writable : goal.returns-clause-writable
-returns-clause-writable g c =
+returns-clause-writable g c = λ can.
     let new = dealt c.in_ok-shared.shared c.args.control c.in_ok-shared.seats.items c.in_ok-shared.ensures.seats in
     let openers = c.args.openers in
     let before = c.in_ok-shared.seats in
@@ -68,7 +68,7 @@ returns-clause-writable g c =
     let responded : length finished.items ≡ length openers.items = omega (arith, new.many, c.in-Ok.ensures.count.1, before.ok.0, finished.ok.0, of) in
     let some : 1 ≤ length openers.items = omega (arith, c.requires.some, openers.ok.0) in
     let all = sessions g.R.Runs.rules g.P.Seat.Console.known g.P.Opener.opens c.in_ok-shared.shared c.args.control openers.items before.items seats.items finished.items new of many c.in-Ok.ensures.each c.finish_watched-control.result c.finish_watched-control.ensures.known c.journal.ensures.limit some c.journal.ensures.seats responded in
-    writable g.R.Runs.rules g.P.Seat.Console.known g.P.Opener.opens c.args.control openers.items c.finish_watched-control.result finished.items all c.requires.writable of c.journal.ensures.limit
+    writable g.R.Runs.rules g.P.Seat.Console.known g.P.Opener.opens c.args.control openers.items c.finish_watched-control.result finished.items all can of c.journal.ensures.limit
 
 pub keep_end-kept-requires : goal.keep_end-kept-requires
 keep_end-kept-requires g c =
