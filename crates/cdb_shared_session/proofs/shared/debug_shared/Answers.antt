@@ -40,12 +40,7 @@ returns-clause-sessions g c =
       control = c.in-Ok-ended.sessions.0;
       finished = c.in-Ok-ended.sessions.1.items;
       sessions = c.in-Ok-ended.ensures.sessions;
-<<<<<<< HEAD
-      writable = c.in-Ok-ended.ensures.writable;
-=======
       writable = c.in-Ok-ended.ensures.writable (opened_writable c.in-Ok.ensures.begun.0 c.len-count.result c.args.from.now c.in-Ok.begun.0 few c.in-Ok.ensures.begun.2);
-      kept = c.in-Ok-ended.sessions.2;
->>>>>>> from
       keeps = c.in-Ok-ended.ensures.kept;
       written = written;
       journal = subst (λ (es : List Entry). IsWritten g.O.Sink.stream (whole_ending written) c.args.output.now c.write_journal-written.new.out (Only (journal_text es))) c.journal.ensures.entries c.write_journal-written.ensures;
