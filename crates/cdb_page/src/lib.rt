@@ -7,9 +7,9 @@
 #![tactic(auto)]
 
 mod entries;
-mod live;
 pub mod laws;
 mod links;
+mod live;
 mod page;
 pub mod parts;
 mod text;

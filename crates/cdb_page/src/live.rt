@@ -186,11 +186,7 @@ fn pass_on<J: Sink>(piece: &[u8], file: &mut Option<J>) -> Result<usize, Failed>
 
 /// Takes a beginning of a piece, as much of it as the file takes, where there is one; the file of the journal comes first, and memory
 /// before it.
-fn take<J: Sink>(
-    piece: &[u8],
-    taken: &mut Vec<u8>,
-    file: &mut Option<J>,
-) -> Result<usize, Failed>
+fn take<J: Sink>(piece: &[u8], taken: &mut Vec<u8>, file: &mut Option<J>) -> Result<usize, Failed>
     requires { HasFileTaken J.stream file.old taken.old.items }
     ensures within { WritesAtMost result piece.now }
     ensures same { files_of file.new ≡ files_of file.old }
@@ -245,7 +241,12 @@ impl<'a, J: Sink + Drop, P: Rewritten + Drop> Sink for LivePage<'a, J, P> {
             self.failures = self.failures.wrapping_add(1);
         }
         if written.unwrap_or(0) > 0 {
-            self.outcome = show_lines(self.alloc, self.setup, self.taken.as_slice(), &mut self.page);
+            self.outcome = show_lines(
+                self.alloc,
+                self.setup,
+                self.taken.as_slice(),
+                &mut self.page,
+            );
         }
         written
     }

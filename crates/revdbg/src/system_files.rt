@@ -125,7 +125,7 @@ fn write_new(rt: &HostRuntime, part: &str, name: &str, bytes: &[u8]) -> io::Resu
 }
 
 /// Writes a file as a whole, in the place of what has its name. After an error that is as it was.
-fn write_in_place(
+fn replace_file(
     rt: &HostRuntime,
     alloc: Global,
     name: &str,
@@ -154,7 +154,7 @@ impl Rewritten for SystemPage {
     ghost versions = { λ _. None };
 
     fn rewrite(&mut self, alloc: Global, text: &[u8]) -> Result<(), OutputFault> {
-        write_in_place(&self.rt, alloc, self.name.as_str(), text)
+        replace_file(&self.rt, alloc, self.name.as_str(), text)
     }
 }
 
@@ -271,7 +271,7 @@ impl<'a> Files for SystemFiles<'a> {
     }
 
     fn write_whole(&mut self, alloc: Global, name: &str, bytes: &[u8]) -> Result<(), OutputFault> {
-        write_in_place(self.rt, alloc, name, bytes)
+        replace_file(self.rt, alloc, name, bytes)
     }
 
     fn show_progress(&self, done: u32, all: u32) {

@@ -120,8 +120,14 @@ fn hold<R: Threads + Wait + Clock + Sync + Abort + AllocGlobal>(
     let file = Some(Output::new(Vec::new(rt.alloc())));
     let greeting = greeting_text(rt.alloc(), &setup).expect(rt, "a greeting");
     let control = Control::open(rt.alloc(), setup, 4).expect(rt, "a control");
-    let ended =
-        debug_seats::<AnyRun, _, _, _>(rt, rt.alloc(), control, greeting.as_slice(), places, file);
+    let ended = debug_seats::<AnyRun, _, _, _>(
+        rt,
+        rt.alloc(),
+        control,
+        greeting.as_slice(),
+        places,
+        file,
+    );
     let (control, finished, kept) = ended.expect(rt, "sessions");
     (control, finished, kept.expect(rt, "a journal"))
 }
