@@ -168,7 +168,7 @@ impl<'a, J: Sink + Drop, P: Rewritten + Drop> LivePage<'a, J, P> {
     /// where nothing failed the last one is that of all that was taken. The file of the journal took the same.
     pub fn outcome(&self) -> Result<(), ExplainFault>
         ensures is { result ≡ self.now.outcome }
-        ensures up { KeepsUp self.now }
+        ensures keeps_up { KeepsUp self.now }
     {
         self.outcome
     }
