@@ -8,7 +8,7 @@ use Rattle.cdb_base.specs.declared.request.Request.TheVariants as request
 use Rattle.cdb_streams.specs.Streams.{Stream}
 use Rattle.cdb_program.specs.Known.{Seen}
 use Rattle.cdb_program.specs.Outcomes.{RequestEnd}
-use Rattle.cdb_program.specs.Requests.{DebugsAlone, Does, IsDone, IsNoSession, PerformsAsked, PerformsSeats, PerformsSessions}
+use Rattle.cdb_program.specs.Requests.{DebugsAlone, DebugsHere, Does, IsDone, IsNoSession, PerformsAsked, PerformsSeats, PerformsSessions}
 use Rattle.cdb_program.specs.LivePages.{DebugsBytesPaged}
 
 pub does_but_error : (asked : Asked) (old new : Seen) (error : Stream) (outcome : RequestEnd) → Does asked old new outcome
@@ -62,19 +62,20 @@ paged_but_error journal json begun prompt old new error outcome its = record {
   ends = its.ends;
 }
 
+alone_but_error : (setup prompt : Text) (from journal : Option Text) (old new : Seen) (error : Stream) (outcome : RequestEnd)
+    → DebugsAlone setup from journal prompt old new outcome → DebugsAlone setup from journal prompt old (record new { error = error }) outcome
+alone_but_error setup prompt from None old new error outcome does = does
+alone_but_error setup prompt from (Some journal) old new error outcome does = does
+
 pub debugs_but_error : (setup prompt : Text) (from journal page : Option Text) (old new : Seen) (error : Stream) (outcome : RequestEnd)
-    → DebugsAlone setup from journal page prompt old new outcome → DebugsAlone setup from journal page prompt old (record new { error = error }) outcome
-debugs_but_error setup prompt from None None old new error outcome does = does
-debugs_but_error setup prompt from (Some journal) None old new error outcome does = does
-debugs_but_error setup prompt from None (Some page) old new error outcome (inl cannot) = inl cannot
-debugs_but_error setup prompt from None (Some page) old new error outcome (inr (json, begun, opened, are, its)) =
-    inr (json, begun, opened, are, paged_but_error None json begun prompt old new error outcome its)
-debugs_but_error setup prompt from (Some journal) (Some page) old new error outcome (inl cannot) = inl cannot
-debugs_but_error setup prompt from (Some journal) (Some page) old new error outcome (inr (json, begun, opened, are, its)) =
-    inr (json, begun, opened, are, paged_but_error (Some journal) json begun prompt old new error outcome its)
+    → DebugsHere setup from journal page prompt old new outcome → DebugsHere setup from journal page prompt old (record new { error = error }) outcome
+debugs_but_error setup prompt from journal None old new error outcome does = alone_but_error setup prompt from journal old new error outcome does
+debugs_but_error setup prompt from journal (Some page) old new error outcome (inl cannot) = inl cannot
+debugs_but_error setup prompt from journal (Some page) old new error outcome (inr (json, begun, opened, are, its)) =
+    inr (json, begun, opened, are, paged_but_error journal json begun prompt old new error outcome its)
 
 module _ (setup prompt : Text) (from journal page : Option Text) (old new : Seen) (status : ℕ) where
-  pub done_here : (seats : List (Bor Text)) → length seats ≡ 0 → IsDone (DebugsAlone setup from journal page prompt) old new status
+  pub done_here : (seats : List (Bor Text)) → length seats ≡ 0 → IsDone (DebugsHere setup from journal page prompt) old new status
       → PerformsSessions setup (texts seats) from journal page prompt old new status
   done_here [] none done = done
   done_here (seat ∷ seats) none done = absurd (omega arith)

@@ -1,5 +1,5 @@
 -- What sessions do of whose run a page is shown, as it goes on.
-use Rattle.std.specs.Prelude.{◌≡◌, ◌⊎◌, ℕ, suc, zero, List, [], ◌∷◌, ◌++◌, Option, Some, None, Result, Ok, Err, IfSome}
+use Rattle.std.specs.Prelude.{◌≡◌, ◌⊎◌, ◌==◌, ℕ, if◌then◌else◌, List, [], ◌∷◌, ◌++◌, Option, Some, None, Result, Ok, Err, IfSome}
 use Rattle.cdb_agreement.specs.Algorithms.{rules}
 use Rattle.cdb_explain.specs.declared.fault.ExplainFault.{ExplainFault}
 use Rattle.cdb_page.specs.Live.{IsMadeWith, KeepsUp, Live, Versions, stream_of}
@@ -52,10 +52,15 @@ IsOfPage (Ok done) (Ok its_done) = Unit {0}
 IsOfPage (Err fault) (Err (Page its_fault)) = its_fault ≡ fault
 IsOfPage shown outcome = ⊥
 
+-- where all ended well before, it ended as the page did
+abbrev pub IsOfPageAfter : RequestEnd → Result (Unit {0}) ExplainFault → RequestEnd → Type 0
+IsOfPageAfter (Ok done) shown outcome = IsOfPage shown outcome
+IsOfPageAfter (Err fault) shown outcome = outcome ≡ Err fault
+
 -- it ended as the session did and the keeping of its journal, and else as the last writing of the page
 abbrev pub IsOfPaged : Result (Unit {0}) PlayFault → Result (Unit {0}) OutputFault → Result (Unit {0}) ExplainFault → RequestEnd → Type 0
-IsOfPaged (Ok done) (Ok kept) shown outcome = IsOfPage shown outcome
-IsOfPaged debugged kept shown outcome = IsOfKept debugged kept outcome
+IsOfPaged debugged kept shown outcome =
+    (before : RequestEnd) × IsOfKept debugged kept before × IsOfPageAfter before shown outcome
 
 -- ---- a session here
 
@@ -81,8 +86,7 @@ DebugsFilePaged setup from journal page prompt old new outcome =
 
 -- of two statuses the first that is not 0
 abbrev pub first_status : ℕ → ℕ → ℕ
-first_status zero status = status
-first_status (suc first) status = suc first
+first_status first second = if first == 0 then second else first
 
 -- There were sessions of these seats, and all the time the page was as for a session here. What failed was reported, of the sessions
 -- and the journal as without a page, and then of the page.

@@ -87,13 +87,15 @@ PrintsText text old new outcome = ReadsNothing old new × Prints text old.output
 abbrev pub RefusesFor : Fault → Seen → Seen → RequestEnd → Type 0
 RefusesFor fault old new outcome = ReadsNothing old new × (new.output ≡ old.output) × (outcome ≡ Err fault)
 
--- a session here, with this prompt, from a journal on where one is named; its journal is kept in a file, and a page of its run in another,
--- where these are named
-abbrev pub DebugsAlone : Text → Option Text → Option Text → Option Text → Text → Seen → Seen → RequestEnd → Type 0
-DebugsAlone setup from None None prompt old new outcome = DebugsFile setup from prompt old new outcome
-DebugsAlone setup from (Some journal) None prompt old new outcome = DebugsFileKept setup from journal prompt old new outcome
-DebugsAlone setup from journal (Some page) prompt old new outcome =
-    DebugsFilePaged setup from journal page prompt old new outcome
+-- a session here, with this prompt, which goes on from a journal and whose journal is kept in a file, where these are named
+abbrev pub DebugsAlone : Text → Option Text → Option Text → Text → Seen → Seen → RequestEnd → Type 0
+DebugsAlone setup from None prompt old new outcome = DebugsFile setup from prompt old new outcome
+DebugsAlone setup from (Some journal) prompt old new outcome = DebugsFileKept setup from journal prompt old new outcome
+
+-- the same, with a page of its run in a file, where one is named
+abbrev pub DebugsHere : Text → Option Text → Option Text → Option Text → Text → Seen → Seen → RequestEnd → Type 0
+DebugsHere setup from journal None prompt old new outcome = DebugsAlone setup from journal prompt old new outcome
+DebugsHere setup from journal (Some page) prompt old new outcome = DebugsFilePaged setup from journal page prompt old new outcome
 
 -- this was done, and how it ended was reported
 abbrev pub IsDone : (Seen → Seen → RequestEnd → Type 0) → Seen → Seen → ℕ → Type 0
@@ -108,7 +110,7 @@ PerformsSeats setup seats from journal (Some page) old new status = PerformsPage
 -- sessions of these seats, or one here without seats
 abbrev pub PerformsSessions : Text → List Text → Option Text → Option Text → Option Text → Text → Seen → Seen → ℕ → Type 0
 PerformsSessions setup [] from journal page prompt old new status =
-    IsDone (DebugsAlone setup from journal page prompt) old new status
+    IsDone (DebugsHere setup from journal page prompt) old new status
 PerformsSessions setup (seat ∷ seats) from journal page prompt old new status =
     PerformsSeats setup (seat ∷ seats) from journal page old new status
 

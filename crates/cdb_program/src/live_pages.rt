@@ -92,9 +92,9 @@ fn of_paged<'a>(
 ) -> Result<(), Fault<'a>>
     ensures { IsOfPaged debugged kept shown result }
 {
-    match (debugged, kept) {
-        (Ok(()), Ok(())) => of_page(shown),
-        (debugged, kept) => of_kept(debugged, kept),
+    match of_kept(debugged, kept) {
+        Ok(()) => of_page(shown),
+        Err(fault) => Err(fault),
     }
 }
 

@@ -2,7 +2,7 @@
 
 ghost use Rattle.std.specs.Prelude.{◌≡◌, ◌≤◌, length};
 ghost use Rattle.cdb_base.specs.Requests.{any_text, asked_for, texts};
-ghost use Rattle.cdb_program.specs.Requests.{DebugsAlone, Does, DrawsFrames, HasTurns, IsDone, IsNoSession, HeadlineHolds, MayPerform, Performs, PerformsAsked, PerformsSeats, PerformsSessions, PrintsText};
+ghost use Rattle.cdb_program.specs.Requests.{DebugsAlone, DebugsHere, Does, DrawsFrames, HasTurns, IsDone, IsNoSession, HeadlineHolds, MayPerform, Performs, PerformsAsked, PerformsSeats, PerformsSessions, PrintsText};
 
 use crate::clocks::clock_files;
 use crate::compares::compare_files;
@@ -147,9 +147,28 @@ fn perform_one<
     report(outcome, &mut outside.error)
 }
 
-/// Holds a session here, which goes on from the journal of the first name, if there is one, and keeps its journal in the file of the
-/// second name and a page of its run in that of the third, where these are there.
+/// Holds a session here, which goes on from the journal of the one name, if there is one, and keeps its journal in the file of
+/// the other name, if there is one.
 fn debug_alone<'a, F: Files + Drop, I: Source + Drop, O: Sink + Drop, E: Sink + Drop>(
+    alloc: Global,
+    setup: &'a str,
+    from: Option<&'a str>,
+    journal: Option<&'a str>,
+    prompt: &'a str,
+    outside: &mut Outside<F, I, O, E>,
+) -> Result<(), Fault<'a>>
+    ensures does { DebugsAlone setup.entry.now (any_text from.entry) (any_text journal.entry) prompt.entry.now
+        outside.old outside.new result }
+    ensures error { outside.new.error ≡ outside.old.error }
+{
+    match journal {
+        Some(file) => debug_file_kept(alloc, setup, from, file, prompt, outside),
+        None => debug_file(alloc, setup, from, prompt, outside),
+    }
+}
+
+/// Holds a session as `debug_alone` does, with a page of its run in the file of the last name, if there is one.
+fn debug_here<'a, F: Files + Drop, I: Source + Drop, O: Sink + Drop, E: Sink + Drop>(
     alloc: Global,
     setup: &'a str,
     from: Option<&'a str>,
@@ -158,16 +177,13 @@ fn debug_alone<'a, F: Files + Drop, I: Source + Drop, O: Sink + Drop, E: Sink + 
     prompt: &'a str,
     outside: &mut Outside<F, I, O, E>,
 ) -> Result<(), Fault<'a>>
-    ensures does { DebugsAlone setup.entry.now (any_text from.entry) (any_text journal.entry) (any_text page.entry)
+    ensures does { DebugsHere setup.entry.now (any_text from.entry) (any_text journal.entry) (any_text page.entry)
         prompt.entry.now outside.old outside.new result }
     ensures error { outside.new.error ≡ outside.old.error }
 {
-    match (journal, page) {
-        (journal, Some(page)) => {
-            debug_file_paged(alloc, setup, from, journal, page, prompt, outside)
-        }
-        (Some(file), None) => debug_file_kept(alloc, setup, from, file, prompt, outside),
-        (None, None) => debug_file(alloc, setup, from, prompt, outside),
+    match page {
+        Some(page) => debug_file_paged(alloc, setup, from, journal, page, prompt, outside),
+        None => debug_alone(alloc, setup, from, journal, prompt, outside),
     }
 }
 
@@ -222,7 +238,7 @@ fn perform_sessions<
     if !seats.is_empty() {
         return perform_seats(threads, alloc, setup, seats, from, journal, page, outside);
     }
-    let debugged = debug_alone(alloc, setup, from, journal, page, prompt, outside);
+    let debugged = debug_here(alloc, setup, from, journal, page, prompt, outside);
     report(debugged, &mut outside.error)
 }
 
