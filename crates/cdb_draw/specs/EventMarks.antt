@@ -2,7 +2,7 @@
 -- at a mark is at most as wide as a column: three rows above it, and two below it, with the value that it carries, the
 -- leader and the round, or what it did in two words. A write has the value that its register then holds on the lane of the
 -- register.
-use Rattle.std.specs.Prelude.{ℕ, List, [], ◌∷◌, ◌++◌, codes, decimal, Option, None, Some, nat_eq, if◌then◌else◌}
+use Rattle.std.specs.Prelude.{ℕ, List, [], ◌∷◌, ◌++◌, codes, decimal, Option, None, Some}
 use Rattle.std.specs.List.{concat}
 use Rattle.std.specs.Option.{option_map_or}
 use Rattle.cdb_base.specs.Positions.{nth}
@@ -20,7 +20,6 @@ use Rattle.cdb_deeds.specs.declared.deed.Deed.{Deed}
 use Rattle.cdb_deeds.specs.declared.deed.Deed.TheVariants.{Nothing, Round, Votes, VotesNone, Settles, Adopts, Keeps, Learns}
 use Rattle.cdb_deeds.specs.declared.deed.Deed.TheVariants.{SettlesRegister, SettlesInput, GivesUp, Carries}
 use Rattle.cdb_explain.specs.Explanations.{deed_at, run_after, whole_text}
-use Rattle.cdb_explain.specs.Rounds.{round_before, round_by}
 use Rattle.cdb_explain.specs.declared.line.Causes.TheVariants.{Shown}
 use Rattle.cdb_message.specs.Mail.{MailState, message_name, payload_of}
 use Rattle.cdb_rules.specs.ByRules.{cell_in, mail_in}
@@ -152,10 +151,10 @@ decided_text (Some v) = codes "<use href='#decided'/><text class='decision' y='-
 
 -- ---- the round that it begins
 
--- a query begins the round in which its process then is, where it was in another one before
-abbrev pub begun : ℕ → ℕ → Event → Option ℕ
-begun before after (Step p k (Query leader)) = if nat_eq before after then None else Some after
-begun before after event = None
+-- the query with which a process begins a round does so
+abbrev pub begun : Deed → Option ℕ
+begun (Round round) = Some round
+begun did = None
 
 -- a tick on the lane, left of the mark
 
@@ -185,12 +184,11 @@ abbrev pub lane_of : Event → ℕ
 lane_of (Step p k kind) = p
 lane_of (Lost copy) = copy.to
 
--- the mark of an event at that position, where its process was in that round before it, it did that, and the run stands
--- so after it, with its whole text
-unfoldable pub marked_text : (Parts → Rules) → Grid → ℕ → Deed → RunView → Weight → ℕ → Event → List ℕ → List ℕ
-marked_text rules grid before did after weight position event whole =
+-- the mark of an event at that position, which did that, and after which the run stands so, with its whole text
+unfoldable pub marked_text : (Parts → Rules) → Grid → Deed → RunView → Weight → ℕ → Event → List ℕ → List ℕ
+marked_text rules grid did after weight position event whole =
     let decided = decides (rules after.setup) after.history event in
-    let round = begun before (round_by rules after event) event in
+    let round = begun did in
     concat
     (codes "<g class='" ∷ weight_text weight ∷ codes "' transform='translate("
     ∷ point_text (spot grid position (lane_of event)) ∷ codes ")'><title>" ∷ whole
@@ -222,14 +220,13 @@ written_text rules grid after weight position event = []
 
 -- ---- with its whole text, which is shown where a pointer rests on the mark
 
-abbrev pub mark_text : (Parts → Rules) → Grid → RunView → ℕ → Deed → RunView → Weight → ℕ → Event → List ℕ
-mark_text rules grid run before did after weight position event =
-    marked_text rules grid before did after weight position event (whole_text rules Shown run did after event)
+abbrev pub mark_text : (Parts → Rules) → Grid → RunView → Deed → RunView → Weight → ℕ → Event → List ℕ
+mark_text rules grid run did after weight position event =
+    marked_text rules grid did after weight position event (whole_text rules Shown run did after event)
     ++ written_text rules grid after weight position event
 
 abbrev pub mark_at : (Parts → Rules) → Grid → RunView → List Weight → ℕ → List ℕ
 mark_at rules grid run weights position =
-    let before = round_before rules run position in
     let did = deed_at run position in
-    let mark = mark_text rules grid run before did (run_after run position) (weight_at weights position) position in
+    let mark = mark_text rules grid run did (run_after run position) (weight_at weights position) position in
     option_map_or mark (nth run.history position) []

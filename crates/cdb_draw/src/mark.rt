@@ -20,7 +20,7 @@ use crate::weight::Weight;
 use cdb_base::limits::MAX_ENTRIES;
 use cdb_base::{Event, Kind, MsgName, Payload, Proc, Reg, Val};
 use cdb_deeds::Deed;
-use cdb_explain::{Causes, decision_by, push_whole, round_by};
+use cdb_explain::{Causes, decision_by, push_whole};
 use cdb_rules::Runs;
 use cdb_streams::{Buffer, OutputFault, Sink};
 use std::alloc::Global;
@@ -241,15 +241,12 @@ fn ring(decided: Option<Val>) -> &'static str
     }
 }
 
-/// The round that an event begins, where its process was in round `before` before it and is in round `after` after it.
-fn begun(event: &Event, before: u32, after: u32) -> Option<u32>
-    ensures { result ≡ begun before after event.now }
+/// The round that an event which did that begins.
+fn begun(deed: &Deed) -> Option<u32>
+    ensures { result ≡ begun deed.now }
 {
-    match *event {
-        Event::Step {
-            kind: Kind::Query(_),
-            ..
-        } => { if before == after { None } else { Some(after) } }
+    match *deed {
+        Deed::Round(round) => Some(round),
         _ => None,
     }
 }
@@ -297,12 +294,10 @@ fn lane_of(event: &Event) -> Proc
     }
 }
 
-/// The mark of the last event of a run, which stands at a position, from 1, did that, and before which its process was in
-/// round `before`.
+/// The mark of the last event of a run, which stands at a position, from 1, and did that.
 #[tactic(auto, unfolding(crate::specs::EventMarks::marked_text))]
 fn mark<'a, T: Runs>(
     grid: Grid,
-    before: u32,
     deed: &Deed,
     run: &T,
     weight: Weight,
@@ -313,14 +308,14 @@ fn mark<'a, T: Runs>(
     requires grid { IsGrid grid }
     requires position { position ≤ MAX_ENTRIES }
     ensures { pieces_text result
-        ≡ marked_text T.rules grid before deed.now (T.run run.now) weight position event.now
+        ≡ marked_text T.rules grid deed.now (T.run run.now) weight position event.now
         whole.entry.now }
 {
     let decided = decision_by(run, event);
     let (first, second) = (decided, decided);
     let (ring, place) = (ring(first), below_place(event, second));
     let below = below(run, deed, event, decided);
-    let begun = begun(event, before, round_by(run, event));
+    let begun = begun(deed);
     let again = begun;
     let (tick, note) = (tick(begun), note(again, deed, event));
     let at = spot(grid, position, lane_of(event));
@@ -356,7 +351,6 @@ fn mark<'a, T: Runs>(
 fn put_marked<T: Runs, W: Sink>(
     alloc: Global,
     grid: Grid,
-    before: u32,
     deed: &Deed,
     run: &T,
     weight: Weight,
@@ -369,22 +363,13 @@ fn put_marked<T: Runs, W: Sink>(
     requires grid { IsGrid grid }
     requires position { position ≤ MAX_ENTRIES }
     ensures { Puts W.stream result out.old buffer.old out.new buffer.new
-        (marked_text T.rules grid before deed.now (T.run run.now) weight position event.now
+        (marked_text T.rules grid deed.now (T.run run.now) weight position event.now
         (whole_text T.rules Shown (T.run run.now) deed.now (T.run run.now) event.now)) }
 {
     whole.clear();
     push_whole(alloc, whole, Causes::Shown, deed, run, event)?;
     put_each(
-        &mark(
-            grid,
-            before,
-            deed,
-            run,
-            weight,
-            position,
-            event,
-            whole.as_str(),
-        ),
+        &mark(grid, deed, run, weight, position, event, whole.as_str()),
         buffer,
         out,
     )
@@ -394,7 +379,6 @@ fn put_marked<T: Runs, W: Sink>(
 pub(crate) fn put_mark<T: Runs, W: Sink>(
     alloc: Global,
     grid: Grid,
-    before: u32,
     deed: &Deed,
     run: &T,
     weight: Weight,
@@ -407,10 +391,10 @@ pub(crate) fn put_mark<T: Runs, W: Sink>(
     requires grid { IsGrid grid }
     requires position { position ≤ MAX_ENTRIES }
     ensures { Puts W.stream result out.old buffer.old out.new buffer.new
-        (mark_text T.rules grid (T.run run.now) before deed.now (T.run run.now) weight position event.now) }
+        (mark_text T.rules grid (T.run run.now) deed.now (T.run run.now) weight position event.now) }
 {
     put_marked(
-        alloc, grid, before, deed, run, weight, position, event, whole, buffer, out,
+        alloc, grid, deed, run, weight, position, event, whole, buffer, out,
     )?;
     put_written(grid, run, weight, position, event, buffer, out)
 }

@@ -9,7 +9,6 @@ ghost use Rattle.cdb_draw.specs.Picture.{arrows_text, document_text, head_text, 
 ghost use Rattle.cdb_draw.specs.Pieces.{piece_text, pieces_text};
 ghost use Rattle.cdb_draw.specs.Sends.{AreSendsOf, AreTakesOf};
 ghost use Rattle.cdb_explain.specs.Explanations.{deed_at, run_after};
-ghost use Rattle.cdb_explain.specs.Rounds.{round_before};
 ghost use Rattle.cdb_streams.specs.Putting.{Puts};
 ghost use Rattle.cdb_streams.specs.Endings.{pieces_ending};
 ghost use Rattle.cdb_streams.specs.Written.{IsWritten, Only};
@@ -26,7 +25,7 @@ use crate::style::{NAMESPACE, SHAPES, STYLE};
 use crate::weight::Weight;
 use cdb_base::limits::MAX_ENTRIES;
 use cdb_deeds::{Deed, ReceivedNames, Telling};
-use cdb_explain::{fresh, round_by, take_next};
+use cdb_explain::{fresh, take_next};
 use cdb_rules::{Runs, Trace};
 use cdb_setup::Algorithm;
 use cdb_streams::{Buffer, OutputFault, Sink};
@@ -136,13 +135,11 @@ fn put_arrows<W: Sink>(
     Ok(())
 }
 
-/// Puts the mark of the event at a position, from 1, where its process was in round `before` before it, it did that, and
-/// `after` is the run once it had come to that event.
+/// Puts the mark of the event at a position, from 1, which did that, and `after` is the run once it had come to it.
 fn put_mark_at<T: Runs, W: Sink>(
     alloc: Global,
     grid: Grid,
     run: &Trace,
-    before: u32,
     deed: &Deed,
     after: &T,
     weights: &[Weight],
@@ -157,7 +154,6 @@ fn put_mark_at<T: Runs, W: Sink>(
     requires from_one { 1 ≤ position }
     requires to_len { position ≤ length run.now.history }
     requires standing { IsStanding run.now.history }
-    requires before { before ≡ round_before T.rules run.now position }
     requires did { deed.now ≡ deed_at run.now position }
     requires after { T.run after.now ≡ run_after run.now position }
     ensures { Puts W.stream result out.old buffer.old out.new buffer.new
@@ -167,7 +163,7 @@ fn put_mark_at<T: Runs, W: Sink>(
     let event = &events[position - 1];
     let weight = weights[position - 1];
     put_mark(
-        alloc, grid, before, deed, after, weight, position, event, whole, buffer, out,
+        alloc, grid, deed, after, weight, position, event, whole, buffer, out,
     )
 }
 
@@ -195,7 +191,6 @@ fn put_marks<T: Telling, W: Sink>(
     let events = run.events();
     for i in 0..events.len() {
         let event = &events[i];
-        let before = round_by(&again, event);
         let deed = again.deed(alloc, &names, event)?;
         take_next(alloc, &mut again, event)?;
         names.add(event)?;
@@ -203,7 +198,6 @@ fn put_marks<T: Telling, W: Sink>(
             alloc,
             grid,
             run,
-            before,
             &deed,
             &again,
             weights,

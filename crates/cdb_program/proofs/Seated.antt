@@ -5,6 +5,8 @@ use Rattle.std.proofs.lemmas.List.{length-map, get_or-map}
 use Rattle.cdb_session.specs.Moves.{Known}
 use Rattle.cdb_journal.specs.OpenedFrom.{IsOpenedFrom}
 use Rattle.cdb_shared_session.specs.Openings.{SeatSeen}
+use Rattle.cdb_rules.specs.RunView.{RunView}
+use Rattle.cdb_session.specs.declared.inquiry.Inquiry.{Inquiry}
 use Rattle.cdb_shared_session.specs.SharedSessions.{HasEnded, IsFinished}
 use Rattle.cdb_shared_session.specs.Keeping.{kept_outcome}
 use Rattle.cdb_shared_session.specs.Reported.{RunsSessions}
@@ -157,10 +159,10 @@ module _ {T : Type 0} (known : T → Known) where
   same_outcomes (its ∷ finished) = ap (λ (l : List (Result (Unit {0}) PlayFault)). its.outcome ∷ l) (same_outcomes finished)
 
 -- sessions that took place, by what is known of their seats, of what each read and wrote, and of the streams
-module _ {P T J O E : Type 0} (rules : Parts → Rules) (known : T → Known) (opens : P → Result SeatSeen ReadFault → Type 0) (file_stream : J → Stream) (output_stream : O → Stream) (error_stream : E → Stream) where
+module _ {P T J O E : Type 0} (rules : Parts → Rules) (Answers : RunView → Inquiry → List ℕ → Type 0) (known : T → Known) (opens : P → Result SeatSeen ReadFault → Type 0) (file_stream : J → Stream) (output_stream : O → Stream) (error_stream : E → Stream) where
   pub holds_seen : (files : FilesSeen) (names : List (List ℕ)) (json from : List ℕ) (openers : List P) (file : Option J) (output output_after : O) (error error_after : E) (ended : ℕ × Option (Kept J))
-      → AreOpenersOf opens files names openers → RunsSessions rules known opens file_stream output_stream error_stream json from openers file output output_after error error_after ended
-      → RunsSessions rules (λ (k : Known). k) (CanOpenSeat files) file_stream (λ (s : Stream). s) (λ (s : Stream). s) json from names file (output_stream output) (output_stream output_after) (error_stream error)
+      → AreOpenersOf opens files names openers → RunsSessions rules Answers known opens file_stream output_stream error_stream json from openers file output output_after error error_after ended
+      → RunsSessions rules Answers (λ (k : Known). k) (CanOpenSeat files) file_stream (λ (s : Stream). s) (λ (s : Stream). s) json from names file (output_stream output) (output_stream output_after) (error_stream error)
       (error_stream error_after) ended
   holds_seen files names json from openers file output output_after error error_after ended are h =
       let same = same_outcomes known h.finished in
@@ -184,10 +186,10 @@ module _ {P T J O E : Type 0} (rules : Parts → Rules) (known : T → Known) (o
               let d = some_of openers (omega (arith, below)) in
               let e = some_of h.finished (omega (arith, below, h.sessions.many)) in
               let its_end = get_or h.finished k e in
-              let its = ended_by rules h.begun h.control (k + 1) (opens (get_or openers k d)) (CanOpenSeat files (get_or names k n)) (opener_at opens files names openers k n d are below) (option_map known its_end.console) its_end.outcome (h.sessions.each k d e below) in
+              let its = ended_by rules Answers h.begun h.control (k + 1) (opens (get_or openers k d)) (CanOpenSeat files (get_or names k n)) (opener_at opens files names openers k n d are below) (option_map known its_end.console) its_end.outcome (h.sessions.each k d e below) in
               let finished = sym (get_or-map (known_finished known) h.finished k e a (omega (arith, below, h.sessions.many))) in
-              subst (λ (x : Finished Known). IsFinished rules (λ (k : Known). k) h.begun h.control (k + 1) (CanOpenSeat files (get_or names k n)) x) finished
-              (subst (λ (o : Option Known). HasEnded rules h.begun h.control (k + 1) (CanOpenSeat files (get_or names k n)) o its_end.outcome) (sym (same_known (option_map known its_end.console))) its);
+              subst (λ (x : Finished Known). IsFinished rules Answers (λ (k : Known). k) h.begun h.control (k + 1) (CanOpenSeat files (get_or names k n)) x) finished
+              (subst (λ (o : Option Known). HasEnded rules Answers h.begun h.control (k + 1) (CanOpenSeat files (get_or names k n)) o its_end.outcome) (sym (same_known (option_map known its_end.console))) its);
         };
         keeps = h.keeps;
         written = h.written;
@@ -201,8 +203,8 @@ module _ {P T J O E : Type 0} (rules : Parts → Rules) (known : T → Known) (o
 
   -- the file of the journal by what is known of it
   pub file_seen : (json from : List ℕ) (openers : List P) (file : Option J) (output output_after : O) (error error_after : E) (ended : ℕ × Option (Kept J))
-      → RunsSessions rules known opens file_stream output_stream error_stream json from openers file output output_after error error_after ended
-      → RunsSessions rules known opens (λ (s : Stream). s) output_stream error_stream json from openers (option_map file_stream file) output output_after error error_after (ended.0, option_map (seen_kept file_stream) ended.1)
+      → RunsSessions rules Answers known opens file_stream output_stream error_stream json from openers file output output_after error error_after ended
+      → RunsSessions rules Answers known opens (λ (s : Stream). s) output_stream error_stream json from openers (option_map file_stream file) output output_after error error_after (ended.0, option_map (seen_kept file_stream) ended.1)
   file_seen json from openers file output output_after error error_after ended h =
       let same = sym (outcome_seen file_stream ended.1) in
       record {

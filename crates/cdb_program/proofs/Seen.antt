@@ -4,6 +4,8 @@ use Rattle.std.specs.Prelude.{IfErr, IfOk}
 use Rattle.cdb_rules.specs.Rules.{Rules}
 use Rattle.cdb_setup.specs.Parts.{Parts}
 use Rattle.cdb_session.specs.Moves.{Known}
+use Rattle.cdb_rules.specs.RunView.{RunView}
+use Rattle.cdb_session.specs.declared.inquiry.Inquiry.{Inquiry}
 use Rattle.cdb_shared_session.specs.KeptAlone.{DebugsKept}
 use Rattle.cdb_shared_session.specs.declared.keeping.Kept.{Kept}
 use Rattle.cdb_shared_session.proofs.KeptEntries.{seen_kept, seen_is}
@@ -101,11 +103,11 @@ shrink_seen reader writer json goal shrunk script rest old new wrote fault same 
 }
 
 -- the same of a session whose journal was kept
-debugged_seen : {J : Type 0} (stream : J → Stream) (rules_of : Parts → Rules) (prompt json from : List ℕ) (old new : Known) (file : J) (ended : Result (Unit {0}) PlayFault × Kept J)
-    → DebugsKept stream rules_of prompt json from old new file ended → DebugsKept itself rules_of prompt json from old new (stream file) (ended.0, seen_kept stream ended.1)
-debugged_seen stream rules_of prompt json from old new file (Err fault, kept) (inl (is, makes, same)) = inl (is, makes, ap (seen_kept stream) same)
-debugged_seen stream rules_of prompt json from old new file (Ok done, kept) (inl not) = absurd not
-debugged_seen stream rules_of prompt json from old new file (returned, kept) (inr (setup, begun, encodes, opened, (made, makes, holds))) =
+debugged_seen : {J : Type 0} (stream : J → Stream) (rules_of : Parts → Rules) (Answers : RunView → Inquiry → List ℕ → Type 0) (prompt json from : List ℕ) (old new : Known) (file : J) (ended : Result (Unit {0}) PlayFault × Kept J)
+    → DebugsKept stream rules_of Answers prompt json from old new file ended → DebugsKept itself rules_of Answers prompt json from old new (stream file) (ended.0, seen_kept stream ended.1)
+debugged_seen stream rules_of Answers prompt json from old new file (Err fault, kept) (inl (is, makes, same)) = inl (is, makes, ap (seen_kept stream) same)
+debugged_seen stream rules_of Answers prompt json from old new file (Ok done, kept) (inl not) = absurd not
+debugged_seen stream rules_of Answers prompt json from old new file (returned, kept) (inr (setup, begun, encodes, opened, (made, makes, holds))) =
     inr (
       setup,
       begun,
@@ -126,8 +128,8 @@ debugged_seen stream rules_of prompt json from old new file (returned, kept) (in
     )
 
 -- so of texts that are equal to these
-pub debugged_of : {J : Type 0} (stream : J → Stream) (rules_of : Parts → Rules) (texts others : List ℕ × List ℕ × List ℕ) → others ≡ texts → (old new : Known) (file : J) (ended : Result (Unit {0}) PlayFault × Kept J)
-    → DebugsKept stream rules_of others.0 others.1 others.2 old new file ended → DebugsKept itself rules_of texts.0 texts.1 texts.2 old new (stream file) (ended.0, seen_kept stream ended.1)
-debugged_of stream rules_of texts others same old new file ended d =
-    debugged_seen stream rules_of texts.0 texts.1 texts.2 old new file ended
-    (subst (λ (all : List ℕ × List ℕ × List ℕ). DebugsKept stream rules_of all.0 all.1 all.2 old new file ended) same d)
+pub debugged_of : {J : Type 0} (stream : J → Stream) (rules_of : Parts → Rules) (Answers : RunView → Inquiry → List ℕ → Type 0) (texts others : List ℕ × List ℕ × List ℕ) → others ≡ texts → (old new : Known) (file : J) (ended : Result (Unit {0}) PlayFault × Kept J)
+    → DebugsKept stream rules_of Answers others.0 others.1 others.2 old new file ended → DebugsKept itself rules_of Answers texts.0 texts.1 texts.2 old new (stream file) (ended.0, seen_kept stream ended.1)
+debugged_of stream rules_of Answers texts others same old new file ended d =
+    debugged_seen stream rules_of Answers texts.0 texts.1 texts.2 old new file ended
+    (subst (λ (all : List ℕ × List ℕ × List ℕ). DebugsKept stream rules_of Answers all.0 all.1 all.2 old new file ended) same d)

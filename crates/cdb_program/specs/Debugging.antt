@@ -7,6 +7,7 @@ use Rattle.cdb_shared_session.specs.declared.keeping.Kept.{Kept}
 use Rattle.cdb_streams.specs.Streams.{Stream, itself}
 use Rattle.cdb_streams.specs.declared.fault.PlayFault.{PlayFault}
 use Rattle.cdb_agreement.specs.Algorithms.{rules}
+use Rattle.cdb_program.specs.Answers.{IsAnswer}
 use Rattle.cdb_program.specs.Beginning.{AreOfBeginning}
 use Rattle.cdb_program.specs.Known.{Seen, after_opening, any_name}
 use Rattle.cdb_program.specs.Outcomes.{RequestEnd, IsOfPlay, IsOfKept}
@@ -29,7 +30,7 @@ console_of seen = record {
 abbrev pub DebugsBytes : List ℕ → List ℕ → List ℕ → Seen → Seen → RequestEnd → Type 0
 DebugsBytes json journal prompt old new outcome =
     (debugged : Result (Unit {0}) PlayFault) × IsOfPlay (codes "standard input") debugged outcome
-    × Debugs rules prompt json journal debugged (console_of old) (console_of new)
+    × Debugs rules IsAnswer prompt json journal debugged (console_of old) (console_of new)
 
 -- The file of the setup is read, and that of the journal if one is named, and then the session takes place. Where one can't be read, no
 -- input is.
@@ -43,7 +44,7 @@ DebugsFile setup from prompt old new outcome =
 abbrev pub DebugsBytesKept : List ℕ → List ℕ → List ℕ → Seen → Seen → RequestEnd → Type 0
 DebugsBytesKept json journal prompt old new outcome =
     (file : Stream) × (ended : Result (Unit {0}) PlayFault × Kept Stream) × IsEmpty file × IsOfKept ended.0 (ended.1).outcome outcome
-    × DebugsKept itself rules prompt json journal (console_of old) (console_of new) file ended
+    × DebugsKept itself rules IsAnswer prompt json journal (console_of old) (console_of new) file ended
 
 -- The same, and after them the file is made in which the journal is kept. Where one of these can't be opened, no input is read.
 abbrev pub DebugsFileKept : List ℕ → Option (List ℕ) → List ℕ → List ℕ → Seen → Seen → RequestEnd → Type 0

@@ -13,6 +13,7 @@ pub mod Replaying
 pub mod Searching
 pub mod Comparing
 pub mod Clocks
+pub mod Answers
 pub mod Beginning
 pub mod Debugging
 pub mod Seating

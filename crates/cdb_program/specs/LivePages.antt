@@ -11,6 +11,7 @@ use Rattle.cdb_streams.specs.declared.buffer.OutputFault.{OutputFault}
 use Rattle.cdb_streams.specs.declared.fault.PlayFault.{PlayFault}
 use Rattle.cdb_streams.specs.declared.source.ReadFault.{ReadFault}
 use Rattle.cdb_streams.specs.declared.source.ReadFault.TheVariants as reading
+use Rattle.cdb_program.specs.Answers.{IsAnswer}
 use Rattle.cdb_program.specs.Beginning.{AreOfBeginning}
 use Rattle.cdb_program.specs.Debugging.{console_of}
 use Rattle.cdb_program.specs.Known.{FilesSeen, Seen, after_opening, after_failing, any_name}
@@ -70,7 +71,7 @@ pub record DebugsBytesPaged (journal : Option (List ℕ)) (json from prompt : Li
   pub first : Live
   pub begun : IsNewPage journal json from first
   pub ended : Result (Unit {0}) PlayFault × Kept Live
-  pub session : DebugsKept stream_of rules prompt json from (console_of old) (console_of new) first ended
+  pub session : DebugsKept stream_of rules IsAnswer prompt json from (console_of old) (console_of new) first ended
   pub page : IsKeptPage journal json from ended.1.file
   pub ends : IsOfPaged ended.0 (ended.1).outcome (ended.1.file).outcome outcome
 
@@ -100,7 +101,7 @@ pub record HoldsPaged (setup : List ℕ) (seats : List (List ℕ)) (from journal
   pub its_status : ℕ
   pub kept : Kept Live
   pub error : Stream
-  pub sessions : RunsSessions rules (λ known. known) (CanOpenSeat old.files) stream_of itself itself json begun seats (Some first)
+  pub sessions : RunsSessions rules IsAnswer (λ known. known) (CanOpenSeat old.files) stream_of itself itself json begun seats (Some first)
       old.output new.output old.error error (its_status, Some kept)
   pub is : IsKeptPage journal json begun kept.file
   pub page_end : RequestEnd

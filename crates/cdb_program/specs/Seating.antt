@@ -9,6 +9,7 @@ use Rattle.cdb_streams.specs.Streams.{Stream, itself}
 use Rattle.cdb_streams.specs.declared.source.ReadFault.{ReadFault}
 use Rattle.cdb_streams.specs.declared.source.ReadFault.TheVariants as reading
 use Rattle.cdb_agreement.specs.Algorithms.{rules}
+use Rattle.cdb_program.specs.Answers.{IsAnswer}
 use Rattle.cdb_program.specs.Beginning.{AreOfBeginning}
 use Rattle.cdb_program.specs.Known.{FilesSeen, Seen, seat_of, after_opening, after_failing, any_name}
 use Rattle.cdb_program.specs.Reading.{FailsToRead}
@@ -83,7 +84,7 @@ abbrev pub HoldsSeats : List ℕ → List (List ℕ) → Option (List ℕ) → O
 HoldsSeats setup seats from file old new status =
     (json journal : List ℕ) × HasSeated old.files new.files setup seats from (any_name file) json journal
     × ((made : Option Stream) × (kept : Option (Kept Stream)) × IsNewFile file made
-    × RunsSessions rules (λ known. known) (CanOpenSeat old.files) itself itself itself json journal seats made old.output new.output old.error
+    × RunsSessions rules IsAnswer (λ known. known) (CanOpenSeat old.files) itself itself itself json journal seats made old.output new.output old.error
     new.error (status, kept))
 
 -- there were sessions of these seats, or not; standard input is left as it is

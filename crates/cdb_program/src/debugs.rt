@@ -4,6 +4,7 @@ ghost use Rattle.std.specs.Prelude.{◌≡◌};
 ghost use Rattle.cdb_base.specs.Requests.{any_text};
 ghost use Rattle.cdb_program.specs.Debugging.{DebugsFile, DebugsFileKept};
 
+use crate::answers::Printed;
 use crate::beginning::read_beginning;
 use crate::fault::{Fault, of_kept, of_play};
 use crate::files::Files;
@@ -29,7 +30,7 @@ pub fn debug_file<'a, F: Files + Drop, I: Source + Drop, O: Sink + Drop, E: Sink
 {
     let (json, journal) = read_beginning(alloc, &mut outside.files, setup, from)?;
     let prompt = prompt.as_bytes();
-    let debugged = debug::<AnyRun, _>(
+    let debugged = debug::<AnyRun, Printed, _>(
         alloc,
         json.as_slice(),
         journal.as_slice(),
@@ -55,7 +56,7 @@ pub fn debug_file_kept<'a, F: Files + Drop, I: Source + Drop, O: Sink + Drop, E:
     let (json, journal) = read_beginning(alloc, &mut outside.files, setup, from)?;
     let file = make_one(alloc, &mut outside.files, file)?;
     let prompt = prompt.as_bytes();
-    let (debugged, kept) = debug_kept::<AnyRun, _, _>(
+    let (debugged, kept) = debug_kept::<AnyRun, Printed, _, _>(
         alloc,
         json.as_slice(),
         journal.as_slice(),

@@ -1,6 +1,7 @@
 //! What the program `revdbg` does with a request, over an outside of files, standard input and two outputs.
 #![tactic(auto)]
 
+mod answers;
 mod beginning;
 mod clocks;
 mod compares;
@@ -20,6 +21,7 @@ mod request;
 mod searches;
 mod seats;
 
+pub use answers::Printed;
 pub use fault::Fault;
 pub use files::Files;
 pub use outside::Outside;

@@ -7,6 +7,7 @@ ghost use Rattle.cdb_program.specs.LivePages.{DebugsFilePaged, HasHadNone, Holds
 ghost use Rattle.cdb_program.specs.Reading.{FailsToRead};
 ghost use Rattle.cdb_program.specs.Seating.{IsFaultOfSeats};
 
+use crate::answers::Printed;
 use crate::beginning::read_beginning;
 use crate::fault::{Fault, of_kept};
 use crate::files::Files;
@@ -115,7 +116,7 @@ pub fn debug_file_paged<'a, F: Files + Drop, I: Source + Drop, O: Sink + Drop, E
     let (json, begun) = read_beginning(alloc, &mut outside.files, setup, from)?;
     let (json, begun) = (json.as_slice(), begun.as_slice());
     let live = begin_page(alloc, &mut outside.files, json, begun, journal, page)?;
-    let (debugged, kept) = debug_kept::<AnyRun, _, _>(
+    let (debugged, kept) = debug_kept::<AnyRun, Printed, _, _>(
         alloc,
         json,
         begun,
@@ -180,7 +181,7 @@ fn hold_paged<
     let (json, begun) = (json.as_slice(), begun.as_slice());
     let live = begin_page(alloc, &mut outside.files, json, begun, journal, page)?;
     let (output, error) = (&mut outside.streams.output, &mut outside.error);
-    match debug_shared::<AnyRun, _, _, R, O, E>(
+    match debug_shared::<AnyRun, Printed, _, _, R, O, E>(
         threads,
         alloc,
         json,

@@ -6,6 +6,7 @@ ghost use Rattle.cdb_program.specs.Reading.{FailsToRead};
 ghost use Rattle.cdb_base.specs.Requests.{any_text, texts};
 ghost use Rattle.cdb_program.specs.Seating.{AreOpenersOf, HoldsSeats, IsEmpty, IsFaultOfSeats, IsNewFile, IsOpenerOf, PerformsShared};
 
+use crate::answers::Printed;
 use crate::beginning::read_beginning;
 use crate::fault::Fault;
 use crate::files::Files;
@@ -150,7 +151,7 @@ fn hold_seats<
     let openers = find_each(alloc, &mut outside.files, seats)?;
     let file = make_any(alloc, &mut outside.files, file)?;
     let (output, error) = (&mut outside.streams.output, &mut outside.error);
-    match debug_shared::<AnyRun, _, _, R, O, E>(
+    match debug_shared::<AnyRun, Printed, _, _, R, O, E>(
         threads,
         alloc,
         json.as_slice(),

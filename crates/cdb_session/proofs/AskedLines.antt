@@ -11,9 +11,11 @@ use Rattle.cdb_setup.specs.Format.{longest}
 use Rattle.cdb_session.specs.Unfinished.{unfinished_of}
 use Rattle.cdb_session.specs.Requests.{Asks, AsksFor, IsQuit, HaveQuit, quit_line, up_to_quit}
 use Rattle.cdb_session.specs.Typed.{line_meant}
+use Rattle.cdb_session.proofs.InquiryLines.{no_quit}
 use Rattle.cdb_session.proofs.OneRequest.{only_too_long}
+use Rattle.cdb_session.specs.Exchanges.{Exchange}
 use Rattle.cdb_session.specs.declared.request.Request.{Request}
-use Rattle.cdb_session.specs.declared.request.Request.TheVariants.{Call, Seat, Help, Quit, Fault, TooLong}
+use Rattle.cdb_session.specs.declared.request.Request.TheVariants.{Call, Ask, Seat, Help, Quit, Fault, TooLong}
 
 -- a line that is too long stands for itself
 meant_long : (line : List ℕ) → longest < length line → line_meant line ≡ line
@@ -21,20 +23,21 @@ unfolding line_meant
 meant_long line long = let yes : nat_lt longest (length line) ≡ true = search (rules, nat_tests, long) in rw yes refl
 
 -- what is held of a line asks for the same as the line
-pub asks_whole : (request : Request) (line : List ℕ) → Asks request (unfinished_of line) → Asks request line
-asks_whole request line asks =
+pub asks_whole : (exchange : Exchange) (line : List ℕ) → Asks exchange (unfinished_of line) → Asks exchange line
+asks_whole (request, answer) line asks =
     let held : List ℕ = unfinished_of line in
     elim (cases_lt longest (length held)) [
       | inl long ↦
           let whole : longest < length line = omega (arith, long, length-take (longest + 1) line) in
           let too_long : request ≡ TooLong = only_too_long held long request (subst (AsksFor request) (meant_long held long) asks) in
-          subst (λ r. Asks r line) (sym too_long) (subst (λ meant. longest < length meant) (sym (meant_long line whole)) whole)
-      | inr few ↦ subst (Asks request) (take_all (longest + 1) line (omega (arith, few, length-take (longest + 1) line))) asks
+          subst (λ r. AsksFor r (line_meant line)) (sym too_long) (subst (λ meant. longest < length meant) (sym (meant_long line whole)) whole)
+      | inr few ↦ subst (Asks (request, answer)) (take_all (longest + 1) line (omega (arith, few, length-take (longest + 1) line))) asks
     ]
 
 -- a line that asks for something else is not `quit`
 not_quit : (request : Request) (line : List ℕ) → AsksFor request line → request ≢ Quit → line ≢ quit_line
 not_quit (Call command) line asks other is = asks.1.0 (inr (inl is))
+not_quit (Ask inquiry) line asks other is = no_quit line inquiry asks.1 is
 not_quit (Seat seat) line asks other is =
     let first : 115 ≡ 113 = ap (λ bytes. get_or bytes 0 0) (sym asks.1.1 ∙ is) in absurd (omega (arith, first))
 not_quit (Help None) line asks other is =
@@ -45,19 +48,19 @@ not_quit Quit line asks other is = other refl
 not_quit (Fault fault) line asks other is = asks.1.0 (inr (inl is))
 not_quit TooLong line asks other is = let few : length line ≡ 4 = ap length is in absurd (omega (arith, asks, few))
 
-pub is_not_quit : (request : Request) (line : List ℕ) → Asks request line → request ≢ Quit → ¬ IsQuit line
-is_not_quit request line asks other = not_quit request (line_meant line) asks other
+pub is_not_quit : (exchange : Exchange) (line : List ℕ) → Asks exchange line → exchange.0 ≢ Quit → ¬ IsQuit line
+is_not_quit exchange line asks other = not_quit exchange.0 (line_meant line) asks other
 
 -- ---- lines one after the other
 
 abbrev pub AreOthers : List (List ℕ) → Type 0
 AreOthers lines = AllByRecursion (λ line. ¬ IsQuit line) lines
 
-pub AllZip-more : (requests : List Request) (lines : List (List ℕ)) (request : Request) (line : List ℕ) → AllZip Asks requests lines → Asks request line → AllZip Asks (requests ++ request ∷ []) (lines ++ line ∷ [])
-AllZip-more [] [] request line are is = (is, tt)
-AllZip-more [] (other ∷ lines) request line are is = absurd are
-AllZip-more (other ∷ requests) [] request line are is = absurd are
-AllZip-more (other ∷ requests) (other_line ∷ lines) request line are is = (are.0, AllZip-more requests lines request line are.1 is)
+pub AllZip-more : (exchanges : List Exchange) (lines : List (List ℕ)) (exchange : Exchange) (line : List ℕ) → AllZip Asks exchanges lines → Asks exchange line → AllZip Asks (exchanges ++ exchange ∷ []) (lines ++ line ∷ [])
+AllZip-more [] [] exchange line are is = (is, tt)
+AllZip-more [] (other ∷ lines) exchange line are is = absurd are
+AllZip-more (other ∷ exchanges) [] exchange line are is = absurd are
+AllZip-more (other ∷ exchanges) (other_line ∷ lines) exchange line are is = (are.0, AllZip-more exchanges lines exchange line are.1 is)
 
 pub AreOthers-more : (lines : List (List ℕ)) (line : List ℕ) → AreOthers lines → ¬ IsQuit line → AreOthers (lines ++ line ∷ [])
 AreOthers-more [] line are is = (is, tt)

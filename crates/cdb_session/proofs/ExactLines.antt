@@ -1,6 +1,6 @@
 -- A line that is exact stands for itself.
 use Rattle.std.proofs.Common.{◌≡◌, inl, inr, ℕ, suc, ◌==◌, ◌<◌, ◌≤◌, ◌^◌, Bool, true, false, cond, not, ◌||◌, nat_eq, nat_lt, List, [], ◌∷◌, ◌++◌, length, map, fold, get_or, decimal, append_assoc, append-nil, refl, sym, ap, subst, ◌∙◌, arith}
-use Rattle.std.specs.Prelude.{codes, Some, None}
+use Rattle.std.specs.Prelude.{codes, Option, Some, None}
 use Rattle.std.specs.Char.{digit_value}
 use Rattle.std.specs.List.{AllByRecursion, list_all, filter, starts_with, slice_split, onto_first, join_with_byte, position_or_len}
 use Rattle.std.specs.Str.Parse.{AllDigits}
@@ -24,6 +24,9 @@ use Rattle.cdb_setup.specs.Format.{longest}
 use Rattle.cdb_setup.specs.Parts.{IsWithin}
 use Rattle.cdb_session.specs.declared.topic.Topic.{Topic}
 use Rattle.cdb_session.specs.declared.topic.Topic.TheVariants as topic
+use Rattle.cdb_session.specs.Inquiries.{AreStepWords, inquiry_word, numbers_of, step_asked}
+use Rattle.cdb_session.specs.declared.inquiry.Inquiry.{Inquiry}
+use Rattle.cdb_session.specs.declared.inquiry.Inquiry.TheVariants.{Explain, Trail}
 use Rattle.cdb_session.specs.Laws.{ExactLinesStand}
 use Rattle.cdb_session.specs.Requests.{most_seats, help_line, quit_line, seat_line}
 use Rattle.cdb_session.specs.Typed.{is_blank, is_comment, is_mark, is_word, parts_of, due, only, full, up_to_comment, with_piece, words_meant, line_meant}
@@ -206,6 +209,16 @@ parts_stand (Show view.Mail) r = (fixed _ _ refl refl refl, (fixed _ _ refl refl
 parts_stand (Show view.History) r = (fixed _ _ refl refl refl, (fixed _ _ refl refl refl, tt))
 parts_stand Decisions r = (fixed _ _ refl refl refl, tt)
 
+-- ---- the words of what is asked of the run
+
+step_stands : (before : List (List ℕ)) (p : ℕ) (k : Option ℕ) → list_all is_lettered (due before) ≡ true → list_all is_lettered (due (before ++ decimal p ∷ [])) ≡ true → AllByRecursion IsInRange (numbers_of p k) → AllStand before (map part_text (numbers_of p k))
+step_stands before p None lettered after r = (a_number before p r.0 lettered, tt)
+step_stands before p (Some k) lettered after r = (a_number before p r.0 lettered, (a_number (before ++ decimal p ∷ []) k r.1.0 after, tt))
+
+inquiry_stands : (inquiry : Inquiry) (others : List (List ℕ)) → AreStepWords (step_asked inquiry) others → AllStand [] (inquiry_word inquiry ∷ others)
+inquiry_stands (Explain step) others is = (fixed _ _ refl refl refl, subst (AllStand (codes "explain" ∷ [])) (sym is.are) (step_stands (codes "explain" ∷ []) step.p step.k refl refl is.in_range))
+inquiry_stands (Trail step) others is = (fixed _ _ refl refl refl, subst (AllStand (codes "trail" ∷ [])) (sym is.are) (step_stands (codes "trail" ∷ []) step.p step.k refl refl is.in_range))
+
 -- ---- all such lines
 
 seat_words : (seat : ℕ) → IsWithin 1 most_seats seat → words_of (seat_line seat) ≡ codes "seat" ∷ decimal seat ∷ []
@@ -231,13 +244,16 @@ exact_lines_stand line (inl (inl (Some word, is))) =
       | topic.Resume ↦ exact (help_line (Some topic.Resume)) (codes "help" ∷ codes "resume" ∷ []) refl (fixed _ _ refl refl refl, (fixed _ _ refl refl refl, tt))
       | topic.Show ↦ exact (help_line (Some topic.Show)) (codes "help" ∷ codes "show" ∷ []) refl (fixed _ _ refl refl refl, (fixed _ _ refl refl refl, tt))
       | topic.Decisions ↦ exact (help_line (Some topic.Decisions)) (codes "help" ∷ codes "decisions" ∷ []) refl (fixed _ _ refl refl refl, (fixed _ _ refl refl refl, tt))
+      | topic.Explain ↦ exact (help_line (Some topic.Explain)) (codes "help" ∷ codes "explain" ∷ []) refl (fixed _ _ refl refl refl, (fixed _ _ refl refl refl, tt))
+      | topic.Trail ↦ exact (help_line (Some topic.Trail)) (codes "help" ∷ codes "trail" ∷ []) refl (fixed _ _ refl refl refl, (fixed _ _ refl refl refl, tt))
       | topic.Help ↦ exact (help_line (Some topic.Help)) (codes "help" ∷ codes "help" ∷ []) refl (fixed _ _ refl refl refl, (fixed _ _ refl refl refl, tt))
       | topic.Quit ↦ exact (help_line (Some topic.Quit)) (codes "help" ∷ codes "quit" ∷ []) refl (fixed _ _ refl refl refl, (fixed _ _ refl refl refl, tt))
       | topic.Seat ↦ exact (help_line (Some topic.Seat)) (codes "help" ∷ codes "seat" ∷ []) refl (fixed _ _ refl refl refl, (fixed _ _ refl refl refl, tt))
     ])
 exact_lines_stand line (inl (inr (inl is))) = subst (λ (l : List ℕ). line_meant l ≡ l) (sym is) (exact quit_line (codes "quit" ∷ []) refl (fixed _ _ refl refl refl, tt))
-exact_lines_stand line (inl (inr (inr (seat, within, is)))) =
+exact_lines_stand line (inl (inr (inr (inl (seat, within, is))))) =
     let range : IsInRange (number seat) = (within.0, omega (arith, within.1)) in
     subst (λ (l : List ℕ). line_meant l ≡ l) (sym is)
     (exact (seat_line seat) (codes "seat" ∷ decimal seat ∷ []) (seat_words seat within) (fixed _ _ refl refl refl, (a_number _ seat range refl, tt)))
+exact_lines_stand line (inl (inr (inr (inr (inquiry, is))))) = exact line (inquiry_word inquiry ∷ is.0) is.1 (inquiry_stands inquiry is.0 is.2)
 exact_lines_stand line (inr (command, is)) = exact line (map part_text (command_parts command)) is.0 (parts_stand command is.1)

@@ -10,6 +10,9 @@ use Rattle.cdb_setup.specs.Format.{longest}
 use Rattle.cdb_session.specs.Unfinished.{IsOver, part_with, ended_well, ended_by}
 use Rattle.cdb_session.specs.Requests.{HasNoEnd}
 use Rattle.cdb_session.specs.Moves.{Known, Move, AreWrites, Makes}
+use Rattle.cdb_rules.specs.RunView.{RunView}
+use Rattle.cdb_session.specs.Exchanges.{Exchange}
+use Rattle.cdb_session.specs.declared.inquiry.Inquiry.{Inquiry}
 use Rattle.cdb_session.specs.declared.request.Request.{Request}
 use Rattle.cdb_session.specs.declared.request.Request.TheVariants.{Quit}
 use Rattle.cdb_session.proofs.MovesInOrder.{Makes-nothing, Makes-more}
@@ -33,102 +36,102 @@ true_is_true b is = search rules
 no_more : (part : Part) → MoreMayFollow [] part
 no_more part full = refl
 
-module _ (style : StyleView) where
+module _ (Answers : RunView → Inquiry → List ℕ → Type 0) (style : StyleView) where
   -- the seat of a session is that which its lines chose last
-  sits : {replies : List ToldReply} {moves : List Move} {part : Part} {along : Along} {unfinished left : List ℕ} (at : IsAt style replies moves part along unfinished left) → along.seat ≡ seat_behind style.chooses style.first at.requests
-  sits {replies} at = ap (λ (s : Along). s.seat) at.along_is ∙ seat_along style (begun_along style replies) at.requests
+  sits : {replies : List ToldReply} {moves : List Move} {part : Part} {along : Along} {unfinished left : List ℕ} (at : IsAt Answers style replies moves part along unfinished left) → along.seat ≡ seat_behind style.chooses style.first at.exchanges
+  sits {replies} at = ap (λ (s : Along). s.seat) at.along_is ∙ seat_along style (begun_along style replies) at.exchanges
 
   -- where no reply follows, the replies are those of the seat
-  finish : (returned : Result (Unit {0}) PlayFault) (moves : List Move) (session : SessionView) → IsSession style (part_with (session.part.replies ++ []) session.part) returned moves → HasEndedAs style returned moves session
-  finish returned moves session s = subst (λ (r : List ToldReply). IsSession style (part_with r session.part) returned moves) (append-nil session.part.replies) s
+  finish : (returned : Result (Unit {0}) PlayFault) (moves : List Move) (session : SessionView) → IsSession Answers style (part_with (session.part.replies ++ []) session.part) returned moves → HasEndedAs Answers style returned moves session
+  finish returned moves session s = subst (λ (r : List ToldReply). IsSession Answers style (part_with r session.part) returned moves) (append-nil session.part.replies) s
 
-  module _ (moves : List Move) (old : SessionView) (unfinished left : List ℕ) (at : StaysAt style moves old unfinished left) where
-    pub as_seen : IsAt style old.part.replies moves old.part (at_line old []) unfinished left
-    as_seen = subst (λ (r : List ToldReply). IsAt style r moves old.part (at_line old []) unfinished left) (append-nil old.part.replies) (at [] (no_more old.part))
+  module _ (moves : List Move) (old : SessionView) (unfinished left : List ℕ) (at : StaysAt Answers style moves old unfinished left) where
+    pub as_seen : IsAt Answers style old.part.replies moves old.part (at_line old []) unfinished left
+    as_seen = subst (λ (r : List ToldReply). IsAt Answers style r moves old.part (at_line old []) unfinished left) (append-nil old.part.replies) (at [] (no_more old.part))
 
     -- memory is out before a line is looked at
-    pub out_of_memory : HasEndedAs style (ended_by (output.NoMemory refused)) moves old
-    out_of_memory = lost_before style old.part.replies moves old.part (at_line old []) unfinished left as_seen old.part as_seen.commands
+    pub out_of_memory : HasEndedAs Answers style (ended_by (output.NoMemory refused)) moves old
+    out_of_memory = lost_before Answers style old.part.replies moves old.part (at_line old []) unfinished left as_seen old.part as_seen.commands
 
     -- the replies that a line gets come first
-    before_line : (new : Part) (request : Request) (got : List ToldReply) → HasGot old.seat old.part request got new → (more : List ToldReply) → MoreMayFollow more new → IsAt style (new.replies ++ more) moves old.part (at_line old (got ++ more)) unfinished left
+    before_line : (new : Part) (request : Request) (got : List ToldReply) → HasGot old.seat old.part request got new → (more : List ToldReply) → MoreMayFollow more new → IsAt Answers style (new.replies ++ more) moves old.part (at_line old (got ++ more)) unfinished left
     before_line new request got calls more may =
-        subst (λ (r : List ToldReply). IsAt style r moves old.part (at_line old (got ++ more)) unfinished left) (same_replies old.seat old.part request got new calls more)
+        subst (λ (r : List ToldReply). IsAt Answers style r moves old.part (at_line old (got ++ more)) unfinished left) (same_replies old.seat old.part request got new calls more)
         (at (got ++ more) (may_follow old.seat old.part request got new calls more may))
 
   -- the same of a line that was held, and of a last line
-  module _ (moves : List Move) (old : SessionView) (unfinished left : List ℕ) (at : StaysAt style moves old unfinished (10 ∷ left)) (new : SessionView) where
-    line_done : (kept : List ℕ) (was_quit : Bool) (made : List Move) → IsLineDone style old new unfinished kept was_quit made → was_quit ≡ false → StaysAt style (moves ++ made) new kept left
+  module _ (moves : List Move) (old : SessionView) (unfinished left : List ℕ) (at : StaysAt Answers style moves old unfinished (10 ∷ left)) (new : SessionView) where
+    line_done : (kept : List ℕ) (was_quit : Bool) (made : List Move) → IsLineDone Answers style old new unfinished kept was_quit made → was_quit ≡ false → StaysAt Answers style (moves ++ made) new kept left
     line_done kept was_quit made d goes_on more may =
-        let now = before_line moves old unfinished (10 ∷ left) at new.part d.request d.got d.done.calls more may in
-        let same = same_line style old.seat old.part d.request d.got new.part d.done more may old.lines in
-        let other : d.request ≢ Quit = λ is. (let yes : IsTrue was_quit = d.quit_exactly.1 is in absurd (false_is_not_true was_quit goes_on yes)) in
-        line_responded style (new.part.replies ++ more) moves old.part (at_line old (d.got ++ more)) unfinished left now d.request d.asks new.part (commands_done style old.seat now.requests (sits now) old.part d.request d.got new.part d.done now.commands) made d.writes
+        let now = before_line moves old unfinished (10 ∷ left) at new.part d.exchange.0 d.got d.done.calls more may in
+        let same = same_line Answers style old.seat old.part d.exchange d.got new.part d.done more may old.lines in
+        let other : d.exchange.0 ≢ Quit = λ is. (let yes : IsTrue was_quit = d.quit_exactly.1 is in absurd (false_is_not_true was_quit goes_on yes)) in
+        line_responded Answers style (new.part.replies ++ more) moves old.part (at_line old (d.got ++ more)) unfinished left now d.exchange d.asks new.part (commands_done Answers style old.seat now.exchanges (sits now) old.part d.exchange d.got new.part d.done now.commands) made d.writes
         (at_line new more) kept (d.written ∙ same.0) ((λ i. let s : Along = record { seat = d.seat i; replies = more; lines = d.lines i } in s) ∙ sym same.1) d.lines d.emptied other
 
-    line_quits : (kept : List ℕ) (was_quit : Bool) (made : List Move) → IsLineDone style old new unfinished kept was_quit made → was_quit ≡ true → HasEndedAs style ended_well (moves ++ made) new
+    line_quits : (kept : List ℕ) (was_quit : Bool) (made : List Move) → IsLineDone Answers style old new unfinished kept was_quit made → was_quit ≡ true → HasEndedAs Answers style ended_well (moves ++ made) new
     line_quits kept was_quit made d quit_exactly =
-        let now = before_line moves old unfinished (10 ∷ left) at new.part d.request d.got d.done.calls [] (no_more new.part) in
-        let same = same_line style old.seat old.part d.request d.got new.part d.done [] (no_more new.part) old.lines in
+        let now = before_line moves old unfinished (10 ∷ left) at new.part d.exchange.0 d.got d.done.calls [] (no_more new.part) in
+        let same = same_line Answers style old.seat old.part d.exchange d.got new.part d.done [] (no_more new.part) old.lines in
         finish ended_well (moves ++ made) new
-        (line_quit style (new.part.replies ++ []) moves old.part (at_line old (d.got ++ [])) unfinished left now d.request d.asks new.part (commands_done style old.seat now.requests (sits now) old.part d.request d.got new.part d.done now.commands) made d.writes
+        (line_quit Answers style (new.part.replies ++ []) moves old.part (at_line old (d.got ++ [])) unfinished left now d.exchange d.asks new.part (commands_done Answers style old.seat now.exchanges (sits now) old.part d.exchange d.got new.part d.done now.commands) made d.writes
         (d.written ∙ same.0) (d.quit_exactly.0 (true_is_true was_quit quit_exactly)))
 
-    line_breaks : (made : List Move) → IsLineBroken style old new unfinished made → HasEndedAs style (ended_by output.Write) (moves ++ made) new
+    line_breaks : (made : List Move) → IsLineBroken Answers style old new unfinished made → HasEndedAs Answers style (ended_by output.Write) (moves ++ made) new
     line_breaks made d =
-        let now = before_line moves old unfinished (10 ∷ left) at new.part d.request d.got d.done.calls [] (no_more new.part) in
-        let same = same_line style old.seat old.part d.request d.got new.part d.done [] (no_more new.part) old.lines in
+        let now = before_line moves old unfinished (10 ∷ left) at new.part d.exchange.0 d.got d.done.calls [] (no_more new.part) in
+        let same = same_line Answers style old.seat old.part d.exchange d.got new.part d.done [] (no_more new.part) old.lines in
         finish (ended_by output.Write) (moves ++ made) new
-        (line_broken style (new.part.replies ++ []) moves old.part (at_line old (d.got ++ [])) unfinished left now d.request d.asks new.part (commands_done style old.seat now.requests (sits now) old.part d.request d.got new.part d.done now.commands) made d.writes
+        (line_broken Answers style (new.part.replies ++ []) moves old.part (at_line old (d.got ++ [])) unfinished left now d.exchange d.asks new.part (commands_done Answers style old.seat now.exchanges (sits now) old.part d.exchange d.got new.part d.done now.commands) made d.writes
         d.missing (sym same.0 ∙ d.written) d.fails)
 
-    line_loses : (new ≡ old) ⊎ IsRequestLost style old new unfinished → HasEndedAs style (ended_by (output.NoMemory refused)) moves new
-    line_loses (inl same) = subst (HasEndedAs style (ended_by (output.NoMemory refused)) moves) (sym same) (out_of_memory moves old unfinished (10 ∷ left) at)
+    line_loses : (new ≡ old) ⊎ IsRequestLost Answers style old new unfinished → HasEndedAs Answers style (ended_by (output.NoMemory refused)) moves new
+    line_loses (inl same) = subst (HasEndedAs Answers style (ended_by (output.NoMemory refused)) moves) (sym same) (out_of_memory moves old unfinished (10 ∷ left) at)
     line_loses (inr d) =
         let now = before_line moves old unfinished (10 ∷ left) at new.part d.request d.got d.done [] (no_more new.part) in
         finish (ended_by (output.NoMemory refused)) moves new
-        (line_lost style (new.part.replies ++ []) moves old.part (at_line old (d.got ++ [])) unfinished left now d.request d.asks new.part (commands_lost style old.seat now.requests (sits now) old.part d.request d.got new.part d.done now.commands))
+        (line_lost Answers style (new.part.replies ++ []) moves old.part (at_line old (d.got ++ [])) unfinished left now (d.request, []) d.asks new.part (commands_lost Answers style old.seat now.exchanges (sits now) old.part d.request d.got new.part d.done now.commands))
 
-  module _ (moves : List Move) (old : SessionView) (unfinished : List ℕ) (at : StaysAt style moves old unfinished []) (over : IsOver moves) where
-    pub last_is_none : length unfinished ≡ 0 → HasEndedAs style ended_well moves old
-    last_is_none none = no_last_line style old.part.replies moves old.part (at_line old []) unfinished (as_seen moves old unfinished [] at) over none
+  module _ (moves : List Move) (old : SessionView) (unfinished : List ℕ) (at : StaysAt Answers style moves old unfinished []) (over : IsOver moves) where
+    pub last_is_none : length unfinished ≡ 0 → HasEndedAs Answers style ended_well moves old
+    last_is_none none = no_last_line Answers style old.part.replies moves old.part (at_line old []) unfinished (as_seen moves old unfinished [] at) over none
 
     module _ (some : 0 < length unfinished) (new : SessionView) where
-      pub last_is_done : (kept : List ℕ) (was_quit : Bool) (made : List Move) → IsLineDone style old new unfinished kept was_quit made → HasEndedAs style ended_well (moves ++ made) new
+      pub last_is_done : (kept : List ℕ) (was_quit : Bool) (made : List Move) → IsLineDone Answers style old new unfinished kept was_quit made → HasEndedAs Answers style ended_well (moves ++ made) new
       last_is_done kept was_quit made d =
-          let now = before_line moves old unfinished [] at new.part d.request d.got d.done.calls [] (no_more new.part) in
-          let same = same_line style old.seat old.part d.request d.got new.part d.done [] (no_more new.part) old.lines in
+          let now = before_line moves old unfinished [] at new.part d.exchange.0 d.got d.done.calls [] (no_more new.part) in
+          let same = same_line Answers style old.seat old.part d.exchange d.got new.part d.done [] (no_more new.part) old.lines in
           finish ended_well (moves ++ made) new
-          (last_responded style (new.part.replies ++ []) moves old.part (at_line old (d.got ++ [])) unfinished now over some d.request d.asks new.part (commands_done style old.seat now.requests (sits now) old.part d.request d.got new.part d.done now.commands) made d.writes
+          (last_responded Answers style (new.part.replies ++ []) moves old.part (at_line old (d.got ++ [])) unfinished now over some d.exchange d.asks new.part (commands_done Answers style old.seat now.exchanges (sits now) old.part d.exchange d.got new.part d.done now.commands) made d.writes
           (d.written ∙ same.0))
 
-      pub last_breaks : (made : List Move) → IsLineBroken style old new unfinished made → HasEndedAs style (ended_by output.Write) (moves ++ made) new
+      pub last_breaks : (made : List Move) → IsLineBroken Answers style old new unfinished made → HasEndedAs Answers style (ended_by output.Write) (moves ++ made) new
       last_breaks made d =
-          let now = before_line moves old unfinished [] at new.part d.request d.got d.done.calls [] (no_more new.part) in
-          let same = same_line style old.seat old.part d.request d.got new.part d.done [] (no_more new.part) old.lines in
+          let now = before_line moves old unfinished [] at new.part d.exchange.0 d.got d.done.calls [] (no_more new.part) in
+          let same = same_line Answers style old.seat old.part d.exchange d.got new.part d.done [] (no_more new.part) old.lines in
           finish (ended_by output.Write) (moves ++ made) new
-          (last_broken style (new.part.replies ++ []) moves old.part (at_line old (d.got ++ [])) unfinished now over some d.request d.asks new.part (commands_done style old.seat now.requests (sits now) old.part d.request d.got new.part d.done now.commands) made d.writes
+          (last_broken Answers style (new.part.replies ++ []) moves old.part (at_line old (d.got ++ [])) unfinished now over some d.exchange d.asks new.part (commands_done Answers style old.seat now.exchanges (sits now) old.part d.exchange d.got new.part d.done now.commands) made d.writes
           d.missing (sym same.0 ∙ d.written) d.fails)
 
-      pub last_loses : (new ≡ old) ⊎ IsRequestLost style old new unfinished → HasEndedAs style (ended_by (output.NoMemory refused)) moves new
-      last_loses (inl same) = subst (HasEndedAs style (ended_by (output.NoMemory refused)) moves) (sym same) (out_of_memory moves old unfinished [] at)
+      pub last_loses : (new ≡ old) ⊎ IsRequestLost Answers style old new unfinished → HasEndedAs Answers style (ended_by (output.NoMemory refused)) moves new
+      last_loses (inl same) = subst (HasEndedAs Answers style (ended_by (output.NoMemory refused)) moves) (sym same) (out_of_memory moves old unfinished [] at)
       last_loses (inr d) =
           let now = before_line moves old unfinished [] at new.part d.request d.got d.done [] (no_more new.part) in
           finish (ended_by (output.NoMemory refused)) moves new
-          (last_lost style (new.part.replies ++ []) moves old.part (at_line old (d.got ++ [])) unfinished now over some d.request d.asks new.part (commands_lost style old.seat now.requests (sits now) old.part d.request d.got new.part d.done now.commands))
+          (last_lost Answers style (new.part.replies ++ []) moves old.part (at_line old (d.got ++ [])) unfinished now over some (d.request, []) d.asks new.part (commands_lost Answers style old.seat now.exchanges (sits now) old.part d.request d.got new.part d.done now.commands))
 
   -- from the first of the bytes on, up to those that are left
   abbrev pub Goes : Known → SessionView → List ℕ → List ℕ → Known → SessionView → List ℕ → List ℕ → Type 0
   Goes before old unfinished bytes now session kept left =
-      (moves : List Move) → StaysAt style moves old unfinished bytes
-      → (made : List Move) × Makes before now made × AreWrites made × StaysAt style (moves ++ made) session kept left
+      (moves : List Move) → StaysAt Answers style moves old unfinished bytes
+      → (made : List Move) × Makes before now made × AreWrites made × StaysAt Answers style (moves ++ made) session kept left
 
   pub starts : (before : Known) (old : SessionView) (unfinished bytes : List ℕ) → Goes before old unfinished bytes before old unfinished bytes
-  starts before old unfinished bytes moves at = ([], Makes-nothing before, tt, subst (λ all. StaysAt style all old unfinished bytes) (sym (append-nil moves)) at)
+  starts before old unfinished bytes moves at = ([], Makes-nothing before, tt, subst (λ all. StaysAt Answers style all old unfinished bytes) (sym (append-nil moves)) at)
 
   module _ (before : Known) (old : SessionView) (unfinished bytes : List ℕ) (now : Known) (session : SessionView) (kept left : List ℕ) (so : Goes before old unfinished bytes now session kept left) where
     -- memory is out
-    pub no_memory : (all : List ℕ) → Feeds style (Err (output.NoMemory refused)) before now old session unfinished all bytes
+    pub no_memory : (all : List ℕ) → Feeds Answers style (Err (output.NoMemory refused)) before now old session unfinished all bytes
     no_memory all moves at =
         let s = so moves at in
         (s.0, s.1, s.2, out_of_memory (moves ++ s.0) session kept left s.3)
@@ -137,35 +140,35 @@ module _ (style : StyleView) where
     pub holds : (more behind all : List ℕ) → left ≡ more ++ behind → HasNoEnd more → all ≡ take (longest + 1) (kept ++ more) → Goes before old unfinished bytes now session all behind
     holds more behind all cut none is moves at =
         let s = so moves at in
-        (s.0, s.1, s.2, λ follow may. more_unfinished style (session.part.replies ++ follow) (moves ++ s.0) session.part (at_line session follow) kept left (s.3 follow may) more behind all cut none is)
+        (s.0, s.1, s.2, λ follow may. more_unfinished Answers style (session.part.replies ++ follow) (moves ++ s.0) session.part (at_line session follow) kept left (s.3 follow may) more behind all cut none is)
 
   -- a line has ended
   module _ (before : Known) (old : SessionView) (unfinished bytes : List ℕ) (now : Known) (session : SessionView) (kept left : List ℕ) (so : Goes before old unfinished bytes now session kept (10 ∷ left)) (behind : Known) (new : SessionView) (all : List ℕ) where
-    pub responds : (was_quit : Bool) → RespondsToLine style (Ok was_quit) now behind session new kept all → was_quit ≡ false → Goes before old unfinished bytes behind new all left
+    pub responds : (was_quit : Bool) → RespondsToLine Answers style (Ok was_quit) now behind session new kept all → was_quit ≡ false → Goes before old unfinished bytes behind new all left
     responds was_quit a goes_on moves at =
         let s = so moves at in (
           s.0 ++ a.0,
           Makes-more before now behind s.0 a.0 s.1 a.1,
           AreWrites-append s.0 a.0 s.2 a.2.writes,
-          subst (λ made. StaysAt style made new all left) (append_assoc moves s.0 a.0) (line_done (moves ++ s.0) session kept left s.3 new all was_quit a.0 a.2 goes_on),
+          subst (λ made. StaysAt Answers style made new all left) (append_assoc moves s.0 a.0) (line_done (moves ++ s.0) session kept left s.3 new all was_quit a.0 a.2 goes_on),
         )
 
-    pub quits : (was_quit : Bool) → RespondsToLine style (Ok was_quit) now behind session new kept all → was_quit ≡ true → Feeds style (Ok true) before behind old new unfinished all bytes
+    pub quits : (was_quit : Bool) → RespondsToLine Answers style (Ok was_quit) now behind session new kept all → was_quit ≡ true → Feeds Answers style (Ok true) before behind old new unfinished all bytes
     quits was_quit a quit_exactly moves at =
         let s = so moves at in (
           s.0 ++ a.0,
           Makes-more before now behind s.0 a.0 s.1 a.1,
           AreWrites-append s.0 a.0 s.2 a.2.writes,
-          subst (λ made. HasEndedAs style ended_well made new) (append_assoc moves s.0 a.0) (line_quits (moves ++ s.0) session kept left s.3 new all was_quit a.0 a.2 quit_exactly),
+          subst (λ made. HasEndedAs Answers style ended_well made new) (append_assoc moves s.0 a.0) (line_quits (moves ++ s.0) session kept left s.3 new all was_quit a.0 a.2 quit_exactly),
         )
 
-    pub fails : (fault : OutputFault) → RespondsToLine style (Err fault) now behind session new kept all → Feeds style (Err fault) before behind old new unfinished all bytes
+    pub fails : (fault : OutputFault) → RespondsToLine Answers style (Err fault) now behind session new kept all → Feeds Answers style (Err fault) before behind old new unfinished all bytes
     fails output.Write a moves at =
         let s = so moves at in (
           s.0 ++ a.0,
           Makes-more before now behind s.0 a.0 s.1 a.1,
           AreWrites-append s.0 a.0 s.2 a.2.writes,
-          subst (λ made. HasEndedAs style (ended_by output.Write) made new) (append_assoc moves s.0 a.0) (line_breaks (moves ++ s.0) session kept left s.3 new a.0 a.2),
+          subst (λ made. HasEndedAs Answers style (ended_by output.Write) made new) (append_assoc moves s.0 a.0) (line_breaks (moves ++ s.0) session kept left s.3 new a.0 a.2),
         )
     fails (output.NoMemory why) a moves at =
         let s = so moves at in
@@ -173,5 +176,5 @@ module _ (style : StyleView) where
           s.0 ++ a.0,
           Makes-more before now behind s.0 a.0 s.1 a.1,
           subst AreWrites (sym made) s.2,
-          subst (λ more. HasEndedAs style (ended_by (output.NoMemory refused)) (moves ++ more) new) (sym made) (line_loses (moves ++ s.0) session kept left s.3 new a.2.lost),
+          subst (λ more. HasEndedAs Answers style (ended_by (output.NoMemory refused)) (moves ++ more) new) (sym made) (line_loses (moves ++ s.0) session kept left s.3 new a.2.lost),
         )

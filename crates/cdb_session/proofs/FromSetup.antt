@@ -7,7 +7,9 @@ use Rattle.cdb_control.specs.Journal.{Journaled, Begins}
 use Rattle.cdb_control.specs.declared.control.Entry.{Entry}
 use Rattle.cdb_journal.specs.OpenedFrom.{IsFaultOfOpening, IsOpenedFrom, opened_from}
 use Rattle.cdb_journal.proofs.Telling.{read_few}
+use Rattle.cdb_rules.specs.RunView.{RunView}
 use Rattle.cdb_rules.specs.Rules.{Rules}
+use Rattle.cdb_session.specs.declared.inquiry.Inquiry.{Inquiry}
 use Rattle.cdb_setup.specs.Faults.{IfFault}
 use Rattle.cdb_setup.specs.Format.{Encodes, longest}
 use Rattle.cdb_setup.specs.Order.{IsFirstFault}
@@ -24,30 +26,30 @@ use Rattle.cdb_session.specs.Alone.{whole_part, IsLaterControl, nine}
 use Rattle.cdb_session.specs.Debugs as table
 use Rattle.cdb_session.specs.Greetings.{greeting_at, greeting_text}
 use Rattle.cdb_session.specs.Moves.{Known, Move, read_in, written_in}
-use Rattle.cdb_session.specs.Parts.{HasCommands}
+use Rattle.cdb_session.specs.Answers.{HasExchanges}
 use Rattle.cdb_session.specs.Requests.{ended_lines}
 use Rattle.cdb_session.specs.Since.{since}
 use Rattle.cdb_session.specs.Served.{HoldsSession, IsAnswered, IsServed, IsCutShort, IsSession}
 use Rattle.cdb_session.specs.Sessions.{EndsAs}
 use Rattle.cdb_session.specs.Styles.{Onward}
 use Rattle.cdb_session.specs.Table.{begun, IsDialogue}
-use Rattle.cdb_session.proofs.SameAsTable.{came, nothing_lost}
+use Rattle.cdb_session.proofs.SameAsTable.{all_answered, came, nothing_lost}
 use Rattle.cdb_session.proofs.OwnControl.{later_control}
 
 -- ---- by its journal, and by the table
 
-module _ (rules : Parts → Rules) (greeting prompt : List ℕ) (given : Parts) (before : List Entry) (c : Journaled) (of : c.setup ≡ given) (seats : c.seats ≡ MAX_SEATS) (begins : Begins before c.journal) (few : length c.journal ≤ MAX_ENTRIES) where
-  answered : (lines : List (List ℕ)) (text : List ℕ) → IsAnswered (nine greeting prompt) (came rules c before) lines text → IsDialogue greeting prompt (begun rules given before) lines text
-  answered lines text (requests, others, asked, is, has) =
-      subst (λ (parts : Parts). IsDialogue greeting prompt (begun rules parts before) lines text) of
-      (requests, asked, is ∙ nothing_lost greeting prompt rules c before requests others seats begins few has)
+module _ (rules : Parts → Rules) (Answers : RunView → Inquiry → List ℕ → Type 0) (greeting prompt : List ℕ) (given : Parts) (before : List Entry) (c : Journaled) (of : c.setup ≡ given) (seats : c.seats ≡ MAX_SEATS) (begins : Begins before c.journal) (few : length c.journal ≤ MAX_ENTRIES) where
+  answered : (lines : List (List ℕ)) (text : List ℕ) → IsAnswered Answers (nine greeting prompt) (came rules c before) lines text → IsDialogue Answers greeting prompt (begun rules given before) lines text
+  answered lines text (exchanges, others, asked, is, has) =
+      subst (λ (parts : Parts). IsDialogue Answers greeting prompt (begun rules parts before) lines text) of
+      (exchanges, asked, all_answered Answers greeting prompt rules c before exchanges others seats begins few has, is ∙ nothing_lost Answers greeting prompt rules c before exchanges others seats begins few has.0)
 
-  served : (lines : List (List ℕ)) (text : List ℕ) → IsServed (nine greeting prompt) (came rules c before) lines text → IsDialogue greeting prompt (begun rules given before) lines text
-  served lines text (requests, asked, is, has) =
-      answered lines text (requests, [], asked, is, subst (HasCommands (nine greeting prompt) (came rules c before)) (sym (append-nil requests)) has)
+  served : (lines : List (List ℕ)) (text : List ℕ) → IsServed Answers (nine greeting prompt) (came rules c before) lines text → IsDialogue Answers greeting prompt (begun rules given before) lines text
+  served lines text (exchanges, asked, is, has) =
+      answered lines text (exchanges, [], asked, is, subst (HasExchanges Answers (nine greeting prompt) (came rules c before)) (sym (append-nil exchanges)) has)
 
-  ends : (returned : Result (Unit {0}) PlayFault) (moves : List Move) → EndsAs (IsAnswered (nine greeting prompt) (came rules c before)) (IsServed (nine greeting prompt) (came rules c before)) (IsCutShort (nine greeting prompt) (came rules c before)) returned moves
-      → EndsAs (IsDialogue greeting prompt (begun rules given before)) (IsDialogue greeting prompt (begun rules given before)) (table.IsCutShort greeting prompt (begun rules given before)) returned moves
+  ends : (returned : Result (Unit {0}) PlayFault) (moves : List Move) → EndsAs (IsAnswered Answers (nine greeting prompt) (came rules c before)) (IsServed Answers (nine greeting prompt) (came rules c before)) (IsCutShort Answers (nine greeting prompt) (came rules c before)) returned moves
+      → EndsAs (IsDialogue Answers greeting prompt (begun rules given before)) (IsDialogue Answers greeting prompt (begun rules given before)) (table.IsCutShort Answers greeting prompt (begun rules given before)) returned moves
   ends (Ok done) moves e = record { responded = served (lines_of (read_in moves)) (written_in moves) e.responded; ended = e.ended }
   ends (Err fault.Read) moves e = (record { responded = served (ended_lines (read_in moves)) (written_in moves) e.0.responded; goes_on = e.0.goes_on; more = e.0.more }, e.1)
   ends (Err fault.Write) moves e = (
@@ -60,7 +62,7 @@ module _ (rules : Parts → Rules) (greeting prompt : List ℕ) (given : Parts) 
   ends (Err (fault.Line script line why)) moves e = e
   ends (Err (fault.ScriptTooLong script)) moves e = e
 
-  by_table : (returned : Result (Unit {0}) PlayFault) (moves : List Move) → IsSession (nine greeting prompt) (came rules c before) returned moves → table.IsSession greeting prompt (begun rules given before) returned moves
+  by_table : (returned : Result (Unit {0}) PlayFault) (moves : List Move) → IsSession Answers (nine greeting prompt) (came rules c before) returned moves → table.IsSession Answers greeting prompt (begun rules given before) returned moves
   by_table returned moves s = record {
     in_time = λ before ask later is asks.
         let r = s.in_time before ask later is asks in
@@ -100,9 +102,9 @@ journal_failed json journal seats given encodes bad.TooLong is = ((given, encode
 journal_failed json journal seats given encodes (bad.NoMemory refused) is = encodes.0
 
 -- from a control that goes on from a journal to one that the session has left
-pub debugged : (rules : Parts → Rules) (prompt json journal : List ℕ) (old new : Known) (given : Parts) → Encodes json given → (first last : Journaled) → IsOpenedFrom given MAX_SEATS journal first → Onward IsLaterControl first last
-    → (returned : Result (Unit {0}) PlayFault) → HoldsSession (nine (greeting_at prompt (greeting_text given)) prompt) (since (whole_part rules first) (whole_part rules last)) returned old new → table.Debugs rules prompt json journal returned old new
-debugged rules prompt json journal old new given encodes first last (before, lines, is) later returned (made, makes, s) =
+pub debugged : (rules : Parts → Rules) (Answers : RunView → Inquiry → List ℕ → Type 0) (prompt json journal : List ℕ) (old new : Known) (given : Parts) → Encodes json given → (first last : Journaled) → IsOpenedFrom given MAX_SEATS journal first → Onward IsLaterControl first last
+    → (returned : Result (Unit {0}) PlayFault) → HoldsSession Answers (nine (greeting_at prompt (greeting_text given)) prompt) (since (whole_part rules first) (whole_part rules last)) returned old new → table.Debugs rules Answers prompt json journal returned old new
+debugged rules Answers prompt json journal old new given encodes first last (before, lines, is) later returned (made, makes, s) =
     let few = read_few before journal lines.0 in
     let its = later_control first last (omega (arith, ap (λ (c : Journaled). length c.journal) is, few)) later in
     let of : last.setup ≡ given = its.setup ∙ ap (λ (c : Journaled). c.setup) is in
@@ -110,5 +112,5 @@ debugged rules prompt json journal old new given encodes first last (before, lin
     let begins : Begins before last.journal = subst (λ (es : List Entry). Begins es last.journal) (ap (λ (c : Journaled). c.journal) is) its.begins in
     let first_is : first ≡ opened_from last.setup MAX_SEATS before = is ∙ ap (λ (p : Parts). opened_from p MAX_SEATS before) (sym of) in
     let greeting = greeting_at prompt (greeting_text given) in
-    let held = subst (λ (c : Journaled). IsSession (nine greeting prompt) (since (whole_part rules c) (whole_part rules last)) returned made) first_is s in
-    (made, makes, inr (given, before, encodes, lines, by_table rules greeting prompt given before last of seats begins its.few returned made held))
+    let held = subst (λ (c : Journaled). IsSession Answers (nine greeting prompt) (since (whole_part rules c) (whole_part rules last)) returned made) first_is s in
+    (made, makes, inr (given, before, encodes, lines, by_table rules Answers greeting prompt given before last of seats begins its.few returned made held))

@@ -23,7 +23,7 @@ fill most count unfinished bytes room is =
     ∙ sym (take-append-add unfinished bytes (most - length unfinished)) ∙ ap (λ n. take n (unfinished ++ bytes)) whole
 
 -- a beginning and more have the same beginning as all and more
-pub take-take_append : (most : ℕ) (xs ys : List ℕ) → take most (take most xs ++ ys) ≡ take most (xs ++ ys)
+pub take-take_append : {A : Type 0} (most : ℕ) (xs ys : List A) → take most (take most xs ++ ys) ≡ take most (xs ++ ys)
 take-take_append most xs ys =
     elim (cases_lt (length xs) most) [
       | inl less ↦ let low : length xs ≤ most = omega arith in ap (λ front. take most (front ++ ys)) (take_all most xs low)

@@ -8,8 +8,10 @@ use Rattle.std.proofs.lemmas.Slice.Eq.{bytes_eq-Decides}
 use Rattle.std.specs.Str.{bytes_eq}
 use Rattle.cdb_text.specs.declared.fault.LineFault.TheVariants.{Word}
 use Rattle.cdb_session.specs.Dialogues.{faulty_line_text, line_about, or_word_fault}
+use Rattle.cdb_session.specs.Due.{stands}
 use Rattle.cdb_session.specs.Requests.{help_line}
 use Rattle.cdb_session.specs.Topics.{topic_of, topic_word, topics}
+use Rattle.cdb_session.specs.declared.due.Due.TheVariants.{Command}
 use Rattle.cdb_session.specs.declared.topic.Topic.{Topic}
 use Rattle.cdb_session.specs.declared.topic.Topic.TheVariants as topic
 
@@ -38,6 +40,8 @@ its_topic (Some word) = elim word as (λ (t : Topic). topic_in (help_line (Some 
   | topic.Resume ↦ refl
   | topic.Show ↦ refl
   | topic.Decisions ↦ refl
+  | topic.Explain ↦ refl
+  | topic.Trail ↦ refl
   | topic.Help ↦ refl
   | topic.Quit ↦ refl
   | topic.Seat ↦ refl
@@ -55,7 +59,7 @@ found_is p (y ∷ xs) x e =
     ]
 
 -- a word that is read as a topic is its word
-topic_says : (word : List ℕ) (t : Topic) → topic_of word ≡ Some t → word ≡ topic_word t
+pub topic_says : (word : List ℕ) (t : Topic) → topic_of word ≡ Some t → word ≡ topic_word t
 unfolding topic_of
 topic_says word t e = (bytes_eq-Decides word (topic_word t)).0 (found_is (λ its. bytes_eq word (topic_word its)) topics t e)
 
@@ -84,10 +88,11 @@ one_more t lines i none within =
 
 -- ---- a word that no line is about
 
-pub fault_where_none : (line : ℕ) (text : List ℕ) → length text ≡ 0 → or_word_fault line text ≡ faulty_line_text line Word
-fault_where_none line [] none = refl
-fault_where_none line (byte ∷ text) none = absurd (omega (arith, none))
+pub fault_where_none : (line : ℕ) (topic : Topic) (text : List ℕ) → length text ≡ 0
+    → or_word_fault line topic text ≡ faulty_line_text line Word (stands Command (topic_word topic))
+fault_where_none line topic [] none = refl
+fault_where_none line topic (byte ∷ text) none = absurd (omega (arith, none))
 
-pub no_fault_where_some : (line : ℕ) (text : List ℕ) → 0 < length text → or_word_fault line text ≡ text
-no_fault_where_some line [] some = absurd (omega (arith, some))
-no_fault_where_some line (byte ∷ text) some = refl
+pub no_fault_where_some : (line : ℕ) (topic : Topic) (text : List ℕ) → 0 < length text → or_word_fault line topic text ≡ text
+no_fault_where_some line topic [] some = absurd (omega (arith, some))
+no_fault_where_some line topic (byte ∷ text) some = refl

@@ -1,5 +1,6 @@
 -- What one call adds to the journal of a control of one's own.
-use Rattle.std.proofs.Common.{◌≡◌, ◌↔◌, ℕ, ◌≤◌, List, [], ◌∷◌, ◌++◌, length, refl, sym, ap, subst, ◌∙◌}
+use Rattle.std.proofs.Common.{◌≡◌, ◌↔◌, ℕ, ◌≤◌, take, Vec, Global, List, [], ◌∷◌, ◌++◌, length, refl, sym, ap, subst, ◌∙◌, arith, length-append}
+use Rattle.std.proofs.lemmas.List.{take-append-le, take_all}
 use Rattle.std.specs.Prelude.{Result, Ok, Err, IfOk, OnErr}
 use Rattle.cdb_base.specs.Limits.{MAX_ENTRIES}
 use Rattle.cdb_commands.specs.ToldReply.{ToldReply, told}
@@ -15,14 +16,28 @@ use Rattle.cdb_control.proofs.Own.{Begins-refl, Begins-trans}
 use Rattle.cdb_rules.specs.Rules.{Rules}
 use Rattle.cdb_setup.specs.Parts.{Parts}
 use Rattle.cdb_session.specs.Alone.{all_replies_from, whole_part, IsLaterControl}
-use Rattle.cdb_session.specs.Styles.{Onward, stays, goes, IsCalled, MakesNone, Calls}
+use Rattle.cdb_session.specs.Styles.{Onward, stays, goes, GoesOn, IsCalled, MakesNone, Calls}
+use Rattle.cdb_session.specs.Answers.{run_left, AnswersNow}
+use Rattle.cdb_session.specs.declared.inquiry.Inquiry.{Inquiry}
+use Rattle.cdb_rules.specs.RunView.{RunView}
+use Rattle.cdb_session.proofs.GotReplies.{MakesNone-refl}
 
 pub all_replies-append : (rules : Rules) (t : State) (es fs : List Entry) → all_replies_from rules t (es ++ fs) ≡ all_replies_from rules t es ++ all_replies_from rules (replay_from rules t es) fs
 all_replies-append rules t [] fs = refl
 all_replies-append rules t (e ∷ es) fs = ap (λ (more : List ToldReply). reply_of rules t e.seat e.command ∷ more) (all_replies-append rules (obey rules t e.seat e.command) es fs)
 
 none_made : (rules : Parts → Rules) (old new : Journaled) → new ≡ old → MakesNone (whole_part rules old) (whole_part rules new)
-none_made rules old new same = subst (λ (c : Journaled). MakesNone (whole_part rules old) (whole_part rules c)) (sym same) (record { calls = refl; replies = refl; full = λ full. full })
+none_made rules old new same = subst (λ (c : Journaled). MakesNone (whole_part rules old) (whole_part rules c)) (sym same) (MakesNone-refl (whole_part rules old))
+
+-- the journal begins as before
+goes_on : (rules : Parts → Rules) (c : Journaled) (e : Entry) (rooms : List ℕ) → let more : Journaled = record c { journal = c.journal ++ e ∷ []; rooms = rooms } in GoesOn (whole_part rules c) (whole_part rules more)
+goes_on rules c e rooms =
+    record {
+      before = refl;
+      longer = omega (arith, length-append c.journal (e ∷ []));
+      calls_in = λ first few. refl;
+      left_by = λ first few. ap (run_left rules c.setup c.seats) (take-append-le first c.journal (e ∷ []) few);
+    }
 
 pub calls_made : (rules : Parts → Rules) (old new : Journaled) (seat : ℕ) (command : Command) (r : Result Reply CallFault) → IfOk r (λ reply. told reply ≡ reply_in rules old seat command) → IfOk r (λ reply. new ≡ extended rules old seat command) → OnErr r (new ≡ old)
     → ((r ≡ Err JournalFull) ↔ (length old.journal ≡ MAX_ENTRIES)) → Calls (whole_part rules old) (entry seat command) r (whole_part rules new)
@@ -30,6 +45,7 @@ unfolding replay
 calls_made rules old new seat command (Ok reply) is made same full =
     let more = extended rules old seat command in
     let one : IsCalled (whole_part rules old) (entry seat command) (told reply) (whole_part rules more) = record {
+      goes_on = goes_on rules old (entry seat command) more.rooms;
       calls = refl;
       replies = all_replies-append (rules old.setup) (first_control_state old.setup old.seats) old.journal (entry seat command ∷ []) ∙ ap (λ (last : ToldReply). all_replies_from (rules old.setup) (first_control_state old.setup old.seats) old.journal ++ last ∷ []) (sym is);
       room = λ none. (let e : Ok reply ≡ Err JournalFull = full.1 none in cc);

@@ -5,6 +5,8 @@ use Rattle.std.proofs.lemmas.Fmt.{decimal_digit}
 use Rattle.std.proofs.lemmas.List.{length-drop, nil_from_length}
 use Rattle.cdb_setup.specs.Parts.{IsWithin}
 use Rattle.cdb_session.specs.declared.topic.Topic.{Topic}
+use Rattle.cdb_session.specs.Inquiries.{IsInquiryLine}
+use Rattle.cdb_session.specs.declared.inquiry.Inquiry.{Inquiry}
 use Rattle.cdb_session.specs.Requests.{IsOwn, help_line, quit_line, seat_line, most_seats}
 
 -- such a line has one digit
@@ -38,7 +40,8 @@ module _ (line : List ℕ) (seat : ℕ) (within : IsWithin 1 most_seats seat) (i
   digit = ap (λ bytes. get_or bytes 5 0) whole
 
 -- a line that is none of these is not one of the session's own
-pub not_own : (line : List ℕ) → ((about : Option Topic) → ¬ (line ≡ help_line about)) → line ≢ quit_line → ((seat : ℕ) → IsWithin 1 most_seats seat → ¬ (line ≡ seat_line seat)) → ¬ IsOwn line
-not_own line help quit seat (inl is) = help is.0 is.1
-not_own line help quit seat (inr (inl is)) = quit is
-not_own line help quit seat (inr (inr is)) = seat is.0 is.1 is.2
+pub not_own : (line : List ℕ) → ((about : Option Topic) → ¬ (line ≡ help_line about)) → line ≢ quit_line → ((seat : ℕ) → IsWithin 1 most_seats seat → ¬ (line ≡ seat_line seat)) → ((inquiry : Inquiry) → ¬ IsInquiryLine inquiry line) → ¬ IsOwn line
+not_own line help quit seat inquiry (inl is) = help is.0 is.1
+not_own line help quit seat inquiry (inr (inl is)) = quit is
+not_own line help quit seat inquiry (inr (inr (inl is))) = seat is.0 is.1 is.2
+not_own line help quit seat inquiry (inr (inr (inr is))) = inquiry is.0 is.1

@@ -1,5 +1,5 @@
 -- What the code keeps for itself: a session over a control of its own.
-use Rattle.std.specs.Prelude.{◌≡◌, ◌≤◌, ℕ, true, List, [], ◌∷◌, length}
+use Rattle.std.specs.Prelude.{◌≡◌, ◌≤◌, ℕ, true, List, [], ◌∷◌, length, take}
 use Rattle.cdb_base.specs.Limits.{MAX_ENTRIES}
 use Rattle.cdb_commands.specs.ToldReply.{ToldReply}
 use Rattle.cdb_control.specs.Commands.{reply_of, obey}
@@ -8,6 +8,7 @@ use Rattle.cdb_control.specs.State.{State, first_control_state}
 use Rattle.cdb_control.specs.declared.control.Entry.{Entry}
 use Rattle.cdb_rules.specs.Rules.{Rules}
 use Rattle.cdb_setup.specs.Parts.{Parts}
+use Rattle.cdb_session.specs.Answers.{run_left}
 use Rattle.cdb_session.specs.Styles.{StyleView, Part, Seats}
 
 -- the replies to all entries, along the journal
@@ -22,7 +23,10 @@ whole_part rules c =
     record {
       calls = c.journal;
       replies = all_replies_from (rules c.setup) (first_control_state c.setup c.seats) c.journal;
+      before = 0;
       entries = length c.journal;
+      calls_in = λ first. first;
+      left_by = λ first. run_left rules c.setup c.seats (take first c.journal);
     }
 
 abbrev pub all_seats : Journaled → Seats
@@ -34,6 +38,12 @@ pub record IsLaterControl (old new : Journaled) : Type 0 where
   pub seats : new.seats ≡ old.seats
   pub begins : Begins old.journal new.journal
   pub few : length new.journal ≤ MAX_ENTRIES
+
+-- a control with this journal, whatever room there is
+pub record HasJournal (setup : Parts) (seats : ℕ) (entries : List Entry) (control : Journaled) : Type 0 where
+  pub setup_is : control.setup ≡ setup
+  pub seats_are : control.seats ≡ seats
+  pub entries_are : control.journal ≡ entries
 
 -- the style of a session whose lines choose one of nine seats
 abbrev pub nine : List ℕ → List ℕ → StyleView

@@ -4,6 +4,7 @@ use Rattle.cdb_base.specs.Limits.{MAX_SEATS}
 use Rattle.cdb_control.specs.Journal.{Journaled}
 use Rattle.cdb_control.specs.declared.control.Entry.{Entry}
 use Rattle.cdb_journal.specs.OpenedFrom.{IsFaultOfOpening, IsJournalOf, IsOpenedFrom}
+use Rattle.cdb_rules.specs.RunView.{RunView}
 use Rattle.cdb_rules.specs.Rules.{Rules}
 use Rattle.cdb_setup.specs.Format.{Encodes, longest}
 use Rattle.cdb_setup.specs.Order.{IsFirstFault}
@@ -14,6 +15,7 @@ use Rattle.cdb_streams.specs.declared.fault.PlayFault.{PlayFault}
 use Rattle.cdb_streams.specs.declared.fault.PlayFault.TheVariants as fault
 use Rattle.cdb_streams.specs.declared.script.ScriptFault.TheVariants as script
 use Rattle.cdb_session.specs.Greetings.{greeting_at, greeting_text}
+use Rattle.cdb_session.specs.declared.inquiry.Inquiry.{Inquiry}
 use Rattle.cdb_session.specs.Moves.{Known, Move, read_in, written_in, Makes}
 use Rattle.cdb_session.specs.Sessions.{IsSessionBy}
 use Rattle.cdb_session.specs.Table.{Session, begun, IsDialogue}
@@ -34,24 +36,24 @@ IsFaultOfBeginning json from seats (fault.ScriptTooLong number) =
 IsFaultOfBeginning json from seats (fault.NoMemory refused) = length json ≤ longest
 IsFaultOfBeginning json from seats other = ⊥
 
-module _ (greeting prompt : List ℕ) (start : Session) where
+module _ (Answers : RunView → Inquiry → List ℕ → Type 0) (greeting prompt : List ℕ) (start : Session) where
   -- the first of the lines have their responses in full, and the others not at all
   pub record IsCutShort (moves : List Move) : Type 0 where
     pub lines : List (List ℕ)
     pub others : List (List ℕ)
     pub begins : lines_of (read_in moves) ≡ lines ++ others
-    pub responded : IsDialogue greeting prompt start lines (written_in moves)
+    pub responded : IsDialogue Answers greeting prompt start lines (written_in moves)
 
   -- a session that has made these moves, and returned this
   abbrev pub IsSession : {A : Type 0} → Result A PlayFault → List Move → Type 0
-  IsSession returned moves = IsSessionBy (IsDialogue greeting prompt start) (IsDialogue greeting prompt start) IsCutShort returned moves
+  IsSession returned moves = IsSessionBy (IsDialogue Answers greeting prompt start) (IsDialogue Answers greeting prompt start) IsCutShort returned moves
 
-module _ (rules : Parts → Rules) (prompt json from : List ℕ) where
+module _ (rules : Parts → Rules) (Answers : RunView → Inquiry → List ℕ → Type 0) (prompt json from : List ℕ) where
   -- such a session on the setup that the text of JSON encodes, which goes on from the journal
   abbrev pub IsSessionOn : {A : Type 0} → Result A PlayFault → List Move → Type 0
   IsSessionOn returned moves =
       (setup : Parts) × (entries : List Entry) × Encodes json setup × IsJournalOf MAX_SEATS entries from
-      × IsSession (greeting_at prompt (greeting_text setup)) prompt (begun rules setup entries) returned moves
+      × IsSession Answers (greeting_at prompt (greeting_text setup)) prompt (begun rules setup entries) returned moves
 
   -- there was no session, and nothing was read or written
   abbrev pub IsNone : {A : Type 0} → Result A PlayFault → List Move → Type 0

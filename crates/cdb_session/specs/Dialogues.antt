@@ -9,7 +9,10 @@ use Rattle.cdb_streams.specs.FaultTexts.{as_line}
 use Rattle.cdb_text.specs.LineFaults.{line_fault_text}
 use Rattle.cdb_text.specs.declared.fault.LineFault.{LineFault}
 use Rattle.cdb_text.specs.declared.fault.LineFault.TheVariants.{Empty, Word}
-use Rattle.cdb_session.specs.Requests.{AreAsked}
+use Rattle.cdb_session.specs.Due.{Amiss, amiss_in, amiss_text, stands}
+use Rattle.cdb_session.specs.Exchanges.{Exchange}
+use Rattle.cdb_session.specs.FaultyLines.{FaultyLineView}
+use Rattle.cdb_session.specs.declared.due.Due.TheVariants.{Command}
 use Rattle.cdb_session.specs.Topics.{topic_word}
 use Rattle.cdb_session.specs.declared.help.TheConstants.{COMMANDS, SEATS, OTHERS}
 use Rattle.cdb_session.specs.declared.request.Request.{Request}
@@ -22,13 +25,22 @@ abbrev pub full_text : List ℕ
 full_text = as_line (call_fault_text JournalFull)
 
 -- `line L fault N Name`
-abbrev pub faulty_line_text : ℕ → LineFault → List ℕ
-faulty_line_text line fault = as_line (codes "line " ++ decimal line ++ codes " " ++ line_fault_text fault)
+abbrev pub fault_of_line_text : ℕ → LineFault → List ℕ
+fault_of_line_text line fault = codes "line " ++ decimal line ++ codes " " ++ line_fault_text fault
 
--- the response to a line with a fault: a line without words has none
-abbrev pub fault_response : ℕ → LineFault → List ℕ
-fault_response line Empty = []
-fault_response line fault = faulty_line_text line fault
+-- and what is amiss behind it
+abbrev pub faulty_line_text : ℕ → LineFault → Amiss → List ℕ
+faulty_line_text line fault amiss = as_line (fault_of_line_text line fault ++ amiss_text amiss)
+
+-- what is answered to a line of this number that has a fault: to one without words, nothing
+abbrev pub unless_empty : LineFault → List ℕ → List ℕ
+unless_empty Empty text = []
+unless_empty fault text = text
+
+-- the line may choose a seat, or may not
+abbrev pub fault_response : ℕ → Bool → FaultyLineView → List ℕ
+fault_response line chooses faulty =
+    unless_empty faulty.fault (faulty_line_text line faulty.fault (amiss_in chooses faulty.line))
 
 -- `line L too long`
 abbrev pub long_line_text : ℕ → List ℕ
@@ -54,14 +66,14 @@ unfoldable pub lines_about : Topic → List ℕ → List ℕ
 lines_about topic help = flat_map (line_about topic) (lines help)
 
 -- A word that no line is about is a wrong word, as `seat` where no line chooses one.
-abbrev pub or_word_fault : ℕ → List ℕ → List ℕ
-or_word_fault line [] = faulty_line_text line Word
-or_word_fault line (byte ∷ text) = byte ∷ text
+abbrev pub or_word_fault : ℕ → Topic → List ℕ → List ℕ
+or_word_fault line topic [] = faulty_line_text line Word (stands Command (topic_word topic))
+or_word_fault line topic (byte ∷ text) = byte ∷ text
 
 -- the response to a line of this number that asks for the help
 abbrev pub help_response : ℕ → Bool → Option Topic → List ℕ
 help_response line seats None = help_text seats
-help_response line seats (Some topic) = or_word_fault line (lines_about topic (help_text seats))
+help_response line seats (Some topic) = or_word_fault line topic (lines_about topic (help_text seats))
 
 -- ---- all lines
 
@@ -70,20 +82,15 @@ abbrev pub prompt_after : List ℕ → Request → List ℕ
 prompt_after prompt Quit = []
 prompt_after prompt request = prompt
 
--- a session of which this is the response to what a line asks for, and this the session after it
-module _ {S : Type 0} (respond : S → Request → List ℕ) (next : S → Request → S) (prompt : List ℕ) where
-  abbrev pub shown_by : S → Request → List ℕ
-  shown_by s request = respond s request ++ prompt_after prompt request
+-- a session of which this is the response at a line, and this the session after it
+module _ {S : Type 0} (respond : S → Exchange → List ℕ) (next : S → Exchange → S) (prompt : List ℕ) where
+  abbrev pub shown_by : S → Exchange → List ℕ
+  shown_by s exchange = respond s exchange ++ prompt_after prompt exchange.0
 
-  abbrev pub shown_from_by : S → List Request → List ℕ
+  abbrev pub shown_from_by : S → List Exchange → List ℕ
   shown_from_by s [] = []
-  shown_from_by s (request ∷ requests) = shown_by s request ++ shown_from_by (next s request) requests
+  shown_from_by s (exchange ∷ exchanges) = shown_by s exchange ++ shown_from_by (next s exchange) exchanges
 
-  -- all that is shown in a session from this start whose lines ask for this: the greeting stands before the first prompt
-  abbrev pub dialogue_by : List ℕ → S → List Request → List ℕ
-  dialogue_by greeting start requests = (greeting ++ prompt) ++ shown_from_by start requests
-
-  -- the text is what is shown in a session with these lines, of which it responds to those up to `quit`
-  abbrev pub IsDialogueBy : List ℕ → S → List (List ℕ) → List ℕ → Type 0
-  IsDialogueBy greeting start lines text = (requests : List Request) × AreAsked requests lines
-      × (text ≡ dialogue_by greeting start requests)
+  -- all that is shown in a session from this start, at these lines: the greeting stands before the first prompt
+  abbrev pub dialogue_by : List ℕ → S → List Exchange → List ℕ
+  dialogue_by greeting start exchanges = (greeting ++ prompt) ++ shown_from_by start exchanges

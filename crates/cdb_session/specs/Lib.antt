@@ -2,11 +2,16 @@
 pub mod Moves
 pub mod Topics
 pub mod Typed
+pub mod FaultyLines
+pub mod Due
+pub mod Inquiries
+pub mod Exchanges
 pub mod Requests
 pub mod Styles
 pub mod Dialogues
 pub mod Greetings
 pub mod Parts
+pub mod Answers
 pub mod Replies
 pub mod Table
 pub mod Sessions
@@ -16,6 +21,7 @@ pub mod Debugs
 pub mod Laws
 -- ---- what the code keeps for itself
 pub mod TypedWords
+pub mod InquiryWords
 pub mod Alone
 pub mod Lines
 pub mod Unfinished

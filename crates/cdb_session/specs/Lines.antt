@@ -4,8 +4,12 @@ use Rattle.std.specs.Global.{Global}
 use Rattle.cdb_commands.specs.ToldReply.{ToldReply}
 use Rattle.cdb_commands.specs.declared.command.Command.{Command}
 use Rattle.cdb_control.specs.Journal.{entry}
+use Rattle.cdb_rules.specs.RunView.{RunView}
+use Rattle.cdb_session.specs.Answers.{AnswersNow}
+use Rattle.cdb_session.specs.Exchanges.{Exchange}
+use Rattle.cdb_session.specs.declared.inquiry.Inquiry.{Inquiry}
 use Rattle.cdb_session.specs.declared.request.Request.{Request}
-use Rattle.cdb_session.specs.declared.request.Request.TheVariants.{Call}
+use Rattle.cdb_session.specs.declared.request.Request.TheVariants.{Call, Ask}
 use Rattle.cdb_session.specs.Styles.{StyleView, Part, IsFull, IsCalled, MakesNone}
 use Rattle.cdb_session.specs.Replies.{Along, response, shown}
 use Rattle.cdb_session.specs.declared.session.Session.{Session}
@@ -35,22 +39,28 @@ HasGot seat old request (reply ∷ []) new = (command : Command) × (request ≡
     × IsCalled old (entry seat command) reply new
 HasGot seat old request (reply ∷ other ∷ more) new = ⊥
 
--- what a line asks for was done, by this seat, with these replies, none or one
-pub record HasDone (seat : ℕ) (old : Part) (request : Request) (got : List ToldReply) (new : Part) : Type 0 where
-  pub calls : HasGot seat old request got new
-  pub full : FindsFull request got new
+module _ (Answers : RunView → Inquiry → List ℕ → Type 0) where
+  -- where the line asks something of the run, this answers it
+  abbrev pub IsAnsweredAt : Exchange → Part → Type 0
+  IsAnsweredAt exchange part = (inquiry : Inquiry) → exchange.0 ≡ Ask inquiry → AnswersNow Answers part inquiry exchange.1
 
-module _ (style : StyleView) where
-  -- The response to a line that asks for this. Out of memory it may have been done.
-  abbrev pub Responds : {E : Type 0} → Result (Vec ℕ Global) E → SessionView → Request → SessionView → Type 0
-  Responds (Ok text) old request new =
-      (got : List ToldReply) × HasDone old.seat old.part request got new.part
-      × (text.items ≡ response style (at_line old got) request)
-  Responds (Err fault) old request new = (got : List ToldReply) × HasGot old.seat old.part request got new.part
+  -- what a line asks for was done, by this seat, with these replies, none or one
+  pub record HasDone (seat : ℕ) (old : Part) (exchange : Exchange) (got : List ToldReply) (new : Part) : Type 0 where
+    pub calls : HasGot seat old exchange.0 got new
+    pub full : FindsFull exchange.0 got new
+    pub answer : IsAnsweredAt exchange new
 
-  -- what is shown then
-  abbrev pub Shows : {E : Type 0} → Result (Vec ℕ Global) E → SessionView → Request → SessionView → Type 0
-  Shows (Ok text) old request new =
-      (got : List ToldReply) × HasDone old.seat old.part request got new.part
-      × (text.items ≡ shown style (at_line old got) request)
-  Shows (Err fault) old request new = (got : List ToldReply) × HasGot old.seat old.part request got new.part
+  module _ (style : StyleView) where
+    -- The response to a line that asks for this. Out of memory it may have been done.
+    abbrev pub Responds : {E : Type 0} → Result (Vec ℕ Global) E → SessionView → Request → SessionView → Type 0
+    Responds (Ok text) old request new =
+        (answer : List ℕ) × (got : List ToldReply) × HasDone old.seat old.part (request, answer) got new.part
+        × (text.items ≡ response style (at_line old got) (request, answer))
+    Responds (Err fault) old request new = (got : List ToldReply) × HasGot old.seat old.part request got new.part
+
+    -- what is shown then
+    abbrev pub Shows : {E : Type 0} → Result (Vec ℕ Global) E → SessionView → Request → SessionView → Type 0
+    Shows (Ok text) old request new =
+        (answer : List ℕ) × (got : List ToldReply) × HasDone old.seat old.part (request, answer) got new.part
+        × (text.items ≡ shown style (at_line old got) (request, answer))
+    Shows (Err fault) old request new = (got : List ToldReply) × HasGot old.seat old.part request got new.part

@@ -5,11 +5,16 @@ use Rattle.cdb_text.specs.Texts.{text_of}
 use Rattle.cdb_text.specs.declared.fault.LineFault.TheVariants.{Word}
 use Rattle.cdb_session.specs.Dialogues.{full_text, faulty_line_text, fault_response, long_line_text, help_response, shown_by, shown_from_by}
 use Rattle.cdb_session.specs.Dialogues.{dialogue_by}
+use Rattle.cdb_session.specs.Due.{stands}
+use Rattle.cdb_session.specs.Exchanges.{Exchange}
 use Rattle.cdb_session.specs.Parts.{seat_next}
 use Rattle.cdb_session.specs.Requests.{seat_line}
 use Rattle.cdb_session.specs.Styles.{StyleView}
+use Rattle.cdb_session.specs.Topics.{topic_word}
+use Rattle.cdb_session.specs.declared.due.Due.TheVariants.{Command}
 use Rattle.cdb_session.specs.declared.request.Request.{Request}
-use Rattle.cdb_session.specs.declared.request.Request.TheVariants.{Call, Seat, Help, Quit, Fault, TooLong}
+use Rattle.cdb_session.specs.declared.request.Request.TheVariants.{Call, Ask, Seat, Help, Quit, Fault, TooLong}
+use Rattle.cdb_session.specs.declared.topic.Topic.TheVariants as topic
 
 -- A session between two lines: its seat, the replies to the commands that follow, and how many lines there were.
 pub record Along : Type 0 where
@@ -30,6 +35,7 @@ next_replies (reply ∷ replies) = replies
 -- the replies that are left then
 abbrev pub replies_after : List ToldReply → Request → List ToldReply
 replies_after replies (Call command) = next_replies replies
+replies_after replies (Ask inquiry) = replies
 replies_after replies (Seat seat) = replies
 replies_after replies (Help about) = replies
 replies_after replies Quit = replies
@@ -41,46 +47,50 @@ module _ (style : StyleView) where
   abbrev pub begun_along : List ToldReply → Along
   begun_along replies = record { seat = style.first; replies = replies; lines = 0 }
 
-  -- the response to a line that asks for no command, after this many lines
+  -- the response to a line that asks for no command and nothing of the run, after this many lines
   abbrev pub own_response : ℕ → Request → List ℕ
   own_response lines (Call command) = []
+  own_response lines (Ask inquiry) = []
   own_response lines (Seat seat) =
-      if style.chooses then (seat_line seat ++ codes "\n") else faulty_line_text (lines + 1) Word
+      if style.chooses
+      then (seat_line seat ++ codes "\n")
+      else faulty_line_text (lines + 1) Word (stands Command (topic_word topic.Seat))
   own_response lines (Help about) = help_response (lines + 1) style.chooses about
   own_response lines Quit = []
-  own_response lines (Fault fault) = fault_response (lines + 1) fault
+  own_response lines (Fault faulty) = fault_response (lines + 1) style.chooses faulty
   own_response lines TooLong = long_line_text (lines + 1)
 
-  -- The response to what a line asks for. Where no line chooses a seat, one that does has a wrong word.
-  abbrev pub response : Along → Request → List ℕ
-  response s (Call command) = reply_text s.replies
-  response s (Seat seat) = own_response s.lines (Seat seat)
-  response s (Help about) = own_response s.lines (Help about)
-  response s Quit = []
-  response s (Fault fault) = own_response s.lines (Fault fault)
-  response s TooLong = own_response s.lines TooLong
+  -- The response at a line. Where no line chooses a seat, one that does has a wrong word.
+  abbrev pub response : Along → Exchange → List ℕ
+  response s (Call command, answer) = reply_text s.replies
+  response s (Ask inquiry, answer) = answer
+  response s (Seat seat, answer) = own_response s.lines (Seat seat)
+  response s (Help about, answer) = own_response s.lines (Help about)
+  response s (Quit, answer) = []
+  response s (Fault fault, answer) = own_response s.lines (Fault fault)
+  response s (TooLong, answer) = own_response s.lines TooLong
 
-  -- the session after a line that asks for this
-  abbrev pub next_along : Along → Request → Along
-  next_along s request =
+  -- the session after the line
+  abbrev pub next_along : Along → Exchange → Along
+  next_along s exchange =
       record {
-        seat = seat_next style.chooses s.seat request;
-        replies = replies_after s.replies request;
+        seat = seat_next style.chooses s.seat exchange.0;
+        replies = replies_after s.replies exchange.0;
         lines = s.lines + 1;
       }
 
   -- ---- all lines
 
-  abbrev pub shown : Along → Request → List ℕ
-  shown s request = shown_by response next_along style.prompt s request
+  abbrev pub shown : Along → Exchange → List ℕ
+  shown s exchange = shown_by response next_along style.prompt s exchange
 
-  abbrev pub shown_from : Along → List Request → List ℕ
-  shown_from s requests = shown_from_by response next_along style.prompt s requests
+  abbrev pub shown_from : Along → List Exchange → List ℕ
+  shown_from s exchanges = shown_from_by response next_along style.prompt s exchanges
 
-  -- all that is shown in a session whose commands get these replies, and whose lines ask for this
-  abbrev pub dialogue : List ToldReply → List Request → List ℕ
-  dialogue replies requests = dialogue_by response next_along style.prompt style.greeting (begun_along replies) requests
+  -- all that is shown in a session whose commands get these replies, at these lines
+  abbrev pub dialogue : List ToldReply → List Exchange → List ℕ
+  dialogue replies exchanges = dialogue_by response next_along style.prompt style.greeting (begun_along replies) exchanges
 
-  -- the session after these requests
-  abbrev pub along_after : Along → List Request → Along
-  along_after s requests = fold next_along s requests
+  -- the session after these lines
+  abbrev pub along_after : Along → List Exchange → Along
+  along_after s exchanges = fold next_along s exchanges

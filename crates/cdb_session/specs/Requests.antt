@@ -8,11 +8,14 @@ use Rattle.cdb_setup.specs.Format.{longest}
 use Rattle.cdb_setup.specs.Parts.{IsWithin}
 use Rattle.cdb_text.specs.Faults.{IsFaultOf}
 use Rattle.cdb_text.specs.Grammar.{IsLineOf}
+use Rattle.cdb_session.specs.Exchanges.{Exchange}
+use Rattle.cdb_session.specs.Inquiries.{IsInquiryLine}
 use Rattle.cdb_session.specs.Topics.{topic_word}
 use Rattle.cdb_session.specs.Typed.{line_meant}
+use Rattle.cdb_session.specs.declared.inquiry.Inquiry.{Inquiry}
 use Rattle.cdb_session.specs.declared.topic.Topic.{Topic}
 use Rattle.cdb_session.specs.declared.request.Request.{Request}
-use Rattle.cdb_session.specs.declared.request.Request.TheVariants.{Call, Seat, Help, Quit, Fault, TooLong}
+use Rattle.cdb_session.specs.declared.request.Request.TheVariants.{Call, Ask, Seat, Help, Quit, Fault, TooLong}
 
 -- how many seats a session has, numbered from 1
 abbrev pub most_seats : ℕ
@@ -41,17 +44,21 @@ seat_line seat = codes "seat " ++ decimal seat
 -- the line is one of these
 abbrev pub IsOwn : List ℕ → Type 0
 IsOwn line =
-    ((about : Option Topic) × (line ≡ help_line about)) ⊎ ((line ≡ quit_line) ⊎ ((seat : ℕ) × IsWithin 1 most_seats seat × (line ≡ seat_line seat)))
+    ((about : Option Topic) × (line ≡ help_line about))
+    ⊎ ((line ≡ quit_line)
+    ⊎ (((seat : ℕ) × IsWithin 1 most_seats seat × (line ≡ seat_line seat))
+    ⊎ ((inquiry : Inquiry) × IsInquiryLine inquiry line)))
 
 -- ---- what a line asks for
 
 -- What a line that is not too long asks for: one of these, a command, or nothing, and then it has a fault.
 abbrev pub Means : Request → List ℕ → Type 0
 Means (Call command) line = (¬ IsOwn line) × IsLineOf command line
+Means (Ask inquiry) line = IsInquiryLine inquiry line
 Means (Seat seat) line = IsWithin 1 most_seats seat × (line ≡ seat_line seat)
 Means (Help about) line = line ≡ help_line about
 Means Quit line = line ≡ quit_line
-Means (Fault fault) line = (¬ IsOwn line) × IsFaultOf fault line
+Means (Fault faulty) line = (¬ IsOwn line) × IsFaultOf faulty.fault line × (faulty.line ≡ line)
 Means TooLong line = ⊥
 
 -- What a line asks for that stands for itself. One that is longer than a script can be is too long, whatever it is.
@@ -60,8 +67,8 @@ AsksFor TooLong line = longest < length line
 AsksFor request line = (length line ≤ longest) × Means request line
 
 -- What a line asks for, as it is typed.
-abbrev pub Asks : Request → List ℕ → Type 0
-Asks request line = AsksFor request (line_meant line)
+abbrev pub Asks : Exchange → List ℕ → Type 0
+Asks exchange line = AsksFor exchange.0 (line_meant line)
 
 -- the line is `quit`, as it is typed
 abbrev pub IsQuit : List ℕ → Type 0
@@ -78,8 +85,8 @@ HaveQuit lines =
     (before others : List (List ℕ)) × (line : List ℕ) × (lines ≡ before ++ line ∷ others) × IsQuit line
 
 -- what the lines up to `quit` ask for, one after the other
-abbrev pub AreAsked : List Request → List (List ℕ) → Type 0
-AreAsked requests lines = AllZip Asks requests (up_to_quit lines)
+abbrev pub AreAsked : List Exchange → List (List ℕ) → Type 0
+AreAsked exchanges lines = AllZip Asks exchanges (up_to_quit lines)
 
 -- no byte ends a line
 abbrev pub HasNoEnd : List ℕ → Type 0

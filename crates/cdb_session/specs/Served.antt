@@ -3,26 +3,28 @@ use Rattle.std.specs.Prelude.{◌≡◌, ℕ, ◌≤◌, List, ◌++◌, length,
 use Rattle.cdb_streams.specs.Lines.{lines_of}
 use Rattle.cdb_streams.specs.declared.fault.PlayFault.{PlayFault}
 use Rattle.cdb_session.specs.Moves.{Known, Move, Makes, read_in, written_in}
-use Rattle.cdb_session.specs.Parts.{HasCommands, HasCommandsOf}
+use Rattle.cdb_rules.specs.RunView.{RunView}
+use Rattle.cdb_session.specs.Answers.{HasExchanges, HasExchangesOf}
+use Rattle.cdb_session.specs.Exchanges.{Exchange}
 use Rattle.cdb_session.specs.Replies.{dialogue}
 use Rattle.cdb_session.specs.Requests.{AreAsked}
 use Rattle.cdb_session.specs.Sessions.{IsSessionBy}
 use Rattle.cdb_session.specs.Styles.{StyleView, Part}
-use Rattle.cdb_session.specs.declared.request.Request.{Request}
+use Rattle.cdb_session.specs.declared.inquiry.Inquiry.{Inquiry}
 
-module _ (style : StyleView) (part : Part) where
-  -- the text has the replies to the commands of these lines, which the journal has, and after them maybe those of
-  -- further lines
+module _ (Answers : RunView → Inquiry → List ℕ → Type 0) (style : StyleView) (part : Part) where
+  -- the text has the responses to these lines, whose commands the journal has, and after them maybe those of further
+  -- lines
   abbrev pub IsAnswered : List (List ℕ) → List ℕ → Type 0
   IsAnswered lines text =
-      (requests others : List Request) × AreAsked requests lines × (text ≡ dialogue style part.replies requests)
-      × HasCommands style part (requests ++ others)
+      (exchanges others : List Exchange) × AreAsked exchanges lines × (text ≡ dialogue style part.replies exchanges)
+      × HasExchanges Answers style part (exchanges ++ others)
 
   -- so it is, without further ones
   abbrev pub IsServed : List (List ℕ) → List ℕ → Type 0
   IsServed lines text =
-      (requests : List Request) × AreAsked requests lines × (text ≡ dialogue style part.replies requests)
-      × HasCommands style part requests
+      (exchanges : List Exchange) × AreAsked exchanges lines × (text ≡ dialogue style part.replies exchanges)
+      × HasExchanges Answers style part exchanges
 
   -- The first of the lines have their responses in full, and the others not at all. The journal has the commands of the
   -- first lines, and maybe that of the next line too.
@@ -33,7 +35,7 @@ module _ (style : StyleView) (part : Part) where
     pub begins : lines_of (read_in moves) ≡ (lines ++ next) ++ others
     pub one : length next ≤ 1
     pub responded : IsAnswered lines (written_in moves)
-    pub commands : HasCommandsOf style part (lines ++ next)
+    pub commands : HasExchangesOf Answers style part (lines ++ next)
 
   -- a session that has made these moves, and returned this
   abbrev pub IsSession : {A : Type 0} → Result A PlayFault → List Move → Type 0

@@ -6,6 +6,7 @@ use Rattle.cdb_commands.specs.declared.reply.Reply.{Reply}
 use Rattle.cdb_control.specs.declared.control.CallFault.{CallFault}
 use Rattle.cdb_control.specs.declared.control.CallFault.TheVariants.{JournalFull, NoMemory}
 use Rattle.cdb_control.specs.declared.control.Entry.{Entry}
+use Rattle.cdb_rules.specs.RunView.{RunView}
 use Rattle.cdb_session.specs.Requests.{most_seats}
 use Rattle.cdb_setup.specs.Parts.{IsWithin}
 
@@ -20,24 +21,37 @@ pub record StyleView : Type 0 where
 abbrev pub prompt_at : Bool → ℕ → List ℕ → List ℕ
 prompt_at numbered seat prompt = if numbered then (decimal seat ++ prompt) else prompt
 
--- What a journal has of a session: its entries, in order; the replies to them, each at its position in the journal; and
--- how many entries the journal has in all.
+-- What a journal has of a session: its entries, in order; the replies to them, each at its position in the journal; how
+-- many entries the journal had before the session, and how many it has in all; and of so many of its first entries how many
+-- are of the session, and the run that they leave.
 pub record Part : Type 0 where
   pub calls : List Entry
   pub replies : List ToldReply
+  pub before : ℕ
   pub entries : ℕ
+  pub calls_in : ℕ → ℕ
+  pub left_by : ℕ → RunView
 
 abbrev pub IsFull : Part → Type 0
 IsFull part = part.entries ≡ MAX_ENTRIES
 
+-- the journal begins as before
+pub record GoesOn (old new : Part) : Type 0 where
+  pub before : new.before ≡ old.before
+  pub longer : old.entries ≤ new.entries
+  pub calls_in : (first : ℕ) → first ≤ old.entries → new.calls_in first ≡ old.calls_in first
+  pub left_by : (first : ℕ) → first ≤ old.entries → new.left_by first ≡ old.left_by first
+
 -- the session made this entry, and got this reply
 pub record IsCalled (old : Part) (one : Entry) (reply : ToldReply) (new : Part) : Type 0 where
+  pub goes_on : GoesOn old new
   pub calls : new.calls ≡ old.calls ++ one ∷ []
   pub replies : new.replies ≡ old.replies ++ reply ∷ []
   pub room : ¬ IsFull old
 
 -- the session made no entry
 pub record MakesNone (old new : Part) : Type 0 where
+  pub goes_on : GoesOn old new
   pub calls : new.calls ≡ old.calls
   pub replies : new.replies ≡ old.replies
   pub full : IsFull old → IsFull new

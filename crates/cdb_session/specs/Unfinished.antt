@@ -3,9 +3,14 @@ use Rattle.std.specs.Prelude.{◌≡◌, ◌⊎◌, ℕ, ◌+◌, ◌≤◌, Boo
 use Rattle.std.specs.Prelude.{Err, IsTrue, ◌↔◌}
 use Rattle.std.specs.List.{AllZip, AllByRecursion, flat_map}
 use Rattle.cdb_commands.specs.ToldReply.{ToldReply}
-use Rattle.cdb_session.specs.Requests.{HasNoEnd, Asks, IsQuit}
+use Rattle.cdb_session.specs.Requests.{HasNoEnd, Asks, AsksFor, IsQuit}
+use Rattle.cdb_session.specs.Typed.{line_meant}
 use Rattle.cdb_session.specs.Moves.{Known, Move, read_in, written_in, AreWrites, FailsToWrite, EndsWith, FindsTheEnd}
 use Rattle.cdb_session.specs.Moves.{Makes}
+use Rattle.cdb_rules.specs.RunView.{RunView}
+use Rattle.cdb_session.specs.Answers.{HasExchanges}
+use Rattle.cdb_session.specs.Exchanges.{Exchange}
+use Rattle.cdb_session.specs.declared.inquiry.Inquiry.{Inquiry}
 use Rattle.cdb_session.specs.declared.request.Request.{Request}
 use Rattle.cdb_session.specs.declared.request.Request.TheVariants.{Quit}
 use Rattle.cdb_streams.specs.declared.buffer.OutputFault.{OutputFault}
@@ -16,7 +21,7 @@ use Rattle.cdb_setup.specs.Format.{longest}
 use Rattle.cdb_session.specs.Styles.{StyleView, Part, IsFull}
 use Rattle.cdb_session.specs.Replies.{Along, begun_along, along_after, shown, dialogue}
 use Rattle.cdb_session.specs.Lines.{SessionView, HasDone, HasGot, at_line}
-use Rattle.cdb_session.specs.Parts.{seat_next, HasCommands}
+use Rattle.cdb_session.specs.Parts.{seat_next}
 use Rattle.cdb_session.specs.Served.{IsAnswered, IsSession}
 use Rattle.cdb_session.specs.Sessions.{most_input, RespondsInTime}
 
@@ -41,18 +46,18 @@ IsOver moves = FindsTheEnd moves ⊎ (most_input ≤ length (read_in moves))
 
 -- a part with these replies
 abbrev pub part_with : List ToldReply → Part → Part
-part_with replies part = record { calls = part.calls; replies = replies; entries = part.entries }
+part_with replies part = record part { replies = replies }
 
 -- more replies may follow, unless the journal is full
 abbrev pub MoreMayFollow : List ToldReply → Part → Type 0
 MoreMayFollow more part = IsFull part → more ≡ []
 
-module _ (style : StyleView) where
+module _ (Answers : RunView → Inquiry → List ℕ → Type 0) (style : StyleView) where
   -- so far the session has responded in time, whatever its journal will have of it beside these commands
-  abbrev pub RespondsOnTime : List ToldReply → List Request → List Move → Type 0
-  RespondsOnTime replies requests moves =
-      (final : Part) (others : List Request) → HasCommands style final (requests ++ others)
-      → RespondsInTime (IsAnswered style (part_with replies final)) moves
+  abbrev pub RespondsOnTime : List ToldReply → List Exchange → List Move → Type 0
+  RespondsOnTime replies exchanges moves =
+      (final : Part) (others : List Exchange) → HasExchanges Answers style final (exchanges ++ others)
+      → RespondsInTime (IsAnswered Answers style (part_with replies final)) moves
 
   -- After these moves the lines that have ended have their responses, with these of the replies. Of the next line this
   -- much is held, and these bytes that were read are not yet looked at.
@@ -60,18 +65,18 @@ module _ (style : StyleView) where
       (unfinished left : List ℕ) : Type 0 where
     pub lines : List (List ℕ)
     pub line : List ℕ
-    pub requests : List Request
+    pub exchanges : List Exchange
     pub read : read_in moves ≡ with_ends lines ++ (line ++ left)
     pub ended : AllByRecursion HasNoEnd lines
     pub unended : HasNoEnd line
     pub unfinished_is : unfinished ≡ unfinished_of line
-    pub asked : AllZip Asks requests lines
+    pub asked : AllZip Asks exchanges lines
     pub goes_on : AllByRecursion (λ line. ¬ IsQuit line) lines
-    pub written : written_in moves ≡ dialogue style replies requests
-    pub along_is : along ≡ along_after style (begun_along style replies) requests
+    pub written : written_in moves ≡ dialogue style replies exchanges
+    pub along_is : along ≡ along_after style (begun_along style replies) exchanges
     pub few : along.lines + length left ≤ length (read_in moves)
-    pub commands : HasCommands style part requests
-    pub in_time : RespondsOnTime replies requests moves
+    pub commands : HasExchanges Answers style part exchanges
+    pub in_time : RespondsOnTime replies exchanges moves
 
   -- so it is whatever replies will follow
   abbrev pub StaysAt : List Move → SessionView → List ℕ → List ℕ → Type 0
@@ -82,32 +87,32 @@ module _ (style : StyleView) where
   -- what a line asks for was done, with the response to it; it was `quit` where this is true
   pub record IsLineDone (old new : SessionView) (unfinished left : List ℕ) (was_quit : Bool)
       (made : List Move) : Type 0 where
-    pub request : Request
-    pub asks : Asks request unfinished
+    pub exchange : Exchange
+    pub asks : Asks exchange unfinished
     pub writes : AreWrites made
     pub got : List ToldReply
-    pub done : HasDone old.seat old.part request got new.part
-    pub written : written_in made ≡ shown style (at_line old got) request
+    pub done : HasDone Answers old.seat old.part exchange got new.part
+    pub written : written_in made ≡ shown style (at_line old got) exchange
     pub lines : new.lines ≡ old.lines + 1
-    pub seat : new.seat ≡ seat_next style.chooses old.seat request
+    pub seat : new.seat ≡ seat_next style.chooses old.seat exchange.0
     pub emptied : left ≡ []
-    pub quit_exactly : IsTrue was_quit ↔ (request ≡ Quit)
+    pub quit_exactly : IsTrue was_quit ↔ (exchange.0 ≡ Quit)
 
   -- a beginning of the response was written
   pub record IsLineBroken (old new : SessionView) (unfinished : List ℕ) (made : List Move) : Type 0 where
-    pub request : Request
-    pub asks : Asks request unfinished
+    pub exchange : Exchange
+    pub asks : Asks exchange unfinished
     pub writes : AreWrites made
     pub got : List ToldReply
-    pub done : HasDone old.seat old.part request got new.part
+    pub done : HasDone Answers old.seat old.part exchange got new.part
     pub missing : List ℕ
-    pub written : shown style (at_line old got) request ≡ written_in made ++ missing
+    pub written : shown style (at_line old got) exchange ≡ written_in made ++ missing
     pub fails : EndsWith FailsToWrite made
 
   -- what the line asks for may have been done
   pub record IsRequestLost (old new : SessionView) (unfinished : List ℕ) : Type 0 where
     pub request : Request
-    pub asks : Asks request unfinished
+    pub asks : AsksFor request (line_meant unfinished)
     pub got : List ToldReply
     pub done : HasGot old.seat old.part request got new.part
 
@@ -129,7 +134,7 @@ module _ (style : StyleView) where
 
   -- the session has ended, and returns this
   abbrev pub HasEndedAs : Result (Unit {0}) PlayFault → List Move → SessionView → Type 0
-  HasEndedAs returned moves session = IsSession style session.part returned moves
+  HasEndedAs returned moves session = IsSession Answers style session.part returned moves
 
   -- where a session has come to that was at some bytes to be looked at: behind them, or at its end
   abbrev pub HasComeTo : Result Bool OutputFault → List Move → SessionView → List ℕ → Type 0

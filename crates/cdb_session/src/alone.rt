@@ -4,11 +4,14 @@ ghost use Rattle.std.specs.Prelude.{◌≤◌, IfOk, IfErr};
 ghost use Rattle.cdb_base.specs.Limits.{MAX_SEATS};
 ghost use Rattle.cdb_session.specs.Debugs.{Debugs, IsBegun, IsFaultOfBeginning};
 
+use crate::answers::{Answers, answer_in};
 use crate::caller::Caller;
 use crate::console::Console;
 use crate::greeting::{greeting_at, greeting_text};
+use crate::inquiry::Inquiry;
 use crate::repl::run;
 use crate::style::Style;
+use cdb_base::NoMemory;
 use cdb_base::limits::MAX_SEATS;
 use cdb_control::{CallFault, Command, Control, Reply};
 use cdb_journal::open_from;
@@ -16,18 +19,40 @@ use cdb_rules::Runs;
 use cdb_setup::Setup;
 use cdb_streams::PlayFault;
 use std::alloc::Global;
+use std::marker::{Model, PhantomData};
 
-impl<R: Runs> Caller for Control<R> {
+/// A control of a session's own, and who answers what is asked of its run.
+#[derive(Drop)]
+struct OwnControl<R: Runs, A> {
+    control: Control<R>,
+    answers: PhantomData<A>,
+}
+
+impl<R: Runs, A> Model for OwnControl<R, A> {
+    ghost use Rattle.cdb_control.specs.Journal.{Journaled};
+
+    ghost Value = { Journaled };
+
+    ghost view = { λ own. own.control };
+}
+
+impl<R: Runs, A: Answers<R>> Caller for OwnControl<R, A> {
     ghost use Rattle.cdb_session.specs.Alone.{whole_part, all_seats, IsLaterControl};
 
     ghost part = { λ c. whole_part R.rules c };
 
     ghost seats = { all_seats };
 
+    ghost answers = { A.answers };
+
     ghost later = { IsLaterControl };
 
     fn call(&mut self, alloc: Global, seat: u8, command: Command) -> Result<Reply, CallFault> {
-        self.execute(alloc, seat, command)
+        self.control.execute(alloc, seat, command)
+    }
+
+    fn ask(&mut self, alloc: Global, inquiry: Inquiry) -> Result<Vec<u8>, NoMemory> {
+        answer_in::<R, A>(alloc, &self.control, inquiry)
     }
 }
 
@@ -55,9 +80,10 @@ pub fn begin<R: Runs>(
 }
 
 /// A session on a run of the setup, which goes on from a journal of whichever seats; one without bytes has no entries.
-/// Each line has its response before more input is asked for: a command of
-/// the seat that the session is at, `help`, `seat S`, or `quit`, which ends it; a line that is none of these has its
-/// fault. The prompt is shown before each line, and the setup in words before the first prompt; where the prompt has no
+/// Each line has its response before more input is asked for: a command of the seat that the session is at,
+/// `explain P [K]` and `trail P [K]`, which ask something of the run and make no entry, `help`, `seat S`, or `quit`,
+/// which ends it; a line that is none of these has its fault. The prompt is shown before each line, and the setup in
+/// words before the first prompt; where the prompt has no
 /// bytes, neither is. The end of the input, which is asked for once, ends the session too,
 /// and so do 2^63 bytes.
 ///
@@ -68,17 +94,18 @@ pub fn begin<R: Runs>(
 ///
 /// Promise: Whenever a session asks for more input, all lines that it was given so far have their responses in full,
 /// none of them was `quit`, and the input was not at its end. At the end it has written exactly the dialogue of all
-/// that was read, and has ended at `quit`, at the end of the input, which is asked for once, or after 2^63 bytes. After
-/// a failed read each line that had ended has its response; after a failed write what was written is a beginning of the
-/// responses; after out of memory it is the responses to the first of the lines.
-pub fn debug<R: Runs, T: Console>(
+/// that was read, and has ended at `quit`, at the end of the input, which is asked for once, or after 2^63 bytes. What
+/// a line asks of the run is answered of the one that the commands before it have led to. After a failed read each line
+/// that had ended has its response; after a failed write what was written is a beginning of the responses; after out of
+/// memory it is the responses to the first of the lines.
+pub fn debug<R: Runs, A: Answers<R>, T: Console>(
     alloc: Global,
     setup: &[u8],
     from: &[u8],
     prompt: &[u8],
     console: &mut T,
 ) -> Result<(), PlayFault>
-    ensures { Debugs R.rules prompt.now setup.now from.now result
+    ensures { Debugs R.rules A.answers prompt.now setup.now from.now result
         (T.known console.old) (T.known console.new) }
 {
     let begun = begin::<R>(alloc, setup, from, MAX_SEATS)?;
@@ -90,7 +117,12 @@ pub fn debug<R: Runs, T: Console>(
         first: 1,
         chooses: true,
     };
-    let (control, outcome) = run(alloc, &style, control, console);
+    let own = OwnControl::<R, A> {
+        control,
+        answers: PhantomData,
+    };
+    let (own, outcome) = run(alloc, &style, own, console);
+    let OwnControl { control, .. } = own;
     control.close();
     outcome
 }

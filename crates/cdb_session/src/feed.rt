@@ -8,7 +8,7 @@ ghost use Rattle.cdb_setup.specs.Format.{longest};
 
 use crate::caller::Caller;
 use crate::console::{Console, write_all};
-use crate::request::{Request, request_of};
+use crate::request::request_of;
 use crate::session::Session;
 use crate::style::Style;
 use crate::typed::line_meant;
@@ -26,7 +26,7 @@ pub(crate) fn respond_to_line<C: Caller, T: Console>(
 ) -> Result<bool, OutputFault>
     requires sits { MaySit style.now (C.seats session.old.caller) session.old.seat }
     requires lines { session.old.lines < 2 ^ 64 - 1 }
-    ensures unfinished { RespondsToLine style.now result (T.known console.old) (T.known console.new)
+    ensures unfinished { RespondsToLine C.answers style.now result (T.known console.old) (T.known console.new)
         (seen_by C.part session.old) (seen_by C.part session.new)
         unfinished.old.items unfinished.new.items }
     ensures sits { MaySit style.now (C.seats session.new.caller) session.new.seat }
@@ -34,10 +34,10 @@ pub(crate) fn respond_to_line<C: Caller, T: Console>(
 {
     let line = line_meant(alloc, unfinished.as_slice())?;
     let request = request_of(line.as_slice());
-    let text = session.show(alloc, style, request)?;
+    let text = session.show(alloc, style, &request)?;
     write_all(console, text.as_slice())?;
     unfinished.clear();
-    Ok(request == Request::Quit)
+    Ok(request.is_quit())
 }
 
 /// Answers each line that ends in these bytes, up to `quit`, and holds what follows the last. Returns whether one was
@@ -53,7 +53,7 @@ pub(crate) fn feed<C: Caller, T: Console>(
     requires sits { MaySit style.now (C.seats session.old.caller) session.old.seat }
     requires lines { session.old.lines + length bytes.now < 2 ^ 64 }
     requires unfinished { length unfinished.old.items ≤ longest + 1 }
-    ensures feeds { Feeds style.now result (T.known console.old) (T.known console.new)
+    ensures feeds { Feeds C.answers style.now result (T.known console.old) (T.known console.new)
         (seen_by C.part session.old) (seen_by C.part session.new)
         unfinished.old.items unfinished.new.items bytes.now }
     ensures unfinished { OnOk result (length unfinished.new.items ≤ longest + 1) }

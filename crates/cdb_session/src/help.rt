@@ -5,9 +5,8 @@ ghost use Rattle.std.specs.Str.Lines.{lines};
 ghost use Rattle.cdb_session.specs.Dialogues.{first_word, help_text, line_about, lines_about, or_word_fault, seats_help};
 ghost use Rattle.cdb_text.specs.Pushes.{Pushes};
 
-use crate::response::push_fault;
+use crate::response::push_no_command;
 use crate::topic::Topic;
-use cdb_text::LineFault;
 use std::alloc::{AllocError, Global};
 
 /// The commands, as `help` lists them. `revdbg --help` lists the same.
@@ -46,7 +45,10 @@ pub const COMMANDS: &str =
 pub const SEATS: &str = "  seat 1 .. seat 9      makes the lines after it those of that seat\n";
 
 /// The other lines that a session takes.
-pub const OTHERS: &str = "  help                  lists the commands
+pub const OTHERS: &str =
+    "  explain P [K]         prints what led to step K of P, or to its last step
+  trail P [K]           prints how a value came to that step
+  help                  lists the commands
   help WORD             lists the lines that begin with WORD
   quit                  ends the session
 ";
@@ -107,11 +109,11 @@ fn push_lines_about(
 }
 
 /// Adds what the help says about a word, or a fault of the line of this number where it says nothing.
-fn push_or_fault(text: &mut String, line: u64, about: &str) -> Result<(), AllocError>
-    ensures { Pushes result text.old text.new (or_word_fault line about.now) }
+fn push_or_fault(text: &mut String, line: u64, topic: Topic, about: &str) -> Result<(), AllocError>
+    ensures { Pushes result text.old text.new (or_word_fault line topic about.now) }
 {
     if about.is_empty() {
-        return push_fault(text, line, LineFault::Word);
+        return push_no_command(text, line, topic.word());
     }
     text.push_str(about)
 }
@@ -125,12 +127,12 @@ pub(crate) fn push_about(
     topic: Topic,
 ) -> Result<(), AllocError>
     ensures { Pushes result text.old text.new
-        (or_word_fault line (lines_about topic (help_text seats))) }
+        (or_word_fault line topic (lines_about topic (help_text seats))) }
 {
     let (mut help, mut about) = (String::new(alloc), String::new(alloc));
     push_help(&mut help, seats)?;
     push_lines_about(alloc, &mut about, help.as_str(), topic)?;
-    push_or_fault(text, line, about.as_str())
+    push_or_fault(text, line, topic, about.as_str())
 }
 
 /// Adds what `help` lists, with the line that chooses a seat or without it. Only out of memory is an error.

@@ -1,6 +1,6 @@
 //! Laws of sessions. Each function does nothing: its contract is the law.
 
-ghost use Rattle.cdb_session.specs.Laws.{JournalHasTheCommands, ExactLinesStand};
+ghost use Rattle.cdb_session.specs.Laws.{JournalHasTheCommands, ExactLinesStand, SoundLinesAreTaken};
 
 /// The journal of a session has the commands of its lines, in order and each once, with the seat that was chosen last;
 /// the other lines add nothing to it.
@@ -14,4 +14,10 @@ pub fn journal_has_the_commands()
 #[tactic(auto, using(crate::proofs::ExactLines::exact_lines_stand))]
 pub fn exact_lines_stand_for_themselves()
     ensures { ExactLinesStand }
+{}
+
+/// A line in which nothing is amiss is one that a session takes. So of each line that it does not take it is said what is due.
+#[tactic(auto, using(crate::proofs::SoundLines::sound_lines_are_taken))]
+pub fn sound_lines_are_taken()
+    ensures { SoundLinesAreTaken }
 {}

@@ -34,7 +34,7 @@ fn respond_to_last<C: Caller, T: Console>(
 ) -> Result<(), PlayFault>
     requires sits { MaySit style.now (C.seats session.old.caller) session.old.seat }
     requires lines { session.old.lines < 2 ^ 64 - 1 }
-    ensures last { RespondsToLast style.now result (T.known console.old) (T.known console.new)
+    ensures last { RespondsToLast C.answers style.now result (T.known console.old) (T.known console.new)
         (seen_by C.part session.old) (seen_by C.part session.new) unfinished.old.items }
     ensures later { Onward C.later session.old.caller session.new.caller }
 {
@@ -57,7 +57,7 @@ pub fn run<C: Caller, T: Console>(
     console: &mut T,
 ) -> (C, Result<(), PlayFault>)
     requires sits { MaySit style.now (C.seats caller) style.now.first }
-    ensures session { HoldsSession style.now (since (C.part caller) (C.part result.0)) result.1
+    ensures session { HoldsSession C.answers style.now (since (C.part caller) (C.part result.0)) result.1
         (T.known console.old) (T.known console.new) }
     ensures later { Onward C.later caller result.0 }
 {
@@ -104,7 +104,7 @@ fn run_from_first<C: Caller, T: Console>(
     requires replies { (C.part session.old.caller).replies ≡ [] }
     requires lines { session.old.lines ≡ 0 }
     requires seat { session.old.seat ≡ style.now.first }
-    ensures all { RespondsToAll style.now result (T.known console.old) (T.known console.new)
+    ensures all { RespondsToAll C.answers style.now result (T.known console.old) (T.known console.new)
         (seen_by C.part session.new) }
     ensures later { Onward C.later session.old.caller session.new.caller }
 {

@@ -1,30 +1,58 @@
 //! What a line of a session asks for.
 
-ghost use Rattle.std.specs.Prelude.{◌≡◌, ℕ, Option, IfSome, IfNone};
+ghost use Rattle.std.specs.Prelude.{◌≡◌, ◌↔◌, ℕ, Option, IfSome, IfNone, IsTrue};
 ghost use Rattle.cdb_setup.specs.Parts.{IsWithin};
 ghost use Rattle.cdb_session.specs.declared.request.Request.{Request as RequestName};
 ghost use Rattle.cdb_session.specs.declared.topic.Topic.{Topic as TopicName};
 ghost use Rattle.cdb_session.specs.Requests.{AsksFor, help_line, quit_line, seat_line, most_seats};
 
+use crate::inquiry::{Inquiry, inquiry_of};
 use crate::topic::Topic;
 use cdb_base::limits::MAX_BYTES;
 use cdb_control::Command;
 use cdb_text::{LineFault, parse_line};
+use std::marker::Model;
+
+/// A line that is no command, and its first fault.
+#[derive(Drop)]
+pub struct FaultyLine<'a> {
+    pub line: &'a [u8],
+    pub fault: LineFault,
+}
+
+impl<'a> Model for FaultyLine<'a> {
+    ghost use Rattle.cdb_session.specs.FaultyLines.{FaultyLineView};
+
+    ghost Value = { FaultyLineView };
+
+    ghost view = { λ it. record { line = it.line.now; fault = it.fault } };
+}
 
 /// What a line asks for.
-#[derive(Clone, Copy, PartialEq, Eq)]
-pub enum Request {
+#[derive(Drop)]
+pub enum Request<'a> {
     /// The command, by the seat that the session is at.
     Call(Command),
+    /// The answer to this, of the run as it stands.
+    Ask(Inquiry),
     /// The lines that follow are this seat's, from 1 to 9.
     Seat(u8),
     /// The help, or what it says about a word.
     Help(Option<Topic>),
     Quit,
-    /// The line is no command, and this is its first fault.
-    Fault(LineFault),
+    /// Nothing: it is no command.
+    Fault(FaultyLine<'a>),
     /// The line has more than 1,048,576 bytes.
     TooLong,
+}
+
+impl Request<'_> {
+    /// Whether the session is to end.
+    pub(crate) fn is_quit(&self) -> bool
+        ensures { IsTrue result ↔ (self.now ≡ Request.Quit) }
+    {
+        matches!(self, Request::Quit)
+    }
 }
 
 /// How many bytes a line has that chooses a seat.
@@ -69,7 +97,7 @@ fn help_of(line: &[u8]) -> Option<Option<Topic>>
 }
 
 /// What a line asks for that stands for itself, without the byte 10 at its end. It allocates nothing.
-pub fn request_of(line: &[u8]) -> Request
+pub fn request_of(line: &[u8]) -> Request<'_>
     ensures asks { AsksFor result line.now }
     ensures only { (other : RequestName) → AsksFor other line.now → other ≡ result }
 {
@@ -85,8 +113,11 @@ pub fn request_of(line: &[u8]) -> Request
     if let Some(seat) = seat_of(line) {
         return Request::Seat(seat);
     }
+    if let Some(inquiry) = inquiry_of(line) {
+        return Request::Ask(inquiry);
+    }
     match parse_line(line) {
         Ok(command) => Request::Call(command),
-        Err(fault) => Request::Fault(fault),
+        Err(fault) => Request::Fault(FaultyLine { line, fault }),
     }
 }

@@ -2,11 +2,14 @@
 
 ghost use Rattle.std.specs.Prelude.{◌++◌, codes};
 ghost use Rattle.cdb_text.specs.Pushes.{Pushes};
-ghost use Rattle.cdb_session.specs.Dialogues.{faulty_line_text, long_line_text};
+ghost use Rattle.cdb_session.specs.Dialogues.{fault_of_line_text, fault_response, faulty_line_text, long_line_text};
+ghost use Rattle.cdb_session.specs.Due.{stands};
 ghost use Rattle.cdb_session.specs.Requests.{seat_line};
 
+use crate::due::{Due, push_amiss, push_word};
+use crate::request::FaultyLine;
 use cdb_text::LineFault;
-use std::alloc::AllocError;
+use std::alloc::{AllocError, Global};
 
 /// `seat S`.
 pub(crate) fn push_seat(text: &mut String, seat: u8) -> Result<(), AllocError>
@@ -15,12 +18,40 @@ pub(crate) fn push_seat(text: &mut String, seat: u8) -> Result<(), AllocError>
     writeln!(text, "seat {seat}")
 }
 
-/// Adds `line L fault N Name` at the end of a text, as a line. Only out of memory is an error.
-pub(crate) fn push_fault(text: &mut String, line: u64, fault: LineFault) -> Result<(), AllocError>
-    ensures { Pushes result text.old text.new (faulty_line_text line fault) }
+/// Adds `line L fault N Name`.
+fn push_fault(text: &mut String, line: u64, fault: LineFault) -> Result<(), AllocError>
+    ensures { Pushes result text.old text.new (fault_of_line_text line fault) }
 {
     let (number, name) = (fault.number(), fault.name());
-    writeln!(text, "line {line} fault {number} {name}")
+    write!(text, "line {line} fault {number} {name}")
+}
+
+/// Adds the response to a line of this number that begins with a word which can't begin one here, as a line.
+pub(crate) fn push_no_command(text: &mut String, line: u64, word: &[u8]) -> Result<(), AllocError>
+    ensures { Pushes result text.old text.new
+        (faulty_line_text line LineFault.Word (stands Due.Command word.now)) }
+{
+    push_fault(text, line, LineFault::Word)?;
+    push_word(text, Due::Command, word)?;
+    text.push('\n')
+}
+
+/// Adds the response to a line of this number that is no command, as a line: `line L fault N Name`, and what is amiss.
+pub(crate) fn push_faulty(
+    alloc: Global,
+    text: &mut String,
+    line: u64,
+    chooses: bool,
+    faulty: &FaultyLine<'_>,
+) -> Result<(), AllocError>
+    ensures { Pushes result text.old text.new (fault_response line chooses faulty.now) }
+{
+    if faulty.fault == LineFault::Empty {
+        return Ok(());
+    }
+    push_fault(text, line, faulty.fault)?;
+    push_amiss(alloc, text, chooses, faulty.line)?;
+    text.push('\n')
 }
 
 /// Adds `line L too long` at the end of a text, as a line. Only out of memory is an error.

@@ -15,12 +15,12 @@ ghost use Rattle.cdb_session.specs.Styles.{MaySit, Onward};
 use crate::caller::Caller;
 use crate::help::{push_about, push_help};
 use crate::request::Request;
-use crate::response::{push_fault, push_seat, push_too_long};
+use crate::response::{push_faulty, push_no_command, push_seat, push_too_long};
 use crate::style::Style;
 use crate::topic::Topic;
 use cdb_base::NoMemory;
 use cdb_control::{CallFault, Command, Reply};
-use cdb_text::{LineFault, reply_text};
+use cdb_text::reply_text;
 use itoa::Buffer;
 use std::alloc::{AllocError, Global};
 
@@ -52,7 +52,7 @@ impl<C: Caller> Session<C> {
         command: Command,
     ) -> Result<Vec<u8>, NoMemory>
         requires { MaySit style.now (C.seats self.old.caller) self.old.seat }
-        ensures responds { Responds style.now result (seen_by C.part self.old)
+        ensures responds { Responds C.answers style.now result (seen_by C.part self.old)
             (Request.Call command) (seen_by C.part self.new) }
         ensures seat { self.new.seat ≡ self.old.seat }
         ensures lines { self.new.lines ≡ self.old.lines }
@@ -66,21 +66,21 @@ impl<C: Caller> Session<C> {
         }
     }
 
-    /// Does what a line asks for that asks for no command, and returns the response.
+    /// Does what a line asks for that asks for no command and nothing of the run, and returns the response.
     fn respond_itself(
         &mut self,
         alloc: Global,
         style: &Style<'_>,
-        request: Request,
+        request: &Request<'_>,
     ) -> Result<Vec<u8>, NoMemory>
         requires { self.old.lines < 2 ^ 64 - 1 }
         ensures text { IfOk result
-            (λ text. text.items ≡ own_response style.now self.old.lines request) }
-        ensures after { self.new ≡ record self.old { seat = seat_next style.now.chooses self.old.seat request } }
+            (λ text. text.items ≡ own_response style.now self.old.lines request.now) }
+        ensures after { self.new ≡ record self.old { seat = seat_next style.now.chooses self.old.seat request.now } }
     {
         if let Request::Seat(seat) = request {
             if style.chooses {
-                self.seat = seat;
+                self.seat = *seat;
             }
         }
         own_response(alloc, style, self.lines, request)
@@ -91,20 +91,21 @@ impl<C: Caller> Session<C> {
         &mut self,
         alloc: Global,
         style: &Style<'_>,
-        request: Request,
+        request: &Request<'_>,
     ) -> Result<Vec<u8>, NoMemory>
         requires sits { MaySit style.now (C.seats self.old.caller) self.old.seat }
-        requires chosen { (k : ℕ) → request ≡ Request.Seat k → IsWithin 1 most_seats k }
+        requires chosen { (k : ℕ) → request.now ≡ Request.Seat k → IsWithin 1 most_seats k }
         requires lines { self.old.lines < 2 ^ 64 - 1 }
-        ensures responds { Responds style.now result (seen_by C.part self.old)
-            request (seen_by C.part self.new) }
-        ensures seat { self.new.seat ≡ seat_next style.now.chooses self.old.seat request }
+        ensures responds { Responds C.answers style.now result (seen_by C.part self.old)
+            request.now (seen_by C.part self.new) }
+        ensures seat { self.new.seat ≡ seat_next style.now.chooses self.old.seat request.now }
         ensures lines { self.new.lines ≡ self.old.lines }
         ensures seats { C.seats self.new.caller ≡ C.seats self.old.caller }
         ensures later { Onward C.later self.old.caller self.new.caller }
     {
         match request {
-            Request::Call(command) => self.call(alloc, style, command),
+            Request::Call(command) => self.call(alloc, style, *command),
+            Request::Ask(inquiry) => self.caller.ask(alloc, *inquiry),
             _ => self.respond_itself(alloc, style, request),
         }
     }
@@ -115,21 +116,20 @@ impl<C: Caller> Session<C> {
         &mut self,
         alloc: Global,
         style: &Style<'_>,
-        request: Request,
+        request: &Request<'_>,
     ) -> Result<Vec<u8>, NoMemory>
         requires sits { MaySit style.now (C.seats self.old.caller) self.old.seat }
-        requires chosen { (k : ℕ) → request ≡ Request.Seat k → IsWithin 1 most_seats k }
+        requires chosen { (k : ℕ) → request.now ≡ Request.Seat k → IsWithin 1 most_seats k }
         requires lines { self.old.lines < 2 ^ 64 - 1 }
-        ensures shows { Shows style.now result (seen_by C.part self.old)
-            request (seen_by C.part self.new) }
-        ensures seat { self.new.seat ≡ seat_next style.now.chooses self.old.seat request }
+        ensures shows { Shows C.answers style.now result (seen_by C.part self.old)
+            request.now (seen_by C.part self.new) }
+        ensures seat { self.new.seat ≡ seat_next style.now.chooses self.old.seat request.now }
         ensures lines { OnOk result (self.new.lines ≡ self.old.lines + 1) }
         ensures seats { C.seats self.new.caller ≡ C.seats self.old.caller }
         ensures later { Onward C.later self.old.caller self.new.caller }
     {
-        let again = request;
         let mut text = self.respond(alloc, style, request)?;
-        push_prompt(&mut text, style, again)?;
+        push_prompt(&mut text, style, request)?;
         self.lines += 1;
         Ok(text)
     }
@@ -151,15 +151,15 @@ fn text_of(alloc: Global, reply: Reply) -> Result<Vec<u8>, NoMemory>
     text
 }
 
-/// The response to a line that asks for no command, after this many lines.
+/// The response to a line that asks for no command and nothing of the run, after this many lines.
 fn own_response(
     alloc: Global,
     style: &Style<'_>,
     lines: u64,
-    request: Request,
+    request: &Request<'_>,
 ) -> Result<Vec<u8>, NoMemory>
     requires { lines < 2 ^ 64 - 1 }
-    ensures { IfOk result (λ text. text.items ≡ own_response style.now lines request) }
+    ensures { IfOk result (λ text. text.items ≡ own_response style.now lines request.now) }
 {
     let mut text = String::new(alloc);
     push_own_response(alloc, &mut text, style, lines, request)?;
@@ -171,16 +171,16 @@ fn push_own_response(
     text: &mut String,
     style: &Style<'_>,
     lines: u64,
-    request: Request,
+    request: &Request<'_>,
 ) -> Result<(), AllocError>
     requires { lines < 2 ^ 64 - 1 }
-    ensures { Pushes result text.old text.new (own_response style.now lines request) }
+    ensures { Pushes result text.old text.new (own_response style.now lines request.now) }
 {
     match request {
-        Request::Seat(seat) => push_chosen(text, style, lines + 1, seat),
-        Request::Help(about) => push_help_response(alloc, text, style, lines + 1, about),
-        Request::Quit | Request::Call(_) | Request::Fault(LineFault::Empty) => Ok(()),
-        Request::Fault(fault) => push_fault(text, lines + 1, fault),
+        Request::Seat(seat) => push_chosen(text, style, lines + 1, *seat),
+        Request::Help(about) => push_help_response(alloc, text, style, lines + 1, *about),
+        Request::Quit | Request::Call(_) | Request::Ask(_) => Ok(()),
+        Request::Fault(faulty) => push_faulty(alloc, text, lines + 1, style.chooses, faulty),
         Request::TooLong => push_too_long(text, lines + 1),
     }
 }
@@ -209,13 +209,17 @@ fn push_chosen(text: &mut String, style: &Style<'_>, line: u64, seat: u8) -> Res
     if style.chooses {
         return push_seat(text, seat);
     }
-    push_fault(text, line, LineFault::Word)
+    push_no_command(text, line, Topic::Seat.word())
 }
 
 /// Adds the prompt, which stands before each further line, and nothing after `quit`.
-fn push_prompt(text: &mut Vec<u8>, style: &Style<'_>, request: Request) -> Result<(), AllocError>
+fn push_prompt(
+    text: &mut Vec<u8>,
+    style: &Style<'_>,
+    request: &Request<'_>,
+) -> Result<(), AllocError>
     ensures { OnOk result
-        (text.new.items ≡ text.old.items ++ prompt_after style.now.prompt request) }
+        (text.new.items ≡ text.old.items ++ prompt_after style.now.prompt request.now) }
 {
     match request {
         Request::Quit => Ok(()),

@@ -3,6 +3,8 @@
 ghost use Rattle.std.specs.Prelude.{◌≡◌};
 
 use crate::caller::Caller;
+use crate::inquiry::Inquiry;
+use cdb_base::NoMemory;
 use cdb_control::{CallFault, Command, Reply};
 use std::alloc::Global;
 use std::marker::Model;
@@ -44,9 +46,15 @@ impl<C: Caller> Caller for Since<C> {
 
     ghost seats = { λ s. C.seats s.caller };
 
+    ghost answers = { C.answers };
+
     ghost later = { IsLaterSince C.later };
 
     fn call(&mut self, alloc: Global, seat: u8, command: Command) -> Result<Reply, CallFault> {
         self.caller.call(alloc, seat, command)
+    }
+
+    fn ask(&mut self, alloc: Global, inquiry: Inquiry) -> Result<Vec<u8>, NoMemory> {
+        self.caller.ask(alloc, inquiry)
     }
 }

@@ -19,6 +19,8 @@ pub enum Topic {
     Resume,
     Show,
     Decisions,
+    Explain,
+    Trail,
     Help,
     Quit,
     Seat,
@@ -26,7 +28,7 @@ pub enum Topic {
 
 impl Topic {
     /// Each of them.
-    const ALL: [Topic; 16] = [
+    const ALL: [Topic; 18] = [
         Topic::Step,
         Topic::Auto,
         Topic::Lose,
@@ -40,6 +42,8 @@ impl Topic {
         Topic::Resume,
         Topic::Show,
         Topic::Decisions,
+        Topic::Explain,
+        Topic::Trail,
         Topic::Help,
         Topic::Quit,
         Topic::Seat,
@@ -63,6 +67,8 @@ impl Topic {
             Topic::Resume => b"resume",
             Topic::Show => b"show",
             Topic::Decisions => b"decisions",
+            Topic::Explain => b"explain",
+            Topic::Trail => b"trail",
             Topic::Help => b"help",
             Topic::Quit => b"quit",
             Topic::Seat => b"seat",

@@ -10,7 +10,7 @@ use cdb_base::limits::MAX_BYTES;
 use std::alloc::{AllocError, Global};
 
 /// The words that may begin a line.
-const FIRST: [&[u8]; 16] = [
+pub(crate) const FIRST: [&[u8]; 18] = [
     b"step",
     b"auto",
     b"lose",
@@ -24,6 +24,8 @@ const FIRST: [&[u8]; 16] = [
     b"resume",
     b"show",
     b"decisions",
+    b"explain",
+    b"trail",
     b"help",
     b"quit",
     b"seat",
@@ -54,7 +56,7 @@ fn is_mark(byte: u8) -> bool
 }
 
 /// Whether a word is written in digits.
-fn is_digits(word: &[u8]) -> bool
+pub(crate) fn is_digits(word: &[u8]) -> bool
     ensures { result ≡ is_digits word.now }
 {
     !word.is_empty() && word.iter().all(|byte| byte.is_ascii_digit())
@@ -84,16 +86,16 @@ fn halves(piece: &[u8]) -> Option<(&[u8], &[u8])>
 }
 
 /// What a process may be told to do.
-const ACTS: [&[u8]; 5] = [b"go", b"learn", b"crash", b"query", b"recv"];
+pub(crate) const ACTS: [&[u8]; 5] = [b"go", b"learn", b"crash", b"query", b"recv"];
 
 /// Where a run may be made to stop.
-const STOPS: [&[u8]; 4] = [b"decide", b"round", b"recv", b"write"];
+pub(crate) const STOPS: [&[u8]; 4] = [b"decide", b"round", b"recv", b"write"];
 
 /// What may be shown besides a process.
-const VIEWS: [&[u8]; 3] = [b"regs", b"mail", b"history"];
+pub(crate) const VIEWS: [&[u8]; 3] = [b"regs", b"mail", b"history"];
 
 /// What stands before the name of a copy.
-const LOST: [&[u8]; 1] = [b"lost"];
+pub(crate) const LOST: [&[u8]; 1] = [b"lost"];
 
 /// The words that may follow this one at once.
 fn second_words(first: &[u8]) -> &'static [&'static [u8]]

@@ -1,7 +1,7 @@
 //! The shared control: opening it, calling it, meeting and finishing.
 ghost use Rattle.std.specs.Prelude.{◌≡◌, ◌<◌, ◌≤◌, ◌↔◌, [], drop, length, vec_len, vec_capacity, All, IfOk, IfErr, OnErr};
 ghost use Rattle.cdb_commands.specs.ToldReply.{told};
-ghost use Rattle.cdb_control.specs.Journal.{Journaled, Begins};
+ghost use Rattle.cdb_control.specs.Journal.{AreOfSeats, Journaled, Begins};
 ghost use Rattle.cdb_shared.specs.Seats.{RestsAt, fresh_seat, fresh_seats, IsLater, IsCall, IsKnownBy, SameCalls, SeesFull};
 ghost use Rattle.cdb_shared.specs.Seats.{SeesHeadline, HasHeadline};
 ghost use Rattle.cdb_shared.specs.Turn.{story, resting, known_seats_from, AllKnow};
@@ -154,6 +154,26 @@ impl<T: Runs> Shared<T> {
         let control = take(rt, &self.turn, &mut watch.pass);
         let entries = Vec::from_slice(alloc, &control.journal()[from..]);
         give(rt, &self.turn, &mut watch.pass, control);
+        entries.map_err(NoMemory::from)
+    }
+
+    /// The journal, which the seat has then seen. It may wait for the turn, and leaves the journal as it is.
+    pub fn journal<R: Wait>(
+        &self,
+        rt: &R,
+        alloc: Global,
+        seat: &mut Seat<T>,
+    ) -> Result<Vec<Entry>, NoMemory>
+        requires { RestsAt self.now seat.old }
+        ensures seat { IsLater seat.old seat.new }
+        ensures calls { SameCalls seat.old seat.new.seen }
+        ensures entries { IfOk result (λ entries. entries.items ≡ seat.new.seen) }
+        ensures seats { AreOfSeats seat.new.seats seat.new.seen }
+        ensures limit { length seat.new.seen ≤ MAX_ENTRIES }
+    {
+        let held = take(rt, &self.turn, &mut seat.pass);
+        let entries = Vec::from_slice(alloc, held.journal());
+        give(rt, &self.turn, &mut seat.pass, held);
         entries.map_err(NoMemory::from)
     }
 

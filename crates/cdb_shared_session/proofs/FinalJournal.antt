@@ -1,11 +1,13 @@
 -- What the final journal has of a seat.
-use Rattle.std.proofs.Common.{◌≡◌, inl, inr, ℕ, ◌≤◌, List, ◌++◌, drop, length, map, sym, ap, ◌∙◌, arith, length-append}
+use Rattle.std.proofs.Common.{◌≡◌, inl, inr, ℕ, ◌-◌, ◌≤◌, List, ◌++◌, drop, length, map, take, min, refl, sym, ap, ◌∙◌, arith, length-append}
+use Rattle.std.proofs.lemmas.List.{take-append-le}
 use Rattle.std.specs.Prelude.{Result, Ok, Err}
 use Rattle.cdb_base.specs.Limits.{MAX_ENTRIES}
 use Rattle.cdb_commands.specs.ToldReply.{ToldReply}
 use Rattle.cdb_control.proofs.Own.{replies_of-same}
 use Rattle.cdb_control.specs.Journal.{Journaled, entry, own, replies_of}
 use Rattle.cdb_control.specs.declared.control.Entry.{Entry}
+use Rattle.cdb_rules.specs.RunView.{RunView}
 use Rattle.cdb_rules.specs.Rules.{Rules}
 use Rattle.cdb_session.specs.Moves.{Move, read_in, written_in}
 use Rattle.cdb_session.specs.Parts.{HasCommands}
@@ -14,8 +16,11 @@ use Rattle.cdb_session.specs.Requests.{ended_lines}
 use Rattle.cdb_session.specs.Served.{IsAnswered, IsServed, IsCutShort, IsSession}
 use Rattle.cdb_session.specs.Sessions.{EndsAs}
 use Rattle.cdb_session.specs.Since.{since}
-use Rattle.cdb_session.specs.Styles.{Part, StyleView}
-use Rattle.cdb_session.specs.declared.request.Request.{Request}
+use Rattle.cdb_session.specs.Styles.{Part, StyleView, GoesOn}
+use Rattle.cdb_session.specs.Answers.{HasExchanges, run_left}
+use Rattle.cdb_session.specs.Exchanges.{Exchange}
+use Rattle.cdb_session.specs.declared.inquiry.Inquiry.{Inquiry}
+use Rattle.cdb_session.proofs.ToldOn.{all_told_on}
 use Rattle.cdb_setup.specs.Parts.{Parts}
 use Rattle.cdb_shared.specs.Seats.{SeatView, IsKnownBy}
 use Rattle.cdb_shared.specs.Sessions.{calls_of, replies_to}
@@ -24,7 +29,7 @@ use Rattle.cdb_streams.specs.declared.fault.PlayFault.{PlayFault}
 use Rattle.cdb_streams.specs.declared.fault.PlayFault.TheVariants as fault
 use Rattle.cdb_shared_session.specs.SeatParts.{part_in, part_seen}
 
-module _ (rules : Parts → Rules) (style : StyleView) (first : Part) (c : Journaled) (seat : SeatView) (n : ℕ) (is : seat.number ≡ n) (known : IsKnownBy c seat) (few : length c.journal ≤ MAX_ENTRIES) where
+module _ (rules : Parts → Rules) (Answers : RunView → Inquiry → List ℕ → Type 0) (style : StyleView) (first : Part) (c : Journaled) (seat : SeatView) (n : ℕ) (is : seat.number ≡ n) (known : IsKnownBy c seat) (few : length c.journal ≤ MAX_ENTRIES) where
   calls_known : map (entry seat.number) (calls_of seat) ≡ map (entry n) (own n c.journal)
   calls_known = ap (map (entry seat.number)) (sym known.calls) ∙ ap (λ m. map (entry m) (own m c.journal)) is
 
@@ -39,22 +44,46 @@ module _ (rules : Parts → Rules) (style : StyleView) (first : Part) (c : Journ
   full_known : length seat.seen ≡ MAX_ENTRIES → length c.journal ≡ MAX_ENTRIES
   full_known full = omega (arith, full, few, ap length known.begins.1, length-append seat.seen known.begins.0)
 
-  has_known : (requests : List Request) → HasCommands style (since first (part_seen rules seat)) requests → HasCommands style (since first (part_in rules c n)) requests
-  has_known requests (inl all) = inl (sym came_known ∙ all)
-  has_known requests (inr some) = inr (full_known some.0, some.1, some.2 ∙ ap (λ (calls : List Entry). calls ++ some.1) came_known)
+  abbrev by_seat : Part
+  by_seat = since first (part_seen rules seat)
 
-  same_text : (requests : List Request) (text : List ℕ) → text ≡ dialogue style (since first (part_seen rules seat)).replies requests → text ≡ dialogue style (since first (part_in rules c n)).replies requests
-  same_text requests text shown = shown ∙ ap (λ (r : List ToldReply). dialogue style (drop (length first.replies) r) requests) replies_known
+  abbrev by_journal : Part
+  by_journal = since first (part_in rules c n)
 
-  answered_known : (lines : List (List ℕ)) (text : List ℕ) → IsAnswered style (since first (part_seen rules seat)) lines text → IsAnswered style (since first (part_in rules c n)) lines text
-  answered_known lines text (requests, others, asked, shown, has) = (requests, others, asked, same_text requests text shown, has_known (requests ++ others) has)
+  commands_known : (exchanges : List Exchange) → HasCommands style by_seat exchanges → HasCommands style by_journal exchanges
+  commands_known exchanges (inl all) = inl (sym came_known ∙ all)
+  commands_known exchanges (inr some) = inr (full_known some.0, some.1, some.2 ∙ ap (λ (calls : List Entry). calls ++ some.1) came_known)
 
-  served_known : (lines : List (List ℕ)) (text : List ℕ) → IsServed style (since first (part_seen rules seat)) lines text → IsServed style (since first (part_in rules c n)) lines text
-  served_known lines text (requests, asked, shown, has) = (requests, asked, same_text requests text shown, has_known requests has)
+  -- the journal begins with what the seat has seen
+  first_known : (at : ℕ) → at ≤ length seat.seen → take at c.journal ≡ take at seat.seen
+  first_known at few = ap (take at) known.begins.1 ∙ take-append-le at seat.seen known.begins.0 few
+
+  goes_on : GoesOn by_seat by_journal
+  goes_on = record {
+    before = refl;
+    longer = omega (arith, ap length known.begins.1, length-append seat.seen known.begins.0);
+    calls_in = λ at few. (λ i. length (own (sym is i) (first_known at few i)) - length first.calls);
+    left_by = λ at few. (λ i. run_left rules (known.setup i) (known.seats i) (first_known at few i));
+  }
+
+  has_known : (exchanges : List Exchange) → HasExchanges Answers style by_seat exchanges → HasExchanges Answers style by_journal exchanges
+  has_known exchanges has = (
+    commands_known exchanges has.0,
+    all_told_on Answers by_seat by_journal goes_on 0 exchanges (λ m low. ap (λ (calls : List Entry). min m (length calls)) (sym came_known)) has.1,
+  )
+
+  same_text : (exchanges : List Exchange) (text : List ℕ) → text ≡ dialogue style by_seat.replies exchanges → text ≡ dialogue style by_journal.replies exchanges
+  same_text exchanges text shown = shown ∙ ap (λ (r : List ToldReply). dialogue style (drop (length first.replies) r) exchanges) replies_known
+
+  answered_known : (lines : List (List ℕ)) (text : List ℕ) → IsAnswered Answers style by_seat lines text → IsAnswered Answers style by_journal lines text
+  answered_known lines text (exchanges, others, asked, shown, has) = (exchanges, others, asked, same_text exchanges text shown, has_known (exchanges ++ others) has)
+
+  served_known : (lines : List (List ℕ)) (text : List ℕ) → IsServed Answers style by_seat lines text → IsServed Answers style by_journal lines text
+  served_known lines text (exchanges, asked, shown, has) = (exchanges, asked, same_text exchanges text shown, has_known exchanges has)
 
   ends_known : (returned : Result (Unit {0}) PlayFault) (moves : List Move)
-      → EndsAs (IsAnswered style (since first (part_seen rules seat))) (IsServed style (since first (part_seen rules seat))) (IsCutShort style (since first (part_seen rules seat))) returned moves
-      → EndsAs (IsAnswered style (since first (part_in rules c n))) (IsServed style (since first (part_in rules c n))) (IsCutShort style (since first (part_in rules c n))) returned moves
+      → EndsAs (IsAnswered Answers style by_seat) (IsServed Answers style by_seat) (IsCutShort Answers style by_seat) returned moves
+      → EndsAs (IsAnswered Answers style by_journal) (IsServed Answers style by_journal) (IsCutShort Answers style by_journal) returned moves
   ends_known (Ok done) moves e = record { responded = served_known (lines_of (read_in moves)) (written_in moves) e.responded; ended = e.ended }
   ends_known (Err fault.Read) moves e = (record { responded = served_known (ended_lines (read_in moves)) (written_in moves) e.0.responded; goes_on = e.0.goes_on; more = e.0.more }, e.1)
   ends_known (Err fault.Write) moves e = (
@@ -75,7 +104,7 @@ module _ (rules : Parts → Rules) (style : StyleView) (first : Part) (c : Journ
   ends_known (Err (fault.ScriptTooLong script)) moves e = e
 
   -- a session by what the seat has seen is one by the final journal
-  pub session_known : (returned : Result (Unit {0}) PlayFault) (moves : List Move) → IsSession style (since first (part_seen rules seat)) returned moves → IsSession style (since first (part_in rules c n)) returned moves
+  pub session_known : (returned : Result (Unit {0}) PlayFault) (moves : List Move) → IsSession Answers style by_seat returned moves → IsSession Answers style by_journal returned moves
   session_known returned moves s = record {
     in_time = λ before ask later cut asks.
         let r = s.in_time before ask later cut asks in

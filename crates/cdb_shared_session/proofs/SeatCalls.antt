@@ -1,12 +1,14 @@
 -- What one call adds to what the journal has of a seat.
-use Rattle.std.proofs.Common.{◌≡◌, ◌↔◌, ℕ, ◌≤◌, true, List, [], ◌∷◌, ◌++◌, length, map, refl, ap, ◌∙◌, arith, length-append}
+use Rattle.std.proofs.Common.{◌≡◌, ◌↔◌, ℕ, ◌≤◌, true, List, [], ◌∷◌, ◌++◌, length, map, take, Vec, Global, refl, sym, ap, subst, ◌∙◌, arith, length-append}
+use Rattle.std.proofs.lemmas.List.{take-append-le, take_all}
 use Rattle.std.specs.Prelude.{Result, Ok, Err, IfOk, IfErr, OnErr}
 use Rattle.cdb_base.specs.Limits.{MAX_ENTRIES}
 use Rattle.cdb_commands.specs.ToldReply.{ToldReply, told}
 use Rattle.cdb_commands.specs.declared.command.Command.{Command}
 use Rattle.cdb_commands.specs.declared.reply.Reply.{Reply}
-use Rattle.cdb_control.specs.Journal.{entry}
+use Rattle.cdb_control.specs.Journal.{entry, own}
 use Rattle.cdb_control.specs.declared.control.CallFault.{CallFault}
+use Rattle.cdb_control.specs.declared.control.Entry.{Entry}
 use Rattle.cdb_control.specs.declared.control.CallFault.TheVariants.{JournalFull, NoMemory}
 use Rattle.cdb_control.proofs.Own.{Begins-refl}
 use Rattle.cdb_rules.specs.Rules.{Rules}
@@ -14,7 +16,10 @@ use Rattle.cdb_setup.specs.Parts.{Parts, IsWithin}
 use Rattle.cdb_shared.specs.Seats.{SeatView, IsLater, IsCall, SameCalls, SeesFull}
 use Rattle.cdb_shared.specs.Sessions.{calls_of}
 use Rattle.cdb_shared.proofs.Steps.{calls_of-call, calls_of-fault, replies_to-call, replies_to-fault, IsLater-trans}
-use Rattle.cdb_session.specs.Styles.{MakesNone, Calls, Onward, stays, goes}
+use Rattle.cdb_session.specs.Styles.{GoesOn, MakesNone, Calls, Onward, stays, goes}
+use Rattle.cdb_session.specs.Answers.{run_left, AnswersNow}
+use Rattle.cdb_session.specs.declared.inquiry.Inquiry.{Inquiry}
+use Rattle.cdb_rules.specs.RunView.{RunView}
 use Rattle.cdb_shared_session.specs.SeatParts.{part_seen}
 
 map-more : {A B : Type 0} (f : A → B) (xs : List A) (x : A) → map f (xs ++ x ∷ []) ≡ map f xs ++ f x ∷ []
@@ -32,6 +37,18 @@ full_stays old new later few full =
     omega (arith, few, full, longer, parts)
 
 module _ (rules : Parts → Rules) where
+  -- the journal begins as before
+  goes_on : (old new : SeatView) → IsLater old new → GoesOn (part_seen rules old) (part_seen rules new)
+  goes_on old new later =
+      let first_seen : (first : ℕ) → first ≤ length old.seen → take first new.seen ≡ take first old.seen =
+      λ first few. ap (take first) later.begins.1 ∙ take-append-le first old.seen later.begins.0 few in
+      record {
+        before = refl;
+        longer = omega (arith, ap length later.begins.1, length-append old.seen later.begins.0);
+        calls_in = λ first few. (λ i. length (own (later.number i) (first_seen first few i)));
+        left_by = λ first few. (λ i. run_left rules (later.setup i) (later.seats i) (first_seen first few i));
+      }
+
   -- a seat before a call that was answered had not seen a full journal
   room_before : (old new : SeatView) (command : Command) (reply : ToldReply) → IsCall rules old command reply new → length new.seen ≤ MAX_ENTRIES → SeesFull old → ⊥
   room_before old new command reply call few full =
@@ -41,8 +58,9 @@ module _ (rules : Parts → Rules) where
       let one = length-append call.journal (entry old.number command ∷ []) in
       omega (arith, few, full, longer, parts, more, one)
 
-  none_made : (old new : SeatView) → IsLater old new → length new.seen ≤ MAX_ENTRIES → SameCalls old new.seen → MakesNone (part_seen rules old) (part_seen rules new)
+  pub none_made : (old new : SeatView) → IsLater old new → length new.seen ≤ MAX_ENTRIES → SameCalls old new.seen → MakesNone (part_seen rules old) (part_seen rules new)
   none_made old new later few same = record {
+    goes_on = goes_on old new later;
     calls = (λ i. map (entry (later.number i)) (calls_of-fault old new later same i));
     replies = replies_to-fault rules old new later same;
     full = full_stays old new later few;
@@ -53,6 +71,7 @@ module _ (rules : Parts → Rules) where
   calls_made old new seat command (Ok reply) its later call same full few =
       let is : old.number ≡ seat = omega (arith, its.0, its.1) in
       record {
+        goes_on = goes_on old new later;
         calls = (λ i. map (entry (later.number i)) (calls_of-call rules old new command (told reply) later call i)) ∙ map-more (entry old.number) (calls_of old) command ∙ ap (λ (n : ℕ). map (entry old.number) (calls_of old) ++ entry n command ∷ []) is;
         replies = replies_to-call rules old new command (told reply) later call;
         room = room_before old new command (told reply) call few;
@@ -63,3 +82,19 @@ module _ (rules : Parts → Rules) where
 pub later_seat : (first now : SeatView) → first.rests ≡ true → Onward IsLater first now → IsLater first now
 later_seat first _ rests stays = IsLater-refl first rests
 later_seat first now rests (goes middle _ before later) = IsLater-trans first middle now (later_seat first middle rests before) later
+
+map-length : {A B : Type 0} (f : A → B) (xs : List A) → length (map f xs) ≡ length xs
+map-length f [] = refl
+map-length f (x ∷ xs) = let rest = map-length f xs in omega (arith, rest)
+
+-- the answer of the run that the seat has seen
+pub asked_now : {E : Type 0} (rules : Parts → Rules) (Answers : RunView → Inquiry → List ℕ → Type 0) (seat : SeatView) (inquiry : Inquiry) (r : Result (Vec ℕ Global) E)
+    → IfOk r (λ text. Answers (run_left rules seat.setup seat.seats seat.seen) inquiry text.items) → IfOk r (λ text. AnswersNow Answers (part_seen rules seat) inquiry text.items)
+asked_now rules Answers seat inquiry (Ok text) is =
+    let all : take (length seat.seen) seat.seen ≡ seat.seen = take_all (length seat.seen) seat.seen (omega arith) in
+    record {
+      since = omega arith;
+      all = ap (λ (seen : List Entry). length (own seat.number seen)) all ∙ sym (map-length (entry seat.number) (calls_of seat));
+      answers = subst (λ (seen : List Entry). Answers (run_left rules seat.setup seat.seats seen) inquiry text.items) (sym all) is;
+    }
+asked_now rules Answers seat inquiry (Err fault) is = tt

@@ -12,15 +12,17 @@ use Rattle.cdb_control.proofs.Own.{own-append}
 use Rattle.cdb_journal.specs.Journals.{AreEntriesOf, IsWritable}
 use Rattle.cdb_journal.specs.OpenedFrom.{IsOpenedFrom}
 use Rattle.cdb_journal.proofs.Telling.{read_few}
+use Rattle.cdb_rules.specs.RunView.{RunView}
 use Rattle.cdb_rules.specs.Rules.{Rules}
+use Rattle.cdb_session.specs.Exchanges.{Exchange}
+use Rattle.cdb_session.specs.declared.inquiry.Inquiry.{Inquiry}
 use Rattle.cdb_session.specs.Moves.{Known, Move, read_in}
 use Rattle.cdb_session.specs.Parts.{HasCommands, all_asked, seat_next}
 use Rattle.cdb_session.specs.Requests.{Asks, AreAsked, ended_lines, up_to_quit}
 use Rattle.cdb_session.specs.Served.{IsSession}
 use Rattle.cdb_session.specs.Since.{since}
 use Rattle.cdb_session.specs.Styles.{Part, StyleView}
-use Rattle.cdb_session.specs.declared.request.Request.{Request}
-use Rattle.cdb_session.specs.declared.request.Request.TheVariants.{Call, Seat, Help, Quit, Fault, TooLong}
+use Rattle.cdb_session.specs.declared.request.Request.TheVariants.{Call, Ask, Seat, Help, Quit, Fault, TooLong}
 use Rattle.cdb_setup.specs.Parts.{Parts}
 use Rattle.cdb_streams.specs.Lines.{lines_of}
 use Rattle.cdb_streams.specs.declared.fault.PlayFault.{PlayFault}
@@ -39,35 +41,36 @@ HaveLines entries = AllByRecursion (λ e. HasNumbersInRange e.command) entries
 -- ---- of one seat
 
 -- what lines ask for has lines
-asked_have_lines : (chooses : Bool) (seat : ℕ) (requests : List Request) (lines : List (List ℕ)) → AllZip Asks requests lines → HaveLines (all_asked chooses seat requests)
+asked_have_lines : (chooses : Bool) (seat : ℕ) (exchanges : List Exchange) (lines : List (List ℕ)) → AllZip Asks exchanges lines → HaveLines (all_asked chooses seat exchanges)
 asked_have_lines chooses seat [] lines asked = tt
-asked_have_lines chooses seat (request ∷ requests) [] asked = absurd asked
-asked_have_lines chooses seat (Call command ∷ requests) (line ∷ lines) asked =
-    (asked.0.1.1.1, asked_have_lines chooses (seat_next chooses seat (Call command)) requests lines asked.1)
-asked_have_lines chooses seat (Seat chosen ∷ requests) (line ∷ lines) asked = asked_have_lines chooses (seat_next chooses seat (Seat chosen)) requests lines asked.1
-asked_have_lines chooses seat (Help about ∷ requests) (line ∷ lines) asked = asked_have_lines chooses seat requests lines asked.1
-asked_have_lines chooses seat (Quit ∷ requests) (line ∷ lines) asked = asked_have_lines chooses seat requests lines asked.1
-asked_have_lines chooses seat (Fault why ∷ requests) (line ∷ lines) asked = asked_have_lines chooses seat requests lines asked.1
-asked_have_lines chooses seat (TooLong ∷ requests) (line ∷ lines) asked = asked_have_lines chooses seat requests lines asked.1
+asked_have_lines chooses seat (exchange ∷ exchanges) [] asked = absurd asked
+asked_have_lines chooses seat ((Call command, answer) ∷ exchanges) (line ∷ lines) asked =
+    (asked.0.1.1.1, asked_have_lines chooses (seat_next chooses seat (Call command)) exchanges lines asked.1)
+asked_have_lines chooses seat ((Ask inquiry, answer) ∷ exchanges) (line ∷ lines) asked = asked_have_lines chooses seat exchanges lines asked.1
+asked_have_lines chooses seat ((Seat chosen, answer) ∷ exchanges) (line ∷ lines) asked = asked_have_lines chooses (seat_next chooses seat (Seat chosen)) exchanges lines asked.1
+asked_have_lines chooses seat ((Help about, answer) ∷ exchanges) (line ∷ lines) asked = asked_have_lines chooses seat exchanges lines asked.1
+asked_have_lines chooses seat ((Quit, answer) ∷ exchanges) (line ∷ lines) asked = asked_have_lines chooses seat exchanges lines asked.1
+asked_have_lines chooses seat ((Fault why, answer) ∷ exchanges) (line ∷ lines) asked = asked_have_lines chooses seat exchanges lines asked.1
+asked_have_lines chooses seat ((TooLong, answer) ∷ exchanges) (line ∷ lines) asked = asked_have_lines chooses seat exchanges lines asked.1
 
 first_have_lines : (first more : List Entry) → HaveLines (first ++ more) → HaveLines first
 first_have_lines [] more all = tt
 first_have_lines (e ∷ first) more all = (all.0, first_have_lines first more all.1)
 
-module _ (style : StyleView) (part : Part) where
-  calls_have_lines : (requests : List Request) (lines : List (List ℕ)) → AreAsked requests lines → HasCommands style part requests → HaveLines part.calls
-  calls_have_lines requests lines asked has =
-      let all = asked_have_lines style.chooses style.first requests (up_to_quit lines) asked in
+module _ (Answers : RunView → Inquiry → List ℕ → Type 0) (style : StyleView) (part : Part) where
+  calls_have_lines : (exchanges : List Exchange) (lines : List (List ℕ)) → AreAsked exchanges lines → HasCommands style part exchanges → HaveLines part.calls
+  calls_have_lines exchanges lines asked has =
+      let all = asked_have_lines style.chooses style.first exchanges (up_to_quit lines) asked in
       elim has [
         | inl same ↦ subst HaveLines (sym same) all
         | inr (full, missing, same) ↦ first_have_lines part.calls missing (subst HaveLines same all)
       ]
 
-  session_has_lines : (returned : Result (Unit {0}) PlayFault) (moves : List Move) → IsSession style part returned moves → HaveLines part.calls
-  session_has_lines (Ok done) moves s = let r = s.ends.responded in calls_have_lines r.0 (lines_of (read_in moves)) r.1 r.3
-  session_has_lines (Err fault.Read) moves s = let r = s.ends.0.responded in calls_have_lines r.0 (ended_lines (read_in moves)) r.1 r.3
-  session_has_lines (Err fault.Write) moves s = let r = s.ends.0.responded in calls_have_lines r.0 s.ends.0.lines r.1 r.3
-  session_has_lines (Err (fault.NoMemory refused)) moves s = let r = s.ends.commands in calls_have_lines r.0 (s.ends.lines ++ s.ends.next) r.1 r.2
+  session_has_lines : (returned : Result (Unit {0}) PlayFault) (moves : List Move) → IsSession Answers style part returned moves → HaveLines part.calls
+  session_has_lines (Ok done) moves s = let r = s.ends.responded in calls_have_lines r.0 (lines_of (read_in moves)) r.1 r.3.0
+  session_has_lines (Err fault.Read) moves s = let r = s.ends.0.responded in calls_have_lines r.0 (ended_lines (read_in moves)) r.1 r.3.0
+  session_has_lines (Err fault.Write) moves s = let r = s.ends.0.responded in calls_have_lines r.0 s.ends.0.lines r.1 r.3.0
+  session_has_lines (Err (fault.NoMemory refused)) moves s = let r = s.ends.commands in calls_have_lines r.0 (s.ends.lines ++ s.ends.next) r.1 r.2.0
   session_has_lines (Err (fault.Setup why)) moves s = absurd s.ends
   session_has_lines (Err (fault.Line script line why)) moves s = absurd s.ends
   session_has_lines (Err (fault.ScriptTooLong script)) moves s = absurd s.ends
@@ -99,7 +102,7 @@ of_each_seat seats (e ∷ es) of_seats each = (
   of_each_seat seats es of_seats.1 (λ seat low high. own_tail (e.seat == seat) e.command (own seat es) (each seat low high)),
 )
 
-module _ (rules : Parts → Rules) (begun c : Journaled) (its : List Entry) (is : c.journal ≡ begun.journal ++ its) (seat : ℕ) where
+module _ (rules : Parts → Rules) (Answers : RunView → Inquiry → List ℕ → Type 0) (begun c : Journaled) (its : List Entry) (is : c.journal ≡ begun.journal ++ its) (seat : ℕ) where
   own_came : own seat c.journal ≡ own seat begun.journal ++ own seat its
   own_came = ap (own seat) is ∙ own-append seat begun.journal its
 
@@ -116,10 +119,10 @@ module _ (rules : Parts → Rules) (begun c : Journaled) (its : List Entry) (is 
       sym (drop-append_seam front (own seat its)) ∙ ap (drop (length front)) (sym own_came ∙ same) ∙ drop_all (length front) front (omega arith)
 
   -- what came of a seat has commands of lines alone
-  ended_in_range : (Opens : Result SeatSeen ReadFault → Type 0) (ended : Option Known) (outcome : Result (Unit {0}) PlayFault) → HasEnded rules begun c seat Opens ended outcome → InRange (own seat its)
+  ended_in_range : (Opens : Result SeatSeen ReadFault → Type 0) (ended : Option Known) (outcome : Result (Unit {0}) PlayFault) → HasEnded rules Answers begun c seat Opens ended outcome → InRange (own seat its)
   ended_in_range Opens (Some ended) outcome (opening, opens, held) =
       commands_of seat (own seat its)
-      (subst HaveLines calls_came (session_has_lines (seat_style opening.prompt c.setup c.seats seat) (since (part_in rules begun seat) (part_in rules c seat)) outcome held.made held.session))
+      (subst HaveLines calls_came (session_has_lines Answers (seat_style opening.prompt c.setup c.seats seat) (since (part_in rules begun seat) (part_in rules c seat)) outcome held.made held.session))
   ended_in_range Opens None outcome (fault, opens, unopened) = subst InRange (sym (none_came unopened.none)) tt
 
 both_have_lines : (first more : List Entry) → HaveLines first → HaveLines more → HaveLines (first ++ more)
@@ -130,9 +133,9 @@ later_of_seats : (seats : ℕ) (first more : List Entry) → AreOfSeats seats (f
 later_of_seats seats [] more all = all
 later_of_seats seats (e ∷ first) more all = later_of_seats seats first more all.1
 
-pub writable : {P T : Type 0} (rules : Parts → Rules) (known : T → Known) (opens : P → Result SeatSeen ReadFault → Type 0) (begun : Journaled) (openers : List P) (c : Journaled) (finished : List (Finished T)) → AreSessions rules known opens begun openers c finished
+pub writable : {P T : Type 0} (rules : Parts → Rules) (Answers : RunView → Inquiry → List ℕ → Type 0) (known : T → Known) (opens : P → Result SeatSeen ReadFault → Type 0) (begun : Journaled) (openers : List P) (c : Journaled) (finished : List (Finished T)) → AreSessions rules Answers known opens begun openers c finished
     → IsWritable begun → begun.seats ≡ length openers → length c.journal ≤ MAX_ENTRIES → IsWritable c
-writable rules known opens begun openers c finished all can of few =
+writable rules Answers known opens begun openers c finished all can of few =
     let its = all.begins.0 in
     let is = all.begins.1 in
     let of_seats = later_of_seats c.seats begun.journal its (subst (AreOfSeats c.seats) is all.entries) in
@@ -144,7 +147,7 @@ writable rules known opens begun openers c finished all can of few =
     let number : k + 1 ≡ seat = omega (arith, low) in
     let ended = get_or finished k a in
     subst (λ (n : ℕ). InRange (own n its)) number
-    (ended_in_range rules begun c its is (k + 1) (opens (get_or openers k p)) (option_map known ended.console) ended.outcome (all.each k p a below))) in
+    (ended_in_range rules Answers begun c its is (k + 1) (opens (get_or openers k p)) (option_map known ended.console) ended.outcome (all.each k p a below))) in
     record {
       seats = omega (arith, all.seats_are, of, can.seats);
       of_seats = all.entries;

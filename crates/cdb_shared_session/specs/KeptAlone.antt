@@ -3,10 +3,12 @@ use Rattle.std.specs.Prelude.{◌≡◌, ◌⊎◌, ℕ, ◌≤◌, List, [], le
 use Rattle.cdb_base.specs.Limits.{MAX_ENTRIES, MAX_SEATS}
 use Rattle.cdb_control.specs.Journal.{Journaled, Begins}
 use Rattle.cdb_journal.specs.OpenedFrom.{IsOpenedFrom}
+use Rattle.cdb_rules.specs.RunView.{RunView}
 use Rattle.cdb_rules.specs.Rules.{Rules}
 use Rattle.cdb_session.specs.Alone.{whole_part, nine}
 use Rattle.cdb_session.specs.Debugs.{IsFaultOfBeginning}
 use Rattle.cdb_session.specs.Greetings.{greeting_at, greeting_text}
+use Rattle.cdb_session.specs.declared.inquiry.Inquiry.{Inquiry}
 use Rattle.cdb_session.specs.Moves.{Known, Move, Makes}
 use Rattle.cdb_session.specs.Served.{IsSession}
 use Rattle.cdb_session.specs.Since.{since}
@@ -43,20 +45,20 @@ module _ {J : Type 0} (stream : J → Stream) where
   -- ---- what the public contract names
 
   -- One journal explains all responses, from a control at the beginning to one at the end, and the file took it.
-  pub record HoldsKept (rules : Parts → Rules) (prompt : List ℕ) (begun : Journaled) (returned : Result (Unit {0}) PlayFault)
+  pub record HoldsKept (rules : Parts → Rules) (Answers : RunView → Inquiry → List ℕ → Type 0) (prompt : List ℕ) (begun : Journaled) (returned : Result (Unit {0}) PlayFault)
       (made : List Move) (file : J) (kept : Kept J) : Type 0 where
     pub control : Journaled
     pub setup_is : control.setup ≡ begun.setup
     pub seats_are : control.seats ≡ begun.seats
     pub begins : Begins begun.journal control.journal
-    pub session : IsSession (nine (greeting_at prompt (greeting_text begun.setup)) prompt)
+    pub session : IsSession Answers (nine (greeting_at prompt (greeting_text begun.setup)) prompt)
         (since (whole_part rules begun) (whole_part rules control)) returned made
     pub keeps : IsKept stream kept.outcome file kept.file control.journal
 
   -- such a session that has made the moves, where those before were known
-  abbrev pub HoldsFrom : (Parts → Rules) → List ℕ → Journaled → Known → Known → J → Result (Unit {0}) PlayFault × Kept J → Type 0
-  HoldsFrom rules prompt begun old new file ended =
-      (made : List Move) × Makes old new made × HoldsKept rules prompt begun ended.0 made file ended.1
+  abbrev pub HoldsFrom : (Parts → Rules) → (RunView → Inquiry → List ℕ → Type 0) → List ℕ → Journaled → Known → Known → J → Result (Unit {0}) PlayFault × Kept J → Type 0
+  HoldsFrom rules Answers prompt begun old new file ended =
+      (made : List Move) × Makes old new made × HoldsKept rules Answers prompt begun ended.0 made file ended.1
 
   -- there is no control, and the file is as it was
   abbrev pub IsNotBegun : List ℕ → List ℕ → Known → Known → J → Result (Unit {0}) PlayFault × Kept J → Type 0
@@ -65,9 +67,9 @@ module _ {J : Type 0} (stream : J → Stream) where
   IsNotBegun json from old new file (Ok done, kept) = ⊥
 
   -- on the setup that the text of JSON encodes, from the journal on, or there is no session
-  abbrev pub DebugsKept : (Parts → Rules) → List ℕ → List ℕ → List ℕ → Known → Known → J
+  abbrev pub DebugsKept : (Parts → Rules) → (RunView → Inquiry → List ℕ → Type 0) → List ℕ → List ℕ → List ℕ → Known → Known → J
       → Result (Unit {0}) PlayFault × Kept J → Type 0
-  DebugsKept rules prompt json from old new file ended =
+  DebugsKept rules Answers prompt json from old new file ended =
       IsNotBegun json from old new file ended
       ⊎ ((setup : Parts) × (begun : Journaled) × Encodes json setup × IsOpenedFrom setup MAX_SEATS from begun
-      × HoldsFrom rules prompt begun old new file ended)
+      × HoldsFrom rules Answers prompt begun old new file ended)

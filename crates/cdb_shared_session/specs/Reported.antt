@@ -13,7 +13,9 @@ use Rattle.cdb_streams.specs.declared.fault.RaceFault.{RaceFault}
 use Rattle.cdb_streams.specs.declared.fault.PlayFault.TheVariants as play
 use Rattle.cdb_streams.specs.declared.fault.RaceFault.TheVariants as fault
 use Rattle.cdb_streams.specs.Faults.{IsSetup}
+use Rattle.cdb_rules.specs.RunView.{RunView}
 use Rattle.cdb_rules.specs.Rules.{Rules}
+use Rattle.cdb_session.specs.declared.inquiry.Inquiry.{Inquiry}
 use Rattle.cdb_setup.specs.Format.{Encodes}
 use Rattle.cdb_setup.specs.Parts.{Parts}
 use Rattle.cdb_journal.specs.Journals.{IsWritable, journal_text}
@@ -27,7 +29,7 @@ use Rattle.cdb_shared_session.specs.declared.endpoint.Finished.{Finished}
 
 -- the sessions, which go on from a journal, have ended; the journal was kept in the file where there was one, it was written, and what failed was
 -- reported, as far as that went; these are the status, and the file with how the journal was kept
-pub record RunsSessions {P T J O E : Type 0} (rules : Parts → Rules) (known : T → Known)
+pub record RunsSessions {P T J O E : Type 0} (rules : Parts → Rules) (Answers : RunView → Inquiry → List ℕ → Type 0) (known : T → Known)
     (opens : P → Result SeatSeen ReadFault → Type 0) (file_stream : J → Stream) (output_stream : O → Stream)
     (error_stream : E → Stream) (json from : List ℕ) (openers : List P) (file : Option J) (output output_after : O)
     (error error_after : E) (ended : ℕ × Option (Kept J)) : Type 0 where
@@ -37,7 +39,7 @@ pub record RunsSessions {P T J O E : Type 0} (rules : Parts → Rules) (known : 
   pub goes_on : IsOpenedFrom setup (length openers) from begun
   pub control : Journaled
   pub finished : List (Finished T)
-  pub sessions : AreSessions rules known opens begun openers control finished
+  pub sessions : AreSessions rules Answers known opens begun openers control finished
   -- so a replay of what is written tells each seat what it was told
   pub writable : IsWritable control
   pub keeps : HasKept file_stream file ended.1 control.journal

@@ -1,8 +1,9 @@
 -- What a journal has of a seat, and the style of its session.
-use Rattle.std.specs.Prelude.{ℕ, ◌&&◌, nat_lt, Bool, false, List, length, map}
+use Rattle.std.specs.Prelude.{ℕ, ◌&&◌, nat_lt, Bool, false, List, length, map, take}
 use Rattle.cdb_control.specs.Journal.{Journaled, entry, own, replies_of}
 use Rattle.cdb_rules.specs.Rules.{Rules}
 use Rattle.cdb_setup.specs.Parts.{Parts}
+use Rattle.cdb_session.specs.Answers.{run_left}
 use Rattle.cdb_session.specs.Greetings.{greeting_at, greeting_text}
 use Rattle.cdb_session.specs.Styles.{Part, Seats, StyleView, prompt_at}
 use Rattle.cdb_shared.specs.Seats.{SeatView}
@@ -14,7 +15,10 @@ part_in rules c seat =
     record {
       calls = map (entry seat) (own seat c.journal);
       replies = replies_of (rules c.setup) c.setup c.seats seat c.journal;
+      before = 0;
       entries = length c.journal;
+      calls_in = λ first. length (own seat (take first c.journal));
+      left_by = λ first. run_left rules c.setup c.seats (take first c.journal);
     }
 
 -- in the journal that the seat has seen
@@ -23,7 +27,10 @@ part_seen rules seat =
     record {
       calls = map (entry seat.number) (calls_of seat);
       replies = replies_to rules seat;
+      before = 0;
       entries = length seat.seen;
+      calls_in = λ first. length (own seat.number (take first seat.seen));
+      left_by = λ first. run_left rules seat.setup seat.seats (take first seat.seen);
     }
 
 -- the seats that a command of it may be of: this one

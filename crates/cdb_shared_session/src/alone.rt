@@ -8,23 +8,25 @@ ghost use Rattle.cdb_shared_session.specs.KeptAlone.{KeepsOn, HoldsFrom, DebugsK
 
 use crate::keeping::{Kept, keep_rest};
 use crate::reports::write_journal;
+use cdb_base::NoMemory;
 use cdb_base::limits::MAX_SEATS;
 use cdb_control::{CallFault, Command, Control, Reply};
 use cdb_rules::Runs;
-use cdb_session::{Caller, Console, Style, begin, greeting_at, run};
+use cdb_session::{Answers, Caller, Console, Inquiry, Style, answer_in, begin, greeting_at, run};
 use cdb_streams::{Failed, OutputFault, PlayFault, Sink};
 use std::alloc::Global;
-use std::marker::Model;
+use std::marker::{Model, PhantomData};
 
 /// A control, the file in which its journal is kept, and how many entries the file has.
 #[derive(Drop)]
-struct KeptControl<R: Runs, J> {
+struct KeptControl<R: Runs, A, J> {
     control: Control<R>,
+    answers: PhantomData<A>,
     file: J,
     count: Result<usize, Failed>,
 }
 
-impl<R: Runs, J> Model for KeptControl<R, J> {
+impl<R: Runs, A, J> Model for KeptControl<R, A, J> {
     ghost use Rattle.std.specs.Prelude.{◌≤◌, length, IfOk};
     ghost use Rattle.cdb_shared_session.specs.KeptAlone.{KeptView};
 
@@ -35,7 +37,7 @@ impl<R: Runs, J> Model for KeptControl<R, J> {
     ghost invariant = { λ c. IfOk c.count (λ count. count ≤ length c.control.journal) };
 }
 
-impl<R: Runs, J: Sink + Drop> KeptControl<R, J> {
+impl<R: Runs, A, J: Sink + Drop> KeptControl<R, A, J> {
     /// Adds to the file what it lacks of the journal. Where memory is out it adds nothing.
     fn keep(&mut self, alloc: Global)
         ensures control { self.new.control ≡ self.old.control }
@@ -53,13 +55,15 @@ impl<R: Runs, J: Sink + Drop> KeptControl<R, J> {
     }
 }
 
-impl<R: Runs, J: Sink + Drop> Caller for KeptControl<R, J> {
+impl<R: Runs, A: Answers<R>, J: Sink + Drop> Caller for KeptControl<R, A, J> {
     ghost use Rattle.cdb_session.specs.Alone.{whole_part, all_seats};
     ghost use Rattle.cdb_shared_session.specs.KeptAlone.{IsLaterKept};
 
     ghost part = { λ c. whole_part R.rules c.control };
 
     ghost seats = { λ c. all_seats c.control };
+
+    ghost answers = { A.answers };
 
     ghost later = { IsLaterKept J.stream };
 
@@ -68,10 +72,14 @@ impl<R: Runs, J: Sink + Drop> Caller for KeptControl<R, J> {
         self.keep(alloc);
         Ok(reply)
     }
+
+    fn ask(&mut self, alloc: Global, inquiry: Inquiry) -> Result<Vec<u8>, NoMemory> {
+        answer_in::<R, A>(alloc, &self.control, inquiry)
+    }
 }
 
 /// A session over a control, from its first line to its last.
-fn hold_kept<R: Runs, T: Console, J: Sink + Drop>(
+fn hold_kept<R: Runs, A: Answers<R>, T: Console, J: Sink + Drop>(
     alloc: Global,
     prompt: &[u8],
     control: Control<R>,
@@ -82,7 +90,8 @@ fn hold_kept<R: Runs, T: Console, J: Sink + Drop>(
     requires seats { most_seats ≤ control.seats }
     requires few { length control.journal ≤ MAX_ENTRIES }
     requires greeting { greeting.now ≡ greeting_text control.setup }
-    ensures { HoldsFrom J.stream R.rules prompt.now control (T.known console.old) (T.known console.new) file result }
+    ensures { HoldsFrom J.stream R.rules A.answers prompt.now control
+        (T.known console.old) (T.known console.new) file result }
 {
     let style = Style {
         greeting: greeting_at(greeting, prompt),
@@ -91,8 +100,9 @@ fn hold_kept<R: Runs, T: Console, J: Sink + Drop>(
         first: 1,
         chooses: true,
     };
-    let caller = KeptControl {
+    let caller = KeptControl::<R, A, J> {
         control,
+        answers: PhantomData,
         file,
         count: Ok(0),
     };
@@ -101,6 +111,7 @@ fn hold_kept<R: Runs, T: Console, J: Sink + Drop>(
         control,
         file,
         count,
+        ..
     } = caller;
     let kept = keep_rest(alloc, control.journal(), file, count);
     control.close();
@@ -118,7 +129,7 @@ fn hold_kept<R: Runs, T: Console, J: Sink + Drop>(
 ///
 /// Promise: One journal explains all responses of the session, and the file has it at the end, or a beginning of it where
 /// it could not be written or memory was out.
-pub fn debug_kept<R: Runs, T: Console, J: Sink + Drop>(
+pub fn debug_kept<R: Runs, A: Answers<R>, T: Console, J: Sink + Drop>(
     alloc: Global,
     setup: &[u8],
     from: &[u8],
@@ -126,12 +137,12 @@ pub fn debug_kept<R: Runs, T: Console, J: Sink + Drop>(
     console: &mut T,
     file: J,
 ) -> (Result<(), PlayFault>, Kept<J>)
-    ensures { DebugsKept J.stream R.rules prompt.now setup.now from.now
+    ensures { DebugsKept J.stream R.rules A.answers prompt.now setup.now from.now
         (T.known console.old) (T.known console.new) file result }
 {
     match begin::<R>(alloc, setup, from, MAX_SEATS) {
         Ok((control, greeting)) => {
-            hold_kept::<R, T, J>(alloc, prompt, control, greeting.as_slice(), console, file)
+            hold_kept::<R, A, T, J>(alloc, prompt, control, greeting.as_slice(), console, file)
         }
         Err(fault) => {
             let outcome = Ok(());

@@ -3,7 +3,7 @@
 //!
 //! ```text
 //! let openers = vec![in alloc; opener]?;
-//! let (control, finished, kept) = debug_seats::<R, _, _, _>(rt, alloc, control, greeting, openers, file)?;
+//! let (control, finished, kept) = debug_seats::<R, A, _, _, _>(rt, alloc, control, greeting, openers, file)?;
 //! let text = cdb_journal::journal_text(alloc, control.journal())?;
 //! ```
 #![tactic(auto)]

@@ -1,41 +1,50 @@
 //! What one thread does with its seat.
 
-ghost use Rattle.std.specs.Prelude.{◌≡◌, false};
+ghost use Rattle.std.specs.Prelude.{◌≡◌, ◌≤◌, false};
+ghost use Rattle.cdb_base.specs.Limits.{MAX_SEATS};
 ghost use Rattle.cdb_shared.specs.Seats.{IsLater, RestsAt};
 ghost use Rattle.cdb_shared_session.specs.Promises.{IsUnused, RunsSeat, HasRun};
 ghost use Rattle.cdb_shared_session.specs.SeatParts.{is_numbered};
 
 use crate::endpoint::{Endpoint, Finished, Opener};
+use cdb_base::NoMemory;
 use cdb_control::{CallFault, Command, Reply};
 use cdb_rules::Runs;
-use cdb_session::{Caller, Console, Style, greeting_at, run};
+use cdb_session::{Answers, Caller, Console, Inquiry, Style, answer_of, greeting_at, run};
+use cdb_setup::Setup;
 use cdb_shared::{Seat, Shared};
 use cdb_streams::PlayFault;
 use std::alloc::Global;
-use std::marker::Model;
+use std::marker::{Model, PhantomData};
 use std::snapshot::Snapshot;
 use std::sync::Wait;
 use std::thread::Promise;
 
 /// Carries the commands of one seat out, in the turns that it shares with others.
 #[derive(Drop)]
-pub(crate) struct SeatCaller<'a, R: Runs, Rt> {
+pub(crate) struct SeatCaller<'a, R: Runs, A, Rt> {
     shared: &'a Shared<R>,
     rt: &'a Rt,
+    setup: &'a Setup,
+    seats: u8,
     seat: Seat<R>,
+    answers: PhantomData<A>,
 }
 
-impl<'a, R: Runs, Rt> Model for SeatCaller<'a, R, Rt> {
+impl<'a, R: Runs, A, Rt> Model for SeatCaller<'a, R, A, Rt> {
+    ghost use Rattle.std.specs.Prelude.{◌≡◌, ◌≤◌};
+    ghost use Rattle.cdb_base.specs.Limits.{MAX_SEATS};
     ghost use Rattle.cdb_shared.specs.Seats.{SeatView, RestsAt};
 
     ghost Value = { SeatView };
 
     ghost view = { λ s. s.seat };
 
-    ghost invariant = { λ s. RestsAt s.shared.now s.seat };
+    ghost invariant = { λ s. RestsAt s.shared.now s.seat × (s.setup.now ≡ s.seat.setup)
+        × (s.seats ≡ s.seat.seats) × (1 ≤ s.seats) × (s.seats ≤ MAX_SEATS) };
 }
 
-impl<'a, R: Runs, Rt: Wait> Caller for SeatCaller<'a, R, Rt> {
+impl<'a, R: Runs, A: Answers<R>, Rt: Wait> Caller for SeatCaller<'a, R, A, Rt> {
     ghost use Rattle.cdb_shared.specs.Seats.{IsLater};
     ghost use Rattle.cdb_shared_session.specs.SeatParts.{part_seen, own_seat};
 
@@ -43,16 +52,24 @@ impl<'a, R: Runs, Rt: Wait> Caller for SeatCaller<'a, R, Rt> {
 
     ghost seats = { own_seat };
 
+    ghost answers = { A.answers };
+
     ghost later = { IsLater };
 
     fn call(&mut self, alloc: Global, _seat: u8, command: Command) -> Result<Reply, CallFault> {
         self.shared.call(self.rt, alloc, &mut self.seat, command)
     }
+
+    fn ask(&mut self, alloc: Global, inquiry: Inquiry) -> Result<Vec<u8>, NoMemory> {
+        let journal = self.shared.journal(self.rt, alloc, &mut self.seat)?;
+        answer_of::<R, A>(alloc, self.setup, self.seats, journal.as_slice(), inquiry)
+    }
 }
 
-/// What each seat is welcomed with: the setup in words, and how many seats there are.
+/// What each seat is welcomed with: the setup and its words, and how many seats there are.
 #[derive(Clone, Copy)]
 pub(crate) struct Welcome<'a> {
+    pub(crate) setup: &'a Setup,
     pub(crate) greeting: &'a [u8],
     pub(crate) seats: u8,
 }
@@ -66,33 +83,46 @@ pub(crate) struct SeatResult<R: Runs, T> {
 
 /// What the thread of a seat promises.
 #[derive(Drop)]
-pub(crate) struct SeatPromise<R: Runs, P> {
+pub(crate) struct SeatPromise<R: Runs, A, P> {
+    pub(crate) answers: PhantomData<A>,
     pub(crate) seat: Snapshot<Seat<R>>,
     pub(crate) opener: Snapshot<P>,
 }
 
-impl<R: Runs, P: Opener> Promise<SeatResult<R, P::Seat>> for SeatPromise<R, P> {
+impl<R: Runs, A: Answers<R>, P: Opener> Promise<SeatResult<R, P::Seat>> for SeatPromise<R, A, P> {
     ghost use Rattle.cdb_shared_session.specs.Promises.{HasRun};
 
-    ghost kept_by = { λ p r. HasRun R.rules P.Seat.known P.opens p.seat.value p.opener.value r.seat r.finished };
+    ghost kept_by = { λ p r. HasRun R.rules A.answers P.Seat.known P.opens p.seat.value p.opener.value r.seat r.finished };
 }
 
 /// A seat's session in a style by which no line chooses a seat, from its first line to its last. Hands the seat back.
-fn run_styled<R: Runs, T: Console, Rt: Wait>(
+fn run_styled<R: Runs, A: Answers<R>, T: Console, Rt: Wait>(
     shared: &Shared<R>,
     rt: &Rt,
     alloc: Global,
+    welcome: Welcome<'_>,
     style: &Style<'_>,
     seat: Seat<R>,
     console: &mut T,
 ) -> (Seat<R>, Result<(), PlayFault>)
     requires rests { RestsAt shared.now seat }
+    requires setup { welcome.setup.now ≡ seat.setup }
+    requires seats { welcome.seats ≡ seat.seats }
+    requires some { (1 ≤ welcome.seats) × (welcome.seats ≤ MAX_SEATS) }
     requires first { style.now.first ≡ seat.number }
     requires chooses { style.now.chooses ≡ false }
     ensures later { IsLater seat result.0 }
-    ensures session { RunsSeat R.rules style.now seat result.0 result.1 (T.known console.old) (T.known console.new) }
+    ensures session { RunsSeat R.rules A.answers style.now seat result.0 result.1 (T.known console.old) (T.known console.new) }
 {
-    let (caller, outcome) = run(alloc, style, SeatCaller { shared, rt, seat }, console);
+    let caller = SeatCaller::<'_, R, A, Rt> {
+        shared,
+        rt,
+        setup: welcome.setup,
+        seats: welcome.seats,
+        seat,
+        answers: PhantomData,
+    };
+    let (caller, outcome) = run(alloc, style, caller, console);
     let SeatCaller { seat, .. } = caller;
     (seat, outcome)
 }
@@ -105,7 +135,7 @@ fn is_numbered(seats: u8, prompt: &[u8]) -> bool
 }
 
 /// A seat's session, once its streams are open; where they can't be opened, there is none.
-pub(crate) fn run_seat<R: Runs, P: Opener, Rt: Wait>(
+pub(crate) fn run_seat<R: Runs, A: Answers<R>, P: Opener, Rt: Wait>(
     shared: &Shared<R>,
     rt: &Rt,
     alloc: Global,
@@ -114,7 +144,7 @@ pub(crate) fn run_seat<R: Runs, P: Opener, Rt: Wait>(
     opener: P,
 ) -> SeatResult<R, P::Seat>
     requires { IsUnused shared.now welcome seat }
-    ensures { HasRun R.rules P.Seat.known P.opens seat opener result.seat result.finished }
+    ensures { HasRun R.rules A.answers P.Seat.known P.opens seat opener result.seat result.finished }
 {
     let Endpoint {
         mut console,
@@ -136,7 +166,15 @@ pub(crate) fn run_seat<R: Runs, P: Opener, Rt: Wait>(
         first: seat.number(),
         chooses: false,
     };
-    let (seat, outcome) = run_styled(shared, rt, alloc, &style, seat, &mut console);
+    let (seat, outcome) = run_styled::<R, A, _, Rt>(
+        shared,
+        rt,
+        alloc,
+        welcome,
+        &style,
+        seat,
+        &mut console,
+    );
     SeatResult {
         seat,
         finished: Finished {

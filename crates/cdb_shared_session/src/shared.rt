@@ -12,7 +12,7 @@ use crate::reports::{status_after, write_failures, write_journal};
 use crate::threads::{SessionsFault, debug_seats};
 use cdb_base::limits::MAX_SEATS;
 use cdb_rules::Runs;
-use cdb_session::begin;
+use cdb_session::{Answers, begin};
 use cdb_streams::{OutputFault, PlayFault, RaceFault, Sink};
 use std::alloc::Global;
 use std::sync::Wait;
@@ -69,6 +69,7 @@ fn outcome_of<J>(kept: &Option<Kept<J>>) -> Result<(), OutputFault>
 /// memory; the status is that of a journal that was not written, else of the least seat that failed.
 pub fn debug_shared<
     R: Runs + Send,
+    A: Answers<R> + Send,
     P: Opener + Send,
     J: Sink + Drop,
     Rt: Threads + Wait + Clock + Sync,
@@ -86,7 +87,7 @@ pub fn debug_shared<
 ) -> Result<(u8, Option<Kept<J>>), RaceFault>
     requires some { 1 ≤ vec_len openers }
     requires fits { vec_len openers ≤ MAX_SEATS }
-    ensures sessions { IfOk result (RunsSessions R.rules P.Seat.known P.opens J.stream O.stream E.stream
+    ensures sessions { IfOk result (RunsSessions R.rules A.answers P.Seat.known P.opens J.stream O.stream E.stream
         setup.now from.now openers.items file output.old output.new error.old error.new) }
     ensures fault { IfErr result (IsFaultOfSessions setup.now from.now (vec_len openers)) }
     ensures unwritten { OnErr result ((output.new ≡ output.old) × (error.new ≡ error.old)) }
@@ -96,7 +97,9 @@ pub fn debug_shared<
         Ok(begun) => begun,
         Err(fault) => return Err(of_beginning(fault)),
     };
-    let ended = debug_seats::<R, P, J, Rt>(rt, alloc, control, greeting.as_slice(), openers, file);
+    let ended = debug_seats::<R, A, P, J, Rt>(
+        rt, alloc, control, greeting.as_slice(), openers, file,
+    );
     let (control, finished, kept) = match ended {
         Ok(sessions) => sessions,
         Err(fault) => return Err(of_sessions(fault)),

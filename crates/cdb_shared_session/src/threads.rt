@@ -16,10 +16,13 @@ use cdb_base::NoMemory;
 use cdb_base::start::{RefusedStart, start};
 use cdb_control::Control;
 use cdb_rules::Runs;
+use cdb_session::Answers;
+use cdb_setup::Setup;
 use cdb_shared::{Seat, Shared, Watch};
 use cdb_streams::Sink;
 use std::alloc::Global;
 use std::error::Error;
+use std::marker::PhantomData;
 use std::snapshot::Snapshot;
 use std::sync::Wait;
 use std::sync::atomic::{AtomicU64, Ordering};
@@ -53,7 +56,14 @@ impl fmt::Display for SessionsFault {
 impl Error for SessionsFault {}
 
 /// Starts a thread for one seat, which is one fewer of those that are going on once it has ended.
-fn start_one<'s, E, R: Runs + Send + 's, P: Opener + Send + 's, Rt: Threads + Wait + Sync>(
+fn start_one<
+    's,
+    E,
+    R: Runs + Send + 's,
+    A: Answers<R> + Send + 's,
+    P: Opener + Send + 's,
+    Rt: Threads + Wait + Sync,
+>(
     scope: &Scope<'s, E>,
     rt: &'s Rt,
     alloc: Global,
@@ -62,11 +72,12 @@ fn start_one<'s, E, R: Runs + Send + 's, P: Opener + Send + 's, Rt: Threads + Wa
     welcome: Welcome<'s>,
     seat: Seat<R>,
     opener: P,
-) -> Result<PromisedHandle<SeatResult<R, P::Seat>, SeatPromise<R, P>>, SessionsFault>
+) -> Result<PromisedHandle<SeatResult<R, P::Seat>, SeatPromise<R, A, P>>, SessionsFault>
     requires { IsUnused shared.now welcome seat }
     ensures { IfOk result (λ handle. IsSeatPromise seat opener handle.promise) }
 {
-    let promise = SeatPromise {
+    let promise = SeatPromise::<R, A, P> {
+        answers: PhantomData,
         seat: Snapshot::of(&seat),
         opener: Snapshot::of(&opener),
     };
@@ -75,9 +86,9 @@ fn start_one<'s, E, R: Runs + Send + 's, P: Opener + Send + 's, Rt: Threads + Wa
         promise,
         move || -> SeatResult<R, P::Seat>
             requires { IsUnused shared.now welcome seat }
-            ensures { HasRun R.rules P.Seat.known P.opens seat opener result.seat result.finished }
+            ensures { HasRun R.rules A.answers P.Seat.known P.opens seat opener result.seat result.finished }
         {
-            let ended = run_seat(shared, rt, alloc, welcome, seat, opener);
+            let ended = run_seat::<R, A, P, Rt>(shared, rt, alloc, welcome, seat, opener);
             going.fetch_sub(1, Ordering::SeqCst);
             ended
         },
@@ -86,7 +97,14 @@ fn start_one<'s, E, R: Runs + Send + 's, P: Opener + Send + 's, Rt: Threads + Wa
 }
 
 /// Starts a thread for each seat, the last seat's first.
-fn start_all<'s, E, R: Runs + Send + 's, P: Opener + Send + 's, Rt: Threads + Wait + Sync>(
+fn start_all<
+    's,
+    E,
+    R: Runs + Send + 's,
+    A: Answers<R> + Send + 's,
+    P: Opener + Send + 's,
+    Rt: Threads + Wait + Sync,
+>(
     scope: &Scope<'s, E>,
     rt: &'s Rt,
     alloc: Global,
@@ -95,7 +113,7 @@ fn start_all<'s, E, R: Runs + Send + 's, P: Opener + Send + 's, Rt: Threads + Wa
     welcome: Welcome<'s>,
     mut seats: Vec<Seat<R>>,
     mut openers: Vec<P>,
-) -> Result<Vec<PromisedHandle<SeatResult<R, P::Seat>, SeatPromise<R, P>>>, SessionsFault>
+) -> Result<Vec<PromisedHandle<SeatResult<R, P::Seat>, SeatPromise<R, A, P>>>, SessionsFault>
     requires ready { All (λ seat. IsUnused shared.now welcome seat) seats.items }
     requires openers { vec_len openers ≡ vec_len seats }
     ensures count { IfOk result (λ handles. vec_len handles ≡ vec_len seats) }
@@ -109,7 +127,9 @@ fn start_all<'s, E, R: Runs + Send + 's, P: Opener + Send + 's, Rt: Threads + Wa
         let Some(opener) = openers.pop() else {
             unreachable!()
         };
-        let handle = start_one(scope, rt, alloc, shared, going, welcome, seat, opener)?;
+        let handle = start_one::<E, R, A, P, Rt>(
+            scope, rt, alloc, shared, going, welcome, seat, opener,
+        )?;
         handles.push_reserved(handle);
     }
     Ok(handles)
@@ -117,16 +137,16 @@ fn start_all<'s, E, R: Runs + Send + 's, P: Opener + Send + 's, Rt: Threads + Wa
 
 /// Joins the threads, of which the last seat's comes first, and adds the seats and how their sessions ended, the first
 /// seat's first, to lists that have room for them.
-fn join_each<R: Runs, P: Opener, Rt: Threads>(
+fn join_each<R: Runs, A: Answers<R>, P: Opener, Rt: Threads>(
     rt: &Rt,
-    mut handles: Vec<PromisedHandle<SeatResult<R, P::Seat>, SeatPromise<R, P>>>,
+    mut handles: Vec<PromisedHandle<SeatResult<R, P::Seat>, SeatPromise<R, A, P>>>,
     mut seats: Vec<Seat<R>>,
     mut all: Vec<Finished<P::Seat>>,
 ) -> (Vec<Seat<R>>, Vec<Finished<P::Seat>>)
     requires empty { (vec_len seats ≡ 0) × (vec_len all ≡ 0) }
     requires room { (vec_len handles ≤ vec_capacity seats) × (vec_len handles ≤ vec_capacity all) }
     ensures count { (vec_len result.0 ≡ vec_len handles) × (vec_len result.1 ≡ vec_len handles) }
-    ensures each { AllKept R.rules P.Seat.known P.opens handles.items result.0.items result.1.items }
+    ensures each { AllKept R.rules A.answers P.Seat.known P.opens handles.items result.0.items result.1.items }
 {
     while let Some(handle) = handles.pop() {
         let SeatResult { seat, finished } = handle.join(rt);
@@ -149,6 +169,7 @@ fn join_all<
     's,
     E,
     R: Runs + Send + 's,
+    A: Answers<R> + Send + 's,
     P: Opener + Send + 's,
     J: Sink + Drop,
     Rt: Threads + Wait + Clock + Sync,
@@ -174,19 +195,27 @@ fn join_all<
     ensures count { IfOk result
         (λ r. (vec_len r.0 ≡ vec_len seats) × (vec_len r.1 ≡ vec_len seats)) }
     ensures each { IfOk result
-        (λ r. AllHaveRun R.rules P.Seat.known P.opens seats.items openers.items r.0.items r.1.items) }
+        (λ r. AllHaveRun R.rules A.answers P.Seat.known P.opens seats.items openers.items r.0.items r.1.items) }
     ensures later { IfOk result (λ r. IsLater keeping.watch r.2.watch) }
     ensures kept { IfOk result (λ r. GoesOnKeeping J.stream keeping r.2) }
 {
-    let handles = start_all(scope, rt, alloc, shared, going, welcome, seats, openers)?;
+    let handles = start_all::<E, R, A, P, Rt>(
+        scope, rt, alloc, shared, going, welcome, seats, openers,
+    )?;
     let keeping = keep(shared, rt, alloc, keeping, going);
-    let (seats, finished) = join_each(rt, handles, done, all);
+    let (seats, finished) = join_each::<R, A, P, Rt>(rt, handles, done, all);
     Ok((seats, finished, keeping))
 }
 
 /// Serves every seat in a thread of its own, keeps the journal meanwhile, and joins them all; the seats and how their
 /// sessions ended are added to lists that have room for them.
-fn run_all<R: Runs + Send, P: Opener + Send, J: Sink + Drop, Rt: Threads + Wait + Clock + Sync>(
+fn run_all<
+    R: Runs + Send,
+    A: Answers<R> + Send,
+    P: Opener + Send,
+    J: Sink + Drop,
+    Rt: Threads + Wait + Clock + Sync,
+>(
     rt: &Rt,
     alloc: Global,
     shared: &Shared<R>,
@@ -207,7 +236,7 @@ fn run_all<R: Runs + Send, P: Opener + Send, J: Sink + Drop, Rt: Threads + Wait 
     ensures count { IfOk result
         (λ r. (vec_len r.0 ≡ vec_len seats) × (vec_len r.1 ≡ vec_len seats)) }
     ensures each { IfOk result
-        (λ r. AllHaveRun R.rules P.Seat.known P.opens seats.items openers.items r.0.items r.1.items) }
+        (λ r. AllHaveRun R.rules A.answers P.Seat.known P.opens seats.items openers.items r.0.items r.1.items) }
     ensures later { IfOk result (λ r. IsLater keeping.watch r.2.watch) }
     ensures kept { IfOk result (λ r. GoesOnKeeping J.stream keeping r.2) }
 {
@@ -222,7 +251,7 @@ fn run_all<R: Runs + Send, P: Opener + Send, J: Sink + Drop, Rt: Threads + Wait 
             requires empty { (vec_len done ≡ 0) × (vec_len all ≡ 0) }
             requires room { (vec_len seats ≤ vec_capacity done) × (vec_len seats ≤ vec_capacity all) }
         {
-            join_all(
+            join_all::<_, R, A, P, J, Rt>(
                 scope, rt, alloc, shared, going, welcome, seats, openers, keeping, done, all,
             )
         },
@@ -257,6 +286,16 @@ fn share<R: Runs, Rt: Wait>(
     }
 }
 
+/// The same setup.
+fn copy(alloc: Global, setup: &Setup) -> Result<Setup, SessionsFault>
+    ensures { IfOk result (λ again. again ≡ setup.now) }
+{
+    match setup.copy(alloc) {
+        Ok(again) => Ok(again),
+        Err(refused) => Err(SessionsFault::NoMemory(refused)),
+    }
+}
+
 /// How sessions ended: the control, what came of each seat, and the file of the journal, if there is one.
 pub type Ended<R, P, J> = (
     Control<R>,
@@ -283,12 +322,14 @@ pub type Ended<R, P, J> = (
 ///
 /// Promise: With several seats one journal explains the responses to each: it has the commands of each seat's lines, in
 /// order and each once, or the first of them and is full; each seat got the replies to them there, in full before it
-/// was asked for more; no entry is of another seat. A seat is opened in its own thread; one that can't be opened has no
+/// was asked for more; no entry is of another seat. What a line of a seat asks of the run is answered of the run that a
+/// beginning of the journal leaves, which has of the seat just the commands of the lines before. A seat is opened in its own thread; one that can't be opened has no
 /// entry, and ends with that fault. A seat that fails ends alone; only after out of memory the journal may have one
 /// command more than had its reply. The file has the journal at the end, or a beginning of it where it could not be
 /// written or memory was out.
 pub fn debug_seats<
     R: Runs + Send,
+    A: Answers<R> + Send,
     P: Opener + Send,
     J: Sink + Drop,
     Rt: Threads + Wait + Clock + Sync,
@@ -304,7 +345,7 @@ pub fn debug_seats<
     requires seats { vec_len openers ≡ control.seats }
     requires greeting { greeting.now ≡ greeting_text control.setup }
     ensures sessions { IfOk result
-        (λ r. AreSessions R.rules P.Seat.known P.opens control openers.items r.0 r.1.items) }
+        (λ r. AreSessions R.rules A.answers P.Seat.known P.opens control openers.items r.0 r.1.items) }
     ensures kept { IfOk result (λ r. HasKept J.stream file r.2 r.0.journal) }
     ensures writable { IfOk result (λ r. IsWritable control → IsWritable r.0) }
     ensures headline { IfOk result (λ r. HasHeadline R.rules R.same_state r.0) }
@@ -312,7 +353,9 @@ pub fn debug_seats<
     let count = control.seats();
     let done = reserve(alloc, openers.len())?;
     let all = reserve(alloc, openers.len())?;
+    let again = copy(alloc, control.run().setup())?;
     let welcome = Welcome {
+        setup: &again,
         greeting,
         seats: count,
     };
@@ -323,7 +366,7 @@ pub fn debug_seats<
         file,
         count: Ok(0),
     };
-    let left = run_all(
+    let left = run_all::<R, A, P, J, Rt>(
         rt, alloc, &shared, &going, welcome, seats, openers, keeping, done, all,
     );
     let (seats, finished, keeping) = match left {

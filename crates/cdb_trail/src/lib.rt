@@ -20,4 +20,4 @@ mod writes;
 
 pub use origins::{Origin, origins_of};
 pub use trail::{Trail, trail_of};
-pub use writes::write_trail;
+pub use writes::{text_of_trail_to, write_trail};

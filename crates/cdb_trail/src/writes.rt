@@ -73,7 +73,7 @@ fn text_of_trail(alloc: Global, run: &Trace, trail: &Trail) -> Result<Vec<u8>, N
 }
 
 /// The text of the trail to the step at a position, from 1, of this run; none where the step takes no value.
-fn text_of_trail_to(
+pub fn text_of_trail_to(
     alloc: Global,
     run: &Trace,
     position: usize,

@@ -1,5 +1,5 @@
--- The edge to the system: what its errors tell, and the names of seats.
-use Rattle.std.specs.Prelude.{◌≡◌, ◌==◌, ℕ, Bool, List, codes, bytes_eq, if◌then◌else◌}
+-- The edge to the system: what its errors tell, the names of seats, and what is said at a terminal.
+use Rattle.std.specs.Prelude.{◌≡◌, ◌==◌, ◌&&◌, ℕ, Bool, List, [], codes, bytes_eq, if◌then◌else◌}
 use Rattle.std.specs.List.{after_first, before_first}
 use Rattle.std.specs.declared.io.ErrorKind.{ErrorKind}
 use Rattle.std.specs.declared.io.ErrorKind.TheVariants as kind
@@ -25,3 +25,10 @@ HasNoColon name = before_first is_colon name ≡ name
 -- the name of a seat in two: what it reads, before the first colon, and what it writes, behind that
 abbrev pub IsPair : List ℕ → List ℕ → List ℕ → Type 0
 IsPair name input output = (input ≡ before_first is_colon name) × (output ≡ after_first is_colon name)
+
+-- what is said before a script is read from a terminal, as where the program's name is the only argument
+abbrev pub hint_at : Bool → ℕ → List ℕ
+hint_at is_terminal arguments =
+    if is_terminal && arguments == 1
+    then codes "reading a script up to the end of input; revdbg --help says what else there is\n"
+    else []

@@ -10,7 +10,7 @@ use cdb_program::Outside;
 use cdb_session::Streams;
 use cdb_streams::{Input, Output};
 use run::begin;
-use seats::prompt_at;
+use seats::{hint_at, prompt_at};
 use std::io::IsTerminal;
 use std::process::ExitCode;
 use std::{env, io};
@@ -28,7 +28,10 @@ fn main(rt: HostRuntime) -> ExitCode {
         streams: Streams::new(Input::new(rt.reader()), Output::new(io::writer(&rt))),
         error: Output::new(rt.stderr()),
     };
-    let prompt = prompt_at(rt.stdin().is_terminal());
-    let status = begin(&rt, rt.alloc(), prompt, words_of(&rt), &mut outside);
+    let is_terminal = rt.stdin().is_terminal();
+    let words = words_of(&rt);
+    let arguments = words.as_ref().map_or(0, |words| words.len());
+    let _ = eprint!(&rt; "{}", hint_at(is_terminal, arguments));
+    let status = begin(&rt, rt.alloc(), prompt_at(is_terminal), words, &mut outside);
     ExitCode::from(status)
 }

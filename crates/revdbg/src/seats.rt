@@ -1,7 +1,7 @@
-//! The names of files and of seats, and what a session shows before each line.
+//! The names of files and of seats, and what is shown at a terminal before anything is read.
 
 ghost use Rattle.std.specs.Prelude.{◌≡◌, [], codes, if◌then◌else◌, MatchOption};
-ghost use Rattle.revdbg.specs.System.{HasNoColon, IsPair, path_of};
+ghost use Rattle.revdbg.specs.System.{HasNoColon, IsPair, hint_at, path_of};
 
 /// The path of what is read where this name is given: `-` names standard input.
 pub fn path_of<'a>(name: &'a str) -> &'a str
@@ -15,6 +15,18 @@ pub fn prompt_at(is_terminal: bool) -> &'static str
     ensures { result.now ≡ (if is_terminal then codes "> " else []) }
 {
     if is_terminal { "> " } else { "" }
+}
+
+/// What is said before a script is read from standard input, where that is a terminal: else nobody would know that it is
+/// waited for. The program's name is one of so many arguments.
+pub fn hint_at(is_terminal: bool, arguments: usize) -> &'static str
+    ensures { result.now ≡ hint_at is_terminal arguments }
+{
+    if is_terminal && arguments == 1 {
+        "reading a script up to the end of input; revdbg --help says what else there is\n"
+    } else {
+        ""
+    }
 }
 
 /// The file that a seat `IN:OUT` reads and the one that it writes, cut at the first colon; none for the name of a terminal.

@@ -4,6 +4,7 @@ use super::person::{Person, with_lines};
 use cdb_any_run::AnyRun;
 use cdb_control::{Control, Entry};
 use cdb_journal::journal_text;
+use cdb_program::Printed;
 use cdb_session::greeting_text;
 use cdb_setup::Setup;
 use cdb_shared_session::{
@@ -120,7 +121,7 @@ fn hold<R: Threads + Wait + Clock + Sync + Abort + AllocGlobal>(
     let file = Some(Output::new(Vec::new(rt.alloc())));
     let greeting = greeting_text(rt.alloc(), &setup).expect(rt, "a greeting");
     let control = Control::open(rt.alloc(), setup, 4).expect(rt, "a control");
-    let ended = debug_seats::<AnyRun, _, _, _>(
+    let ended = debug_seats::<AnyRun, Printed, _, _, _>(
         rt,
         rt.alloc(),
         control,

@@ -14,7 +14,7 @@ pub returns : goal.returns
 unfolding marked_text
 returns g c =
     let decided = c.decision_by-decided.ensures in
-    let begun = rw c.round_by.ensures at c.begun-begun.ensures in
+    let begun = c.begun-begun.ensures in
     texts c.class.ensures (ap point_text (rw c.lane_of.ensures at c.spot-at.ensures.value)) (rw decided at c.ring-ring.ensures) (rw begun at c.tick-tick.ensures) c.shape_of.ensures
     c.first_row.ensures c.second_row.ensures c.third_row.ensures (rw decided at c.below_place-place.ensures) (rw decided at c.below-below.ensures) (rw begun at c.note-note.ensures)
     (λ weight at ring tick shape first second third place below note. concat (codes "<g class='" ∷ weight ∷ codes "' transform='translate(" ∷ at ∷ codes ")'><title>" ∷ c.args.whole.now

@@ -5,7 +5,6 @@ use Rattle.cdb_draw.proofs.Weighing.{weight_read}
 use Rattle.cdb_explain.specs.Explanations.{deed_at, run_after}
 use Rattle.cdb_draw.specs.Weights.{weight_at}
 use Rattle.cdb_draw.specs.declared.weight.Weight.TheVariants.{Pale}
-use Rattle.cdb_explain.specs.Rounds.{round_before}
 use Rattle.cdb_draw.specs.EventMarks.{mark_at, mark_text}
 use Rattle.cdb_draw.proofs.LastMarks.{mark_of_last}
 use Rattle.cdb_draw.proofs.picture.put_mark_at.Goals as goal
@@ -20,12 +19,11 @@ returns g c =
     let weight = get_or weights i Pale in
     let rules = g.T.Runs.rules in
     let after = g.T.Runs.run c.args.after.now in
-    let before = c.args.before in
     let did = c.args.deed.now in
     let within : i < length weights = omega arith in
     let at = item_at c.events-events.ensures i event (omega (arith, ap length c.events-events.ensures)) c.index-events-position.is in
     let weighed = by_next (λ n. weight_at weights n ≡ weight) c.args.position c.requires.from_one
     (weight_read weights i Pale weight within refl) in
     rw (by_next
-    (λ n. after ≡ run_after run n → before ≡ round_before rules run n → did ≡ deed_at run n → weight_at weights n ≡ weight → mark_text rules grid after before did after weight n event ≡ mark_at rules grid run weights n) c.args.position c.requires.from_one
-    (λ is was done marked. mark_of_last rules grid g.T.Runs.same_state g.met.T.Runs.histories run weights i event c.requires.standing at after is before was did done weight marked) c.requires.after c.requires.before c.requires.did weighed) at c.put_mark.ensures
+    (λ n. after ≡ run_after run n → did ≡ deed_at run n → weight_at weights n ≡ weight → mark_text rules grid after did after weight n event ≡ mark_at rules grid run weights n) c.args.position c.requires.from_one
+    (λ is done marked. mark_of_last rules grid g.T.Runs.same_state g.met.T.Runs.histories run weights i event c.requires.standing at after is did done weight marked) c.requires.after c.requires.did weighed) at c.put_mark.ensures

@@ -6,7 +6,6 @@ use Rattle.cdb_rules.specs.RunView.{RunView}
 use Rattle.cdb_rules.specs.Rules.{Rules}
 use Rattle.cdb_rules.specs.Runs.{with_history}
 use Rattle.cdb_setup.specs.Parts.{Parts}
-use Rattle.cdb_explain.specs.Rounds.{round_before, round_by}
 use Rattle.cdb_draw.specs.EventMarks.{mark_at}
 use Rattle.cdb_rules.proofs.Flagged.{item_at}
 use Rattle.cdb_explain.proofs.Along.{deed_along, next_along, next_valid}
@@ -16,18 +15,6 @@ use Rattle.cdb_streams.specs.declared.buffer.OutputFault.TheVariants.{NoMemory}
 use Rattle.cdb_streams.proofs.Putting.{put_nothing, puts_nothing}
 use Rattle.cdb_draw.proofs.Parted.{cut_one, put_one}
 use Rattle.cdb_draw.proofs.picture.put_marks.Goals as goal
-
--- the round is asked for before the event is taken
-was : (by : Parts → Rules) (run : RunView) (i : ℕ) (event : Event) → slice_get run.history i ≡ Some event → (again : RunView) → again ≡ with_history run (take i run.history)
-    → (before : ℕ) → before ≡ round_by by again event → before ≡ round_before by run (i + 1)
-was by run i event at again is before asked =
-    let next : suc i ≡ i + 1 = omega arith in
-    asked ∙ ap (λ r. round_by by r event) is ∙ sym stands ∙ ap (round_before by run) next
-  where
-    stands : round_before by run (suc i) ≡ round_by by (with_history run (take i run.history)) event
-    stands =
-        let last : suc i - 1 ≡ i = omega arith in
-        rw (at, last) refl
 
 pub returns-in_err-again : goal.returns-in_err-again
 returns-in_err-again g c = search (rules, puts_nothing)
@@ -50,11 +37,6 @@ pub put_mark_at-requires-clause-after : goal.put_mark_at-requires-clause-after
 put_mark_at-requires-clause-after g c =
     let at = item_at c.events-events.ensures c.loop-i.i c.index-events-i.result (omega arith) c.index-events-i.is in
     next_along g.T.Runs.rules g.T.Runs.same_state g.met.T.Runs.histories c.args.run.now c.loop-i.i c.index-events-i.result at _ c.loop-i.invariant.again _ c.in_ok-take_next.ensures
-
-pub put_mark_at-requires-clause-before : goal.put_mark_at-requires-clause-before
-put_mark_at-requires-clause-before g c =
-    let at = item_at c.events-events.ensures c.loop-i.i c.index-events-i.result (omega arith) c.index-events-i.is in
-    was g.T.Runs.rules c.args.run.now c.loop-i.i c.index-events-i.result at _ c.loop-i.invariant.again _ c.round_by-before.ensures
 
 pub put_mark_at-requires-clause-did : goal.put_mark_at-requires-clause-did
 put_mark_at-requires-clause-did g c =

@@ -6,6 +6,7 @@ use Rattle.cdb_streams.specs.declared.fault.PlayFault.{PlayFault}
 use Rattle.cdb_shared_session.specs.KeptAlone.{DebugsKept}
 use Rattle.cdb_shared_session.specs.declared.keeping.Kept.{Kept}
 use Rattle.cdb_base.specs.Requests.{any_text}
+use Rattle.cdb_program.specs.Answers.{IsAnswer}
 use Rattle.cdb_program.specs.Known.{any_name}
 use Rattle.cdb_program.proofs.Opening.{opened_then, fails_before}
 use Rattle.cdb_program.proofs.Seated.{fails_later}
@@ -45,6 +46,6 @@ returns-clause-does g c =
         (ended.0, seen_kept stream ended.1),
         c.in_ok-file.ensures.file,
         c.of_kept.ensures,
-        debugged_of stream rules (c.args.prompt.now, json, journal) _ (λ i. (c.as_bytes-prompt.ensures.value i, c.as_slice.ensures.value i, c.as_slice-2.ensures.value i)) _ _ c.in_ok-file.file ended c.debug_kept-debugged.ensures,
+        debugged_of stream rules IsAnswer (c.args.prompt.now, json, journal) _ (λ i. (c.as_bytes-prompt.ensures.value i, c.as_slice.ensures.value i, c.as_slice-2.ensures.value i)) _ _ c.in_ok-file.file ended c.debug_kept-debugged.ensures,
       ),
     ))

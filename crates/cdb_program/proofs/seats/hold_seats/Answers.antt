@@ -3,6 +3,7 @@ use Rattle.std.proofs.lemmas.List.{length-map}
 use Rattle.std.proofs.lemmas.Result.{err_from_is_err_and}
 use Rattle.cdb_agreement.specs.Algorithms.{rules}
 use Rattle.cdb_base.specs.Requests.{any_text, texts}
+use Rattle.cdb_program.specs.Answers.{IsAnswer}
 use Rattle.cdb_program.specs.Known.{any_name}
 use Rattle.std.specs.Prelude.{◌++◌, option_map}
 use Rattle.cdb_program.proofs.Opening.{fails_before, opened_then}
@@ -59,8 +60,8 @@ returns-in-Ok-clause-sessions g c =
         option_map (seen_kept g.F.Made.Sink.stream) c.in-Ok.field-0.1,
         c.in_ok-file.ensures.file,
         rw (← c.as_slice.ensures.value, ← c.as_slice-2.ensures.value)
-            (file_seen rules _ _ g.F.Made.Sink.stream _ _ _ _ names _ _ _ _ _ _
-            (holds_seen rules g.F.Seat.Seat.Console.known opens g.F.Made.Sink.stream g.O.Sink.stream g.E.Sink.stream (g.F.Files.seen c.outside.inside.files) names _ _ openers _ _ _ _ _ _ seats c.in-Ok.ensures.sessions)),
+            (file_seen rules IsAnswer _ _ g.F.Made.Sink.stream _ _ _ _ names _ _ _ _ _ _
+            (holds_seen rules IsAnswer g.F.Seat.Seat.Console.known opens g.F.Made.Sink.stream g.O.Sink.stream g.E.Sink.stream (g.F.Files.seen c.outside.inside.files) names _ _ openers _ _ _ _ _ _ seats c.in-Ok.ensures.sessions)),
       ),
     )
 

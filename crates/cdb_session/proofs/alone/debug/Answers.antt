@@ -16,10 +16,11 @@ returns-in_err-begun g c =
 pub returns : goal.returns
 returns g c =
     let first = c.in_ok-begun.begun.0 in
-    let last = c.run-control.result.0 in
+    let last = c.run-own.result.0 in
     let begun = c.in_ok-begun.ensures.begun in
     let rules = g.R.Runs.rules in
     let prompt = c.args.prompt.now in
     let greeted : c.greeting_at.result.now ≡ greeting_at prompt (greeting_text begun.0) = c.greeting_at.ensures ∙ ap (greeting_at prompt) (c.as_slice.ensures.value ∙ begun.3) in
-    let ran = subst (λ (greeting : List ℕ). HoldsSession (nine greeting prompt) (since (whole_part rules first) (whole_part rules last)) c.run-control.result.1 (g.T.Console.known c.args.console.now) (g.T.Console.known c.run-control.new.console)) greeted c.run-control.ensures.session in
-    debugged rules prompt c.args.setup.now c.args.from.now _ _ begun.0 begun.1 first last begun.2 c.run-control.ensures.later c.run-control.result.1 ran
+    let answers = g.A.Answers.answers in
+    let ran = subst (λ (greeting : List ℕ). HoldsSession answers (nine greeting prompt) (since (whole_part rules first) (whole_part rules last)) c.run-own.result.1 (g.T.Console.known c.args.console.now) (g.T.Console.known c.run-own.new.console)) greeted c.run-own.ensures.session in
+    debugged rules answers prompt c.args.setup.now c.args.from.now _ _ begun.0 begun.1 first last begun.2 c.run-own.ensures.later c.run-own.result.1 ran

@@ -1,7 +1,8 @@
-use Rattle.std.proofs.Common.{rules, ◌≢◌, refl}
+use Rattle.std.proofs.Common.{rules, ◌≢◌, refl, sym}
 use Rattle.std.specs.Prelude.{Ok, Err}
 use Rattle.cdb_session.specs.Requests.{quit_line}
-use Rattle.cdb_session.proofs.OneRequest.{only_help, only_seat, only_call, only_fault}
+use Rattle.cdb_session.proofs.OneRequest.{only_help, only_inquiry, only_seat, only_call, only_fault}
+use Rattle.cdb_session.proofs.InquiryLines.{inquiry_says, no_inquiry}
 use Rattle.cdb_session.proofs.SeatLines.{not_own}
 use Rattle.cdb_session.proofs.request.request_of.Goals as goal
 
@@ -13,28 +14,34 @@ returns-in-Some-seat_of-clause-only c =
     let its = c.in-Some-seat_of.ensures.some in
     only_seat c.args.line.now c.if-line-gt-MAX_BYTES.false c.in-Some-seat_of.seat its.0 its.1
 
+pub returns-in-Some-inquiry_of-clause-asks : goal.returns-in-Some-inquiry_of-clause-asks
+returns-in-Some-inquiry_of-clause-asks c = (c.if-line-gt-MAX_BYTES.false, inquiry_says c.args.line.now c.in-Some-inquiry_of.inquiry (sym c.in-Some-inquiry_of.ensures))
+
+pub returns-in-Some-inquiry_of-clause-only : goal.returns-in-Some-inquiry_of-clause-only
+returns-in-Some-inquiry_of-clause-only c = only_inquiry c.args.line.now c.if-line-gt-MAX_BYTES.false c.in-Some-inquiry_of.inquiry (inquiry_says c.args.line.now c.in-Some-inquiry_of.inquiry (sym c.in-Some-inquiry_of.ensures))
+
 pub returns-in-Ok-clause-asks : goal.returns-in-Ok-clause-asks
 returns-in-Ok-clause-asks c =
     let line = c.args.line.now in
     let no_quit : line ≢ quit_line = search rules in
-    (c.if-line-gt-MAX_BYTES.false, (not_own line c.in_default.ensures.none no_quit c.in_default-seat_of.ensures.none, (c.in-Ok.ensures.command c.in-Ok.command).0 refl))
+    (c.if-line-gt-MAX_BYTES.false, (not_own line c.in_default.ensures.none no_quit c.in_default-seat_of.ensures.none (no_inquiry line (sym c.in_default-inquiry_of.ensures)), (c.in-Ok.ensures.command c.in-Ok.command).0 refl))
 
 pub returns-in-Ok-clause-only : goal.returns-in-Ok-clause-only
 returns-in-Ok-clause-only c =
     let line = c.args.line.now in
     let no_quit : line ≢ quit_line = search rules in
-    only_call line c.if-line-gt-MAX_BYTES.false (not_own line c.in_default.ensures.none no_quit c.in_default-seat_of.ensures.none) (Ok c.in-Ok.command)
+    only_call line c.if-line-gt-MAX_BYTES.false (not_own line c.in_default.ensures.none no_quit c.in_default-seat_of.ensures.none (no_inquiry line (sym c.in_default-inquiry_of.ensures))) (Ok c.in-Ok.command)
     (λ command is. (c.in-Ok.ensures.command command).1 is) (λ fault is. (c.in-Ok.ensures.fault fault).1 is) c.in-Ok.command refl
 
 pub returns-in-Err-clause-asks : goal.returns-in-Err-clause-asks
 returns-in-Err-clause-asks c =
     let line = c.args.line.now in
     let no_quit : line ≢ quit_line = search rules in
-    (c.if-line-gt-MAX_BYTES.false, (not_own line c.in_default.ensures.none no_quit c.in_default-seat_of.ensures.none, (c.in-Err.ensures.fault c.in-Err.fault).0 refl))
+    (c.if-line-gt-MAX_BYTES.false, (not_own line c.in_default.ensures.none no_quit c.in_default-seat_of.ensures.none (no_inquiry line (sym c.in_default-inquiry_of.ensures)), (c.in-Err.ensures.fault c.in-Err.fault).0 refl, refl))
 
 pub returns-in-Err-clause-only : goal.returns-in-Err-clause-only
 returns-in-Err-clause-only c =
     let line = c.args.line.now in
     let no_quit : line ≢ quit_line = search rules in
-    only_fault line c.if-line-gt-MAX_BYTES.false (not_own line c.in_default.ensures.none no_quit c.in_default-seat_of.ensures.none) (Err c.in-Err.fault)
+    only_fault line c.if-line-gt-MAX_BYTES.false (not_own line c.in_default.ensures.none no_quit c.in_default-seat_of.ensures.none (no_inquiry line (sym c.in_default-inquiry_of.ensures))) (Err c.in-Err.fault)
     (λ command is. (c.in-Err.ensures.command command).1 is) (λ fault is. (c.in-Err.ensures.fault fault).1 is) c.in-Err.fault refl

@@ -11,4 +11,4 @@ returns-in-None c =
 pub returns-in-Some : goal.returns-in-Some
 returns-in-Some c =
     rw c.in-Some.is
-    (subst (λ (style : StyleView). Pushes c.push_about.result c.args.text.now c.push_about.new.text (or_word_fault c.args.line (lines_about c.in-Some.topic (help_text style.chooses)))) c.style.view_is c.push_about.ensures)
+    (subst (λ (style : StyleView). Pushes c.push_about.result c.args.text.now c.push_about.new.text (or_word_fault c.args.line c.in-Some.topic (lines_about c.in-Some.topic (help_text style.chooses)))) c.style.view_is c.push_about.ensures)

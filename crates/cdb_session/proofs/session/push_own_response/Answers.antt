@@ -1,7 +1,3 @@
-use Rattle.std.proofs.Common.{subst}
-use Rattle.cdb_session.specs.Dialogues.{help_response}
-use Rattle.cdb_session.specs.Styles.{StyleView}
-use Rattle.cdb_text.specs.Pushes.{Pushes}
 use Rattle.cdb_session.proofs.session.push_own_response.Goals as goal
 
 pub returns-in-Help : goal.returns-in-Help

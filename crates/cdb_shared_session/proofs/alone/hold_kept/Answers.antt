@@ -28,7 +28,7 @@ returns g c =
     let prompt = c.args.prompt.now in
     let whole = greeting_at prompt (greeting_text begun.setup) in
     let greeted : c.greeting_at.result.now ≡ whole = c.greeting_at.ensures ∙ ap (greeting_at prompt) c.requires.greeting in
-    let ran = subst (λ (greeting : List ℕ). IsSession (nine greeting prompt) (since (whole_part rules begun) (whole_part rules last.control)) c.run-caller.result.1 made.0) greeted made.2 in (
+    let ran = subst (λ (greeting : List ℕ). IsSession g.A.Answers.answers (nine greeting prompt) (since (whole_part rules begun) (whole_part rules last.control)) c.run-caller.result.1 made.0) greeted made.2 in (
       made.0,
       made.1,
       record {
@@ -36,7 +36,7 @@ returns g c =
         setup_is = its.setup;
         seats_are = its.seats;
         begins = its.begins;
-        session = subst (λ (v : KeptView g.row.J.Denot). IsSession (nine whole prompt) (since (whole_part rules begun) (whole_part rules v.control)) c.run-caller.result.1 made.0) (sym c.caller.view_is) ran;
+        session = subst (λ (v : KeptView g.row.J.Denot). IsSession g.A.Answers.answers (nine whole prompt) (since (whole_part rules begun) (whole_part rules v.control)) c.run-caller.result.1 made.0) (sym c.caller.view_is) ran;
         keeps = subst (λ (l : List Entry). IsKept stream c.keep_rest-kept.result.outcome c.args.file c.keep_rest-kept.result.file l) entries added;
       },
     )

@@ -21,6 +21,6 @@ returns g c =
       served = (
         record { console = known c.in-Ok.endpoint.console; prompt = prompt },
         c.in-Ok.ensures,
-        subst (λ (style : StyleView). RunsSeat g.R.Runs.rules style before after c.run_styled-seat.result.1 (known c.in-Ok.endpoint.console) (known c.run_styled-seat.new.console)) same c.run_styled-seat.ensures.session,
+        subst (λ (style : StyleView). RunsSeat g.R.Runs.rules g.A.Answers.answers style before after c.run_styled-seat.result.1 (known c.in-Ok.endpoint.console) (known c.run_styled-seat.new.console)) same c.run_styled-seat.ensures.session,
       );
     }

@@ -1,0 +1,43 @@
+-- What is amiss in a line, place by place.
+use Rattle.std.proofs.Common.{◌≡◌, ℕ, ◌+◌, ◌<◌, ◌≤◌, Bool, false, List, [], ◌∷◌, length, drop, map, get_or, Bor, refl, ap, ◌∙◌, drop-cons, add-one, arith}
+use Rattle.std.specs.List.{list_any}
+use Rattle.std.specs.Prelude.{◌||◌}
+use Rattle.std.proofs.lemmas.List.{drop_all}
+use Rattle.cdb_session.specs.Due.{first_amiss, may_stand, nothing, ends, stands}
+use Rattle.cdb_session.specs.declared.due.Due.{Due}
+use Rattle.cdb_session.specs.declared.due.Due.TheVariants.{Command, Nothing}
+
+pub any_of_texts : (p : List ℕ → Bool) (its : List (Bor (List ℕ))) → list_any (λ (it : Bor (List ℕ)). p it.now) its ≡ list_any p (map (λ (it : Bor (List ℕ)). it.now) its)
+any_of_texts p [] = refl
+any_of_texts p (it ∷ its) = ap (λ b. p it.now || b) (any_of_texts p its)
+
+-- from one place to the next
+pub at_place : (chooses : Bool) (dues : List Due) (i : ℕ) (default : Due) (words : List (List ℕ)) → i < length dues
+    → first_amiss chooses (drop i dues) words ≡ first_amiss chooses (get_or dues i default ∷ drop (i + 1) dues) words
+at_place chooses dues i default words within = rw (add-one, drop-cons dues i default) refl
+
+abbrev pub texts : List (Bor (List ℕ)) → List (List ℕ)
+texts its = map (λ (it : Bor (List ℕ)). it.now) its
+
+abbrev first : List (Bor (List ℕ)) → List ℕ
+first its = (get_or its 0 (record { ref_ptr = (0, 0); now = [] })).now
+
+module _ (chooses : Bool) (dues : List Due) (i : ℕ) where
+  -- the words have ended
+  pub ends_there : (left : List (Bor (List ℕ))) → i < length dues → length left < 1 → first_amiss chooses (drop i dues) (texts left) ≡ ends (get_or dues i Command)
+  ends_there [] within few = at_place chooses dues i Command [] within
+  ends_there (it ∷ its) within few = absurd (omega arith)
+
+  pub stands_there : (left : List (Bor (List ℕ))) → i < length dues → 1 ≤ length left → may_stand chooses (get_or dues i Command) (first left) ≡ false
+      → first_amiss chooses (drop i dues) (texts left) ≡ stands (get_or dues i Command) (first left)
+  stands_there [] within some not = absurd (omega arith)
+  stands_there (it ∷ its) within some not = at_place chooses dues i Command (texts (it ∷ its)) within ∙ rw not refl
+
+  -- nothing more is due
+  pub all_there : (left : List (Bor (List ℕ))) → length dues ≤ i → length left < 1 → first_amiss chooses (drop i dues) (texts left) ≡ nothing
+  all_there [] behind few = rw (drop_all i dues behind) refl
+  all_there (it ∷ its) behind few = absurd (omega arith)
+
+  pub stands_behind : (left : List (Bor (List ℕ))) → length dues ≤ i → 1 ≤ length left → first_amiss chooses (drop i dues) (texts left) ≡ stands Nothing (first left)
+  stands_behind [] behind some = absurd (omega arith)
+  stands_behind (it ∷ its) behind some = rw (drop_all i dues behind) refl

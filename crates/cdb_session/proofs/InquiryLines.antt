@@ -1,0 +1,138 @@
+-- The lines that ask something of the run.
+use Rattle.std.proofs.Common.{◌≡◌, ◌≢◌, inl, inr, ℕ, ◌<◌, ◌≤◌, Bool, true, List, [], ◌∷◌, ◌++◌, length, get_or, decimal, refl, sym, ap, subst, ◌∙◌, arith}
+use Rattle.std.specs.Prelude.{codes, map, Option, None, Some, option_map}
+use Rattle.std.specs.List.{AllByRecursion, join_with_byte}
+use Rattle.std.specs.Str.{bytes_eq}
+use Rattle.std.proofs.lemmas.Bool.{cases_Bool}
+use Rattle.std.proofs.lemmas.List.Splits.{join_with_byte-slice_split}
+use Rattle.std.proofs.lemmas.Slice.Eq.{bytes_eq-Decides}
+use Rattle.cdb_base.specs.declared.question.StepAsked.{StepAsked}
+use Rattle.cdb_text.specs.Commands.{number}
+use Rattle.cdb_text.specs.Grammar.{IsInRange, part_text, words_of}
+use Rattle.cdb_text.specs.Reading.{number_of}
+use Rattle.cdb_text.proofs.Cut.{some_word}
+use Rattle.cdb_text.proofs.Numbers.{number_again, number_says}
+use Rattle.cdb_session.specs.Inquiries.{AreStepWords, IsInquiryLine, inquiry_word, numbers_of, step_asked}
+use Rattle.cdb_session.specs.InquiryWords.{step_with, last_step, numbered_step, step_in, inquiry_in}
+use Rattle.cdb_session.specs.Requests.{help_line, quit_line, seat_line}
+use Rattle.cdb_session.specs.declared.inquiry.Inquiry.{Inquiry}
+use Rattle.cdb_session.specs.declared.inquiry.Inquiry.TheVariants.{Explain, Trail}
+use Rattle.cdb_session.specs.declared.topic.Topic.{Topic}
+use Rattle.cdb_session.proofs.HelpLines.{begins_with_h}
+
+-- ---- such a line is none of the others
+
+first_of_words : (word : List ℕ) (others : List (List ℕ)) → 0 < length word → get_or (join_with_byte 32 (word ∷ others)) 0 0 ≡ get_or word 0 0
+first_of_words [] others some = absurd (omega (arith, some))
+first_of_words (byte ∷ word) [] some = refl
+first_of_words (byte ∷ word) (other ∷ others) some = refl
+
+first_byte : (line : List ℕ) (inquiry : Inquiry) → IsInquiryLine inquiry line → get_or line 0 0 ≡ get_or (inquiry_word inquiry) 0 0
+first_byte line (Explain step) (others, is, words) =
+    ap (λ bytes. get_or bytes 0 0) (sym (join_with_byte-slice_split 32 line) ∙ ap (join_with_byte 32) is) ∙ first_of_words (codes "explain") others (omega arith)
+first_byte line (Trail step) (others, is, words) =
+    ap (λ bytes. get_or bytes 0 0) (sym (join_with_byte-slice_split 32 line) ∙ ap (join_with_byte 32) is) ∙ first_of_words (codes "trail") others (omega arith)
+
+-- no line of another kind begins with that byte
+begins_so : (line other : List ℕ) (byte : ℕ) (inquiry : Inquiry) → IsInquiryLine inquiry line → line ≡ other → get_or other 0 0 ≡ byte → byte ≢ 101 → byte ≢ 116 → ⊥
+begins_so line other byte (Explain step) is same first no_e no_t = no_e (sym first ∙ ap (λ bytes. get_or bytes 0 0) (sym same) ∙ first_byte line (Explain step) is)
+begins_so line other byte (Trail step) is same first no_e no_t = no_t (sym first ∙ ap (λ bytes. get_or bytes 0 0) (sym same) ∙ first_byte line (Trail step) is)
+
+pub no_help : (line : List ℕ) (inquiry : Inquiry) → IsInquiryLine inquiry line → (about : Option Topic) → line ≡ help_line about → ⊥
+no_help line inquiry is about same = begins_so line (help_line about) 104 inquiry is same (begins_with_h about) (λ e. omega (arith, e)) (λ e. omega (arith, e))
+
+pub no_quit : (line : List ℕ) (inquiry : Inquiry) → IsInquiryLine inquiry line → line ≡ quit_line → ⊥
+no_quit line inquiry is same = begins_so line quit_line 113 inquiry is same refl (λ e. omega (arith, e)) (λ e. omega (arith, e))
+
+pub no_seat : (line : List ℕ) (inquiry : Inquiry) → IsInquiryLine inquiry line → (seat : ℕ) → line ≡ seat_line seat → ⊥
+no_seat line inquiry is seat same = begins_so line (seat_line seat) 115 inquiry is same refl (λ e. omega (arith, e)) (λ e. omega (arith, e))
+
+-- ---- what is read in its words
+
+number_reads : (n : ℕ) → IsInRange (number n) → number_of (decimal n) ≡ Some n
+number_reads n range = number_again n range.0 range.1
+
+step_again : (p : ℕ) (k : Option ℕ) → AllByRecursion IsInRange (numbers_of p k) → step_in (map part_text (numbers_of p k)) ≡ Some (step_with p k)
+unfolding step_in
+step_again p None range = ap last_step (number_reads p range.0)
+step_again p (Some k) range = λ i. numbered_step (number_reads p range.0 i) (number_reads k range.1.0 i)
+
+read_again : (step : StepAsked) (words : List (List ℕ)) → AreStepWords step words → step_in words ≡ Some step
+read_again step words is = ap step_in is.are ∙ step_again step.p step.k is.in_range
+
+words_say : (first : List ℕ) (found : Option ℕ) (step : StepAsked) → number_of first ≡ found → last_step found ≡ Some step → AreStepWords step (first ∷ [])
+words_say first None step reads e = cc
+words_say first (Some p) step reads e =
+    let says = number_says first p reads in
+    let same : step_with p None ≡ step = cc in
+    subst (λ (s : StepAsked). AreStepWords s (first ∷ [])) same (record { are = ap (λ (word : List ℕ). word ∷ []) says.0; in_range = ((says.1, says.2), tt) })
+
+both_say : (first second : List ℕ) (found other : Option ℕ) (step : StepAsked) → number_of first ≡ found → number_of second ≡ other → numbered_step found other ≡ Some step → AreStepWords step (first ∷ second ∷ [])
+both_say first second None other step reads and_reads e = cc
+both_say first second (Some p) None step reads and_reads e = cc
+both_say first second (Some p) (Some k) step reads and_reads e =
+    let says = number_says first p reads in
+    let and_says = number_says second k and_reads in
+    let same : step_with p (Some k) ≡ step = cc in
+    subst (λ (s : StepAsked). AreStepWords s (first ∷ second ∷ [])) same (record { are = (λ i. says.0 i ∷ and_says.0 i ∷ []); in_range = ((says.1, says.2), ((and_says.1, and_says.2), tt)) })
+
+step_says : (words : List (List ℕ)) (step : StepAsked) → step_in words ≡ Some step → AreStepWords step words
+unfolding step_in
+step_says [] step e = cc
+step_says (first ∷ []) step e = words_say first (number_of first) step refl e
+step_says (first ∷ second ∷ []) step e = both_say first second (number_of first) (number_of second) step refl refl e
+step_says (first ∷ second ∷ third ∷ words) step e = cc
+
+-- ---- what the line asks
+
+pub inquiry_again : (line : List ℕ) (inquiry : Inquiry) → IsInquiryLine inquiry line → inquiry_in (words_of line) ≡ Some inquiry
+unfolding inquiry_in
+inquiry_again line (Explain step) (others, is, words) = ap inquiry_in is ∙ ap (option_map Explain) (read_again step others words)
+inquiry_again line (Trail step) (others, is, words) = ap inquiry_in is ∙ ap (option_map Trail) (read_again step others words)
+
+pub one_inquiry : (line : List ℕ) (one other : Inquiry) → IsInquiryLine one line → IsInquiryLine other line → one ≡ other
+one_inquiry line one other is is_other = let e = sym (inquiry_again line one is) ∙ inquiry_again line other is_other in cc
+
+explains : (others : List (List ℕ)) (found : Option StepAsked) (inquiry : Inquiry) → step_in others ≡ found → option_map Explain found ≡ Some inquiry → (inquiry_word inquiry ≡ codes "explain") × AreStepWords (step_asked inquiry) others
+explains others None inquiry reads e = cc
+explains others (Some step) inquiry reads e =
+    let same : Explain step ≡ inquiry = cc in
+    subst (λ (i : Inquiry). (inquiry_word i ≡ codes "explain") × AreStepWords (step_asked i) others) same (refl, step_says others step reads)
+
+trails : (others : List (List ℕ)) (found : Option StepAsked) (inquiry : Inquiry) → step_in others ≡ found → option_map Trail found ≡ Some inquiry → (inquiry_word inquiry ≡ codes "trail") × AreStepWords (step_asked inquiry) others
+trails others None inquiry reads e = cc
+trails others (Some step) inquiry reads e =
+    let same : Trail step ≡ inquiry = cc in
+    subst (λ (i : Inquiry). (inquiry_word i ≡ codes "trail") × AreStepWords (step_asked i) others) same (refl, step_says others step reads)
+
+words_ask : (words : List (List ℕ)) (inquiry : Inquiry) → inquiry_in words ≡ Some inquiry → (others : List (List ℕ)) × (words ≡ inquiry_word inquiry ∷ others) × AreStepWords (step_asked inquiry) others
+unfolding inquiry_in
+words_ask [] inquiry e = cc
+words_ask (word ∷ others) inquiry e =
+    elim (cases_Bool (bytes_eq word (codes "explain"))) [
+      | inl is ↦
+          let its = explains others (step_in others) inquiry refl (rw is at e) in
+          (others, ap (λ (w : List ℕ). w ∷ others) ((bytes_eq-Decides word (codes "explain")).0 is ∙ sym its.0), its.1)
+      | inr other ↦
+          elim (cases_Bool (bytes_eq word (codes "trail"))) [
+            | inl is ↦
+                let its = trails others (step_in others) inquiry refl (rw (other, is) at e) in
+                (others, ap (λ (w : List ℕ). w ∷ others) ((bytes_eq-Decides word (codes "trail")).0 is ∙ sym its.0), its.1)
+            | inr neither ↦ let never = rw (other, neither) at e in cc
+          ]
+    ]
+
+pub inquiry_says : (line : List ℕ) (inquiry : Inquiry) → inquiry_in (words_of line) ≡ Some inquiry → IsInquiryLine inquiry line
+inquiry_says line inquiry e = words_ask (words_of line) inquiry e
+
+pub no_inquiry : (line : List ℕ) → inquiry_in (words_of line) ≡ None → (inquiry : Inquiry) → ¬ IsInquiryLine inquiry line
+no_inquiry line none inquiry is = let e = sym none ∙ inquiry_again line inquiry is in cc
+
+-- three words and more name no step
+no_third : (first second : List ℕ) (words : List (List ℕ)) → words ≢ [] → step_in (first ∷ second ∷ words) ≡ None
+unfolding step_in
+no_third first second [] some = absurd (some refl)
+no_third first second (third ∷ words) some = refl
+
+pub too_many : (words : List (List ℕ)) (first second rest : List ℕ) → words ≡ first ∷ second ∷ words_of rest → None ≡ step_in words
+too_many words first second rest is = sym (ap step_in is ∙ no_third first second (words_of rest) (some_word rest))

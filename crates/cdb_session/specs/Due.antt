@@ -1,0 +1,176 @@
+-- What is due in a line, and what is said where something else stands there.
+use Rattle.std.specs.Prelude.{ℕ, ◌==◌, ◌||◌, ◌&&◌, Bool, true, false, not, nat_le, List, [], ◌∷◌, ◌++◌, length, take, map, codes, slice_index, if◌then◌else◌, Option, None, Some}
+use Rattle.std.specs.List.{list_any}
+use Rattle.std.specs.Char.{is_ascii_graphic}
+use Rattle.std.specs.Str.{bytes_eq}
+use Rattle.cdb_text.specs.Grammar.{words_of}
+use Rattle.cdb_session.specs.Topics.{topic_of}
+use Rattle.cdb_session.specs.Typed.{acts, first_words, is_digits, second_words}
+use Rattle.cdb_session.specs.declared.due.Due.{Due}
+use Rattle.cdb_session.specs.declared.due.Due.TheVariants.{Command, Process, ProcessOrLost, ProcessOrView, Act, Stop, Message, Step, Round, Breakpoint, Register, Seat, Nothing}
+use Rattle.cdb_session.specs.declared.topic.Topic.{Topic}
+use Rattle.cdb_session.specs.declared.topic.Topic.TheVariants as topic
+
+-- ---- what may stand where this is due
+
+abbrev pub due_text : Due → List ℕ
+due_text Command = codes "a command"
+due_text Process = codes "a process"
+due_text ProcessOrLost = codes "a process or lost"
+due_text ProcessOrView = codes "a process, regs, mail or history"
+due_text Act = codes "go, learn, crash, query or recv"
+due_text Stop = codes "decide, round, recv or write"
+due_text Message = codes "a message"
+due_text Step = codes "a step"
+due_text Round = codes "a round"
+due_text Breakpoint = codes "a breakpoint"
+due_text Register = codes "r1 to r9 or dec"
+due_text Seat = codes "a seat from 1 to 9"
+due_text Nothing = codes "nothing more"
+
+abbrev pub takes_number : Due → Bool
+takes_number Command = false
+takes_number Process = true
+takes_number ProcessOrLost = true
+takes_number ProcessOrView = true
+takes_number Act = false
+takes_number Stop = false
+takes_number Message = true
+takes_number Step = true
+takes_number Round = true
+takes_number Breakpoint = true
+takes_number Register = false
+takes_number Seat = false
+takes_number Nothing = false
+
+abbrev pub registers : List (List ℕ)
+registers =
+    codes "r1" ∷ codes "r2" ∷ codes "r3" ∷ codes "r4" ∷ codes "r5" ∷ codes "r6" ∷ codes "r7" ∷ codes "r8" ∷ codes "r9"
+    ∷ codes "dec" ∷ []
+
+abbrev pub seats : List (List ℕ)
+seats =
+    codes "1" ∷ codes "2" ∷ codes "3" ∷ codes "4" ∷ codes "5" ∷ codes "6" ∷ codes "7" ∷ codes "8" ∷ codes "9" ∷ []
+
+-- the words that may stand there, besides numbers
+abbrev pub words_at : Due → List (List ℕ)
+words_at Command = first_words
+words_at Process = []
+words_at ProcessOrLost = codes "lost" ∷ []
+words_at ProcessOrView = second_words (codes "show")
+words_at Act = acts
+words_at Stop = second_words (codes "break")
+words_at Message = []
+words_at Step = []
+words_at Round = []
+words_at Breakpoint = []
+words_at Register = registers
+words_at Seat = seats
+words_at Nothing = []
+
+-- one to six digits, the first not 0
+abbrev pub is_number : List ℕ → Bool
+is_number word = is_digits word && (nat_le (length word) 6 && not (slice_index word 0 == 48))
+
+-- the word may stand there; `seat` only where a line may choose one
+abbrev pub may_stand : Bool → Due → List ℕ → Bool
+may_stand chooses due word =
+    (takes_number due && is_number word)
+    || (list_any (bytes_eq word) (words_at due) && (chooses || not (bytes_eq word (codes "seat"))))
+
+-- ---- what is due in a line, word by word, by the words before each
+
+-- `S M P`
+abbrev pub copy : List Due
+copy = Process ∷ Message ∷ Process ∷ []
+
+-- behind `undo`, `rollback` and `why`: `P K`, or `lost S M P`
+abbrev pub event : List (List ℕ) → List Due
+event [] = ProcessOrLost ∷ []
+event (word ∷ words) = ProcessOrLost ∷ (if bytes_eq word (codes "lost") then copy else (Step ∷ []))
+
+-- a word that may be left out
+abbrev pub maybe : Due → List (List ℕ) → List Due
+maybe due [] = []
+maybe due (word ∷ words) = due ∷ []
+
+-- behind `step P ACT`; `query` may name its leader
+abbrev pub behind_act : List ℕ → List (List ℕ) → List Due
+behind_act act words =
+    if bytes_eq act (codes "recv") then (Process ∷ Message ∷ []) else
+    (if bytes_eq act (codes "query") then maybe Process words else [])
+
+-- behind `break STOP`
+abbrev pub behind_stop : List ℕ → List Due
+behind_stop stop =
+    if bytes_eq stop (codes "round") then (Process ∷ Round ∷ []) else
+    (if bytes_eq stop (codes "write") then (Register ∷ []) else (Process ∷ []))
+
+-- behind `explain` and `trail`: `P [K]`
+abbrev pub asked : List (List ℕ) → List Due
+asked [] = Process ∷ []
+asked (process ∷ words) = Process ∷ maybe Step words
+
+-- behind the first word
+abbrev pub behind : Topic → List (List ℕ) → List Due
+behind topic.Step (process ∷ act ∷ words) = Process ∷ Act ∷ behind_act act words
+behind topic.Step words = Process ∷ Act ∷ []
+behind topic.Auto words = Process ∷ []
+behind topic.Lose words = copy
+behind topic.Undo words = event words
+behind topic.Redo words = []
+behind topic.Forget words = []
+behind topic.Rollback words = event words
+behind topic.Why words = event words
+behind topic.Break [] = Stop ∷ []
+behind topic.Break (stop ∷ words) = Stop ∷ behind_stop stop
+behind topic.Unbreak words = Breakpoint ∷ []
+behind topic.Resume words = []
+behind topic.Show words = ProcessOrView ∷ []
+behind topic.Decisions words = []
+behind topic.Explain words = asked words
+behind topic.Trail words = asked words
+behind topic.Help words = maybe Command words
+behind topic.Quit words = []
+behind topic.Seat words = Seat ∷ []
+
+abbrev pub behind_first : Option Topic → List (List ℕ) → List Due
+behind_first None words = []
+behind_first (Some first) words = behind first words
+
+abbrev pub dues_of : List (List ℕ) → List Due
+dues_of [] = Command ∷ []
+dues_of (word ∷ words) = Command ∷ behind_first (topic_of word) words
+
+-- ---- what is amiss in a line
+
+-- nothing is; or the line ends where this is due; or where this is due, another word stands
+pub data Amiss : Type 0 where
+  nothing : Amiss
+  ends : Due → Amiss
+  stands : Due → List ℕ → Amiss
+
+-- the first place where these words do not have what is due
+abbrev pub first_amiss : Bool → List Due → List (List ℕ) → Amiss
+first_amiss chooses [] [] = nothing
+first_amiss chooses [] (word ∷ words) = stands Nothing word
+first_amiss chooses (due ∷ dues) [] = ends due
+first_amiss chooses (due ∷ dues) (word ∷ words) =
+    if may_stand chooses due word then first_amiss chooses dues words else stands due word
+
+-- what is amiss in a line of a session in which a line may choose a seat, or may not
+unfoldable pub amiss_in : Bool → List ℕ → Amiss
+amiss_in chooses line = first_amiss chooses (dues_of (words_of line)) (words_of line)
+
+-- a word as it is shown: its first 20 bytes, with `?` for each that is no visible character of ASCII
+abbrev pub shown_byte : ℕ → ℕ
+shown_byte byte = if is_ascii_graphic byte then byte else 63
+
+abbrev pub shown_word : List ℕ → List ℕ
+shown_word word = map shown_byte (take 20 word)
+
+-- `: WHAT is due`, or `: WHAT is due, not 'WORD'`
+abbrev pub amiss_text : Amiss → List ℕ
+amiss_text nothing = []
+amiss_text (ends due) = codes ": " ++ due_text due ++ codes " is due"
+amiss_text (stands due word) = codes ": " ++ due_text due ++ codes " is due, not '" ++ shown_word word ++ codes "'"

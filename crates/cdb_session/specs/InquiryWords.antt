@@ -1,0 +1,35 @@
+-- What the code keeps for itself: what a line asks of the run, by its words.
+use Rattle.std.specs.Prelude.{ℕ, List, [], ◌∷◌, codes, Option, None, Some, option_map, if◌then◌else◌}
+use Rattle.std.specs.Str.{bytes_eq}
+use Rattle.cdb_base.specs.declared.question.StepAsked.{StepAsked}
+use Rattle.cdb_text.specs.Reading.{number_of}
+use Rattle.cdb_session.specs.declared.inquiry.Inquiry.{Inquiry}
+use Rattle.cdb_session.specs.declared.inquiry.Inquiry.TheVariants.{Explain, Trail}
+
+abbrev pub step_with : ℕ → Option ℕ → StepAsked
+step_with p k = record { p = p; k = k }
+
+-- the last step of a process
+abbrev pub last_step : Option ℕ → Option StepAsked
+last_step None = None
+last_step (Some p) = Some (step_with p None)
+
+abbrev pub numbered_step : Option ℕ → Option ℕ → Option StepAsked
+numbered_step None k = None
+numbered_step (Some p) None = None
+numbered_step (Some p) (Some k) = Some (step_with p (Some k))
+
+-- the step that the words name, if they do
+unfoldable pub step_in : List (List ℕ) → Option StepAsked
+step_in [] = None
+step_in (first ∷ []) = last_step (number_of first)
+step_in (first ∷ second ∷ []) = numbered_step (number_of first) (number_of second)
+step_in (first ∷ second ∷ third ∷ words) = None
+
+-- what the words ask of the run, if they do
+unfoldable pub inquiry_in : List (List ℕ) → Option Inquiry
+inquiry_in [] = None
+inquiry_in (word ∷ others) =
+    if bytes_eq word (codes "explain")
+    then option_map Explain (step_in others)
+    else (if bytes_eq word (codes "trail") then option_map Trail (step_in others) else None)

@@ -1,0 +1,141 @@
+//! Who answers what is asked of a run.
+
+ghost use Rattle.std.specs.Prelude.{◌≡◌, ◌<◌, ◌≤◌, ℕ, List, [], IfOk, OnOk, length};
+ghost use Rattle.cdb_base.specs.Limits.{MAX_ENTRIES, MAX_SEATS};
+ghost use Rattle.cdb_control.specs.Journal.{AreOfSeats, extended};
+ghost use Rattle.cdb_rules.specs.ByRules.{IsInOrder};
+ghost use Rattle.cdb_rules.specs.RunView.{RunView};
+ghost use Rattle.cdb_session.specs.Alone.{HasJournal};
+ghost use Rattle.cdb_session.specs.Answers.{run_left};
+ghost use Rattle.cdb_session.specs.declared.inquiry.Inquiry.{Inquiry as InquiryName};
+ghost use Rattle.cdb_setup.specs.Parts.{IsWithin};
+
+use crate::inquiry::Inquiry;
+use cdb_base::NoMemory;
+use cdb_control::{CallFault, Control, Entry, OpenFault};
+use cdb_rules::{Runs, Trace};
+use cdb_setup::Setup;
+use std::alloc::Global;
+
+/// Who answers what is asked of a run of this type.
+pub trait Answers<R: Runs> {
+    // Of a run, what is asked of it and a text, whether the text is the answer.
+    ghost answers: { RunView → InquiryName → List ℕ → Type 0 };
+
+    /// The answer to what is asked of a run.
+    fn answer(alloc: Global, run: &Trace, inquiry: Inquiry) -> Result<Vec<u8>, NoMemory>
+        requires { IsInOrder R.rules run.now }
+        ensures { IfOk result (λ text. answers run.now inquiry text.items) };
+}
+
+/// Carries out the command of an entry, for its seat.
+fn carry_out<R: Runs>(alloc: Global, control: &mut Control<R>, entry: Entry) -> Result<(), NoMemory>
+    requires seat { IsWithin 1 control.old.seats entry.seat }
+    requires room { length control.old.journal < MAX_ENTRIES }
+    ensures { OnOk result (control.new ≡ extended R.rules control.old entry.seat entry.command) }
+{
+    match control.execute(alloc, entry.seat, entry.command) {
+        Ok(reply) => {
+            reply.close();
+            Ok(())
+        }
+        Err(CallFault::JournalFull) => unreachable!(),
+        Err(CallFault::NoMemory(refused)) => Err(refused),
+    }
+}
+
+/// Carries out the commands of a journal, one after the other, on a control in which nothing has happened.
+fn carry_out_each<R: Runs>(
+    alloc: Global,
+    control: &mut Control<R>,
+    entries: &[Entry],
+) -> Result<(), NoMemory>
+    requires seats { AreOfSeats control.old.seats entries.now }
+    requires few { length entries.now ≤ MAX_ENTRIES }
+    requires new { control.old.journal ≡ [] }
+    ensures { OnOk result
+        (HasJournal control.old.setup control.old.seats entries.now control.new) }
+{
+    for entry in entries {
+        carry_out(alloc, control, *entry)?;
+    }
+    Ok(())
+}
+
+/// A control with this journal.
+fn control_with<R: Runs>(
+    alloc: Global,
+    setup: Setup,
+    seats: u8,
+    entries: &[Entry],
+) -> Result<Control<R>, NoMemory>
+    requires some { (1 ≤ seats) × (seats ≤ MAX_SEATS) }
+    requires seats { AreOfSeats seats entries.now }
+    requires few { length entries.now ≤ MAX_ENTRIES }
+    ensures { IfOk result (HasJournal setup seats entries.now) }
+{
+    let mut control = match Control::<R>::open(alloc, setup, seats) {
+        Ok(control) => control,
+        Err(OpenFault::NoMemory(refused)) => return Err(refused),
+        Err(OpenFault::Seats) => unreachable!(),
+    };
+    match carry_out_each(alloc, &mut control, entries) {
+        Ok(()) => Ok(control),
+        Err(refused) => {
+            control.close();
+            Err(refused)
+        }
+    }
+}
+
+/// What stands in the run that a journal leaves.
+fn run_left<R: Runs>(
+    alloc: Global,
+    setup: Setup,
+    seats: u8,
+    entries: &[Entry],
+) -> Result<Trace, NoMemory>
+    requires some { (1 ≤ seats) × (seats ≤ MAX_SEATS) }
+    requires seats { AreOfSeats seats entries.now }
+    requires few { length entries.now ≤ MAX_ENTRIES }
+    ensures left { IfOk result (λ run. run ≡ run_left R.rules setup seats entries.now) }
+    ensures valid { IfOk result (IsInOrder R.rules) }
+{
+    let control = control_with::<R>(alloc, setup, seats, entries)?;
+    let (setup, history) = control.into_run().into_parts();
+    Trace::new(alloc, setup, history)
+}
+
+/// The answer to what is asked of the run that a journal leaves, of a control with this setup and 1 to 64 seats: its
+/// commands are carried out again, on a control of their own.
+pub fn answer_of<R: Runs, A: Answers<R>>(
+    alloc: Global,
+    setup: &Setup,
+    seats: u8,
+    entries: &[Entry],
+    inquiry: Inquiry,
+) -> Result<Vec<u8>, NoMemory>
+    requires some { (1 ≤ seats) × (seats ≤ MAX_SEATS) }
+    requires seats { AreOfSeats seats entries.now }
+    requires few { length entries.now ≤ MAX_ENTRIES }
+    ensures { IfOk result
+        (λ text. A.answers (run_left R.rules setup.now seats entries.now) inquiry text.items) }
+{
+    let setup = setup.copy(alloc)?;
+    let run = run_left::<R>(alloc, setup, seats, entries)?;
+    A::answer(alloc, &run, inquiry)
+}
+
+/// The answer to what is asked of the run of a control.
+pub fn answer_in<R: Runs, A: Answers<R>>(
+    alloc: Global,
+    control: &Control<R>,
+    inquiry: Inquiry,
+) -> Result<Vec<u8>, NoMemory>
+    ensures answer { IfOk result (λ text. A.answers
+        (run_left R.rules control.now.setup control.now.seats control.now.journal) inquiry text.items) }
+    ensures limit { length control.now.journal ≤ MAX_ENTRIES }
+{
+    let (setup, seats) = (control.run().setup(), control.seats());
+    answer_of::<R, A>(alloc, setup, seats, control.journal(), inquiry)
+}

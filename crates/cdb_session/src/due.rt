@@ -1,0 +1,311 @@
+//! What is due in a line.
+
+ghost use Rattle.std.specs.Prelude.{◌≡◌, ◌∷◌, map, IfOk};
+ghost use Rattle.std.specs.List.{list_any};
+ghost use Rattle.std.specs.Str.{bytes_eq};
+ghost use Rattle.cdb_text.specs.Grammar.{words_of};
+ghost use Rattle.cdb_text.specs.Pushes.{Pushes};
+ghost use Rattle.cdb_session.specs.Due.{due_text, takes_number, words_at, is_number, may_stand, event, asked, behind, dues_of};
+ghost use Rattle.cdb_session.specs.Due.{ends, stands, first_amiss, amiss_in, shown_byte, shown_word, amiss_text};
+
+use crate::topic::Topic;
+use crate::typed::{ACTS, FIRST, LOST, STOPS, VIEWS, is_digits};
+use std::alloc::{AllocError, Global};
+
+/// What is due at a place of a line.
+#[derive(Clone, Copy)]
+pub enum Due {
+    Command,
+    Process,
+    /// A process, or `lost`.
+    ProcessOrLost,
+    /// A process, or what may be shown besides.
+    ProcessOrView,
+    /// What a process may be told to do.
+    Act,
+    /// Where a run may be made to stop.
+    Stop,
+    Message,
+    Step,
+    Round,
+    Breakpoint,
+    Register,
+    Seat,
+    /// The line is to end.
+    Nothing,
+}
+
+/// The registers.
+const REGISTERS: [&[u8]; 10] = [
+    b"r1", b"r2", b"r3", b"r4", b"r5", b"r6", b"r7", b"r8", b"r9", b"dec",
+];
+
+/// The seats that a line may choose.
+const SEATS: [&[u8]; 9] = [b"1", b"2", b"3", b"4", b"5", b"6", b"7", b"8", b"9"];
+
+/// How many bytes of a word are shown.
+const SHOWN: usize = 20;
+
+/// Whether a word is a number: one to six digits, the first not 0.
+fn is_number(word: &[u8]) -> bool
+    ensures { result ≡ is_number word.now }
+{
+    is_digits(word) && word.len() <= 6 && word[0] != b'0'
+}
+
+impl Due {
+    /// How it is named.
+    fn text(self) -> &'static str
+        ensures { result.now ≡ due_text self }
+    {
+        match self {
+            Due::Command => "a command",
+            Due::Process => "a process",
+            Due::ProcessOrLost => "a process or lost",
+            Due::ProcessOrView => "a process, regs, mail or history",
+            Due::Act => "go, learn, crash, query or recv",
+            Due::Stop => "decide, round, recv or write",
+            Due::Message => "a message",
+            Due::Step => "a step",
+            Due::Round => "a round",
+            Due::Breakpoint => "a breakpoint",
+            Due::Register => "r1 to r9 or dec",
+            Due::Seat => "a seat from 1 to 9",
+            Due::Nothing => "nothing more",
+        }
+    }
+
+    /// Whether a number may stand there.
+    fn takes_number(self) -> bool
+        ensures { result ≡ takes_number self }
+    {
+        match self {
+            Due::Process
+            | Due::ProcessOrLost
+            | Due::ProcessOrView
+            | Due::Message
+            | Due::Step
+            | Due::Round
+            | Due::Breakpoint => true,
+            Due::Command | Due::Act | Due::Stop | Due::Register | Due::Seat | Due::Nothing => false,
+        }
+    }
+
+    /// The words that may stand there, besides numbers.
+    fn words(self) -> &'static [&'static [u8]]
+        ensures { map (λ it. it.now) result.now ≡ words_at self }
+    {
+        match self {
+            Due::Command => &FIRST,
+            Due::ProcessOrLost => &LOST,
+            Due::ProcessOrView => &VIEWS,
+            Due::Act => &ACTS,
+            Due::Stop => &STOPS,
+            Due::Register => &REGISTERS,
+            Due::Seat => &SEATS,
+            Due::Process | Due::Message | Due::Step | Due::Round | Due::Breakpoint | Due::Nothing =>
+                &[],
+        }
+    }
+
+    /// Whether this is one of those words.
+    fn has(self, word: &[u8]) -> bool
+        ensures { result ≡ list_any (bytes_eq word.now) (words_at self) }
+    {
+        self.words().iter().any(|its| word == *its)
+    }
+
+    /// Whether the word may stand there, `seat` only where a line may choose one.
+    fn allows(self, chooses: bool, word: &[u8]) -> bool
+        ensures { result ≡ may_stand chooses self word.now }
+    {
+        (self.takes_number() && is_number(word))
+            || (self.has(word) && (chooses || word != b"seat".as_slice()))
+    }
+}
+
+/// What is due in a line that begins with `undo`, `rollback` or `why`, where these are its other words.
+fn event(words: &[&[u8]]) -> &'static [Due]
+    ensures { result.now ≡ Due.Command ∷ event (map (λ it. it.now) words.now) }
+{
+    match words {
+        [] => &[Due::Command, Due::ProcessOrLost],
+        [first, ..] if *first == b"lost".as_slice() => &[
+            Due::Command,
+            Due::ProcessOrLost,
+            Due::Process,
+            Due::Message,
+            Due::Process,
+        ],
+        _ => &[Due::Command, Due::ProcessOrLost, Due::Step],
+    }
+}
+
+/// What is due in a line that begins with `step`, where these are its other words.
+fn act(words: &[&[u8]]) -> &'static [Due]
+    ensures { result.now ≡ Due.Command ∷ behind Topic.Step (map (λ it. it.now) words.now) }
+{
+    let [_, act, others @ ..] = words else {
+        return &[Due::Command, Due::Process, Due::Act];
+    };
+    if *act == b"recv".as_slice() {
+        return &[
+            Due::Command,
+            Due::Process,
+            Due::Act,
+            Due::Process,
+            Due::Message,
+        ];
+    }
+    if *act == b"query".as_slice() && !others.is_empty() {
+        return &[Due::Command, Due::Process, Due::Act, Due::Process];
+    }
+    &[Due::Command, Due::Process, Due::Act]
+}
+
+/// What is due in a line that begins with `break`, where these are its other words.
+fn stop(words: &[&[u8]]) -> &'static [Due]
+    ensures { result.now ≡ Due.Command ∷ behind Topic.Break (map (λ it. it.now) words.now) }
+{
+    match words {
+        [] => &[Due::Command, Due::Stop],
+        [stop, ..] if *stop == b"round".as_slice() => {
+            &[Due::Command, Due::Stop, Due::Process, Due::Round]
+        }
+        [stop, ..] if *stop == b"write".as_slice() => &[Due::Command, Due::Stop, Due::Register],
+        _ => &[Due::Command, Due::Stop, Due::Process],
+    }
+}
+
+/// What is due in a line that begins with `explain` or `trail`, where these are its other words.
+fn asked(words: &[&[u8]]) -> &'static [Due]
+    ensures { result.now ≡ Due.Command ∷ asked (map (λ it. it.now) words.now) }
+{
+    match words {
+        [] | [_] => &[Due::Command, Due::Process],
+        _ => &[Due::Command, Due::Process, Due::Step],
+    }
+}
+
+/// What is due in a line that begins so, where these are its other words.
+fn line_of(first: Topic, words: &[&[u8]]) -> &'static [Due]
+    ensures { result.now ≡ Due.Command ∷ behind first (map (λ it. it.now) words.now) }
+{
+    match first {
+        Topic::Step => act(words),
+        Topic::Auto => &[Due::Command, Due::Process],
+        Topic::Lose => &[Due::Command, Due::Process, Due::Message, Due::Process],
+        Topic::Undo | Topic::Rollback | Topic::Why => event(words),
+        Topic::Break => stop(words),
+        Topic::Unbreak => &[Due::Command, Due::Breakpoint],
+        Topic::Show => &[Due::Command, Due::ProcessOrView],
+        Topic::Explain | Topic::Trail => asked(words),
+        Topic::Help if !words.is_empty() => &[Due::Command, Due::Command],
+        Topic::Seat => &[Due::Command, Due::Seat],
+        Topic::Help
+        | Topic::Redo
+        | Topic::Forget
+        | Topic::Resume
+        | Topic::Decisions
+        | Topic::Quit => &[Due::Command],
+    }
+}
+
+/// What is due in a line of these words, at one place after the other.
+fn dues_of(words: &[&[u8]]) -> &'static [Due]
+    ensures { result.now ≡ dues_of (map (λ it. it.now) words.now) }
+{
+    let [word, others @ ..] = words else {
+        return &[Due::Command];
+    };
+    match Topic::of(word) {
+        Some(first) => line_of(first, others),
+        None => &[Due::Command],
+    }
+}
+
+/// A byte of a word as it is shown.
+fn shown_byte(byte: u8) -> char
+    ensures { result ≡ shown_byte byte }
+{
+    if byte.is_ascii_graphic() {
+        char::from(byte)
+    } else {
+        '?'
+    }
+}
+
+/// Adds a word as it is shown.
+fn push_shown(text: &mut String, word: &[u8]) -> Result<(), AllocError>
+    ensures { Pushes result text.old text.new (shown_word word.now) }
+{
+    let shown = &word[..word.len().min(SHOWN)];
+    for byte in shown {
+        text.push(shown_byte(*byte))?;
+    }
+    Ok(())
+}
+
+/// Adds that the line ends where this is due.
+fn push_end(text: &mut String, due: Due) -> Result<(), AllocError>
+    ensures { Pushes result text.old text.new (amiss_text (ends due)) }
+{
+    let what = due.text();
+    write!(text, ": {what} is due")
+}
+
+/// Adds that a word stands where this is due.
+pub(crate) fn push_word(text: &mut String, due: Due, word: &[u8]) -> Result<(), AllocError>
+    ensures { Pushes result text.old text.new (amiss_text (stands due word.now)) }
+{
+    let what = due.text();
+    write!(text, ": {what} is due, not '")?;
+    push_shown(text, word)?;
+    text.push('\'')
+}
+
+/// Adds what is amiss first where this is due and these words stand.
+fn push_first(
+    text: &mut String,
+    chooses: bool,
+    dues: &[Due],
+    words: &[&[u8]],
+) -> Result<(), AllocError>
+    ensures { Pushes result text.old text.new
+        (amiss_text (first_amiss chooses dues.now (map (λ it. it.now) words.now))) }
+{
+    let mut left = words;
+    for due in dues {
+        let [word, others @ ..] = left else {
+            return push_end(text, *due);
+        };
+        if !due.allows(chooses, word) {
+            return push_word(text, *due, word);
+        }
+        left = others;
+    }
+    match left {
+        [word, ..] => push_word(text, Due::Nothing, word),
+        [] => Ok(()),
+    }
+}
+
+/// The words of a line that stands for itself.
+fn words_of(alloc: Global, line: &[u8]) -> Result<Vec<&[u8]>, AllocError>
+    ensures { IfOk result (λ words. map (λ it. it.now) words.items ≡ words_of line.now) }
+{
+    line.split(|byte| *byte == b' ').collect(alloc)
+}
+
+/// Adds what is amiss in a line: `: WHAT is due, not 'WORD'`, or `: WHAT is due` where it ends.
+pub(crate) fn push_amiss(
+    alloc: Global,
+    text: &mut String,
+    chooses: bool,
+    line: &[u8],
+) -> Result<(), AllocError>
+    ensures { Pushes result text.old text.new (amiss_text (amiss_in chooses line.now)) }
+{
+    let words = words_of(alloc, line)?;
+    push_first(text, chooses, dues_of(words.as_slice()), words.as_slice())
+}

@@ -1,0 +1,89 @@
+//! What a line asks of the run as it stands.
+
+ghost use Rattle.std.specs.Prelude.{◌≡◌, ◌≤◌, ◌∷◌, MatchOption, length};
+ghost use Rattle.std.specs.Str.Parse.{AllDigits, digits_value};
+ghost use Rattle.cdb_text.specs.Grammar.{words_of};
+ghost use Rattle.cdb_text.specs.Reading.{number_of};
+ghost use Rattle.cdb_text.specs.Words.{words_left};
+ghost use Rattle.cdb_session.specs.InquiryWords.{inquiry_in, step_in};
+
+use cdb_base::StepAsked;
+
+/// What a line asks of the run as it stands.
+#[derive(Clone, Copy)]
+pub enum Inquiry {
+    /// What led to the step.
+    Explain(StepAsked),
+    /// How a value came to the step.
+    Trail(StepAsked),
+}
+
+/// The first word of a line, and what is left after the space that follows it.
+fn first_word(line: &[u8]) -> (&[u8], Option<&[u8]>)
+    ensures { words_of line.now ≡ result.0.now ∷ words_left result.1 }
+{
+    match line.iter().position(|byte| *byte == b' ') {
+        Some(end) => (&line[..end], Some(&line[end + 1..])),
+        None => (line, None),
+    }
+}
+
+/// The number that the digits write, if all the bytes are digits.
+fn value_of(word: &[u8]) -> Option<u32>
+    requires { length word.now ≤ 6 }
+    ensures { MatchOption result (¬ AllDigits 10 word.now)
+        (λ n. AllDigits 10 word.now × (n ≡ digits_value 10 word.now)) }
+{
+    let mut value = 0;
+    for byte in word {
+        if !byte.is_ascii_digit() {
+            return None;
+        }
+        value = value * 10 + u32::from(byte - b'0');
+    }
+    Some(value)
+}
+
+/// The number that the word is, from 1 to 999,999.
+fn number_of(word: &[u8]) -> Option<u32>
+    ensures { result ≡ number_of word.now }
+{
+    if word.is_empty() || word.len() > 6 || word[0] == b'0' {
+        return None;
+    }
+    value_of(word)
+}
+
+/// The step that the words behind the first one name.
+#[tactic(auto, unfolding(crate::specs::InquiryWords::step_in))]
+fn step_of(words: Option<&[u8]>) -> Option<StepAsked>
+    ensures { result ≡ step_in (words_left words.entry) }
+{
+    let (first, others) = first_word(words?);
+    let p = number_of(first)?;
+    let Some(others) = others else {
+        return Some(StepAsked { p, k: None });
+    };
+    match first_word(others) {
+        (second, None) => {
+            let k = Some(number_of(second)?);
+            Some(StepAsked { p, k })
+        }
+        (_, Some(_)) => None,
+    }
+}
+
+/// What a line asks of the run, if it does.
+#[tactic(auto, unfolding(crate::specs::InquiryWords::inquiry_in))]
+pub(crate) fn inquiry_of(line: &[u8]) -> Option<Inquiry>
+    ensures { result ≡ inquiry_in (words_of line.now) }
+{
+    let (word, others) = first_word(line);
+    if word == b"explain".as_slice() {
+        return Some(Inquiry::Explain(step_of(others)?));
+    }
+    if word == b"trail".as_slice() {
+        return Some(Inquiry::Trail(step_of(others)?));
+    }
+    None
+}
