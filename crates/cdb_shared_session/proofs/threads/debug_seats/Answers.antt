@@ -12,7 +12,7 @@ use Rattle.cdb_shared_session.proofs.threads.debug_seats.Goals as goal
 pub run_all-left-requires-clause-ready : goal.run_all-left-requires-clause-ready
 run_all-left-requires-clause-ready g c κs within =
     let new = dealt c.in_ok-shared.shared c.args.control c.in_ok-shared.seats.items c.in_ok-shared.ensures.seats in
-    all_ready c.in_ok-shared.shared c.args.control _ c.requires.greeting (omega (arith, c.seats-count.ensures.0, c.requires.seats)) (c.in_ok-again.ensures ∙ c.run.ensures.setup) c.seats-count.ensures.1 _ new
+    all_ready c.in_ok-shared.shared c.args.control _ c.requires.greeting (omega (arith, c.seats-count.ensures.0, c.requires.seats)) (c.in_ok-again.ensures ∙ c.setup.ensures ∙ c.run.ensures.setup) (c.seats-count.ensures.1, c.seats-count.ensures.2) _ new
 
 pub run_all-left-requires-clause-openers : goal.run_all-left-requires-clause-openers
 run_all-left-requires-clause-openers g c κs within =
