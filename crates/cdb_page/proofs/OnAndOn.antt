@@ -1,15 +1,28 @@
--- A page up its journal as that grows.
+-- A page keeps up with its journal as that grows.
 use Rattle.std.proofs.Common.{◌≡◌, ◌∙◌, ◌⊎◌, inl, inr, ℕ, ◌<◌, List, [], ◌∷◌, ◌++◌, length, take, drop, Option, None, Some, Result, Ok, Err, refl, sym, ap, subst, append_assoc, append-nil}
 use Rattle.std.specs.Prelude.{All, IfErr, IfOk, IfSome, option_map}
 use Rattle.std.specs.Io.KnownBytes.{Appends, Keeps, WriteAppends}
 use Rattle.std.proofs.KnownBytes.{Appends-trans}
 use Rattle.std.proofs.Math.Seq.{drop-append_seam, take-append_seam}
 use Rattle.std.proofs.lemmas.List.Elements.{All-append, All-cons, All-nil, All-weaker}
+use Rattle.cdb_draw.specs.Drawn.{IsFaultOfPicture}
 use Rattle.cdb_explain.specs.declared.fault.ExplainFault.{ExplainFault}
+use Rattle.cdb_explain.specs.declared.fault.ExplainFault.TheVariants.{NoStep, NoValue, Play, TooManyEvents}
+use Rattle.cdb_rules.specs.RunView.{RunView}
 use Rattle.cdb_streams.specs.Streams.{Stream}
 use Rattle.cdb_streams.specs.declared.sink.Failed.{Failed}
 use Rattle.cdb_page.specs.Live.{EndsLine, EndsWithPage, Live, KeepsUp, HasTaken, IsMadeWith, IsPageSoFar, Shows, ShowsLines, Versions, files_of, journal_so_far, made_with, taken_of, with_version}
-use Rattle.cdb_page.specs.OfJournals.{IsFaultOfJournalPage, IsPageOfJournal}
+use Rattle.cdb_page.specs.OfJournals.{IsFaultOfJournalPage, IsPageOfJournal, IsRunOfJournal}
+
+-- ---- the page of a journal
+
+pub no_page_because : {A : Type 0} (json journal : List ℕ) (run : RunView) (result : Result A ExplainFault) → IsRunOfJournal json journal run
+    → IfErr result (IsFaultOfPicture run None) → IfErr result (IsFaultOfJournalPage json journal)
+no_page_because json journal run (Ok page) is why = tt
+no_page_because json journal run (Err NoStep) is why = why
+no_page_because json journal run (Err NoValue) is why = why
+no_page_because json journal run (Err TooManyEvents) is why = (run, is, why.0)
+no_page_because json journal run (Err (Play fault)) is why = tt
 
 -- ---- what the file of the journal took
 

@@ -1,4 +1,4 @@
--- A page that up a journal: with each entry that the journal gets the file of the page is written anew.
+-- A page that keeps up with a journal: with each entry that the journal gets the file of the page is written anew.
 use Rattle.std.specs.Prelude.{◌≡◌, ◌⊎◌, ℕ, List, [], ◌∷◌, ◌++◌, length, take, All, Option, None, Some, option_map, Result, Ok, Err, IfOk, IfErr, IfSome}
 use Rattle.std.specs.Io.KnownBytes.{Appends}
 use Rattle.cdb_explain.specs.declared.fault.ExplainFault.{ExplainFault}
@@ -22,7 +22,7 @@ abbrev pub Rewrites : {P : Type 0} → (P → Versions) → P → P → List ℕ
 Rewrites versions old new text (Ok done) = versions new ≡ with_version (versions old) text
 Rewrites versions old new text (Err fault) = versions new ≡ versions old
 
--- ---- a page that up a journal
+-- ---- a page that keeps up with a journal
 
 -- What is known of one: the setup, as JSON; the text of the journal from which it goes on, and what it took of the whole journal,
 -- from its first entry; how many calls failed; the file of the journal, where it has one; what the file of the page has had; and how the

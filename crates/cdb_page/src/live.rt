@@ -1,4 +1,4 @@
-//! A page that up a journal.
+//! A page that keeps up with a journal.
 
 ghost use Rattle.std.specs.Prelude.{◌≡◌, ◌↔◌, ◌≤◌, ℕ, List, [], ◌++◌, length, IfErr, IfOk, IfSome, IsTrue};
 ghost use Rattle.std.specs.Io.{WritesAtMost};
@@ -88,7 +88,7 @@ fn ends_line(text: &[u8]) -> bool
     }
 }
 
-/// A page that up a journal: what the journal of sessions is written to, as they go on. With each entry the file of the page is
+/// A page that keeps up with a journal: what the journal of sessions is written to, as they go on. With each entry the file of the page is
 /// written anew, with the page of the run that the journal then leaves; a file of the journal, where it has one, is written to first. Where
 /// the page can't be made or written it stays as it was, the journal is kept all the same, and the next entry tries again.
 #[derive(Drop)]

@@ -117,9 +117,9 @@ fn empty_folder(rt: &HostRuntime, name: &str) -> io::Result<()> {
     }
 }
 
-/// Writes a file under another name, and gives it its own once it is whole.
+/// Writes a file under another name, in the place of what has that, and gives it its own once it is whole.
 fn write_new(rt: &HostRuntime, part: &str, name: &str, bytes: &[u8]) -> io::Result<()> {
-    let mut file = File::create_new(rt, part)?;
+    let mut file = File::create(rt, part)?;
     file.write_all(bytes)?;
     fs::rename(rt, part, name)
 }
