@@ -1,5 +1,5 @@
 -- Files are opened one after the other.
-use Rattle.std.proofs.Common.{◌≡◌, ℕ, ◌+◌, ◌<◌, List, [], ◌∷◌, ◌++◌, length, get_or, take, drop, Option, Some, None, Err, Bor, Vec, Global, refl, sym, ap, subst, ◌∙◌, append_assoc, append-nil, take-append-drop}
+use Rattle.std.proofs.Common.{◌≡◌, ℕ, ◌+◌, ◌<◌, List, [], ◌∷◌, ◌++◌, length, get_or, take, drop, Option, Some, None, Result, Ok, Err, Bor, Vec, Global, refl, sym, ap, subst, ◌∙◌, append_assoc, append-nil, take-append-drop}
 use Rattle.std.specs.Prelude.{option_map}
 use Rattle.std.proofs.lemmas.List.{map-append, take_more}
 use Rattle.std.specs.List.{AllZip}
@@ -9,8 +9,10 @@ use Rattle.cdb_streams.specs.declared.fault.PlayFault.TheVariants as play
 use Rattle.cdb_streams.specs.declared.source.ReadFault.{ReadFault}
 use Rattle.cdb_streams.specs.declared.source.ReadFault.TheVariants as reading
 use Rattle.cdb_base.specs.Requests.{texts}
+use Rattle.cdb_program.specs.Beginning.{ReadsBeginning}
 use Rattle.cdb_program.specs.Known.{FilesSeen, after_opening, after_failing}
 use Rattle.cdb_program.specs.Reading.{AreFirstBytes, FailsToRead, HasRead, ReadsFile, most_read}
+use Rattle.cdb_program.specs.Replaying.{ReadsBoth}
 use Rattle.cdb_program.specs.declared.fault.Fault.{Fault}
 use Rattle.cdb_program.specs.declared.fault.Fault.TheVariants.{Play, Race, NoStep, NoValue, Different, NoGoal, NotFound, DoesNotHold, TooManyEvents, TooManySeats, Refused, Journal, Page}
 
@@ -115,6 +117,12 @@ fails_before old new names after DoesNotHold fails = absurd fails
 fails_before old new names after Different fails = absurd fails
 fails_before old new names after TooManySeats fails = absurd fails
 fails_before old new names after (Refused reason) fails = absurd fails
+
+-- the file of a setup and that of a journal, from which sessions go on
+pub both_begin : (old new : FilesSeen) (setup journal : List ℕ) (read : Result (Vec ℕ Global × Vec ℕ Global) Fault)
+    → ReadsBoth old new setup journal read → ReadsBeginning old new setup (Some journal) read
+both_begin old new setup journal (Ok read) (opened, json, bytes) = (opened, (json, bytes))
+both_begin old new setup journal (Err fault) both = both
 
 -- ---- names in a list
 

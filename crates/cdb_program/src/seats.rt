@@ -116,8 +116,8 @@ pub(crate) fn make_any<'a, F: Files>(
     }
 }
 
-/// Holds sessions of these seats over one run of a setup file, which go on from a journal if one is
-/// named, and returns the status. A fault is not reported yet.
+/// Holds sessions of these seats over one run of a setup file, which go on from a journal if one is named, and returns the
+/// status. A fault is not reported yet.
 fn hold_seats<
     'a,
     R: Threads + Wait + Clock + Sync,
@@ -138,8 +138,8 @@ fn hold_seats<
     ensures sessions { IfOk result
         (HoldsSeats setup.entry.now (texts seats.now) (any_text from.entry) (any_text file.entry)
         outside.old outside.new) }
-    ensures fault { IfErr result (IsFaultOfSeats setup.entry.now (texts seats.now) (any_text from.entry) (any_name (any_text file.entry))
-        outside.old.files outside.new.files) }
+    ensures fault { IfErr result (IsFaultOfSeats setup.entry.now (texts seats.now) (any_text from.entry)
+        (any_name (any_text file.entry)) outside.old.files outside.new.files) }
     ensures output { IfErr result (λ _. outside.new.output ≡ outside.old.output) }
     ensures error { IfErr result (λ _. outside.new.error ≡ outside.old.error) }
     ensures input { outside.new.input ≡ outside.old.input }
@@ -166,8 +166,8 @@ fn hold_seats<
     }
 }
 
-/// Holds sessions of these seats, one at least, over one run of a setup file, from a journal on if one is named, reports on standard error what failed, and
-/// returns the status with which the program ends.
+/// Holds sessions of these seats, one at least, over one run of a setup file, which go on from a journal if one is named,
+/// reports on standard error what failed, and returns the status with which the program ends.
 pub fn perform_shared<
     R: Threads + Wait + Clock + Sync,
     F: Files + Drop,

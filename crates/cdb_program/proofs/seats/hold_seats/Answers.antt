@@ -1,4 +1,4 @@
-use Rattle.std.proofs.Common.{◌≡◌, ℕ, List, [], ◌∷◌, Bor, vec_len, length, refl, ap, arith}
+use Rattle.std.proofs.Common.{◌≡◌, ℕ, List, ◌∷◌, Bor, vec_len, length, refl, ap, arith}
 use Rattle.std.proofs.lemmas.List.{length-map}
 use Rattle.std.proofs.lemmas.Result.{err_from_is_err_and}
 use Rattle.cdb_agreement.specs.Algorithms.{rules}
@@ -11,14 +11,14 @@ use Rattle.cdb_program.proofs.Seated.{as_fault, fails_later, file_seen, holds_se
 use Rattle.cdb_shared_session.proofs.KeptEntries.{seen_kept}
 use Rattle.cdb_program.proofs.seats.hold_seats.Goals as goal
 
-pub returns-in_err-read_beginning-clause-fault : goal.returns-in_err-read_beginning-clause-fault
-returns-in_err-read_beginning-clause-fault g c =
+pub returns-in_err-json-clause-fault : goal.returns-in_err-json-clause-fault
+returns-in_err-json-clause-fault g c =
     let p = err_from_is_err_and c.from_residual.result c.from_residual.ensures.1 in
     let names = texts c.args.seats.now in
     let from = any_text c.args.from in
     let file = any_name (any_text c.args.file) in
     rw (p.1, p.2, ← c.outside.view_is)
-    (as_fault _ names from file _ _ c.in_err-read_beginning.field-0.0 (fails_before _ _ (c.args.setup.now ∷ any_name from) (names ++ file) c.in_err-read_beginning.field-0.0 c.in_err-read_beginning.ensures))
+    (as_fault _ names from file _ _ c.in_err-json.field-0.0 (fails_before _ _ (c.args.setup.now ∷ any_name from) (names ++ file) c.in_err-json.field-0.0 c.in_err-json.ensures))
 
 pub returns-in_err-openers-clause-fault : goal.returns-in_err-openers-clause-fault
 returns-in_err-openers-clause-fault g c =
@@ -29,7 +29,7 @@ returns-in_err-openers-clause-fault g c =
     let why = c.in_err-openers.field-0.0 in
     let fails = fails_before _ _ names (file) why c.in_err-openers.ensures.fault in
     rw (p.1, p.2, ← c.outside.view_is)
-    (as_fault _ names from file _ _ why (fails_later _ _ _ (c.args.setup.now ∷ any_name from) (names ++ file) why c.in_ok-read_beginning.ensures.0 fails))
+    (as_fault _ names from file _ _ why (fails_later _ _ _ (c.args.setup.now ∷ any_name from) (names ++ file) why c.in_ok-json.ensures.0 fails))
 
 pub returns-in_err-file-clause-fault : goal.returns-in_err-file-clause-fault
 returns-in_err-file-clause-fault g c =
@@ -40,7 +40,7 @@ returns-in_err-file-clause-fault g c =
     let why = c.in_err-file.field-0.0 in
     let fails = fails_later _ _ _ names (file) why c.in_ok-openers.ensures.opened c.in_err-file.ensures.fault in
     rw (p.1, p.2, ← c.outside.view_is)
-    (as_fault _ names from file _ _ why (fails_later _ _ _ (c.args.setup.now ∷ any_name from) (names ++ file) why c.in_ok-read_beginning.ensures.0 fails))
+    (as_fault _ names from file _ _ why (fails_later _ _ _ (c.args.setup.now ∷ any_name from) (names ++ file) why c.in_ok-json.ensures.0 fails))
 
 pub returns-in-Ok-clause-sessions : goal.returns-in-Ok-clause-sessions
 returns-in-Ok-clause-sessions g c =
@@ -49,12 +49,12 @@ returns-in-Ok-clause-sessions g c =
     let names = texts c.args.seats.now in
     let file = any_name (any_text c.args.file) in
     let before = c.args.setup.now ∷ any_name (any_text c.args.from) in
-    let seats = seats_known opens _ _ before names openers c.in_ok-read_beginning.ensures.0 c.in_ok-openers.ensures.seats in
+    let seats = seats_known opens _ _ before names openers c.in_ok-json.ensures.0 c.in_ok-openers.ensures.seats in
     let opened = opened_then _ _ _ names (file) c.in_ok-openers.ensures.opened c.in_ok-file.ensures.opened in
     rw (← c.outside.view_is) (
-      c.in_ok-read_beginning.field-0.0.items,
-      c.in_ok-read_beginning.field-0.1.items,
-      (opened_then _ _ _ before (names ++ file) c.in_ok-read_beginning.ensures.0 opened, c.in_ok-read_beginning.ensures.1),
+      c.in_ok-json.json.items,
+      c.in_ok-json.journal.items,
+      (opened_then _ _ _ before (names ++ file) c.in_ok-json.ensures.0 opened, c.in_ok-json.ensures.1),
       (
         option_map g.F.Made.Sink.stream c.in_ok-file.file,
         option_map (seen_kept g.F.Made.Sink.stream) c.in-Ok.field-0.1,
@@ -73,9 +73,9 @@ returns-clause-fault g c =
     let opened = opened_then _ _ _ names (file) c.in_ok-openers.ensures.opened c.in_ok-file.ensures.opened in
     let many : vec_len c.in_ok-openers.openers ≡ length names = omega (arith, c.in_ok-openers.ensures.count, length-map c.args.seats.now (λ (name : Bor (List ℕ)). name.now)) in
     rw (← c.outside.view_is) (
-      c.in_ok-read_beginning.field-0.0.items,
-      c.in_ok-read_beginning.field-0.1.items,
-      (opened_then _ _ _ before (names ++ file) c.in_ok-read_beginning.ensures.0 opened, c.in_ok-read_beginning.ensures.1),
+      c.in_ok-json.json.items,
+      c.in_ok-json.journal.items,
+      (opened_then _ _ _ before (names ++ file) c.in_ok-json.ensures.0 opened, c.in_ok-json.ensures.1),
       rw (← c.as_slice.ensures.value, ← c.as_slice-2.ensures.value, ← many) c.in-Err.ensures.fault,
     )
 
