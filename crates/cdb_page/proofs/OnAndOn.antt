@@ -5,24 +5,11 @@ use Rattle.std.specs.Io.KnownBytes.{Appends, Keeps, WriteAppends}
 use Rattle.std.proofs.KnownBytes.{Appends-trans}
 use Rattle.std.proofs.Math.Seq.{drop-append_seam, take-append_seam}
 use Rattle.std.proofs.lemmas.List.Elements.{All-append, All-cons, All-nil, All-weaker}
-use Rattle.cdb_draw.specs.Drawn.{IsFaultOfPicture}
 use Rattle.cdb_explain.specs.declared.fault.ExplainFault.{ExplainFault}
-use Rattle.cdb_explain.specs.declared.fault.ExplainFault.TheVariants.{NoStep, NoValue, Play, TooManyEvents}
-use Rattle.cdb_rules.specs.RunView.{RunView}
 use Rattle.cdb_streams.specs.Streams.{Stream}
 use Rattle.cdb_streams.specs.declared.sink.Failed.{Failed}
 use Rattle.cdb_page.specs.Live.{EndsLine, EndsWithPage, Live, KeepsUp, HasTaken, IsMadeWith, IsPageSoFar, Shows, ShowsLines, Versions, files_of, journal_so_far, made_with, taken_of, with_version}
-use Rattle.cdb_page.specs.OfJournals.{IsFaultOfJournalPage, IsPageOfJournal, IsRunOfJournal}
-
--- ---- the page of a journal
-
-pub no_page_because : {A : Type 0} (json journal : List ℕ) (run : RunView) (result : Result A ExplainFault) → IsRunOfJournal json journal run
-    → IfErr result (IsFaultOfPicture run None) → IfErr result (IsFaultOfJournalPage json journal)
-no_page_because json journal run (Ok page) is why = tt
-no_page_because json journal run (Err NoStep) is why = why
-no_page_because json journal run (Err NoValue) is why = why
-no_page_because json journal run (Err TooManyEvents) is why = (run, is, why.0)
-no_page_because json journal run (Err (Play fault)) is why = tt
+use Rattle.cdb_page.specs.OfJournals.{IsFaultOfJournalPage, IsPageOfJournal}
 
 -- ---- what the file of the journal took
 
@@ -67,7 +54,7 @@ last_is json journal page (Some texts) is = (texts, page, refl, is)
 -- ---- the whole
 
 pub so_far : (from text : List ℕ) → 0 < length text → journal_so_far from text ≡ text
-so_far from [] some = absurd some
+so_far from [] some = absurd (omega arith)
 so_far from (byte ∷ text) some = refl
 
 -- it took no more of the journal
@@ -160,6 +147,7 @@ same_front a b x y long is = (
 same_setup : (json from text its_json its_from its_text : List ℕ)
     → ((length its_json ∷ its_json) ++ (length its_from ∷ its_from)) ++ its_text ≡ ((length json ∷ json) ++ (length from ∷ from)) ++ text
     → (its_json ≡ json) × (its_from ≡ from) × (its_text ≡ text)
+unfolding first_of rest_of
 same_setup json from text its_json its_from its_text is =
     let one = same_front its_json json ((length its_from ∷ its_from) ++ its_text) ((length from ∷ from) ++ text) (ap first_of is)
     (sym (append_assoc its_json (length its_from ∷ its_from) its_text) ∙ ap rest_of is ∙ append_assoc json (length from ∷ from) text) in
@@ -170,6 +158,7 @@ same_setup json from text its_json its_from its_text is =
 pub made_with_same : {A : Type 0} (it : Live) (journal : Option A) (json from text : List ℕ)
     → made_with it.journal it.json it.from ++ it.taken ≡ made_with journal json from ++ text
     → IsMadeWith journal json from it × (it.taken ≡ text)
+unfolding first_of rest_of
 made_with_same it journal json from text is =
     let same = same_setup json from text it.json it.from it.taken (ap rest_of is) in
     (record { files = ap first_of is; json_is = same.0; from_is = same.1 }, same.2)

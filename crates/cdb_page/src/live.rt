@@ -207,7 +207,7 @@ fn take<J: Sink>(piece: &[u8], taken: &mut Vec<u8>, file: &mut Option<J>) -> Res
 
 /// Whether a call failed that returned this for a piece.
 fn has_failed(written: Result<usize, Failed>, piece: &[u8]) -> bool
-    ensures { result ≡ is_failure written.entry piece.now }
+    ensures { result ≡ is_failure written piece.now }
 {
     match written {
         Ok(count) => count == 0 && !piece.is_empty(),

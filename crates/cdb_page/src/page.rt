@@ -1,11 +1,10 @@
 //! The page of a run as a text in memory.
 
-ghost use Rattle.std.specs.Prelude.{◌≡◌, ◌≤◌, ◌++◌, length, None, IfErr, IfOk};
+ghost use Rattle.std.specs.Prelude.{◌≡◌, ◌≤◌, ◌++◌, length, IfErr, IfOk};
 ghost use Rattle.cdb_agreement.specs.Algorithms.{rules};
 ghost use Rattle.cdb_base.specs.Limits.{MAX_ENTRIES as most_entries};
-ghost use Rattle.cdb_draw.specs.Drawn.{IsFaultOfPicture};
 ghost use Rattle.cdb_page.specs.Pages.{IsPage, refresh_text};
-ghost use Rattle.cdb_page.specs.Written.{IsPageOfFew};
+ghost use Rattle.cdb_page.specs.Written.{IsFaultOfFew, IsPageOfFew};
 ghost use Rattle.cdb_page.specs.declared.parts.TheConstants.{CONTROLS as controls, HEAD as head, LOOKS as looks, SCRIPT as script};
 ghost use Rattle.cdb_rules.specs.ByRules.{IsInOrder};
 
@@ -64,7 +63,7 @@ pub(crate) fn page_of_few(
     requires valid { IsInOrder rules run.now }
     requires few { length run.now.history ≤ most_entries }
     ensures page { IfOk result (λ text. IsPageOfFew refresh run.now text.items) }
-    ensures fault { IfErr result (IsFaultOfPicture run.now None) }
+    ensures fault { IfErr result (IsFaultOfFew run.now) }
 {
     if run.events().len() > MOST_DRAWN {
         return Err(ExplainFault::TooManyEvents);
