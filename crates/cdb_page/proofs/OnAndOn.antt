@@ -1,14 +1,17 @@
 -- A page keeps up with its journal as that grows.
-use Rattle.std.proofs.Common.{◌≡◌, ◌∙◌, ◌⊎◌, inl, inr, ℕ, ◌<◌, List, [], ◌∷◌, ◌++◌, length, take, drop, Option, None, Some, Result, Ok, Err, refl, sym, ap, subst, append_assoc, append-nil}
+use Rattle.std.proofs.Common.{◌≡◌, ◌∙◌, inl, inr, ℕ, zero, suc, ◌<◌, ◌≤◌, List, [], ◌∷◌, ◌++◌, length, take, drop, Option, None, Some, Result, Ok, Err, refl, sym, ap, subst, arith, append_assoc, append-nil, length-append}
 use Rattle.std.specs.Prelude.{All, IfErr, IfOk, IfSome, option_map}
+use Rattle.std.specs.Io.{WritesAtMost}
 use Rattle.std.specs.Io.KnownBytes.{Appends, Keeps, WriteAppends}
+use Rattle.std.specs.Result.{result_unwrap_or}
 use Rattle.std.proofs.KnownBytes.{Appends-trans}
 use Rattle.std.proofs.Math.Seq.{drop-append_seam, take-append_seam}
+use Rattle.std.proofs.lemmas.List.{length-take-le}
 use Rattle.std.proofs.lemmas.List.Elements.{All-append, All-cons, All-nil, All-weaker}
 use Rattle.cdb_explain.specs.declared.fault.ExplainFault.{ExplainFault}
 use Rattle.cdb_streams.specs.Streams.{Stream}
 use Rattle.cdb_streams.specs.declared.sink.Failed.{Failed}
-use Rattle.cdb_page.specs.Live.{EndsLine, EndsWithPage, Live, KeepsUp, HasTaken, IsMadeWith, IsPageSoFar, Shows, ShowsLines, Versions, files_of, journal_so_far, made_with, taken_of, with_version}
+use Rattle.cdb_page.specs.Live.{EndsWithPage, Live, KeepsUp, HasTaken, IsMadeWith, IsPageSoFar, Shows, ShowsLines, Versions, files_of, journal_so_far, made_with, taken_of, with_version}
 use Rattle.cdb_page.specs.OfJournals.{IsFaultOfJournalPage, IsPageOfJournal}
 
 -- ---- what the file of the journal took
@@ -25,6 +28,15 @@ took_more text piece old new (Ok count) wrote (first, empty, took) =
     (first, empty, Appends-trans first old.bytes new.bytes text (take count piece) took wrote)
 took_more text piece old new (Err failed) wrote (first, empty, took) =
     (first, empty, subst (Appends first new.bytes) (sym (append-nil text)) (appends_kept first old.bytes new.bytes text took wrote))
+
+pub took_some : (text piece : List ℕ) (written : Result ℕ Failed) → WritesAtMost written piece → 0 < result_unwrap_or written 0 → 0 < length (text ++ taken_of written piece)
+took_some text piece (Ok count) within some = omega (arith, length-append text (take count piece), length-take-le count piece within)
+took_some text piece (Err failed) within some = absurd (omega arith)
+
+pub took_none : (text piece : List ℕ) (written : Result ℕ Failed) → result_unwrap_or written 0 ≤ 0 → text ++ taken_of written piece ≡ text
+took_none text piece (Ok zero) none = append-nil text
+took_none text piece (Ok (suc count)) none = absurd (omega arith)
+took_none text piece (Err failed) none = append-nil text
 
 -- ---- what the file of the page had
 

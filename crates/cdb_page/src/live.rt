@@ -7,7 +7,7 @@ ghost use Rattle.cdb_base.specs.Limits.{MAX_ENTRIES as most_entries};
 ghost use Rattle.cdb_page.specs.Live.{EndsLine, KeepsUp, HasFileTaken, IsMadeWith, Shows, ShowsLines, files_of, taken_of};
 ghost use Rattle.cdb_page.specs.OfJournals.{IsFaultOfJournalPage, IsPageOfJournal, IsRunOfJournal};
 ghost use Rattle.cdb_rules.specs.ByRules.{IsInOrder};
-ghost use Rattle.cdb_streams.specs.Streams.{is_failure};
+ghost use Rattle.cdb_streams.specs.Streams.{counted, is_failure};
 
 use crate::page::page_of_few;
 use crate::parts::Refresh;
@@ -215,6 +215,17 @@ fn has_failed(written: Result<usize, Failed>, piece: &[u8]) -> bool
     }
 }
 
+/// How many calls have failed after one of which this says whether it did, in 64 bits.
+fn failures_after(failures: u64, failed: bool) -> u64
+    ensures { result ≡ counted failed failures }
+{
+    if failed {
+        failures.wrapping_add(1)
+    } else {
+        failures
+    }
+}
+
 /// Puts the page of the run that a journal of whole lines leaves in the place of what the file has.
 ///
 /// # Errors
@@ -240,9 +251,7 @@ impl<'a, J: Sink + Drop, P: Rewritten + Drop> Sink for LivePage<'a, J, P> {
 
     fn write(&mut self, piece: &[u8]) -> Result<usize, Failed> {
         let written = take(piece, &mut self.taken, &mut self.journal);
-        if has_failed(written, piece) {
-            self.failures = self.failures.wrapping_add(1);
-        }
+        self.failures = failures_after(self.failures, has_failed(written, piece));
         if written.unwrap_or(0) > 0 {
             self.outcome = show_lines(
                 self.alloc,
