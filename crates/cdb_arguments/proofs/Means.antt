@@ -34,7 +34,7 @@ Means name rows asked =
     (MatchBool (bytes_eq name (codes "trail")) (AsksStep IsStepIn (λ step. Trail step) rows asked)
     (MatchBool (bytes_eq name (codes "draw")) (AsksDrawing rows asked)
     (MatchBool (bytes_eq name (codes "slice")) (AsksStep IsAnyStepIn (λ step. Slice step) rows asked)
-    (MatchBool (bytes_eq name (codes "debug")) (asked ≡ Debug setup (texts_at (codes "SEAT") rows) (first_of (codes "JOURNAL") rows) (first_of (codes "FILE") rows))
+    (MatchBool (bytes_eq name (codes "debug")) (asked ≡ Debug setup (texts_at (codes "SEAT") rows) (first_of (codes "JOURNAL") rows) (first_of (codes "FILE") rows) (first_of (codes "PAGE") rows))
     (MatchBool (bytes_eq name (codes "replay")) (asked ≡ Replay setup (text_at (codes "JOURNAL") rows))
     (MatchBool (bytes_eq name (codes "search"))
     ((seed walks : ℕ) × IsNumber (text_at (codes "SEED") rows) seed × IsNumber (text_at (codes "WALKS") rows) walks
@@ -55,7 +55,7 @@ means name rows (Ask setup script (Trail step)) is asks = rw (← some_same _ _ 
 means name rows (Ask setup script (Draw columns step)) is asks = rw (← some_same _ _ is, asks.0, asks.1) (columns, asks.2.1, inl (asks.2.2, (step, asks.2.0, refl)))
 means name rows (Frames setup script folder columns step) is asks = rw (← some_same _ _ is) (columns, asks.3, inr (folder, asks.2))
 means name rows (Ask setup script (Slice step)) is asks = rw (← some_same _ _ is, asks.0, asks.1) (step, asks.2, refl)
-means name rows (Debug setup seats from journal) is asks = rw (← some_same _ _ is, asks.0, asks.1, asks.2, asks.3) refl
+means name rows (Debug setup seats from journal page) is asks = rw (← some_same _ _ is, asks.0, asks.1, asks.2, asks.3, asks.4) refl
 means name rows (Replay setup journal) is asks = rw (← some_same _ _ is, asks.0, asks.1) refl
 means name rows (Search setup goal seed walks) is asks = rw (← some_same _ _ is, asks.0, asks.1) (seed, walks, asks.2, asks.3, refl)
 means name rows (Shrink setup script goal) is asks = rw (← some_same _ _ is, asks.0, asks.1, asks.2) refl

@@ -132,10 +132,10 @@ debug_sub : IsSub (codes "debug") debug_shape
 unfolding clap_on_literals program debug_shape
 debug_sub = record { stops = refl; turn = refl; end = refl; enters = λ words. refl; levels = λ words. refl }
 
-debug_alone : (words : List Text) (setup : Text) → IsSubcommandLine (codes "debug") (setup ∷ []) words → IsTaken words (Debug setup [] None None)
+debug_alone : (words : List Text) (setup : Text) → IsSubcommandLine (codes "debug") (setup ∷ []) words → IsTaken words (Debug setup [] None None None)
 unfolding clap_on_literals program debug_shape
 debug_alone words setup line =
-    taken_line (codes "debug") debug_shape (setup ∷ []) words (Debug setup [] None None) line
+    taken_line (codes "debug") debug_shape (setup ∷ []) words (Debug setup [] None None None) line
     (record { sub = debug_sub; passes = ((refl, refl, tt), refl, tt); ends = (refl, refl, refl); only = λ asked is. is })
 
 module _ (setup : Text) where
@@ -169,16 +169,16 @@ module _ (setup : Text) where
     debug_ends short = (rw (le-leb 1 (length (seat ∷ more)) (omega arith), le-leb _ _ short, all_texts_pass more) refl, refl, refl)
 
     debug_means : (asked : Asked) → Means (codes "debug") (finished debug_shape.rules (at debug_rows (codes "SEAT") 2 (seat ∷ more)).held) asked
-        → asked ≡ Debug setup (seat ∷ more) None None
+        → asked ≡ Debug setup (seat ∷ more) None None None
     unfolding clap_on_literals program debug_shape at debug_rows
     debug_means asked is = is
 
 pub debug_line : (words : List Text) (setup : Text) (seats : List Text) → length seats ≤ usize_max → IsSubcommandLine (codes "debug") (setup ∷ seats) words
-    → IsTaken words (Debug setup seats None None)
+    → IsTaken words (Debug setup seats None None None)
 debug_line words setup [] short line = debug_alone words setup line
 debug_line words setup (seat ∷ more) short line =
     let all = all_seats setup seat more in
-    taken_line (codes "debug") debug_shape (setup ∷ seat ∷ more) words (Debug setup (seat ∷ more) None None) line (record {
+    taken_line (codes "debug") debug_shape (setup ∷ seat ∷ more) words (Debug setup (seat ∷ more) None None None) line (record {
       sub = debug_sub;
       passes = debug_passes setup seat more;
       ends = subst (λ w. EndPasses debug_shape w.held) (sym all) (debug_ends setup seat more short);

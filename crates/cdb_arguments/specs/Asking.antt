@@ -78,7 +78,7 @@ subcommand_for (Play setup script) = Some (codes "play")
 subcommand_for (Race setup turns scripts) = Some (codes "race")
 subcommand_for (Ask setup script question) = Some (question_name question)
 subcommand_for (Frames setup script folder columns step) = Some (codes "draw")
-subcommand_for (Debug setup seats from journal) = Some (codes "debug")
+subcommand_for (Debug setup seats from journal page) = Some (codes "debug")
 subcommand_for (Replay setup journal) = Some (codes "replay")
 subcommand_for (Search setup goal seed walks) = Some (codes "search")
 subcommand_for (Shrink setup script goal) = Some (codes "shrink")
@@ -98,9 +98,10 @@ Asks rows (Ask setup script question) =
 Asks rows (Frames setup script folder columns step) =
     (setup ≡ text_at (codes "SETUP") rows) × (script ≡ text_at (codes "SCRIPT") rows)
     × (first_of (codes "FOLDER") rows ≡ Some folder) × AreColumns (first_of (codes "N") rows) columns × IsAnyStepIn rows step
-Asks rows (Debug setup seats from journal) =
+Asks rows (Debug setup seats from journal page) =
     (setup ≡ text_at (codes "SETUP") rows) × (seats ≡ texts_at (codes "SEAT") rows)
     × (from ≡ first_of (codes "JOURNAL") rows) × (journal ≡ first_of (codes "FILE") rows)
+    × (page ≡ first_of (codes "PAGE") rows)
 Asks rows (Replay setup journal) = (setup ≡ text_at (codes "SETUP") rows) × (journal ≡ text_at (codes "JOURNAL") rows)
 Asks rows (Search setup goal seed walks) =
     (setup ≡ text_at (codes "SETUP") rows) × (goal ≡ text_at (codes "GOAL") rows)

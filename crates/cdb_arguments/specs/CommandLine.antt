@@ -70,12 +70,12 @@ draw_app =
 abbrev pub slice_app : App
 slice_app = on_any_step (codes "slice") []
 
--- `debug [--journal FILE] [--from JOURNAL] SETUP [SEAT..]`
+-- `debug [--journal FILE] [--from JOURNAL] [--page PAGE] SETUP [SEAT..]`
 abbrev pub debug_app : App
 debug_app =
     with_arguments (codes "debug")
     (required_rule (codes "SETUP") ∷ several (new_rule (codes "SEAT")) ∷ option_rule (codes "FILE") (codes "journal")
-    ∷ option_rule (codes "JOURNAL") (codes "from") ∷ [])
+    ∷ option_rule (codes "JOURNAL") (codes "from") ∷ option_rule (codes "PAGE") (codes "page") ∷ [])
 
 -- `replay SETUP JOURNAL`
 abbrev pub replay_app : App

@@ -25,6 +25,7 @@ rule_named arg.Step = numbered (new_rule (codes "K"))
 rule_named arg.Seats = several (new_rule (codes "SEAT"))
 rule_named arg.Kept = option_rule (codes "FILE") (codes "journal")
 rule_named arg.From = option_rule (codes "JOURNAL") (codes "from")
+rule_named arg.Page = option_rule (codes "PAGE") (codes "page")
 rule_named arg.Columns = counted (option_rule (codes "N") (codes "rows"))
 rule_named arg.Frames = option_rule (codes "FOLDER") (codes "frames")
 

@@ -67,7 +67,8 @@ abbrev pub IsSubcommandLine : Text → List Text → List Text → Type 0
 IsSubcommandLine command arguments words = ((name : Text) × (words ≡ name ∷ command ∷ arguments)) × ArePlain arguments
 
 -- What the words of a line ask for. There are as many scripts and seats as a machine's word counts, and a race has one
--- script or more. A session whose journal is kept, or that goes on from one, has an option, and so have frames.
+-- script or more. A session whose journal is kept, that goes on from one, or of whose run there
+-- is a page, has an option, and so have frames.
 abbrev pub IsLine : List Text → Asked → Type 0
 IsLine words Script = (name : Text) × (words ≡ name ∷ [])
 IsLine words (Play setup script) = IsSubcommandLine (codes "play") (setup ∷ script ∷ []) words
@@ -77,10 +78,11 @@ IsLine words (Race setup turns scripts) =
 IsLine words (Ask setup script question) =
     (texts : List Text) × WritesStep texts (step_asked question) × IsUsual question
     × IsSubcommandLine (question_name question) (setup ∷ script ∷ texts) words
-IsLine words (Debug setup seats None None) =
+IsLine words (Debug setup seats None None None) =
     (length seats ≤ usize_max) × IsSubcommandLine (codes "debug") (setup ∷ seats) words
-IsLine words (Debug setup seats (Some from) journal) = ⊥
-IsLine words (Debug setup seats None (Some journal)) = ⊥
+IsLine words (Debug setup seats (Some from) journal page) = ⊥
+IsLine words (Debug setup seats None (Some journal) page) = ⊥
+IsLine words (Debug setup seats None None (Some page)) = ⊥
 IsLine words (Frames setup script folder columns step) = ⊥
 IsLine words (Replay setup journal) = IsSubcommandLine (codes "replay") (setup ∷ journal ∷ []) words
 IsLine words (Search setup goal seed walks) =

@@ -114,6 +114,8 @@ pub(crate) enum Argument {
     Kept,
     /// The option of the journal that sessions go on from.
     From,
+    /// The option of the file of a page.
+    Page,
     /// The option of the columns to a row.
     Columns,
     /// The option of the folder of frames.
@@ -227,6 +229,7 @@ impl Subcommand {
                 Argument::Seats,
                 Argument::Kept,
                 Argument::From,
+                Argument::Page,
             ],
             Subcommand::Replay => &[Argument::Setup, Argument::Journal],
             Subcommand::Shrink => &[Argument::Setup, Argument::Script, Argument::Goal],
@@ -374,6 +377,12 @@ fn argument_of<'a>(alloc: Global, argument: &Argument) -> Arg<'a>
             "JOURNAL",
             "from",
             "The file of a journal that the sessions go on from: its commands are carried out first",
+        ),
+        Argument::Page => option(
+            alloc,
+            "PAGE",
+            "page",
+            "A file for a page of the run, which a browser shows again after each change; it has to be new or empty",
         ),
         Argument::Columns => counted(option(
             alloc,

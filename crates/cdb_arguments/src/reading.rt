@@ -198,6 +198,7 @@ fn debug_of<'a>(alloc: Global, found: &ArgMatches<'a>) -> Result<Request<'a>, Al
         seats: texts_of(alloc, found, "SEAT")?,
         from: any_text_of(found, "JOURNAL"),
         journal: any_text_of(found, "FILE"),
+        page: any_text_of(found, "PAGE"),
     })
 }
 
@@ -343,7 +344,8 @@ fn read<'a>(alloc: Global, words: &'a [&'a str]) -> Result<Request<'a>, AskFault
 /// for what led to a step, `trail SETUP SCRIPT P [K]` for the trail of a value to it, `draw SETUP SCRIPT [P [K]]` for a
 /// picture, with `--rows N` for one with N columns to a row, or all in one for 0, and with `--frames FOLDER` for one after
 /// each command that changed the run, `slice SETUP SCRIPT [P [K]]` for a script, `debug SETUP [SEAT..]` for sessions that go on line by line, with
-/// `--journal FILE` for ones whose journal is kept in a file and `--from JOURNAL` for ones that go on from a journal, `replay SETUP JOURNAL` for a journal that is played again,
+/// `--journal FILE` for ones whose journal is kept in a file, `--from JOURNAL` for ones that go on from a journal and `--page PAGE` for ones of whose run there is a page,
+/// `replay SETUP JOURNAL` for a journal that is played again,
 /// `search SETUP GOAL SEED WALKS` for a search, `same SETUP FIRST SECOND` for whether two scripts leave the same run,
 /// `clocks SETUP SCRIPT` for clocks, `shrink SETUP SCRIPT GOAL` for a small script, `page SETUP SCRIPT` for a page. P, K,
 /// SEED and WALKS are numbers of 1 to 999,999.

@@ -24,7 +24,7 @@ pub data Asked : Type 0 where
   Race : (setup : Text) → (turns : ℕ) → (scripts : List Text) → Asked
   Ask : (setup script : Text) → (question : Question) → Asked
   Frames : (setup script folder : Text) → (columns : ℕ) → (step : Option StepAsked) → Asked
-  Debug : (setup : Text) → (seats : List Text) → (from journal : Option Text) → Asked
+  Debug : (setup : Text) → (seats : List Text) → (from journal page : Option Text) → Asked
   Replay : (setup journal : Text) → Asked
   Search : (setup goal : Text) → (seed walks : ℕ) → Asked
   Shrink : (setup script goal : Text) → Asked
@@ -39,7 +39,8 @@ asked_for (request.Play setup script) = Play setup.now script.now
 asked_for (request.Race setup turns scripts) = Race setup.now turns (texts scripts.items)
 asked_for (request.Ask setup script question) = Ask setup.now script.now question
 asked_for (request.Frames setup script folder columns step) = Frames setup.now script.now folder.now columns step
-asked_for (request.Debug setup seats from journal) = Debug setup.now (texts seats.items) (any_text from) (any_text journal)
+asked_for (request.Debug setup seats from journal page) =
+    Debug setup.now (texts seats.items) (any_text from) (any_text journal) (any_text page)
 asked_for (request.Replay setup journal) = Replay setup.now journal.now
 asked_for (request.Search setup goal seed walks) = Search setup.now goal.now seed walks
 asked_for (request.Shrink setup script goal) = Shrink setup.now script.now goal.now

@@ -35,12 +35,13 @@ pub enum Request<'a> {
     },
     /// Holds a session for each seat, a terminal device or `IN:OUT`, over one run of a setup; without seats one session
     /// here. They go on from the journal of the one name, if there is one, and their journal is kept meanwhile in the file of
-    /// the other name, if there is one.
+    /// the next name, and a page of the run in that of the last, where these are there.
     Debug {
         setup: &'a str,
         seats: Vec<&'a str>,
         from: Option<&'a str>,
         journal: Option<&'a str>,
+        page: Option<&'a str>,
     },
     /// Plays a journal again on a run of a setup.
     Replay {

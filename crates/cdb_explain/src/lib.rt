@@ -28,3 +28,4 @@ pub use lines::{explanation, push_count, push_lines};
 pub use replay::{fresh, take_next};
 pub use round::round_by;
 pub use step::explain_step;
+pub use trace::trace_of;

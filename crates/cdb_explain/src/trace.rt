@@ -13,7 +13,7 @@ use std::alloc::Global;
 
 /// What stands in the run of a control: no more events than the journal has entries. All else of the control is
 /// given up.
-pub(crate) fn trace_of<T: Runs>(alloc: Global, control: Control<T>) -> Result<Trace, NoMemory>
+pub fn trace_of<T: Runs>(alloc: Global, control: Control<T>) -> Result<Trace, NoMemory>
     ensures is { IfOk result (λ run. run ≡ run_of T.rules control) }
     ensures valid { IfOk result (IsInOrder T.rules) }
     ensures few { IfOk result (λ run. length run.history ≤ MAX_ENTRIES) }

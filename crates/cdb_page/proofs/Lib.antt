@@ -1,3 +1,5 @@
+pub mod OnAndOn
+mod TooMany
 pub mod Listing
 pub mod Following
 pub mod Tracing

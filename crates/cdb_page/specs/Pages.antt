@@ -1,5 +1,5 @@
 -- The page of a run, as text: an HTML document.
-use Rattle.std.specs.Prelude.{◌≡◌, ℕ, List, ◌++◌, codes, decimal, Option, None, Some, unwrap_or}
+use Rattle.std.specs.Prelude.{◌≡◌, ℕ, List, [], ◌++◌, codes, decimal, Option, None, Some, unwrap_or}
 use Rattle.std.specs.List.{flat_map}
 use Rattle.cdb_agreement.specs.Algorithms.{rules}
 use Rattle.cdb_draw.specs.Picture.{IsPicture}
@@ -9,7 +9,9 @@ use Rattle.cdb_trail.specs.declared.origins.Origin.{Origin}
 use Rattle.cdb_trail.specs.declared.origins.Origin.TheVariants.{Step, Input}
 use Rattle.cdb_page.specs.Entries.{AreEntries}
 use Rattle.cdb_page.specs.declared.entries.Entry.{Entry}
-use Rattle.cdb_page.specs.declared.parts.TheConstants.{HEAD, CONTROLS, SCRIPT}
+use Rattle.cdb_page.specs.declared.parts.Refresh.{Refresh}
+use Rattle.cdb_page.specs.declared.parts.Refresh.TheVariants.{Never, EachTwoSeconds}
+use Rattle.cdb_page.specs.declared.parts.TheConstants.{HEAD, REFRESH, LOOKS, CONTROLS, SCRIPT}
 
 -- positions, each with a comma behind it
 abbrev pub positions_text : List ℕ → List ℕ
@@ -45,13 +47,19 @@ entry_text entry =
 abbrev pub entries_text : List Entry → List ℕ
 entries_text entries = flat_map entry_text entries
 
+-- the line by which a browser loads the page again
+abbrev pub refresh_text : Refresh → List ℕ
+refresh_text Never = []
+refresh_text EachTwoSeconds = REFRESH.now
+
 -- the fixed parts, as src/parts.rt has them, the picture, and the entries
-abbrev pub page_text : List ℕ → List Entry → List ℕ
-page_text picture entries = HEAD.now ++ picture ++ CONTROLS.now ++ entries_text entries ++ SCRIPT.now
+abbrev pub page_text : Refresh → List ℕ → List Entry → List ℕ
+page_text refresh picture entries =
+    HEAD.now ++ refresh_text refresh ++ LOOKS.now ++ picture ++ CONTROLS.now ++ entries_text entries ++ SCRIPT.now
 
 -- the text is the page of the run: its picture, all in full, and an entry for each event
-abbrev pub IsPage : RunView → List ℕ → Type 0
-IsPage run text =
+abbrev pub IsPage : Refresh → RunView → List ℕ → Type 0
+IsPage refresh run text =
     (picture : List ℕ) × IsPicture rules run COLUMNS None picture
     × (entries : List Entry) × AreEntries run entries
-    × (text ≡ page_text picture entries)
+    × (text ≡ page_text refresh picture entries)

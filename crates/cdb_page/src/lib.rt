@@ -9,9 +9,11 @@
 mod entries;
 pub mod laws;
 mod links;
+mod live;
 mod page;
 pub mod parts;
 mod text;
 mod writes;
 
+pub use live::{LivePage, Rewritten};
 pub use writes::write_page;

@@ -1,27 +1,37 @@
 //! The page of a run as a text in memory.
 
-ghost use Rattle.std.specs.Prelude.{◌≡◌, ◌≤◌, ◌++◌, length, IfOk};
+ghost use Rattle.std.specs.Prelude.{◌≡◌, ◌≤◌, ◌++◌, length, IfErr, IfOk};
 ghost use Rattle.cdb_agreement.specs.Algorithms.{rules};
 ghost use Rattle.cdb_base.specs.Limits.{MAX_ENTRIES as most_entries};
-ghost use Rattle.cdb_page.specs.Pages.{IsPage};
-ghost use Rattle.cdb_page.specs.declared.parts.TheConstants.{CONTROLS as controls, HEAD as head, SCRIPT as script};
+ghost use Rattle.cdb_page.specs.Pages.{IsPage, refresh_text};
+ghost use Rattle.cdb_page.specs.Written.{IsFaultOfFew, IsPageOfFew};
+ghost use Rattle.cdb_page.specs.declared.parts.TheConstants.{CONTROLS as controls, HEAD as head, LOOKS as looks, SCRIPT as script};
 ghost use Rattle.cdb_rules.specs.ByRules.{IsInOrder};
 
 use crate::entries::entries_of;
-use crate::parts::{CONTROLS, HEAD, SCRIPT};
+use crate::parts::{CONTROLS, HEAD, LOOKS, Refresh, SCRIPT, refresh_line};
 use crate::text::text_of_entries;
 use cdb_base::{COLUMNS, NoMemory};
-use cdb_draw::picture_of;
+use cdb_draw::{MOST_DRAWN, picture_of};
+use cdb_explain::ExplainFault;
 use cdb_rules::Trace;
 use std::alloc::Global;
 
 /// The fixed parts with a picture and entries between them.
-fn joined(alloc: Global, picture: &[u8], entries: &[u8]) -> Result<Vec<u8>, NoMemory>
+fn joined(
+    alloc: Global,
+    refresh: Refresh,
+    picture: &[u8],
+    entries: &[u8],
+) -> Result<Vec<u8>, NoMemory>
     ensures { IfOk result (λ text. text.items
-        ≡ head.now ++ picture.now ++ controls.now ++ entries.now ++ script.now) }
+        ≡ head.now ++ refresh_text refresh ++ looks.now ++ picture.now ++ controls.now ++ entries.now
+        ++ script.now) }
 {
     let mut text = Vec::new(alloc);
     text.extend_from_slice(HEAD.as_bytes())?;
+    text.extend_from_slice(refresh_line(refresh).as_bytes())?;
+    text.extend_from_slice(LOOKS.as_bytes())?;
     text.extend_from_slice(picture)?;
     text.extend_from_slice(CONTROLS.as_bytes())?;
     text.extend_from_slice(entries)?;
@@ -30,13 +40,34 @@ fn joined(alloc: Global, picture: &[u8], entries: &[u8]) -> Result<Vec<u8>, NoMe
 }
 
 /// The page of a run of at most 999,999 events. Only out of memory is an error.
-pub(crate) fn page_of(alloc: Global, run: &Trace) -> Result<Vec<u8>, NoMemory>
+fn page_of(alloc: Global, run: &Trace, refresh: Refresh) -> Result<Vec<u8>, NoMemory>
     requires valid { IsInOrder rules run.now }
     requires few { length run.now.history ≤ most_entries }
-    ensures { IfOk result (λ text. IsPage run.now text.items) }
+    ensures { IfOk result (λ text. IsPage refresh run.now text.items) }
 {
     let picture = picture_of(alloc, run, COLUMNS)?;
     let entries = entries_of(alloc, run)?;
     let text = text_of_entries(alloc, entries.as_slice())?;
-    joined(alloc, picture.as_slice(), text.as_slice())
+    joined(alloc, refresh, picture.as_slice(), text.as_slice())
+}
+
+/// The page of a run.
+///
+/// # Errors
+/// `TooManyEvents` where it has more than 5,000 events, and `NoMemory` where an allocation fails.
+pub(crate) fn page_of_few(
+    alloc: Global,
+    run: &Trace,
+    refresh: Refresh,
+) -> Result<Vec<u8>, ExplainFault>
+    requires valid { IsInOrder rules run.now }
+    requires few { length run.now.history ≤ most_entries }
+    ensures page { IfOk result (λ text. IsPageOfFew refresh run.now text.items) }
+    ensures fault { IfErr result (IsFaultOfFew run.now) }
+{
+    if run.events().len() > MOST_DRAWN {
+        return Err(ExplainFault::TooManyEvents);
+    }
+    let text = page_of(alloc, run, refresh)?;
+    Ok(text)
 }

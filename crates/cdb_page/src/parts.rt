@@ -1,7 +1,17 @@
 //! The fixed parts of a page: how it looks, what stands below the picture, and its script. Nothing in it is loaded from
 //! elsewhere, and nothing rests on colours.
 
-/// What comes before the picture.
+ghost use Rattle.std.specs.Prelude.{◌≡◌};
+ghost use Rattle.cdb_page.specs.Pages.{refresh_text};
+
+/// Whether a browser loads a page again by itself.
+#[derive(Clone, Copy)]
+pub enum Refresh {
+    Never,
+    EachTwoSeconds,
+}
+
+/// What comes first.
 pub const HEAD: &str = "\
 <!DOCTYPE html>
 <html lang='en'>
@@ -9,6 +19,15 @@ pub const HEAD: &str = "\
 <meta charset='utf-8'>
 <meta name='viewport' content='width=device-width'>
 <title>A run of revdbg</title>
+";
+
+/// What comes then where the page is loaded again. What stands behind `#` in its address stays.
+pub const REFRESH: &str = "\
+<script>setTimeout(() => location.reload(), 2000)</script>
+";
+
+/// What comes then, before the picture.
+pub const LOOKS: &str = "\
 <style>
 body{margin:8px;font:15px Arial,Helvetica,sans-serif;color:black;background:white}
 #picture svg{display:block;max-width:100%;height:auto}
@@ -171,6 +190,7 @@ const draw = () => {
     + 'Dashed: what a rollback would remove too. Pale: the rest.';
   write(byId('kept'), kept);
   write(byId('event'), asked);
+  history.replaceState(null, '', '#' + (asked ? encodeURIComponent(nameOf(asked)) : ''));
 };
 
 // ---- what is asked for
@@ -216,8 +236,22 @@ document.addEventListener('keydown', event => {
   event.preventDefault();
 });
 document.querySelector('form').addEventListener('submit', event => event.preventDefault());
+
+// The event that is asked about is named in the address, and so it is asked about again where the page is loaded again.
+const named = decodeURIComponent(location.hash.slice(1));
+asked = texts.findIndex((text, i) => nameOf(i + 1) === named) + 1;
 draw();
 </script>
 </body>
 </html>
 ";
+
+/// What a page has in its head of whether it is loaded again.
+pub(crate) fn refresh_line(refresh: Refresh) -> &'static str
+    ensures { result.now ≡ refresh_text refresh }
+{
+    match refresh {
+        Refresh::Never => "",
+        Refresh::EachTwoSeconds => REFRESH,
+    }
+}

@@ -7,15 +7,16 @@ ghost use Rattle.cdb_draw.specs.Drawn.{IsFaultOfPicture};
 ghost use Rattle.cdb_explain.specs.Explained.{explain_ending};
 ghost use Rattle.cdb_explain.specs.declared.fault.ExplainFault.TheVariants.{Play as of_play};
 ghost use Rattle.cdb_page.specs.Written.{IsFaultOfPage, IsPageOfFew, WritesPage};
+ghost use Rattle.cdb_page.specs.declared.parts.Refresh.TheVariants.{Never};
 ghost use Rattle.cdb_rules.specs.ByRules.{IsInOrder};
 ghost use Rattle.cdb_setup.specs.declared.fault.SetupFault.{SetupFault as SetupFaultName};
 ghost use Rattle.cdb_streams.specs.Streams.{FailsWhere};
 ghost use Rattle.cdb_streams.specs.Written.{IsWritten};
 ghost use Rattle.cdb_streams.specs.declared.fault.PlayFault.TheVariants as play;
 
-use crate::page::page_of;
+use crate::page::page_of_few;
+use crate::parts::Refresh;
 use cdb_any_run::AnyRun;
-use cdb_draw::MOST_DRAWN;
 use cdb_explain::{ExplainFault, run_left_by};
 use cdb_rules::Trace;
 use cdb_streams::{Sink, Source, write_text};
@@ -26,13 +27,10 @@ fn write_page_of<W: Sink>(alloc: Global, run: &Trace, out: &mut W) -> Result<(),
     requires valid { IsInOrder rules run.now }
     requires few { length run.now.history ≤ most_entries }
     ensures wrote { IsWritten W.stream (explain_ending result) out.old out.new
-        (IsPageOfFew run.now) }
+        (IsPageOfFew Never run.now) }
     ensures fault { IfErr result (IsFaultOfPicture run.now None) }
 {
-    if run.events().len() > MOST_DRAWN {
-        return Err(ExplainFault::TooManyEvents);
-    }
-    let text = page_of(alloc, run)?;
+    let text = page_of_few(alloc, run, Refresh::Never)?;
     write_text(alloc, text.as_slice(), out)?;
     Ok(())
 }

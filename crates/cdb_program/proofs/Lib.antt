@@ -1,3 +1,4 @@
+pub mod Shown
 pub mod Opening
 pub mod Seen
 pub mod Raced

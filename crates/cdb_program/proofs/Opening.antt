@@ -14,7 +14,7 @@ use Rattle.cdb_program.specs.Known.{FilesSeen, after_opening, after_failing}
 use Rattle.cdb_program.specs.Reading.{AreFirstBytes, FailsToRead, HasRead, ReadsFile, most_read}
 use Rattle.cdb_program.specs.Replaying.{ReadsBoth}
 use Rattle.cdb_program.specs.declared.fault.Fault.{Fault}
-use Rattle.cdb_program.specs.declared.fault.Fault.TheVariants.{Play, Race, NoStep, NoValue, Different, NoGoal, NotFound, DoesNotHold, TooManyEvents, TooManySeats, Refused, Journal}
+use Rattle.cdb_program.specs.declared.fault.Fault.TheVariants.{Play, Race, NoStep, NoValue, Different, NoGoal, NotFound, DoesNotHold, TooManyEvents, TooManySeats, Refused, Journal, Page}
 
 -- names are added to those that are known
 more_opened : (opened : Option (List (List ℕ))) (first second : List (List ℕ))
@@ -86,6 +86,7 @@ fails_then old mid new first second a (Play (play.ScriptTooLong script) name) be
 fails_then old mid new first second a (Play play.Write name) before fails = absurd fails
 fails_then old mid new first second a (Race fault) before fails = absurd fails
 fails_then old mid new first second a (Journal why) before fails = absurd fails
+fails_then old mid new first second a (Page why) before fails = absurd fails
 fails_then old mid new first second a NoStep before fails = absurd fails
 fails_then old mid new first second a NoValue before fails = absurd fails
 fails_then old mid new first second a TooManyEvents before fails = absurd fails
@@ -106,6 +107,7 @@ fails_before old new names after (Play (play.ScriptTooLong script) name) fails =
 fails_before old new names after (Play play.Write name) fails = absurd fails
 fails_before old new names after (Race fault) fails = absurd fails
 fails_before old new names after (Journal why) fails = absurd fails
+fails_before old new names after (Page why) fails = absurd fails
 fails_before old new names after NoStep fails = absurd fails
 fails_before old new names after NoValue fails = absurd fails
 fails_before old new names after TooManyEvents fails = absurd fails

@@ -8,9 +8,11 @@ use Rattle.cdb_shared_session.specs.Openings.{SeatSeen}
 use Rattle.cdb_rules.specs.RunView.{RunView}
 use Rattle.cdb_session.specs.declared.inquiry.Inquiry.{Inquiry}
 use Rattle.cdb_shared_session.specs.SharedSessions.{HasEnded, IsFinished}
+use Rattle.cdb_shared_session.specs.Keeping.{kept_outcome}
 use Rattle.cdb_shared_session.specs.Reported.{RunsSessions}
 use Rattle.cdb_shared_session.specs.Reports.{outcomes, failures_text, status_of}
 use Rattle.cdb_shared_session.specs.declared.endpoint.Finished.{Finished}
+use Rattle.cdb_shared_session.specs.declared.keeping.Kept.{Kept}
 use Rattle.cdb_shared_session.proofs.Ended.{ended_by}
 use Rattle.cdb_shared_session.proofs.KeptEntries.{kept_seen, outcome_seen, seen_kept}
 use Rattle.cdb_streams.specs.declared.buffer.OutputFault.{OutputFault}
@@ -22,7 +24,7 @@ use Rattle.cdb_base.specs.Requests.{texts}
 use Rattle.cdb_program.specs.Known.{FilesSeen, after_opening, after_failing, any_name}
 use Rattle.cdb_program.specs.Reading.{FailsToRead}
 use Rattle.cdb_program.specs.declared.fault.Fault.{Fault}
-use Rattle.cdb_program.specs.declared.fault.Fault.TheVariants.{Play, Race, NoStep, NoValue, Different, NoGoal, NotFound, DoesNotHold, TooManyEvents, TooManySeats, Refused, Journal}
+use Rattle.cdb_program.specs.declared.fault.Fault.TheVariants.{Play, Race, NoStep, NoValue, Different, NoGoal, NotFound, DoesNotHold, TooManyEvents, TooManySeats, Refused, Journal, Page}
 use Rattle.cdb_streams.specs.Faults.{of_reading}
 use Rattle.cdb_streams.specs.declared.source.ReadFault.{ReadFault}
 use Rattle.cdb_streams.specs.declared.source.ReadFault.TheVariants as reading
@@ -41,19 +43,20 @@ one_fails P opens old new name reading.Failed is = ([], [], refl, is)
 one_fails P opens old new name (reading.NoMemory refused) is = ([], name.now ∷ [], refl, is ∙ (read_none old).0)
 
 -- what can't be read or opened is why there are no sessions
-pub as_fault : (setup : List ℕ) (seats : List (List ℕ)) (from file : Option (List ℕ)) (old new : FilesSeen) (fault : Fault) → FailsToRead old new (setup ∷ (any_name from ++ (seats ++ any_name file))) fault → IsFaultOfSeats setup seats from file old new fault
-as_fault setup seats from file old new (Play why name) fails = fails
-as_fault setup seats from file old new (Race why) fails = absurd fails
-as_fault setup seats from file old new (Journal why) fails = fails
-as_fault setup seats from file old new NoStep fails = fails
-as_fault setup seats from file old new NoValue fails = fails
-as_fault setup seats from file old new TooManyEvents fails = fails
-as_fault setup seats from file old new NoGoal fails = fails
-as_fault setup seats from file old new (NotFound walks) fails = fails
-as_fault setup seats from file old new DoesNotHold fails = fails
-as_fault setup seats from file old new Different fails = fails
-as_fault setup seats from file old new TooManySeats fails = absurd fails
-as_fault setup seats from file old new (Refused reason) fails = fails
+pub as_fault : (setup : List ℕ) (seats : List (List ℕ)) (from : Option (List ℕ)) (files : List (List ℕ)) (old new : FilesSeen) (fault : Fault) → FailsToRead old new (setup ∷ (any_name from ++ (seats ++ files))) fault → IsFaultOfSeats setup seats from files old new fault
+as_fault setup seats from files old new (Play why name) fails = fails
+as_fault setup seats from files old new (Race why) fails = absurd fails
+as_fault setup seats from files old new (Journal why) fails = fails
+as_fault setup seats from files old new (Page why) fails = fails
+as_fault setup seats from files old new NoStep fails = fails
+as_fault setup seats from files old new NoValue fails = fails
+as_fault setup seats from files old new TooManyEvents fails = fails
+as_fault setup seats from files old new NoGoal fails = fails
+as_fault setup seats from files old new (NotFound walks) fails = fails
+as_fault setup seats from files old new DoesNotHold fails = fails
+as_fault setup seats from files old new Different fails = fails
+as_fault setup seats from files old new TooManySeats fails = absurd fails
+as_fault setup seats from files old new (Refused reason) fails = fails
 
 pub no_file : (P : Type 0) (stream : P → Stream) (old new : FilesSeen) (name : Bor (List ℕ)) (fault : ReadFault) → (let made : Result P ReadFault = Err fault in MakesFile stream old new name.now made) → FailsToRead old new (name.now ∷ []) (Play (of_reading fault) name)
 no_file P stream old new name reading.Failed is = ([], [], refl, is)
@@ -79,6 +82,7 @@ fails_later old mid new first second (Play (play.ScriptTooLong script) name) bef
 fails_later old mid new first second (Play play.Write name) before fails = absurd fails
 fails_later old mid new first second (Race fault) before fails = absurd fails
 fails_later old mid new first second (Journal why) before fails = absurd fails
+fails_later old mid new first second (Page why) before fails = absurd fails
 fails_later old mid new first second NoStep before fails = absurd fails
 fails_later old mid new first second NoValue before fails = absurd fails
 fails_later old mid new first second TooManyEvents before fails = absurd fails
@@ -156,13 +160,12 @@ module _ {T : Type 0} (known : T → Known) where
 
 -- sessions that took place, by what is known of their seats, of what each read and wrote, and of the streams
 module _ {P T J O E : Type 0} (rules : Parts → Rules) (Answers : RunView → Inquiry → List ℕ → Type 0) (known : T → Known) (opens : P → Result SeatSeen ReadFault → Type 0) (file_stream : J → Stream) (output_stream : O → Stream) (error_stream : E → Stream) where
-  pub holds_seen : (files : FilesSeen) (names : List (List ℕ)) (json from : List ℕ) (openers : List P) (file : Option J) (output output_after : O) (error error_after : E) (status : ℕ)
-      → AreOpenersOf opens files names openers → RunsSessions rules Answers known opens file_stream output_stream error_stream json from openers file output output_after error error_after status
-      → RunsSessions rules Answers (λ (k : Known). k) (CanOpenSeat files) (λ (s : Stream). s) (λ (s : Stream). s) (λ (s : Stream). s) json from names (option_map file_stream file) (output_stream output) (output_stream output_after) (error_stream error)
-      (error_stream error_after) status
-  holds_seen files names json from openers file output output_after error error_after status are h =
+  pub holds_seen : (files : FilesSeen) (names : List (List ℕ)) (json from : List ℕ) (openers : List P) (file : Option J) (output output_after : O) (error error_after : E) (ended : ℕ × Option (Kept J))
+      → AreOpenersOf opens files names openers → RunsSessions rules Answers known opens file_stream output_stream error_stream json from openers file output output_after error error_after ended
+      → RunsSessions rules Answers (λ (k : Known). k) (CanOpenSeat files) file_stream (λ (s : Stream). s) (λ (s : Stream). s) json from names file (output_stream output) (output_stream output_after) (error_stream error)
+      (error_stream error_after) ended
+  holds_seen files names json from openers file output output_after error error_after ended are h =
       let same = same_outcomes known h.finished in
-      let same_kept = outcome_seen file_stream h.kept in
       let many = as_many opens files names openers are in
       record {
         setup = h.setup;
@@ -182,19 +185,41 @@ module _ {P T J O E : Type 0} (rules : Parts → Rules) (Answers : RunView → I
               let below : k < length openers = omega (arith, low, many) in
               let d = some_of openers (omega (arith, below)) in
               let e = some_of h.finished (omega (arith, below, h.sessions.many)) in
-              let ended = get_or h.finished k e in
-              let its = ended_by rules Answers h.begun h.control (k + 1) (opens (get_or openers k d)) (CanOpenSeat files (get_or names k n)) (opener_at opens files names openers k n d are below) (option_map known ended.console) ended.outcome (h.sessions.each k d e below) in
+              let its_end = get_or h.finished k e in
+              let its = ended_by rules Answers h.begun h.control (k + 1) (opens (get_or openers k d)) (CanOpenSeat files (get_or names k n)) (opener_at opens files names openers k n d are below) (option_map known its_end.console) its_end.outcome (h.sessions.each k d e below) in
               let finished = sym (get_or-map (known_finished known) h.finished k e a (omega (arith, below, h.sessions.many))) in
               subst (λ (x : Finished Known). IsFinished rules Answers (λ (k : Known). k) h.begun h.control (k + 1) (CanOpenSeat files (get_or names k n)) x) finished
-              (subst (λ (o : Option Known). HasEnded rules Answers h.begun h.control (k + 1) (CanOpenSeat files (get_or names k n)) o ended.outcome) (sym (same_known (option_map known ended.console))) its);
+              (subst (λ (o : Option Known). HasEnded rules Answers h.begun h.control (k + 1) (CanOpenSeat files (get_or names k n)) o its_end.outcome) (sym (same_known (option_map known its_end.console))) its);
         };
-        kept = option_map (seen_kept file_stream) h.kept;
-        keeps = kept_seen file_stream file h.kept _ h.keeps;
+        keeps = h.keeps;
         written = h.written;
         journal = stream_written output_stream (whole_ending h.written) output output_after _ h.journal;
         reported = h.reported;
         lines =
-            subst (λ (x : List (Result (Unit {0}) PlayFault) × Result (Unit {0}) OutputFault). Writes (λ (s : Stream). s) h.reported (error_stream error) (error_stream error_after) (failures_text h.written x.1 x.0)) (λ i. (sym same i, sym same_kept i))
+            subst (λ (x : List (Result (Unit {0}) PlayFault)). Writes (λ (s : Stream). s) h.reported (error_stream error) (error_stream error_after) (failures_text h.written (kept_outcome ended.1) x)) (sym same)
             (stream_writes error_stream (Unit {0}) Failed h.reported error error_after _ h.lines);
-        status_is = h.status_is ∙ (λ i. status_of h.written (sym same_kept i) (sym same i));
+        status_is = h.status_is ∙ (λ i. status_of h.written (kept_outcome ended.1) (sym same i));
+      }
+
+  -- the file of the journal by what is known of it
+  pub file_seen : (json from : List ℕ) (openers : List P) (file : Option J) (output output_after : O) (error error_after : E) (ended : ℕ × Option (Kept J))
+      → RunsSessions rules Answers known opens file_stream output_stream error_stream json from openers file output output_after error error_after ended
+      → RunsSessions rules Answers known opens (λ (s : Stream). s) output_stream error_stream json from openers (option_map file_stream file) output output_after error error_after (ended.0, option_map (seen_kept file_stream) ended.1)
+  file_seen json from openers file output output_after error error_after ended h =
+      let same = sym (outcome_seen file_stream ended.1) in
+      record {
+        setup = h.setup;
+        encodes = h.encodes;
+        begun = h.begun;
+        goes_on = h.goes_on;
+        control = h.control;
+        finished = h.finished;
+        writable = h.writable;
+        sessions = h.sessions;
+        keeps = kept_seen file_stream file ended.1 _ h.keeps;
+        written = h.written;
+        journal = h.journal;
+        reported = h.reported;
+        lines = subst (λ (x : Result (Unit {0}) OutputFault). Writes error_stream h.reported error error_after (failures_text h.written x (outcomes h.finished))) same h.lines;
+        status_is = h.status_is ∙ (λ i. status_of h.written (same i) (outcomes h.finished));
       }

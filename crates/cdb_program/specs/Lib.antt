@@ -17,4 +17,5 @@ pub mod Answers
 pub mod Beginning
 pub mod Debugging
 pub mod Seating
+pub mod LivePages
 pub mod Requests

@@ -13,6 +13,7 @@ use Rattle.cdb_program.specs.Comparing.{ComparesFiles}
 use Rattle.cdb_program.specs.Debugging.{DebugsFile, DebugsFileKept}
 use Rattle.cdb_program.specs.Framing.{FramesFiles}
 use Rattle.cdb_program.specs.Known.{Seen}
+use Rattle.cdb_program.specs.LivePages.{DebugsFilePaged, PerformsPaged}
 use Rattle.cdb_program.specs.Outcomes.{RequestEnd}
 use Rattle.cdb_program.specs.Paging.{PagesFiles}
 use Rattle.cdb_program.specs.Playing.{PlaysInput, PlaysFiles}
@@ -35,7 +36,7 @@ HasTurns asked = Unit {0}
 
 -- what is asked for is not one of sessions
 abbrev pub IsNoSession : Asked → Type 0
-IsNoSession (Debug setup seats from journal) = ⊥
+IsNoSession (Debug setup seats from journal page) = ⊥
 IsNoSession asked = Unit {0}
 
 -- no file is opened, and standard input is left as it is
@@ -65,7 +66,7 @@ Does (Race setup turns scripts) old new outcome = RacesFiles setup turns scripts
 Does (Ask setup script question) old new outcome = AsksFiles setup script question old new outcome
 Does (Frames setup script folder columns step) old new outcome =
     DrawsFrames setup script folder columns step old new outcome
-Does (Debug setup seats from journal) old new outcome = ⊥
+Does (Debug setup seats from journal page) old new outcome = ⊥
 Does (Replay setup journal) old new outcome = ReplaysFiles setup journal old new outcome
 Does (Search setup goal seed walks) old new outcome = SearchesFile setup goal walks old new outcome
 Does (Shrink setup script goal) old new outcome = ShrinksFiles setup script goal old new outcome
@@ -91,21 +92,32 @@ abbrev pub DebugsAlone : Text → Option Text → Option Text → Text → Seen 
 DebugsAlone setup from None prompt old new outcome = DebugsFile setup from prompt old new outcome
 DebugsAlone setup from (Some journal) prompt old new outcome = DebugsFileKept setup from journal prompt old new outcome
 
+-- the same, with a page of its run in a file, where one is named
+abbrev pub DebugsHere : Text → Option Text → Option Text → Option Text → Text → Seen → Seen → RequestEnd → Type 0
+DebugsHere setup from journal None prompt old new outcome = DebugsAlone setup from journal prompt old new outcome
+DebugsHere setup from journal (Some page) prompt old new outcome = DebugsFilePaged setup from journal page prompt old new outcome
+
 -- this was done, and how it ended was reported
 abbrev pub IsDone : (Seen → Seen → RequestEnd → Type 0) → Seen → Seen → ℕ → Type 0
 IsDone DoesIt old new status =
     (outcome : RequestEnd) × DoesIt old new outcome × IsReported outcome old.error new.error status
 
+-- sessions of several seats, with a page of their run in a file, where one is named
+abbrev pub PerformsSeats : Text → List Text → Option Text → Option Text → Option Text → Seen → Seen → ℕ → Type 0
+PerformsSeats setup seats from journal None old new status = PerformsShared setup seats from journal old new status
+PerformsSeats setup seats from journal (Some page) old new status = PerformsPaged setup seats from journal page old new status
+
 -- sessions of these seats, or one here without seats
-abbrev pub PerformsSessions : Text → List Text → Option Text → Option Text → Text → Seen → Seen → ℕ → Type 0
-PerformsSessions setup [] from journal prompt old new status = IsDone (DebugsAlone setup from journal prompt) old new status
-PerformsSessions setup (seat ∷ seats) from journal prompt old new status =
-    PerformsShared setup (seat ∷ seats) from journal old new status
+abbrev pub PerformsSessions : Text → List Text → Option Text → Option Text → Option Text → Text → Seen → Seen → ℕ → Type 0
+PerformsSessions setup [] from journal page prompt old new status =
+    IsDone (DebugsHere setup from journal page prompt) old new status
+PerformsSessions setup (seat ∷ seats) from journal page prompt old new status =
+    PerformsSeats setup (seat ∷ seats) from journal page old new status
 
 -- what was asked for was done, a session here with this prompt, and how it ended was reported
 abbrev pub PerformsAsked : Text → Asked → Seen → Seen → ℕ → Type 0
-PerformsAsked prompt (Debug setup seats from journal) old new status =
-    PerformsSessions setup seats from journal prompt old new status
+PerformsAsked prompt (Debug setup seats from journal page) old new status =
+    PerformsSessions setup seats from journal page prompt old new status
 PerformsAsked prompt asked old new status = IsDone (Does asked) old new status
 
 -- what an action performs has turns

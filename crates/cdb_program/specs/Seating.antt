@@ -4,6 +4,7 @@ use Rattle.std.specs.List.{AllZip}
 use Rattle.cdb_base.specs.Limits.{MAX_SEATS}
 use Rattle.cdb_shared_session.specs.Reported.{RunsSessions, IsFaultOfSessions}
 use Rattle.cdb_shared_session.specs.Openings.{SeatSeen}
+use Rattle.cdb_shared_session.specs.declared.keeping.Kept.{Kept}
 use Rattle.cdb_streams.specs.Streams.{Stream, itself}
 use Rattle.cdb_streams.specs.declared.source.ReadFault.{ReadFault}
 use Rattle.cdb_streams.specs.declared.source.ReadFault.TheVariants as reading
@@ -58,36 +59,36 @@ IsNewFile (Some name) (Some stream) = IsEmpty stream
 IsNewFile name stream = ⊥
 
 -- the file of the setup was read, then that of the journal if one was named, and they gave these bytes; then these seats were
--- found, in order, and then this file was made, if one was asked for
-abbrev pub HasSeated : FilesSeen → FilesSeen → List ℕ → List (List ℕ) → Option (List ℕ) → Option (List ℕ) → List ℕ → List ℕ → Type 0
-HasSeated old new setup seats from file json journal =
-    (new ≡ after_opening old (setup ∷ (any_name from ++ (seats ++ any_name file)))) × AreOfBeginning old setup from json journal
+-- found, in order, and then these files were made
+abbrev pub HasSeated : FilesSeen → FilesSeen → List ℕ → List (List ℕ) → Option (List ℕ) → List (List ℕ) → List ℕ → List ℕ → Type 0
+HasSeated old new setup seats from files json journal =
+    (new ≡ after_opening old (setup ∷ (any_name from ++ (seats ++ files)))) × AreOfBeginning old setup from json journal
 
 -- Why there were no sessions: there are too many seats, and then no file was opened; the setup or the journal has a fault, or memory or
--- threads are out; or one of the two can't be opened, or a seat or the file is refused, and then nothing after it was opened.
-abbrev pub IsFaultOfSeats : List ℕ → List (List ℕ) → Option (List ℕ) → Option (List ℕ) → FilesSeen → FilesSeen → Fault → Type 0
-IsFaultOfSeats setup seats from file old new TooManySeats = (MAX_SEATS < length seats) × (new ≡ old)
-IsFaultOfSeats setup seats from file old new (Race why) =
-    (json journal : List ℕ) × HasSeated old new setup seats from file json journal × IsFaultOfSessions json journal (length seats) why
-IsFaultOfSeats setup seats from file old new other = FailsToRead old new (setup ∷ (any_name from ++ (seats ++ any_name file))) other
+-- threads are out; or one of the two can't be opened, or a seat or a file is refused, and then nothing after it was opened.
+abbrev pub IsFaultOfSeats : List ℕ → List (List ℕ) → Option (List ℕ) → List (List ℕ) → FilesSeen → FilesSeen → Fault → Type 0
+IsFaultOfSeats setup seats from files old new TooManySeats = (MAX_SEATS < length seats) × (new ≡ old)
+IsFaultOfSeats setup seats from files old new (Race why) =
+    (json journal : List ℕ) × HasSeated old new setup seats from files json journal × IsFaultOfSessions json journal (length seats) why
+IsFaultOfSeats setup seats from files old new other = FailsToRead old new (setup ∷ (any_name from ++ (seats ++ files))) other
 
 -- there were no sessions, nothing was written to standard output, and why is reported
-abbrev pub RefusesSeats : List ℕ → List (List ℕ) → Option (List ℕ) → Option (List ℕ) → Seen → Seen → ℕ → Type 0
-RefusesSeats setup seats from file old new status =
-    (fault : Fault) × IsFaultOfSeats setup seats from file old.files new.files fault × (new.output ≡ old.output)
+abbrev pub RefusesSeats : List ℕ → List (List ℕ) → Option (List ℕ) → List (List ℕ) → Seen → Seen → ℕ → Type 0
+RefusesSeats setup seats from files old new status =
+    (fault : Fault) × IsFaultOfSeats setup seats from files old.files new.files fault × (new.output ≡ old.output)
     × IsReported (Err fault) old.error new.error status
 
 -- There were sessions, the k-th at the k-th seat, of which it is known what each read and wrote; they went on from the journal. Their
 -- journal was kept in the file, if there was one; it was written to standard output, and what failed was reported.
 abbrev pub HoldsSeats : List ℕ → List (List ℕ) → Option (List ℕ) → Option (List ℕ) → Seen → Seen → ℕ → Type 0
 HoldsSeats setup seats from file old new status =
-    (json journal : List ℕ) × HasSeated old.files new.files setup seats from file json journal
-    × ((made : Option Stream) × IsNewFile file made
+    (json journal : List ℕ) × HasSeated old.files new.files setup seats from (any_name file) json journal
+    × ((made : Option Stream) × (kept : Option (Kept Stream)) × IsNewFile file made
     × RunsSessions rules IsAnswer (λ known. known) (CanOpenSeat old.files) itself itself itself json journal seats made old.output new.output old.error
-    new.error status)
+    new.error (status, kept))
 
 -- there were sessions of these seats, or not; standard input is left as it is
 abbrev pub PerformsShared : List ℕ → List (List ℕ) → Option (List ℕ) → Option (List ℕ) → Seen → Seen → ℕ → Type 0
 PerformsShared setup seats from file old new status =
     (new.input ≡ old.input)
-    × (RefusesSeats setup seats from file old new status ⊎ HoldsSeats setup seats from file old new status)
+    × (RefusesSeats setup seats from (any_name file) old new status ⊎ HoldsSeats setup seats from file old new status)

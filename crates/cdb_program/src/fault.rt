@@ -36,6 +36,8 @@ pub enum Fault<'a> {
     Different,
     /// The journal could not be kept in its file.
     Journal(OutputFault),
+    /// The page of a run could not be kept in its file, or not be made.
+    Page(ExplainFault),
     /// A race of more than 64 processes and scripts.
     TooManySeats,
     /// Nothing was asked for that can be done, and this text says why.
@@ -65,6 +67,7 @@ impl fmt::Display for Fault<'_> {
                 let fault = PlayFault::from(*fault);
                 writeln!(f, "journal: {fault}")
             }
+            Fault::Page(fault) => writeln!(f, "page: {fault}"),
             Fault::TooManySeats => f.write_str("too many seats\n"),
             Fault::Refused(reason) => f.write_str(reason),
         }

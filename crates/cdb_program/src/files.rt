@@ -4,12 +4,14 @@ ghost use Rattle.std.specs.Prelude.{[], ◌∷◌};
 ghost use Rattle.cdb_base.specs.Requests.{texts};
 ghost use Rattle.cdb_program.specs.Framing.{TakesFolder, WritesWhole};
 ghost use Rattle.cdb_program.specs.Known.{FilesSeen};
+ghost use Rattle.cdb_program.specs.LivePages.{MakesPage};
 ghost use Rattle.cdb_program.specs.Reading.{both, many, single, three, Reads, ReadsFile};
 ghost use Rattle.cdb_program.specs.Seating.{FindsSeat, MakesFile};
 
 use crate::fault::Fault;
 use cdb_base::NoMemory;
 use cdb_base::limits::MAX_BYTES;
+use cdb_page::Rewritten;
 use cdb_shared_session::Opener;
 use cdb_streams::{OutputFault, PlayFault, ReadFault, Sink};
 use std::alloc::Global;
@@ -24,6 +26,9 @@ pub trait Files {
 
     /// A file that is written to.
     type Made: Sink + Drop;
+
+    /// A file of a page, which is written anew as a whole.
+    type Page: Rewritten + Drop;
 
     /// What is known of the files: their bytes, the names of those that were opened, how many could not be read, and
     /// what the seat of a name has when its streams are open.
@@ -53,6 +58,13 @@ pub trait Files {
     /// if it had not been opened.
     fn make_file(&mut self, alloc: Global, name: &str) -> Result<Self::Made, ReadFault>
         ensures { MakesFile Self.Made.stream (seen self.old) (seen self.new) name.now result };
+
+    /// Makes the file of this name for a page, or takes it where it is there and empty.
+    ///
+    /// # Errors
+    /// As of `make_file`.
+    fn make_page(&mut self, alloc: Global, name: &str) -> Result<Self::Page, ReadFault>
+        ensures { MakesPage Self.Page.versions (seen self.old) (seen self.new) name.now result };
 
     /// Takes the folder of this name to write to, which is made where it is not there.
     ///

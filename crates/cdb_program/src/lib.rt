@@ -9,6 +9,7 @@ mod debugs;
 mod fault;
 mod files;
 mod frames;
+mod live_pages;
 mod outside;
 mod pages;
 mod plays;

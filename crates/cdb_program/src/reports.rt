@@ -1,10 +1,11 @@
 //! What is reported of how a request ended.
 
 ghost use Rattle.std.specs.Prelude.{◌≡◌};
-ghost use Rattle.cdb_program.specs.Reports.{fault_text, fault_status, not_found_text, IsReported};
+ghost use Rattle.cdb_program.specs.Reports.{fault_text, fault_status, not_found_text, page_fault_text, IsReported};
 ghost use Rattle.cdb_streams.specs.Streams.{Writes};
 
 use crate::fault::{DOES_NOT_HOLD, Fault, NO_GOAL};
+use cdb_explain::ExplainFault;
 use cdb_shared_session::write_kept_fault;
 use cdb_streams::{
     Failed, Piece, PlayFault, Sink, race_status_of, status_of, write_all, write_each, write_fault,
@@ -26,6 +27,8 @@ fn status_after(fault: &Fault<'_>) -> u8
         Fault::Play(fault, _) => status_of(fault),
         Fault::Race(fault) => race_status_of(fault),
         Fault::Journal(fault) => status_of(&PlayFault::from(*fault)),
+        Fault::Page(ExplainFault::Play(fault)) => status_of(fault),
+        Fault::Page(_) => NO_STEP,
         Fault::NoStep | Fault::NoValue | Fault::TooManyEvents => NO_STEP,
         Fault::Different | Fault::NotFound(_) | Fault::DoesNotHold => NO_STEP,
         Fault::NoGoal | Fault::TooManySeats | Fault::Refused(_) => USAGE,
@@ -46,6 +49,19 @@ fn write_not_found<E: Sink>(walks: u32, error: &mut E) -> Result<(), Failed>
     )
 }
 
+/// Writes the line of a page that could not be kept or made.
+fn write_page_fault<E: Sink>(fault: &ExplainFault, error: &mut E) -> Result<(), Failed>
+    ensures { Writes E.stream result error.old error.new (page_fault_text fault.now) }
+{
+    write_all(error, b"page: ")?;
+    match fault {
+        ExplainFault::Play(fault) => write_fault(fault, "the input", error),
+        ExplainFault::NoStep => write_all(error, b"refused 10 NoStep\n"),
+        ExplainFault::NoValue => write_all(error, b"no value\n"),
+        ExplainFault::TooManyEvents => write_all(error, b"too many events to draw; name a step\n"),
+    }
+}
+
 /// Writes the text of a fault. Where the writer fails, what was written is a beginning of it.
 fn write_text<E: Sink>(fault: &Fault<'_>, error: &mut E) -> Result<(), Failed>
     ensures { Writes E.stream result error.old error.new (fault_text fault.now) }
@@ -54,6 +70,7 @@ fn write_text<E: Sink>(fault: &Fault<'_>, error: &mut E) -> Result<(), Failed>
         Fault::Play(fault, name) => write_fault(fault, name, error),
         Fault::Race(fault) => write_race_fault(fault, error),
         Fault::Journal(fault) => write_kept_fault(&Err(*fault), error),
+        Fault::Page(fault) => write_page_fault(fault, error),
         Fault::NoStep => write_all(error, b"refused 10 NoStep\n"),
         Fault::NoValue => write_all(error, b"no value\n"),
         Fault::TooManyEvents => write_all(error, b"too many events to draw; name a step\n"),

@@ -1,8 +1,8 @@
 //! What the program does, and that it does it.
 
-ghost use Rattle.std.specs.Prelude.{◌≡◌, ◌≤◌};
+ghost use Rattle.std.specs.Prelude.{◌≡◌, ◌≤◌, length};
 ghost use Rattle.cdb_base.specs.Requests.{any_text, asked_for, texts};
-ghost use Rattle.cdb_program.specs.Requests.{DebugsAlone, Does, DrawsFrames, HasTurns, IsDone, IsNoSession, HeadlineHolds, MayPerform, Performs, PerformsAsked, PerformsSessions, PrintsText};
+ghost use Rattle.cdb_program.specs.Requests.{DebugsAlone, DebugsHere, Does, DrawsFrames, HasTurns, IsDone, IsNoSession, HeadlineHolds, MayPerform, Performs, PerformsAsked, PerformsSeats, PerformsSessions, PrintsText};
 
 use crate::clocks::clock_files;
 use crate::compares::compare_files;
@@ -10,6 +10,7 @@ use crate::debugs::{debug_file, debug_file_kept};
 use crate::fault::Fault;
 use crate::files::Files;
 use crate::frames::frame_files;
+use crate::live_pages::{debug_file_paged, perform_paged};
 use crate::outside::Outside;
 use crate::pages::page_files;
 use crate::plays::{play_files, play_input};
@@ -166,6 +167,53 @@ fn debug_alone<'a, F: Files + Drop, I: Source + Drop, O: Sink + Drop, E: Sink + 
     }
 }
 
+/// Holds a session as `debug_alone` does, with a page of its run in the file of the last name, if there is one.
+fn debug_here<'a, F: Files + Drop, I: Source + Drop, O: Sink + Drop, E: Sink + Drop>(
+    alloc: Global,
+    setup: &'a str,
+    from: Option<&'a str>,
+    journal: Option<&'a str>,
+    page: Option<&'a str>,
+    prompt: &'a str,
+    outside: &mut Outside<F, I, O, E>,
+) -> Result<(), Fault<'a>>
+    ensures does { DebugsHere setup.entry.now (any_text from.entry) (any_text journal.entry) (any_text page.entry)
+        prompt.entry.now outside.old outside.new result }
+    ensures error { outside.new.error ≡ outside.old.error }
+{
+    match page {
+        Some(page) => debug_file_paged(alloc, setup, from, journal, page, prompt, outside),
+        None => debug_alone(alloc, setup, from, journal, prompt, outside),
+    }
+}
+
+/// Performs sessions of these seats, one at least, with a page of their run in a file, if one is named.
+fn perform_seats<
+    R: Threads + Wait + Clock + Sync,
+    F: Files + Drop,
+    I: Source + Drop,
+    O: Sink + Drop,
+    E: Sink + Drop,
+>(
+    threads: &R,
+    alloc: Global,
+    setup: &str,
+    seats: &[&str],
+    from: Option<&str>,
+    journal: Option<&str>,
+    page: Option<&str>,
+    outside: &mut Outside<F, I, O, E>,
+) -> u8
+    requires { 1 ≤ length seats.now }
+    ensures { PerformsSeats setup.now (texts seats.now) (any_text from.entry) (any_text journal.entry) (any_text page.entry)
+        outside.old outside.new result }
+{
+    match page {
+        Some(page) => perform_paged(threads, alloc, setup, seats, from, journal, page, outside),
+        None => perform_shared(threads, alloc, setup, seats, from, journal, outside),
+    }
+}
+
 /// Holds sessions of these seats, or one here without seats, and reports on standard error what failed.
 fn perform_sessions<
     R: Threads + Wait + Clock + Sync,
@@ -180,16 +228,17 @@ fn perform_sessions<
     seats: &[&str],
     from: Option<&str>,
     journal: Option<&str>,
+    page: Option<&str>,
     prompt: &str,
     outside: &mut Outside<F, I, O, E>,
 ) -> u8
-    ensures { PerformsSessions setup.now (texts seats.now) (any_text from.entry) (any_text journal.entry) prompt.now
-        outside.old outside.new result }
+    ensures { PerformsSessions setup.now (texts seats.now) (any_text from.entry) (any_text journal.entry)
+        (any_text page.entry) prompt.now outside.old outside.new result }
 {
     if !seats.is_empty() {
-        return perform_shared(threads, alloc, setup, seats, from, journal, outside);
+        return perform_seats(threads, alloc, setup, seats, from, journal, page, outside);
     }
-    let debugged = debug_alone(alloc, setup, from, journal, prompt, outside);
+    let debugged = debug_here(alloc, setup, from, journal, page, prompt, outside);
     report(debugged, &mut outside.error)
 }
 
@@ -216,6 +265,7 @@ fn perform_request<
             seats,
             from,
             journal,
+            page,
         } => perform_sessions(
             threads,
             alloc,
@@ -223,6 +273,7 @@ fn perform_request<
             seats.as_slice(),
             *from,
             *journal,
+            *page,
             prompt,
             outside,
         ),

@@ -44,7 +44,7 @@ fn find_one<'a, F: Files>(alloc: Global, files: &mut F, name: &'a str) -> Result
 /// # Errors
 /// `Play(Read, name)` with the name of the first seat that is refused; those after it are not looked at.
 /// `Play(NoMemory, _)` where an allocation fails.
-fn find_each<'a, F: Files>(
+pub(crate) fn find_each<'a, F: Files>(
     alloc: Global,
     files: &mut F,
     names: &[&'a str],
@@ -95,7 +95,7 @@ pub(crate) fn make_one<'a, F: Files>(
 ///
 /// # Errors
 /// Those of `make_one`.
-fn make_any<'a, F: Files>(
+pub(crate) fn make_any<'a, F: Files>(
     alloc: Global,
     files: &mut F,
     name: Option<&'a str>,
@@ -139,7 +139,7 @@ fn hold_seats<
         (HoldsSeats setup.entry.now (texts seats.now) (any_text from.entry) (any_text file.entry)
         outside.old outside.new) }
     ensures fault { IfErr result (IsFaultOfSeats setup.entry.now (texts seats.now) (any_text from.entry)
-        (any_text file.entry) outside.old.files outside.new.files) }
+        (any_name (any_text file.entry)) outside.old.files outside.new.files) }
     ensures output { IfErr result (λ _. outside.new.output ≡ outside.old.output) }
     ensures error { IfErr result (λ _. outside.new.error ≡ outside.old.error) }
     ensures input { outside.new.input ≡ outside.old.input }
@@ -161,7 +161,7 @@ fn hold_seats<
         output,
         error,
     ) {
-        Ok(status) => Ok(status),
+        Ok((status, _)) => Ok(status),
         Err(fault) => Err(Fault::Race(fault)),
     }
 }

@@ -28,11 +28,11 @@ use Rattle.cdb_shared_session.specs.Reports.{outcomes, failures_text, status_of}
 use Rattle.cdb_shared_session.specs.declared.endpoint.Finished.{Finished}
 
 -- the sessions, which go on from a journal, have ended; the journal was kept in the file where there was one, it was written, and what failed was
--- reported, as far as that went, and this is the status
+-- reported, as far as that went; these are the status, and the file with how the journal was kept
 pub record RunsSessions {P T J O E : Type 0} (rules : Parts → Rules) (Answers : RunView → Inquiry → List ℕ → Type 0) (known : T → Known)
     (opens : P → Result SeatSeen ReadFault → Type 0) (file_stream : J → Stream) (output_stream : O → Stream)
     (error_stream : E → Stream) (json from : List ℕ) (openers : List P) (file : Option J) (output output_after : O)
-    (error error_after : E) (status : ℕ) : Type 0 where
+    (error error_after : E) (ended : ℕ × Option (Kept J)) : Type 0 where
   pub setup : Parts
   pub encodes : Encodes json setup
   pub begun : Journaled
@@ -42,13 +42,12 @@ pub record RunsSessions {P T J O E : Type 0} (rules : Parts → Rules) (Answers 
   pub sessions : AreSessions rules Answers known opens begun openers control finished
   -- so a replay of what is written tells each seat what it was told
   pub writable : IsWritable control
-  pub kept : Option (Kept J)
-  pub keeps : HasKept file_stream file kept control.journal
+  pub keeps : HasKept file_stream file ended.1 control.journal
   pub written : Result (Unit {0}) OutputFault
   pub journal : IsWritten output_stream (whole_ending written) output output_after (Only (journal_text control.journal))
   pub reported : Result (Unit {0}) Failed
-  pub lines : Writes error_stream reported error error_after (failures_text written (kept_outcome kept) (outcomes finished))
-  pub status_is : status ≡ status_of written (kept_outcome kept) (outcomes finished)
+  pub lines : Writes error_stream reported error error_after (failures_text written (kept_outcome ended.1) (outcomes finished))
+  pub status_is : ended.0 ≡ status_of written (kept_outcome ended.1) (outcomes finished)
 
 -- The setup's first fault, else that of the journal for so many seats; or memory or a thread is not there. A setup that is
 -- too long is told so, and no thread is started for one with a fault.

@@ -44,8 +44,8 @@ fn of_beginning(fault: PlayFault) -> RaceFault
 }
 
 /// How a journal was kept; without a file there is no fault.
-fn outcome_of<J: Drop>(kept: Option<Kept<J>>) -> Result<(), OutputFault>
-    ensures { result ≡ kept_outcome kept }
+fn outcome_of<J>(kept: &Option<Kept<J>>) -> Result<(), OutputFault>
+    ensures { result ≡ kept_outcome kept.now }
 {
     match kept {
         Some(kept) => kept.outcome,
@@ -59,7 +59,7 @@ fn outcome_of<J: Drop>(kept: Option<Kept<J>>) -> Result<(), OutputFault>
 /// kept in it meanwhile. Then the journal is written to the output, a line for each entry, and to the other output a line
 /// for each seat that failed, and one where the journal could not be written or kept; these lines take no memory. Returned
 /// is the status: 6 or 7 where the journal could not be written or kept, else that of the least seat that failed, and 0
-/// where none did.
+/// where none did; and with it the file, with how the journal was kept.
 ///
 /// # Errors
 /// `Setup`, `Line` and `ScriptTooLong` as of `begin`, and then no session was begun; `Spawn` where a thread can't be started, and
@@ -84,7 +84,7 @@ pub fn debug_shared<
     file: Option<J>,
     output: &mut O,
     error: &mut E,
-) -> Result<u8, RaceFault>
+) -> Result<(u8, Option<Kept<J>>), RaceFault>
     requires some { 1 ≤ vec_len openers }
     requires fits { vec_len openers ≤ MAX_SEATS }
     ensures sessions { IfOk result (RunsSessions R.rules A.answers P.Seat.known P.opens J.stream O.stream E.stream
@@ -111,7 +111,8 @@ pub fn debug_shared<
     };
     let written = write_journal(alloc, control.journal(), output);
     control.close();
-    let kept = outcome_of(kept);
-    let _ = write_failures(finished.as_slice(), &written, &kept, error);
-    Ok(status_after(finished.as_slice(), &written, &kept))
+    let outcome = outcome_of(&kept);
+    let _ = write_failures(finished.as_slice(), &written, &outcome, error);
+    let status = status_after(finished.as_slice(), &written, &outcome);
+    Ok((status, kept))
 }

@@ -6,6 +6,7 @@ ghost use Rattle.revdbg.specs.System.{read_fault_of};
 
 use crate::seats::{pair_of, path_of, prompt_at};
 use cdb_base::NoMemory;
+use cdb_page::Rewritten;
 use cdb_program::Files;
 use cdb_session::Streams;
 use cdb_shared_session::{Endpoint, Opener};
@@ -26,8 +27,8 @@ type SeatConsole = Streams<Input<File>, Output<File>>;
 pub struct SystemFiles<'a> {
     rt: &'a HostRuntime,
     failures: u64,
-    /// The names of the seats that were found.
-    seats: Vec<String>,
+    /// The names of the seats that were found, and of the files that were made.
+    taken: Vec<String>,
 }
 
 impl<'a> SystemFiles<'a> {
@@ -36,14 +37,17 @@ impl<'a> SystemFiles<'a> {
         SystemFiles {
             rt,
             failures: 0,
-            seats: Vec::new(rt.alloc()),
+            taken: Vec::new(rt.alloc()),
         }
     }
 
-    /// Whether a seat that was found reads from or writes to the file of this name.
-    fn is_of_seat(&self, name: &str) -> bool {
-        for seat in &self.seats {
-            if let Some((input, output)) = pair_of(seat.as_str()) {
+    /// Whether this is the name of a file that was made, or that a seat reads from or writes to.
+    fn is_taken(&self, name: &str) -> bool {
+        for taken in &self.taken {
+            if taken.as_str() == name {
+                return true;
+            }
+            if let Some((input, output)) = pair_of(taken.as_str()) {
                 if input == name || output == name {
                     return true;
                 }
@@ -113,11 +117,45 @@ fn empty_folder(rt: &HostRuntime, name: &str) -> io::Result<()> {
     }
 }
 
-/// Writes a file under another name, and gives it its own once it is whole.
+/// Writes a file under another name, in the place of what has that, and gives it its own once it is whole.
 fn write_new(rt: &HostRuntime, part: &str, name: &str, bytes: &[u8]) -> io::Result<()> {
-    let mut file = File::create_new(rt, part)?;
+    let mut file = File::create(rt, part)?;
     file.write_all(bytes)?;
     fs::rename(rt, part, name)
+}
+
+/// Writes a file as a whole, in the place of what has its name. After an error that is as it was.
+fn replace_file(
+    rt: &HostRuntime,
+    alloc: Global,
+    name: &str,
+    bytes: &[u8],
+) -> Result<(), OutputFault> {
+    let part = format!(in alloc; "{name}.part")?;
+    match write_new(rt, part.as_str(), name, bytes) {
+        Ok(()) => Ok(()),
+        Err(_) => {
+            let _ = fs::remove_file(rt, part.as_str());
+            Err(OutputFault::Write)
+        }
+    }
+}
+
+/// A file of a page, which is written anew.
+#[derive(Drop)]
+pub struct SystemPage {
+    rt: HostRuntime,
+    name: String,
+}
+
+impl Rewritten for SystemPage {
+    ghost use Rattle.std.specs.Prelude.{None};
+
+    ghost versions = { λ _. None };
+
+    fn rewrite(&mut self, alloc: Global, text: &[u8]) -> Result<(), OutputFault> {
+        replace_file(&self.rt, alloc, self.name.as_str(), text)
+    }
 }
 
 /// The fault of a file that could not be opened, where this is the system's error.
@@ -155,6 +193,8 @@ impl<'a> Files for SystemFiles<'a> {
 
     type Made = Output<File>;
 
+    type Page = SystemPage;
+
     ghost use Rattle.std.specs.Prelude.{[], None};
 
     ghost seen = { λ files. record {
@@ -184,18 +224,22 @@ impl<'a> Files for SystemFiles<'a> {
         let rt = *self.rt;
         let found = String::from_str(alloc, name)?;
         let name = String::from_str(alloc, name)?;
-        self.seats.push(found).map_err(AllocError::from)?;
+        self.taken.push(found).map_err(AllocError::from)?;
         Ok(SystemSeat { rt, name })
     }
 
-    fn make_file(&mut self, _alloc: Global, name: &str) -> Result<Output<File>, ReadFault> {
-        let made = if self.is_of_seat(name) {
+    fn make_file(&mut self, alloc: Global, name: &str) -> Result<Output<File>, ReadFault> {
+        let taken = String::from_str(alloc, name)?;
+        let made = if self.is_taken(name) {
             Err(io::Error::from(ErrorKind::AlreadyExists))
         } else {
             empty_file(self.rt, name)
         };
         match made {
-            Ok(file) => Ok(Output::new(file)),
+            Ok(file) => {
+                self.taken.push(taken).map_err(AllocError::from)?;
+                Ok(Output::new(file))
+            }
             Err(error) => {
                 let fault = fault_of(&error);
                 if fault == ReadFault::Failed {
@@ -204,6 +248,13 @@ impl<'a> Files for SystemFiles<'a> {
                 Err(fault)
             }
         }
+    }
+
+    fn make_page(&mut self, alloc: Global, name: &str) -> Result<SystemPage, ReadFault> {
+        self.make_file(alloc, name)?;
+        let rt = *self.rt;
+        let name = String::from_str(alloc, name)?;
+        Ok(SystemPage { rt, name })
     }
 
     fn take_folder(&mut self, _alloc: Global, name: &str) -> Result<(), ReadFault> {
@@ -220,14 +271,7 @@ impl<'a> Files for SystemFiles<'a> {
     }
 
     fn write_whole(&mut self, alloc: Global, name: &str, bytes: &[u8]) -> Result<(), OutputFault> {
-        let part = format!(in alloc; "{name}.part")?;
-        match write_new(self.rt, part.as_str(), name, bytes) {
-            Ok(()) => Ok(()),
-            Err(_) => {
-                let _ = fs::remove_file(self.rt, part.as_str());
-                Err(OutputFault::Write)
-            }
-        }
+        replace_file(self.rt, alloc, name, bytes)
     }
 
     fn show_progress(&self, done: u32, all: u32) {

@@ -83,6 +83,7 @@ fn debug<'a>(alloc: Global) -> Request<'a> {
         seats: Vec::new(alloc),
         from: None,
         journal: None,
+        page: None,
     }
 }
 
@@ -347,6 +348,7 @@ fn the_kth_session_is_that_of_the_kth_name_and_one_that_cannot_be_opened_ends_al
         seats: Vec::from_slice(rt.alloc(), &seats)?,
         from: None,
         journal: Some("kept.txt"),
+        page: None,
     };
     let ended = performed(&rt, action(&shared), ALL_GOOD);
     let journal = str::from_utf8(ended.output.as_slice())?;

@@ -1,6 +1,7 @@
 //! Files in memory.
 
 use super::streams::{Arrival, Writer};
+use cdb_page::Rewritten;
 use cdb_program::Files;
 use cdb_streams::{OutputFault, ReadFault};
 use std::alloc::{AllocError, Global};
@@ -58,10 +59,26 @@ fn content_of(name: &str) -> Option<&'static [u8]> {
     None
 }
 
+/// The file of a page, of which nothing is known.
+#[derive(Drop)]
+pub struct Paper;
+
+impl Rewritten for Paper {
+    ghost use Rattle.std.specs.Prelude.{None};
+
+    ghost versions = { λ _. None };
+
+    fn rewrite(&mut self, _alloc: Global, _text: &[u8]) -> Result<(), OutputFault> {
+        Ok(())
+    }
+}
+
 impl Files for Folder {
     type Seat = Arrival;
 
     type Made = Writer;
+
+    type Page = Paper;
 
     ghost use Rattle.std.specs.Prelude.{[], None, Some};
     ghost use Rattle.cdb_play.specs.Races.{bytes_of};
@@ -112,6 +129,12 @@ impl Files for Folder {
             return Err(ReadFault::Failed);
         }
         Ok(Writer::new(alloc, usize::MAX))
+    }
+
+    /// As `make_file`.
+    fn make_page(&mut self, alloc: Global, name: &str) -> Result<Paper, ReadFault> {
+        self.make_file(alloc, name)?;
+        Ok(Paper)
     }
 
     /// No name is that of a folder with something in it, but that of a file.

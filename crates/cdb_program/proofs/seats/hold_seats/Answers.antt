@@ -7,7 +7,8 @@ use Rattle.cdb_program.specs.Answers.{IsAnswer}
 use Rattle.cdb_program.specs.Known.{any_name}
 use Rattle.std.specs.Prelude.{◌++◌, option_map}
 use Rattle.cdb_program.proofs.Opening.{fails_before, opened_then}
-use Rattle.cdb_program.proofs.Seated.{as_fault, fails_later, holds_seen, seats_known}
+use Rattle.cdb_program.proofs.Seated.{as_fault, fails_later, file_seen, holds_seen, seats_known}
+use Rattle.cdb_shared_session.proofs.KeptEntries.{seen_kept}
 use Rattle.cdb_program.proofs.seats.hold_seats.Goals as goal
 
 pub returns-in_err-json-clause-fault : goal.returns-in_err-json-clause-fault
@@ -15,64 +16,66 @@ returns-in_err-json-clause-fault g c =
     let p = err_from_is_err_and c.from_residual.result c.from_residual.ensures.1 in
     let names = texts c.args.seats.now in
     let from = any_text c.args.from in
-    let file = any_text c.args.file in
+    let file = any_name (any_text c.args.file) in
     rw (p.1, p.2, ← c.outside.view_is)
-    (as_fault _ names from file _ _ c.in_err-json.field-0.0 (fails_before _ _ (c.args.setup.now ∷ any_name from) (names ++ any_name file) c.in_err-json.field-0.0 c.in_err-json.ensures))
+    (as_fault _ names from file _ _ c.in_err-json.field-0.0 (fails_before _ _ (c.args.setup.now ∷ any_name from) (names ++ file) c.in_err-json.field-0.0 c.in_err-json.ensures))
 
 pub returns-in_err-openers-clause-fault : goal.returns-in_err-openers-clause-fault
 returns-in_err-openers-clause-fault g c =
     let p = err_from_is_err_and c.from_residual-in_err-openers.result c.from_residual-in_err-openers.ensures.1 in
     let names = texts c.args.seats.now in
     let from = any_text c.args.from in
-    let file = any_text c.args.file in
+    let file = any_name (any_text c.args.file) in
     let why = c.in_err-openers.field-0.0 in
-    let fails = fails_before _ _ names (any_name file) why c.in_err-openers.ensures.fault in
+    let fails = fails_before _ _ names (file) why c.in_err-openers.ensures.fault in
     rw (p.1, p.2, ← c.outside.view_is)
-    (as_fault _ names from file _ _ why (fails_later _ _ _ (c.args.setup.now ∷ any_name from) (names ++ any_name file) why c.in_ok-json.ensures.0 fails))
+    (as_fault _ names from file _ _ why (fails_later _ _ _ (c.args.setup.now ∷ any_name from) (names ++ file) why c.in_ok-json.ensures.0 fails))
 
 pub returns-in_err-file-clause-fault : goal.returns-in_err-file-clause-fault
 returns-in_err-file-clause-fault g c =
     let p = err_from_is_err_and c.from_residual-in_err-file.result c.from_residual-in_err-file.ensures.1 in
     let names = texts c.args.seats.now in
     let from = any_text c.args.from in
-    let file = any_text c.args.file in
+    let file = any_name (any_text c.args.file) in
     let why = c.in_err-file.field-0.0 in
-    let fails = fails_later _ _ _ names (any_name file) why c.in_ok-openers.ensures.opened c.in_err-file.ensures.fault in
+    let fails = fails_later _ _ _ names (file) why c.in_ok-openers.ensures.opened c.in_err-file.ensures.fault in
     rw (p.1, p.2, ← c.outside.view_is)
-    (as_fault _ names from file _ _ why (fails_later _ _ _ (c.args.setup.now ∷ any_name from) (names ++ any_name file) why c.in_ok-json.ensures.0 fails))
+    (as_fault _ names from file _ _ why (fails_later _ _ _ (c.args.setup.now ∷ any_name from) (names ++ file) why c.in_ok-json.ensures.0 fails))
 
 pub returns-in-Ok-clause-sessions : goal.returns-in-Ok-clause-sessions
 returns-in-Ok-clause-sessions g c =
     let opens = g.F.Seat.Opener.opens in
     let openers = c.in_ok-openers.openers.items in
     let names = texts c.args.seats.now in
-    let file = any_text c.args.file in
+    let file = any_name (any_text c.args.file) in
     let before = c.args.setup.now ∷ any_name (any_text c.args.from) in
     let seats = seats_known opens _ _ before names openers c.in_ok-json.ensures.0 c.in_ok-openers.ensures.seats in
-    let opened = opened_then _ _ _ names (any_name file) c.in_ok-openers.ensures.opened c.in_ok-file.ensures.opened in
+    let opened = opened_then _ _ _ names (file) c.in_ok-openers.ensures.opened c.in_ok-file.ensures.opened in
     rw (← c.outside.view_is) (
       c.in_ok-json.json.items,
       c.in_ok-json.journal.items,
-      (opened_then _ _ _ before (names ++ any_name file) c.in_ok-json.ensures.0 opened, c.in_ok-json.ensures.1),
+      (opened_then _ _ _ before (names ++ file) c.in_ok-json.ensures.0 opened, c.in_ok-json.ensures.1),
       (
         option_map g.F.Made.Sink.stream c.in_ok-file.file,
+        option_map (seen_kept g.F.Made.Sink.stream) c.in-Ok.field-0.1,
         c.in_ok-file.ensures.file,
         rw (← c.as_slice.ensures.value, ← c.as_slice-2.ensures.value)
-            (holds_seen rules IsAnswer g.F.Seat.Seat.Console.known opens g.F.Made.Sink.stream g.O.Sink.stream g.E.Sink.stream (g.F.Files.seen c.outside.inside.files) names _ _ openers _ _ _ _ _ _ seats c.in-Ok.ensures.sessions),
+            (file_seen rules IsAnswer _ _ g.F.Made.Sink.stream _ _ _ _ names _ _ _ _ _ _
+            (holds_seen rules IsAnswer g.F.Seat.Seat.Console.known opens g.F.Made.Sink.stream g.O.Sink.stream g.E.Sink.stream (g.F.Files.seen c.outside.inside.files) names _ _ openers _ _ _ _ _ _ seats c.in-Ok.ensures.sessions)),
       ),
     )
 
 pub returns-clause-fault : goal.returns-clause-fault
 returns-clause-fault g c =
     let names = texts c.args.seats.now in
-    let file = any_text c.args.file in
+    let file = any_name (any_text c.args.file) in
     let before = c.args.setup.now ∷ any_name (any_text c.args.from) in
-    let opened = opened_then _ _ _ names (any_name file) c.in_ok-openers.ensures.opened c.in_ok-file.ensures.opened in
+    let opened = opened_then _ _ _ names (file) c.in_ok-openers.ensures.opened c.in_ok-file.ensures.opened in
     let many : vec_len c.in_ok-openers.openers ≡ length names = omega (arith, c.in_ok-openers.ensures.count, length-map c.args.seats.now (λ (name : Bor (List ℕ)). name.now)) in
     rw (← c.outside.view_is) (
       c.in_ok-json.json.items,
       c.in_ok-json.journal.items,
-      (opened_then _ _ _ before (names ++ any_name file) c.in_ok-json.ensures.0 opened, c.in_ok-json.ensures.1),
+      (opened_then _ _ _ before (names ++ file) c.in_ok-json.ensures.0 opened, c.in_ok-json.ensures.1),
       rw (← c.as_slice.ensures.value, ← c.as_slice-2.ensures.value, ← many) c.in-Err.ensures.fault,
     )
 

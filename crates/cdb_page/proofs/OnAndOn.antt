@@ -1,0 +1,180 @@
+-- A page keeps up with its journal as that grows.
+use Rattle.std.proofs.Common.{◌≡◌, ◌∙◌, inl, inr, ℕ, zero, suc, ◌<◌, ◌≤◌, List, [], ◌∷◌, ◌++◌, length, take, drop, Option, None, Some, Result, Ok, Err, refl, sym, ap, subst, arith, append_assoc, append-nil, length-append}
+use Rattle.std.specs.Prelude.{All, IfErr, IfOk, IfSome, option_map}
+use Rattle.std.specs.Io.{WritesAtMost}
+use Rattle.std.specs.Io.KnownBytes.{Appends, Keeps, WriteAppends}
+use Rattle.std.specs.Result.{result_unwrap_or}
+use Rattle.std.proofs.KnownBytes.{Appends-trans}
+use Rattle.std.proofs.Math.Seq.{drop-append_seam, take-append_seam}
+use Rattle.std.proofs.lemmas.List.{length-take-le}
+use Rattle.std.proofs.lemmas.List.Elements.{All-append, All-cons, All-nil, All-weaker}
+use Rattle.cdb_explain.specs.declared.fault.ExplainFault.{ExplainFault}
+use Rattle.cdb_streams.specs.Streams.{Stream}
+use Rattle.cdb_streams.specs.declared.sink.Failed.{Failed}
+use Rattle.cdb_page.specs.Live.{EndsWithPage, Live, KeepsUp, HasTaken, IsMadeWith, IsPageSoFar, Shows, ShowsLines, Versions, files_of, journal_so_far, made_with, taken_of, with_version}
+use Rattle.cdb_page.specs.OfJournals.{IsFaultOfJournalPage, IsPageOfJournal}
+
+-- ---- what the file of the journal took
+
+appends_kept : (a b c : Option (List ℕ)) (text : List ℕ) → Appends a b text → Keeps b c → Appends a c text
+appends_kept None b c text p q = tt
+appends_kept (Some x) None c text p q = absurd p
+appends_kept (Some x) (Some y) None text p q = absurd q
+appends_kept (Some x) (Some y) (Some z) text p q = q ∙ p
+
+pub took_more : (text piece : List ℕ) (old new : Stream) (written : Result ℕ Failed)
+    → WriteAppends old.bytes new.bytes written piece → HasTaken text old → HasTaken (text ++ taken_of written piece) new
+took_more text piece old new (Ok count) wrote (first, empty, took) =
+    (first, empty, Appends-trans first old.bytes new.bytes text (take count piece) took wrote)
+took_more text piece old new (Err failed) wrote (first, empty, took) =
+    (first, empty, subst (Appends first new.bytes) (sym (append-nil text)) (appends_kept first old.bytes new.bytes text took wrote))
+
+pub took_some : (text piece : List ℕ) (written : Result ℕ Failed) → WritesAtMost written piece → 0 < result_unwrap_or written 0 → 0 < length (text ++ taken_of written piece)
+took_some text piece (Ok count) within some = omega (arith, length-append text (take count piece), length-take-le count piece within)
+took_some text piece (Err failed) within some = absurd (omega arith)
+
+pub took_none : (text piece : List ℕ) (written : Result ℕ Failed) → result_unwrap_or written 0 ≤ 0 → text ++ taken_of written piece ≡ text
+took_none text piece (Ok zero) none = append-nil text
+took_none text piece (Ok (suc count)) none = absurd (omega arith)
+took_none text piece (Err failed) none = append-nil text
+
+-- ---- what the file of the page had
+
+more_of_page : (json from taken more page : List ℕ) → IsPageSoFar json from taken page → IsPageSoFar json from (taken ++ more) page
+more_of_page json from taken more page (inl is) = inl is
+more_of_page json from taken more page (inr (lines, (ends, (rest, is)), paged)) =
+    inr (lines, (ends, (rest ++ more, ap (λ (text : List ℕ). text ++ more) is ∙ append_assoc lines rest more)), paged)
+
+each_still : (json from taken more : List ℕ) (versions : Versions) → IfSome versions (All (IsPageSoFar json from taken))
+    → IfSome versions (All (IsPageSoFar json from (taken ++ more)))
+each_still json from taken more None each = tt
+each_still json from taken more (Some texts) each =
+    All-weaker (IsPageSoFar json from taken) (IsPageSoFar json from (taken ++ more)) (more_of_page json from taken more) texts each
+
+each_too : (json from taken page : List ℕ) (versions : Versions) → IsPageSoFar json from taken page
+    → IfSome versions (All (IsPageSoFar json from taken)) → IfSome (with_version versions page) (All (IsPageSoFar json from taken))
+each_too json from taken page None is each = tt
+each_too json from taken page (Some texts) is each =
+    All-append (IsPageSoFar json from taken) texts (page ∷ []) each
+    (All-cons (IsPageSoFar json from taken) page [] is (All-nil (IsPageSoFar json from taken)))
+
+last_is : (json journal page : List ℕ) (versions : Versions) → IsPageOfJournal json journal page
+    → IfSome (with_version versions page) (EndsWithPage json journal)
+last_is json journal page None is = tt
+last_is json journal page (Some texts) is = (texts, page, refl, is)
+
+-- ---- the whole
+
+pub so_far : (from text : List ℕ) → 0 < length text → journal_so_far from text ≡ text
+so_far from [] some = absurd (omega arith)
+so_far from (byte ∷ text) some = refl
+
+-- it took no more of the journal
+pub keeps_up_still : (it : Live) (taken : List ℕ) (failures : ℕ) (journal : Option Stream) → KeepsUp it → taken ≡ it.taken
+    → IfSome journal (HasTaken taken) → KeepsUp (record it { taken = taken; failures = failures; journal = journal })
+keeps_up_still it taken failures journal up same has = record {
+  journal = has;
+  each = rw same up.each;
+  last = rw same up.last;
+  fault = rw same up.fault;
+}
+
+-- what it took has the page that was written
+shown : (it : Live) (more : List ℕ) (failures : ℕ) (journal : Option Stream) (versions : Versions) (outcome : Result (Unit {0}) ExplainFault)
+    → KeepsUp it → IfSome journal (HasTaken (it.taken ++ more)) → 0 < length (it.taken ++ more) → ShowsLines it.json (it.taken ++ more) it.versions versions outcome
+    → KeepsUp (record it { taken = it.taken ++ more; failures = failures; journal = journal; versions = versions; outcome = outcome })
+shown it more failures journal versions (Ok done) up has some (ends, (page, is, versions_are)) =
+    let all = it.taken ++ more in
+    record {
+      journal = has;
+      each =
+          rw versions_are
+          (each_too it.json it.from all page it.versions (inr (all, (ends, ([], sym (append-nil all))), is))
+          (each_still it.json it.from it.taken more it.versions up.each));
+      last = rw (versions_are, so_far it.from all some) (last_is it.json all page it.versions is);
+      fault = tt;
+    }
+shown it more failures journal versions (Err why) up has some (versions_are, because) =
+    let all = it.taken ++ more in
+    record {
+      journal = has;
+      each = rw versions_are (each_still it.json it.from it.taken more it.versions up.each);
+      last = tt;
+      fault = rw (so_far it.from all some) because;
+    }
+
+pub keeps_up_on : (it : Live) (more taken : List ℕ) (failures : ℕ) (journal : Option Stream) (versions : Versions) (outcome : Result (Unit {0}) ExplainFault)
+    → KeepsUp it → taken ≡ it.taken ++ more → IfSome journal (HasTaken taken) → 0 < length taken → ShowsLines it.json taken it.versions versions outcome
+    → KeepsUp (record it { taken = taken; failures = failures; journal = journal; versions = versions; outcome = outcome })
+keeps_up_on it more taken failures journal versions outcome up same has some shows =
+    rw same (shown it more failures journal versions outcome up (rw same at has) (rw same at some) (rw same at shows))
+
+-- at the beginning
+first_each : (json from : List ℕ) (old new : Versions) (outcome : Result (Unit {0}) ExplainFault) → IfSome old (λ texts. texts ≡ []) → Shows json from old new outcome
+    → IfSome new (All (IsPageSoFar json from []))
+first_each json from None new (Ok done) empty (page, is, new_is) = rw new_is tt
+first_each json from (Some texts) new (Ok done) empty (page, is, new_is) =
+    rw (new_is, empty) (All-cons (IsPageSoFar json from []) page [] (inl is) (All-nil (IsPageSoFar json from [])))
+first_each json from None new (Err why) empty (new_is, because) = rw new_is tt
+first_each json from (Some texts) new (Err why) empty (new_is, because) = rw (new_is, empty) (All-nil (IsPageSoFar json from []))
+
+first_last : (json from : List ℕ) (old new : Versions) (outcome : Result (Unit {0}) ExplainFault) → Shows json from old new outcome
+    → IfOk outcome (λ _. IfSome new (EndsWithPage json from))
+first_last json from old new (Ok done) (page, is, new_is) = rw new_is (last_is json from page old is)
+first_last json from old new (Err why) shows = tt
+
+first_fault : (json from : List ℕ) (old new : Versions) (outcome : Result (Unit {0}) ExplainFault) → Shows json from old new outcome
+    → IfErr outcome (IsFaultOfJournalPage json from)
+first_fault json from old new (Ok done) shows = tt
+first_fault json from old new (Err why) shows = shows.1
+
+pub keeps_up_first : (json from taken : List ℕ) (failures : ℕ) (journal : Option Stream) (old new : Versions) (outcome : Result (Unit {0}) ExplainFault)
+    → taken ≡ [] → IfSome journal (HasTaken []) → IfSome old (λ texts. texts ≡ []) → Shows json from old new outcome
+    → KeepsUp (record { json = json; from = from; taken = taken; failures = failures; journal = journal; versions = new; outcome = outcome })
+keeps_up_first json from taken failures journal old new outcome none has empty shows =
+    rw none
+    (record {
+      journal = has;
+      each = first_each json from old new outcome empty shows;
+      last = first_last json from old new outcome shows;
+      fault = first_fault json from old new outcome shows;
+    })
+
+-- ---- what it was made with
+
+first_of : List ℕ → ℕ
+first_of [] = 0
+first_of (byte ∷ text) = byte
+
+rest_of : List ℕ → List ℕ
+rest_of [] = []
+rest_of (byte ∷ text) = text
+
+same_front : (a b x y : List ℕ) → length a ≡ length b → a ++ x ≡ b ++ y → (a ≡ b) × (x ≡ y)
+same_front a b x y long is = (
+  sym (take-append_seam a x) ∙ ap (take (length a)) is ∙ ap (λ (n : ℕ). take n (b ++ y)) long ∙ take-append_seam b y,
+  sym (drop-append_seam a x) ∙ ap (drop (length a)) is ∙ ap (λ (n : ℕ). drop n (b ++ y)) long ∙ drop-append_seam b y,
+)
+
+same_setup : (json from text its_json its_from its_text : List ℕ)
+    → ((length its_json ∷ its_json) ++ (length its_from ∷ its_from)) ++ its_text ≡ ((length json ∷ json) ++ (length from ∷ from)) ++ text
+    → (its_json ≡ json) × (its_from ≡ from) × (its_text ≡ text)
+unfolding first_of rest_of
+same_setup json from text its_json its_from its_text is =
+    let one = same_front its_json json ((length its_from ∷ its_from) ++ its_text) ((length from ∷ from) ++ text) (ap first_of is)
+    (sym (append_assoc its_json (length its_from ∷ its_from) its_text) ∙ ap rest_of is ∙ append_assoc json (length from ∷ from) text) in
+    let two = same_front its_from from its_text text (ap first_of one.1) (ap rest_of one.1) in
+    (one.0, two.0, two.1)
+
+-- what holds the same at its beginning was made with the same, and then it holds the same too
+pub made_with_same : {A : Type 0} (it : Live) (journal : Option A) (json from text : List ℕ)
+    → made_with it.journal it.json it.from ++ it.taken ≡ made_with journal json from ++ text
+    → IsMadeWith journal json from it × (it.taken ≡ text)
+unfolding first_of rest_of
+made_with_same it journal json from text is =
+    let same = same_setup json from text it.json it.from it.taken (ap rest_of is) in
+    (record { files = ap first_of is; json_is = same.0; from_is = same.1 }, same.2)
+
+pub as_many_files : {A B : Type 0} (f : A → B) (file : Option A) → files_of (option_map f file) ≡ files_of file
+as_many_files f None = refl
+as_many_files f (Some file) = refl
