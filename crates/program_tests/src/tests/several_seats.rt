@@ -5,8 +5,7 @@ use cdb_any_run::AnyRun;
 use cdb_control::{Control, Entry};
 use cdb_journal::journal_text;
 use cdb_program::Printed;
-use cdb_session::greeting_text;
-use cdb_setup::Setup;
+use cdb_session::begin;
 use cdb_shared_session::{
     Endpoint, Finished, Kept, Opener, debug_seats, status_after, write_failures,
 };
@@ -117,10 +116,8 @@ fn hold<R: Threads + Wait + Clock + Sync + Abort + AllocGlobal>(
     Kept<Output<Vec<u8>>>,
 ) {
     assert!(rt; places.len() == 4);
-    let setup = Setup::read(rt.alloc(), THREE).expect(rt, "a setup");
     let file = Some(Output::new(Vec::new(rt.alloc())));
-    let greeting = greeting_text(rt.alloc(), &setup).expect(rt, "a greeting");
-    let control = Control::open(rt.alloc(), setup, 4).expect(rt, "a control");
+    let (control, greeting) = begin(rt.alloc(), THREE, b"", 4).expect(rt, "a setup");
     let ended = debug_seats::<AnyRun, Printed, _, _, _>(
         rt,
         rt.alloc(),
