@@ -5,6 +5,7 @@ use Rattle.std.specs.Io.KnownBytes.{Appends}
 use Rattle.std.proofs.KnownBytes.{Appends-nil}
 use Rattle.cdb_agreement.specs.Algorithms.{rules}
 use Rattle.cdb_control.specs.declared.control.Entry.{Entry}
+use Rattle.cdb_explain.specs.declared.fault.ExplainFault.{ExplainFault}
 use Rattle.cdb_page.specs.Live.{HasFileTaken, IsMadeWith, KeepsUp, Live, Versions, files_of, stream_of}
 use Rattle.cdb_page.proofs.OnAndOn.{made_with_same}
 use Rattle.cdb_session.specs.Moves.{Known}
@@ -70,8 +71,12 @@ debugged_page name prompt json from its_json its_from old new first ended made (
     made_later name json from first ended.1.file made.0 (of_kept (ended.1).outcome first ended.1.file (holds.control).journal holds.keeps)
 
 -- of sessions of seats there is one
-pub kept_page : (name : Option (List ℕ)) (json from : List ℕ) (first : Live) (kept : Kept Live) (journal : List Entry) → IsNewPage name json from first → HasKept stream_of (Some first) (Some kept) journal → IsMadeWith name json from kept.file
+kept_page : (name : Option (List ℕ)) (json from : List ℕ) (first : Live) (kept : Kept Live) (journal : List Entry) → IsNewPage name json from first → HasKept stream_of (Some first) (Some kept) journal → IsMadeWith name json from kept.file
 kept_page name json from first kept journal made has = made_later name json from first kept.file made.0 (of_kept kept.outcome first kept.file journal has)
 
-pub none_kept : (first : Live) (journal : List Entry) → ¬ HasKept stream_of (Some first) None journal
-none_kept first journal has = has
+-- of sessions of seats the file is one, and how its last page was written is known
+pub kept_by : (name : Option (List ℕ)) (json from : List ℕ) (first : Live) (kept : Option (Kept Live)) (journal : List Entry) (shown : Result (Unit {0}) ExplainFault)
+    → IsNewPage name json from first → HasKept stream_of (Some first) kept journal → IfSome kept (λ its. KeepsUp its.file) → IfSome kept (λ its. shown ≡ (its.file).outcome)
+    → (its : Kept Live) × (kept ≡ Some its) × IsKeptPage name json from its.file × (shown ≡ (its.file).outcome)
+kept_by name json from first None journal shown made has up is = absurd has
+kept_by name json from first (Some its) journal shown made has up is = (its, refl, (kept_page name json from first its journal made has, up), is)
