@@ -33,8 +33,8 @@ impl Answers<AnyRun> for Printed {
 }
 
 /// What is reported of a fault.
-fn reported(alloc: Global, fault: Fault<'_>) -> Result<Vec<u8>, NoMemory>
-    ensures { IfOk result (λ text. text.items ≡ fault_text fault) }
+fn reported(alloc: Global, fault: &Fault<'_>) -> Result<Vec<u8>, NoMemory>
+    ensures { IfOk result (λ text. text.items ≡ fault_text fault.now) }
 {
     let mut text = String::new(alloc);
     write!(text, "{fault}")?;
@@ -48,7 +48,7 @@ fn explained(alloc: Global, run: &Trace, step: StepAsked) -> Result<Vec<u8>, NoM
 {
     match explain_step::<AnyRun>(alloc, run, step.p, step.k)? {
         Some(text) => Ok(text),
-        None => reported(alloc, Fault::NoStep),
+        None => reported(alloc, &Fault::NoStep),
     }
 }
 
@@ -58,10 +58,10 @@ fn trailed(alloc: Global, run: &Trace, step: StepAsked) -> Result<Vec<u8>, NoMem
     ensures { IfOk result (λ text. IsTrailed run.now step text.items) }
 {
     let Some(position) = position_of_step(run.events(), step.p, step.k) else {
-        return reported(alloc, Fault::NoStep);
+        return reported(alloc, &Fault::NoStep);
     };
     match text_of_trail_to(alloc, run, position)? {
         Some(text) => Ok(text),
-        None => reported(alloc, Fault::NoValue),
+        None => reported(alloc, &Fault::NoValue),
     }
 }
