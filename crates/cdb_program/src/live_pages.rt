@@ -132,8 +132,8 @@ pub fn debug_file_paged<'a, F: Files + Drop, I: Source + Drop, O: Sink + Drop, E
 fn outcome_of<J: Sink + Drop, P: Rewritten + Drop>(
     kept: Option<Kept<LivePage<'_, J, P>>>,
 ) -> Result<(), ExplainFault>
-    ensures is { IfSome kept (λ kept. result ≡ (kept.file).outcome) }
-    ensures keeps_up { IfSome kept (λ kept. KeepsUp kept.file) }
+    ensures is { IfSome kept.entry (λ kept. result ≡ (kept.file).outcome) }
+    ensures keeps_up { IfSome kept.entry (λ kept. KeepsUp kept.file) }
 {
     match kept {
         Some(kept) => kept.file.outcome(),
