@@ -62,8 +62,8 @@ returns-in-Ok-clause-sessions g c =
     let first : Live = c.in_ok-live.live in
     let seats = seats_known opens _ _ before names openers c.in_ok-json.ensures.0 c.in_ok-openers.ensures.seats in
     let opened = opened_then _ _ _ names files c.in_ok-openers.ensures.opened c.in_ok-live.ensures.opened in
-    let made : IsNewPage journal json begun first = rw (← c.as_slice.ensures.value, ← c.as_slice-2.ensures.value) c.in_ok-live.ensures.page in
-    let held = rw (c.as_slice.ensures.value, c.as_slice-2.ensures.value) at c.in-Ok.ensures.sessions in
+    let made : IsNewPage journal json begun first = rw (← c.as_slice-json.ensures.value, ← c.as_slice-begun.ensures.value) c.in_ok-live.ensures.page in
+    let held = rw (c.as_slice-json.ensures.value, c.as_slice-begun.ensures.value) at c.in-Ok.ensures.sessions in
     let shown = c.outcome_of.result in
     let its = kept_by journal json begun first c.in-Ok.field-0.1 _ shown made held.keeps c.outcome_of.ensures.keeps_up c.outcome_of.ensures.is in
     let files_before = g.F.Files.seen c.outside.inside.files in
@@ -99,7 +99,7 @@ returns-clause-fault g c =
       c.in_ok-json.json.items,
       c.in_ok-json.begun.items,
       (opened_then _ _ _ before (names ++ files) c.in_ok-json.ensures.0 opened, c.in_ok-json.ensures.1),
-      rw (← c.as_slice.ensures.value, ← c.as_slice-2.ensures.value, ← many) c.in-Err.ensures.fault,
+      rw (← c.as_slice-json.ensures.value, ← c.as_slice-begun.ensures.value, ← many) c.in-Err.ensures.fault,
     )
 
 pub returns-then-seats-from-clause-fault : goal.returns-then-seats-from-clause-fault
