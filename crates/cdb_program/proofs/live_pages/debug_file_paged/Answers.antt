@@ -38,7 +38,7 @@ returns-clause-does g c =
     let first : Live = c.in_ok-live.live in
     let ended : Result (Unit {0}) PlayFault × Kept Live = c.debug_kept-debugged.result in
     let made : IsNewPage journal json begun first = rw (← c.as_slice-json.ensures.value, ← c.as_slice-begun.ensures.value) c.in_ok-live.ensures.page in
-    let session : DebugsKept stream_of rules IsAnswer c.args.prompt.now json begun _ _ first ended = rw (← c.as_bytes-prompt.ensures.value, ← c.as_slice-json.ensures.value, ← c.as_slice-begun.ensures.value) c.debug_kept-debugged.ensures in
+    let session : DebugsKept stream_of rules IsAnswer c.args.prompt.now json begun _ _ first ended = rw (← c.as_bytes.ensures.value, ← c.as_slice-json.ensures.value, ← c.as_slice-begun.ensures.value) c.debug_kept-debugged.ensures in
     rw (← c.outside.view_is)
     (inr (
       json,

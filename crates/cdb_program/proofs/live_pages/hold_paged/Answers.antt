@@ -65,7 +65,7 @@ returns-in-Ok-clause-sessions g c =
     let made : IsNewPage journal json begun first = rw (← c.as_slice-json.ensures.value, ← c.as_slice-begun.ensures.value) c.in_ok-live.ensures.page in
     let held = rw (c.as_slice-json.ensures.value, c.as_slice-begun.ensures.value) at c.in-Ok.ensures.sessions in
     let shown = c.outcome_of.result in
-    let its = kept_by journal json begun first c.in-Ok.field-0.1 _ shown made held.keeps c.outcome_of.ensures.keeps_up c.outcome_of.ensures.is in
+    let its = kept_by journal json begun first c.in-Ok.kept _ shown made held.keeps c.outcome_of.ensures.keeps_up c.outcome_of.ensures.is in
     let files_before = g.F.Files.seen c.outside.inside.files in
     let error = g.E.Sink.stream c.debug_shared.new.error in
     rw (← c.outside.view_is) (record {
@@ -74,15 +74,15 @@ returns-in-Ok-clause-sessions g c =
       seated = (opened_then _ _ _ before (names ++ files) c.in_ok-json.ensures.0 opened, c.in_ok-json.ensures.1);
       first = first;
       made = made;
-      its_status = c.in-Ok.field-0.0;
+      its_status = c.in-Ok.status;
       kept = its.0;
       error = error;
       sessions =
-          subst (λ (kept : Option (Kept Live)). RunsSessions rules IsAnswer (λ known. known) (CanOpenSeat files_before) stream_of itself itself json begun names (Some first) _ _ _ error (c.in-Ok.field-0.0, kept)) its.1
+          subst (λ (kept : Option (Kept Live)). RunsSessions rules IsAnswer (λ known. known) (CanOpenSeat files_before) stream_of itself itself json begun names (Some first) _ _ _ error (c.in-Ok.status, kept)) its.1
           (holds_seen rules IsAnswer g.F.Seat.Seat.Console.known opens stream_of g.O.Sink.stream g.E.Sink.stream files_before names json begun openers (Some first) _ _ _ _ _ seats held);
-      is = its.2.0;
+      is = its.2;
       page_end = c.of_page.result;
-      ends = subst (λ (shown : Result (Unit {0}) ExplainFault). IsOfPage shown c.of_page.result) its.2.1 c.of_page.ensures;
+      ends = subst (λ (shown : Result (Unit {0}) ExplainFault). IsOfPage shown c.of_page.result) its.3 c.of_page.ensures;
       page_status = c.report-its.result;
       reported = c.report-its.ensures;
       status_is = c.first_status.ensures;
