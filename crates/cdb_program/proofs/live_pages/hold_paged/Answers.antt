@@ -1,18 +1,14 @@
 use Rattle.std.proofs.Common.{◌≡◌, ℕ, List, ◌∷◌, ◌++◌, Bor, vec_len, length, refl, ap, subst, arith}
-use Rattle.std.specs.Prelude.{Option, Some, Result}
+use Rattle.std.specs.Prelude.{Some, Result}
 use Rattle.std.proofs.lemmas.List.{length-map}
 use Rattle.std.proofs.lemmas.Result.{err_from_is_err_and}
 use Rattle.cdb_agreement.specs.Algorithms.{rules}
 use Rattle.cdb_base.specs.Requests.{any_text, texts}
 use Rattle.cdb_explain.specs.declared.fault.ExplainFault.{ExplainFault}
 use Rattle.cdb_page.specs.Live.{Live, stream_of}
-use Rattle.cdb_shared_session.specs.Reported.{RunsSessions}
-use Rattle.cdb_shared_session.specs.declared.keeping.Kept.{Kept}
-use Rattle.cdb_streams.specs.Streams.{itself}
 use Rattle.cdb_program.specs.Answers.{IsAnswer}
 use Rattle.cdb_program.specs.Known.{any_name}
 use Rattle.cdb_program.specs.LivePages.{IsNewPage, IsOfPage, files_for}
-use Rattle.cdb_program.specs.Seating.{CanOpenSeat}
 use Rattle.cdb_program.proofs.Opening.{fails_before, opened_then}
 use Rattle.cdb_program.proofs.Seated.{as_fault, fails_later, holds_seen, seats_known}
 use Rattle.cdb_program.proofs.Shown.{kept_by}
@@ -67,6 +63,7 @@ returns-in-Ok-clause-sessions g c =
     let shown = c.outcome_of.result in
     let its = kept_by journal json begun first c.in-Ok.kept _ shown made held.keeps c.outcome_of.ensures.keeps_up c.outcome_of.ensures.is in
     let files_before = g.F.Files.seen c.outside.inside.files in
+    let session = holds_seen rules IsAnswer g.F.Seat.Seat.Console.known opens stream_of g.O.Sink.stream g.E.Sink.stream files_before names json begun openers (Some first) _ _ _ _ _ seats held in
     let error = g.E.Sink.stream c.debug_shared.new.error in
     rw (← c.outside.view_is) (record {
       json = json;
@@ -77,9 +74,7 @@ returns-in-Ok-clause-sessions g c =
       its_status = c.in-Ok.status;
       kept = its.0;
       error = error;
-      sessions =
-          subst (λ (kept : Option (Kept Live)). RunsSessions rules IsAnswer (λ known. known) (CanOpenSeat files_before) stream_of itself itself json begun names (Some first) _ _ _ error (c.in-Ok.status, kept)) its.1
-          (holds_seen rules IsAnswer g.F.Seat.Seat.Console.known opens stream_of g.O.Sink.stream g.E.Sink.stream files_before names json begun openers (Some first) _ _ _ _ _ seats held);
+      sessions = rw its.1 at session;
       is = its.2;
       page_end = c.of_page.result;
       ends = subst (λ (shown : Result (Unit {0}) ExplainFault). IsOfPage shown c.of_page.result) its.3 c.of_page.ensures;
