@@ -1,6 +1,5 @@
 -- How the program reports that a request ended.
 use Rattle.std.specs.Prelude.{◌≡◌, ℕ, List, [], ◌++◌, codes, decimal, Result, Ok, Err}
-use Rattle.cdb_explain.specs.FaultTexts.{explain_fault_text}
 use Rattle.cdb_explain.specs.declared.fault.ExplainFault.{ExplainFault}
 use Rattle.cdb_explain.specs.declared.fault.ExplainFault.TheVariants as explain
 use Rattle.cdb_shared_session.specs.Reports.{kept_line}
@@ -16,9 +15,10 @@ use Rattle.cdb_program.specs.declared.fault.Fault.TheVariants.{Play, Race, Journ
 abbrev pub not_found_text : ℕ → List ℕ
 not_found_text walks = codes "not found in " ++ decimal walks ++ codes " walks\n"
 
--- what is reported of a page that could not be kept or made
+-- what is reported of a page that could not be kept or made: there are too many events to draw, or else why
 abbrev pub page_fault_text : ExplainFault → List ℕ
-page_fault_text fault = codes "page: " ++ as_line (explain_fault_text fault)
+page_fault_text (explain.Play fault) = codes "page: " ++ as_line (play_fault_text fault (codes "the input"))
+page_fault_text fault = codes "page: too many events to draw; name a step\n"
 
 -- its status: that of the play's fault, or of a run that is not drawn
 abbrev pub page_status : ExplainFault → ℕ

@@ -67,7 +67,8 @@ impl fmt::Display for Fault<'_> {
                 let fault = PlayFault::from(*fault);
                 writeln!(f, "journal: {fault}")
             }
-            Fault::Page(fault) => writeln!(f, "page: {fault}"),
+            Fault::Page(ExplainFault::Play(fault)) => writeln!(f, "page: {fault}"),
+            Fault::Page(_) => f.write_str("page: too many events to draw; name a step\n"),
             Fault::TooManySeats => f.write_str("too many seats\n"),
             Fault::Refused(reason) => f.write_str(reason),
         }

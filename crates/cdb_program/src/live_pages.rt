@@ -1,7 +1,8 @@
 //! Sessions of what is outside of whose run a page is shown, as it goes on.
 
-ghost use Rattle.std.specs.Prelude.{◌≡◌, ◌≤◌, ◌∷◌, [], length, IfOk, IfErr};
+ghost use Rattle.std.specs.Prelude.{◌≡◌, ◌≤◌, ◌∷◌, [], length, IfOk, IfErr, IfSome};
 ghost use Rattle.cdb_base.specs.Requests.{any_text, texts};
+ghost use Rattle.cdb_page.specs.Live.{KeepsUp};
 ghost use Rattle.cdb_program.specs.Known.{after_opening};
 ghost use Rattle.cdb_program.specs.LivePages.{DebugsFilePaged, HasHadNone, HoldsPaged, IsNewPage, IsOfPage, IsOfPaged, PerformsPaged, files_for, first_status};
 ghost use Rattle.cdb_program.specs.Reading.{FailsToRead};
@@ -130,7 +131,10 @@ pub fn debug_file_paged<'a, F: Files + Drop, I: Source + Drop, O: Sink + Drop, E
 /// How the last page was written.
 fn outcome_of<J: Sink + Drop, P: Rewritten + Drop>(
     kept: Option<Kept<LivePage<'_, J, P>>>,
-) -> Result<(), ExplainFault> {
+) -> Result<(), ExplainFault>
+    ensures is { IfSome kept.entry (λ kept. result ≡ (kept.file).outcome) }
+    ensures keeps_up { IfSome kept.entry (λ kept. KeepsUp kept.file) }
+{
     match kept {
         Some(kept) => kept.file.outcome(),
         None => Ok(()),

@@ -53,12 +53,14 @@ fn write_not_found<E: Sink>(walks: u32, error: &mut E) -> Result<(), Failed>
 fn write_page_fault<E: Sink>(fault: &ExplainFault, error: &mut E) -> Result<(), Failed>
     ensures { Writes E.stream result error.old error.new (page_fault_text fault.now) }
 {
-    write_all(error, b"page: ")?;
     match fault {
-        ExplainFault::Play(fault) => write_fault(fault, "the input", error),
-        ExplainFault::NoStep => write_all(error, b"refused 10 NoStep\n"),
-        ExplainFault::NoValue => write_all(error, b"no value\n"),
-        ExplainFault::TooManyEvents => write_all(error, b"too many events to draw; name a step\n"),
+        ExplainFault::Play(fault) => {
+            write_all(error, b"page: ")?;
+            write_fault(fault, "the input", error)
+        }
+        ExplainFault::NoStep | ExplainFault::NoValue | ExplainFault::TooManyEvents => {
+            write_all(error, b"page: too many events to draw; name a step\n")
+        }
     }
 }
 

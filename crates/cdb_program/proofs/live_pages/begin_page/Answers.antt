@@ -28,7 +28,7 @@ pub returns-in-Ok-clause-page : goal.returns-in-Ok-clause-page
 returns-in-Ok-clause-page g c =
     (made_as_named g.F.Made.Sink.stream (any_text c.args.journal) c.in_ok-journal.journal _ _ _ c.in_ok-journal.ensures.file c.in-Ok.ensures.made, c.in-Ok.ensures.empty)
 
-pub returns-clause-fault : goal.returns-clause-fault
-returns-clause-fault g c =
+pub returns-in-Err-clause-fault : goal.returns-in-Err-clause-fault
+returns-in-Err-clause-fault g c =
     let all = files_for (any_text c.args.journal) c.args.page.now in
     (all, [], sym (append-nil all), opened_then _ _ _ (any_name (any_text c.args.journal)) (c.args.page.now ∷ []) c.in_ok-journal.ensures.opened c.in_ok-file.ensures.opened)

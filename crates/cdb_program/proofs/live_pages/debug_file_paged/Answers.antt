@@ -3,10 +3,13 @@ use Rattle.std.specs.Prelude.{Result}
 use Rattle.std.proofs.lemmas.Result.{err_from_is_err_and}
 use Rattle.cdb_agreement.specs.Algorithms.{rules}
 use Rattle.cdb_base.specs.Requests.{any_text}
-use Rattle.cdb_page.specs.Live.{stream_of}
+use Rattle.cdb_page.specs.Live.{Live, stream_of}
 use Rattle.cdb_shared_session.specs.KeptAlone.{DebugsKept}
+use Rattle.cdb_shared_session.specs.declared.keeping.Kept.{Kept}
+use Rattle.cdb_streams.specs.declared.fault.PlayFault.{PlayFault}
 use Rattle.cdb_program.specs.Known.{any_name}
-use Rattle.cdb_program.specs.LivePages.{files_for}
+use Rattle.cdb_program.specs.Answers.{IsAnswer}
+use Rattle.cdb_program.specs.LivePages.{IsNewPage, files_for}
 use Rattle.cdb_program.proofs.Opening.{opened_then, fails_before}
 use Rattle.cdb_program.proofs.Seated.{fails_later}
 use Rattle.cdb_program.proofs.Shown.{debugged_page}
@@ -25,3 +28,29 @@ returns-in_err-live-clause-does g c =
     let names = c.args.setup.now ∷ any_name (any_text c.args.from) in
     rw (p.1, p.2, ← c.outside.view_is)
     (inl ((fails_later _ _ _ names (files_for (any_text c.args.journal) c.args.page.now) c.in_err-live.field-0.0 c.in_ok-json.ensures.0 c.in_err-live.ensures.fault, refl), refl))
+
+pub returns-clause-does : goal.returns-clause-does
+returns-clause-does g c =
+    let names = c.args.setup.now ∷ any_name (any_text c.args.from) in
+    let journal = any_text c.args.journal in
+    let json = c.in_ok-json.json.items in
+    let begun = c.in_ok-json.begun.items in
+    let first : Live = c.in_ok-live.live in
+    let ended : Result (Unit {0}) PlayFault × Kept Live = c.debug_kept-debugged.result in
+    let made : IsNewPage journal json begun first = rw (← c.as_slice-json.ensures.value, ← c.as_slice-begun.ensures.value) c.in_ok-live.ensures.page in
+    let session : DebugsKept stream_of rules IsAnswer c.args.prompt.now json begun _ _ first ended = rw (← c.as_bytes.ensures.value, ← c.as_slice-json.ensures.value, ← c.as_slice-begun.ensures.value) c.debug_kept-debugged.ensures in
+    rw (← c.outside.view_is)
+    (inr (
+      json,
+      begun,
+      opened_then _ _ _ names (files_for journal c.args.page.now) c.in_ok-json.ensures.0 c.in_ok-live.ensures.opened,
+      c.in_ok-json.ensures.1,
+      record {
+        first = first;
+        begun = made;
+        ended = ended;
+        session = session;
+        page = (debugged_page journal c.args.prompt.now json begun json begun _ _ first ended made session, c.outcome.ensures.keeps_up);
+        ends = rw (← c.outcome.ensures.is) c.of_paged.ensures;
+      },
+    ))

@@ -57,7 +57,7 @@ returns-in-Ok-clause-sessions g c =
       (opened_then _ _ _ before (names ++ file) c.in_ok-json.ensures.0 opened, c.in_ok-json.ensures.1),
       (
         option_map g.F.Made.Sink.stream c.in_ok-file.file,
-        option_map (seen_kept g.F.Made.Sink.stream) c.in-Ok.field-0.1,
+        option_map (seen_kept g.F.Made.Sink.stream) c.in-Ok.field-0-1,
         c.in_ok-file.ensures.file,
         rw (← c.as_slice.ensures.value, ← c.as_slice-2.ensures.value)
             (file_seen rules IsAnswer _ _ g.F.Made.Sink.stream _ _ _ _ names _ _ _ _ _ _
