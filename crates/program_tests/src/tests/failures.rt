@@ -137,7 +137,7 @@ fn each_write_of_output_fails_in_turn(rt: HostRuntime) -> Result<(), Fail> {
         (TRAIL, 86),
         (DRAW, 4_738),
         (SLICE, 25),
-        (PAGE, 14_280),
+        (PAGE, 14_617),
         (REPLAY, 35),
         (SEARCH, 15),
         (SHRINK, 97),
