@@ -96,7 +96,8 @@ EndsWithPage json journal versions =
     (before : List (List ℕ)) × (page : List ℕ) × (versions ≡ before ++ page ∷ []) × IsPageOfJournal json journal page
 
 -- Each text that the file has had is a whole page, of the run that the first lines of the journal leave; and where nothing failed the
--- last one is that of all that was taken. The file of the journal, where it has one, took the same.
+-- last one is that of all that was taken. Of the file of the journal, where it has one, it says little: a writer of which at first nothing
+-- is known may have taken any text.
 pub record KeepsUp (it : Live) : Type 0 where
   pub journal : IfSome it.journal (HasTaken it.taken)
   pub each : IfSome it.versions (All (IsPageSoFar it.json it.from it.taken))

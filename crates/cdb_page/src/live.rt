@@ -165,7 +165,7 @@ impl<'a, J: Sink + Drop, P: Rewritten + Drop> LivePage<'a, J, P> {
     /// How the last writing of the page ended: the page is that of all that was taken, or this is why it is not.
     ///
     /// Promise: Each text that the file of a live page has had is a whole page, of the run that the first lines of the journal leave, and
-    /// where nothing failed the last one is that of all that was taken. The file of the journal took the same.
+    /// where nothing failed the last one is that of all that was taken.
     pub fn outcome(&self) -> Result<(), ExplainFault>
         ensures is { result ≡ self.now.outcome }
         ensures keeps_up { KeepsUp self.now }
