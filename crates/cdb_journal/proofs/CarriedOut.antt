@@ -45,7 +45,7 @@ one_more rules first now new done e so none is =
     let journal : now.journal ++ e ∷ [] ≡ first.journal ++ (done ++ e ∷ []) = ap (λ (c : Journaled). c.journal ++ e ∷ []) so ∙ append_assoc first.journal done (e ∷ []) in
     is ∙ (λ i. record { setup = (so i).setup; seats = (so i).seats; journal = journal i; rooms = lower i })
 
--- ---- entries of so many seats
+-- ---- entries of seats up to the last
 
 beyond_none : (seats : ℕ) (e : Entry) (es : List Entry) → first_beyond seats (e ∷ es) ≡ None → (nat_lt seats e.seat ≡ false) × (first_beyond seats es ≡ None)
 beyond_none seats e es none = grind (arith, none)

@@ -13,14 +13,14 @@ use cdb_streams::ScriptFault;
 use cdb_text::LineFault;
 use std::alloc::Global;
 
-/// The index of the first entry of a seat beyond so many.
+/// The index of the first entry of a seat above `seats`.
 fn first_beyond(entries: &[Entry], seats: u8) -> Option<usize>
     ensures { result ≡ first_beyond seats entries.now }
 {
     entries.iter().position(|entry| entry.seat > seats)
 }
 
-/// The entries of a text, each of one of so many seats.
+/// The entries of a journal's text, each of a seat from 1 to `seats`.
 fn entries_for(alloc: Global, text: &[u8], seats: u8) -> Result<Vec<Entry>, ScriptFault>
     ensures entries { IfOk result (λ entries. IsJournalOf seats entries.items text.now) }
     ensures fault { IfErr result (IsFaultOfOpening seats text.now) }

@@ -41,7 +41,7 @@ files_for journal page = any_name journal ++ page ∷ []
 abbrev pub IsNewPage : Option (List ℕ) → List ℕ → List ℕ → Live → Type 0
 IsNewPage journal json from it = IsMadeWith journal json from it × (it.taken ≡ [])
 
--- the page later: it has kept up with the journal, and so has the file of the journal
+-- the page later: it has kept up with the journal
 abbrev pub IsKeptPage : Option (List ℕ) → List ℕ → List ℕ → Live → Type 0
 IsKeptPage journal json from it = IsMadeWith journal json from it × KeepsUp it
 

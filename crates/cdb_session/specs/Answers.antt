@@ -11,7 +11,7 @@ use Rattle.cdb_session.specs.Styles.{StyleView, Part}
 use Rattle.cdb_session.specs.declared.inquiry.Inquiry.{Inquiry}
 use Rattle.cdb_session.specs.declared.request.Request.TheVariants.{Ask}
 
--- the run that a journal leaves, of a control with this setup and so many seats
+-- the run that a journal leaves, of a control with this setup and this number of seats
 abbrev pub run_left : (Parts → Rules) → Parts → ℕ → List Entry → RunView
 run_left rules setup seats journal = record { setup = setup; history = (replay (rules setup) setup seats journal).history }
 
