@@ -33,7 +33,7 @@ use Rattle.cdb_rules.specs.Decisions.{decisions_of}
 use Rattle.cdb_rules.specs.Mail.{mail_of}
 use Rattle.cdb_rules.specs.State.{ProcessState, RunState, start, fresh_process}
 use Rattle.cdb_rules.specs.Step.{after, fold}
-use Rattle.cdb_rules.specs.Taking.{arriving, taken_local, input_of, registers_after}
+use Rattle.cdb_rules.specs.InputsTaken.{arriving, taken_local, input_of, registers_after}
 use Rattle.cdb_rules.proofs.Stages.{sight_in, meets, process_after, state_after}
 use Rattle.cdb_agreement.proofs.AlphaRuns.{Run, first_run, own_of, RunStep, RunLaws, first_run_laws, cells_rise, run_step_keeps, laws_agree}
 use Rattle.cdb_rules.proofs.Bounds.{length-set_nth}

@@ -62,20 +62,6 @@ module _ (n j : ℕ) (some_process : 1 ≤ n) (somebody : ℕ → ℕ → Type 0
   pub round_up : (k : Traced) (published : Option ℕ) → Step n own dec l k published → l.round ≤ k.round
   round_up k published step = along (λ x. l.round ≤ x.round) k step.is (rows_round_up step.row)
 
-  -- what a process writes to its register never falls
-
-  rows_lre_up : (row : FoundedRow n own dec l) → l.own.lre ≤ (after_row n own dec l row).own.lre
-  rows_lre_up row = grind (arith, common_steps, gets)
-
-  pub lre_up : (k : Traced) (published : Option ℕ) → Step n own dec l k published → l.own.lre ≤ k.own.lre
-  lre_up k published step = along (λ x. l.own.lre ≤ x.own.lre) k step.is (rows_lre_up step.row)
-
-  rows_lrww_up : (row : FoundedRow n own dec l) → l.own.lrww ≤ (after_row n own dec l row).own.lrww
-  rows_lrww_up row = grind (arith, common_steps, gets)
-
-  pub lrww_up : (k : Traced) (published : Option ℕ) → Step n own dec l k published → l.own.lrww ≤ k.own.lrww
-  lrww_up k published step = along (λ x. l.own.lrww ≤ x.own.lrww) k step.is (rows_lrww_up step.row)
-
   -- the trace only grows
 
   rows_written : (row : FoundedRow n own dec l) → Grows l.own_writes (after_row n own dec l row).own_writes
@@ -140,10 +126,6 @@ module _ (n j : ℕ) (some_process : 1 ≤ n) (somebody : ℕ → ℕ → Type 0
   published_from k published step v it = rows_published step.row v (sym step.same ∙ it)
 
   -- in a first pass after the step nothing is seen yet, or the pass stood before
-
-  rows_pass : (row : FoundedRow n own dec l) → 3 ≤ (after_row n own dec l row).place → (after_row n own dec l row).place ≤ 4
-      → ((after_row n own dec l row).seen ≡ []) ⊎ PassFrom own l (after_row n own dec l row)
-  rows_pass row h1 h2 = grind (arith, common_steps, gets)
 
   pub pass_from : (k : Traced) (published : Option ℕ) → Step n own dec l k published → 3 ≤ k.place → k.place ≤ 4 → (k.seen ≡ []) ⊎ PassFrom own l k
   pass_from k published h1 h2 h3 = grind (arith, common_steps, gets)

@@ -1,7 +1,7 @@
 -- The processes and the registers of a run in which nothing has happened.
 use Rattle.std.proofs.lemmas.Grind.{common_steps}
 use Rattle.std.proofs.lemmas.Option.{gets}
-use Rattle.std.proofs.Common.{◌≡◌, ℕ, zero, suc, ◌+◌, List, [], ◌∷◌, length, map, replicate, slice_get, slice_index, Some, refl, sym, ap, ◌∙◌, arith}
+use Rattle.std.proofs.Common.{◌≡◌, ℕ, zero, suc, ◌+◌, List, [], ◌∷◌, length, map, slice_get, slice_index, Some, refl, sym, ap, ◌∙◌, arith}
 use Rattle.std.proofs.lemmas.List.{length-map}
 use Rattle.std.proofs.lemmas.Option.{none-some, same_Some}
 use Rattle.cdb_base.specs.Positions.{nth}
@@ -43,9 +43,6 @@ module _ {L : Type 0} (first : ℕ → ℕ → ℕ → ℕ → L) (n q : ℕ) wh
   first_of_input p (value ∷ values) (suc k) local is = first_of_input (suc p) values k local is
 
 -- ---- registers
-
-nth_replicate : {A : Type 0} (n i : ℕ) (x y : A) → nth (replicate n x) i ≡ Some y → y ≡ x
-nth_replicate n i x y h1 = grind (arith, common_steps, gets)
 
 pub first_cells : (m p : ℕ) (r : RegisterState) → nth (fresh_registers m).of_processes p ≡ Some r → r ≡ fresh_register
 first_cells m p r h1 = grind (arith, common_steps, gets)

@@ -12,7 +12,7 @@ use Rattle.cdb_base.specs.declared.refusal.Refusal.{Refusal}
 use Rattle.cdb_causal.proofs.Reaches.{reached_front_some}
 use Rattle.cdb_leader.specs.Machine.{leader_table}
 use Rattle.cdb_leader.specs.TableLaws as leader_laws
-use Rattle.cdb_causal.specs.Standing.{IsStanding}
+use Rattle.cdb_causal.specs.StandingEvents.{IsStanding}
 use Rattle.cdb_process.specs.Table.{Table}
 use Rattle.cdb_rules.specs.Agreement.{AllAgree, AreProposed, HasMajorityIfNeeded}
 use Rattle.cdb_agreement.specs.Algorithms.{leader_machine, alpha_machine, rules, rules_by}
@@ -29,15 +29,15 @@ use Rattle.cdb_rules.specs.Undo.{IsEventNamed}
 use Rattle.cdb_rules.proofs.Acts.{step_by_act}
 use Rattle.cdb_rules.proofs.Again.{loss_again, step_again, again_exact, lose_enabled}
 use Rattle.cdb_agreement.proofs.Agreed.{agreed, proposed}
-use Rattle.cdb_rules.proofs.Finding.{among_is}
+use Rattle.cdb_rules.proofs.NamesFound.{among_is}
 use Rattle.cdb_rules.proofs.Granted.{IsLawful}
 use Rattle.cdb_rules.proofs.Histories.{fold_exchanged}
 use Rattle.cdb_agreement.proofs.Lawful.{of_some, answers_within}
-use Rattle.cdb_rules.proofs.Naming.{loss_free, valid_standing}
+use Rattle.cdb_rules.proofs.NamedEvents.{loss_free, valid_standing}
 use Rattle.cdb_rules.proofs.OfRun.{last_enabled, next_of_run}
 use Rattle.cdb_rules.proofs.Planned.{planned_enabled}
 use Rattle.cdb_rules.proofs.SameState.{same_state_exchanged}
-use Rattle.cdb_rules.proofs.Standing.{valid_named}
+use Rattle.cdb_rules.proofs.AllStanding.{valid_named}
 use Rattle.cdb_rules.proofs.FirstStates.{length-first_states}
 use Rattle.cdb_rules.proofs.Taken.{taken_from, some_of}
 use Rattle.cdb_rules.proofs.TakenBack.{valid_push}

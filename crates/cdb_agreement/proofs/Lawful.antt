@@ -36,7 +36,7 @@ use Rattle.cdb_rules.specs.Machines.{machine_of}
 use Rattle.cdb_rules.specs.Rules.{Shown, shown_of, rules_of}
 use Rattle.cdb_rules.specs.State.{Machine, ProcessState, RunState, start}
 use Rattle.cdb_rules.specs.Step.{is_among, after, fold, state_of}
-use Rattle.cdb_rules.specs.Taking.{registers_after}
+use Rattle.cdb_rules.specs.InputsTaken.{registers_after}
 use Rattle.cdb_rules.proofs.Bounds.{start_sound, length-set_nth}
 use Rattle.cdb_rules.proofs.Granted.{all_pass}
 use Rattle.cdb_rules.proofs.FirstStates.{length-first_states}

@@ -33,7 +33,7 @@ use Rattle.cdb_rules.specs.Decisions.{decisions_of}
 use Rattle.cdb_rules.specs.Mail.{mail_of}
 use Rattle.cdb_rules.specs.State.{ProcessState, RunState, start, fresh_process}
 use Rattle.cdb_rules.specs.Step.{after, fold}
-use Rattle.cdb_rules.specs.Taking.{arriving, taken_local, input_of}
+use Rattle.cdb_rules.specs.InputsTaken.{arriving, taken_local, input_of}
 use Rattle.cdb_rules.proofs.Stages.{sight_in, meets, sent_after, process_after, state_after}
 use Rattle.cdb_agreement.proofs.Firsts.{length-firsts, first_at}
 use Rattle.cdb_rules.proofs.FoldKeeps.{reached_keeps}

@@ -6,7 +6,7 @@ use Rattle.std.proofs.Common.{option_to_list, unwrap_or, cond, filter, slice_get
 use Rattle.std.proofs.lemmas.List.{length_push}
 use Rattle.std.proofs.lemmas.Bool.Decides.{nat_tests}
 use Rattle.std.proofs.lemmas.Option.{none-some, same_Some}
-use Rattle.cdb_agreement.specs.Numbering.{is_send_by, AreStepsNumbered, AreSendsNumbered}
+use Rattle.cdb_agreement.specs.StepNumbers.{is_send_by, AreStepsNumbered, AreSendsNumbered}
 use Rattle.cdb_base.specs.Event.{event_name, is_step_of}
 use Rattle.cdb_base.specs.Positions.{nth}
 use Rattle.cdb_base.specs.declared.event.Event.{Event}

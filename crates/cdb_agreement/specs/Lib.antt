@@ -3,6 +3,6 @@
 pub mod Algorithms
 pub mod SameState
 pub mod Laws
-pub mod Numbering
+pub mod StepNumbers
 pub mod Rounds
 pub mod WorkedRuns

@@ -72,7 +72,8 @@ pub record AlphaRounds (machine : Machine AlphaState) (n : ℕ) (t : RunState Al
       → let cell = register.cell in (cell ≡ process.progress.local.own) × (cell.lrww ≤ cell.lre)
       × (cell.lre ≤ process.progress.local.round)
   -- the register of the decision is of no round
-  pub no_round : (register : RegisterState) → t.registers.of_decision ≡ Some register → (register.cell.lre ≡ 0) × (register.cell.lrww ≡ 0)
+  pub no_round : (register : RegisterState) → t.registers.of_decision ≡ Some register
+      → (register.cell.lre ≡ 0) × (register.cell.lrww ≡ 0)
   -- and whatever event comes next, neither round in a register falls
   pub rising : (event : Event) (next : RunState AlphaState) → after machine t event ≡ Some next
       → (i : ℕ) (before later : RegisterState)

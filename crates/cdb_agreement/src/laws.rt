@@ -7,13 +7,13 @@ ghost use Rattle.cdb_agreement.specs.Laws.{ForFreeNamed, ForNeeded, ForNew, ForT
 ghost use Rattle.cdb_agreement.specs.Laws.{ForUndoneIn, ForRolledBack, ForRolledBackIn, LeadAlike, LeadsBack};
 ghost use Rattle.cdb_agreement.specs.Laws.{AllLeadBack, ReachOneState, taken_back, IsUndone, IsRolledBackTo};
 ghost use Rattle.cdb_agreement.specs.Laws.{NumbersRise, NamesDiffer, AreNamed, LossesFollowSends, LostStayUnreceived};
-ghost use Rattle.cdb_agreement.specs.Numbering.{AreStepsNumbered, AreSendsNumbered};
+ghost use Rattle.cdb_agreement.specs.StepNumbers.{AreStepsNumbered, AreSendsNumbered};
 ghost use Rattle.cdb_causal.specs.Causality.{IsFree};
 ghost use Rattle.cdb_causal.specs.Dependence.{depends};
 ghost use Rattle.cdb_causal.specs.Exchange.{IsExchange, IsExchanged, IsEachOnce};
 ghost use Rattle.cdb_causal.specs.Reach.{IsCommuting};
 ghost use Rattle.cdb_causal.specs.Rollback.{without, remaining};
-ghost use Rattle.cdb_causal.specs.Standing.{IsStanding};
+ghost use Rattle.cdb_causal.specs.StandingEvents.{IsStanding};
 ghost use Rattle.cdb_agreement.specs.Algorithms.{rules};
 ghost use Rattle.cdb_rules.specs.Lawful.{KeepHistories};
 ghost use Rattle.cdb_rules.specs.OwnSteps.{own_of, own_steps};
@@ -112,7 +112,7 @@ pub fn step_then_undo()
 
 /// In a valid history each event stands once, the steps of one process stand in the order of their
 /// numbers, and a name names one event: each event is the one of its name.
-#[tactic(auto, using(cdb_rules::proofs::Naming::valid_once, cdb_rules::proofs::Naming::numbers_rise))]
+#[tactic(auto, using(cdb_rules::proofs::NamedEvents::valid_once, cdb_rules::proofs::NamedEvents::numbers_rise))]
 pub fn names<L>()
     ensures once { InValid L (λ machine history. IsEachOnce history) }
     ensures rising { InValid L (λ machine history. NumbersRise history) }
@@ -129,7 +129,7 @@ pub fn numbers<L>()
 {}
 
 /// A valid history of nine processes at most is one that the look-ups over histories ask for.
-#[tactic(auto, using(cdb_rules::proofs::Naming::valid_standing))]
+#[tactic(auto, using(cdb_rules::proofs::NamedEvents::valid_standing))]
 pub fn valid_histories_stand<L>()
     ensures { InValid L (λ machine history.
         length machine.firsts ≤ MAX_PROCESSES → IsStanding history) }
@@ -137,7 +137,7 @@ pub fn valid_histories_stand<L>()
 
 /// In a valid history the loss of a copy comes after the send of its message, and no receive of
 /// that copy stands anywhere.
-#[tactic(auto, using(cdb_rules::proofs::Naming::lost_after_send, cdb_rules::proofs::Naming::lost_unreceived))]
+#[tactic(auto, using(cdb_rules::proofs::NamedEvents::lost_after_send, cdb_rules::proofs::NamedEvents::lost_unreceived))]
 pub fn losses<L>()
     ensures sent { InValid L (λ machine history. LossesFollowSends history) }
     ensures unreceived { InValid L (λ machine history. LostStayUnreceived history) }

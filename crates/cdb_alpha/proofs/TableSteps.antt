@@ -1,5 +1,6 @@
 -- Each input that the table takes is one of the steps on which agreement rests.
-use Rattle.std.specs.Prelude.{◌≡◌, ℕ, suc, ◌+◌, ◌<◌, ◌≤◌, Bool, true, false, ◌==◌, ◌||◌, nat_lt, nat_le, List, [], ◌∷◌, ◌++◌, length, Option, Some, None, All, ◌⊎◌, refl, if◌then◌else◌}
+use Rattle.std.specs.Prelude.{◌≡◌, ℕ, suc, ◌+◌, ◌<◌, ◌≤◌, Bool, true, false, ◌==◌, ◌||◌, nat_lt, nat_le, List}
+use Rattle.std.specs.Prelude.{[], ◌∷◌, ◌++◌, length, Option, Some, None, All, ◌⊎◌, refl, if◌then◌else◌}
 use Rattle.std.specs.List.{list_any}
 use Rattle.std.specs.Option.{unwrap_or, option_map}
 use Rattle.std.proofs.Common.{inl, inr, arith, sym, ◌∙◌, ap, subst, eqb-true, add-one}
@@ -23,7 +24,8 @@ use Rattle.cdb_alpha.proofs.Leads.{Leads, leads}
 use Rattle.cdb_alpha.proofs.Choice.{chooses_the_latest_write}
 use Rattle.cdb_process.proofs.Members.{IsIn, contained_in, in_contained}
 use Rattle.cdb_process.specs.Wishes.{wished_cell}
-use Rattle.cdb_alpha.specs.Steps.{Traced, ValueBasis, PassPlace, Step, traced_of, ReadsRegisters, TableStep, EachInputIsAStep, decide, look, lead, follow, enter, read, give_up, settle, write, read_again, fail, carry, publish}
+use Rattle.cdb_alpha.specs.Steps.{Traced, ValueBasis, PassPlace, Step, traced_of, ReadsRegisters, TableStep, EachInputIsAStep, decide}
+use Rattle.cdb_alpha.specs.Steps.{look, lead, follow, enter, read, give_up, settle, write, read_again, fail, carry, publish}
 
 -- ---- the value of a pass
 
@@ -101,18 +103,53 @@ module _ (own : ℕ → Cell) (dec : Option ℕ) (s : LocalState) (own_writes : 
   looks : (c : Cell) (t : LocalState) (o : Option ℕ) → s.place ≡ A0 → c.val ≡ dec → c.val ≡ o → see_decision s o ≡ t → Is (input.Read Dec c) t
   looks c t None here holds val h =
       subst (λ x. Is (input.Read Dec c) x) h
-      (record { own_writes_after = own_writes; carried_after = carried; published = dec; same_me = refl; same_processes = refl; step = record { row = look (ap place_number here); is = refl; same = refl }; leaves = (refl, refl) })
+      (record {
+        own_writes_after = own_writes;
+        carried_after = carried;
+        published = dec;
+        same_me = refl;
+        same_processes =
+            refl;
+        step = record { row = look (ap place_number here); is = refl; same = refl };
+        leaves = (refl, refl);
+      })
   looks c t (Some v) here holds val h =
       subst (λ x. Is (input.Read Dec c) x) h
-      (record { own_writes_after = own_writes; carried_after = carried; published = dec; same_me = refl; same_processes = refl; step = record { row = decide v (ap place_number here) (sym holds ∙ val); is = refl; same = refl }; leaves = (refl, refl) })
+      (record {
+        own_writes_after = own_writes;
+        carried_after = carried;
+        published = dec;
+        same_me = refl;
+        same_processes = refl;
+        step = record { row = decide v (ap place_number here) (sym holds ∙ val); is = refl; same = refl };
+        leaves = (refl, refl);
+      })
 
   asks_who : (l : ℕ) (t : LocalState) (b : Bool) → s.place ≡ A1 → record s { place = if b then A2 else A0 } ≡ t → Is (input.Query l) t
   asks_who l t true here h =
       subst (λ x. Is (input.Query l) x) h
-      (record { own_writes_after = own_writes; carried_after = carried; published = dec; same_me = refl; same_processes = refl; step = record { row = lead (ap place_number here); is = refl; same = refl }; leaves = (refl, refl) })
+      (record {
+        own_writes_after = own_writes;
+        carried_after = carried;
+        published = dec;
+        same_me = refl;
+        same_processes =
+            refl;
+        step = record { row = lead (ap place_number here); is = refl; same = refl };
+        leaves = (refl, refl);
+      })
   asks_who l t false here h =
       subst (λ x. Is (input.Query l) x) h
-      (record { own_writes_after = own_writes; carried_after = carried; published = dec; same_me = refl; same_processes = refl; step = record { row = follow (ap place_number here); is = refl; same = refl }; leaves = (refl, refl) })
+      (record {
+        own_writes_after = own_writes;
+        carried_after = carried;
+        published = dec;
+        same_me = refl;
+        same_processes =
+            refl;
+        step = record { row = follow (ap place_number here); is = refl; same = refl };
+        leaves = (refl, refl);
+      })
 
   -- the register that is read is the next of the pass
   next_is : (x : Reg) → next_register s ≡ Some x → (x ≡ R (length s.seen + 1)) × (length s.seen < s.processes)
@@ -138,18 +175,22 @@ module _ (own : ℕ → Cell) (dec : Option ℕ) (s : LocalState) (own_writes : 
       is_cell : c ≡ own (suc (length s.seen))
       is_cell = subst (λ y. ReadsRegisters own dec (input.Read y c)) at.0 holds ∙ ap own (add-one (length s.seen))
 
-      stands_at : (p : Place) → PassPlace s.processes (length s.seen) (place_number reading) (place_number p) → Is (input.Read x c) (record s { seen = s.seen ++ c ∷ []; place = p })
+      stands_at : (p : Place) → PassPlace s.processes (length s.seen) (place_number reading) (place_number p)
+          → Is (input.Read x c) (record s { seen = s.seen ++ c ∷ []; place = p })
       stands_at p pass = record {
         own_writes_after = own_writes;
         carried_after = carried;
         published = dec;
         same_me = refl;
         same_processes = refl;
-        step = steps (place_number p) pass _ (ap (λ (d : Cell). record (traced_of s own_writes carried) { place = place_number p; seen = s.seen ++ d ∷ [] }) is_cell);
+        step =
+            steps (place_number p) pass _
+            (ap (λ (d : Cell). record (traced_of s own_writes carried) { place = place_number p; seen = s.seen ++ d ∷ [] }) is_cell);
         leaves = (refl, refl);
       }
 
-      go : (b : Bool) → (length s.seen + 1 == s.processes) ≡ b → record s { seen = s.seen ++ c ∷ []; place = if b then over else reading } ≡ t → Is (input.Read x c) t
+      go : (b : Bool) → (length s.seen + 1 == s.processes) ≡ b
+          → record s { seen = s.seen ++ c ∷ []; place = if b then over else reading } ≡ t → Is (input.Read x c) t
       go true e k =
           let last = eqb-true (length s.seen + 1) s.processes e in
           subst (λ u. Is (input.Read x c) u) k (stands_at over (inr (is_next, omega arith)))
@@ -158,22 +199,42 @@ module _ (own : ℕ → Cell) (dec : Option ℕ) (s : LocalState) (own_writes : 
           let within = at.1 in
           subst (λ u. Is (input.Read x c) u) k (stands_at reading (inl (refl, omega arith)))
 
-  row_taken : (p : Place) (i : Input) (t : LocalState) → s.place ≡ p → (place_number s.place ≡ 4 → 1 ≤ length s.seen) → ReadsRegisters own dec i → Leads (row_at p s) i t → Is i t
+  row_taken : (p : Place) (i : Input) (t : LocalState) → s.place ≡ p
+      → (place_number s.place ≡ 4 → 1 ≤ length s.seen) → ReadsRegisters own dec i → Leads (row_at p s) i t → Is i t
   row_taken A0 i t here passed holds h =
       let is : i ≡ input.Read Dec h.1 = h.3 ∙ ap (λ y. input.Read y h.1) (sym (same_Some Dec h.0 h.2)) in
       by_row_of i (input.Read Dec h.1) t t is refl (looks h.1 t h.1.val here (ap (λ (d : Cell). d.val) (subst (ReadsRegisters own dec) is holds)) refl h.4)
   row_taken A1 i t here passed holds h = by_row_of i (input.Query h.0) t t h.1 refl (asks_who h.0 t (h.0 == s.me) here h.2)
   row_taken A2 i t here passed holds h =
       by_row_of i (input.Write (R s.me)) t (begin_pass A3 s (entered s)) h.0 (same_Some _ t h.1)
-      (record { own_writes_after = own_writes; carried_after = carried; published = dec; same_me = refl; same_processes = refl; step = record { row = enter (ap place_number here); is = refl; same = refl }; leaves = (refl, ap (λ p. wished_cell (wish_by (row_at p s))) here, refl) })
+      (record {
+        own_writes_after = own_writes;
+        carried_after = carried;
+        published = dec;
+        same_me = refl;
+        same_processes = refl;
+        step =
+            record { row = enter (ap place_number here); is = refl; same = refl };
+        leaves = (refl, ap (λ p. wished_cell (wish_by (row_at p s))) here, refl);
+      })
   row_taken A3 i t here passed holds h =
       by_row_of i (input.Read h.0 h.1) t t h.3 refl
-      (sees A3 A4 h.0 h.1 t h.2 (subst (ReadsRegisters own dec) h.3 holds) refl (λ p pass u is. record { row = read p (ap place_number here) pass; is = is; same = refl }) h.4)
+      (sees A3 A4 h.0 h.1 t h.2 (subst (ReadsRegisters own dec) h.3 holds) refl
+      (λ p pass u is. record { row = read p (ap place_number here) pass; is = is; same = refl }) h.4)
   row_taken A4 i t here passed holds h = by_row_of i input.Local t t h.0 refl (go (is_overtaken s.round s.seen) h.1)
     where
       go : (b : Bool) → (if b then next_round s else Some (record s { value = chosen_value s.input s.seen; place = A5 })) ≡ Some t → Is input.Local t
       go true k = next input.Local t k
-          (record { own_writes_after = own_writes; carried_after = carried; published = dec; same_me = refl; same_processes = refl; step = record { row = give_up (ap place_number here); is = refl; same = refl }; leaves = (refl, refl) })
+          (record {
+            own_writes_after = own_writes;
+            carried_after = carried;
+            published = dec;
+            same_me = refl;
+            same_processes =
+                refl;
+            step = record { row = give_up (ap place_number here); is = refl; same = refl };
+            leaves = (refl, refl);
+          })
       go false k = subst (λ x. Is input.Local x) (same_Some _ t k)
           (record {
             own_writes_after = own_writes;
@@ -181,20 +242,43 @@ module _ (own : ℕ → Cell) (dec : Option ℕ) (s : LocalState) (own_writes : 
             published = dec;
             same_me = refl;
             same_processes = refl;
-            step = record { row = settle (chosen_value s.input s.seen) (ap place_number here) (value_rests s.input s.seen (passed (ap place_number here))); is = refl; same = refl };
+            step =
+                record {
+                  row = settle (chosen_value s.input s.seen) (ap place_number here) (value_rests s.input s.seen (passed (ap place_number here)));
+                  is = refl;
+                  same = refl;
+                };
             leaves = (refl, refl);
           })
   row_taken A5 i t here passed holds h =
       by_row_of i (input.Write (R s.me)) t (begin_pass A6 s (with_value s)) h.0 (same_Some _ t h.1)
-      (record { own_writes_after = own_writes ++ (s.round, s.value) ∷ []; carried_after = carried; published = dec; same_me = refl; same_processes = refl; step = record { row = write (ap place_number here); is = refl; same = refl }; leaves = (refl, ap (λ p. wished_cell (wish_by (row_at p s))) here, refl) })
+      (record {
+        own_writes_after = own_writes ++ (s.round, s.value) ∷ [];
+        carried_after = carried;
+        published = dec;
+        same_me = refl;
+        same_processes = refl;
+        step = record { row = write (ap place_number here); is = refl; same = refl };
+        leaves = (refl, ap (λ p. wished_cell (wish_by (row_at p s))) here, refl);
+      })
   row_taken A6 i t here passed holds h =
       by_row_of i (input.Read h.0 h.1) t t h.3 refl
-      (sees A6 A7 h.0 h.1 t h.2 (subst (ReadsRegisters own dec) h.3 holds) refl (λ p pass u is. record { row = read_again p (ap place_number here) pass; is = is; same = refl }) h.4)
+      (sees A6 A7 h.0 h.1 t h.2 (subst (ReadsRegisters own dec) h.3 holds) refl
+      (λ p pass u is. record { row = read_again p (ap place_number here) pass; is = is; same = refl }) h.4)
   row_taken A7 i t here passed holds h = by_row_of i input.Local t t h.0 refl (go (is_overtaken s.round s.seen) refl h.1)
     where
       go : (b : Bool) → is_overtaken s.round s.seen ≡ b → (if b then next_round s else Some (record s { place = A8 })) ≡ Some t → Is input.Local t
       go true over k = next input.Local t k
-          (record { own_writes_after = own_writes; carried_after = carried; published = dec; same_me = refl; same_processes = refl; step = record { row = fail (ap place_number here); is = refl; same = refl }; leaves = (refl, refl) })
+          (record {
+            own_writes_after = own_writes;
+            carried_after = carried;
+            published = dec;
+            same_me = refl;
+            same_processes =
+                refl;
+            step = record { row = fail (ap place_number here); is = refl; same = refl };
+            leaves = (refl, refl);
+          })
       go false over k = subst (λ x. Is input.Local x) (same_Some _ t k)
           (record {
             own_writes_after = own_writes;
@@ -202,7 +286,13 @@ module _ (own : ℕ → Cell) (dec : Option ℕ) (s : LocalState) (own_writes : 
             published = dec;
             same_me = refl;
             same_processes = refl;
-            step = record { row = carry (ap place_number here) (λ c in_it. ltb-false s.round c.lre (none_passes (λ (x : Cell). nat_lt s.round x.lre) s.seen over c (contained_in s.seen c in_it))); is = refl; same = refl };
+            step =
+                record {
+                  row = carry (ap place_number here) (λ c in_it. ltb-false s.round c.lre
+                      (none_passes (λ (x : Cell). nat_lt s.round x.lre) s.seen over c (contained_in s.seen c in_it)));
+                  is = refl;
+                  same = refl;
+                };
             leaves = (refl, refl);
           })
   row_taken A8 i t here passed holds h = by_row_of i (input.Write Dec) t t h.0 refl (next (input.Write Dec) t h.1
@@ -217,7 +307,9 @@ module _ (own : ℕ → Cell) (dec : Option ℕ) (s : LocalState) (own_writes : 
       }))
     where
       wishes : wished_cell (wish_of s) ≡ Some (decision_cell s)
-      wishes = ap (λ p. wished_cell (wish_by (row_at p s))) here ∙ ap (λ (o : Option LocalState). wished_cell (option_map (λ (u : LocalState). wished.Write Dec (decision_cell s)) o)) h.1
+      wishes =
+          ap (λ p. wished_cell (wish_by (row_at p s))) here
+          ∙ ap (λ (o : Option LocalState). wished_cell (option_map (λ (u : LocalState). wished.Write Dec (decision_cell s)) o)) h.1
   row_taken A9 i t here passed holds h = absurd h
 
 pub each_input_is_a_step : EachInputIsAStep

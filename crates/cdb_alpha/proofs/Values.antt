@@ -15,7 +15,8 @@ use Rattle.cdb_alpha.specs.Choice.{IsLatest}
 use Rattle.cdb_alpha.specs.LocalState.{LocalState, first_state}
 use Rattle.cdb_alpha.specs.Machine.{alpha_table}
 use Rattle.cdb_alpha.specs.Seen.{chosen_value, is_overtaken}
-use Rattle.cdb_alpha.specs.Table.{Row, asks, reads, writes, goes_on, rests, row_at, wish_by, next_state, next_round, judge, see_decision, entered, with_value, decision_cell, begin_pass, next_register, see}
+use Rattle.cdb_alpha.specs.Table.{Row, asks, reads, writes, goes_on, rests, row_at, wish_by, next_state, next_round, judge}
+use Rattle.cdb_alpha.specs.Table.{see_decision, entered, with_value, decision_cell, begin_pass, next_register, see}
 use Rattle.cdb_alpha.specs.Values.{HoldsValue, as_input, as_value, as_decision, in_own, in_cell}
 use Rattle.cdb_alpha.proofs.Choice.{chooses_the_latest_write}
 use Rattle.cdb_alpha.proofs.Leads.{Leads, leads}
@@ -32,7 +33,8 @@ middle_in (z ∷ zs) ys x = inr (middle_in zs ys x)
 chosen_held : (s : LocalState) → HoldsValue s (chosen_value s.input s.seen)
 chosen_held s = go (chooses_the_latest_write s.input s.seen)
   where
-    by_cell : (c : Cell) → IsIn c s.seen → (o : Option ℕ) → c.val ≡ o → chosen_value s.input s.seen ≡ unwrap_or o s.input → HoldsValue s (chosen_value s.input s.seen)
+    by_cell : (c : Cell) → IsIn c s.seen → (o : Option ℕ) → c.val ≡ o
+        → chosen_value s.input s.seen ≡ unwrap_or o s.input → HoldsValue s (chosen_value s.input s.seen)
     by_cell c here None val is = as_input (sym is)
     by_cell c here (Some v) val is = in_cell c (in_contained s.seen c here) (val ∙ ap (λ x. Some x) (sym is))
 
@@ -123,7 +125,8 @@ module _ (s : LocalState) where
   row_taken A3 i t h =
       subst (λ x. Brings (brought_value x) t) (sym h.3) (subst (Brings h.1.val) h.4 (sees (if length s.seen + 1 == s.processes then A4 else A3) h.1))
   row_taken A4 i t h =
-      quietly (brought_value i) t (judged (record s { value = chosen_value s.input s.seen; place = A5 }) t (chosen A5 (chosen_value s.input s.seen) (chosen_held s)) h.1)
+      quietly (brought_value i) t
+      (judged (record s { value = chosen_value s.input s.seen; place = A5 }) t (chosen A5 (chosen_value s.input s.seen) (chosen_held s)) h.1)
   row_taken A5 i t h = quietly (brought_value i) t (subst Quiet (some_is (begin_pass A6 s (with_value s)) t h.1) (begun A6 (with_value s) value_held))
   row_taken A6 i t h =
       subst (λ x. Brings (brought_value x) t) (sym h.3) (subst (Brings h.1.val) h.4 (sees (if length s.seen + 1 == s.processes then A7 else A6) h.1))

@@ -3,7 +3,8 @@ use Rattle.std.specs.Prelude.{◌≡◌, ℕ, Contains, Some}
 use Rattle.cdb_base.specs.declared.register.Cell.{Cell}
 use Rattle.cdb_alpha.specs.LocalState.{LocalState}
 
--- as its input, as the value that it has settled, as its decision, in the cell that it wrote last, or in a cell that it has seen
+-- as its input, as the value that it has settled, as its decision, in the cell that it wrote last, or in a cell that it
+-- has seen
 pub data HoldsValue (s : LocalState) (v : ℕ) : Type 0 where
   as_input : s.input ≡ v → HoldsValue s v
   as_value : s.value ≡ v → HoldsValue s v

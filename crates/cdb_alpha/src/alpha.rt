@@ -1,6 +1,7 @@
 //! The machine of one process of Alpha over atomic registers.
 
-ghost use Rattle.std.specs.Prelude.{◌≡◌, ◌+◌, ◌<◌, ◌≤◌, ◌↔◌, Option, Some, None, IsTrue, IsSome, IfOk, OnErr, is_some, length, false};
+ghost use Rattle.std.specs.Prelude.{◌≡◌, ◌+◌, ◌<◌, ◌≤◌, ◌↔◌, Option, Some, None, IsTrue};
+ghost use Rattle.std.specs.Prelude.{IsSome, IfOk, OnErr, is_some, length, false};
 ghost use Rattle.cdb_process.specs.declared.Input.{Input};
 
 use crate::back::{Back, Before, PassBefore};
@@ -53,7 +54,8 @@ impl Model for Alpha {
 
 impl Alpha {
     ghost use Rattle.cdb_alpha.specs.Place.{is_last};
-    ghost use Rattle.cdb_alpha.specs.Table.{see_decision, entered, with_value, decision_cell, begin_pass, next_register, see, next_round, judge, next_state};
+    ghost use Rattle.cdb_alpha.specs.Table.{see_decision, entered, with_value, decision_cell, begin_pass};
+    ghost use Rattle.cdb_alpha.specs.Table.{next_register, see, next_round, judge, next_state};
     ghost use Rattle.cdb_alpha.specs.Seen.{is_overtaken};
     ghost use Rattle.cdb_alpha.specs.Back.{state_before};
 

@@ -1,5 +1,6 @@
 -- The cells that are shown, register after register.
-use Rattle.std.proofs.Common.{◌≡◌, ℕ, zero, suc, ◌+◌, ◌<◌, ◌≤◌, List, [], ◌∷◌, ◌++◌, length, Option, None, Some, map, take, slice_get, get_or, option_map, option_to_list, refl, ap, sym, ◌∙◌, subst, arith}
+use Rattle.std.proofs.Common.{◌≡◌, ℕ, zero, suc, ◌+◌, ◌<◌, ◌≤◌, List, [], ◌∷◌, ◌++◌, length, Option, None, Some, map}
+use Rattle.std.proofs.Common.{take, slice_get, get_or, option_map, option_to_list, refl, ap, sym, ◌∙◌, subst, arith}
 use Rattle.std.specs.List.{range_with_len}
 use Rattle.std.proofs.lemmas.List.FromFn.{get_or-range_with_len}
 use Rattle.cdb_base.specs.Positions.{nth}
@@ -40,7 +41,8 @@ abbrev pub cells_before : RegisterStates → ℕ → List Cell
 cells_before registers i = map cell_in (take i registers.of_processes)
 
 -- where a process's register is looked at
-pub one-more : (registers : RegisterStates) (i p : ℕ) (found : Option Cell) (cells : List Cell) → p ≡ suc i → found ≡ option_map cell_in (nth registers.of_processes p)
+pub one-more : (registers : RegisterStates) (i p : ℕ) (found : Option Cell) (cells : List Cell)
+    → p ≡ suc i → found ≡ option_map cell_in (nth registers.of_processes p)
     → cells ≡ cells_before registers i → cells ++ option_to_list found ≡ cells_before registers (i + 1)
 one-more registers i p found cells at is so_far =
     let next : suc i ≡ i + 1 = omega arith in
@@ -50,7 +52,8 @@ one-more registers i p found cells at is so_far =
     ∙ sym (take-one cell_in registers.of_processes i))
 
 -- where that of the decision is
-pub all-cells : (registers : RegisterStates) (i : ℕ) (found : Option Cell) (cells : List Cell) → length registers.of_processes ≤ i → found ≡ option_map cell_in registers.of_decision
+pub all-cells : (registers : RegisterStates) (i : ℕ) (found : Option Cell) (cells : List Cell)
+    → length registers.of_processes ≤ i → found ≡ option_map cell_in registers.of_decision
     → cells ≡ cells_before registers i → cells ++ option_to_list found ≡ cells_of registers
 all-cells registers i found cells few is so_far =
     ap (λ before. before ++ option_to_list found) (so_far ∙ ap (map cell_in) (take-whole registers.of_processes i few))

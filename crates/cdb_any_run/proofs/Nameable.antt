@@ -8,7 +8,7 @@ use Rattle.cdb_causal.specs.Names.{IsNewName}
 use Rattle.cdb_rules.specs.EventRefs.{name_given, CanName}
 use Rattle.cdb_rules.specs.declared.event_ref.EventRef.{EventRef}
 use Rattle.cdb_rules.specs.declared.event_ref.EventRef.TheVariants.{Step, Lost}
-use Rattle.cdb_rules.proofs.Finding.{number_of, too_great, none_named, no_process_named}
+use Rattle.cdb_rules.proofs.NamesFound.{number_of, too_great, none_named, no_process_named}
 use Rattle.cdb_rules.proofs.Taken.{both}
 use Rattle.cdb_agreement.specs.Algorithms.{leader_machine, alpha_machine, rules_by, rules}
 use Rattle.cdb_rules.specs.Step.{is_among}
@@ -36,7 +36,8 @@ among_nine n p few among = (low n p among, high n p few among)
 short : (k : ℕ) → k ≤ 9999 → k < 2 ^ 16
 short k few = omega (arith, few)
 
-refused : (n : ℕ) (history : List Event) (name : StepId) (causes : List StepId) (why : Refusal) → causes_of n history name ≡ Ok causes → event_named n history name ≡ Err why → ⊥
+refused : (n : ℕ) (history : List Event) (name : StepId) (causes : List StepId) (why : Refusal)
+    → causes_of n history name ≡ Ok causes → event_named n history name ≡ Err why → ⊥
 refused n history name causes why returned none =
     let f : causes_of n history name ≡ Ok causes → ⊥ = rw none (λ h. absurd (cc)) in f returned
 
@@ -59,11 +60,16 @@ module _ (setup : Parts) (range : AreInRange setup) (history : List Event) (vali
 
       go : (b : Bool) → nat_le (number_of name) 9999 ≡ b → number_of name ≤ 9999
       go true e = small (number_of name) e
-      go false e = absurd (refused setup.processes history name causes _ returned (none_named history name setup.processes (there name returned) (number_new setup history valid name (great (number_of name) e))))
+      go false e =
+          absurd (refused setup.processes history name causes _ returned
+          (none_named history name setup.processes (there name returned) (number_new setup history valid name (great (number_of name) e))))
 
   pub can_name : (name : EventRef) → causes_of setup.processes history (name_given name) ≡ Ok causes → CanName name
   can_name (Step p k) returned =
       (among_nine setup.processes p range.processes.1 (there (name_given (Step p k)) returned), short k (few (name_given (Step p k)) returned))
   can_name (Lost s m p) returned =
-      let among = both (is_among setup.processes s) (is_among setup.processes p) (there (name_given (Lost s m p)) returned) in
-      (among_nine setup.processes s range.processes.1 among.0, short m (few (name_given (Lost s m p)) returned), among_nine setup.processes p range.processes.1 among.1)
+      let among = both (is_among setup.processes s) (is_among setup.processes p) (there (name_given (Lost s m p)) returned) in (
+        among_nine setup.processes s range.processes.1 among.0,
+        short m (few (name_given (Lost s m p)) returned),
+        among_nine setup.processes p range.processes.1 among.1,
+      )

@@ -1,5 +1,6 @@
 -- The copies that a process can still receive, one pending copy after another.
-use Rattle.std.proofs.Common.{◌≡◌, ℕ, zero, suc, ◌+◌, ◌<◌, Bool, true, false, cond, List, [], ◌∷◌, ◌++◌, length, Option, None, Some, map, filter, find, refl, ap, sym, ◌∙◌, subst, arith, append_assoc, append-nil}
+use Rattle.std.proofs.Common.{◌≡◌, ℕ, zero, suc, ◌+◌, ◌<◌, Bool, true, false, cond, List, [], ◌∷◌, ◌++◌, length, Option}
+use Rattle.std.proofs.Common.{None, Some, map, filter, find, refl, ap, sym, ◌∙◌, subst, arith, append_assoc, append-nil}
 use Rattle.std.specs.List.{AllByRecursion, range_with_len, flat_map}
 use Rattle.std.proofs.lemmas.Bool.Decides.{nat_tests}
 use Rattle.std.proofs.lemmas.Option.{none-some, same_Some}
@@ -81,7 +82,8 @@ module _ (mail : MailState) where
   senders-from s low zero h = tt
   senders-from s low (suc n) h =
       all-append (λ (name : MsgName). s < name.s) (messages_of mail low) (flat_map (messages_of mail) (range_with_len (low + 1) n))
-      (all-mapped (λ (name : MsgName). name.s ≡ low) (λ name. s < name.s) (messages_of mail low) (λ name is. omega (arith, is)) (numbers-sender low 1 (length (sent_by mail low))))
+      (all-mapped (λ (name : MsgName). name.s ≡ low) (λ name. s < name.s) (messages_of mail low)
+      (λ name is. omega (arith, is)) (numbers-sender low 1 (length (sent_by mail low))))
       (senders-from s (low + 1) n (omega arith))
 
   senders-rise : (low n : ℕ) → Rise (flat_map (messages_of mail) (range_with_len low n))
@@ -90,7 +92,8 @@ module _ (mail : MailState) where
       let more = flat_map (messages_of mail) (range_with_len (low + 1) n) in
       rise-joined (messages_of mail low) more (numbers-rise low 1 (length (sent_by mail low))) (senders-rise (low + 1) n)
       (all-mapped (λ (name : MsgName). name.s ≡ low) (λ name. AreAbove name more) (messages_of mail low)
-      (λ name is. all-mapped (λ (other : MsgName). low < other.s) (λ other. is_name_below name other ≡ true) more (λ other later. later_sender name other (omega (arith, is, later))) (senders-from low (low + 1) n (omega arith)))
+      (λ name is. all-mapped (λ (other : MsgName). low < other.s) (λ other. is_name_below name other ≡ true) more
+      (λ other later. later_sender name other (omega (arith, is, later))) (senders-from low (low + 1) n (omega arith)))
       (numbers-sender low 1 (length (sent_by mail low))))
 
   all_nine : all_processes ≡ range_with_len 1 9
@@ -98,7 +101,8 @@ module _ (mail : MailState) where
   all_nine = refl
 
   pub copies-rise : (p : ℕ) → Rise (copies_for mail p)
-  copies-rise p = rise-filtered (is_open mail p) (sent_names mail) (subst (λ senders. Rise (flat_map (messages_of mail) senders)) (sym all_nine) (senders-rise 1 9))
+  copies-rise p =
+      rise-filtered (is_open mail p) (sent_names mail) (subst (λ senders. Rise (flat_map (messages_of mail) senders)) (sym all_nine) (senders-rise 1 9))
 
 -- ---- a look from one pending name to the next
 
@@ -136,7 +140,9 @@ found-next after (first ∷ names) name rise found =
         → cond b (first ∷ filter (is_above after) names) (filter (is_above after) names) ≡ name ∷ filter (is_above (Some name)) (first ∷ names)
     go true here rest h =
         let is = same_Some first name h in
-        let left = all-true (is_above after) names (all-mapped (λ other. is_name_below first other ≡ true) (λ other. is_above after other ≡ true) names (λ other later. above-trans after first other here later) rise.0) in
+        let left =
+        all-true (is_above after) names (all-mapped (λ other. is_name_below first other ≡ true)
+        (λ other. is_above after other ≡ true) names (λ other later. above-trans after first other here later) rise.0) in
         let behind = all-true (is_above (Some first)) names rise.0 in
         subst (λ other. first ∷ filter (is_above after) names ≡ other ∷ filter (is_above (Some other)) (first ∷ names)) is
         (ap (λ rest. first ∷ rest) (left ∙ sym (rw (not_below_itself first) behind)))
@@ -164,7 +170,8 @@ module _ {A : Type 0} (shown : MsgName → List A) (names : List MsgName) (befor
   -- a look that finds none
   pub all-looked : (after : Option MsgName) (items : List A) → find (is_above after) names ≡ None
       → items ++ flat_map shown (filter (is_above after) names) ≡ before ++ flat_map shown names → items ≡ before ++ flat_map shown names
-  all-looked after items none so_far = sym (append-nil items) ∙ ap (λ left. items ++ flat_map shown left) (sym (found-none (is_above after) names none)) ∙ so_far
+  all-looked after items none so_far =
+      sym (append-nil items) ∙ ap (λ left. items ++ flat_map shown left) (sym (found-none (is_above after) names none)) ∙ so_far
 
 -- fewer names are left after each
 pub fewer-left : (after : Option MsgName) (names : List MsgName) (name : MsgName) → Rise names → find (is_above after) names ≡ Some name
@@ -172,9 +179,11 @@ pub fewer-left : (after : Option MsgName) (names : List MsgName) (name : MsgName
 fewer-left after names name rise found = let fewer = ap length (found-next after names name rise found) in omega (arith, fewer)
 
 -- process after process
-pub flat_map-more : {A : Type 0} (shown : ℕ → List A) (a n : ℕ) → flat_map shown (range_with_len a (n + 1)) ≡ flat_map shown (range_with_len a n) ++ shown (a + n)
+pub flat_map-more : {A : Type 0} (shown : ℕ → List A) (a n : ℕ)
+    → flat_map shown (range_with_len a (n + 1)) ≡ flat_map shown (range_with_len a n) ++ shown (a + n)
 flat_map-more shown a zero = let same : a + 0 ≡ a = omega arith in rw same (append-nil (shown a))
 flat_map-more shown a (suc n) =
     let same : a + suc n ≡ a + 1 + n = omega arith in
     let more : suc n + 1 ≡ suc (n + 1) = omega arith in
-    rw (more, same) (ap (λ rest. shown a ++ rest) (flat_map-more shown (a + 1) n) ∙ sym (append_assoc (shown a) (flat_map shown (range_with_len (a + 1) n)) (shown (a + 1 + n))))
+    rw (more, same) (ap (λ rest. shown a ++ rest) (flat_map-more shown (a + 1) n)
+    ∙ sym (append_assoc (shown a) (flat_map shown (range_with_len (a + 1) n)) (shown (a + 1 + n))))

@@ -13,6 +13,7 @@ of_view {view = view} setup p part of same None is = absurd (none-some view is)
 of_view {view = view} setup p part of same (Some it) is = ap Some (sym (same it) ∙ ap of (same_Some _ view is))
 
 -- a process that is not there is not shown
-pub none_shown : {L A : Type 0} (show : L → Shown) (found : Option A) (process : Option L) → IfNone found (process ≡ None) → IfNone found (option_map show process ≡ None)
+pub none_shown : {L A : Type 0} (show : L → Shown) (found : Option A) (process : Option L)
+    → IfNone found (process ≡ None) → IfNone found (option_map show process ≡ None)
 none_shown show None process none = ap (option_map show) none
 none_shown show (Some a) process none = tt

@@ -1,20 +1,25 @@
 //! A run of the algorithm that its setup names, and what is asked of it by numbers and names.
 
-ghost use Rattle.std.specs.Prelude.{◌≡◌, ◌≤◌, ◌↔◌, None, Some, IsTrue, IfNone, IsOk, IfOk, OnOk, OnErr, true, option_map, vec_capacity};
+ghost use Rattle.std.specs.Prelude.{◌≡◌, ◌≤◌, ◌↔◌, None, Some, IsTrue, IfNone, IsOk, IfOk};
+ghost use Rattle.std.specs.Prelude.{OnOk, OnErr, true, option_map, vec_capacity};
 ghost use Rattle.std.specs.Vec.{vec_items};
-ghost use Rattle.cdb_base.specs.Results.{Tells};
+ghost use Rattle.cdb_base.specs.Results.{MapsTo};
 ghost use Rattle.cdb_agreement.specs.Algorithms.{rules};
-ghost use Rattle.cdb_agreement.specs.Numbering.{AreStepsNumbered, AreSendsNumbered};
+ghost use Rattle.cdb_agreement.specs.StepNumbers.{AreStepsNumbered, AreSendsNumbered};
 ghost use Rattle.cdb_agreement.specs.SameState.{AreInSameState, LeadsBack, LeadsTo, RollbackLeadsBack};
 ghost use Rattle.cdb_causal.specs.Dependence.{depends};
 ghost use Rattle.cdb_causal.specs.Exchange.{IsExchanged};
 ghost use Rattle.cdb_message.specs.Mail.{next_pending, is_lost};
 ghost use Rattle.cdb_rules.specs.Agreement.{AllAgree, AreProposed, HasMajorityIfNeeded};
 ghost use Rattle.cdb_rules.specs.Auto.{first_step_by};
-ghost use Rattle.cdb_rules.specs.ByRules.{IsNext, IsInOrder, process_in, alive_in, steps_in, queries_in, place_in, round_in, decision_in, mail_in, writes_in, decisions_in, result_of_step, result_of_again, result_of_loss};
+ghost use Rattle.cdb_rules.specs.ByRules.{IsNext, IsInOrder, process_in, alive_in, steps_in, queries_in};
+ghost use Rattle.cdb_rules.specs.ByRules.{place_in, round_in, decision_in, mail_in, writes_in, decisions_in};
+ghost use Rattle.cdb_rules.specs.ByRules.{result_of_step, result_of_again, result_of_loss};
 ghost use Rattle.cdb_rules.specs.EventRefs.{name_given};
 ghost use Rattle.cdb_rules.specs.Refusals.{IsOfRun};
-ghost use Rattle.cdb_rules.specs.Runs.{step_name, loss_name, IsNumberAmong, RollsBackOnto, result_of_undo, result_of_rollback, causes_in, with_result, after_undo, after_rollback, CanUndo, IsJustTaken, IsExactRollback, AreCausesOf};
+ghost use Rattle.cdb_rules.specs.Runs.{step_name, loss_name, IsNumberAmong, RollsBackOnto, result_of_undo};
+ghost use Rattle.cdb_rules.specs.Runs.{result_of_rollback, causes_in, with_result, after_undo, after_rollback};
+ghost use Rattle.cdb_rules.specs.Runs.{CanUndo, IsJustTaken, IsExactRollback, AreCausesOf};
 ghost use Rattle.cdb_rules.specs.Step.{is_among};
 ghost use Rattle.cdb_rules.specs.Views.{seen_as};
 
@@ -194,7 +199,7 @@ impl AnyRun {
         k: u32,
     ) -> Result<Result<Vec<Event>, Refusal>, NoMemory>
         ensures returns { IfOk result
-            (λ r. Tells vec_items r (result_of_rollback self.old (step_name p k))) }
+            (λ r. MapsTo vec_items r (result_of_rollback self.old (step_name p k))) }
         ensures after { OnOk result (self.new ≡ after_rollback self.old (step_name p k)) }
         ensures exact { OnOk result (IsExactRollback self.old (step_name p k) self.new) }
         ensures again { LeadsBack self.new result self.old }
@@ -216,7 +221,7 @@ impl AnyRun {
         p: u32,
     ) -> Result<Result<Vec<Event>, Refusal>, NoMemory>
         ensures returns { IfOk result
-            (λ r. Tells vec_items r (result_of_rollback self.old (loss_name s m p))) }
+            (λ r. MapsTo vec_items r (result_of_rollback self.old (loss_name s m p))) }
         ensures after { OnOk result (self.new ≡ after_rollback self.old (loss_name s m p)) }
         ensures exact { OnOk result (IsExactRollback self.old (loss_name s m p) self.new) }
         ensures again { LeadsBack self.new result self.old }
@@ -229,7 +234,7 @@ impl AnyRun {
     /// The direct causes of a standing event, in order of process, at most one of each; or the first refusal that
     /// holds: `NoProcess` or `NoStep`. It takes no memory.
     pub fn causes_of(&self, alloc: Global, event: EventRef) -> Result<SmallVec<StepId, 9>, Refusal>
-        ensures returns { Tells (λ c. c.items) result (causes_in self.now (name_given event)) }
+        ensures returns { MapsTo (λ c. c.items) result (causes_in self.now (name_given event)) }
         ensures direct { IfOk result (λ c. AreCausesOf self.now (name_given event) c.items) }
     {
         by_machine!(&self.run, run => run.causes_of(alloc, event))
@@ -237,7 +242,7 @@ impl AnyRun {
 
     /// The direct causes of the `k`-th step of process `p`, as `causes_of` returns them.
     pub fn causes(&self, alloc: Global, p: u32, k: u32) -> Result<SmallVec<StepId, 9>, Refusal>
-        ensures returns { Tells (λ c. c.items) result (causes_in self.now (step_name p k)) }
+        ensures returns { MapsTo (λ c. c.items) result (causes_in self.now (step_name p k)) }
         ensures direct { IfOk result (λ c. AreCausesOf self.now (step_name p k) c.items) }
     {
         self.causes_of(alloc, EventRef::Step(p, k))

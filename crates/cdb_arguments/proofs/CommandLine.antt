@@ -6,7 +6,7 @@ use Rattle.std.proofs.lemmas.Bool.{cases_Bool}
 use Rattle.clap.specs.Simple.{entered, label_of, names_of, rows_at, argument_words, built}
 use Rattle.clap.specs.Walk.{answers_to, stop_after}
 use Rattle.clap.specs.Words.{App, Shape, Text, is_simple, is_simple_and_free, subcommand_of}
-use Rattle.cdb_arguments.specs.Asking.{NamesOne}
+use Rattle.cdb_arguments.specs.RequestsOfRows.{NamesOne}
 use Rattle.clap.proofs.OnLiterals.{clap_on_literals}
 use Rattle.cdb_arguments.specs.CommandLine.{program}
 
@@ -22,9 +22,11 @@ abbrev IsOne : Shape → Type 0
 IsOne shape = (shape.name ≡ codes "play") ⊎ ((shape.name ≡ codes "race")
     ⊎ ((shape.name ≡ codes "explain") ⊎ ((shape.name ≡ codes "trail") ⊎ ((shape.name ≡ codes "draw")
     ⊎ ((shape.name ≡ codes "slice") ⊎ ((shape.name ≡ codes "debug") ⊎ ((shape.name ≡ codes "replay")
-    ⊎ ((shape.name ≡ codes "search") ⊎ ((shape.name ≡ codes "same") ⊎ ((shape.name ≡ codes "clocks") ⊎ ((shape.name ≡ codes "shrink") ⊎ (shape.name ≡ codes "page"))))))))))))
+    ⊎ ((shape.name ≡ codes "search")
+    ⊎ ((shape.name ≡ codes "same") ⊎ ((shape.name ≡ codes "clocks") ⊎ ((shape.name ≡ codes "shrink") ⊎ (shape.name ≡ codes "page"))))))))))))
 
-found_is_one : (subs : List Shape) (test : Shape → Bool) (rest : List Text) → AllByRecursion IsOne subs → NamesOne (option_map (λ s. rows_at s rest) (find test subs))
+found_is_one : (subs : List Shape) (test : Shape → Bool) (rest : List Text)
+    → AllByRecursion IsOne subs → NamesOne (option_map (λ s. rows_at s rest) (find test subs))
 found_is_one [] test rest all = tt
 found_is_one (shape ∷ subs) test rest all =
     elim (cases_Bool (test shape)) [
@@ -52,7 +54,23 @@ subs_are = (
             inr (inr (inr (inr (inr (inl refl))))),
             (
               inr (inr (inr (inr (inr (inr (inl refl)))))),
-              (inr (inr (inr (inr (inr (inr (inr (inl refl))))))), (inr (inr (inr (inr (inr (inr (inr (inr (inl refl)))))))), (inr (inr (inr (inr (inr (inr (inr (inr (inr (inl refl))))))))), (inr (inr (inr (inr (inr (inr (inr (inr (inr (inr (inl refl)))))))))), (inr (inr (inr (inr (inr (inr (inr (inr (inr (inr (inr (inl refl))))))))))), (inr (inr (inr (inr (inr (inr (inr (inr (inr (inr (inr (inr refl))))))))))), tt)))))),
+              (
+                inr (inr (inr (inr (inr (inr (inr (inl refl))))))),
+                (
+                  inr (inr (inr (inr (inr (inr (inr (inr (inl refl)))))))),
+                  (
+                    inr (inr (inr (inr (inr (inr (inr (inr (inr (inl refl))))))))),
+                    (
+                      inr
+                          (inr (inr (inr (inr (inr (inr (inr (inr (inr (inl refl)))))))))),
+                      (
+                        inr (inr (inr (inr (inr (inr (inr (inr (inr (inr (inr (inl refl))))))))))),
+                        (inr (inr (inr (inr (inr (inr (inr (inr (inr (inr (inr (inr refl))))))))))), tt),
+                      ),
+                    ),
+                  ),
+                ),
+              ),
             ),
           ),
         ),

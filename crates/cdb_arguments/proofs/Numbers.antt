@@ -8,7 +8,7 @@ use Rattle.clap.specs.Values.{IsSignedIn}
 use Rattle.clap.specs.declared.builder.value_parser.ValueParser.TheVariants as vp
 use Rattle.clap.proofs.ValueTestLemmas.{Accepts-accepts}
 use Rattle.cdb_base.specs.Requests.{Text}
-use Rattle.cdb_arguments.specs.Asking.{IsNumberOf}
+use Rattle.cdb_arguments.specs.RequestsOfRows.{IsNumberOf}
 use Rattle.cdb_arguments.specs.Plain.{AreDigitsOf, WritesCount, IsPlain, WritesNumber}
 use Rattle.cdb_arguments.proofs.PlainWords.{is_no_minus}
 

@@ -5,8 +5,8 @@ use Rattle.clap.specs.Simple.{Shape, new_shape, built}
 use Rattle.clap.specs.Walk.{Held, Row, Walk, walk_from, nothing_held, finished}
 use Rattle.clap.specs.Words.{subcommand_of, takes}
 use Rattle.clap.proofs.OnLiterals.{clap_on_literals}
-use Rattle.cdb_base.specs.Requests.{Asked, Script, Play, Replay, Search, Shrink, Same, Clocks, Page, Text}
-use Rattle.cdb_arguments.specs.Asking.{NamesAsked}
+use Rattle.cdb_base.specs.Requests.{RequestView, Script, Play, Replay, Search, Shrink, Same, Clocks, Page, Text}
+use Rattle.cdb_arguments.specs.RequestsOfRows.{NamesAsked}
 use Rattle.cdb_arguments.specs.CommandLine.{program}
 use Rattle.cdb_arguments.specs.Plain.{IsSubcommandLine, WritesNumber}
 use Rattle.cdb_arguments.proofs.Means.{Means, means}
@@ -16,9 +16,9 @@ use Rattle.cdb_arguments.proofs.Subcommands.{IsSub, line_asked, line_taken}
 use Rattle.cdb_arguments.proofs.Values.{EndPasses, ValuesPass}
 
 -- clap takes the words, and its matches ask for this alone
-pub record IsTaken (words : List Text) (it : Asked) : Type 0 where
+pub record IsTaken (words : List Text) (it : RequestView) : Type 0 where
   pub taken : takes program words ≡ true
-  pub only : (asked : Asked) → NamesAsked (subcommand_of program words) asked → asked ≡ it
+  pub only : (asked : RequestView) → NamesAsked (subcommand_of program words) asked → asked ≡ it
 
 pub script_line : (name : Text) → IsTaken (name ∷ []) Script
 unfolding clap_on_literals program
@@ -35,13 +35,13 @@ abbrev pub rows_of : Shape → List Text → List Row
 rows_of shape texts = finished shape.rules (held_after shape texts)
 
 -- the subcommand takes these texts, and they ask for this alone
-pub record Meets (command : Text) (shape : Shape) (texts : List Text) (it : Asked) : Type 0 where
+pub record Meets (command : Text) (shape : Shape) (texts : List Text) (it : RequestView) : Type 0 where
   pub sub : IsSub command shape
   pub passes : ValuesPass shape (walk_from nothing_held) texts
   pub ends : EndPasses shape (held_after shape texts)
-  pub only : (asked : Asked) → Means command (rows_of shape texts) asked → asked ≡ it
+  pub only : (asked : RequestView) → Means command (rows_of shape texts) asked → asked ≡ it
 
-pub taken_line : (command : Text) (shape : Shape) (texts words : List Text) (it : Asked) → IsSubcommandLine command texts words
+pub taken_line : (command : Text) (shape : Shape) (texts words : List Text) (it : RequestView) → IsSubcommandLine command texts words
     → Meets command shape texts it → IsTaken words it
 taken_line command shape texts words it ((name, is), plain) meets =
     rw is (record {
@@ -73,8 +73,8 @@ module _ (words : List Text) (setup script : Text) where
   abbrev Files : List Text
   Files = setup ∷ script ∷ []
 
-  files_line : (command : Text) (it : Asked) → IsSub command files_shape
-      → ((asked : Asked) → Means command (rows_of files_shape Files) asked → asked ≡ it) → IsSubcommandLine command Files words → IsTaken words it
+  files_line : (command : Text) (it : RequestView) → IsSub command files_shape
+      → ((asked : RequestView) → Means command (rows_of files_shape Files) asked → asked ≡ it) → IsSubcommandLine command Files words → IsTaken words it
   unfolding clap_on_literals program files_shape
   files_line command it sub only line =
       taken_line command files_shape Files words it line

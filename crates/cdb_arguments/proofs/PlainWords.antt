@@ -8,7 +8,8 @@ use Rattle.std.proofs.lemmas.Bool.Decides.{eqb_tells}
 use Rattle.clap.specs.Lexer.{long_of, long_of_rest, short_of, short_of_rest, strip_byte}
 use Rattle.clap.specs.Simple.{Shape}
 use Rattle.clap.specs.Takes.{bundle_passes, flag_word_passes, other_passes}
-use Rattle.clap.specs.Walk.{Held, Rule, Text, Waiting, idle, option, positional, value, trailing, Walk, walked, word_met, long_or_other, short_or_plain, after_step, arg_by_index, to_positional}
+use Rattle.clap.specs.Walk.{Held, Rule, Text, Waiting, idle, option, positional, value, trailing, Walk, walked}
+use Rattle.clap.specs.Walk.{word_met, long_or_other, short_or_plain, after_step, arg_by_index, to_positional}
 use Rattle.cdb_arguments.specs.Plain.{IsPlain}
 
 -- a first character that is no hyphen, as a test

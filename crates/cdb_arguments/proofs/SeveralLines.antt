@@ -11,7 +11,7 @@ use Rattle.clap.specs.ValueTests.{accepts}
 use Rattle.clap.specs.Walk.{Row, Walk, value, walk_from, nothing_held, finished, positional}
 use Rattle.clap.specs.declared.builder.value_parser.ValueParser.TheVariants as vp
 use Rattle.clap.proofs.OnLiterals.{clap_on_literals}
-use Rattle.cdb_base.specs.Requests.{Asked, Race, Debug, Text}
+use Rattle.cdb_base.specs.Requests.{RequestView, Race, Debug, Text}
 use Rattle.cdb_arguments.specs.CommandLine.{program}
 use Rattle.cdb_arguments.specs.Plain.{WritesCount, IsSubcommandLine}
 use Rattle.cdb_arguments.proofs.Means.{Means}
@@ -103,7 +103,7 @@ module _ (setup turns : Text) where
     unfolding clap_on_literals program race_shape at race_rows
     race_ends short = (rw (le-leb 1 (length (script ∷ more)) (omega arith), le-leb _ _ short, all_texts_pass more) refl, refl, refl)
 
-    race_means : (number : ℕ) → WritesCount turns number → (asked : Asked)
+    race_means : (number : ℕ) → WritesCount turns number → (asked : RequestView)
         → Means (codes "race") (finished race_shape.rules (at race_rows (codes "SCRIPT") 3 (script ∷ more)).held) asked
         → asked ≡ Race setup number (script ∷ more)
     unfolding clap_on_literals program race_shape at race_rows
@@ -168,7 +168,7 @@ module _ (setup : Text) where
     unfolding clap_on_literals program debug_shape at debug_rows
     debug_ends short = (rw (le-leb 1 (length (seat ∷ more)) (omega arith), le-leb _ _ short, all_texts_pass more) refl, refl, refl)
 
-    debug_means : (asked : Asked) → Means (codes "debug") (finished debug_shape.rules (at debug_rows (codes "SEAT") 2 (seat ∷ more)).held) asked
+    debug_means : (asked : RequestView) → Means (codes "debug") (finished debug_shape.rules (at debug_rows (codes "SEAT") 2 (seat ∷ more)).held) asked
         → asked ≡ Debug setup (seat ∷ more) None None None
     unfolding clap_on_literals program debug_shape at debug_rows
     debug_means asked is = is

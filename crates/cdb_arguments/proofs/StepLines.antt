@@ -6,12 +6,12 @@ use Rattle.std.proofs.lemmas.Option.{none-some}
 use Rattle.clap.specs.Simple.{Shape, new_shape, built}
 use Rattle.clap.specs.Walk.{walk_from, nothing_held}
 use Rattle.clap.proofs.OnLiterals.{clap_on_literals}
-use Rattle.cdb_base.specs.Requests.{Asked, Ask, Text}
+use Rattle.cdb_base.specs.Requests.{RequestView, Ask, Text}
 use Rattle.cdb_base.specs.declared.question.Question.{Question}
 use Rattle.cdb_base.specs.declared.question.Question.TheVariants.{Explain, Trail, Draw, Slice}
 use Rattle.cdb_base.specs.declared.question.StepAsked.{StepAsked}
 use Rattle.cdb_base.specs.declared.question.TheConstants.{COLUMNS}
-use Rattle.cdb_arguments.specs.Asking.{IsAnyStepIn, IsNumber, IsNumberOf}
+use Rattle.cdb_arguments.specs.RequestsOfRows.{IsAnyStepIn, IsNumber, IsNumberOf}
 use Rattle.cdb_arguments.specs.CommandLine.{program}
 use Rattle.cdb_arguments.specs.Plain.{IsSubcommandLine, IsUsual, WritesNumber, WritesStep, question_name, step_asked}
 use Rattle.cdb_arguments.proofs.Means.{AsksDrawing, AsksStep, Means}
@@ -23,14 +23,14 @@ use Rattle.cdb_arguments.proofs.Values.{ValuesPass, EndPasses}
 -- ---- the step of the matches
 
 -- a question with a step that these texts write, the second where it is given
-abbrev AsksStepOf : (StepAsked → Question) → Text → Text → Text → Option Text → Asked → Type 0
+abbrev AsksStepOf : (StepAsked → Question) → Text → Text → Text → Option Text → RequestView → Type 0
 AsksStepOf question setup script p k asked =
     (step : StepAsked) × (IsNumber p step.p × IsNumberOf k step.k) × (asked ≡ Ask setup script (question step))
 
 same_step : (its step : StepAsked) → its.p ≡ step.p → its.k ≡ step.k → its ≡ step
 same_step its step p k = ap₂ (λ p k. let made : StepAsked = record { p = p; k = k } in made) p k
 
-step_is : (question : StepAsked → Question) (setup script p : Text) (k : Option Text) (step : StepAsked) (asked : Asked)
+step_is : (question : StepAsked → Question) (setup script p : Text) (k : Option Text) (step : StepAsked) (asked : RequestView)
     → WritesNumber p step.p → OptionWritesNumber k step.k → AsksStepOf question setup script p k asked → asked ≡ Ask setup script (question step)
 step_is question setup script p k step asked writes more (its, is, asks) =
     asks ∙ ap (λ (it : StepAsked). Ask setup script (question it)) (same_step its step (is.0.2 step.p writes) (number_is k step.k its.k more is.1))
@@ -47,8 +47,9 @@ record TakesStep (shape : Shape) : Type 0 where
 -- and the subcommand of this name asks this question
 record AsksThis (command : Text) (shape : Shape) (question : StepAsked → Question) : Type 0 where
   sub : IsSub command shape
-  only : (setup script p : Text) (asked : Asked) → Means command (rows_of shape (setup ∷ script ∷ p ∷ [])) asked → AsksStepOf question setup script p None asked
-  only_k : (setup script p k : Text) (asked : Asked) → Means command (rows_of shape (setup ∷ script ∷ p ∷ k ∷ [])) asked
+  only : (setup script p : Text) (asked : RequestView)
+      → Means command (rows_of shape (setup ∷ script ∷ p ∷ [])) asked → AsksStepOf question setup script p None asked
+  only_k : (setup script p k : Text) (asked : RequestView) → Means command (rows_of shape (setup ∷ script ∷ p ∷ k ∷ [])) asked
       → AsksStepOf question setup script p (Some k) asked
 
 module _ (command : Text) (shape : Shape) (question : StepAsked → Question) (takes : TakesStep shape) (asks : AsksThis command shape question) where
@@ -116,7 +117,7 @@ any_step_takes = record {
   ends_k = λ setup script p k a. (rw a refl, refl, refl);
 }
 
-module _ (question : Option StepAsked → Question) (setup script : Text) (asked : Asked) where
+module _ (question : Option StepAsked → Question) (setup script : Text) (asked : RequestView) where
   -- the step of these texts was not left out
   some_step : (p : Text) → AsksStep IsAnyStepIn question (rows_of any_step_shape (setup ∷ script ∷ p ∷ [])) asked
       → AsksStepOf (λ step. question (Some step)) setup script p None asked
@@ -149,7 +150,7 @@ draw_takes = record {
   ends_k = λ setup script p k a. (rw a refl, refl, refl);
 }
 
-module _ (setup script : Text) (asked : Asked) where
+module _ (setup script : Text) (asked : RequestView) where
   drawn_step : (p : Text) → AsksDrawing (rows_of draw_shape (setup ∷ script ∷ p ∷ [])) asked
       → AsksStepOf (λ step. Draw COLUMNS (Some step)) setup script p None asked
   unfolding clap_on_literals program draw_shape
@@ -190,8 +191,8 @@ module _ (words : List Text) (setup script : Text) where
   abbrev Files : List Text
   Files = setup ∷ script ∷ []
 
-  files_line : (command : Text) (it : Asked) → IsSub command any_step_shape
-      → ((asked : Asked) → Means command (rows_of any_step_shape Files) asked → asked ≡ it) → IsSubcommandLine command Files words → IsTaken words it
+  files_line : (command : Text) (it : RequestView) → IsSub command any_step_shape
+      → ((asked : RequestView) → Means command (rows_of any_step_shape Files) asked → asked ≡ it) → IsSubcommandLine command Files words → IsTaken words it
   unfolding clap_on_literals program any_step_shape
   files_line command it sub only line =
       taken_line command any_step_shape Files words it line

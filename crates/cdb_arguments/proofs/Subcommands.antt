@@ -20,7 +20,8 @@ PassesAfter top names command =
     (settle_passes top.rules top.args_override_self held && (list_all default_passes top.rules && is_valid top (finished top.rules held) true)) ≡ true
 
 above_of : (top : Shape) (names : Names) (command : Text) (rest : List Text) → (walk top.rules names nothing_held (command ∷ [])).stopped ≡ Some (command, [])
-    → turn_passes top names (walk_from nothing_held) command ≡ true → PassesAfter top names command → level_passes top names nothing_held (command ∷ rest) true ≡ true
+    → turn_passes top names (walk_from nothing_held) command ≡ true → PassesAfter top names command
+    → level_passes top names nothing_held (command ∷ rest) true ≡ true
 unfolding walk_passes
 above_of top names command rest stops turn end =
     ap (λ held. walk_passes top names (walk_from nothing_held) (command ∷ rest)
@@ -41,28 +42,33 @@ is_named : (command : Text) (shape : Shape) → IsSub command shape → (name : 
     → stop_after (built program).top.rules (names_of (built program)) (argument_words program (name ∷ command ∷ words)) ≡ Some (command, words)
 unfolding program
 is_named command shape sub name words =
-    own_words (built program).top.rules (names_of (built program)) (walk (built program).top.rules (names_of (built program)) nothing_held (command ∷ [])) command [] words sub.stops
+    own_words (built program).top.rules (names_of (built program))
+    (walk (built program).top.rules (names_of (built program)) nothing_held (command ∷ [])) command [] words sub.stops
 
 -- what the line asks for
-pub line_asked : (command : Text) (shape : Shape) → IsSub command shape → (name : Text) (words : List Text) → ArePlain words → ValuesPass shape (walk_from nothing_held) words
+pub line_asked : (command : Text) (shape : Shape) → IsSub command shape
+    → (name : Text) (words : List Text) → ArePlain words → ValuesPass shape (walk_from nothing_held) words
     → subcommand_of program (name ∷ command ∷ words) ≡ Some (command, finished shape.rules (fold (with_value shape.rules) (walk_from nothing_held) words).held)
 line_asked command shape sub name words plain pass =
     ap (entered (built program)) (is_named command shape sub name words) ∙ sub.enters words
     ∙ ap (λ rows. Some (command, rows)) (values_rows shape.rules words plain (takes_of shape (walk_from nothing_held) words pass))
 
 above : (command : Text) (shape : Shape) → IsSub command shape → (name : Text) (words : List Text)
-    → level_passes (built program).top (names_of (built program)) nothing_held (argument_words program (name ∷ command ∷ words)) (is_some (entered (built program) (Some (command, words)))) ≡ true
+    → level_passes (built program).top (names_of (built program)) nothing_held
+    (argument_words program (name ∷ command ∷ words)) (is_some (entered (built program) (Some (command, words)))) ≡ true
 unfolding program
 above command shape sub name words =
     ap (λ found. level_passes (built program).top (names_of (built program)) nothing_held (command ∷ words) (is_some found)) (sub.enters words)
     ∙ above_of (built program).top (names_of (built program)) command words sub.stops sub.turn sub.end
 
 -- the line is taken
-pub line_taken : (command : Text) (shape : Shape) → IsSub command shape → (name : Text) (words : List Text) → ArePlain words → ValuesPass shape (walk_from nothing_held) words
+pub line_taken : (command : Text) (shape : Shape) → IsSub command shape
+    → (name : Text) (words : List Text) → ArePlain words → ValuesPass shape (walk_from nothing_held) words
     → EndPasses shape (fold (with_value shape.rules) (walk_from nothing_held) words).held → takes program (name ∷ command ∷ words) ≡ true
 line_taken command shape sub name words plain pass end =
     and_from _ _ program_is_simple
     (ap (λ stop. entered_passes (built program) stop
-    && level_passes (built program).top (names_of (built program)) nothing_held (argument_words program (name ∷ command ∷ words)) (is_some (entered (built program) stop)))
+    && level_passes (built program).top (names_of (built program)) nothing_held
+    (argument_words program (name ∷ command ∷ words)) (is_some (entered (built program) stop)))
     (is_named command shape sub name words)
     ∙ and_from _ _ (sub.levels words ∙ values_pass_level shape words plain pass end) (above command shape sub name words))

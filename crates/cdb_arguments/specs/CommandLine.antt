@@ -42,7 +42,8 @@ play_app = on_files (codes "play") []
 abbrev pub race_app : App
 race_app =
     with_arguments (codes "race")
-    (required_rule (codes "SETUP") ∷ counted (required_rule (codes "TURNS")) ∷ several (required_rule (codes "SCRIPT")) ∷ [])
+    (required_rule (codes "SETUP") ∷ counted (required_rule (codes "TURNS"))
+    ∷ several (required_rule (codes "SCRIPT")) ∷ [])
 
 -- a subcommand with these files, and a step
 abbrev pub on_step : Text → App
@@ -113,7 +114,8 @@ with_subcommands = fold (λ app sub. with_subcommand app sub.top)
 -- the program with its version and none for help, with the subcommands that print the replies of scripts
 abbrev pub playing : App
 playing =
-    let bare = on_top (λ s. record s { has_version = true; disable_help_subcommand = true }) (new_app (codes "revdbg")) in
+    let bare =
+    on_top (λ s. record s { has_version = true; disable_help_subcommand = true }) (new_app (codes "revdbg")) in
     with_subcommands bare (play_app ∷ race_app ∷ [])
 
 -- the program with its subcommands

@@ -1,6 +1,6 @@
 -- what a contract names
 pub mod CommandLine
 pub mod Plain
-pub mod Asking
+pub mod RequestsOfRows
 -- what the code keeps for itself
 pub mod Named

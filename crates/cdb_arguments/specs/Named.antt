@@ -6,7 +6,9 @@ use Rattle.cdb_arguments.specs.declared.command_line.Argument.{Argument}
 use Rattle.cdb_arguments.specs.declared.command_line.Argument.TheVariants as arg
 use Rattle.cdb_arguments.specs.declared.command_line.Subcommand.{Subcommand}
 use Rattle.cdb_arguments.specs.declared.command_line.Subcommand.TheVariants as sub
-use Rattle.cdb_arguments.specs.CommandLine.{required_rule, option_rule, counted, numbered, several, play_app, race_app, explain_app, trail_app, draw_app, slice_app, debug_app, replay_app, page_app, same_app, clocks_app, search_app, shrink_app}
+use Rattle.cdb_arguments.specs.CommandLine.{required_rule, option_rule, counted, numbered, several, play_app}
+use Rattle.cdb_arguments.specs.CommandLine.{race_app, explain_app, trail_app, draw_app, slice_app, debug_app}
+use Rattle.cdb_arguments.specs.CommandLine.{replay_app, page_app, same_app, clocks_app, search_app, shrink_app}
 
 abbrev pub rule_named : Argument → Rule
 rule_named arg.Setup = required_rule (codes "SETUP")

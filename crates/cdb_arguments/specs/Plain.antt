@@ -4,7 +4,8 @@ use Rattle.std.specs.List.{AllByRecursion}
 use Rattle.std.specs.Str.Parse.{IsNumeral, digits_value, without_leading_plus}
 use Rattle.clap.specs.Lexer.{usize_max}
 use Rattle.cdb_arguments.specs.declared.limits.TheConstants.{MAX_NUMBER, MAX_TURNS}
-use Rattle.cdb_base.specs.Requests.{Asked, Script, Play, Race, Ask, Frames, Debug, Replay, Search, Shrink, Same, Clocks, Page, Text}
+use Rattle.cdb_base.specs.Requests.{RequestView, Script, Play, Race, Ask, Frames, Debug}
+use Rattle.cdb_base.specs.Requests.{Replay, Search, Shrink, Same, Clocks, Page, Text}
 use Rattle.cdb_base.specs.declared.question.Question.{Question}
 use Rattle.cdb_base.specs.declared.question.Question.TheVariants.{Explain, Trail, Draw, Slice}
 use Rattle.cdb_base.specs.declared.question.StepAsked.{StepAsked}
@@ -69,7 +70,7 @@ IsSubcommandLine command arguments words = ((name : Text) × (words ≡ name ∷
 -- What the words of a line ask for. There are as many scripts and seats as a machine's word counts, and a race has one
 -- script or more. A session whose journal is kept, that goes on from one, or of whose run there
 -- is a page, has an option, and so have frames.
-abbrev pub IsLine : List Text → Asked → Type 0
+abbrev pub IsLine : List Text → RequestView → Type 0
 IsLine words Script = (name : Text) × (words ≡ name ∷ [])
 IsLine words (Play setup script) = IsSubcommandLine (codes "play") (setup ∷ script ∷ []) words
 IsLine words (Race setup turns scripts) =

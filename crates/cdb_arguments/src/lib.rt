@@ -8,4 +8,4 @@ mod request;
 
 pub use limits::{MAX_NUMBER, MAX_TURNS};
 pub use reading::{ask_status, asked};
-pub use request::AskFault;
+pub use request::ArgumentsFault;

@@ -1,27 +1,30 @@
 //! Reading the words of the command line.
 
 ghost use Rattle.std.specs.Prelude.{◌≡◌, OnOk, IfOk, IfErr, Some, [], true, map, codes};
-ghost use Rattle.clap.specs.Words.{Kinds, Text, HasKind, fault_of, first_of, found_of, kind_of, rows_of, subcommand_of, subcommand_rows_of, takes};
+ghost use Rattle.clap.specs.Words.{Kinds, Text, HasKind, fault_of, first_of, found_of, kind_of};
+ghost use Rattle.clap.specs.Words.{rows_of, subcommand_of, subcommand_rows_of, takes};
 ghost use Rattle.cdb_base.specs.Memory.{no_memory};
 ghost use Rattle.cdb_arguments.specs.CommandLine.{program};
-ghost use Rattle.cdb_arguments.specs.Asking.{AreColumns, HasStepOf, IsAnyStepIn, IsStepIn, NamesOne, IsCount, IsNumber, IsNumberAt, text_at, texts_at, NamesAsked, IsOfKinds, IsRequest, ask_status_of, words_status};
+ghost use Rattle.cdb_arguments.specs.RequestsOfRows.{AreColumns, HasStepOf, IsAnyStepIn, IsStepIn, NamesOne, IsCount};
+ghost use Rattle.cdb_arguments.specs.RequestsOfRows.{IsNumber, IsNumberAt, text_at, texts_at, NamesAsked, IsOfKinds};
+ghost use Rattle.cdb_arguments.specs.RequestsOfRows.{IsRequest, ask_status_of, words_status};
 ghost use Rattle.cdb_arguments.specs.Plain.{IsLine, question_name};
-ghost use Rattle.cdb_base.specs.Requests.{Asked, any_text, asked_for, texts};
+ghost use Rattle.cdb_base.specs.Requests.{RequestView, any_text, asked_for, texts};
 
 use crate::command_line::program;
 use crate::limits::{MAX_NUMBER, MAX_TURNS};
-use crate::request::{AskFault, WordsError};
+use crate::request::{ArgumentsFault, WordsError};
 use cdb_base::{COLUMNS, NoMemory, Question, Request, StepAsked};
 use clap::error::ErrorKind;
 use clap::{ArgMatches, Error};
 use std::alloc::{AllocError, Global};
 
 /// The matches of the words.
-fn matches_of<'a>(alloc: Global, words: &'a [&'a str]) -> Result<ArgMatches<'a>, AskFault>
+fn matches_of<'a>(alloc: Global, words: &'a [&'a str]) -> Result<ArgMatches<'a>, ArgumentsFault>
     ensures ok { IfOk result
         (λ m. subcommand_rows_of m ≡ subcommand_of program (texts words.entry.now)) }
     ensures taken { takes program (texts words.entry.now) ≡ true →
-        IfErr result (λ fault. fault ≡ AskFault.NoMemory no_memory) }
+        IfErr result (λ fault. fault ≡ ArgumentsFault.NoMemory no_memory) }
     ensures right { OnOk result (fault_of program (texts words.entry.now) ≡ []) }
     ensures refused { IfErr result
         (λ fault. IsOfKinds (fault_of program (texts words.entry.now)) fault) }
@@ -33,13 +36,13 @@ fn matches_of<'a>(alloc: Global, words: &'a [&'a str]) -> Result<ArgMatches<'a>,
 }
 
 /// What an error of `clap` is here: out of memory apart from the other errors.
-fn ask_fault(error: WordsError) -> AskFault
-    ensures memory { kind_of error.0 ≡ ErrorKind.OutOfMemory → result ≡ AskFault.NoMemory no_memory }
+fn ask_fault(error: WordsError) -> ArgumentsFault
+    ensures memory { kind_of error.0 ≡ ErrorKind.OutOfMemory → result ≡ ArgumentsFault.NoMemory no_memory }
     ensures words { (kinds : Kinds) → HasKind kinds error.0 → IsOfKinds kinds result }
 {
     match NoMemory::of(&error) {
-        Some(refused) => AskFault::NoMemory(refused),
-        None => AskFault::Words(error.0),
+        Some(refused) => ArgumentsFault::NoMemory(refused),
+        None => ArgumentsFault::Words(error.0),
     }
 }
 
@@ -306,12 +309,12 @@ fn asked_by<'a>(alloc: Global, matches: &ArgMatches<'a>) -> Result<Request<'a>, 
 }
 
 /// The status with which the program ends where the words ask for nothing.
-pub fn ask_status(fault: &AskFault) -> u8
+pub fn ask_status(fault: &ArgumentsFault) -> u8
     ensures { result ≡ ask_status_of fault.now }
 {
     match fault {
-        AskFault::Words(error) => status_of_words(error),
-        AskFault::NoMemory(_) => 6,
+        ArgumentsFault::Words(error) => status_of_words(error),
+        ArgumentsFault::NoMemory(_) => 6,
     }
 }
 
@@ -326,11 +329,11 @@ fn status_of_words(error: &Error) -> u8
 }
 
 /// What `clap` makes of the arguments, as a request.
-fn read<'a>(alloc: Global, words: &'a [&'a str]) -> Result<Request<'a>, AskFault>
+fn read<'a>(alloc: Global, words: &'a [&'a str]) -> Result<Request<'a>, ArgumentsFault>
     ensures ok { IfOk result
         (λ request. NamesAsked (subcommand_of program (texts words.entry.now)) (asked_for request)) }
     ensures taken { takes program (texts words.entry.now) ≡ true →
-        IfErr result (λ fault. fault ≡ AskFault.NoMemory no_memory) }
+        IfErr result (λ fault. fault ≡ ArgumentsFault.NoMemory no_memory) }
     ensures right { OnOk result (fault_of program (texts words.entry.now) ≡ []) }
     ensures refused { IfErr result
         (λ fault. IsOfKinds (fault_of program (texts words.entry.now)) fault) }
@@ -340,15 +343,15 @@ fn read<'a>(alloc: Global, words: &'a [&'a str]) -> Result<Request<'a>, AskFault
 }
 
 /// What the arguments of the command line ask for; the first is the program's name. The name alone asks for the script
-/// on standard input, `play SETUP SCRIPT` for a play, `race SETUP TURNS SCRIPT..` for a race, `explain SETUP SCRIPT P [K]`
-/// for what led to a step, `trail SETUP SCRIPT P [K]` for the trail of a value to it, `draw SETUP SCRIPT [P [K]]` for a
-/// picture, with `--rows N` for one with N columns to a row, or all in one for 0, and with `--frames FOLDER` for one after
-/// each command that changed the run, `slice SETUP SCRIPT [P [K]]` for a script, `debug SETUP [SEAT..]` for sessions that go on line by line, with
-/// `--journal FILE` for ones whose journal is kept in a file, `--from JOURNAL` for ones that go on from a journal and `--page PAGE` for ones of whose run there is a page,
-/// `replay SETUP JOURNAL` for a journal that is played again,
-/// `search SETUP GOAL SEED WALKS` for a search, `same SETUP FIRST SECOND` for whether two scripts leave the same run,
-/// `clocks SETUP SCRIPT` for clocks, `shrink SETUP SCRIPT GOAL` for a small script, `page SETUP SCRIPT` for a page. P, K,
-/// SEED and WALKS are numbers of 1 to 999,999.
+/// on standard input, `play SETUP SCRIPT` for a play, `race SETUP TURNS SCRIPT..` for a race, `explain SETUP SCRIPT P
+/// [K]` for what led to a step, `trail SETUP SCRIPT P [K]` for the trail of a value to it, `draw SETUP SCRIPT [P [K]]`
+/// for a picture, with `--rows N` for one with N columns to a row, or all in one for 0, and with `--frames FOLDER` for
+/// one after each command that changed the run, `slice SETUP SCRIPT [P [K]]` for a script, `debug SETUP [SEAT..]` for
+/// sessions that go on line by line, with `--journal FILE` for ones whose journal is kept in a file, `--from JOURNAL`
+/// for ones that go on from a journal and `--page PAGE` for ones of whose run there is a page, `replay SETUP JOURNAL`
+/// for a journal that is played again, `search SETUP GOAL SEED WALKS` for a search, `same SETUP FIRST SECOND` for
+/// whether two scripts leave the same run, `clocks SETUP SCRIPT` for clocks, `shrink SETUP SCRIPT GOAL` for a small
+/// script, `page SETUP SCRIPT` for a page. P, K, SEED and WALKS are numbers of 1 to 999,999.
 ///
 /// # Errors
 /// `Words` with `clap`'s error for arguments that the command line does not take, and for those alone; the error is
@@ -357,15 +360,15 @@ fn read<'a>(alloc: Global, words: &'a [&'a str]) -> Result<Request<'a>, AskFault
 /// Promise: Plain arguments ask for exactly what the usage says of them, whatever texts they are that are no options;
 /// others ask for what `clap`'s matches name, and those in which `clap`'s definition finds a fault are refused, the
 /// rest only where memory is out.
-pub fn asked<'a>(alloc: Global, words: &'a [&'a str]) -> Result<Request<'a>, AskFault>
+pub fn asked<'a>(alloc: Global, words: &'a [&'a str]) -> Result<Request<'a>, ArgumentsFault>
     ensures ok { IfOk result
         (λ request. NamesAsked (subcommand_of program (texts words.entry.now)) (asked_for request)) }
     ensures taken { takes program (texts words.entry.now) ≡ true →
-        IfErr result (λ fault. fault ≡ AskFault.NoMemory no_memory) }
+        IfErr result (λ fault. fault ≡ ArgumentsFault.NoMemory no_memory) }
     ensures right { OnOk result (fault_of program (texts words.entry.now) ≡ []) }
     ensures refused { IfErr result
         (λ fault. IsOfKinds (fault_of program (texts words.entry.now)) fault) }
-    ensures plain { (asked : Asked) → IsLine (texts words.entry.now) asked →
+    ensures plain { (asked : RequestView) → IsLine (texts words.entry.now) asked →
         IsRequest result asked }
 {
     read(alloc, words)

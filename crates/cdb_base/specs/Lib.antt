@@ -1,4 +1,5 @@
--- what a reader of the contracts believes: names of events, lists that count from 1, registers, requests, results, and the refusals of commands, of memory and of a thread
+-- what a reader of the contracts believes: names of events, lists that count from 1, registers, requests, results, and
+-- the refusals of commands, of memory and of a thread
 pub mod Event
 pub mod Limits
 pub mod NameTexts

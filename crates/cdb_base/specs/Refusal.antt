@@ -1,7 +1,10 @@
 -- The number, the name and the text of each refusal.
 use Rattle.std.specs.Prelude.{ℕ, List, [], ◌++◌, codes, decimal}
 use Rattle.cdb_base.specs.declared.refusal.Refusal.{Refusal}
-use Rattle.cdb_base.specs.declared.refusal.Refusal.TheVariants.{NoProcess, Crashed, Done, NotNow, NoMessage, Taken, BadLeader, NoAnswer, StepLimit, NoStep, NeededBy, Idle, Paused, NothingToRedo, NoBreak, BreakLimit, Moved, Lost, NoLoss}
+use Rattle.cdb_base.specs.declared.refusal.Refusal.TheVariants.{NoProcess, Crashed, Done, NotNow, NoMessage}
+use Rattle.cdb_base.specs.declared.refusal.Refusal.TheVariants.{Taken, BadLeader, NoAnswer, StepLimit, NoStep}
+use Rattle.cdb_base.specs.declared.refusal.Refusal.TheVariants.{NeededBy, Idle, Paused, NothingToRedo, NoBreak}
+use Rattle.cdb_base.specs.declared.refusal.Refusal.TheVariants.{BreakLimit, Moved, Lost, NoLoss}
 use Rattle.cdb_base.specs.NameTexts.{name_text}
 
 abbrev pub refusal_number : Refusal → ℕ

@@ -18,22 +18,22 @@ texts = map (λ text. text.now)
 abbrev pub any_text : Option (Bor Text) → Option Text
 any_text = option_map (λ text. text.now)
 
-pub data Asked : Type 0 where
-  Script : Asked
-  Play : (setup script : Text) → Asked
-  Race : (setup : Text) → (turns : ℕ) → (scripts : List Text) → Asked
-  Ask : (setup script : Text) → (question : Question) → Asked
-  Frames : (setup script folder : Text) → (columns : ℕ) → (step : Option StepAsked) → Asked
-  Debug : (setup : Text) → (seats : List Text) → (from journal page : Option Text) → Asked
-  Replay : (setup journal : Text) → Asked
-  Search : (setup goal : Text) → (seed walks : ℕ) → Asked
-  Shrink : (setup script goal : Text) → Asked
-  Same : (setup first second : Text) → Asked
-  Clocks : (setup script : Text) → Asked
-  Page : (setup script : Text) → Asked
+pub data RequestView : Type 0 where
+  Script : RequestView
+  Play : (setup script : Text) → RequestView
+  Race : (setup : Text) → (turns : ℕ) → (scripts : List Text) → RequestView
+  Ask : (setup script : Text) → (question : Question) → RequestView
+  Frames : (setup script folder : Text) → (columns : ℕ) → (step : Option StepAsked) → RequestView
+  Debug : (setup : Text) → (seats : List Text) → (from journal page : Option Text) → RequestView
+  Replay : (setup journal : Text) → RequestView
+  Search : (setup goal : Text) → (seed walks : ℕ) → RequestView
+  Shrink : (setup script goal : Text) → RequestView
+  Same : (setup first second : Text) → RequestView
+  Clocks : (setup script : Text) → RequestView
+  Page : (setup script : Text) → RequestView
 
 -- what a request asks for
-abbrev pub asked_for : Request → Asked
+abbrev pub asked_for : Request → RequestView
 asked_for request.Script = Script
 asked_for (request.Play setup script) = Play setup.now script.now
 asked_for (request.Race setup turns scripts) = Race setup.now turns (texts scripts.items)

@@ -2,5 +2,5 @@
 use Rattle.std.specs.Prelude.{◌≡◌, Result, Ok, Err, MatchResult}
 
 -- the result says that, through a view of what it holds
-abbrev pub Tells : {A B E : Type 0} → (A → B) → Result A E → Result B E → Type 0
-Tells view result told = MatchResult result (λ a. told ≡ Ok (view a)) (λ why. told ≡ Err why)
+abbrev pub MapsTo : {A B E : Type 0} → (A → B) → Result A E → Result B E → Type 0
+MapsTo view result told = MatchResult result (λ a. told ≡ Ok (view a)) (λ why. told ≡ Err why)

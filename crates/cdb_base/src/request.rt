@@ -24,8 +24,8 @@ pub enum Request<'a> {
         script: &'a str,
         question: Question,
     },
-    /// Draws the run after each command of a script that changed it, on a setup, each into a file of this folder, with so many
-    /// columns to a row. A step is refused.
+    /// Draws the run after each command of a script that changed it, on a setup, each into a file of this folder, with
+    /// so many columns to a row. A step is refused.
     Frames {
         setup: &'a str,
         script: &'a str,
@@ -34,8 +34,8 @@ pub enum Request<'a> {
         step: Option<StepAsked>,
     },
     /// Holds a session for each seat, a terminal device or `IN:OUT`, over one run of a setup; without seats one session
-    /// here. They go on from the journal of the one name, if there is one, and their journal is kept meanwhile in the file of
-    /// the next name, and a page of the run in that of the last, where these are there.
+    /// here. They go on from the journal of the one name, if there is one, and their journal is kept meanwhile in the
+    /// file of the next name, and a page of the run in that of the last, where these are there.
     Debug {
         setup: &'a str,
         seats: Vec<&'a str>,

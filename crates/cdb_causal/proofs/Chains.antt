@@ -7,7 +7,7 @@ use Rattle.std.proofs.Common.{subst, true≢false, arith, lt_trans, lt_irrefl, l
 use Rattle.std.specs.Option.{option_map_or}
 use Rattle.cdb_base.specs.Positions.{nth}
 use Rattle.cdb_causal.specs.Causality.{IsLink, IsConsequence, direct, onward}
-use Rattle.cdb_causal.specs.Rollback.{IsParted, done, kept, gone, IsRolledBack, rolled_back, consequences, remaining, depends_on_one, caught, uncaught}
+use Rattle.cdb_causal.specs.Rollback.{IsParted, done, kept, gone, IsRolledBack, rolled_back, consequences, remaining, depends_on_one, dependents, independents}
 use Rattle.cdb_causal.specs.Exchange.{IsIn, here, there}
 
 below_suc : (j k : ℕ) → j < suc k → (j < k) ⊎ (j ≡ k)
@@ -88,15 +88,15 @@ module _ {E : Type 0} (depends : E → E → Bool) where
     each : (j : ℕ) (cause : E) → j < k → nth history j ≡ Some cause → IsRolledBack depends history i j → IsIn cause causes
 
   module _ (history : List E) (i k : ℕ) (causes : List E) (event : E) (at : nth history k ≡ Some event) (are : AreCauses history i k causes) where
-    caught_is : depends_on_one depends causes event ≡ true → IsConsequence depends history i k
-    caught_is h =
+    dependent_is : depends_on_one depends causes event ≡ true → IsConsequence depends history i k
+    dependent_is h =
         let q = cause_in causes event h in
         let p = are.only q.0 q.1 in
         linked_on history i p.0 k p.3 (record { cause = q.0; effect = event; later = p.1; at_cause = p.2; at_effect = at; linked = q.2 })
 
-    uncaught_is_not : i < k → depends_on_one depends causes event ≡ false → IsRolledBack depends history i k → ⊥
-    uncaught_is_not above h (inl e) = lt_irrefl i (subst (λ n. i < n) e above)
-    uncaught_is_not above h (inr c) =
+    independent_is_not : i < k → depends_on_one depends causes event ≡ false → IsRolledBack depends history i k → ⊥
+    independent_is_not above h (inl e) = lt_irrefl i (subst (λ n. i < n) e above)
+    independent_is_not above h (inr c) =
         let q = last_link history i c in
         let l = q.2 in
         let same : l.effect ≡ event = same_Some l.effect event (sym l.at_effect ∙ at) in
@@ -131,7 +131,7 @@ module _ {E : Type 0} (depends : E → E → Bool) where
   module _ (history : List E) (i : ℕ) where
     -- the walk over what follows the causes, where k events stand before
     parted_behind : (k : ℕ) (causes rest : List E) → i < suc k → drop k history ≡ rest → AreCauses history i (suc k) causes
-        → IsParted (IsRolledBack depends history i) (suc k) rest (uncaught depends causes rest) (caught depends causes rest)
+        → IsParted (IsRolledBack depends history i) (suc k) rest (independents depends causes rest) (dependents depends causes rest)
     parted_behind k causes [] above is are = done
     parted_behind k causes (event ∷ events) above is are =
         let at = at_drop history k event events is in
@@ -139,10 +139,10 @@ module _ {E : Type 0} (depends : E → E → Bool) where
         let later : i < suc (suc k) = lt_trans above (lt-suc_self (suc k)) in
         elim (cases_Bool (depends_on_one depends causes event)) [
           | inl h ↦
-              let c = caught_is history i (suc k) causes event at are h in
+              let c = dependent_is history i (suc k) causes event at are h in
               rw h (gone (inr c) (parted_behind (suc k) (causes ++ event ∷ []) events later next (causes_more history i (suc k) causes event at are c)))
           | inr h ↦
-              let not = uncaught_is_not history i (suc k) causes event at are above h in
+              let not = independent_is_not history i (suc k) causes event at are above h in
               rw h (kept not (parted_behind (suc k) causes events later next (causes_same history i (suc k) causes event at are not)))
         ]
 

@@ -13,6 +13,6 @@ pub mod PastLaws
 pub mod Slices
 -- direct causes and direct dependents
 pub mod Effects
-pub mod Counting
+pub mod Counts
 pub mod Dependents
 pub mod DirectByList

@@ -3,7 +3,7 @@ use Rattle.std.proofs.Common.{ℕ, zero, suc, ◌≤◌, Bool, ◌⊎◌, inl, i
 use Rattle.cdb_causal.specs.Causality.{IsLink, IsConsequence, direct, onward}
 use Rattle.cdb_causal.specs.Laws.{LeadsThrough}
 use Rattle.cdb_causal.specs.Past.{IsInPast, one_link, link_before, HasLedTo}
-use Rattle.cdb_causal.proofs.Counting.{first_below}
+use Rattle.cdb_causal.proofs.Counts.{first_below}
 use Rattle.cdb_causal.proofs.Walks.{linked_or_not}
 
 module _ {E : Type 0} (depends : E → E → Bool) (history : List E) where

@@ -4,7 +4,7 @@ use Rattle.std.proofs.lemmas.Option.{same_Some, none-some}
 use Rattle.cdb_base.specs.Positions.{nth}
 use Rattle.cdb_causal.specs.Causality.{IsFree}
 use Rattle.cdb_causal.specs.Paths.{IsPath}
-use Rattle.cdb_causal.specs.Exchanging.{IsExchangeable}
+use Rattle.cdb_causal.specs.Exchanges.{IsExchangeable}
 use Rattle.cdb_causal.specs.Rollback.{without}
 use Rattle.cdb_causal.proofs.Walks.{IsIndependent, none_behind}
 

@@ -51,12 +51,14 @@ module _ {E : Type 0} (depends : E → E → Bool) where
     slice_first : {position : ℕ} {events others slice : List E} → StandFrom position events
         → IsParted (HasLedTo depends history at) position events others slice → IsExchanged depends events (slice ++ others)
     slice_first stand done = same
-    slice_first stand (gone {position = position} {event = event} {events = events} led p) = behind_one depends event (slice_first (others_stand position event events stand) p)
+    slice_first stand (gone {position = position} {event = event} {events = events} led p) =
+        behind_one depends event (slice_first (others_stand position event events stand) p)
     slice_first stand (kept {position = position} {event = event} {events = events} {left = left} {removed = slice} not p) =
         let behind = others_stand position event events stand in
         joined depends (behind_one depends event (slice_first behind p))
         (behind_all event slice left (apart event position (first_stands position event events stand) not (omega arith) behind p))
 
-  pub slice_to_front : (history : List E) (at : ℕ) (slice others : List E) → IsSlice depends history at slice others → IsExchanged depends history (slice ++ others)
+  pub slice_to_front : (history : List E) (at : ℕ) (slice others : List E)
+      → IsSlice depends history at slice others → IsExchanged depends history (slice ++ others)
   slice_to_front history at slice others p =
       slice_first history at (λ k y get. let same_place : suc k ≡ 1 + k = omega arith in subst (λ n. nth history n ≡ Some y) same_place get) p

@@ -8,7 +8,7 @@ use Rattle.std.proofs.lemmas.List.Folds.{list_any-append}
 use Rattle.std.specs.List.{AllByRecursion}
 use Rattle.cdb_base.specs.Positions.{nth}
 use Rattle.cdb_causal.specs.Laws.{IsFreeIfAlone, MayGoLastFirst}
-use Rattle.cdb_causal.specs.Rollback.{without, rolled_back, remaining, depends_on_one, caught, uncaught}
+use Rattle.cdb_causal.specs.Rollback.{without, rolled_back, remaining, depends_on_one, dependents, independents}
 use Rattle.cdb_causal.proofs.Walks.{IsIndependent, free_behind}
 
 module _ {E : Type 0} where
@@ -30,21 +30,21 @@ module _ {E : Type 0} (depends : E → E → Bool) where
   abbrev AreFree : List E → List E → Type 0
   AreFree causes events = AllByRecursion (λ event. depends_on_one depends causes event ≡ false) events
 
-  none_caught : (causes events : List E) → caught depends causes events ≡ [] → AreFree causes events
-  none_caught causes [] h = tt
-  none_caught causes (x ∷ xs) h =
+  none_dependent : (causes events : List E) → dependents depends causes events ≡ [] → AreFree causes events
+  none_dependent causes [] h = tt
+  none_dependent causes (x ∷ xs) h =
       elim (cases_Bool (depends_on_one depends causes x)) [
-        | inl e ↦ absurd (not_cons x (caught depends (causes ++ x ∷ []) xs) (rw e at h))
-        | inr e ↦ (e, none_caught causes xs (rw e at h))
+        | inl e ↦ absurd (not_cons x (dependents depends (causes ++ x ∷ []) xs) (rw e at h))
+        | inr e ↦ (e, none_dependent causes xs (rw e at h))
       ]
 
-  free_caught : (causes events : List E) → AreFree causes events → caught depends causes events ≡ []
-  free_caught causes [] free = refl
-  free_caught causes (x ∷ xs) free = rw free.0 (free_caught causes xs free.1)
+  free_dependent : (causes events : List E) → AreFree causes events → dependents depends causes events ≡ []
+  free_dependent causes [] free = refl
+  free_dependent causes (x ∷ xs) free = rw free.0 (free_dependent causes xs free.1)
 
-  free_uncaught : (causes events : List E) → AreFree causes events → uncaught depends causes events ≡ events
-  free_uncaught causes [] free = refl
-  free_uncaught causes (x ∷ xs) free = rw free.0 (ap (λ l. x ∷ l) (free_uncaught causes xs free.1))
+  free_independent : (causes events : List E) → AreFree causes events → independents depends causes events ≡ events
+  free_independent causes [] free = refl
+  free_independent causes (x ∷ xs) free = rw free.0 (ap (λ l. x ∷ l) (free_independent causes xs free.1))
 
   -- none depends on the last cause, nor on any of the others
   last_apart : (causes : List E) (x : E) (events : List E) → AreFree (causes ++ x ∷ []) events → AreFree causes events × IsIndependent depends x events
@@ -56,52 +56,53 @@ module _ {E : Type 0} (depends : E → E → Bool) where
       ((both.0, rest.0), ((or_parts (depends x e) false both.1).0, rest.1))
 
   -- the last of what is caught, where others stand before it
-  record IsLastCaught (causes events removed : List E) (last : E) : Type 0 where
+  record IsLastDependent (causes events removed : List E) (last : E) : Type 0 where
     others : ℕ
     at : nth events (suc others) ≡ Some last
     independent : IsIndependent depends last (drop (suc others) events)
-    others_caught : caught depends causes (without events (suc others)) ≡ removed
-    same_uncaught : uncaught depends causes (without events (suc others)) ≡ uncaught depends causes events
+    others_dependent : dependents depends causes (without events (suc others)) ≡ removed
+    same_independent : independents depends causes (without events (suc others)) ≡ independents depends causes events
 
   taken_one : (causes : List E) (x : E) (xs removed : List E) (last : E) → depends_on_one depends causes x ≡ true
-      → x ∷ caught depends (causes ++ x ∷ []) xs ≡ removed ++ last ∷ []
-      → ((more : List E) → caught depends (causes ++ x ∷ []) xs ≡ more ++ last ∷ [] → IsLastCaught (causes ++ x ∷ []) xs more last)
-      → IsLastCaught causes (x ∷ xs) removed last
+      → x ∷ dependents depends (causes ++ x ∷ []) xs ≡ removed ++ last ∷ []
+      → ((more : List E) → dependents depends (causes ++ x ∷ []) xs ≡ more ++ last ∷ [] → IsLastDependent (causes ++ x ∷ []) xs more last)
+      → IsLastDependent causes (x ∷ xs) removed last
   taken_one causes x xs [] last e h go =
-      let is = same_first x last (caught depends (causes ++ x ∷ []) xs) [] h in
-      let free = none_caught (causes ++ x ∷ []) xs (same_rest x last (caught depends (causes ++ x ∷ []) xs) [] h) in
+      let is = same_first x last (dependents depends (causes ++ x ∷ []) xs) [] h in
+      let free = none_dependent (causes ++ x ∷ []) xs (same_rest x last (dependents depends (causes ++ x ∷ []) xs) [] h) in
       let apart = last_apart causes x xs free in
       record {
         others = 0;
         at = ap Some is;
         independent = rw is at apart.1;
-        others_caught = free_caught causes xs apart.0;
-        same_uncaught = rw e (free_uncaught causes xs apart.0 ∙ sym (free_uncaught (causes ++ x ∷ []) xs free));
+        others_dependent = free_dependent causes xs apart.0;
+        same_independent = rw e (free_independent causes xs apart.0 ∙ sym (free_independent (causes ++ x ∷ []) xs free));
       }
   taken_one causes x xs (t ∷ ts) last e h go =
-      let rest = go ts (same_rest x t (caught depends (causes ++ x ∷ []) xs) (ts ++ last ∷ []) h) in
+      let rest = go ts (same_rest x t (dependents depends (causes ++ x ∷ []) xs) (ts ++ last ∷ []) h) in
       record {
         others = suc rest.others;
         at = rest.at;
         independent = rest.independent;
-        others_caught =
-            rw e (ap (λ l. x ∷ l) rest.others_caught ∙ ap (λ y. y ∷ ts) (same_first x t (caught depends (causes ++ x ∷ []) xs) (ts ++ last ∷ []) h));
-        same_uncaught = rw e rest.same_uncaught;
+        others_dependent =
+            rw e (ap (λ l. x ∷ l) rest.others_dependent ∙ ap (λ y. y ∷ ts) (same_first x t (dependents depends (causes ++ x ∷ []) xs) (ts ++ last ∷ []) h));
+        same_independent = rw e rest.same_independent;
       }
 
-  last_caught : (causes events removed : List E) (last : E) → caught depends causes events ≡ removed ++ last ∷ [] → IsLastCaught causes events removed last
-  last_caught causes [] removed last h = absurd (not_empty last removed h)
-  last_caught causes (x ∷ xs) removed last h =
+  last_dependent : (causes events removed : List E) (last : E)
+      → dependents depends causes events ≡ removed ++ last ∷ [] → IsLastDependent causes events removed last
+  last_dependent causes [] removed last h = absurd (not_empty last removed h)
+  last_dependent causes (x ∷ xs) removed last h =
       elim (cases_Bool (depends_on_one depends causes x)) [
-        | inl e ↦ taken_one causes x xs removed last e (rw e at h) (λ more m. last_caught (causes ++ x ∷ []) xs more last m)
+        | inl e ↦ taken_one causes x xs removed last e (rw e at h) (λ more m. last_dependent (causes ++ x ∷ []) xs more last m)
         | inr e ↦
-            let rest = last_caught causes xs removed last (rw e at h) in
+            let rest = last_dependent causes xs removed last (rw e at h) in
             record {
               others = suc rest.others;
               at = rest.at;
               independent = rest.independent;
-              others_caught = rw e rest.others_caught;
-              same_uncaught = rw e (ap (λ l. x ∷ l) rest.same_uncaught);
+              others_dependent = rw e rest.others_dependent;
+              same_independent = rw e (ap (λ l. x ∷ l) rest.same_independent);
             }
       ]
 
@@ -117,9 +118,9 @@ module _ {E : Type 0} (depends : E → E → Bool) where
           × (without history (suc i) ≡ remaining depends history (suc i))
       alone [] i event h = absurd (not_cons event [] (sym h))
       alone (x ∷ xs) zero event h =
-          let is = same_first x event (caught depends (x ∷ []) xs) [] h in
-          let free = none_caught (x ∷ []) xs (same_rest x event (caught depends (x ∷ []) xs) [] h) in
-          (ap Some is, rw is at (last_apart [] x xs free).1, sym (free_uncaught (x ∷ []) xs free))
+          let is = same_first x event (dependents depends (x ∷ []) xs) [] h in
+          let free = none_dependent (x ∷ []) xs (same_rest x event (dependents depends (x ∷ []) xs) [] h) in
+          (ap Some is, rw is at (last_apart [] x xs free).1, sym (free_independent (x ∷ []) xs free))
       alone (x ∷ xs) (suc i) event h = let q = alone xs i event h in (q.0, q.1, ap (λ l. x ∷ l) q.2)
 
   -- Where it has some, the last of them is free, and without that one the others are its consequences, and the same events remain.
@@ -135,11 +136,11 @@ module _ {E : Type 0} (depends : E → E → Bool) where
           × (remaining depends (without history (suc j)) (suc i) ≡ remaining depends history (suc i))
       some [] i event last removed h = absurd (not_cons event (removed ++ last ∷ []) (sym h))
       some (x ∷ xs) zero event last removed h =
-          let q = last_caught (x ∷ []) xs removed last (same_rest x event (caught depends (x ∷ []) xs) (removed ++ last ∷ []) h) in (
+          let q = last_dependent (x ∷ []) xs removed last (same_rest x event (dependents depends (x ∷ []) xs) (removed ++ last ∷ []) h) in (
             suc q.others,
             q.at,
             q.independent,
-            ap (λ l. x ∷ l) q.others_caught ∙ ap (λ y. y ∷ removed) (same_first x event (caught depends (x ∷ []) xs) (removed ++ last ∷ []) h),
-            q.same_uncaught,
+            ap (λ l. x ∷ l) q.others_dependent ∙ ap (λ y. y ∷ removed) (same_first x event (dependents depends (x ∷ []) xs) (removed ++ last ∷ []) h),
+            q.same_independent,
           )
       some (x ∷ xs) (suc i) event last removed h = let q = some xs i event last removed h in (suc q.0, q.1, q.2, q.3, ap (λ l. x ∷ l) q.4)

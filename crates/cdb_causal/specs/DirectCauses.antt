@@ -21,4 +21,5 @@ ComesBefore (named.Lost copy) other = ⊥
 pub record AreDirectCauses (history : List Event) (at : ℕ) (names : List StepId) : Type 0 where
   pub only : (k : ℕ) (name : StepId) → slice_get names k ≡ Some name → NamesDirectCause history at name
   pub each : (name : StepId) → NamesDirectCause history at name → (k : ℕ) × (slice_get names k ≡ Some name)
-  pub in_order : (k l : ℕ) (name other : StepId) → k < l → slice_get names k ≡ Some name → slice_get names l ≡ Some other → ComesBefore name other
+  pub in_order : (k l : ℕ) (name other : StepId) → k < l → slice_get names k ≡ Some name
+      → slice_get names l ≡ Some other → ComesBefore name other

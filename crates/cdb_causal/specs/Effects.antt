@@ -6,7 +6,8 @@ use Rattle.cdb_base.specs.declared.event.Kind.{Kind}
 use Rattle.cdb_base.specs.declared.event.Kind.TheVariants.{Send, Write}
 use Rattle.cdb_causal.specs.Dependence.{sends, receives, accesses}
 
--- whether a step of process p of the first kind sends what one of the second kind receives, or writes a register that it accesses
+-- whether a step of process p of the first kind sends what one of the second kind receives, or writes a register that
+-- it accesses
 abbrev pub kind_affects : ℕ → Kind → Kind → Bool
 kind_affects p (Send m) other = receives p m other
 kind_affects p (Write register) other = accesses register other

@@ -1,4 +1,5 @@
--- The words of the laws: of which lists they speak, under any dependence of any type of events, and what they say of these.
+-- The words of the laws: of which lists they speak, under any dependence of any type of events, and what they say of
+-- these.
 use Rattle.std.specs.Prelude.{◌≡◌, ℕ, ◌+◌, ◌≤◌, Bool, true, false, List, [], ◌∷◌, ◌++◌, ◌↔◌, length, Option, Some}
 use Rattle.cdb_base.specs.Positions.{nth}
 use Rattle.cdb_causal.specs.Causality.{IsFree, IsConsequence, IsDirectCause}
@@ -6,7 +7,8 @@ use Rattle.cdb_causal.specs.DirectDependents.{is_direct, as_number, direct_depen
 use Rattle.cdb_causal.specs.Exchange.{IsExchanged, IsEachOnce, HaveSameEvents, KeepsOrder}
 use Rattle.cdb_causal.specs.Past.{HasLedTo}
 use Rattle.cdb_causal.specs.Reach.{reached}
-use Rattle.cdb_causal.specs.Rollback.{IsParted, IsRolledBack, events_before, events_behind, without, position_before, remaining, rolled_back}
+use Rattle.cdb_causal.specs.Rollback.{IsParted, IsRolledBack, events_before, events_behind}
+use Rattle.cdb_causal.specs.Rollback.{without, position_before, remaining, rolled_back}
 
 -- ---- of what
 
@@ -21,17 +23,20 @@ OfPairs E Holds = OfPositions E (λ depends history at. (other : ℕ) → Holds 
 -- of each rollback: by list and position, what remains and what is rolled back
 abbrev pub OfRollbacks : (E : Type 0) → ((E → E → Bool) → List E → ℕ → List E → List E → Type 0) → Type 0
 OfRollbacks E Holds =
-    OfPositions E (λ depends history at. Holds depends history at (remaining depends history at) (rolled_back depends history at))
+    OfPositions E (λ depends history at.
+    Holds depends history at (remaining depends history at) (rolled_back depends history at))
 
 -- of each event of each list, with its position
 abbrev pub OfEvents : (E : Type 0) → ((E → E → Bool) → List E → ℕ → E → Type 0) → Type 0
 OfEvents E Holds =
-    (depends : E → E → Bool) (history : List E) (at : ℕ) (event : E) → nth history at ≡ Some event → Holds depends history at event
+    (depends : E → E → Bool) (history : List E) (at : ℕ) (event : E)
+    → nth history at ≡ Some event → Holds depends history at event
 
 -- of each free one
 abbrev pub OfFree : (E : Type 0) → ((E → E → Bool) → List E → ℕ → E → Type 0) → Type 0
 OfFree E Holds =
-    (depends : E → E → Bool) (history : List E) (at : ℕ) (event : E) → nth history at ≡ Some event → IsFree depends history at
+    (depends : E → E → Bool) (history : List E) (at : ℕ) (event : E)
+    → nth history at ≡ Some event → IsFree depends history at
     → Holds depends history at event
 
 -- of each event and each list of events behind it
@@ -50,7 +55,8 @@ OfExchanged E Holds = OfTwo E (λ depends events others. IsExchanged depends eve
 
 -- both lists have the same events, each once, and their dependent pairs stand in the same order
 abbrev pub HaveSameOrder : {E : Type 0} → (E → E → Bool) → List E → List E → Type 0
-HaveSameOrder depends events others = IsEachOnce events × IsEachOnce others × HaveSameEvents events others × KeepsOrder depends events others
+HaveSameOrder depends events others =
+    IsEachOnce events × IsEachOnce others × HaveSameEvents events others × KeepsOrder depends events others
 
 -- both reach the same state from each, or neither reaches any
 abbrev pub ReachTheSame : {S E : Type 0} → (S → E → Option S) → List E → List E → Type 0
@@ -69,7 +75,8 @@ IsRollback depends history at left removed = IsParted (IsRolledBack depends hist
 
 -- the events are exactly the consequences of the one at a position, in order
 abbrev pub AreConsequences : {E : Type 0} → (E → E → Bool) → List E → ℕ → List E → Type 0
-AreConsequences {E} depends history at events = (left : List E) × IsParted (IsConsequence depends history at) 1 history left events
+AreConsequences {E} depends history at events =
+    (left : List E) × IsParted (IsConsequence depends history at) 1 history left events
 
 -- the event at a position is a direct cause of none
 abbrev pub HasNoEffect : {E : Type 0} → (E → E → Bool) → List E → ℕ → Type 0
@@ -78,7 +85,8 @@ HasNoEffect depends history at = (other : ℕ) → IsDirectCause depends history
 -- without the event at a position the others have the direct causes that they had
 abbrev pub OthersKeepCauses : {E : Type 0} → (E → E → Bool) → List E → ℕ → Type 0
 OthersKeepCauses depends history at =
-    (k l : ℕ) → IsDirectCause depends (without history at) k l ↔ IsDirectCause depends history (position_before at k) (position_before at l)
+    (k l : ℕ) → IsDirectCause depends (without history at) k l
+    ↔ IsDirectCause depends history (position_before at k) (position_before at l)
 
 -- the event at a position is a direct cause of the one that is added at the end
 abbrev pub CausesLast : {E : Type 0} → (E → E → Bool) → List E → ℕ → E → Type 0
@@ -88,9 +96,11 @@ CausesLast depends history at event = IsDirectCause depends (history ++ event �
 abbrev pub IsDirectBehind : {E : Type 0} → (E → E → Bool) → List E → ℕ → E → E → Type 0
 IsDirectBehind depends history at cause event = is_direct depends cause (events_behind history at) event ≡ true
 
--- of which events that are added at the end the cause at a position is a direct cause is told by the list of those behind it
+-- of which events that are added at the end the cause at a position is a direct cause is told by the list of those
+-- behind it
 abbrev pub IsToldByList : {E : Type 0} → (E → E → Bool) → List E → ℕ → E → Type 0
-IsToldByList {E} depends history at cause = (event : E) → CausesLast depends history at event ↔ IsDirectBehind depends history at cause event
+IsToldByList {E} depends history at cause =
+    (event : E) → CausesLast depends history at event ↔ IsDirectBehind depends history at cause event
 
 -- position i is a direct cause of one that has led to position j
 abbrev pub LeadsThrough : {E : Type 0} → (E → E → Bool) → List E → ℕ → ℕ → Type 0
@@ -107,13 +117,15 @@ NoneDepends {E} depends cause events = (at : ℕ) (event : E) → nth events at 
 -- the event that is added is one direct dependent more of the cause, if it is one
 abbrev pub CountsAdded : {E : Type 0} → (E → E → Bool) → E → List E → E → Type 0
 CountsAdded depends cause events event =
-    direct_dependents depends cause (events ++ event ∷ []) ≡ direct_dependents depends cause events + as_number (is_direct depends cause events event)
+    direct_dependents depends cause (events ++ event ∷ [])
+    ≡ direct_dependents depends cause events + as_number (is_direct depends cause events event)
 
 -- without the event at a position there is one less, if it was one
 abbrev pub CountsTakenOut : {E : Type 0} → (E → E → Bool) → E → List E → ℕ → E → Type 0
 CountsTakenOut depends cause events at gone =
     direct_dependents depends cause events
-    ≡ as_number (is_direct depends cause (events_before events at) gone) + direct_dependents depends cause (without events at)
+    ≡ as_number (is_direct depends cause (events_before events at) gone)
+    + direct_dependents depends cause (without events at)
 
 -- where the event at a position is rolled back alone it is free, and all else remains
 abbrev pub IsFreeIfAlone : {E : Type 0} → (E → E → Bool) → List E → ℕ → Type 0
@@ -121,7 +133,8 @@ IsFreeIfAlone {E} depends history at =
     (event : E) → rolled_back depends history at ≡ event ∷ []
     → (nth history at ≡ Some event) × IsFree depends history at × (without history at ≡ remaining depends history at)
 
--- of what is rolled back with it the last is free; without that one the others are rolled back, and the same events remain
+-- of what is rolled back with it the last is free; without that one the others are rolled back, and the same events
+-- remain
 abbrev pub MayGoLastFirst : {E : Type 0} → (E → E → Bool) → List E → ℕ → Type 0
 MayGoLastFirst {E} depends history at =
     (event last : E) (removed : List E) → rolled_back depends history at ≡ event ∷ (removed ++ last ∷ [])

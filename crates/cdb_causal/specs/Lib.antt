@@ -1,6 +1,6 @@
 -- what a reader of the contracts believes
 pub mod Causality
-pub mod Changing
+pub mod FailedChange
 pub mod Dependence
 pub mod DirectCauses
 pub mod DirectDependents
@@ -11,7 +11,7 @@ pub mod Past
 pub mod Paths
 pub mod Reach
 pub mod Rollback
-pub mod Standing
+pub mod StandingEvents
 -- what the code keeps for itself: tests by effect, and steps in another order
 pub mod Effects
-pub mod Exchanging
+pub mod Exchanges

@@ -3,8 +3,8 @@ use Rattle.std.specs.Prelude.{◌≡◌, ℕ, Bool, List, ◌⊎◌}
 use Rattle.cdb_causal.specs.Causality.{IsLink}
 use Rattle.cdb_causal.specs.Rollback.{IsParted}
 
--- the positions from which a chain of links leads to position j: the least set that has each position from which a link leads to
--- j and, with each position in it, each position from which a link leads to that one
+-- the positions from which a chain of links leads to position j: the least set that has each position from which a link
+-- leads to j and, with each position in it, each position from which a link leads to that one
 pub data IsInPast {E : Type 0} (depends : E → E → Bool) (history : List E) (j : ℕ) : ℕ → Type 0 where
   one_link : {i : ℕ} → IsLink depends history i j → IsInPast depends history j i
   link_before : {h i : ℕ} → IsLink depends history h i → IsInPast depends history j i → IsInPast depends history j h

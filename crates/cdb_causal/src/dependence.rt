@@ -1,7 +1,8 @@
 //! Which events depend on each other.
 
 ghost use Rattle.std.specs.Prelude.{◌≡◌, ◌&&◌, ◌||◌, nat_eq};
-ghost use Rattle.cdb_causal.specs.Dependence.{sends as sends_of, receives as receives_of, same_process as same_process_of, depends as depends_of};
+ghost use Rattle.cdb_causal.specs.Dependence.{sends as sends_of, receives as receives_of};
+ghost use Rattle.cdb_causal.specs.Dependence.{same_process as same_process_of, depends as depends_of};
 ghost use Rattle.cdb_causal.specs.Effects.{kind_affects as kind_affects_of, affects as affects_of};
 
 use cdb_base::{CopyName, Event, Kind, Proc};

@@ -5,7 +5,10 @@ ghost use Rattle.std.specs.Prelude.{Bool, List, [], ◌∷◌, ◌++◌, ◌↔�
 ghost use Rattle.cdb_causal.specs.Causality.{IsFree};
 ghost use Rattle.cdb_causal.specs.Dependence.{depends as depends_of};
 ghost use Rattle.cdb_causal.specs.Exchange.{IsExchanged, IsEachOnce, HaveSameEvents, KeepsOrder};
-ghost use Rattle.cdb_causal.specs.Laws.{OfPositions, OfRollbacks, OfEvents, OfFree, OfCauses, OfTwo, OfExchanged, HaveSameOrder, ReachTheSame, IsTransitive, IsMutual, IsRollback, AreConsequences, HasNoEffect, OthersKeepCauses, IsToldByList, IsDirectOfNone, NoneDepends, CountsAdded, CountsTakenOut, IsFreeIfAlone, MayGoLastFirst};
+ghost use Rattle.cdb_causal.specs.Laws.{OfPositions, OfRollbacks, OfEvents, OfFree, OfCauses, OfTwo, OfExchanged};
+ghost use Rattle.cdb_causal.specs.Laws.{HaveSameOrder, ReachTheSame, IsTransitive, IsMutual, IsRollback};
+ghost use Rattle.cdb_causal.specs.Laws.{AreConsequences, HasNoEffect, OthersKeepCauses, IsToldByList, IsDirectOfNone};
+ghost use Rattle.cdb_causal.specs.Laws.{NoneDepends, CountsAdded, CountsTakenOut, IsFreeIfAlone, MayGoLastFirst};
 ghost use Rattle.cdb_causal.specs.Reach.{IsCommuting, IsSymmetric};
 ghost use Rattle.cdb_causal.specs.Rollback.{without, rolled_back, consequences};
 

@@ -20,8 +20,8 @@ pub fn past_by_direct_causes<E>()
         IsInPast depends history j i ↔ LeadsThrough depends history i j) }
 {}
 
-/// What led to an event needs none of the others: it reaches the front of the list, in order, by exchanges of independent
-/// neighbours alone.
+/// What led to an event needs none of the others: it reaches the front of the list, in order, by exchanges of
+/// independent neighbours alone.
 pub fn slice_to_front<E>()
     ensures { (depends : E → E → Bool) (history : List E) (at : ℕ) (slice others : List E) →
         IsSlice depends history at slice others → IsExchanged depends history (slice ++ others) }

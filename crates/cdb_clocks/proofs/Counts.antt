@@ -1,5 +1,6 @@
 -- A clock counts the steps that have led to its event.
-use Rattle.std.proofs.Common.{◌≡◌, ℕ, zero, suc, ◌+◌, ◌<◌, ◌≤◌, ◌↔◌, ◌⊎◌, inl, inr, ⊎_elim, Bool, true, false, List, [], ◌∷◌, length, take, drop, filter, slice_get, Some, min, refl, sym, ap, ◌∙◌, subst, arith, eq-eqb, ne_eqb}
+use Rattle.std.proofs.Common.{◌≡◌, ℕ, zero, suc, ◌+◌, ◌<◌, ◌≤◌, ◌↔◌, ◌⊎◌, inl, inr, ⊎_elim, Bool, true, false, List, [], ◌∷◌, length}
+use Rattle.std.proofs.Common.{take, drop, filter, slice_get, Some, min, refl, sym, ap, ◌∙◌, subst, arith, eq-eqb, ne_eqb}
 use Rattle.std.proofs.lemmas.Bool.{cases_Bool, cases_eq, cases_lt}
 use Rattle.std.proofs.lemmas.Option.{none-some}
 use Rattle.cdb_base.specs.Event.{is_step_of}
@@ -13,7 +14,7 @@ use Rattle.cdb_causal.specs.Rollback.{IsParted, done, kept, gone}
 use Rattle.cdb_clocks.proofs.Next.{next_fails, next_passes, passing}
 use Rattle.cdb_clocks.specs.Clocks.{CountsLed, IsClock}
 use Rattle.cdb_same.proofs.Ranks.{number_is}
-use Rattle.cdb_standing.specs.Comparing.{steps_by, AreNumbered}
+use Rattle.cdb_standing.specs.Comparisons.{steps_by, AreNumbered}
 use Rattle.cdb_standing.specs.Cuts.{cut_of as count_of}
 
 first_left : {A : Type 0} (xs : List A) (i : ℕ) (x : A) (ys : List A) → drop i xs ≡ x ∷ ys → (slice_get xs i ≡ Some x) × (drop (suc i) xs ≡ ys)
@@ -57,7 +58,8 @@ module _ (history : List Event) (q : ℕ) (numbered : AreNumbered q history) (at
   other_more : (p k : ℕ) (kind : Kind) (events : List Event) → (p ≡ q → ⊥) → steps_by q (Step p k kind ∷ events) ≡ steps_by q events
   other_more p k kind events other = rw (ne_eqb p q other) refl
 
-  counted : (i : ℕ) (events others led : List Event) → drop i history ≡ events → IsParted (HasLedTo depends history at) (suc i) events others led → IsCounted i events led
+  counted : (i : ℕ) (events others led : List Event) → drop i history ≡ events
+      → IsParted (HasLedTo depends history at) (suc i) events others led → IsCounted i events led
   counted i events others led left done = omega arith
   counted i events others led left (kept {event = Lost copy} {events = more} not parted) =
       let first = first_left history i (Lost copy) more left in
@@ -77,8 +79,11 @@ module _ (history : List Event) (q : ℕ) (numbered : AreNumbered q history) (at
       let stands : slice_get history i ≡ Some (Step q k kind) = first.0 ∙ ap (λ (r : ℕ). Some (Step r k kind)) own in
       let place = own_first i k kind stands in
       let beyond : n ≤ before i = at_least (λ few. not ((is.led (suc i) k kind stands).0 (omega (arith, few, place.1)))) in
-      let grown : length (steps_by q (Step p k kind ∷ more)) ≡ suc (length (steps_by q more)) = ap (λ (r : ℕ). length (steps_by q (Step r k kind ∷ more))) own ∙ own_more i k kind more removed in
-      let result = none_led n (before i) (length (steps_by q more)) (length (steps_by q removed)) beyond (subst (λ (b : ℕ). length (steps_by q removed) + min n b ≡ min n (b + length (steps_by q more))) place.0 again) in
+      let grown : length (steps_by q (Step p k kind ∷ more)) ≡ suc (length (steps_by q more)) =
+      ap (λ (r : ℕ). length (steps_by q (Step r k kind ∷ more))) own ∙ own_more i k kind more removed in
+      let result =
+      none_led n (before i) (length (steps_by q more)) (length (steps_by q removed)) beyond
+      (subst (λ (b : ℕ). length (steps_by q removed) + min n b ≡ min n (b + length (steps_by q more))) place.0 again) in
       result ∙ ap (λ (m : ℕ). min n (before i + m)) (sym grown))
       (λ other.
       let same = next_fails (is_step_of q) history i (Step p k kind) first.0 (ne_eqb p q other) in
@@ -96,14 +101,19 @@ module _ (history : List Event) (q : ℕ) (numbered : AreNumbered q history) (at
       let stands : slice_get history i ≡ Some (Step q k kind) = first.0 ∙ ap (λ (r : ℕ). Some (Step r k kind)) own in
       let place = own_first i k kind stands in
       let within : suc (before i) ≤ n = (let few = (is.led (suc i) k kind stands).1 has in omega (arith, few, place.1)) in
-      let grown : length (steps_by q (Step p k kind ∷ more)) ≡ suc (length (steps_by q more)) = ap (λ (r : ℕ). length (steps_by q (Step r k kind ∷ more))) own ∙ own_more i k kind more removed in
-      let longer : length (steps_by q (Step p k kind ∷ removed)) ≡ suc (length (steps_by q removed)) = ap (λ (r : ℕ). length (steps_by q (Step r k kind ∷ removed))) own ∙ own_more i k kind removed more in
-      let result = one_led n (before i) (length (steps_by q more)) (length (steps_by q removed)) within (subst (λ (b : ℕ). length (steps_by q removed) + min n b ≡ min n (b + length (steps_by q more))) place.0 again) in
+      let grown : length (steps_by q (Step p k kind ∷ more)) ≡ suc (length (steps_by q more)) =
+      ap (λ (r : ℕ). length (steps_by q (Step r k kind ∷ more))) own ∙ own_more i k kind more removed in
+      let longer : length (steps_by q (Step p k kind ∷ removed)) ≡ suc (length (steps_by q removed)) =
+      ap (λ (r : ℕ). length (steps_by q (Step r k kind ∷ removed))) own ∙ own_more i k kind removed more in
+      let result =
+      one_led n (before i) (length (steps_by q more)) (length (steps_by q removed)) within
+      (subst (λ (b : ℕ). length (steps_by q removed) + min n b ≡ min n (b + length (steps_by q more))) place.0 again) in
       ap (λ (m : ℕ). m + min n (before i)) longer ∙ result ∙ ap (λ (m : ℕ). min n (before i + m)) (sym grown))
       (λ other.
       let same = next_fails (is_step_of q) history i (Step p k kind) first.0 (ne_eqb p q other) in
       let as_before = subst (λ (b : ℕ). length (steps_by q removed) + min n b ≡ min n (b + length (steps_by q more))) same again in
-      ap (λ (l : List Event). length l + min n (before i)) (other_more p k kind removed other) ∙ as_before ∙ ap (λ (l : List Event). min n (before i + length l)) (sym (other_more p k kind more other)))
+      ap (λ (l : List Event). length l + min n (before i)) (other_more p k kind removed other) ∙ as_before
+      ∙ ap (λ (l : List Event). min n (before i + length l)) (sym (other_more p k kind more other)))
       (cases_eq p q)
 
   -- the number of a standing step is at most how many there are
@@ -121,6 +131,7 @@ module _ (history : List Event) (q : ℕ) (numbered : AreNumbered q history) (at
       let all = counted 0 history others led refl parted in
       omega (arith, all, within_all)
 
-pub clock_counts : (history : List Event) (at q : ℕ) (clock : List ℕ) (led others : List Event) → AreNumbered q history → IsClock history at clock → IsSlice depends history at led others
+pub clock_counts : (history : List Event) (at q : ℕ) (clock : List ℕ) (led others : List Event)
+    → AreNumbered q history → IsClock history at clock → IsSlice depends history at led others
     → count_of clock q ≡ length (steps_by q led)
 clock_counts history at q clock led others numbered is parted = counts history q numbered at (count_of clock q) (is q) others led parted

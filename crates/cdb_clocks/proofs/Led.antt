@@ -1,5 +1,6 @@
 -- What has led to an event, by its last direct cause.
-use Rattle.std.proofs.Common.{◌≡◌, ℕ, zero, suc, ◌+◌, ◌<◌, ◌≤◌, inl, inr, ⊎_elim, List, Some, refl, sym, subst, arith, eq-eqb, Bool, true, false, ◌||◌, true≢false}
+use Rattle.std.proofs.Common.{◌≡◌, ℕ, zero, suc, ◌+◌, ◌<◌, ◌≤◌, inl, inr, ⊎_elim, List, Some, refl}
+use Rattle.std.proofs.Common.{sym, subst, arith, eq-eqb, Bool, true, false, ◌||◌, true≢false}
 use Rattle.cdb_base.specs.Positions.{nth}
 use Rattle.cdb_base.specs.declared.event.Event.{Event}
 use Rattle.cdb_base.specs.declared.event.Event.TheVariants.{Step}
@@ -18,7 +19,8 @@ own_depends : (p l k : ℕ) (kind its : Kind) → depends (Step p l kind) (Step 
 own_depends p l k kind its =
     let one : Event = Step p l kind in
     let other : Event = Step p k its in
-    first_of_five (same_process one other) (are_a send_and_receive one other) (are_a write_and_access one other) (are_a send_and_loss one other) (are_a loss_and_receive one other)
+    first_of_five (same_process one other) (are_a send_and_receive one other)
+    (are_a write_and_access one other) (are_a send_and_loss one other) (are_a loss_and_receive one other)
     (eq-eqb p p refl)
 
 module _ (history : List Event) where
@@ -56,5 +58,8 @@ module _ (history : List Event) where
   last_cause x at past = by_last at x at (omega arith) past
 
   -- an earlier step of the process has led to a later one
-  pub own_led : (x at p l k : ℕ) (kind its : Kind) → x < at → nth history x ≡ Some (Step p l kind) → nth history at ≡ Some (Step p k its) → HasLedTo depends history at x
-  own_led x at p l k kind its less at_x at_it = inr (one_link (record { cause = Step p l kind; effect = Step p k its; later = less; at_cause = at_x; at_effect = at_it; linked = own_depends p l k kind its }))
+  pub own_led : (x at p l k : ℕ) (kind its : Kind) → x < at → nth history x ≡ Some (Step p l kind)
+      → nth history at ≡ Some (Step p k its) → HasLedTo depends history at x
+  own_led x at p l k kind its less at_x at_it =
+      inr (one_link
+      (record { cause = Step p l kind; effect = Step p k its; later = less; at_cause = at_x; at_effect = at_it; linked = own_depends p l k kind its }))

@@ -2,7 +2,7 @@
 pub mod Led
 pub mod Raised
 pub mod Next
-pub mod Told
+pub mod WrittenClocks
 pub mod Counts
 -- the text
 pub mod Lines

@@ -1,5 +1,6 @@
 -- The lines of the steps so far.
-use Rattle.std.proofs.Common.{◌≡◌, ℕ, zero, suc, ◌+◌, List, [], ◌∷◌, ◌++◌, Some, Option, slice_get, unwrap_or, refl, sym, ap, ◌∙◌, arith, append-nil, append_assoc}
+use Rattle.std.proofs.Common.{◌≡◌, ℕ, zero, suc, ◌+◌, List, [], ◌∷◌, ◌++◌, Some, Option, slice_get}
+use Rattle.std.proofs.Common.{unwrap_or, refl, sym, ap, ◌∙◌, arith, append-nil, append_assoc}
 use Rattle.std.specs.List.{flat_map, range_with_len}
 use Rattle.std.proofs.lemmas.Grind.{flat_map-append}
 use Rattle.cdb_base.specs.Positions.{nth}
@@ -30,12 +31,15 @@ module _ (rules : Parts → Rules) (run : RunView) (clocks : List (List ℕ)) (i
 
   -- the lines of the next event, by its line and its clock
   pub its_lines : (event : Event) (clock : List ℕ) (after : RunView) (did : Deed) → slice_get run.history i ≡ Some event → slice_get clocks i ≡ Some clock
-      → line_at rules Shown run (suc i) ≡ line_text rules Shown after did after event → lines_at rules run clocks (suc i) ≡ step_text rules after did clock event
+      → line_at rules Shown run (suc i) ≡ line_text rules Shown after did after event
+      → lines_at rules run clocks (suc i) ≡ step_text rules after did clock event
   its_lines event clock after did at clock_at line =
-      ap (λ (o : Option Event). lines_of rules run (suc i) (unwrap_or (nth clocks (suc i)) []) o) at ∙ ap (λ (o : Option (List ℕ)). lines_of rules run (suc i) (unwrap_or o []) (Some event)) clock_at
+      ap (λ (o : Option Event). lines_of rules run (suc i) (unwrap_or (nth clocks (suc i)) []) o) at
+      ∙ ap (λ (o : Option (List ℕ)). lines_of rules run (suc i) (unwrap_or o []) (Some event)) clock_at
       ∙ by event line
     where
-      by : (e : Event) → line_at rules Shown run (suc i) ≡ line_text rules Shown after did after e → lines_of rules run (suc i) clock (Some e) ≡ step_text rules after did clock e
+      by : (e : Event) → line_at rules Shown run (suc i) ≡ line_text rules Shown after did after e
+          → lines_of rules run (suc i) clock (Some e) ≡ step_text rules after did clock e
       by (Step p k kind) line = ap (λ (t : List ℕ). clock_text p clock ++ t) line
       by (Lost copy) line = refl
 

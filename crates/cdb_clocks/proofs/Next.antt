@@ -1,5 +1,6 @@
 -- The rows once the clock of the next step has been added.
-use Rattle.std.proofs.Common.{◌≡◌, ℕ, zero, suc, ◌+◌, ◌≤◌, ◌⊎◌, inl, inr, ⊎_elim, Bool, true, false, List, [], ◌∷◌, ◌++◌, length, take, filter, slice_get, Some, refl, sym, ap, ◌∙◌, subst, arith, length-append, ne_eqb}
+use Rattle.std.proofs.Common.{◌≡◌, ℕ, zero, suc, ◌+◌, ◌≤◌, ◌⊎◌, inl, inr, ⊎_elim, Bool, true, false, List, [], ◌∷◌, ◌++◌, length}
+use Rattle.std.proofs.Common.{take, filter, slice_get, Some, refl, sym, ap, ◌∙◌, subst, arith, length-append, ne_eqb}
 use Rattle.std.proofs.lemmas.Bool.{cases_Bool, cases_eq}
 use Rattle.std.proofs.lemmas.Option.{none-some, same_Some}
 use Rattle.cdb_base.specs.Event.{is_step_of}
@@ -13,7 +14,7 @@ use Rattle.cdb_clocks.proofs.Raised.{name_of_step}
 use Rattle.cdb_clocks.specs.Clocks.{IsClock}
 use Rattle.cdb_clocks.specs.Rows.{AreKept}
 use Rattle.cdb_same.proofs.Ranks.{its_own, number_is}
-use Rattle.cdb_same.specs.Comparing.{AreNumberedUpTo, IsComparable}
+use Rattle.cdb_same.specs.Comparisons.{AreNumberedUpTo, IsComparable}
 use Rattle.cdb_standing.specs.Tables.{row_of, IsPutOn}
 
 module _ {E : Type 0} (test : E → Bool) where
@@ -64,7 +65,8 @@ module _ (history : List Event) (end : ℕ) (rows : List (List (List ℕ))) (kep
   kept_at_loss copy stands = record {
     clocks = λ at q l kind there few.
         ⊎_elim (λ before. kept.clocks at q l kind there before)
-        (λ last. absurd (no_step q l kind (same_Some (Lost copy) (Step q l kind) (sym stands ∙ subst (λ (n : ℕ). nth history n ≡ Some (Step q l kind)) last there))))
+        (λ last.
+        absurd (no_step q l kind (same_Some (Lost copy) (Step q l kind) (sym stands ∙ subst (λ (n : ℕ). nth history n ≡ Some (Step q l kind)) last there))))
         (last_position at end few);
     lengths = λ q. kept.lengths q ∙ sym (next_fails (is_step_of q) history end (Lost copy) stands refl);
   }
@@ -72,7 +74,8 @@ module _ (history : List Event) (end : ℕ) (rows : List (List (List ℕ))) (kep
       no_step : (q l : ℕ) (kind : Kind) → Lost copy ≡ Step q l kind → ⊥
       no_step q l kind same = cc
 
-  module _ (comparable : IsComparable history) (numbered : AreNumberedUpTo history 9) (p k : ℕ) (its : Kind) (stands : nth history (suc end) ≡ Some (Step p k its)) (clock : List ℕ) (is : IsClock history (suc end) clock)
+  module _ (comparable : IsComparable history) (numbered : AreNumberedUpTo history 9) (p k : ℕ) (its : Kind)
+      (stands : nth history (suc end) ≡ Some (Step p k its)) (clock : List ℕ) (is : IsClock history (suc end) clock)
       (new : List (List (List ℕ))) (put : IsPutOn p rows clock new) where
     place : k ≡ suc (length (row_of rows p))
     place =
@@ -84,7 +87,8 @@ module _ (history : List Event) (end : ℕ) (rows : List (List (List ℕ))) (kep
     still q l old at =
         ⊎_elim
         (λ own.
-        subst (λ row. nth row l ≡ Some old) (sym (ap (row_of new) own ∙ put.more)) (nth_front (row_of rows p) clock old l (subst (λ (r : ℕ). nth (row_of rows r) l ≡ Some old) own at)))
+        subst (λ row. nth row l ≡ Some old) (sym (ap (row_of new) own ∙ put.more))
+        (nth_front (row_of rows p) clock old l (subst (λ (r : ℕ). nth (row_of rows r) l ≡ Some old) own at)))
         (λ other. subst (λ row. nth row l ≡ Some old) (sym (put.others q other)) at)
         (cases_eq q p)
 
@@ -103,7 +107,9 @@ module _ (history : List Event) (end : ℕ) (rows : List (List (List ℕ))) (kep
       lengths = λ q.
           ⊎_elim
           (λ own.
-          let more : length (row_of new p) ≡ suc (length (row_of rows p)) = ap length put.more ∙ length-append (row_of rows p) (clock ∷ []) ∙ (let one : length (row_of rows p) + 1 ≡ suc (length (row_of rows p)) = omega arith in one) in
+          let more : length (row_of new p) ≡ suc (length (row_of rows p)) =
+          ap length put.more ∙ length-append (row_of rows p) (clock ∷ [])
+          ∙ (let one : length (row_of rows p) + 1 ≡ suc (length (row_of rows p)) = omega arith in one) in
           let its_row : length (row_of new p) ≡ length (filter (is_step_of p) (take (suc end) history)) =
           more ∙ ap suc (kept.lengths p) ∙ sym (next_passes (is_step_of p) history end (Step p k its) stands (its_own p k its)) in
           subst (λ (r : ℕ). length (row_of new r) ≡ length (filter (is_step_of r) (take (suc end) history))) (sym own) its_row)

@@ -1,5 +1,6 @@
 -- A clock that is raised to those of the direct causes of a step.
-use Rattle.std.proofs.Common.{◌≡◌, ℕ, suc, ◌<◌, ◌≤◌, ◌↔◌, ◌⊎◌, inl, inr, ⊎_elim, List, [], ◌∷◌, ◌++◌, Some, length, slice_set, replicate, max, refl, sym, ap, ◌∙◌, subst, arith}
+use Rattle.std.proofs.Common.{◌≡◌, ℕ, suc, ◌<◌, ◌≤◌, ◌↔◌, ◌⊎◌, inl, inr, ⊎_elim, List, [], ◌∷◌, ◌++◌, Some}
+use Rattle.std.proofs.Common.{length, slice_set, replicate, max, refl, sym, ap, ◌∙◌, subst, arith}
 use Rattle.std.proofs.lemmas.Bool.{cases_eq}
 use Rattle.std.proofs.lemmas.Option.{none-some, same_Some}
 use Rattle.cdb_base.specs.Event.{event_name}
@@ -20,7 +21,7 @@ use Rattle.cdb_clocks.specs.Clocks.{CountsLed, IsClock}
 use Rattle.cdb_clocks.specs.Rows.{clock_named, AreKept, HasLedOf, IsRaised, IsRaisedBy}
 use Rattle.cdb_same.proofs.Counted.{count_other, count_set, none_counted}
 use Rattle.cdb_same.proofs.Ranks.{from_one, in_order}
-use Rattle.cdb_same.specs.Comparing.{AreNumberedUpTo, IsComparable}
+use Rattle.cdb_same.specs.Comparisons.{AreNumberedUpTo, IsComparable}
 use Rattle.cdb_standing.specs.Cuts.{cut_of as count_of}
 use Rattle.cdb_standing.specs.Moves.{HasStep}
 use Rattle.cdb_standing.specs.Tables.{row_of}
@@ -59,8 +60,10 @@ module _ (history : List Event) (comparable : IsComparable history) (numbered : 
     last = λ q. inl (none_counted n q);
   }
 
-  module _ (end : ℕ) (names : List StepId) (clock new : List ℕ) (so_far : HasLedOf history (suc end) names clock) (rows : List (List (List ℕ))) (kept : AreKept history end rows) where
-    by_step : (y p k : ℕ) (kind : Kind) → IsDirectCause depends history y (suc end) → nth history y ≡ Some (Step p k kind) → IsRaised (nth (row_of rows p) k) clock new
+  module _ (end : ℕ) (names : List StepId) (clock new : List ℕ) (so_far : HasLedOf history (suc end) names clock)
+      (rows : List (List (List ℕ))) (kept : AreKept history end rows) where
+    by_step : (y p k : ℕ) (kind : Kind) → IsDirectCause depends history y (suc end)
+        → nth history y ≡ Some (Step p k kind) → IsRaised (nth (row_of rows p) k) clock new
         → HasLedOf history (suc end) (names ++ named.Step (record { p = p; k = k }) ∷ []) new
     by_step y p k kind direct at_y raised =
         let later = direct.link.later in
@@ -69,14 +72,17 @@ module _ (history : List Event) (comparable : IsComparable history) (numbered : 
         let name : StepId = named.Step (record { p = p; k = k }) in
         record {
           only = λ other q l its stands few.
-              ⊎_elim (λ old. so_far.only other q l its stands old) (λ more. led_on history other y (suc end) direct.link (((own.2 q).led other l its stands).0 more))
+              ⊎_elim (λ old. so_far.only other q l its stands old)
+              (λ more. led_on history other y (suc end) direct.link (((own.2 q).led other l its stands).0 more))
               (above_either l (count_of clock q) (count_of own.0 q) (count_of new q) (is q) few);
           each = λ i cause other_name get is_named other q l its stands led.
               ⊎_elim
-              (λ front. above_first l (count_of clock q) (count_of own.0 q) (count_of new q) (is q) (so_far.each i cause other_name front.0 is_named other q l its stands led))
+              (λ front. above_first l (count_of clock q) (count_of own.0 q) (count_of new q)
+              (is q) (so_far.each i cause other_name front.0 is_named other q l its stands led))
               (λ back.
               let same = comparable.standing.names_differ cause y other_name is_named (Step p k kind, at_y, back.0) in
-              above_second l (count_of clock q) (count_of own.0 q) (count_of new q) (is q) (((own.2 q).led other l its stands).1 (subst (λ (n : ℕ). HasLedTo depends history n other) same led)))
+              above_second l (count_of clock q) (count_of own.0 q) (count_of new q) (is q)
+              (((own.2 q).led other l its stands).1 (subst (λ (n : ℕ). HasLedTo depends history n other) same led)))
               (push_cases names name other_name i get);
           last = λ q.
               ⊎_elim
@@ -86,13 +92,16 @@ module _ (history : List Event) (comparable : IsComparable history) (numbered : 
         }
 
     -- the clock is raised to that of one direct cause more
-    pub raised_more : (name : StepId) → NamesDirectCause history (suc end) name → IsRaised (clock_named rows name) clock new → HasLedOf history (suc end) (names ++ name ∷ []) new
+    pub raised_more : (name : StepId) → NamesDirectCause history (suc end) name
+        → IsRaised (clock_named rows name) clock new → HasLedOf history (suc end) (names ++ name ∷ []) new
     raised_more name (y, direct, (Step p k kind, at_y, is)) raised =
-        subst (λ n. HasLedOf history (suc end) (names ++ n ∷ []) new) is (by_step y p k kind direct at_y (subst (λ n. IsRaised (clock_named rows n) clock new) (sym is) raised))
+        subst (λ n. HasLedOf history (suc end) (names ++ n ∷ []) new) is
+        (by_step y p k kind direct at_y (subst (λ n. IsRaised (clock_named rows n) clock new) (sym is) raised))
     raised_more name (y, direct, (Lost copy, at_y, is)) raised = absurd (comparable.losses_free y copy at_y (suc end) direct.link)
 
   -- with the step itself it is the clock of the step
-  module _ (at p k : ℕ) (kind : Kind) (stands : nth history at ≡ Some (Step p k kind)) (names : List StepId) (causes : AreDirectCauses history at names) (clock : List ℕ) (has : HasLedOf history at names clock) (i : ℕ)
+  module _ (at p k : ℕ) (kind : Kind) (stands : nth history at ≡ Some (Step p k kind)) (names : List StepId)
+      (causes : AreDirectCauses history at names) (clock : List ℕ) (has : HasLedOf history at names clock) (i : ℕ)
       (within : i < length clock) (place : suc i ≡ p) where
     abbrev new : List ℕ
     new = slice_set clock i k
@@ -103,9 +112,11 @@ module _ (history : List Event) (comparable : IsComparable history) (numbered : 
     others_count : (q : ℕ) → (q ≡ p → ⊥) → count_of new q ≡ count_of clock q
     others_count q other = count_other clock i k q (λ e. other (e ∙ place))
 
-    past_counted : (other q l : ℕ) (its : Kind) → nth history other ≡ Some (Step q l its) → (q ≡ p → ⊥) → HasLedTo depends history at other → l ≤ count_of clock q
+    past_counted : (other q l : ℕ) (its : Kind) → nth history other ≡ Some (Step q l its)
+        → (q ≡ p → ⊥) → HasLedTo depends history at other → l ≤ count_of clock q
     past_counted other q l its there apart (inl same) =
-        absurd (apart (ap (λ e. (name_of_step e).0) (same_Some (Step q l its) (Step p k kind) (sym there ∙ subst (λ (n : ℕ). nth history n ≡ Some (Step p k kind)) (sym same) stands))))
+        absurd (apart (ap (λ e. (name_of_step e).0)
+        (same_Some (Step q l its) (Step p k kind) (sym there ∙ subst (λ (n : ℕ). nth history n ≡ Some (Step p k kind)) (sym same) stands))))
     past_counted other q l its there apart (inr past) =
         let last = last_cause history other at past in
         let cause = (last.1).link.cause in

@@ -1,6 +1,6 @@
 -- what a reader of the contracts believes
 pub mod Clocks
 pub mod Texts
-pub mod Told
+pub mod WrittenClocks
 -- what the code keeps for itself
 pub mod Rows

@@ -8,7 +8,7 @@ ghost use Rattle.cdb_base.specs.declared.event.Kind.{Kind};
 ghost use Rattle.cdb_base.specs.declared.name.StepId.TheVariants as named;
 ghost use Rattle.cdb_clocks.specs.Clocks.{AreClocks, IsClock};
 ghost use Rattle.cdb_clocks.specs.Rows.{clock_named, AreKept, GivesNext, IsRaised, IsRaisedBy};
-ghost use Rattle.cdb_same.specs.Comparing.{AreNumberedUpTo, IsComparable};
+ghost use Rattle.cdb_same.specs.Comparisons.{AreNumberedUpTo, IsComparable};
 ghost use Rattle.cdb_standing.specs.Moves.{IsStandingName};
 ghost use Rattle.cdb_standing.specs.Tables.{rows_in};
 

@@ -8,7 +8,7 @@ ghost use Rattle.cdb_base.specs.declared.event.Kind.{Kind};
 ghost use Rattle.cdb_causal.specs.Dependence.{depends};
 ghost use Rattle.cdb_causal.specs.Past.{HasLedTo, IsSlice};
 ghost use Rattle.cdb_clocks.specs.Clocks.{IsClock, IsUpTo};
-ghost use Rattle.cdb_standing.specs.Comparing.{steps_by, AreNumbered};
+ghost use Rattle.cdb_standing.specs.Comparisons.{steps_by, AreNumbered};
 ghost use Rattle.cdb_standing.specs.Cuts.{cut_of as count_of};
 
 /// A clock has of each process how many of its steps are among the events that have led to its event, where the steps

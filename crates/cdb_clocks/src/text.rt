@@ -2,7 +2,8 @@
 
 ghost use Rattle.std.specs.Prelude.{◌≡◌, ◌≤◌, ◌++◌, Bool, suc, IfOk, OnOk, length};
 ghost use Rattle.cdb_clocks.specs.Clocks.{AreClocks};
-ghost use Rattle.cdb_clocks.specs.Texts.{clock_text, comma_text, entries_text, entry_text, first_lines, step_text, IsClocksText};
+ghost use Rattle.cdb_clocks.specs.Texts.{clock_text, comma_text, entries_text, entry_text};
+ghost use Rattle.cdb_clocks.specs.Texts.{first_lines, step_text, IsClocksText};
 ghost use Rattle.cdb_deeds.specs.Deeds.{deed_in, received_by_each};
 ghost use Rattle.cdb_rules.specs.ByRules.{IsInOrder};
 ghost use Rattle.cdb_rules.specs.Runs.{with_event};

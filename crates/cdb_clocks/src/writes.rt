@@ -2,7 +2,7 @@
 
 ghost use Rattle.std.specs.Prelude.{IfErr};
 ghost use Rattle.cdb_clocks.specs.Texts.{IsClocksText};
-ghost use Rattle.cdb_clocks.specs.Told.{clocks_ending, IsFaultOfClocks, WritesClocks};
+ghost use Rattle.cdb_clocks.specs.WrittenClocks.{clocks_ending, IsFaultOfClocks, WritesClocks};
 ghost use Rattle.cdb_rules.specs.ByRules.{IsInOrder};
 ghost use Rattle.cdb_same.specs.Same.{IsFaultOfOutput};
 ghost use Rattle.cdb_streams.specs.Written.{IsWritten};

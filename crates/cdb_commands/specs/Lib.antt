@@ -1,2 +1,2 @@
 -- what a reader of the contracts believes: a reply as a contract sees it
-pub mod ToldReply
+pub mod ReplyView

@@ -18,7 +18,8 @@ use Rattle.cdb_control.proofs.Table.{Adds, obey-adds}
 use Rattle.cdb_rules.specs.Refusals.{IsOfRun}
 use Rattle.std.specs.List.{AllByRecursion}
 
-pub replay-push : (rules : Rules) (setup : Parts) (seats : ℕ) (es : List Entry) (e : Entry) → replay rules setup seats (es ++ e ∷ []) ≡ obey rules (replay rules setup seats es) e.seat e.command
+pub replay-push : (rules : Rules) (setup : Parts) (seats : ℕ) (es : List Entry) (e : Entry)
+    → replay rules setup seats (es ++ e ∷ []) ≡ obey rules (replay rules setup seats es) e.seat e.command
 unfolding replay
 replay-push rules setup seats es e = fold-append (λ state x. obey rules state x.seat x.command) (first_control_state setup seats) es (e ∷ [])
 
@@ -31,7 +32,8 @@ length-none zero = refl
 length-none (suc n) = omega (arith, length-none n)
 
 -- a control that was just opened
-pub IsReplayed-first : (rules : Rules) (setup : Parts) (seats : ℕ) → AreInRange setup → 1 ≤ seats → seats ≤ MAX_SEATS → IsReplayed rules setup seats [] (first_control_state setup seats)
+pub IsReplayed-first : (rules : Rules) (setup : Parts) (seats : ℕ) → AreInRange setup → 1 ≤ seats
+    → seats ≤ MAX_SEATS → IsReplayed rules setup seats [] (first_control_state setup seats)
 unfolding replay
 IsReplayed-first rules setup seats in_range low high =
     record {
@@ -68,12 +70,14 @@ IsReplayed-push rules seats es t u e longer lawful is was low high room after =
       in_range = was.in_range;
     })
 
-pub obey-setup : (rules : Rules) (t u : State) → AreLawful rules t.setup → (seat : ℕ) (command : Command) → 1 ≤ seat → seat ≤ length t.redo → u ≡ obey rules t seat command → u.setup ≡ t.setup
+pub obey-setup : (rules : Rules) (t u : State) → AreLawful rules t.setup → (seat : ℕ) (command : Command)
+    → 1 ≤ seat → seat ≤ length t.redo → u ≡ obey rules t seat command → u.setup ≡ t.setup
 obey-setup rules t u lawful seat command low high after =
     ap (λ (v : State). v.setup) after ∙ (obey-adds rules t lawful seat command low high).setup
 
 -- the same, where the rules are those of the state's setup
-pub IsReplayed-next : (rules_of : Parts → Rules) → ((given : Parts) → AreInRange given → AreLawful (rules_of given) given) → (seats : ℕ) (es : List Entry) (t u : State) (seat : ℕ) (command : Command) (longer : List Entry)
+pub IsReplayed-next : (rules_of : Parts → Rules) → ((given : Parts) → AreInRange given → AreLawful (rules_of given) given)
+    → (seats : ℕ) (es : List Entry) (t u : State) (seat : ℕ) (command : Command) (longer : List Entry)
     → longer ≡ es ++ entry seat command ∷ [] → IsReplayed (rules_of t.setup) t.setup seats es t → 1 ≤ seat → seat ≤ seats → length es < MAX_ENTRIES
     → u ≡ obey (rules_of t.setup) t seat command → IsReplayed (rules_of u.setup) u.setup seats longer u
 IsReplayed-next rules_of lawful seats es t u seat command longer is was low high room after =

@@ -7,7 +7,7 @@ use Rattle.cdb_base.specs.declared.name.StepId.{StepId}
 use Rattle.cdb_causal.specs.Causality.{IsLink, IsFree}
 use Rattle.cdb_causal.specs.Dependence.{depends}
 use Rattle.cdb_causal.specs.Names.{IsFirstDependent}
-use Rattle.cdb_causal.proofs.Counting.{first_below}
+use Rattle.cdb_causal.proofs.Counts.{first_below}
 use Rattle.cdb_causal.proofs.Lists.{nth_within}
 use Rattle.cdb_causal.proofs.Walks.{linked_or_not}
 

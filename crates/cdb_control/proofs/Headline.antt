@@ -1,5 +1,7 @@
 -- The headline holds of every journal.
-use Rattle.std.proofs.Common.{◌≡◌, ◌⊎◌, ⊎_elim, ℕ, zero, suc, ◌-◌, ◌<◌, ◌≤◌, Bool, true, false, not, List, [], ◌∷◌, ◌++◌, length, reverse, get_or, take, Option, Some, None, Result, Ok, Err, IsTrue, slice_get, nat_eq, nat_le, is_some, refl, sym, ap, ◌∙◌, subst, arith, append-nil, append_assoc, length-append}
+use Rattle.std.proofs.Common.{◌≡◌, ◌⊎◌, ⊎_elim, ℕ, zero, suc, ◌-◌, ◌<◌, ◌≤◌, Bool, true, false, not, List, [], ◌∷◌, ◌++◌, length}
+use Rattle.std.proofs.Common.{reverse, get_or, take, Option, Some, None, Result, Ok, Err, IsTrue, slice_get, nat_eq, nat_le}
+use Rattle.std.proofs.Common.{is_some, refl, sym, ap, ◌∙◌, subst, arith, append-nil, append_assoc, length-append}
 use Rattle.std.specs.List.{AllByRecursion}
 use Rattle.std.specs.Map.{lookup}
 use Rattle.std.proofs.lemmas.List.{get_or-set_same, length-replicate, length-reverse, reverse-append}
@@ -21,18 +23,21 @@ use Rattle.cdb_causal.proofs.Chains.{parted}
 use Rattle.cdb_causal.proofs.Dependents.{last_free, without_push_back}
 use Rattle.cdb_causal.proofs.Exchanges.{free_to_end, rollback_to_end}
 use Rattle.cdb_causal.proofs.Lists.{push_back}
-use Rattle.cdb_commands.specs.ToldReply.{ToldReply}
-use Rattle.cdb_commands.specs.ToldReply as reply
+use Rattle.cdb_commands.specs.ReplyView.{ReplyView}
+use Rattle.cdb_commands.specs.ReplyView as reply
 use Rattle.cdb_control.specs.Auto.{choice}
-use Rattle.cdb_control.specs.Commands.{Outcome, refused, unless, granted, found, unpaused, step_done, step, lost, undone_by, undo, rollback, why, redone, show, outcome, reply_of, obey}
-use Rattle.cdb_control.specs.Headline.{undoing, rolling_back, TellsTaken, TellsRedone, IsUndoneWhereFree, IsUndoneNext, RedosLeadBack, IsRolledBackAndForth, HoldsAt, Headline}
+use Rattle.cdb_control.specs.Commands.{Outcome, refused, unless, granted, found, unpaused, step_done, step, lost}
+use Rattle.cdb_control.specs.Commands.{undone_by, undo, rollback, why, redone, show, outcome, reply_of, obey}
+use Rattle.cdb_control.specs.Headline.{undoing, rolling_back, TellsTaken, TellsRedone, IsUndoneWhereFree, IsUndoneNext}
+use Rattle.cdb_control.specs.Headline.{RedosLeadBack, IsRolledBackAndForth, HoldsAt, Headline}
 use Rattle.cdb_control.specs.Journal.{replay_from, replay, AreOfSeats}
 use Rattle.cdb_control.specs.Kept.{IsReplayed, AreOfRun}
 use Rattle.cdb_rules.specs.EventRefs.{name_given}
 use Rattle.cdb_control.specs.State.{State, first_control_state, redo_of, last_of}
 use Rattle.cdb_control.specs.Stops.{names_none_of}
 use Rattle.cdb_commands.specs.declared.command.Command.{Command}
-use Rattle.cdb_commands.specs.declared.command.Command.TheVariants.{Step, Auto, Lose, Undo, UndoLost, Redo, Forget, Rollback, RollbackLost, Why, WhyLost, Break, Unbreak, Resume, Show, Decisions}
+use Rattle.cdb_commands.specs.declared.command.Command.TheVariants.{Step, Auto, Lose, Undo, UndoLost, Redo, Forget, Rollback, RollbackLost}
+use Rattle.cdb_commands.specs.declared.command.Command.TheVariants.{Why, WhyLost, Break, Unbreak, Resume, Show, Decisions}
 use Rattle.cdb_commands.specs.declared.command.View.{View}
 use Rattle.cdb_commands.specs.declared.command.View.TheVariants as view
 use Rattle.cdb_control.specs.declared.control.Entry.{Entry}
@@ -47,13 +52,14 @@ use Rattle.cdb_rules.specs.Refusals.{IsOfRun}
 use Rattle.cdb_rules.specs.Rules.{Rules}
 use Rattle.cdb_rules.specs.Undo.{undo_of, rollback_of, causes_of}
 use Rattle.cdb_rules.proofs.WhereOk.{undone_free, rolled_back_where_ok}
-use Rattle.cdb_rules.proofs.Finding.{stands_from_one}
-use Rattle.cdb_rules.proofs.Standing.{free_undone, needed_refused, standing_rolled_back}
+use Rattle.cdb_rules.proofs.NamesFound.{stands_from_one}
+use Rattle.cdb_rules.proofs.AllStanding.{free_undone, needed_refused, standing_rolled_back}
 use Rattle.cdb_setup.specs.Parts.{Parts, IsWithin, AreInRange}
 
 -- ---- what one command does to a valid history
 
-module _ (rules : Rules) (SameState : List Event → List Event → Type 0) (t : State) (lawful : AreLawful rules t.setup) (keeps : KeepHistories rules SameState t.setup) (of_run : AreOfRun t) (valid : IsTrue (rules.valid t.history)) where
+module _ (rules : Rules) (SameState : List Event → List Event → Type 0) (t : State) (lawful : AreLawful rules t.setup)
+    (keeps : KeepHistories rules SameState t.setup) (of_run : AreOfRun t) (valid : IsTrue (rules.valid t.history)) where
   -- the history stays valid, the setup stays, and an event that the reply tells as taken is one more event at the end
   pub record Keeps (o : Outcome) : Type 0 where
     pub valid_after : IsTrue (rules.valid o.after.history)
@@ -89,7 +95,8 @@ module _ (rules : Rules) (SameState : List Event → List Event → Type 0) (t :
   unpaused-keeps None go h = h
 
   -- one event more
-  one_more : (e : Event) (o : Outcome) → IsTrue (rules.valid (t.history ++ e ∷ [])) → o.after.history ≡ t.history ++ e ∷ [] → o.after.setup ≡ t.setup → ((event : Event) → TellsTaken o.reply event → e ≡ event) → Keeps o
+  one_more : (e : Event) (o : Outcome) → IsTrue (rules.valid (t.history ++ e ∷ [])) → o.after.history ≡ t.history ++ e ∷ []
+      → o.after.setup ≡ t.setup → ((event : Event) → TellsTaken o.reply event → e ≡ event) → Keeps o
   one_more e o longer is setup tells =
       record {
         valid_after = subst (λ (h : List Event). IsTrue (rules.valid h)) (sym is) longer;
@@ -122,7 +129,9 @@ module _ (rules : Rules) (SameState : List Event → List Event → Type 0) (t :
       let again : List Event = remaining depends t.history u.0 ++ rolled_back depends t.history u.0 in
       let longer = keeps.exchanged t.history again (rollback_to_end depends t.history u.0) valid in
       record {
-        valid_after = subst (λ (l : List Event). IsTrue (rules.valid l)) (sym u.5) (keeps.beginning (remaining depends t.history u.0) (rolled_back depends t.history u.0) longer);
+        valid_after =
+            subst (λ (l : List Event). IsTrue (rules.valid l)) (sym u.5)
+            (keeps.beginning (remaining depends t.history u.0) (rolled_back depends t.history u.0) longer);
         setup = refl;
         taken = λ event tells. absurd tells;
       })
@@ -190,13 +199,16 @@ unfolding outcome
 rolling-is rules t seat (id.Step step) = refl
 rolling-is rules t seat (id.Lost copy) = refl
 
-undone-is : (rules : Rules) (t : State) (seat : ℕ) (name : StepId) (r : Result (Event × List Event) Refusal) → undo_of t.setup.processes t.history name ≡ r → outcome rules t seat (undoing name) ≡ granted r t (undone_to t seat)
+undone-is : (rules : Rules) (t : State) (seat : ℕ) (name : StepId) (r : Result (Event × List Event) Refusal)
+    → undo_of t.setup.processes t.history name ≡ r → outcome rules t seat (undoing name) ≡ granted r t (undone_to t seat)
 undone-is rules t seat name r is = undoing-is rules t seat name ∙ ap (λ x. granted x t (undone_to t seat)) is
 
-rolled-is : (rules : Rules) (t : State) (seat : ℕ) (name : StepId) (r : Result (List Event × List Event) Refusal) → rollback_of t.setup.processes t.history name ≡ r → outcome rules t seat (rolling_back name) ≡ granted r t (rolled_to t seat)
+rolled-is : (rules : Rules) (t : State) (seat : ℕ) (name : StepId) (r : Result (List Event × List Event) Refusal)
+    → rollback_of t.setup.processes t.history name ≡ r → outcome rules t seat (rolling_back name) ≡ granted r t (rolled_to t seat)
 rolled-is rules t seat name r is = rolling-is rules t seat name ∙ ap (λ x. granted x t (rolled_to t seat)) is
 
-redone-is : (rules : Rules) (t : State) (seat : ℕ) (event : Event) → last_of (redo_of t seat) ≡ Some event → rules.again t.history event ≡ Ok event → outcome rules t seat Redo ≡ redone rules t seat event
+redone-is : (rules : Rules) (t : State) (seat : ℕ) (event : Event) → last_of (redo_of t seat) ≡ Some event
+    → rules.again t.history event ≡ Ok event → outcome rules t seat Redo ≡ redone rules t seat event
 unfolding outcome
 redone-is rules t seat event last again =
     ap (λ o. found o NothingToRedo t (λ e. granted (rules.again t.history e) t (redone rules t seat))) last
@@ -217,7 +229,8 @@ same_needed one other h = cc
 same_undone : (one other : Event) → reply.Undone one ≡ reply.Undone other → one ≡ other
 same_undone one other h = cc
 
-module _ (rules : Rules) (SameState : List Event → List Event → Type 0) (t : State) (keeps : KeepHistories rules SameState t.setup) (valid : IsTrue (rules.valid t.history)) where
+module _ (rules : Rules) (SameState : List Event → List Event → Type 0) (t : State)
+    (keeps : KeepHistories rules SameState t.setup) (valid : IsTrue (rules.valid t.history)) where
   module _ (seat i : ℕ) (event : Event) (at : nth t.history i ≡ Some event) where
     abbrev name : StepId
     name = event_name event
@@ -226,19 +239,22 @@ module _ (rules : Rules) (SameState : List Event → List Event → Type 0) (t :
     told_free free = undone-is rules t seat name _ (free_undone t.setup.processes t.history name i event (keeps.named t.history valid i event at) free)
 
     told_needed : (later : StepId) → IsFirstDependent t.history i later → outcome rules t seat (undoing name) ≡ refused t (NeededBy later)
-    told_needed later first = undone-is rules t seat name _ (needed_refused t.setup.processes t.history name i event (keeps.named t.history valid i event at) later first)
+    told_needed later first =
+        undone-is rules t seat name _ (needed_refused t.setup.processes t.history name i event (keeps.named t.history valid i event at) later first)
 
     pub undone_where_free : IsUndoneWhereFree rules t seat i event
     undone_where_free =
         record {
           exactly = (
-            λ told. ⊎_elim (λ free. free) (λ later. not_undone event (NeededBy later.0) (sym (ap (λ (o : Outcome). o.reply) (told_needed later.0 later.1)) ∙ told)) either,
+            λ told. ⊎_elim (λ free. free)
+                (λ later. not_undone event (NeededBy later.0) (sym (ap (λ (o : Outcome). o.reply) (told_needed later.0 later.1)) ∙ told)) either,
             λ free. ap (λ (o : Outcome). o.reply) (told_free free),
           );
           needed = λ later. (
             λ told. ⊎_elim
                 (λ free. not_undone event (NeededBy later) (sym told ∙ ap (λ (o : Outcome). o.reply) (told_free free)))
-                (λ first. subst (IsFirstDependent t.history i) (same_needed first.0 later (sym (ap (λ (o : Outcome). o.reply) (told_needed first.0 first.1)) ∙ told)) first.1)
+                (λ first. subst (IsFirstDependent t.history i)
+                (same_needed first.0 later (sym (ap (λ (o : Outcome). o.reply) (told_needed first.0 first.1)) ∙ told)) first.1)
                 either,
             λ first. ap (λ (o : Outcome). o.reply) (told_needed later first),
           );
@@ -252,7 +268,8 @@ module _ (rules : Rules) (SameState : List Event → List Event → Type 0) (t :
 
 -- what stands last is undone next
 pub undone_last : (rules : Rules) (SameState : List Event → List Event → Type 0) (before after : State) (event : Event) (seat : ℕ)
-    → KeepHistories rules SameState after.setup → IsTrue (rules.valid after.history) → after.history ≡ before.history ++ event ∷ [] → IsUndoneNext rules before after event seat
+    → KeepHistories rules SameState after.setup → IsTrue (rules.valid after.history)
+    → after.history ≡ before.history ++ event ∷ [] → IsUndoneNext rules before after event seat
 undone_last rules SameState before after event seat keeps valid is =
     let i = suc (length before.history) in
     let at = ap (λ (h : List Event). nth h i) is ∙ push_back before.history event in
@@ -287,8 +304,10 @@ within_lists [] i xs x is = absurd (omega (arith, ap length is, length-append xs
 within_lists (l ∷ more) zero xs x is = omega arith
 within_lists (l ∷ more) (suc i) xs x is = omega (arith, within_lists more i xs x is)
 
-module _ (rules : Rules) (SameState : List Event → List Event → Type 0) (setup : Parts) (keeps : KeepHistories rules SameState setup) (before : State) (seat : ℕ) where
-  pub lead_back : (events : List Event) (t : State) → IsTrue (rules.valid (t.history ++ events)) → redo_of t seat ≡ redo_of before seat ++ reverse events → SameState (t.history ++ events) before.history → RedosLeadBack rules SameState before seat t events
+module _ (rules : Rules) (SameState : List Event → List Event → Type 0) (setup : Parts)
+    (keeps : KeepHistories rules SameState setup) (before : State) (seat : ℕ) where
+  pub lead_back : (events : List Event) (t : State) → IsTrue (rules.valid (t.history ++ events)) → redo_of t seat ≡ redo_of before seat ++ reverse events
+      → SameState (t.history ++ events) before.history → RedosLeadBack rules SameState before seat t events
   lead_back [] t valid list same = (subst (λ (h : List Event). SameState h before.history) (append-nil t.history) same, list ∙ append-nil (redo_of before seat))
   lead_back (event ∷ events) t valid list same =
       λ between stays waits.
@@ -299,26 +318,32 @@ module _ (rules : Rules) (SameState : List Event → List Event → Type 0) (set
       let list_now : redo_of now seat ≡ old ++ event ∷ [] = waits ∙ pushed in
       let joined : t.history ++ event ∷ events ≡ (t.history ++ event ∷ []) ++ events = sym (append_assoc t.history (event ∷ []) events) in
       let valid_joined = subst (λ (h : List Event). IsTrue (rules.valid h)) joined valid in
-      let again = subst (λ (h : List Event). rules.again h event ≡ Ok event) (sym stays) (keeps.last_again t.history event (keeps.beginning (t.history ++ event ∷ []) events valid_joined)) in
+      let again =
+      subst (λ (h : List Event). rules.again h event ≡ Ok event) (sym stays)
+      (keeps.last_again t.history event (keeps.beginning (t.history ++ event ∷ []) events valid_joined)) in
       let is = redone-is rules now seat event (ap last_of list_now ∙ last_pushed old event) again in
-      let history : (obey rules now seat Redo).history ≡ t.history ++ event ∷ [] = ap (λ (o : Outcome). o.after.history) is ∙ ap (λ (h : List Event). h ++ event ∷ []) stays in
+      let history : (obey rules now seat Redo).history ≡ t.history ++ event ∷ [] =
+      ap (λ (o : Outcome). o.after.history) is ∙ ap (λ (h : List Event). h ++ event ∷ []) stays in
       let low = within_lists now.redo (seat - 1) old event list_now in
       let list_after : redo_of (obey rules now seat Redo) seat ≡ old =
       ap (λ (o : Outcome). redo_of o.after seat) is
       ∙ get_or-set_same now.redo (seat - 1) (without_last (redo_of now seat)) [] low
       ∙ ap without_last list_now
       ∙ front_pushed old event in (
-        subst (λ (r : ToldReply). TellsRedone r event) (sym (ap (λ (o : Outcome). o.reply) is)) refl,
+        subst (λ (r : ReplyView). TellsRedone r event) (sym (ap (λ (o : Outcome). o.reply) is)) refl,
         lead_back events (obey rules now seat Redo)
             (subst (λ (h : List Event). IsTrue (rules.valid (h ++ events))) (sym history) valid_joined)
             list_after
-            (subst (λ (h : List Event). SameState (h ++ events) before.history) (sym history) (subst (λ (h : List Event). SameState h before.history) joined same)),
+            (subst (λ (h : List Event). SameState (h ++ events) before.history) (sym history)
+            (subst (λ (h : List Event). SameState h before.history) joined same)),
       )
 
 -- ---- the headline of one state
 
-module _ (rules : Rules) (SameState : List Event → List Event → Type 0) (t : State) (lawful : AreLawful rules t.setup) (keeps : KeepHistories rules SameState t.setup) (of_run : AreOfRun t) (valid : IsTrue (rules.valid t.history)) where
-  then_undone : (seat : ℕ) (command : Command) (event : Event) → TellsTaken (reply_of rules t seat command) event → (other : ℕ) → IsUndoneNext rules t (obey rules t seat command) event other
+module _ (rules : Rules) (SameState : List Event → List Event → Type 0) (t : State) (lawful : AreLawful rules t.setup)
+    (keeps : KeepHistories rules SameState t.setup) (of_run : AreOfRun t) (valid : IsTrue (rules.valid t.history)) where
+  then_undone : (seat : ℕ) (command : Command) (event : Event) → TellsTaken (reply_of rules t seat command) event
+      → (other : ℕ) → IsUndoneNext rules t (obey rules t seat command) event other
   then_undone seat command event tells other =
       let kept = obeyed-keeps rules SameState t lawful keeps of_run valid seat command in
       undone_last rules SameState t (obey rules t seat command) event other
@@ -328,23 +353,27 @@ module _ (rules : Rules) (SameState : List Event → List Event → Type 0) (t :
     list_after : (events history : List Event) → redo_of (undone_by t seat events history) seat ≡ redo_of t seat ++ events
     list_after events history = get_or-set_same t.redo (seat - 1) (redo_of t seat ++ events) [] low
 
-    redone_after : (events left : List Event) (after : State) → IsExchanged depends t.history (left ++ events) → after ≡ undone_by t seat (reverse events) left → RedosLeadBack rules SameState t seat after events
+    redone_after : (events left : List Event) (after : State) → IsExchanged depends t.history (left ++ events)
+        → after ≡ undone_by t seat (reverse events) left → RedosLeadBack rules SameState t seat after events
     redone_after events left after exchanged is =
         lead_back rules SameState t.setup keeps t seat events after
         (subst (λ (s : State). IsTrue (rules.valid (s.history ++ events))) (sym is) (keeps.exchanged t.history (left ++ events) exchanged valid))
         (ap (λ (s : State). redo_of s seat) is ∙ list_after (reverse events) left)
         (subst (λ (s : State). SameState (s.history ++ events) t.history) (sym is) (keeps.same_state t.history (left ++ events) exchanged))
 
-    then_redone : (name : StepId) (event : Event) → reply_of rules t seat (undoing name) ≡ reply.Undone event → RedosLeadBack rules SameState t seat (obey rules t seat (undoing name)) (event ∷ [])
+    then_redone : (name : StepId) (event : Event) → reply_of rules t seat (undoing name) ≡ reply.Undone event
+        → RedosLeadBack rules SameState t seat (obey rules t seat (undoing name)) (event ∷ [])
     then_redone name event told = go (undo_of t.setup.processes t.history name) refl
       where
-        go : (r : Result (Event × List Event) Refusal) → undo_of t.setup.processes t.history name ≡ r → RedosLeadBack rules SameState t seat (obey rules t seat (undoing name)) (event ∷ [])
+        go : (r : Result (Event × List Event) Refusal) → undo_of t.setup.processes t.history name ≡ r
+            → RedosLeadBack rules SameState t seat (obey rules t seat (undoing name)) (event ∷ [])
         go (Err refusal) is = not_undone event refusal (sym (ap (λ (o : Outcome). o.reply) (undone-is rules t seat name (Err refusal) is)) ∙ told)
         go (Ok done) is =
             let out = undone-is rules t seat name (Ok done) is in
             let same = same_undone done.0 event (sym (ap (λ (o : Outcome). o.reply) out) ∙ told) in
             let u = undone_free t.setup.processes t.history name done.0 done.1 is in
-            let exchanged = subst (λ (l : List Event). IsExchanged depends t.history (l ++ done.0 ∷ [])) (sym u.4) (free_to_end depends t.history u.0 done.0 u.2 u.3) in
+            let exchanged =
+            subst (λ (l : List Event). IsExchanged depends t.history (l ++ done.0 ∷ [])) (sym u.4) (free_to_end depends t.history u.0 done.0 u.2 u.3) in
             redone_after (event ∷ []) done.1 (obey rules t seat (undoing name))
             (subst (λ (e : Event). IsExchanged depends t.history (done.1 ++ e ∷ [])) same exchanged)
             (ap (λ (o : Outcome). o.after) out ∙ ap (λ (e : Event). undone_by t seat (e ∷ []) done.1) same)
@@ -355,11 +384,15 @@ module _ (rules : Rules) (SameState : List Event → List Event → Type 0) (t :
         let left = remaining depends t.history i in
         let name = event_name event in
         let from_one = stands_from_one t.history i event at in
-        let out = rolled-is rules t seat name (Ok (reverse gone, left)) (standing_rolled_back t.setup.processes t.history name i event (keeps.named t.history valid i event at)) in
+        let out =
+        rolled-is rules t seat name (Ok (reverse gone, left))
+        (standing_rolled_back t.setup.processes t.history name i event (keeps.named t.history valid i event at)) in
         record {
           gone = gone;
           told = ap (λ (o : Outcome). o.reply) out ∙ ap (λ (n : ℕ). reply.RolledBack n) (length-reverse gone);
-          exactly = subst (λ (o : Outcome). IsParted (IsRolledBack depends t.history i) 1 t.history o.after.history gone) (sym out) (parted depends t.history i from_one);
+          exactly =
+              subst (λ (o : Outcome). IsParted (IsRolledBack depends t.history i) 1 t.history o.after.history gone)
+              (sym out) (parted depends t.history i from_one);
           back = redone_after gone left (obey rules t seat (rolling_back name)) (rollback_to_end depends t.history i) (ap (λ (o : Outcome). o.after) out);
         }
 
@@ -394,7 +427,8 @@ module _ (rules : Rules) (SameState : List Event → List Event → Type 0) (t :
 
 -- ---- along a journal
 
-module _ (rules : Rules) (SameState : List Event → List Event → Type 0) (setup : Parts) (lawful : AreLawful rules setup) (keeps : KeepHistories rules SameState setup) (seats : ℕ) where
+module _ (rules : Rules) (SameState : List Event → List Event → Type 0) (setup : Parts)
+    (lawful : AreLawful rules setup) (keeps : KeepHistories rules SameState setup) (seats : ℕ) where
   record IsSound (t : State) : Type 0 where
     setup_is : t.setup ≡ setup
     lists : length t.redo ≡ seats
@@ -421,7 +455,13 @@ module _ (rules : Rules) (SameState : List Event → List Event → Type 0) (set
   replayed-sound (e ∷ es) t sound all = replayed-sound es (obey rules t e.seat e.command) (obeyed-sound t e sound all.0) all.1
 
   first-sound : IsSound (first_control_state setup seats)
-  first-sound = record { setup_is = refl; lists = length-replicate seats []; of_run = (tt, all-replicate (AllByRecursion (IsOfRun setup)) seats [] tt); valid = keeps.nothing }
+  first-sound = record {
+    setup_is = refl;
+    lists = length-replicate seats [];
+    of_run =
+        (tt, all-replicate (AllByRecursion (IsOfRun setup)) seats [] tt);
+    valid = keeps.nothing;
+  }
 
   replay-sound : (journal : List Entry) → AreOfSeats seats journal → IsSound (replay rules setup seats journal)
   unfolding replay
@@ -432,16 +472,22 @@ module _ (rules : Rules) (SameState : List Event → List Event → Type 0) (set
       let t = replay rules setup seats journal in
       let sound = replay-sound journal all in
       subst (λ (s : Parts). HoldsAt rules SameState s seats t) sound.setup_is
-      (holds_at rules SameState t (subst (AreLawful rules) (sym sound.setup_is) lawful) (subst (KeepHistories rules SameState) (sym sound.setup_is) keeps) sound.of_run sound.valid seats sound.lists)
+      (holds_at rules SameState t (subst (AreLawful rules) (sym sound.setup_is) lawful)
+      (subst (KeepHistories rules SameState) (sym sound.setup_is) keeps) sound.of_run sound.valid seats sound.lists)
 
 -- the same, where the rules are those of the setup
 pub headline_holds : (rules : Parts → Rules) (same_state : Parts → List Event → List Event → Type 0)
-    → ((given : Parts) → AreInRange given → AreLawful (rules given) given) → ((given : Parts) → AreInRange given → KeepHistories (rules given) (same_state given) given)
+    → ((given : Parts) → AreInRange given → AreLawful (rules given) given)
+    → ((given : Parts) → AreInRange given → KeepHistories (rules given) (same_state given) given)
     → (setup : Parts) → AreInRange setup → (seats : ℕ) (journal : List Entry) → AreOfSeats seats journal → Headline rules same_state setup seats journal
-headline_holds rules same_state lawful keeps setup range seats journal all = holds (rules setup) (same_state setup) setup (lawful setup range) (keeps setup range) seats journal all
+headline_holds rules same_state lawful keeps setup range seats journal all =
+    holds (rules setup) (same_state setup) setup (lawful setup range) (keeps setup range) seats journal all
 
 -- and for a control, which keeps to its journal
 pub replayed-headline : (rules : Parts → Rules) (same_state : Parts → List Event → List Event → Type 0)
-    → ((given : Parts) → AreInRange given → AreLawful (rules given) given) → ((given : Parts) → AreInRange given → KeepHistories (rules given) (same_state given) given)
-    → (setup : Parts) (seats : ℕ) (journal : List Entry) (t : State) → IsReplayed (rules setup) setup seats journal t → Headline rules same_state setup seats journal
-replayed-headline rules same_state lawful keeps setup seats journal t is = headline_holds rules same_state lawful keeps setup is.in_range seats journal is.of_seats
+    → ((given : Parts) → AreInRange given → AreLawful (rules given) given)
+    → ((given : Parts) → AreInRange given → KeepHistories (rules given) (same_state given) given)
+    → (setup : Parts) (seats : ℕ) (journal : List Entry) (t : State)
+    → IsReplayed (rules setup) setup seats journal t → Headline rules same_state setup seats journal
+replayed-headline rules same_state lawful keeps setup seats journal t is =
+    headline_holds rules same_state lawful keeps setup is.in_range seats journal is.of_seats

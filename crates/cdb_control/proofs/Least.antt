@@ -1,5 +1,6 @@
 -- The first breakpoint that a step fires is the least.
-use Rattle.std.proofs.Common.{◌≡◌, ◌⊎◌, ⊎_elim, inl, inr, ℕ, zero, suc, ◌<◌, ◌≤◌, Bool, true, false, cond, List, [], ◌∷◌, Option, Some, None, Result, Ok, Err, find, option_map, refl, sym, ap, ◌∙◌, arith}
+use Rattle.std.proofs.Common.{◌≡◌, ◌⊎◌, ⊎_elim, inl, inr, ℕ, zero, suc, ◌<◌, ◌≤◌, Bool, true, false, cond, List, []}
+use Rattle.std.proofs.Common.{◌∷◌, Option, Some, None, Result, Ok, Err, find, option_map, refl, sym, ap, ◌∙◌, arith}
 use Rattle.std.proofs.lemmas.List.Elements.{All-contains, All-from_recursion}
 use Rattle.cdb_base.specs.declared.act.Act.{Act}
 use Rattle.cdb_base.specs.declared.event.Event.{Event}
@@ -11,7 +12,7 @@ use Rattle.cdb_control.specs.Journal.{Journaled, extended, reply_in, control_sta
 use Rattle.cdb_control.specs.Laws.{UsesNumbersOnce}
 use Rattle.cdb_control.specs.State.{State, first_control_state}
 use Rattle.cdb_control.specs.Stops.{Stops, fires, first_fired, IsFired, IsLeastFired}
-use Rattle.cdb_commands.specs.ToldReply.{ToldReply}
+use Rattle.cdb_commands.specs.ReplyView.{ReplyView}
 use Rattle.cdb_commands.specs.declared.command.Command.{Command}
 use Rattle.cdb_commands.specs.declared.command.Command.TheVariants.{Step, Auto}
 use Rattle.cdb_commands.specs.declared.command.Stop.{Stop}
@@ -26,7 +27,8 @@ use Rattle.cdb_setup.specs.Parts.{Parts}
 
 module _ (taken : TakenStep) where
   -- what is fired of a list is its head, or of the rest
-  head_or_rest : (b : ℕ × Stop) (more : Stops) (number : ℕ) → IsFired taken (b ∷ more) number → ((b.0 ≡ number) × (fires taken b.1 ≡ true)) ⊎ IsFired taken more number
+  head_or_rest : (b : ℕ × Stop) (more : Stops) (number : ℕ) → IsFired taken (b ∷ more) number
+      → ((b.0 ≡ number) × (fires taken b.1 ≡ true)) ⊎ IsFired taken more number
   head_or_rest b more number (stop, (zero, within, at), fired) = inl (ap (λ (c : ℕ × Stop). c.0) at, cc)
   head_or_rest b more number (stop, (suc k, within, at), fired) = inr (stop, (k, omega (arith, within), at), fired)
 
@@ -88,11 +90,13 @@ module _ (rules : Rules) where
   auto_tells t p (Ok act) None rising = step_tells t p act rising
   auto_tells t p (Err why) standing rising = tt
 
-  pub least_by_step : (setup : Parts) (seats seat p : ℕ) (journal : List Entry) (act : Act) → let t = replay rules setup seats journal in TellsPause rules t p (reply_of rules t seat (Step p act))
+  pub least_by_step : (setup : Parts) (seats seat p : ℕ) (journal : List Entry) (act : Act) → let t = replay rules setup seats journal in
+      TellsPause rules t p (reply_of rules t seat (Step p act))
   unfolding outcome
   least_by_step setup seats seat p journal act = step_tells (replay rules setup seats journal) p act (numbered setup seats journal).1
 
-  pub least_by_auto : (setup : Parts) (seats seat p : ℕ) (journal : List Entry) → let t = replay rules setup seats journal in TellsPause rules t p (reply_of rules t seat (Auto p))
+  pub least_by_auto : (setup : Parts) (seats seat p : ℕ) (journal : List Entry) → let t = replay rules setup seats journal in
+      TellsPause rules t p (reply_of rules t seat (Auto p))
   unfolding outcome
   least_by_auto setup seats seat p journal =
       let t = replay rules setup seats journal in
@@ -100,7 +104,7 @@ module _ (rules : Rules) where
 
 -- ---- one entry more
 
-pub uses_numbers_once : (rules : Parts → Rules) (old : Journaled) (seat : ℕ) (command : Command) {new : Journaled} {told : ToldReply}
+pub uses_numbers_once : (rules : Parts → Rules) (old : Journaled) (seat : ℕ) (command : Command) {new : Journaled} {told : ReplyView}
     → new ≡ extended rules old seat command → told ≡ reply_in rules old seat command → UsesNumbersOnce rules old new command told
 uses_numbers_once rules old seat command is same =
     let by = rules old.setup in

@@ -3,7 +3,7 @@ use Rattle.std.proofs.Common.{◌≡◌, ◌≢◌, ℕ, ◌==◌, Bool, true, f
 use Rattle.cdb_commands.specs.declared.command.Command.{Command}
 use Rattle.cdb_control.specs.declared.control.Entry.{Entry}
 use Rattle.cdb_setup.specs.Parts.{Parts}
-use Rattle.cdb_commands.specs.ToldReply.{ToldReply}
+use Rattle.cdb_commands.specs.ReplyView.{ReplyView}
 use Rattle.cdb_rules.specs.Rules.{Rules}
 use Rattle.cdb_control.specs.State.{State, first_control_state}
 use Rattle.cdb_control.specs.Commands.{reply_of, obey}
@@ -40,22 +40,25 @@ own-push_other seat other es command apart =
     other_seat : (n m : ℕ) → n ≢ m → (n == m) ≡ false
     other_seat n m ne = grind arith
 
-replies_if : (b : Bool) (r : ToldReply) (xs ys zs : List ToldReply) → zs ≡ xs ++ ys → cond b (r ∷ zs) zs ≡ cond b (r ∷ xs) xs ++ ys
+replies_if : (b : Bool) (r : ReplyView) (xs ys zs : List ReplyView) → zs ≡ xs ++ ys → cond b (r ∷ zs) zs ≡ cond b (r ∷ xs) xs ++ ys
 replies_if true r xs ys zs e = ap (λ l. r ∷ l) e
 replies_if false r xs ys zs e = e
 
-pub replies_from-append : (rules : Rules) (t : State) (seat : ℕ) (es fs : List Entry) → replies_from rules t seat (es ++ fs) ≡ replies_from rules t seat es ++ replies_from rules (replay_from rules t es) seat fs
+pub replies_from-append : (rules : Rules) (t : State) (seat : ℕ) (es fs : List Entry)
+    → replies_from rules t seat (es ++ fs) ≡ replies_from rules t seat es ++ replies_from rules (replay_from rules t es) seat fs
 replies_from-append rules t seat [] fs = refl
 replies_from-append rules t seat (e ∷ es) fs =
     let next = obey rules t e.seat e.command in
-    replies_if (e.seat == seat) (reply_of rules t e.seat e.command) (replies_from rules next seat es) (replies_from rules (replay_from rules next es) seat fs) (replies_from rules next seat (es ++ fs)) (replies_from-append rules next seat es fs)
+    replies_if (e.seat == seat) (reply_of rules t e.seat e.command) (replies_from rules next seat es)
+    (replies_from rules (replay_from rules next es) seat fs) (replies_from rules next seat (es ++ fs)) (replies_from-append rules next seat es fs)
 
 -- a list that is the same after something was added: nothing was added
 nothing_added : {A : Type 0} (xs ys : List A) → xs ++ ys ≡ xs → ys ≡ []
 nothing_added [] ys e = e
 nothing_added (x ∷ xs) ys e = nothing_added xs ys (cc)
 
-none_if : (b : Bool) (x : Command) (xs : List Command) (r : ToldReply) (rs : List ToldReply) → (xs ≡ [] → rs ≡ []) → cond b (x ∷ xs) xs ≡ [] → cond b (r ∷ rs) rs ≡ []
+none_if : (b : Bool) (x : Command) (xs : List Command) (r : ReplyView) (rs : List ReplyView)
+    → (xs ≡ [] → rs ≡ []) → cond b (x ∷ xs) xs ≡ [] → cond b (r ∷ rs) rs ≡ []
 none_if true x xs r rs rest none = absurd (cc)
 none_if false x xs r rs rest none = rest none
 
@@ -64,25 +67,31 @@ pub replies_from-none : (rules : Rules) (t : State) (seat : ℕ) (es : List Entr
 replies_from-none rules t seat [] none = refl
 replies_from-none rules t seat (e ∷ es) none =
     let next = obey rules t e.seat e.command in
-    none_if (e.seat == seat) e.command (own seat es) (reply_of rules t e.seat e.command) (replies_from rules next seat es) (replies_from-none rules next seat es) none
+    none_if (e.seat == seat) e.command (own seat es) (reply_of rules t e.seat e.command)
+    (replies_from rules next seat es) (replies_from-none rules next seat es) none
 
 -- what others did adds no reply of this seat
-pub replies_of-same : (rules : Rules) (setup : Parts) (seats seat : ℕ) (seen journal : List Entry) → Begins seen journal → own seat journal ≡ own seat seen → replies_of rules setup seats seat journal ≡ replies_of rules setup seats seat seen
+pub replies_of-same : (rules : Rules) (setup : Parts) (seats seat : ℕ) (seen journal : List Entry) → Begins seen journal
+    → own seat journal ≡ own seat seen → replies_of rules setup seats seat journal ≡ replies_of rules setup seats seat seen
 replies_of-same rules setup seats seat seen journal begins same =
     let t = first_control_state setup seats in
     let rest = begins.0 in
     let none : own seat rest ≡ [] = nothing_added (own seat seen) (own seat rest) (sym (own-append seat seen rest) ∙ ap (own seat) (sym begins.1) ∙ same) in
-    ap (replies_from rules t seat) begins.1 ∙ replies_from-append rules t seat seen rest ∙ ap (λ l. replies_from rules t seat seen ++ l) (replies_from-none rules (replay_from rules t seen) seat rest none) ∙ append-nil (replies_from rules t seat seen)
+    ap (replies_from rules t seat) begins.1 ∙ replies_from-append rules t seat seen rest ∙ ap (λ l. replies_from rules t seat seen ++ l)
+    (replies_from-none rules (replay_from rules t seen) seat rest none) ∙ append-nil (replies_from rules t seat seen)
 
 -- entries without a command of this seat add no reply
-pub replies_of-more : (rules : Rules) (setup : Parts) (seats seat : ℕ) (journal more : List Entry) → own seat more ≡ [] → replies_of rules setup seats seat (journal ++ more) ≡ replies_of rules setup seats seat journal
+pub replies_of-more : (rules : Rules) (setup : Parts) (seats seat : ℕ) (journal more : List Entry)
+    → own seat more ≡ [] → replies_of rules setup seats seat (journal ++ more) ≡ replies_of rules setup seats seat journal
 replies_of-more rules setup seats seat journal more none =
     replies_of-same rules setup seats seat journal (journal ++ more) (more, refl)
     (own-append seat journal more ∙ ap (λ (l : List Command). own seat journal ++ l) none ∙ append-nil (own seat journal))
 
 -- one command of the seat adds its reply
-pub replies_of-push : (rules : Rules) (setup : Parts) (seats seat : ℕ) (journal : List Entry) (command : Command) → replies_of rules setup seats seat (journal ++ entry seat command ∷ []) ≡ replies_of rules setup seats seat journal ++ reply_of rules (replay rules setup seats journal) seat command ∷ []
+pub replies_of-push : (rules : Rules) (setup : Parts) (seats seat : ℕ) (journal : List Entry) (command : Command) → replies_of rules setup seats seat
+    (journal ++ entry seat command ∷ []) ≡ replies_of rules setup seats seat journal ++ reply_of rules (replay rules setup seats journal) seat command ∷ []
 unfolding replay
 replies_of-push rules setup seats seat journal command =
     let t = first_control_state setup seats in
-    replies_from-append rules t seat journal (entry seat command ∷ []) ∙ ap (λ b. replies_from rules t seat journal ++ cond b (reply_of rules (replay_from rules t journal) seat command ∷ []) []) (same_seat seat)
+    replies_from-append rules t seat journal (entry seat command ∷ [])
+    ∙ ap (λ b. replies_from rules t seat journal ++ cond b (reply_of rules (replay_from rules t journal) seat command ∷ []) []) (same_seat seat)

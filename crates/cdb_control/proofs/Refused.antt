@@ -1,5 +1,6 @@
 -- What the table of the commands leaves alone.
-use Rattle.std.proofs.Common.{◌≡◌, ◌≢◌, ◌∙◌, ℕ, ◌+◌, ◌-◌, ◌≤◌, Bool, true, false, not, List, [], length, get_or, set, Option, Some, None, Result, Ok, Err, IfOk, OnOk, refl, sym, ap, subst, arith, nat_eq, nat_le, is_some}
+use Rattle.std.proofs.Common.{◌≡◌, ◌≢◌, ◌∙◌, ℕ, ◌+◌, ◌-◌, ◌≤◌, Bool, true, false, not, List, [], length, get_or, set, Option}
+use Rattle.std.proofs.Common.{Some, None, Result, Ok, Err, IfOk, OnOk, refl, sym, ap, subst, arith, nat_eq, nat_le, is_some}
 use Rattle.std.proofs.lemmas.List.{get_or-set_other}
 use Rattle.std.specs.Map.{lookup}
 use Rattle.cdb_base.specs.declared.event.Event.{Event}
@@ -9,11 +10,12 @@ use Rattle.cdb_base.specs.declared.refusal.Refusal.TheVariants.{NoProcess, Nothi
 use Rattle.cdb_base.specs.declared.act.Act.{Act}
 use Rattle.cdb_base.specs.Limits.{MAX_BREAKPOINTS}
 use Rattle.cdb_commands.specs.declared.command.Command.{Command}
-use Rattle.cdb_commands.specs.declared.command.Command.TheVariants.{Step, Auto, Lose, Undo, UndoLost, Redo, Forget, Rollback, RollbackLost, Why, WhyLost, Break, Unbreak, Resume, Show, Decisions}
+use Rattle.cdb_commands.specs.declared.command.Command.TheVariants.{Step, Auto, Lose, Undo, UndoLost, Redo, Forget, Rollback, RollbackLost}
+use Rattle.cdb_commands.specs.declared.command.Command.TheVariants.{Why, WhyLost, Break, Unbreak, Resume, Show, Decisions}
 use Rattle.cdb_commands.specs.declared.command.Stop.{Stop}
 use Rattle.cdb_commands.specs.declared.command.View.{View}
 use Rattle.cdb_commands.specs.declared.command.View.TheVariants as view
-use Rattle.cdb_commands.specs.ToldReply as reply
+use Rattle.cdb_commands.specs.ReplyView as reply
 use Rattle.cdb_control.specs.Auto.{choice}
 use Rattle.cdb_rules.specs.Rules.{Rules}
 use Rattle.cdb_control.specs.Stops.{names_none_of}
@@ -23,10 +25,11 @@ use Rattle.cdb_message.specs.Mail.{message_name}
 use Rattle.cdb_rules.specs.Undo.{undo_of, rollback_of, causes_of}
 use Rattle.cdb_control.specs.State.{State, redo_of, last_of}
 use Rattle.cdb_control.proofs.Numbers.{AreNumbered, AreBelow-push, AreBelow-remove, AreRising-push, AreRising-remove}
-use Rattle.cdb_commands.specs.ToldReply.{ToldReply, is_refused, told}
+use Rattle.cdb_commands.specs.ReplyView.{ReplyView, is_refused, reply_view}
 use Rattle.cdb_commands.specs.declared.reply.Reply.{Reply}
 use Rattle.cdb_control.specs.declared.control.CallFault.{CallFault}
-use Rattle.cdb_control.specs.Commands.{Outcome, unless, granted, found, unpaused, step_done, step, lost, undo, rollback, why, redone, show, outcome, reply_of, obey}
+use Rattle.cdb_control.specs.Commands.{Outcome, unless, granted, found, unpaused, step_done, step, lost}
+use Rattle.cdb_control.specs.Commands.{undo, rollback, why, redone, show, outcome, reply_of, obey}
 use Rattle.cdb_control.specs.Journal.{Journaled, control_state, extended, reply_in}
 use Rattle.cdb_control.specs.Laws.{ActsOnNoRun, IsKeptIfRefused, KeepsOtherLists, KeepsRun, UsesNextNumber}
 use Rattle.cdb_control.proofs.Along.{replay-push}
@@ -54,11 +57,13 @@ unless-leaves : (b : Bool) (r : Refusal) (t : State) (seat : ℕ) (go : Outcome)
 unless-leaves true r t seat go h = nothing t seat _ refl
 unless-leaves false r t seat go h = h
 
-granted-leaves : {A : Type 0} (x : Result A Refusal) (t : State) (seat : ℕ) (go : A → Outcome) → ((a : A) → Leaves t seat (go a)) → Leaves t seat (granted x t go)
+granted-leaves : {A : Type 0} (x : Result A Refusal) (t : State) (seat : ℕ) (go : A → Outcome)
+    → ((a : A) → Leaves t seat (go a)) → Leaves t seat (granted x t go)
 granted-leaves (Ok a) t seat go h = h a
 granted-leaves (Err r) t seat go h = nothing t seat _ refl
 
-found-leaves : {A : Type 0} (x : Option A) (r : Refusal) (t : State) (seat : ℕ) (go : A → Outcome) → ((a : A) → Leaves t seat (go a)) → Leaves t seat (found x r t go)
+found-leaves : {A : Type 0} (x : Option A) (r : Refusal) (t : State) (seat : ℕ) (go : A → Outcome)
+    → ((a : A) → Leaves t seat (go a)) → Leaves t seat (found x r t go)
 found-leaves (Some a) r t seat go h = h a
 found-leaves None r t seat go h = nothing t seat _ refl
 
@@ -71,19 +76,32 @@ step-leaves rules t seat p act =
     granted-leaves (rules.step t.history p act) t seat (step_done rules t p)
     (λ e. record { refused = λ r h. absurd (cc); lists = λ other low from apart. refl; numbers = omega arith; stops = λ all. all })
 
-other-list : (t : State) (seat other : ℕ) (events : List Event) → 1 ≤ seat → 1 ≤ other → other ≢ seat → get_or (set t.redo (seat - 1) events) (other - 1) [] ≡ get_or t.redo (other - 1) []
+other-list : (t : State) (seat other : ℕ) (events : List Event) → 1 ≤ seat → 1 ≤ other
+    → other ≢ seat → get_or (set t.redo (seat - 1) events) (other - 1) [] ≡ get_or t.redo (other - 1) []
 other-list t seat other events low from apart =
     get_or-set_other t.redo (seat - 1) (other - 1) events [] (λ same. apart (omega (arith, same, low, from)))
 
 undo-leaves : (t : State) (seat : ℕ) (name : StepId) → Leaves t seat (undo t seat name)
 undo-leaves t seat name =
     granted-leaves (undo_of t.setup.processes t.history name) t seat _
-    (λ undone. record { refused = λ r h. absurd (cc); lists = λ other low from apart. other-list t seat other _ low from apart; numbers = omega arith; stops = λ all. all })
+    (λ undone. record {
+      refused =
+          λ r h. absurd (cc);
+      lists = λ other low from apart. other-list t seat other _ low from apart;
+      numbers = omega arith;
+      stops = λ all. all;
+    })
 
 rollback-leaves : (t : State) (seat : ℕ) (name : StepId) → Leaves t seat (rollback t seat name)
 rollback-leaves t seat name =
     granted-leaves (rollback_of t.setup.processes t.history name) t seat _
-    (λ removed. record { refused = λ r h. absurd (cc); lists = λ other low from apart. other-list t seat other _ low from apart; numbers = omega arith; stops = λ all. all })
+    (λ removed. record {
+      refused =
+          λ r h. absurd (cc);
+      lists = λ other low from apart. other-list t seat other _ low from apart;
+      numbers = omega arith;
+      stops = λ all. all;
+    })
 
 why-leaves : (t : State) (seat : ℕ) (name : StepId) → Leaves t seat (why t name)
 why-leaves t seat name = granted-leaves (causes_of t.setup.processes t.history name) t seat _ (λ causes. nothing t seat _ refl)
@@ -106,7 +124,13 @@ leaves rules t seat (UndoLost s m p) = undo-leaves t seat (name_given (named.Los
 leaves rules t seat Redo =
     found-leaves (last_of (redo_of t seat)) NothingToRedo t seat _
     (λ e. granted-leaves (rules.again t.history e) t seat (redone rules t seat)
-    (λ taken. record { refused = λ r h. absurd (cc); lists = λ other low from apart. other-list t seat other _ low from apart; numbers = omega arith; stops = λ all. all }))
+    (λ taken. record {
+      refused =
+          λ r h. absurd (cc);
+      lists = λ other low from apart. other-list t seat other _ low from apart;
+      numbers = omega arith;
+      stops = λ all. all;
+    }))
 leaves rules t seat Forget =
     record { refused = λ r h. absurd (cc); lists = λ other low from apart. other-list t seat other _ low from apart; numbers = omega arith; stops = λ all. all }
 leaves rules t seat (Rollback p k) = rollback-leaves t seat (name_given (named.Step p k))
@@ -134,16 +158,19 @@ leaves rules t seat Resume = record { refused = λ r h. absurd (cc); lists = λ 
 leaves rules t seat (Show v) = show-leaves rules t seat v
 leaves rules t seat Decisions = nothing t seat _ refl
 
-pub refused_changes_nothing : (rules : Rules) (t : State) (seat : ℕ) (command : Command) (refusal : Refusal) → reply_of rules t seat command ≡ reply.Refused refusal → obey rules t seat command ≡ t
+pub refused_changes_nothing : (rules : Rules) (t : State) (seat : ℕ) (command : Command) (refusal : Refusal)
+    → reply_of rules t seat command ≡ reply.Refused refusal → obey rules t seat command ≡ t
 refused_changes_nothing rules t seat command refusal h = (leaves rules t seat command).refused refusal h
 
-pub other_lists_stay : (rules : Rules) (t : State) (seat other : ℕ) (command : Command) → 1 ≤ seat → 1 ≤ other → other ≢ seat → redo_of (obey rules t seat command) other ≡ redo_of t other
+pub other_lists_stay : (rules : Rules) (t : State) (seat other : ℕ) (command : Command) → 1 ≤ seat
+    → 1 ≤ other → other ≢ seat → redo_of (obey rules t seat command) other ≡ redo_of t other
 other_lists_stay rules t seat other command low from apart = (leaves rules t seat command).lists other low from apart
 
 pub numbers_rise : (rules : Rules) (t : State) (seat : ℕ) (command : Command) → t.next ≤ (obey rules t seat command).next
 numbers_rise rules t seat command = (leaves rules t seat command).numbers
 
-pub numbers_stay : (rules : Rules) (t : State) (seat : ℕ) (command : Command) → AreNumbered t.next t.stops → AreNumbered (obey rules t seat command).next (obey rules t seat command).stops
+pub numbers_stay : (rules : Rules) (t : State) (seat : ℕ) (command : Command) → AreNumbered t.next t.stops
+    → AreNumbered (obey rules t seat command).next (obey rules t seat command).stops
 numbers_stay rules t seat command = (leaves rules t seat command).stops
 
 -- ---- commands that act on no run
@@ -205,7 +232,7 @@ unless-sets : (b : Bool) (r : Refusal) (t : State) (go : Outcome) (number : ℕ)
 unless-sets true r t go number h is = absurd (cc)
 unless-sets false r t go number h is = h is
 
-abbrev number_in : ToldReply → ℕ
+abbrev number_in : ReplyView → ℕ
 number_in (reply.BreakSet number) = number
 number_in _ = 0
 
@@ -214,7 +241,7 @@ unfolding outcome
 next_number_used rules t seat stop number =
     unless-sets (names_none_of t.setup.processes stop) NoProcess t _ number
     (unless-sets (nat_le MAX_BREAKPOINTS (length t.stops)) BreakLimit t _ number
-    (λ is. (sym (ap (λ (r : ToldReply). number_in r) is), refl)))
+    (λ is. (sym (ap (λ (r : ReplyView). number_in r) is), refl)))
 
 -- ---- one entry more
 
@@ -222,12 +249,12 @@ pub state_extended : (rules : Parts → Rules) (c : Journaled) (seat : ℕ) (com
     → control_state rules (extended rules c seat command) ≡ obey (rules c.setup) (control_state rules c) seat command
 state_extended rules c seat command = replay-push (rules c.setup) c.setup c.seats c.journal _
 
-refused_is : (it : ToldReply) → is_refused it ≡ true → (why : Refusal) × (it ≡ reply.Refused why)
+refused_is : (it : ReplyView) → is_refused it ≡ true → (why : Refusal) × (it ≡ reply.Refused why)
 refused_is (reply.Refused why) is = (why, refl)
 refused_is _ is = absurd (cc)
 
-pub kept_if_refused : (rules : Parts → Rules) (old : Journaled) (seat : ℕ) (command : Command) {new : Journaled} {told : ToldReply}
-    → new ≡ extended rules old seat command → told ≡ reply_in rules old seat command → IsKeptIfRefused rules old new told
+pub kept_if_refused : (rules : Parts → Rules) (old : Journaled) (seat : ℕ) (command : Command) {new : Journaled} {reply_view : ReplyView}
+    → new ≡ extended rules old seat command → reply_view ≡ reply_in rules old seat command → IsKeptIfRefused rules old new reply_view
 kept_if_refused rules old seat command is same refused =
     let why = refused_is (reply_in rules old seat command) (rw (← same) refused) in
     ap (control_state rules) is ∙ state_extended rules old seat command

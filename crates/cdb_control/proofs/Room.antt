@@ -1,5 +1,6 @@
 -- What commands do to room and to redo lists in memory.
-use Rattle.std.proofs.Common.{◌≡◌, ◌≢◌, ℕ, zero, suc, ◌+◌, ◌-◌, ◌<◌, ◌≤◌, max, Bool, true, false, not, List, [], ◌∷◌, ◌++◌, length, map, set, get_or, replicate, Option, Some, None, Result, Ok, Err, refl, sym, ap, ◌∙◌, subst, arith, length-append, nat_eq, nat_le, is_some}
+use Rattle.std.proofs.Common.{◌≡◌, ◌≢◌, ℕ, zero, suc, ◌+◌, ◌-◌, ◌<◌, ◌≤◌, max, Bool, true, false, not, List, [], ◌∷◌, ◌++◌, length, map, set, get_or}
+use Rattle.std.proofs.Common.{replicate, Option, Some, None, Result, Ok, Err, refl, sym, ap, ◌∙◌, subst, arith, length-append, nat_eq, nat_le, is_some}
 use Rattle.std.specs.Map.{lookup}
 use Rattle.std.proofs.lemmas.List.{length-set, length-map, length-take, length-replicate, get_or-map, map-set, get_or-set_same, get_or-set_other, set-get_or}
 use Rattle.cdb_base.specs.Positions.{without_last}
@@ -19,7 +20,8 @@ use Rattle.cdb_control.specs.Kept.{HoldsRooms, rooms_at}
 use Rattle.cdb_control.specs.State.{State, redo_of, last_of}
 use Rattle.cdb_control.specs.Stops.{names_none_of}
 use Rattle.cdb_commands.specs.declared.command.Command.{Command}
-use Rattle.cdb_commands.specs.declared.command.Command.TheVariants.{Step, Auto, Lose, Undo, UndoLost, Redo, Forget, Rollback, RollbackLost, Why, WhyLost, Break, Unbreak, Resume, Show, Decisions}
+use Rattle.cdb_commands.specs.declared.command.Command.TheVariants.{Step, Auto, Lose, Undo, UndoLost, Redo, Forget, Rollback, RollbackLost}
+use Rattle.cdb_commands.specs.declared.command.Command.TheVariants.{Why, WhyLost, Break, Unbreak, Resume, Show, Decisions}
 use Rattle.cdb_commands.specs.declared.command.View.{View}
 use Rattle.cdb_commands.specs.declared.command.View.TheVariants as view
 use Rattle.cdb_rules.specs.declared.event_ref.EventRef.TheVariants as named
@@ -48,7 +50,8 @@ pub record Swap (t : StoredState) (lists : List StoredList) (seat : ℕ) (old ne
   pub grown : old.capacity ≤ new.capacity → (i : ℕ) → get_or t.capacities i 0 ≤ get_or (map (λ l. l.capacity) (set lists (seat - 1) new)) i 0
 
 pub swap : (t : StoredState) (lists : List StoredList) (seat : ℕ) (old new : StoredList)
-    → map (λ l. l.events) lists ≡ t.state.redo → map (λ l. l.capacity) lists ≡ t.capacities → 1 ≤ seat → seat ≤ length t.state.redo → old ≡ get_or lists (seat - 1) old
+    → map (λ l. l.events) lists ≡ t.state.redo → map (λ l. l.capacity) lists ≡ t.capacities
+    → 1 ≤ seat → seat ≤ length t.state.redo → old ≡ get_or lists (seat - 1) old
     → Swap t lists seat old new
 swap t lists seat old new events capacities from_one to_last is =
     let many = length-map lists (λ (l : StoredList). l.events) in
@@ -56,22 +59,33 @@ swap t lists seat old new events capacities from_one to_last is =
     let low : seat - 1 < length lists = omega (arith, many, same, from_one, to_last) in
     record {
       low = omega (arith, from_one, to_last);
-      at = ap (λ (e : List (List Event)). get_or e (seat - 1) []) (sym events) ∙ get_or-map (λ (l : StoredList). l.events) lists (seat - 1) old [] low ∙ ap (λ (l : StoredList). l.events) (sym is);
+      at =
+          ap (λ (e : List (List Event)). get_or e (seat - 1) []) (sym events)
+          ∙ get_or-map (λ (l : StoredList). l.events) lists (seat - 1) old [] low ∙ ap (λ (l : StoredList). l.events) (sym is);
       put = map-set (λ (l : StoredList). l.events) lists (seat - 1) new ∙ ap (λ (e : List (List Event)). set e (seat - 1) new.events) events;
-      position = ap (λ (e : List ℕ). get_or e (seat - 1) 0) (sym capacities) ∙ get_or-map (λ (l : StoredList). l.capacity) lists (seat - 1) old 0 low ∙ ap (λ (l : StoredList). l.capacity) (sym is);
-      placed = ap (λ (e : List ℕ). get_or e (seat - 1) 0) (map-set (λ (l : StoredList). l.capacity) lists (seat - 1) new) ∙ get_or-set_same (map (λ l. l.capacity) lists) (seat - 1) new.capacity 0 (omega (arith, length-map lists (λ (l : StoredList). l.capacity), low));
-      grown = λ more i. subst (λ (e : List ℕ). get_or e i 0 ≤ get_or (map (λ l. l.capacity) (set lists (seat - 1) new)) i 0) capacities (capacities-set lists (seat - 1) old new low (sym is) more i);
+      position =
+          ap (λ (e : List ℕ). get_or e (seat - 1) 0) (sym capacities)
+          ∙ get_or-map (λ (l : StoredList). l.capacity) lists (seat - 1) old 0 low ∙ ap (λ (l : StoredList). l.capacity) (sym is);
+      placed =
+          ap (λ (e : List ℕ). get_or e (seat - 1) 0) (map-set (λ (l : StoredList). l.capacity) lists (seat - 1) new)
+          ∙ get_or-set_same (map (λ l. l.capacity) lists) (seat - 1) new.capacity 0 (omega (arith, length-map lists (λ (l : StoredList). l.capacity), low));
+      grown =
+          λ more i. subst (λ (e : List ℕ). get_or e i 0 ≤ get_or (map (λ l. l.capacity) (set lists (seat - 1) new)) i 0)
+          capacities (capacities-set lists (seat - 1) old new low (sym is) more i);
     }
 
 -- ---- ends of rooms, and rooms
 
 all-lowered : (room_ends : List ℕ) (n : ℕ) → map (λ r. r - 1) (map (λ m. m - n) room_ends) ≡ map (λ m. m - (n + 1)) room_ends
 all-lowered [] n = refl
-all-lowered (m ∷ ms) n = (let head : m - n - 1 ≡ m - (n + 1) = omega arith in ap (λ (x : ℕ). x ∷ map (λ r. r - 1) (map (λ m. m - n) ms)) head ∙ ap (λ (xs : List ℕ). (m - (n + 1)) ∷ xs) (all-lowered ms n))
+all-lowered (m ∷ ms) n =
+    (let head : m - n - 1 ≡ m - (n + 1) = omega arith in
+    ap (λ (x : ℕ). x ∷ map (λ r. r - 1) (map (λ m. m - n) ms)) head ∙ ap (λ (xs : List ℕ). (m - (n + 1)) ∷ xs) (all-lowered ms n))
 
 -- the end of a room is lowered by all but one of what a command takes, and the journal gets its entry
 pub rooms-lowered : (room_ends : List ℕ) (i n c : ℕ) → 1 ≤ c → i < length room_ends
-    → set (map (λ r. r - 1) (map (λ m. m - n) room_ends)) i (get_or (map (λ m. m - n) room_ends) i 0 - c) ≡ map (λ m. m - (n + 1)) (set room_ends i (get_or room_ends i 0 - (c - 1)))
+    → set (map (λ r. r - 1) (map (λ m. m - n) room_ends)) i (get_or (map (λ m. m - n) room_ends) i 0 - c)
+    ≡ map (λ m. m - (n + 1)) (set room_ends i (get_or room_ends i 0 - (c - 1)))
 rooms-lowered [] i n c one low = absurd (omega (arith, low))
 rooms-lowered (m ∷ ms) zero n c one low =
     let head : m - n - c ≡ m - (c - 1) - (n + 1) = omega (arith, one) in
@@ -79,10 +93,12 @@ rooms-lowered (m ∷ ms) zero n c one low =
 rooms-lowered (m ∷ ms) (suc i) n c one low =
     let head : m - n - 1 ≡ m - (n + 1) = omega arith in
     let rest = rooms-lowered ms i n c one (omega (arith, low)) in
-    ap (λ (x : ℕ). x ∷ set (map (λ r. r - 1) (map (λ m. m - n) ms)) i (get_or (map (λ m. m - n) ms) i 0 - c)) head ∙ ap (λ (xs : List ℕ). (m - (n + 1)) ∷ xs) rest
+    ap (λ (x : ℕ). x ∷ set (map (λ r. r - 1) (map (λ m. m - n) ms)) i (get_or (map (λ m. m - n) ms) i 0 - c)) head
+    ∙ ap (λ (xs : List ℕ). (m - (n + 1)) ∷ xs) rest
 
 pub rooms-raised : (room_ends : List ℕ) (i n count : ℕ) → i < length room_ends
-    → map (λ m. m - n) (set room_ends i (max (n + count) (get_or room_ends i 0))) ≡ set (map (λ m. m - n) room_ends) i (max count (get_or (map (λ m. m - n) room_ends) i 0))
+    → map (λ m. m - n) (set room_ends i (max (n + count) (get_or room_ends i 0)))
+    ≡ set (map (λ m. m - n) room_ends) i (max count (get_or (map (λ m. m - n) room_ends) i 0))
 rooms-raised [] i n count low = absurd (omega (arith, low))
 rooms-raised (m ∷ ms) zero n count low =
     let head : max (n + count) m - n ≡ max count (m - n) = omega arith in ap (λ (x : ℕ). x ∷ map (λ m. m - n) ms) head
@@ -122,11 +138,13 @@ granted-kept seat (Ok a) t go h = h a
 granted-kept seat (Err r) t go h = kept seat t _ refl (omega arith)
 
 -- the same where what is granted is known
-granted-where : (seat : ℕ) {A : Type 0} (x : Result A Refusal) (t : State) (go : A → Outcome) → ((a : A) → x ≡ Ok a → Spends seat t (go a)) → Spends seat t (granted x t go)
+granted-where : (seat : ℕ) {A : Type 0} (x : Result A Refusal) (t : State) (go : A → Outcome)
+    → ((a : A) → x ≡ Ok a → Spends seat t (go a)) → Spends seat t (granted x t go)
 granted-where seat (Ok a) t go h = h a refl
 granted-where seat (Err r) t go h = kept seat t _ refl (omega arith)
 
-found-kept : (seat : ℕ) {A : Type 0} (x : Option A) (r : Refusal) (t : State) (go : A → Outcome) → ((a : A) → Spends seat t (go a)) → Spends seat t (found x r t go)
+found-kept : (seat : ℕ) {A : Type 0} (x : Option A) (r : Refusal) (t : State) (go : A → Outcome)
+    → ((a : A) → Spends seat t (go a)) → Spends seat t (found x r t go)
 found-kept seat (Some a) r t go h = h a
 found-kept seat None r t go h = kept seat t _ refl (omega arith)
 
@@ -136,11 +154,15 @@ unpaused-kept seat None t go h = h
 
 module _ (rules : Rules) (t : State) (seat : ℕ) (low : seat - 1 < length t.redo) where
   -- the seat's list is another, no longer than it was by more than what the command takes
-  becomes : (o : Outcome) (events : List Event) → o.after.redo ≡ set t.redo (seat - 1) events → length events ≤ length (redo_of t seat) + cost o.reply → 1 ≤ cost o.reply → Spends seat t o
+  becomes : (o : Outcome) (events : List Event) → o.after.redo ≡ set t.redo (seat - 1) events
+      → length events ≤ length (redo_of t seat) + cost o.reply → 1 ≤ cost o.reply → Spends seat t o
   becomes o events is long one =
       record {
         one = one;
-        own = (let here = ap (λ (lists : List (List Event)). length (get_or lists (seat - 1) [])) is in let there = ap (λ (l : List Event). length l) (get_or-set_same t.redo (seat - 1) events [] low) in omega (arith, long, here, there));
+        own =
+            (let here = ap (λ (lists : List (List Event)). length (get_or lists (seat - 1) [])) is in
+            let there = ap (λ (l : List Event). length l) (get_or-set_same t.redo (seat - 1) events [] low) in
+            omega (arith, long, here, there));
         others = λ i apart. ap (λ (lists : List (List Event)). get_or lists i []) is ∙ get_or-set_other t.redo (seat - 1) i events [] apart;
       }
 
@@ -214,7 +236,8 @@ less-at (r ∷ rs) (suc i) = less-at rs i
 
 -- after a command there is as much less room as it can have taken
 pub HoldsRooms-next : (n space space' : ℕ) (rooms : List ℕ) (seat : ℕ) (was next : StoredState) (o : Outcome)
-    → HoldsRooms n space rooms was → seat - 1 < length was.state.redo → Spends seat was.state o → o.after ≡ next.state → length next.state.redo ≡ length was.state.redo
+    → HoldsRooms n space rooms was → seat - 1 < length was.state.redo → Spends seat was.state o
+    → o.after ≡ next.state → length next.state.redo ≡ length was.state.redo
     → ((i : ℕ) → get_or was.capacities i 0 ≤ get_or next.capacities i 0) → space ≤ space'
     → HoldsRooms (n + 1) space' (lowered rooms seat o.reply) next
 HoldsRooms-next n space space' rooms seat was next o room low spends after long grown more =
@@ -226,7 +249,9 @@ HoldsRooms-next n space space' rooms seat was next o room low spends after long 
       seats = length-set (map (λ r. r - 1) rooms) (seat - 1) _ ∙ many ∙ seats ∙ sym long;
       journal = λ i some. apart_or_same i (seat - 1) _
           (λ same.
-          let is = ap (λ k. get_or (lowered rooms seat o.reply) k 0) same ∙ get_or-set_same (map (λ r. r - 1) rooms) (seat - 1) (room_of rooms seat - cost o.reply) 0 (omega (arith, many, seats, low)) in
+          let is =
+          ap (λ k. get_or (lowered rooms seat o.reply) k 0) same
+          ∙ get_or-set_same (map (λ r. r - 1) rooms) (seat - 1) (room_of rooms seat - cost o.reply) 0 (omega (arith, many, seats, low)) in
           let promised = room.journal (seat - 1) (omega (arith, is, some)) in
           omega (arith, is, some, promised, one, more))
           (λ apart.
@@ -235,7 +260,9 @@ HoldsRooms-next n space space' rooms seat was next o room low spends after long 
           omega (arith, is, some, promised, more));
       lists = λ i some. apart_or_same i (seat - 1) _
           (λ same.
-          let is = ap (λ k. get_or (lowered rooms seat o.reply) k 0) same ∙ get_or-set_same (map (λ r. r - 1) rooms) (seat - 1) (room_of rooms seat - cost o.reply) 0 (omega (arith, many, seats, low)) in
+          let is =
+          ap (λ k. get_or (lowered rooms seat o.reply) k 0) same
+          ∙ get_or-set_same (map (λ r. r - 1) rooms) (seat - 1) (room_of rooms seat - cost o.reply) 0 (omega (arith, many, seats, low)) in
           let promised = room.lists (seat - 1) (omega (arith, is, some)) in
           let here = ap (λ k. length (get_or next.state.redo k [])) same in
           let there = ap (λ k. get_or next.capacities k 0) same in
@@ -300,10 +327,15 @@ HoldsRooms-first space seats stored long =
     }
 
 -- where the state is as it was, and no memory was given back, the room is as it was
-pub HoldsRooms-kept : (n space space' : ℕ) (rooms : List ℕ) (was next : StoredState) → HoldsRooms n space rooms was → space ≤ space' → next.state ≡ was.state → NoneShrinks was.capacities next.capacities → HoldsRooms n space' rooms next
+pub HoldsRooms-kept : (n space space' : ℕ) (rooms : List ℕ) (was next : StoredState) → HoldsRooms n space rooms was
+    → space ≤ space' → next.state ≡ was.state → NoneShrinks was.capacities next.capacities → HoldsRooms n space' rooms next
 HoldsRooms-kept n space space' rooms was next room more same grown =
     record {
       seats = room.seats ∙ ap (λ (t : State). length t.redo) (sym same);
       journal = λ i some. let fits = room.journal i some in omega (arith, fits, more);
-      lists = λ i some. let fits = room.lists i some in let wide = grown i in let long = ap (λ (t : State). length (get_or t.redo i [])) same in omega (arith, fits, wide, long);
+      lists =
+          λ i some. let fits = room.lists i some in
+          let wide = grown i in
+          let long = ap (λ (t : State). length (get_or t.redo i [])) same in
+          omega (arith, fits, wide, long);
     }

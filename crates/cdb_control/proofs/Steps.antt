@@ -1,5 +1,6 @@
 -- Commands that share a word of the table.
-use Rattle.std.proofs.Common.{◌≡◌, ℕ, arith, ◌-◌, false, IsOk, IfOk, OnErr, subst, List, [], ◌∷◌, ◌++◌, length, set, Option, Some, None, Result, Ok, Err, refl, sym, ap, ◌∙◌, true≢false}
+use Rattle.std.proofs.Common.{◌≡◌, ℕ, arith, ◌-◌, false, IsOk, IfOk, OnErr, subst, List, [], ◌∷◌, ◌++◌, length}
+use Rattle.std.proofs.Common.{set, Option, Some, None, Result, Ok, Err, refl, sym, ap, ◌∙◌, true≢false}
 use Rattle.std.proofs.lemmas.List.{set-get_or}
 use Rattle.std.proofs.lemmas.Option.{none-some}
 use Rattle.std.specs.Result.{result_err}
@@ -9,8 +10,8 @@ use Rattle.cdb_base.specs.declared.no_memory.NoMemory.{NoMemory}
 use Rattle.cdb_base.specs.declared.event.Event.{Event}
 use Rattle.cdb_base.specs.declared.refusal.Refusal.{Refusal}
 use Rattle.cdb_base.specs.declared.refusal.Refusal.TheVariants.{NothingToRedo}
-use Rattle.cdb_commands.specs.ToldReply.{is_refused}
-use Rattle.cdb_commands.specs.ToldReply as reply
+use Rattle.cdb_commands.specs.ReplyView.{is_refused}
+use Rattle.cdb_commands.specs.ReplyView as reply
 use Rattle.cdb_control.specs.Auto.{choice}
 use Rattle.cdb_control.specs.Commands.{Outcome, granted, found, unpaused, undone_by, redone, decides, step, step_done, undo, rollback, why, reply_of, outcome}
 use Rattle.cdb_rules.specs.Auto.{step_of_chosen}
@@ -112,7 +113,8 @@ unfolding outcome
 why_lost_granted rules t seat s m p it r is memory = subst (λ (c : Command). OnErr r (IsNoRefusal (outcome rules t seat c))) (sym is) memory
 
 -- what is granted is answered as what it goes on to
-pub granted_goes_on : {A : Type 0} (x : Result A Refusal) (t : State) (go : A → Outcome) → IsOk x → ((a : A) → is_refused (go a).reply ≡ false) → is_refused (granted x t go).reply ≡ false
+pub granted_goes_on : {A : Type 0} (x : Result A Refusal) (t : State) (go : A → Outcome) → IsOk x
+    → ((a : A) → is_refused (go a).reply ≡ false) → is_refused (granted x t go).reply ≡ false
 granted_goes_on (Ok a) t go ok each = each a
 granted_goes_on (Err why) t go ok each = absurd (true≢false (sym ok))
 
@@ -126,7 +128,8 @@ on_error (Ok a) holds = tt
 on_error (Err e) holds = holds
 
 -- what is refused leaves the history as it was
-pub refused_leaves : (x : Result (Event × List Event) Refusal) (history : List Event) (why : Refusal) → Some why ≡ result_err (result_alone x) → left_by history x ≡ history
+pub refused_leaves : (x : Result (Event × List Event) Refusal) (history : List Event) (why : Refusal)
+    → Some why ≡ result_err (result_alone x) → left_by history x ≡ history
 refused_leaves (Ok done) history why is = absurd (none-some why (sym is))
 refused_leaves (Err other) history why is = refl
 
@@ -150,32 +153,40 @@ unchanged t seat = ap (λ (lists : List (List Event)). let u : State = record t 
 
 pub undone-as : (t u : State) (seat : ℕ) (x : Result (Event × List Event) Refusal) (r : Result Event Refusal) (event : Event)
     → r ≡ result_alone x → u ≡ with_lists t seat (left_by t.history x) (with_taken (redo_of t seat) r) → r ≡ Ok event
-    → (let o : Outcome = record { reply = reply.Undone event; after = u } in o) ≡ granted x t (λ undone. record { reply = reply.Undone undone.0; after = undone_by t seat (undone.0 ∷ []) undone.1 })
+    → (let o : Outcome = record { reply = reply.Undone event; after = u } in o)
+    ≡ granted x t (λ undone. record { reply = reply.Undone undone.0; after = undone_by t seat (undone.0 ∷ []) undone.1 })
 undone-as t u seat (Ok done) r event is after ok =
     ap (λ (v : State). let o : Outcome = record { reply = reply.Undone event; after = v } in o) after
-    ∙ ap (λ (z : Result Event Refusal). let o : Outcome = record { reply = reply.Undone event; after = with_lists t seat done.1 (with_taken (redo_of t seat) z) } in o) ok
-    ∙ ap (λ (e : Event). let o : Outcome = record { reply = reply.Undone e; after = with_lists t seat done.1 (redo_of t seat ++ e ∷ []) } in o) (ok_ok event done.0 r ok is)
+    ∙ ap (λ (z : Result Event Refusal).
+    let o : Outcome = record { reply = reply.Undone event; after = with_lists t seat done.1 (with_taken (redo_of t seat) z) } in o) ok
+    ∙ ap (λ (e : Event). let o : Outcome = record { reply = reply.Undone e; after = with_lists t seat done.1 (redo_of t seat ++ e ∷ []) } in o)
+    (ok_ok event done.0 r ok is)
 undone-as t u seat (Err why) r event is after ok = absurd (ok_err event why r ok is)
 
-pub undo_refused-as : (t u : State) (seat : ℕ) (x : Result (Event × List Event) Refusal) (r : Result Event Refusal) (why : Refusal) (go : Event × List Event → Outcome)
+pub undo_refused-as : (t u : State) (seat : ℕ) (x : Result (Event × List Event) Refusal)
+    (r : Result Event Refusal) (why : Refusal) (go : Event × List Event → Outcome)
     → r ≡ result_alone x → u ≡ with_lists t seat (left_by t.history x) (with_taken (redo_of t seat) r) → r ≡ Err why
     → (let o : Outcome = record { reply = reply.Refused why; after = u } in o) ≡ granted x t go
 undo_refused-as t u seat (Ok done) r why go is after err = absurd (ok_err done.0 why r is err)
 undo_refused-as t u seat (Err other) r why go is after err =
     ap (λ (v : State). let o : Outcome = record { reply = reply.Refused why; after = v } in o) after
-    ∙ ap (λ (z : Result Event Refusal). let o : Outcome = record { reply = reply.Refused why; after = with_lists t seat t.history (with_taken (redo_of t seat) z) } in o) err
+    ∙ ap (λ (z : Result Event Refusal).
+    let o : Outcome = record { reply = reply.Refused why; after = with_lists t seat t.history (with_taken (redo_of t seat) z) } in o) err
     ∙ ap (λ (v : State). let o : Outcome = record { reply = reply.Refused why; after = v } in o) (unchanged t seat)
     ∙ ap (λ (w : Refusal). let o : Outcome = record { reply = reply.Refused w; after = t } in o) (err_err why other r err is)
 
 pub rolled_back-as : (t u : State) (seat : ℕ) (x : Result (List Event × List Event) Refusal) (r : Result ℕ Refusal) (count : ℕ)
     → r ≡ number_removed (result_alone x) → u ≡ with_lists t seat (left_by t.history x) (with_removed (redo_of t seat) (result_alone x)) → r ≡ Ok count
-    → (let o : Outcome = record { reply = reply.RolledBack count; after = u } in o) ≡ granted x t (λ removed. record { reply = reply.RolledBack (length removed.0); after = undone_by t seat removed.0 removed.1 })
+    → (let o : Outcome = record { reply = reply.RolledBack count; after = u } in o)
+    ≡ granted x t (λ removed. record { reply = reply.RolledBack (length removed.0); after = undone_by t seat removed.0 removed.1 })
 rolled_back-as t u seat (Ok done) r count is after ok =
     ap (λ (v : State). let o : Outcome = record { reply = reply.RolledBack count; after = v } in o) after
-    ∙ ap (λ (n : ℕ). let o : Outcome = record { reply = reply.RolledBack n; after = with_lists t seat done.1 (redo_of t seat ++ done.0) } in o) (ok_ok count (length done.0) r ok is)
+    ∙ ap (λ (n : ℕ). let o : Outcome = record { reply = reply.RolledBack n; after = with_lists t seat done.1 (redo_of t seat ++ done.0) } in o)
+    (ok_ok count (length done.0) r ok is)
 rolled_back-as t u seat (Err why) r count is after ok = absurd (ok_err count why r ok is)
 
-pub rollback_refused-as : (t u : State) (seat : ℕ) (x : Result (List Event × List Event) Refusal) (r : Result ℕ Refusal) (why : Refusal) (go : List Event × List Event → Outcome)
+pub rollback_refused-as : (t u : State) (seat : ℕ) (x : Result (List Event × List Event) Refusal)
+    (r : Result ℕ Refusal) (why : Refusal) (go : List Event × List Event → Outcome)
     → r ≡ number_removed (result_alone x) → u ≡ with_lists t seat (left_by t.history x) (with_removed (redo_of t seat) (result_alone x)) → r ≡ Err why
     → (let o : Outcome = record { reply = reply.Refused why; after = u } in o) ≡ granted x t go
 rollback_refused-as t u seat (Ok done) r why go is after err = absurd (ok_err (length done.0) why r is err)
@@ -189,8 +200,11 @@ pub redone-as : (rules : Rules) (t u : State) (seat : ℕ) (undone event : Event
     → (let o : Outcome = record { reply = reply.Redone event given; after = u } in o) ≡ outcome rules t seat command.Redo
 unfolding outcome
 redone-as rules t u seat undone event given r last is after tells ok =
-    ap (λ (v : State). let o : Outcome = record { reply = reply.Redone event given; after = v } in o) (after ∙ ap (λ (z : Result Event Refusal). with_lists t seat (with_taken t.history z) (without_last (redo_of t seat))) ok)
-    ∙ ap (λ (d : Option ℕ). let o : Outcome = record { reply = reply.Redone event d; after = with_lists t seat (t.history ++ event ∷ []) (without_last (redo_of t seat)) } in o) (tells ∙ ap (λ (z : Result Event Refusal). decides rules (with_taken t.history z) event) ok)
+    ap (λ (v : State). let o : Outcome = record { reply = reply.Redone event given; after = v } in o)
+    (after ∙ ap (λ (z : Result Event Refusal). with_lists t seat (with_taken t.history z) (without_last (redo_of t seat))) ok)
+    ∙ ap (λ (d : Option ℕ).
+    let o : Outcome = record { reply = reply.Redone event d; after = with_lists t seat (t.history ++ event ∷ []) (without_last (redo_of t seat)) } in o)
+    (tells ∙ ap (λ (z : Result Event Refusal). decides rules (with_taken t.history z) event) ok)
     ∙ ap (λ (z : Result Event Refusal). granted z t (redone rules t seat)) (sym ok ∙ is)
     ∙ ap (λ (o : Option Event). found o NothingToRedo t (λ e. granted (rules.again t.history e) t (redone rules t seat))) last
 
@@ -206,7 +220,8 @@ refused-as t u x r why go is after err =
     ap (λ (v : State). let o : Outcome = record { reply = reply.Refused why; after = v } in o) (after ∙ ap (taken_in t) err)
     ∙ ap (λ (z : Result Event Refusal). granted z t go) (sym err ∙ is)
 
-pub step_refused-as : (rules : Rules) (t u : State) (seat p : ℕ) (act : Act) (r : Result Event Refusal) (why : Refusal) → r ≡ rules.step t.history p act → u ≡ taken_in t r → r ≡ Err why
+pub step_refused-as : (rules : Rules) (t u : State) (seat p : ℕ) (act : Act) (r : Result Event Refusal) (why : Refusal)
+    → r ≡ rules.step t.history p act → u ≡ taken_in t r → r ≡ Err why
     → (let o : Outcome = record { reply = reply.Refused why; after = u } in o) ≡ outcome rules t seat (command.Step p act)
 unfolding outcome
 step_refused-as rules t u seat p act r why is after err = refused-as t u _ r why (step_done rules t p) is after err
@@ -223,7 +238,8 @@ auto_refused-as rules t u seat p (Err other) r why chosen unpaused_now is after 
     refused-as t u _ r why (step_done rules t p) is after err
     ∙ ap (λ (y : Result Act Refusal). granted y t (λ act. unpaused t.pause t (step rules t p act))) (sym chosen)
 
-pub redo_none : (rules : Rules) (t : State) (seat : ℕ) → None ≡ last_of (redo_of t seat) → (let o : Outcome = record { reply = reply.Refused NothingToRedo; after = t } in o) ≡ outcome rules t seat command.Redo
+pub redo_none : (rules : Rules) (t : State) (seat : ℕ) → None ≡ last_of (redo_of t seat)
+    → (let o : Outcome = record { reply = reply.Refused NothingToRedo; after = t } in o) ≡ outcome rules t seat command.Redo
 unfolding outcome
 redo_none rules t seat none = ap (λ (o : Option Event). found o NothingToRedo t (λ e. granted (rules.again t.history e) t (redone rules t seat))) none
 

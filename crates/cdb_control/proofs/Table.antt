@@ -1,6 +1,7 @@
 -- What one command can add: at most one to the next number and to the events that stand or wait, and no event that is
 -- none of the run.
-use Rattle.std.proofs.Common.{◌≡◌, ℕ, ◌+◌, ◌-◌, ◌<◌, ◌≤◌, Bool, true, false, not, List, [], ◌∷◌, ◌++◌, length, set, Option, Some, None, Result, Ok, Err, refl, sym, subst, arith, length-append, nat_eq, nat_le, is_some}
+use Rattle.std.proofs.Common.{◌≡◌, ℕ, ◌+◌, ◌-◌, ◌<◌, ◌≤◌, Bool, true, false, not, List, [], ◌∷◌, ◌++◌, length, set, Option}
+use Rattle.std.proofs.Common.{Some, None, Result, Ok, Err, refl, sym, subst, arith, length-append, nat_eq, nat_le, is_some}
 use Rattle.std.specs.List.{AllByRecursion}
 use Rattle.std.specs.Map.{lookup}
 use Rattle.std.proofs.lemmas.List.{length-set, length-take}
@@ -12,13 +13,15 @@ use Rattle.cdb_base.specs.declared.refusal.Refusal.{Refusal}
 use Rattle.cdb_base.specs.declared.refusal.Refusal.TheVariants.{NoProcess, NothingToRedo, NoBreak, BreakLimit}
 use Rattle.cdb_base.specs.Limits.{MAX_BREAKPOINTS}
 use Rattle.cdb_control.specs.Auto.{choice}
-use Rattle.cdb_control.specs.Commands.{Outcome, unless, granted, found, unpaused, step_done, step, lost, undone_by, undo, rollback, why, redone, show, outcome, obey}
+use Rattle.cdb_control.specs.Commands.{Outcome, unless, granted, found, unpaused, step_done, step, lost}
+use Rattle.cdb_control.specs.Commands.{undone_by, undo, rollback, why, redone, show, outcome, obey}
 use Rattle.cdb_rules.specs.EventRefs.{name_given}
 use Rattle.cdb_control.specs.State.{State, redo_of, last_of}
 use Rattle.cdb_control.specs.Kept.{events_kept, AreOfRun}
 use Rattle.cdb_control.specs.Stops.{names_none_of}
 use Rattle.cdb_commands.specs.declared.command.Command.{Command}
-use Rattle.cdb_commands.specs.declared.command.Command.TheVariants.{Step, Auto, Lose, Undo, UndoLost, Redo, Forget, Rollback, RollbackLost, Why, WhyLost, Break, Unbreak, Resume, Show, Decisions}
+use Rattle.cdb_commands.specs.declared.command.Command.TheVariants.{Step, Auto, Lose, Undo, UndoLost, Redo, Forget, Rollback, RollbackLost}
+use Rattle.cdb_commands.specs.declared.command.Command.TheVariants.{Why, WhyLost, Break, Unbreak, Resume, Show, Decisions}
 use Rattle.cdb_commands.specs.declared.command.View.{View}
 use Rattle.cdb_commands.specs.declared.command.View.TheVariants as view
 use Rattle.cdb_rules.specs.declared.event_ref.EventRef.TheVariants as named
@@ -51,7 +54,8 @@ granted-adds : {A : Type 0} (x : Result A Refusal) (t : State) (go : A → Outco
 granted-adds (Ok a) t go h = h a refl
 granted-adds (Err r) t go h = nothing t
 
-found-adds : {A : Type 0} (x : Option A) (r : Refusal) (t : State) (go : A → Outcome) → ((a : A) → x ≡ Some a → Adds t (go a).after) → Adds t (found x r t go).after
+found-adds : {A : Type 0} (x : Option A) (r : Refusal) (t : State) (go : A → Outcome)
+    → ((a : A) → x ≡ Some a → Adds t (go a).after) → Adds t (found x r t go).after
 found-adds (Some a) r t go h = h a refl
 found-adds None r t go h = nothing t
 
@@ -97,7 +101,12 @@ module _ (rules : Rules) (t : State) (lawful : AreLawful rules t.setup) where
           numbers = omega arith;
           events = omega (arith, parted.count, length-append (redo_of t seat) events, waiting-set t.redo (seat - 1) (redo_of t seat ++ events) low);
           lists = length-set t.redo (seat - 1) _;
-          of_run = λ all. (parted.left all.0, all-set (AllByRecursion (IsOfRun t.setup)) t.redo (seat - 1) (redo_of t seat ++ events) all.1 (all-append (IsOfRun t.setup) (redo_of t seat) events (waiting-of_run all) (parted.gone all.0)));
+          of_run =
+              λ all. (
+                parted.left all.0,
+                all-set (AllByRecursion (IsOfRun t.setup)) t.redo (seat - 1) (redo_of t seat ++ events)
+                    all.1 (all-append (IsOfRun t.setup) (redo_of t seat) events (waiting-of_run all) (parted.gone all.0)),
+              );
         }
 
     undo-adds : (name : StepId) → Adds t (undo t seat name).after
@@ -115,9 +124,20 @@ module _ (rules : Rules) (t : State) (lawful : AreLawful rules t.setup) where
         record {
           setup = refl;
           numbers = omega arith;
-          events = omega (arith, length-append t.history (e ∷ []), length-take (length (redo_of t seat) - 1) (redo_of t seat), waiting-set t.redo (seat - 1) (without_last (redo_of t seat)) low);
+          events =
+              omega (
+                arith,
+                length-append t.history (e ∷ []),
+                length-take (length (redo_of t seat) - 1) (redo_of t seat),
+                waiting-set t.redo (seat - 1) (without_last (redo_of t seat)) low,
+              );
           lists = length-set t.redo (seat - 1) _;
-          of_run = λ all. (push_all (IsOfRun t.setup) t.history e all.0 (of_run all), all-set (AllByRecursion (IsOfRun t.setup)) t.redo (seat - 1) (without_last (redo_of t seat)) all.1 (all-take (IsOfRun t.setup) (length (redo_of t seat) - 1) (redo_of t seat) (waiting-of_run all)));
+          of_run =
+              λ all. (
+                push_all (IsOfRun t.setup) t.history e all.0 (of_run all),
+                all-set (AllByRecursion (IsOfRun t.setup)) t.redo (seat - 1)
+                    (without_last (redo_of t seat)) all.1 (all-take (IsOfRun t.setup) (length (redo_of t seat) - 1) (redo_of t seat) (waiting-of_run all)),
+              );
         }
 
     redo-adds : Adds t (outcome rules t seat Redo).after
@@ -125,7 +145,8 @@ module _ (rules : Rules) (t : State) (lawful : AreLawful rules t.setup) where
     redo-adds =
         found-adds (last_of (redo_of t seat)) NothingToRedo t _
         (λ e last. granted-adds (rules.again t.history e) t (redone rules t seat)
-        (λ taken h. redone-adds taken (λ all. subst (IsOfRun t.setup) (sym (lawful.again t.history e taken h)) (all-slice_get (IsOfRun t.setup) (redo_of t seat) _ e (waiting-of_run all) last))))
+        (λ taken h. redone-adds taken (λ all.
+        subst (IsOfRun t.setup) (sym (lawful.again t.history e taken h)) (all-slice_get (IsOfRun t.setup) (redo_of t seat) _ e (waiting-of_run all) last))))
 
     forgotten-adds : Adds t (record t { redo = set t.redo (seat - 1) [] })
     forgotten-adds =
@@ -156,7 +177,8 @@ stops_only t u setup history redo numbers =
       of_run = rw (setup, history, redo) (λ all. all);
     }
 
-pub obey-adds : (rules : Rules) (t : State) → AreLawful rules t.setup → (seat : ℕ) (command : Command) → 1 ≤ seat → seat ≤ length t.redo → Adds t (obey rules t seat command)
+pub obey-adds : (rules : Rules) (t : State) → AreLawful rules t.setup → (seat : ℕ) (command : Command)
+    → 1 ≤ seat → seat ≤ length t.redo → Adds t (obey rules t seat command)
 unfolding outcome
 obey-adds rules t lawful seat (Step p act) from_one to_last = step-adds rules t lawful p act
 obey-adds rules t lawful seat (Auto p) from_one to_last =

@@ -1,5 +1,6 @@
 -- What each command does, and its reply.
-use Rattle.std.specs.Prelude.{◌≡◌, ℕ, ◌+◌, nat_le, nat_eq, Bool, true, false, not, List, [], ◌∷◌, ◌++◌, length, Option, Some, None, Result, Ok, Err, is_some}
+use Rattle.std.specs.Prelude.{◌≡◌, ℕ, ◌+◌, nat_le, nat_eq, Bool, true, false, not, List, [], ◌∷◌}
+use Rattle.std.specs.Prelude.{◌++◌, length, Option, Some, None, Result, Ok, Err, is_some}
 use Rattle.std.specs.Map.{lookup, remove_entry}
 use Rattle.std.specs.Option.{option_or}
 use Rattle.cdb_base.specs.Positions.{without_last}
@@ -10,15 +11,17 @@ use Rattle.cdb_base.specs.Limits.{MAX_BREAKPOINTS}
 use Rattle.cdb_base.specs.declared.name.StepId.{StepId}
 use Rattle.cdb_base.specs.declared.refusal.Refusal.{Refusal}
 use Rattle.cdb_base.specs.declared.refusal.Refusal.TheVariants.{NoProcess, Paused, NothingToRedo, NoBreak, BreakLimit}
-use Rattle.cdb_commands.specs.ToldReply.{ToldReply}
-use Rattle.cdb_commands.specs.ToldReply as reply
+use Rattle.cdb_commands.specs.ReplyView.{ReplyView}
+use Rattle.cdb_commands.specs.ReplyView as reply
 use Rattle.cdb_control.specs.Auto.{choice}
 use Rattle.cdb_rules.specs.EventRefs.{name_given}
 use Rattle.cdb_control.specs.State.{State, redo_of, with_redo, last_of}
 use Rattle.cdb_control.specs.Stops.{Stops, first_fired, names_none_of, IsLeastFired}
 use Rattle.cdb_rules.specs.Views.{seen_as, round_of, decision_of, cells_of, all_open_copies}
 use Rattle.cdb_commands.specs.declared.command.Command.{Command}
-use Rattle.cdb_commands.specs.declared.command.Command.TheVariants.{Step, Auto, Lose, Undo, UndoLost, Redo, Forget, Rollback, RollbackLost, Why, WhyLost, Break, Unbreak, Resume, Show, Decisions}
+use Rattle.cdb_commands.specs.declared.command.Command.TheVariants.{Step, Auto, Lose, Undo, UndoLost, Redo, Forget}
+use Rattle.cdb_commands.specs.declared.command.Command.TheVariants.{Rollback, RollbackLost, Why, WhyLost, Break}
+use Rattle.cdb_commands.specs.declared.command.Command.TheVariants.{Unbreak, Resume, Show, Decisions}
 use Rattle.cdb_commands.specs.declared.command.Stop.{Stop}
 use Rattle.cdb_commands.specs.declared.command.View.{View}
 use Rattle.cdb_commands.specs.declared.command.View.TheVariants as view
@@ -30,11 +33,11 @@ use Rattle.cdb_rules.specs.Undo.{undo_of, rollback_of, causes_of}
 
 -- a reply, and the state after it
 pub record Outcome : Type 0 where
-  pub reply : ToldReply
+  pub reply : ReplyView
   pub after : State
 
 -- a reply that changes nothing
-abbrev pub replied : State → ToldReply → Outcome
+abbrev pub replied : State → ReplyView → Outcome
 replied t told = record { reply = told; after = t }
 
 abbrev pub refused : State → Refusal → Outcome
@@ -65,7 +68,12 @@ unpaused None t go = go
 -- what breakpoints look at in a step of a process that stands last and was taken in that round
 abbrev pub last_step : Rules → List Event → ℕ → Event → ℕ → TakenStep
 last_step rules history p e round_before =
-    record { event = e; decides = decision_of rules history p; round_before = round_before; round_after = round_of rules history p }
+    record {
+      event = e;
+      decides = decision_of rules history p;
+      round_before = round_before;
+      round_after = round_of rules history p;
+    }
 
 -- the same of a step that is taken now
 abbrev pub taken_step : Rules → List Event → ℕ → Event → TakenStep
@@ -80,7 +88,10 @@ newly_fired None taken stops = first_fired taken stops
 abbrev pub step_told : State → TakenStep → Outcome
 step_told t taken =
     let paused = newly_fired t.pause taken t.stops in
-    record { reply = reply.Stepped taken.event taken.decides paused; after = record t { pause = option_or t.pause paused } }
+    record {
+      reply = reply.Stepped taken.event taken.decides paused;
+      after = record t { pause = option_or t.pause paused };
+    }
 
 abbrev pub step_done : Rules → State → ℕ → Event → Outcome
 step_done rules t p e = step_told (record t { history = t.history ++ e ∷ [] }) (taken_step rules t.history p e)
@@ -96,7 +107,8 @@ lost t e = record { reply = reply.Stepped e None None; after = record t { histor
 
 -- some events have left the history, and go to the end of the seat's redo list
 abbrev pub undone_by : State → ℕ → List Event → List Event → State
-undone_by t seat events history = record t { history = history; redo = (with_redo t seat (redo_of t seat ++ events)).redo }
+undone_by t seat events history =
+    record t { history = history; redo = (with_redo t seat (redo_of t seat ++ events)).redo }
 
 abbrev pub undo : State → ℕ → StepId → Outcome
 undo t seat name =
@@ -117,14 +129,19 @@ abbrev pub redone : Rules → State → ℕ → Event → Outcome
 redone rules t seat e =
     record {
       reply = reply.Redone e (decides rules (t.history ++ e ∷ []) e);
-      after = record t { history = t.history ++ e ∷ []; redo = (with_redo t seat (without_last (redo_of t seat))).redo };
+      after =
+          record t { history = t.history ++ e ∷ []; redo = (with_redo t seat (without_last (redo_of t seat))).redo };
     }
 
 -- ---- breakpoints
 
 abbrev pub break_set : State → Stop → Outcome
 break_set t stop =
-    record { reply = reply.BreakSet t.next; after = record t { stops = t.stops ++ (t.next, stop) ∷ []; next = t.next + 1 } }
+    record {
+      reply = reply.BreakSet t.next;
+      after =
+          record t { stops = t.stops ++ (t.next, stop) ∷ []; next = t.next + 1 };
+    }
 
 abbrev pub break_gone : State → ℕ → Outcome
 break_gone t number =
@@ -136,7 +153,8 @@ abbrev pub why : State → StepId → Outcome
 why t name = granted (causes_of t.setup.processes t.history name) t (λ causes. replied t (reply.Because name causes))
 
 abbrev pub show : Rules → State → View → Outcome
-show rules t (view.Proc p) = found (rules.process t.history p) NoProcess t (λ process. replied t (reply.Proc (seen_as t.setup p process)))
+show rules t (view.Proc p) =
+    found (rules.process t.history p) NoProcess t (λ process. replied t (reply.Proc (seen_as t.setup p process)))
 show rules t view.Regs = replied t (reply.Regs (cells_of (rules.registers t.history)))
 show rules t view.Mail = replied t (reply.Mail (all_open_copies (rules.mail t.history)))
 show rules t view.History = replied t (reply.History t.history)
@@ -149,8 +167,9 @@ IsPauseSet (Some standing) taken stops paused = paused ≡ None
 IsPauseSet None taken stops paused = IsLeastFired taken stops paused
 
 -- the reply to a step of a process tells it
-abbrev pub TellsPause : Rules → State → ℕ → ToldReply → Type 0
-TellsPause rules t p (reply.Stepped e decides paused) = IsPauseSet t.pause (taken_step rules t.history p e) t.stops paused
+abbrev pub TellsPause : Rules → State → ℕ → ReplyView → Type 0
+TellsPause rules t p (reply.Stepped e decides paused) =
+    IsPauseSet t.pause (taken_step rules t.history p e) t.stops paused
 TellsPause rules t p other = Unit {0}
 
 -- ---- the table of the commands
@@ -171,13 +190,14 @@ outcome rules t seat (WhyLost s m p) = why t (name_given (named.Lost s m p))
 outcome rules t seat (Break stop) =
     unless (names_none_of t.setup.processes stop) NoProcess t
     (unless (nat_le MAX_BREAKPOINTS (length t.stops)) BreakLimit t (break_set t stop))
-outcome rules t seat (Unbreak number) = unless (not (is_some (lookup (nat_eq number) t.stops))) NoBreak t (break_gone t number)
+outcome rules t seat (Unbreak number) =
+    unless (not (is_some (lookup (nat_eq number) t.stops))) NoBreak t (break_gone t number)
 outcome rules t seat Resume = record { reply = reply.Resumed; after = record t { pause = None } }
 outcome rules t seat (Show v) = show rules t v
 outcome rules t seat Decisions = replied t (reply.Decisions (rules.decisions t.history))
 
 -- the reply to a command of a seat
-abbrev pub reply_of : Rules → State → ℕ → Command → ToldReply
+abbrev pub reply_of : Rules → State → ℕ → Command → ReplyView
 reply_of rules t seat command = (outcome rules t seat command).reply
 
 -- the state after a command of a seat

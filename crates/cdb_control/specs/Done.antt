@@ -1,6 +1,6 @@
 -- What a contract says of a command that was carried out.
 use Rattle.std.specs.Prelude.{◌≡◌, ℕ, ◌≤◌, false, List, slice_index_or}
-use Rattle.cdb_commands.specs.ToldReply.{told, is_refused}
+use Rattle.cdb_commands.specs.ReplyView.{reply_view, is_refused}
 use Rattle.cdb_control.specs.Commands.{Outcome, outcome}
 use Rattle.cdb_control.specs.State.{State}
 use Rattle.cdb_commands.specs.declared.command.Command.{Command}
@@ -10,7 +10,7 @@ use Rattle.cdb_setup.specs.Parts.{Parts}
 
 -- the reply that was given, and the state that was left
 abbrev pub came_out : Reply → State → Outcome
-came_out reply left = record { reply = told reply; after = left }
+came_out reply left = record { reply = reply_view reply; after = left }
 
 -- they are this outcome
 abbrev pub CameOutAs : Outcome → State → Reply → Type 0

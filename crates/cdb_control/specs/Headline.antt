@@ -12,13 +12,14 @@ use Rattle.cdb_causal.specs.Causality.{IsFree}
 use Rattle.cdb_causal.specs.Dependence.{depends}
 use Rattle.cdb_causal.specs.Names.{IsFirstDependent}
 use Rattle.cdb_causal.specs.Rollback.{IsParted, IsRolledBack, without}
-use Rattle.cdb_commands.specs.ToldReply.{ToldReply, Stepped, Undone, Redone, RolledBack, Refused}
-use Rattle.cdb_commands.specs.ToldReply as reply
+use Rattle.cdb_commands.specs.ReplyView.{ReplyView, Stepped, Undone, Redone, RolledBack, Refused}
+use Rattle.cdb_commands.specs.ReplyView as reply
 use Rattle.cdb_control.specs.Commands.{reply_of, obey}
 use Rattle.cdb_control.specs.Journal.{replay_from, replay}
 use Rattle.cdb_control.specs.State.{State, redo_of}
 use Rattle.cdb_commands.specs.declared.command.Command.{Command}
-use Rattle.cdb_commands.specs.declared.command.Command.TheVariants.{Undo, UndoLost, Redo, Rollback, RollbackLost, Decisions}
+use Rattle.cdb_commands.specs.declared.command.Command.TheVariants.{Undo, UndoLost, Redo, Rollback}
+use Rattle.cdb_commands.specs.declared.command.Command.TheVariants.{RollbackLost, Decisions}
 use Rattle.cdb_control.specs.declared.control.Entry.{Entry}
 use Rattle.cdb_rules.specs.Agreement.{AllAgree, AreProposed, HasMajorityIfNeeded}
 use Rattle.cdb_rules.specs.Lawful.{ShowTheSame}
@@ -32,7 +33,7 @@ abbrev pub undoing : StepId → Command
 undoing (named.Step step) = Undo step.p step.k
 undoing (named.Lost copy) = UndoLost copy.msg.s copy.msg.m copy.to
 
-abbrev pub undo_reply : Rules → State → ℕ → Event → ToldReply
+abbrev pub undo_reply : Rules → State → ℕ → Event → ReplyView
 undo_reply rules t seat event = reply_of rules t seat (undoing (event_name event))
 
 abbrev pub control_after_undo : Rules → State → ℕ → Event → State
@@ -43,27 +44,28 @@ abbrev pub rolling_back : StepId → Command
 rolling_back (named.Step step) = Rollback step.p step.k
 rolling_back (named.Lost copy) = RollbackLost copy.msg.s copy.msg.m copy.to
 
-abbrev pub rollback_reply : Rules → State → ℕ → Event → ToldReply
+abbrev pub rollback_reply : Rules → State → ℕ → Event → ReplyView
 rollback_reply rules t seat event = reply_of rules t seat (rolling_back (event_name event))
 
 abbrev pub control_after_rollback : Rules → State → ℕ → Event → State
 control_after_rollback rules t seat event = obey rules t seat (rolling_back (event_name event))
 
 -- the reply says that the event was taken, or taken again
-abbrev pub TellsTaken : ToldReply → Event → Type 0
+abbrev pub TellsTaken : ReplyView → Event → Type 0
 TellsTaken (Stepped event decides paused) taken = event ≡ taken
 TellsTaken (Redone event decides) taken = event ≡ taken
 TellsTaken _ taken = ⊥
 
 -- the reply says that the event was taken again
-abbrev pub TellsRedone : ToldReply → Event → Type 0
+abbrev pub TellsRedone : ReplyView → Event → Type 0
 TellsRedone (Redone event decides) taken = event ≡ taken
 TellsRedone _ taken = ⊥
 
 -- ---- the claims, of a control state t
 
--- The reply to the undo of the event at a position is Undone exactly where no standing event depends on it, and else NeededBy
--- the first later event that does. No event depends on a loss. After it the history is the one before without the event.
+-- The reply to the undo of the event at a position is Undone exactly where no standing event depends on it, and else
+-- NeededBy the first later event that does. No event depends on a loss. After it the history is the one before without
+-- the event.
 pub record IsUndoneWhereFree (rules : Rules) (t : State) (seat at : ℕ) (event : Event) : Type 0 where
   pub exactly : (undo_reply rules t seat event ≡ Undone event) ↔ IsFree depends t.history at
   pub needed : (later : StepId)
@@ -72,8 +74,8 @@ pub record IsUndoneWhereFree (rules : Rules) (t : State) (seat at : ℕ) (event 
   pub loss : (copy : CopyName) → event ≡ Lost copy → IsFree depends t.history at
   pub left : IsFree depends t.history at → (control_after_undo rules t seat event).history ≡ without t.history at
 
--- After a command that took the event, the reply to its undo is Undone, and it leaves the history, and so the run state, from
--- before the command.
+-- After a command that took the event, the reply to its undo is Undone, and it leaves the history, and so the run
+-- state, from before the command.
 pub record IsUndoneNext (rules : Rules) (before after : State) (event : Event) (seat : ℕ) : Type 0 where
   pub undone : undo_reply rules after seat event ≡ Undone event
   pub left : (control_after_undo rules after seat event).history ≡ before.history
@@ -90,18 +92,21 @@ RedosLeadBack rules SameState before seat t (event ∷ events) =
     → TellsRedone (reply_of rules now seat Redo) event
     × RedosLeadBack rules SameState before seat (obey rules now seat Redo) events
 
--- The event at a position is removed with exactly its consequences, the reply says how many events that are, and as many
--- redos lead back.
-pub record IsRolledBackAndForth (rules : Rules) (SameState : List Event → List Event → Type 0) (t : State) (seat at : ℕ) (event : Event) : Type 0 where
+-- The event at a position is removed with exactly its consequences, the reply says how many events that are, and as
+-- many redos lead back.
+pub record IsRolledBackAndForth (rules : Rules) (SameState : List Event → List Event → Type 0)
+    (t : State) (seat at : ℕ) (event : Event) : Type 0 where
   pub gone : List Event
   pub told : rollback_reply rules t seat event ≡ RolledBack (length gone)
-  pub exactly : IsParted (IsRolledBack depends t.history at) 1 t.history (control_after_rollback rules t seat event).history gone
+  pub exactly : IsParted (IsRolledBack depends t.history at) 1
+      t.history (control_after_rollback rules t seat event).history gone
   pub back : RedosLeadBack rules SameState t seat (control_after_rollback rules t seat event) gone
 
 -- ---- the headline
 
 -- Of the control state t, which has that number of seats.
-pub record HoldsAt (rules : Rules) (SameState : List Event → List Event → Type 0) (setup : Parts) (seats : ℕ) (t : State) : Type 0 where
+pub record HoldsAt (rules : Rules) (SameState : List Event → List Event → Type 0)
+    (setup : Parts) (seats : ℕ) (t : State) : Type 0 where
   -- each standing event was enabled in its turn: the run state is what the standing events alone reach from the start
   pub reached : IsTrue (rules.valid t.history)
   -- what is shown is of the run state alone: wherever other events reach it, the same is shown
@@ -111,7 +116,8 @@ pub record HoldsAt (rules : Rules) (SameState : List Event → List Event → Ty
   pub undone_where_free : (seat at : ℕ) (event : Event) → nth t.history at ≡ Some event
       → IsUndoneWhereFree rules t seat at event
   -- step then undo is the identity, whoever steps and whoever undoes
-  pub step_then_undo : (seat other : ℕ) (command : Command) (event : Event) → TellsTaken (reply_of rules t seat command) event
+  pub step_then_undo : (seat other : ℕ) (command : Command) (event : Event)
+      → TellsTaken (reply_of rules t seat command) event
       → IsUndoneNext rules t (obey rules t seat command) event other
   -- undo then redo is the identity
   pub undo_then_redo : (seat : ℕ) (event : Event) → IsWithin 1 seats seat → undo_reply rules t seat event ≡ Undone event
@@ -123,7 +129,8 @@ pub record HoldsAt (rules : Rules) (SameState : List Event → List Event → Ty
   pub agreement : (seat : ℕ) (pairs : List (ℕ × ℕ)) → HasMajorityIfNeeded setup
       → reply_of rules t seat Decisions ≡ reply.Decisions pairs → AllAgree pairs
   -- each decision that is reported was the input of a process
-  pub validity : (seat : ℕ) (pairs : List (ℕ × ℕ)) → reply_of rules t seat Decisions ≡ reply.Decisions pairs → AreProposed setup pairs
+  pub validity : (seat : ℕ) (pairs : List (ℕ × ℕ))
+      → reply_of rules t seat Decisions ≡ reply.Decisions pairs → AreProposed setup pairs
 
 -- It holds of the control state that a journal leads to.
 abbrev pub Headline : (Parts → Rules) → (Parts → List Event → List Event → Type 0) → Parts → ℕ → List Entry → Type 0

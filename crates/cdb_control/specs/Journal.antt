@@ -9,7 +9,7 @@ use Rattle.cdb_rules.specs.Rules.{Rules}
 use Rattle.cdb_control.specs.State.{State, first_control_state}
 use Rattle.cdb_control.specs.Commands.{reply_of, obey}
 use Rattle.cdb_control.specs.Room.{is_spared, lowered, room_of}
-use Rattle.cdb_commands.specs.ToldReply.{ToldReply, is_refused}
+use Rattle.cdb_commands.specs.ReplyView.{ReplyView, is_refused}
 
 pub record Journaled : Type 0 where
   pub setup : Parts
@@ -30,11 +30,12 @@ replay_from rules t journal = fold (λ state e. obey rules state e.seat e.comman
 unfoldable pub replay : Rules → Parts → ℕ → List Entry → State
 replay rules setup seats journal = replay_from rules (first_control_state setup seats) journal
 
--- the control state that the journal leads to, by the rules of the setup, and the reply that a command of a seat gets in it
+-- the control state that the journal leads to, by the rules of the setup, and the reply that a command of a seat gets
+-- in it
 abbrev pub control_state : (Parts → Rules) → Journaled → State
 control_state rules c = replay (rules c.setup) c.setup c.seats c.journal
 
-abbrev pub reply_in : (Parts → Rules) → Journaled → ℕ → Command → ToldReply
+abbrev pub reply_in : (Parts → Rules) → Journaled → ℕ → Command → ReplyView
 reply_in rules c seat command = reply_of (rules c.setup) (control_state rules c) seat command
 
 -- the command needs no memory: its seat has room, and it is one for which that is promised, or is refused
@@ -45,7 +46,10 @@ NeedsNoMemory rules c seat command =
 -- one entry more
 abbrev pub extended : (Parts → Rules) → Journaled → ℕ → Command → Journaled
 extended rules c seat command =
-    record c { journal = c.journal ++ entry seat command ∷ []; rooms = lowered c.rooms seat (reply_in rules c seat command) }
+    record c {
+      journal = c.journal ++ entry seat command ∷ [];
+      rooms = lowered c.rooms seat (reply_in rules c seat command);
+    }
 
 -- the commands of a seat
 abbrev pub own : ℕ → List Entry → List Command
@@ -53,17 +57,18 @@ own seat [] = []
 own seat (e ∷ es) = if e.seat == seat then (e.command ∷ own seat es) else own seat es
 
 -- the replies to a seat's commands, along the journal
-abbrev pub replies_from : Rules → State → ℕ → List Entry → List ToldReply
+abbrev pub replies_from : Rules → State → ℕ → List Entry → List ReplyView
 replies_from rules t seat [] = []
 replies_from rules t seat (e ∷ es) =
-    if e.seat == seat then (reply_of rules t e.seat e.command ∷ replies_from rules (obey rules t e.seat e.command) seat es)
+    if e.seat == seat
+    then (reply_of rules t e.seat e.command ∷ replies_from rules (obey rules t e.seat e.command) seat es)
     else replies_from rules (obey rules t e.seat e.command) seat es
 
-abbrev pub replies_of : Rules → Parts → ℕ → ℕ → List Entry → List ToldReply
+abbrev pub replies_of : Rules → Parts → ℕ → ℕ → List Entry → List ReplyView
 replies_of rules setup seats seat journal = replies_from rules (first_control_state setup seats) seat journal
 
 -- the replies to a seat's commands in the journal of a control
-abbrev pub replies_in : (Parts → Rules) → ℕ → Journaled → List ToldReply
+abbrev pub replies_in : (Parts → Rules) → ℕ → Journaled → List ReplyView
 replies_in rules seat c = replies_of (rules c.setup) c.setup c.seats seat c.journal
 
 -- the first journal is a beginning of the second

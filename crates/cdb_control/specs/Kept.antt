@@ -1,4 +1,5 @@
--- What the code keeps for itself of a control state: how much it holds, the room that it was promised, and what of it is in memory.
+-- What the code keeps for itself of a control state: how much it holds, the room that it was promised, and what of it
+-- is in memory.
 use Rattle.std.specs.Prelude.{ℕ, ◌+◌, List, [], ◌∷◌, length, ◌++◌, nat_eq, ◌<◌, ◌≡◌, ◌-◌, ◌≤◌, map, slice_index_or}
 use Rattle.std.specs.List.{AllByRecursion}
 use Rattle.cdb_base.specs.declared.event.Event.{Event}

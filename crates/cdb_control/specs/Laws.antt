@@ -5,10 +5,11 @@ use Rattle.cdb_control.specs.Commands.{reply_of, obey}
 use Rattle.cdb_control.specs.Journal.{Journaled, AreOfSeats, own, replies_in, extended, reply_in, control_state, replay}
 use Rattle.cdb_control.specs.State.{State, redo_of}
 use Rattle.cdb_control.specs.Stops.{AreBelow}
-use Rattle.cdb_commands.specs.ToldReply.{ToldReply, BreakSet, Refused, is_refused}
+use Rattle.cdb_commands.specs.ReplyView.{ReplyView, BreakSet, Refused, is_refused}
 use Rattle.cdb_commands.specs.declared.command.Command.{Command}
 use Rattle.cdb_commands.specs.declared.command.Stop.{Stop}
-use Rattle.cdb_commands.specs.declared.command.Command.TheVariants.{Why, WhyLost, Break, Unbreak, Resume, Show, Decisions}
+use Rattle.cdb_commands.specs.declared.command.Command.TheVariants.{Why, WhyLost, Break, Unbreak}
+use Rattle.cdb_commands.specs.declared.command.Command.TheVariants.{Resume, Show, Decisions}
 use Rattle.cdb_control.specs.declared.control.Entry.{Entry}
 use Rattle.cdb_rules.specs.Rules.{Rules}
 use Rattle.cdb_setup.specs.Parts.{Parts, AreInRange}
@@ -24,11 +25,13 @@ ForCommands Holds = (rules : Rules) (t : State) (seat : ℕ) (command : Command)
 -- of each that is refused
 abbrev pub ForRefused : (Rules → State → ℕ → Command → Type 0) → Type 0
 ForRefused Holds =
-    ForCommands (λ rules t seat command. (refusal : Refusal) → reply_of rules t seat command ≡ Refused refusal → Holds rules t seat command)
+    ForCommands (λ rules t seat command.
+    (refusal : Refusal) → reply_of rules t seat command ≡ Refused refusal → Holds rules t seat command)
 
 -- of each, and of each seat that is not its own
 abbrev pub ForOtherSeats : (Rules → State → ℕ → Command → ℕ → Type 0) → Type 0
-ForOtherSeats Holds = ForCommands (λ rules t seat command. (other : ℕ) → AreTwoSeats seat other → Holds rules t seat command other)
+ForOtherSeats Holds =
+    ForCommands (λ rules t seat command. (other : ℕ) → AreTwoSeats seat other → Holds rules t seat command other)
 
 -- by any rules, of each control state that a journal leads to
 abbrev pub InReplayed : (Rules → State → Type 0) → Type 0
@@ -46,7 +49,8 @@ ForOthers Holds = ForSeats (λ rules c seat. (more : List Entry) → own seat mo
 -- of each setup whose parts are in range, and each journal of commands of its seats
 abbrev pub ForJournals : (Parts → ℕ → List Entry → Type 0) → Type 0
 ForJournals Holds =
-    (setup : Parts) → AreInRange setup → (seats : ℕ) (journal : List Entry) → AreOfSeats seats journal → Holds setup seats journal
+    (setup : Parts) → AreInRange setup → (seats : ℕ) (journal : List Entry)
+    → AreOfSeats seats journal → Holds setup seats journal
 
 -- a control with these entries more
 abbrev pub followed_by : Journaled → List Entry → Journaled
@@ -55,22 +59,24 @@ followed_by c more = record c { journal = c.journal ++ more }
 -- the seat's replies of a control with this command of it more are those of the control and then the command's reply
 abbrev pub AddsReply : (Parts → Rules) → Journaled → ℕ → Command → Type 0
 AddsReply rules c seat command =
-    replies_in rules seat (extended rules c seat command) ≡ replies_in rules seat c ++ reply_in rules c seat command ∷ []
+    replies_in rules seat (extended rules c seat command)
+    ≡ replies_in rules seat c ++ reply_in rules c seat command ∷ []
 
 -- ---- what a command leaves as it was
 
 -- the control state, where the reply is a refusal
-abbrev pub IsKeptIfRefused : (Parts → Rules) → Journaled → Journaled → ToldReply → Type 0
+abbrev pub IsKeptIfRefused : (Parts → Rules) → Journaled → Journaled → ReplyView → Type 0
 IsKeptIfRefused rules old new reply = is_refused reply ≡ true → control_state rules new ≡ control_state rules old
 
 -- the redo list of each other seat
 abbrev pub KeepsOtherLists : (Parts → Rules) → Journaled → Journaled → ℕ → Type 0
 KeepsOtherLists rules old new seat =
-    (other : ℕ) → AreTwoSeats seat other → redo_of (control_state rules new) other ≡ redo_of (control_state rules old) other
+    (other : ℕ) → AreTwoSeats seat other
+    → redo_of (control_state rules new) other ≡ redo_of (control_state rules old) other
 
--- The number that comes next is above those of all breakpoints and never falls, and a breakpoint that was set got it; so none is
--- used again.
-abbrev pub UsesNumbersOnce : (Parts → Rules) → Journaled → Journaled → Command → ToldReply → Type 0
+-- The number that comes next is above those of all breakpoints and never falls, and a breakpoint that was set got it;
+-- so none is used again.
+abbrev pub UsesNumbersOnce : (Parts → Rules) → Journaled → Journaled → Command → ReplyView → Type 0
 UsesNumbersOnce rules old new command reply =
     let before = control_state rules old in let after = control_state rules new in
     AreBelow before.next before.stops × (before.next ≤ after.next)

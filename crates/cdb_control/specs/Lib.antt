@@ -14,6 +14,6 @@ pub mod Room
 -- the words of the laws, also what a reader believes
 pub mod Laws
 -- what the code keeps for itself: whether `auto` is refused by itself
-pub mod Trying
+pub mod AutoChoices
 pub mod Done
 pub mod Kept

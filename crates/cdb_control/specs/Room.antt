@@ -1,7 +1,7 @@
 -- Room: how many more commands of any seat there may be before a seat's undo can need memory.
 use Rattle.std.specs.Prelude.{ℕ, ◌-◌, Bool, true, false, List, map, max, slice_index_or, slice_set}
 use Rattle.cdb_base.specs.declared.event.Event.{Event}
-use Rattle.cdb_commands.specs.ToldReply.{ToldReply, RolledBack}
+use Rattle.cdb_commands.specs.ReplyView.{ReplyView, RolledBack}
 use Rattle.cdb_control.specs.State.{State}
 use Rattle.cdb_commands.specs.declared.command.Command.{Command}
 use Rattle.cdb_commands.specs.declared.command.Command.TheVariants.{Undo, UndoLost, Forget, Unbreak, Resume}
@@ -16,7 +16,7 @@ is_spared Resume = true
 is_spared _ = false
 
 -- what a command takes of its own seat's room: a rollback as many as it removed, all else one
-abbrev pub cost : ToldReply → ℕ
+abbrev pub cost : ReplyView → ℕ
 cost (RolledBack count) = count
 cost _ = 1
 
@@ -28,7 +28,7 @@ abbrev pub with_room : List ℕ → ℕ → ℕ → List ℕ
 with_room rooms seat room = slice_set rooms (seat - 1) room
 
 -- the rooms after a command of a seat with this reply: one less for each other seat
-abbrev pub lowered : List ℕ → ℕ → ToldReply → List ℕ
+abbrev pub lowered : List ℕ → ℕ → ReplyView → List ℕ
 lowered rooms seat reply = with_room (map (λ room. room - 1) rooms) seat (room_of rooms seat - cost reply)
 
 -- the rooms after room was made for this many commands of a seat

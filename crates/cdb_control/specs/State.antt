@@ -16,7 +16,8 @@ pub record State : Type 0 where
   pub redo : List (List Event)
 
 abbrev pub first_control_state : Parts → ℕ → State
-first_control_state setup seats = record { setup = setup; history = []; stops = []; next = 1; pause = None; redo = replicate seats [] }
+first_control_state setup seats =
+    record { setup = setup; history = []; stops = []; next = 1; pause = None; redo = replicate seats [] }
 
 -- the redo list of a seat
 abbrev pub redo_of : State → ℕ → List Event

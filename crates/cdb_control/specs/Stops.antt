@@ -1,5 +1,6 @@
 -- Breakpoints: a list of numbered stops in order of setting.
-use Rattle.std.specs.Prelude.{ℕ, ◌==◌, ◌<◌, ◌≤◌, Bool, true, false, not, ◌&&◌, List, Contains, Option, Some, None, IsTrue, is_some, option_map, find}
+use Rattle.std.specs.Prelude.{ℕ, ◌==◌, ◌<◌, ◌≤◌, Bool, true, false, not, ◌&&◌, List, Contains}
+use Rattle.std.specs.Prelude.{Option, Some, None, IsTrue, is_some, option_map, find}
 use Rattle.std.specs.List.{AllByRecursion}
 use Rattle.cdb_base.specs.Event.{is_step_of}
 use Rattle.cdb_base.specs.Registers.{same_register}
@@ -31,7 +32,8 @@ is_write_of x _ = false
 -- whether a step that was taken fires a stop
 abbrev pub fires : TakenStep → Stop → Bool
 fires taken (stop.Decide p) = is_step_of p taken.event && is_some taken.decides
-fires taken (stop.Round p round) = is_step_of p taken.event && taken.round_after == round && not (taken.round_before == round)
+fires taken (stop.Round p round) =
+    is_step_of p taken.event && taken.round_after == round && not (taken.round_before == round)
 fires taken (stop.Recv p) = is_step_of p taken.event && is_receive taken.event
 fires taken (stop.Write register) = is_write_of register taken.event
 
@@ -41,11 +43,12 @@ IsFired taken stops number = (stop : Stop) × Contains stops (number, stop) × I
 
 -- the least number of those that the step fires; none where it fires none
 abbrev pub IsLeastFired : TakenStep → Stops → Option ℕ → Type 0
-IsLeastFired taken stops (Some number) = IsFired taken stops number × ((other : ℕ) → IsFired taken stops other → number ≤ other)
+IsLeastFired taken stops (Some number) =
+    IsFired taken stops number × ((other : ℕ) → IsFired taken stops other → number ≤ other)
 IsLeastFired taken stops None = (number : ℕ) → IsFired taken stops number → ⊥
 
--- The number of the first breakpoint that a step fires. Numbers rise in order of setting, so it is the least, as the law
--- `least_fired` says.
+-- The number of the first breakpoint that a step fires. Numbers rise in order of setting, so it is the least, as the
+-- law `least_fired` says.
 abbrev pub first_fired : TakenStep → Stops → Option ℕ
 first_fired taken stops = option_map (λ b. b.0) (find (λ b. fires taken b.1) stops)
 

@@ -1,10 +1,12 @@
 //! The control: the control state, and the journal that led to it.
-ghost use Rattle.std.specs.Prelude.{◌≡◌, ◌≢◌, true, false, ◌+◌, ◌-◌, ◌<◌, ◌≤◌, ◌↔◌, ◌⊎◌, max, Err, IfOk, OnOk, OnErr, length, replicate, vec_len, vec_capacity, ◌++◌, ◌∷◌, []};
+ghost use Rattle.std.specs.Prelude.{◌≡◌, ◌≢◌, true, false, ◌+◌, ◌-◌, ◌<◌, ◌≤◌, ◌↔◌, ◌⊎◌, max, Err, IfOk, OnOk};
+ghost use Rattle.std.specs.Prelude.{OnErr, length, replicate, vec_len, vec_capacity, ◌++◌, ◌∷◌, []};
 ghost use Rattle.std.specs.Result.{result_ok};
-ghost use Rattle.cdb_commands.specs.ToldReply.{told};
+ghost use Rattle.cdb_commands.specs.ReplyView.{reply_view};
 ghost use Rattle.cdb_control.specs.Auto.{choice};
 ghost use Rattle.cdb_control.specs.Headline.{Headline};
-ghost use Rattle.cdb_control.specs.Journal.{entry, opened, extended, reply_in, control_state, AreOfSeats, NeedsNoMemory};
+ghost use Rattle.cdb_control.specs.Journal.{entry, opened, extended, reply_in, control_state};
+ghost use Rattle.cdb_control.specs.Journal.{AreOfSeats, NeedsNoMemory};
 ghost use Rattle.cdb_control.specs.Laws.{IsKeptIfRefused, KeepsOtherLists, UsesNumbersOnce};
 ghost use Rattle.cdb_control.specs.Room.{cost, room_of, with_room, raised};
 
@@ -141,13 +143,13 @@ impl<R: Runs> Control<R> {
     ///
     /// Promise: Each command has the reply of one table, at the state that the journal so far leads to, and adds its
     /// entry, a refused one too. A fault changes nothing, and `JournalFull` comes exactly at 999,999 entries. A refused
-    /// command changes nothing else, other seats' redo lists stay, no number of a breakpoint is used again, and of every
-    /// journal the headline holds.
+    /// command changes nothing else, other seats' redo lists stay, no number of a breakpoint is used again, and of
+    /// every journal the headline holds.
     #[inline(always)]
     pub fn execute(&mut self, alloc: Global, seat: u8, command: Command) -> Result<Reply, CallFault>
         requires from_one { 1 ≤ seat }
         requires to_last { seat ≤ self.old.seats }
-        ensures reply { IfOk result (λ r. told r ≡ reply_in R.rules self.old seat command) }
+        ensures reply { IfOk result (λ r. reply_view r ≡ reply_in R.rules self.old seat command) }
         ensures journal { IfOk result
             (λ _. self.new ≡ extended R.rules self.old seat command) }
         ensures fault { OnErr result (self.new ≡ self.old) }
@@ -156,10 +158,10 @@ impl<R: Runs> Control<R> {
         ensures limit { length self.new.journal ≤ MAX_ENTRIES }
         ensures headline { Headline R.rules R.same_state
             self.new.setup self.new.seats self.new.journal }
-        ensures refused { IfOk result (λ r. IsKeptIfRefused R.rules self.old self.new (told r)) }
+        ensures refused { IfOk result (λ r. IsKeptIfRefused R.rules self.old self.new (reply_view r)) }
         ensures others { OnOk result (KeepsOtherLists R.rules self.old self.new seat) }
         ensures numbers { IfOk result
-            (λ r. UsesNumbersOnce R.rules self.old self.new command (told r)) }
+            (λ r. UsesNumbersOnce R.rules self.old self.new command (reply_view r)) }
         ensures spared { NeedsNoMemory R.rules self.old seat command →
             (refused : NoMemory) → result ≢ Err (CallFault.NoMemory refused) }
     {
@@ -258,13 +260,14 @@ fn no_room_ends(alloc: Global, seats: u8) -> Result<Vec<u32>, NoMemory>
     Ok(Vec::from_elem(alloc, 0, seats as usize)?)
 }
 
-/// Lowers the end of the room of the seat of a command by what the command takes of its room, save the one that its entry takes.
+/// Lowers the end of the room of the seat of a command by what the command takes of its room, save the one that its
+/// entry takes.
 fn lower(room_ends: &mut Vec<u32>, seat: u8, reply: &Reply)
     requires from_one { 1 ≤ seat }
     requires to_last { seat ≤ length room_ends.old.items }
     ensures { room_ends.new.items
         ≡ with_room room_ends.old.items seat
-        (room_of room_ends.old.items seat - (cost (told reply.now) - 1)) }
+        (room_of room_ends.old.items seat - (cost (reply_view reply.now) - 1)) }
 {
     if let Reply::RolledBack(count) = reply {
         let room_end = &mut room_ends[seat as usize - 1];

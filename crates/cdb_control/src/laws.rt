@@ -7,7 +7,8 @@ ghost use Rattle.cdb_commands.specs.declared.command.Command.TheVariants.{Step, 
 ghost use Rattle.cdb_control.specs.Commands.{TellsPause, reply_of, obey};
 ghost use Rattle.cdb_control.specs.Headline.{Headline};
 ghost use Rattle.cdb_control.specs.Journal.{replies_in};
-ghost use Rattle.cdb_control.specs.Laws.{followed_by, ActsOnNoRun, AddsReply, KeepsRun, UsesNextNumber, ForCommands, ForRefused, ForOtherSeats, ForSeats, ForOthers, ForJournals, InReplayed};
+ghost use Rattle.cdb_control.specs.Laws.{followed_by, ActsOnNoRun, AddsReply, KeepsRun, UsesNextNumber, ForCommands};
+ghost use Rattle.cdb_control.specs.Laws.{ForRefused, ForOtherSeats, ForSeats, ForOthers, ForJournals, InReplayed};
 ghost use Rattle.cdb_control.specs.State.{State, redo_of};
 ghost use Rattle.cdb_control.specs.Stops.{AreBelow};
 ghost use Rattle.cdb_rules.specs.Rules.{Rules};
@@ -27,8 +28,8 @@ pub fn other_lists_stay()
         redo_of (obey rules t seat command) other ≡ redo_of t other) }
 {}
 
-/// No number of a breakpoint is used again: a breakpoint gets the next number, which never falls and is above those of all
-/// that stand.
+/// No number of a breakpoint is used again: a breakpoint gets the next number, which never falls and is above those of
+/// all that stand.
 #[tactic(auto)]
 pub fn numbers_are_used_once()
     ensures next { (rules : Rules) (t : State) (seat : ℕ) (stop : Stop) →

@@ -1,15 +1,17 @@
 //! The control state: a run, the breakpoints, the pause and the redo lists.
-ghost use Rattle.std.specs.Prelude.{◌≡◌, ◌+◌, ◌≤◌, [], true, false, Ok, IfOk, IfErr, OnOk, OnErr, IsOk, replicate, length, map};
+ghost use Rattle.std.specs.Prelude.{◌≡◌, ◌+◌, ◌≤◌, [], true, false, Ok, IfOk, IfErr};
+ghost use Rattle.std.specs.Prelude.{OnOk, OnErr, IsOk, replicate, length, map};
 ghost use Rattle.std.specs.Option.{option_or};
 ghost use Rattle.cdb_base.specs.Limits.{MAX_ENTRIES};
-ghost use Rattle.cdb_control.specs.Done.{came_out, CameOutAs, IsCarriedOut, IsCarriedOutForAny, IsNoRefusal, IsGranted, IsGrantedFromAny, NoneShrinks};
+ghost use Rattle.cdb_control.specs.Done.{came_out, CameOutAs, IsCarriedOut, IsCarriedOutForAny};
+ghost use Rattle.cdb_control.specs.Done.{IsNoRefusal, IsGranted, IsGrantedFromAny, NoneShrinks};
 ghost use Rattle.cdb_control.specs.Auto.{choice};
 ghost use Rattle.cdb_rules.specs.Auto.{first_act_of};
 ghost use Rattle.cdb_control.specs.Commands.{undo, rollback, why, show, decides, newly_fired, last_step, step_told};
 ghost use Rattle.cdb_rules.specs.EventRefs.{name_given};
 ghost use Rattle.cdb_rules.specs.Runs.{with_result};
 ghost use Rattle.cdb_rules.specs.Step.{is_among};
-ghost use Rattle.cdb_control.specs.Trying.{IsFreeForAuto, IsRefusedForAuto};
+ghost use Rattle.cdb_control.specs.AutoChoices.{IsFreeForAuto, IsRefusedForAuto};
 ghost use Rattle.cdb_control.specs.Room.{is_spared};
 ghost use Rattle.cdb_control.specs.Kept.{capacity_of, HasSpace, events_kept, AreOfRun};
 ghost use Rattle.cdb_control.specs.State.{first_control_state, redo_of};

@@ -1,5 +1,6 @@
 //! Breakpoints.
-ghost use Rattle.std.specs.Prelude.{◌≡◌, ◌↔◌, ◌≤◌, IsTrue, ◌==◌, ◌&&◌, [], IfOk, OnOk, OnErr, length, nat_eq, not, is_some};
+ghost use Rattle.std.specs.Prelude.{◌≡◌, ◌↔◌, ◌≤◌, IsTrue, ◌==◌, ◌&&◌, [], IfOk};
+ghost use Rattle.std.specs.Prelude.{OnOk, OnErr, length, nat_eq, not, is_some};
 ghost use Rattle.std.specs.Map.{lookup};
 ghost use Rattle.cdb_base.specs.Event.{is_step_of};
 ghost use Rattle.cdb_base.specs.Limits.{MAX_ENTRIES};

@@ -1,3 +1,3 @@
 pub mod Numbers
-pub mod Naming
-pub mod Receiving
+pub mod NamedDeeds
+pub mod ReceivedDeeds

@@ -12,10 +12,11 @@ use Rattle.cdb_deeds.specs.declared.deed.Deed.TheVariants as deed
 
 -- ---- which register of those seen
 
--- the one whose value is settled: that of the cell that was written in the latest round, the least where several were; none
--- where no cell with a value was written
+-- the one whose value is settled: that of the cell that was written in the latest round, the least where several were;
+-- none where no cell with a value was written
 abbrev pub register_of_value : LocalState → Option ℕ
-register_of_value s = if is_some (value_seen s.seen) then number_of (λ cell. cell.lrww == greatest_write s.seen) s.seen else None
+register_of_value s =
+    if is_some (value_seen s.seen) then number_of (λ cell. cell.lrww == greatest_write s.seen) s.seen else None
 
 -- the least one that was entered in a later round
 abbrev pub register_of_later : LocalState → Option ℕ

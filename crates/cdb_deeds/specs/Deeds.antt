@@ -36,7 +36,8 @@ received_by_each history = map (λ p. received_names p history) all_processes
 -- what a step of process p of that kind does, which comes next in the run
 abbrev pub deed_by : Algorithm → RunView → ℕ → Kind → Deed
 deed_by Leader run p kind =
-    option_map_or (λ local. leader_deed local (received_names p run.history) kind) (local_in leader_table run p) deed.Nothing
+    option_map_or (λ local. leader_deed local (received_names p run.history) kind)
+    (local_in leader_table run p) deed.Nothing
 deed_by Alpha run p kind = option_map_or (λ local. alpha_deed p local kind) (local_in alpha_table run p) deed.Nothing
 
 -- what an event does that comes next: a loss nothing

@@ -28,5 +28,6 @@ HasReceived history p name = (k : ℕ) × IsIn (Step p k (Recv name.s name.m)) h
 -- each message that the deed of a step names was received by its process before
 abbrev pub NamesReceived : Type 0
 NamesReceived =
-    (run : RunView) (p k : ℕ) (kind : Kind) (name : MsgName) → Contains (messages_named (deed_in run (Step p k kind))) name
+    (run : RunView) (p k : ℕ) (kind : Kind) (name : MsgName)
+    → Contains (messages_named (deed_in run (Step p k kind))) name
     → HasReceived run.history p name

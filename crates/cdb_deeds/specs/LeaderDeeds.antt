@@ -1,6 +1,7 @@
 -- What a step of the leader machine did, by its table: for each place and kind, of the local state before the step. The
 -- messages of the inbox have names, in the order of receipt.
-use Rattle.std.specs.Prelude.{ℕ, ◌+◌, nat_lt, not, ◌&&◌, List, find, Option, Some, None, is_some, if◌then◌else◌, option_to_list}
+use Rattle.std.specs.Prelude.{ℕ, ◌+◌, nat_lt, not, ◌&&◌, List, find, Option, Some}
+use Rattle.std.specs.Prelude.{None, is_some, if◌then◌else◌, option_to_list}
 use Rattle.std.specs.List.{flat_map}
 use Rattle.std.specs.Option.{option_map_or, option_and_then, option_flatten}
 use Rattle.cdb_base.specs.Limits.{MAX_ROUND}
@@ -33,7 +34,8 @@ number_from m reading inbox = number_of (λ it. is_some (if_from m reading it)) 
 
 -- where aux is set: the first-phase message of the round from the leader that the senders agreed on
 abbrev pub number_of_estimate : LocalState → Option ℕ
-number_of_estimate s = option_and_then (λ m. number_from m (first_phase s.round) s.inbox) (agreed_leader s.quorum s.round s.inbox)
+number_of_estimate s =
+    option_and_then (λ m. number_from m (first_phase s.round) s.inbox) (agreed_leader s.quorum s.round s.inbox)
 
 -- where the round ends: the second-phase message of the round from the least sender whose message has a value
 abbrev pub number_of_proposal : LocalState → Option ℕ
@@ -43,7 +45,9 @@ number_of_proposal s =
 
 -- where a decision is adopted: the first decision of the least sender that sent one
 abbrev pub number_of_learnt : LocalState → Option ℕ
-number_of_learnt s = option_and_then (λ m. number_from m as_decision s.inbox) (find (λ m. is_some (decision_from m s.inbox)) all_processes)
+number_of_learnt s =
+    option_and_then (λ m. number_from m as_decision s.inbox)
+    (find (λ m. is_some (decision_from m s.inbox)) all_processes)
 
 -- the message of a sender that counts: its first one of that phase and of the round
 abbrev pub number_in : Phase → LocalState → ℕ → Option ℕ
@@ -56,7 +60,8 @@ number_in Second s m = number_from m (second_phase s.round) s.inbox
 
 -- the messages that count, by sender
 abbrev pub messages_in : Phase → LocalState → List MsgName → List MsgName
-messages_in phase s names = flat_map (λ m. option_to_list (option_and_then (nth names) (number_in phase s m))) all_processes
+messages_in phase s names =
+    flat_map (λ m. option_to_list (option_and_then (nth names) (number_in phase s m))) all_processes
 
 -- the value of the message of that number, with its name
 abbrev pub source_with : Option MsgName → Option ℕ → Option Source

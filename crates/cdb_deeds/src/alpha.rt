@@ -2,7 +2,8 @@
 
 ghost use Rattle.std.specs.Prelude.{◌≡◌, ◌==◌, nat_lt};
 ghost use Rattle.cdb_deeds.specs.Numbers.{number_of};
-ghost use Rattle.cdb_deeds.specs.AlphaDeeds.{register_of_value, register_of_later, judges, settles, query_deed, local_deed, alpha_deed};
+ghost use Rattle.cdb_deeds.specs.AlphaDeeds.{register_of_value, register_of_later, judges};
+ghost use Rattle.cdb_deeds.specs.AlphaDeeds.{settles, query_deed, local_deed, alpha_deed};
 
 use crate::deed::Deed;
 use cdb_alpha::seen::{find_greatest_write, find_value};
@@ -34,8 +35,8 @@ fn number_of_later(cells: &[Cell], round: u32) -> Option<usize>
     None
 }
 
-/// The number of the register whose value is settled where the first pass ends: that of the cell that was written in the
-/// latest round, the least where several were; none where no cell with a value was written.
+/// The number of the register whose value is settled where the first pass ends: that of the cell that was written in
+/// the latest round, the least where several were; none where no cell with a value was written.
 pub fn register_of_value(machine: &Alpha) -> Option<usize>
     ensures { result ≡ register_of_value machine.now }
 {

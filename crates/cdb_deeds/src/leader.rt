@@ -4,9 +4,13 @@ ghost use Rattle.std.specs.Prelude.{◌≡◌, ◌+◌, is_some, find, IfOk};
 ghost use Rattle.std.specs.Option.{option_and_then, option_flatten};
 ghost use Rattle.cdb_base.specs.Positions.{nth};
 ghost use Rattle.cdb_base.specs.Processes.{all_processes};
-ghost use Rattle.cdb_leader.specs.Inbox.{first_phase, second_phase, as_decision, is_agreed, agreed_leader, backers, second_phase_from, decision_from, is_only_proposal, first_phase_from, names as is_named};
+ghost use Rattle.cdb_leader.specs.Inbox.{first_phase, second_phase, as_decision, is_agreed, agreed_leader};
+ghost use Rattle.cdb_leader.specs.Inbox.{backers, second_phase_from, decision_from, is_only_proposal};
+ghost use Rattle.cdb_leader.specs.Inbox.{first_phase_from, names as is_named};
 ghost use Rattle.cdb_process.specs.Values.{payload_value};
-ghost use Rattle.cdb_deeds.specs.LeaderDeeds.{number_from, number_of_estimate, number_of_proposal, number_of_learnt, number_in, messages_in, source_with, source_at, votes, sets_aux, ends, query_deed, local_deed, learn_deed, leader_deed};
+ghost use Rattle.cdb_deeds.specs.LeaderDeeds.{number_from, number_of_estimate, number_of_proposal, number_of_learnt};
+ghost use Rattle.cdb_deeds.specs.LeaderDeeds.{number_in, messages_in, source_with, source_at, votes, sets_aux};
+ghost use Rattle.cdb_deeds.specs.LeaderDeeds.{ends, query_deed, local_deed, learn_deed, leader_deed};
 
 use crate::deed::{Deed, Messages, Source};
 use cdb_base::limits::MAX_ROUND;
@@ -96,8 +100,8 @@ fn agreed_leader(machine: &Leader) -> Option<Proc>
     None
 }
 
-/// The number, from 1 on, of the message that a process received from its leader where the first phase ends: of those in
-/// its inbox, in the order of receipt; none where the senders agree on no leader.
+/// The number, from 1 on, of the message that a process received from its leader where the first phase ends: of those
+/// in its inbox, in the order of receipt; none where the senders agree on no leader.
 pub fn number_of_estimate(machine: &Leader) -> Option<usize>
     ensures { result ≡ number_of_estimate machine.now }
 {
@@ -129,7 +133,8 @@ fn proposer(machine: &Leader) -> Option<Proc>
     None
 }
 
-/// The number of the message whose value a process adopts where the second phase ends; none where no message has a value.
+/// The number of the message whose value a process adopts where the second phase ends; none where no message has a
+/// value.
 pub fn number_of_proposal(machine: &Leader) -> Option<usize>
     ensures { result ≡ number_of_proposal machine.now }
 {
@@ -362,8 +367,8 @@ fn learn_deed(machine: &Leader, names: &[MsgName]) -> Deed
     }
 }
 
-/// What a step of that kind does, which a process takes next whose machine stands so; the names are those of the messages
-/// that it has received, in the order of receipt. `NoMemory` if an allocation fails.
+/// What a step of that kind does, which a process takes next whose machine stands so; the names are those of the
+/// messages that it has received, in the order of receipt. `NoMemory` if an allocation fails.
 pub fn leader_deed(
     alloc: Global,
     machine: &Leader,

@@ -1,5 +1,5 @@
-//! What a step did, by the table of its machine: what it settled, and from which messages or registers. The functions of
-//! `laws` do nothing: the contract of each is the law.
+//! What a step did, by the table of its machine: what it settled, and from which messages or registers. The functions
+//! of `laws` do nothing: the contract of each is the law.
 //!
 //! ```text
 //! let deed = run.deed(alloc, &names, &event)?;

@@ -11,8 +11,8 @@ use std::alloc::Global;
 
 /// A run of which it is known what its next event does.
 pub trait Telling: Runs {
-    /// What an event does that comes next in the run, in which these messages were received. `NoMemory` if an allocation
-    /// fails.
+    /// What an event does that comes next in the run, in which these messages were received. `NoMemory` if an
+    /// allocation fails.
     fn deed(&self, alloc: Global, names: &ReceivedNames, event: &Event) -> Result<Deed, NoMemory>
         requires { names.now ≡ received_by_each (Self.run self.now).history }
         ensures { IfOk result (λ deed. deed ≡ deed_in (Self.run self.now) event.now) };

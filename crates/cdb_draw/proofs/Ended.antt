@@ -1,5 +1,5 @@
 -- What was written of the picture of a script, by how it ended, and why none was.
-use Rattle.std.proofs.Common.{◌≡◌, ℕ, List, Option, Some, length, Result, Ok, Err, refl, subst}
+use Rattle.std.proofs.Common.{◌≡◌, ℕ, List, Option, Some, length, Result, Ok, Err, subst}
 use Rattle.std.specs.Prelude.{IfErr}
 use Rattle.cdb_agreement.specs.Algorithms.{rules}
 use Rattle.cdb_base.specs.declared.event.Event.{Event}
@@ -8,25 +8,16 @@ use Rattle.cdb_causal.specs.Dependence.{depends}
 use Rattle.cdb_causal.specs.Past.{IsSlice}
 use Rattle.cdb_explain.proofs.Returned.{fault_left, is_no_setup, reads_none}
 use Rattle.cdb_explain.specs.Asked.{IsMissing}
-use Rattle.cdb_explain.specs.Left.{Leaves}
+use Rattle.cdb_explain.specs.RunLeft.{Leaves}
 use Rattle.cdb_explain.specs.declared.fault.ExplainFault.{ExplainFault}
 use Rattle.cdb_explain.specs.declared.fault.ExplainFault.TheVariants.{NoStep, NoValue, TooManyEvents, Play}
-use Rattle.cdb_streams.specs.Endings.{pieces_ending}
-use Rattle.cdb_streams.specs.Faults.{of_output}
-use Rattle.cdb_streams.specs.declared.buffer.OutputFault.{OutputFault}
-use Rattle.cdb_streams.specs.declared.buffer.OutputFault.TheVariants as output
 use Rattle.cdb_rules.specs.RunView.{RunView}
 use Rattle.cdb_rules.specs.Runs.{with_history}
 use Rattle.cdb_setup.specs.declared.fault.SetupFault.{SetupFault}
 use Rattle.cdb_streams.specs.Streams.{Stream}
 use Rattle.cdb_streams.specs.declared.fault.PlayFault.TheVariants as play
-use Rattle.cdb_draw.specs.Drawn.{draw_ending, IsFaultOfDraw, IsFaultOfPicture, IsPictureOfPast}
+use Rattle.cdb_draw.specs.Drawn.{IsFaultOfDraw, IsFaultOfPicture, IsPictureOfPast}
 use Rattle.cdb_draw.specs.Picture.{IsPicture}
-
--- a picture is written in pieces
-pub draw_ends : (A : Type 0) (why : OutputFault) → draw_ending {A = A} (Err (Play (of_output why))) ≡ pieces_ending {A = A} (Err why)
-draw_ends A output.Write = refl
-draw_ends A (output.NoMemory refused) = refl
 
 -- of what has led to an event the picture is that of a run by itself
 pub past_drawn : (run drawn : RunView) (columns position : ℕ) (shown : List Event) → shown ≡ drawn.history
@@ -48,7 +39,8 @@ module _ (step : Option StepAsked) (run : RunView) where
   fault_drawn json old new left (Err (Play fault)) why =
       fault_left rules json old new (λ (r : RunView). IsMissing r.history step) (λ (r : RunView). ⊥) run left (Err (Play fault)) why
 
-  pub no_setup_drawn : (result : Result (Unit {0}) ExplainFault) (fault : SetupFault) → IfErr result (IsFaultOfPicture run step) → result ≡ Err (Play (play.Setup fault)) → ⊥
+  pub no_setup_drawn : (result : Result (Unit {0}) ExplainFault) (fault : SetupFault)
+      → IfErr result (IsFaultOfPicture run step) → result ≡ Err (Play (play.Setup fault)) → ⊥
   no_setup_drawn (Ok done) fault is same = cc
   no_setup_drawn (Err NoStep) fault is same = cc
   no_setup_drawn (Err NoValue) fault is same = cc

@@ -1,8 +1,8 @@
-pub mod Growing
-pub mod Sending
+pub mod GrownTexts
+pub mod SentMessages
 pub mod Parted
 pub mod Ended
 pub mod LastMarks
-pub mod Keeping
-pub mod Weighing
-pub mod Framing
+pub mod KeptPlaces
+pub mod Weights
+pub mod FramesFound

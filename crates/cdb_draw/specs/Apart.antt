@@ -28,8 +28,8 @@ IsWayOff far mark (stroke ∷ strokes) = IsStrokeOff far mark stroke × IsWayOff
 abbrev pub IsOneOf : ℕ → ℕ → Type 0
 IsOneOf n p = (1 ≤ p) × (p ≤ n)
 
--- The arrow from position i on the lane of process s to position j on that of process p keeps 8 units from the middle of
--- the mark at each other position k, on the lane of whatever process q.
+-- The arrow from position i on the lane of process s to position j on that of process p keeps 8 units from the middle
+-- of the mark at each other position k, on the lane of whatever process q.
 abbrev pub ArrowsKeepOff : Type 0
 ArrowsKeepOff =
     (setup : Parts) (columns count i s j p k q : ℕ) → setup.algorithm ≡ Leader

@@ -8,7 +8,7 @@ use Rattle.cdb_base.specs.declared.question.StepAsked.{StepAsked}
 use Rattle.cdb_explain.specs.declared.fault.ExplainFault.{ExplainFault}
 use Rattle.cdb_explain.specs.declared.fault.ExplainFault.TheVariants.{Play, TooManyEvents}
 use Rattle.cdb_streams.specs.Endings.{Ending, Complete, WriterFailed, CutShort, NotBegun}
-use Rattle.cdb_explain.specs.Left.{Leaves}
+use Rattle.cdb_explain.specs.RunLeft.{Leaves}
 use Rattle.cdb_explain.specs.StepFaults.{IsFaultOfLeft, IsFaultOfStep}
 use Rattle.cdb_streams.specs.Streams.{Stream}
 use Rattle.cdb_streams.specs.declared.fault.PlayFault.TheVariants as play
@@ -61,10 +61,13 @@ abbrev pub IsFaultOfPicture : RunView → Option StepAsked → ExplainFault → 
 IsFaultOfPicture run step TooManyEvents = IsTooMuch run step
 IsFaultOfPicture run step fault = IsFaultOfStep (IsMissing run.history step) ⊥ fault
 
--- the run that the script leaves is crowded and no step is asked for, or the step does not stand in it; else as a fault of a play
+-- the run that the script leaves is crowded and no step is asked for, or the step does not stand in it; else as a fault
+-- of a play
 abbrev pub IsFaultOfDraw : (Parts → Rules) → List ℕ → Option StepAsked → Stream → Stream → ExplainFault → Type 0
-IsFaultOfDraw rules json step old new TooManyEvents = (run : RunView) × Leaves rules json old new run × IsTooMuch run step
-IsFaultOfDraw rules json step old new fault = IsFaultOfLeft rules json old new (λ run. IsMissing run.history step) (λ run. ⊥) fault
+IsFaultOfDraw rules json step old new TooManyEvents =
+    (run : RunView) × Leaves rules json old new run × IsTooMuch run step
+IsFaultOfDraw rules json step old new fault =
+    IsFaultOfLeft rules json old new (λ run. IsMissing run.history step) (λ run. ⊥) fault
 
 -- how the writing of a picture ended, which is written in pieces as it is drawn
 abbrev pub draw_ending : {A : Type 0} → Result A ExplainFault → Ending

@@ -1,7 +1,7 @@
 -- The marks of a picture: one for each event, on the lane of its process, with its name and its whole text. What stands
 -- at a mark is at most as wide as a column: three rows above it, and two below it, with the value that it carries, the
--- leader and the round, or what it did in two words. A write has the value that its register then holds on the lane of the
--- register.
+-- leader and the round, or what it did in two words. A write has the value that its register then holds on the lane of
+-- the register.
 use Rattle.std.specs.Prelude.{ℕ, List, [], ◌∷◌, ◌++◌, codes, decimal, Option, None, Some}
 use Rattle.std.specs.List.{concat}
 use Rattle.std.specs.Option.{option_map_or}
@@ -17,7 +17,8 @@ use Rattle.cdb_base.specs.declared.register.Reg.{Reg}
 use Rattle.cdb_base.specs.NameTexts.{message_text, register_text, step_text}
 use Rattle.cdb_control.specs.Commands.{decides}
 use Rattle.cdb_deeds.specs.declared.deed.Deed.{Deed}
-use Rattle.cdb_deeds.specs.declared.deed.Deed.TheVariants.{Nothing, Round, Votes, VotesNone, Settles, Adopts, Keeps, Learns}
+use Rattle.cdb_deeds.specs.declared.deed.Deed.TheVariants.{Nothing, Round, Votes, VotesNone}
+use Rattle.cdb_deeds.specs.declared.deed.Deed.TheVariants.{Settles, Adopts, Keeps, Learns}
 use Rattle.cdb_deeds.specs.declared.deed.Deed.TheVariants.{SettlesRegister, SettlesInput, GivesUp, Carries}
 use Rattle.cdb_explain.specs.Explanations.{deed_at, run_after, whole_text}
 use Rattle.cdb_explain.specs.declared.line.Causes.TheVariants.{Shown}

@@ -1,14 +1,15 @@
--- The frames of a script: the picture of the run after each of its commands that changed it, all on one canvas, with room
--- for the run of most events, so that none is cut off.
-use Rattle.std.specs.Prelude.{◌≡◌, ℕ, suc, ◌-◌, ◌≤◌, Bool, true, false, List, [], ◌∷◌, ◌++◌, length, map, max, replicate, take, fold, Option, None, Some}
+-- The frames of a script: the picture of the run after each of its commands that changed it, all on one canvas, with
+-- room for the run of most events, so that none is cut off.
+use Rattle.std.specs.Prelude.{◌≡◌, ℕ, suc, ◌-◌, ◌≤◌, Bool, true, false, List, [], ◌∷◌, ◌++◌}
+use Rattle.std.specs.Prelude.{length, map, max, replicate, take, fold, Option, None, Some}
 use Rattle.std.specs.List.{flat_map, range_with_len}
 use Rattle.std.specs.Option.{option_map_or}
 use Rattle.cdb_base.specs.Positions.{nth}
-use Rattle.cdb_commands.specs.ToldReply.{ToldReply, Stepped, Undone, Redone, RolledBack}
+use Rattle.cdb_commands.specs.ReplyView.{ReplyView, Stepped, Undone, Redone, RolledBack}
 use Rattle.cdb_commands.specs.declared.command.Command.{Command}
 use Rattle.cdb_control.specs.Journal.{reply_in}
 use Rattle.cdb_control.specs.OneSeat.{carried_out}
-use Rattle.cdb_explain.specs.Left.{run_of}
+use Rattle.cdb_explain.specs.RunLeft.{run_of}
 use Rattle.cdb_explain.specs.StepFaults.{IsFaultOfLeft}
 use Rattle.cdb_explain.specs.declared.fault.ExplainFault.{ExplainFault}
 use Rattle.cdb_explain.specs.declared.fault.ExplainFault.TheVariants.{Play, TooManyEvents}
@@ -28,7 +29,7 @@ use Rattle.cdb_draw.specs.declared.weight.Weight.{Weight}
 use Rattle.cdb_draw.specs.declared.weight.Weight.TheVariants.{Full, Bold}
 
 -- whether a command took an event or took some out, by its reply; nothing where it left the run as it was
-abbrev pub took_by : ToldReply → Option Bool
+abbrev pub took_by : ReplyView → Option Bool
 took_by (Stepped event decides paused) = Some true
 took_by (Redone event decides) = Some true
 took_by (Undone event) = Some false
@@ -60,7 +61,8 @@ module _ (rules : Parts → Rules) (setup : Parts) (commands : List Command) whe
   -- the frame after the k-th command, by its reply in the state before it
   abbrev pub frame_at : ℕ → List Frame
   frame_at k =
-      option_map_or (λ command. frame_by k (events_at k) (took_by (reply_in rules (carried_out setup (take (k - 1) commands)) 1 command)))
+      option_map_or (λ command.
+      frame_by k (events_at k) (took_by (reply_in rules (carried_out setup (take (k - 1) commands)) 1 command)))
       (nth commands k) []
 
   abbrev pub frames_of : List Frame
@@ -91,7 +93,8 @@ module _ (rules : Parts → Rules) (setup : Parts) (commands : List Command) whe
   IsFaultOfFinding (Play (play.NoMemory refused)) = Unit {0}
   IsFaultOfFinding fault = ⊥
 
--- a reader was read to its end, and the pictures are the frames of the script that it gave, on the setup that a text of JSON encodes
+-- a reader was read to its end, and the pictures are the frames of the script that it gave, on the setup that a text of
+-- JSON encodes
 abbrev pub GivesFrames : (Parts → Rules) → List ℕ → ℕ → Stream → Stream → List (List ℕ) → Type 0
 GivesFrames rules json columns old new pictures =
     (setup : Parts) × Encodes json setup × (commands : List Command) × GivesCommands old new commands

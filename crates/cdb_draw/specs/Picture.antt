@@ -52,7 +52,8 @@ picture_text rules grid run weights =
     head_text grid run ++ lanes_text grid run ++ arrows_text grid run weights ++ marks_text rules grid run weights
     ++ codes "</svg>\n"
 
--- the text is the picture of the run, with that number of columns to a row; with a position, of what led to the event there
+-- the text is the picture of the run, with that number of columns to a row; with a position, of what led to the event
+-- there
 abbrev pub IsPicture : (Parts → Rules) → RunView → ℕ → Option ℕ → List ℕ → Type 0
 IsPicture rules run columns position text =
     (weights : List Weight) × AreWeighed run position weights

@@ -1,6 +1,7 @@
 -- What the code keeps for itself: tables of the positions at which messages were sent, and copies received or lost.
 use Rattle.std.specs.HashMap.{HashMap, get}
-use Rattle.std.specs.Prelude.{◌≡◌, ℕ, suc, ◌+◌, ◌*◌, ◌^◌, ◌<◌, Bool, List, [], ◌∷◌, ◌++◌, length, Option, None, Some, nat_eq, if◌then◌else◌}
+use Rattle.std.specs.Prelude.{◌≡◌, ℕ, suc, ◌+◌, ◌*◌, ◌^◌, ◌<◌, Bool, List, [], ◌∷◌, ◌++◌}
+use Rattle.std.specs.Prelude.{length, Option, None, Some, nat_eq, if◌then◌else◌}
 use Rattle.cdb_base.specs.declared.event.Event.{Event}
 use Rattle.cdb_base.specs.declared.event.Event.TheVariants.{Step}
 use Rattle.cdb_base.specs.declared.event.Kind.TheVariants.{Send}
@@ -31,7 +32,8 @@ AreSendsOf sends history =
 -- the table got that of the next event, at this position
 abbrev pub HasNoted : {S : Type 0} → HashMap ℕ ℕ S → HashMap ℕ ℕ S → ℕ → Event → Type 0
 HasNoted old new position event =
-    (before : List Event) → suc (length before) ≡ position → AreSendsOf old before → AreSendsOf new (before ++ event ∷ [])
+    (before : List Event) → suc (length before) ≡ position
+    → AreSendsOf old before → AreSendsOf new (before ++ event ∷ [])
 
 -- the number of a copy's name
 abbrev pub copy_code : CopyName → ℕ
@@ -44,4 +46,5 @@ AreTakesOf takes history =
 
 abbrev pub HasTaken : {S : Type 0} → HashMap ℕ ℕ S → HashMap ℕ ℕ S → ℕ → Event → Type 0
 HasTaken old new position event =
-    (before : List Event) → suc (length before) ≡ position → AreTakesOf old before → AreTakesOf new (before ++ event ∷ [])
+    (before : List Event) → suc (length before) ≡ position
+    → AreTakesOf old before → AreTakesOf new (before ++ event ∷ [])

@@ -1,5 +1,6 @@
 -- How strongly each event of a picture is drawn.
-use Rattle.std.specs.Prelude.{◌≡◌, ℕ, Bool, true, false, List, [], ◌∷◌, codes, length, replicate, unwrap_or, Option, None, Some}
+use Rattle.std.specs.Prelude.{◌≡◌, ℕ, Bool, true, false, List, [], ◌∷◌, codes, length}
+use Rattle.std.specs.Prelude.{replicate, unwrap_or, Option, None, Some}
 use Rattle.cdb_base.specs.Positions.{nth}
 use Rattle.cdb_rules.specs.Flags.{FlagsPast}
 use Rattle.cdb_rules.specs.RunView.{RunView}
@@ -34,7 +35,8 @@ abbrev pub trail_flags : ℕ → Option Trail → List Bool
 trail_flags events (Some trail) = trail.flags.items
 trail_flags events None = replicate events false
 
--- Everything is in full; or the trail to the event at that position is bold, what else has led there is in full, and the rest is pale.
+-- Everything is in full; or the trail to the event at that position is bold, what else has led there is in full, and
+-- the rest is pale.
 abbrev pub AreWeighed : RunView → Option ℕ → List Weight → Type 0
 AreWeighed run None weights = weights ≡ replicate (length run.history) Full
 AreWeighed run (Some position) weights =

@@ -80,8 +80,8 @@ pub(crate) fn weights_for(
 }
 
 /// Writes the picture of a run of at most 999,999 events, with `columns` columns to a row; with 0 all are in one row.
-/// With a position of its history, from 1, the trail to the event there is drawn bold, what else has led to it in full, and the
-/// rest pale; without one everything is in full.
+/// With a position of its history, from 1, the trail to the event there is drawn bold, what else has led to it in full,
+/// and the rest pale; without one everything is in full.
 ///
 /// After `Write` what was written is a beginning of the picture, and after `NoMemory` nothing, or one of whole
 /// pieces of 65,536 bytes.
@@ -90,8 +90,8 @@ pub(crate) fn weights_for(
 /// its whole text, the value that it carries, the round that it begins or what it did; what each write leaves in its
 /// register; a stub with the receivers that wait at each send whose copies were not all received or lost; one arrow to
 /// each receive and each lost copy, from the first event that sends its message; one from or to the register of each
-/// read and write; a lane that ends at its crash; and exactly the trail to the event that is asked for is bold, exactly what
-/// else has led to it in full.
+/// read and write; a lane that ends at its crash; and exactly the trail to the event that is asked for is bold, exactly
+/// what else has led to it in full.
 pub fn draw_run<W: Sink>(
     alloc: Global,
     run: &Trace,

@@ -1,13 +1,15 @@
 //! The frames of a script: the picture of the run after each of its commands that changed it, for slides.
 
-ghost use Rattle.std.specs.Prelude.{◌≡◌, ◌+◌, ◌<◌, ◌≤◌, [], ◌∷◌, ◌++◌, Some, length, slice_get, take, Err, IfErr, IfOk, OnOk, MatchOption};
+ghost use Rattle.std.specs.Prelude.{◌≡◌, ◌+◌, ◌<◌, ◌≤◌, [], ◌∷◌, ◌++◌, Some, length, slice_get};
+ghost use Rattle.std.specs.Prelude.{take, Err, IfErr, IfOk, OnOk, MatchOption};
 ghost use Rattle.std.specs.List.{All};
 ghost use Rattle.cdb_agreement.specs.Algorithms.{rules};
-ghost use Rattle.cdb_commands.specs.ToldReply.{told};
+ghost use Rattle.cdb_commands.specs.ReplyView.{reply_view};
 ghost use Rattle.cdb_control.specs.Journal.{extended, reply_in};
 ghost use Rattle.cdb_control.specs.OneSeat.{carried_out, HasCarriedOut};
-ghost use Rattle.cdb_draw.specs.Frames.{frame_at, frame_weights, frames_of, GivesFrames, IsFaultOfFrames, IsFaultOfFinding, IsFrameOf, room_of, took_by};
-ghost use Rattle.cdb_explain.specs.Left.{run_of};
+ghost use Rattle.cdb_draw.specs.Frames.{frame_at, frame_weights, frames_of, GivesFrames, IsFaultOfFrames};
+ghost use Rattle.cdb_draw.specs.Frames.{IsFaultOfFinding, IsFrameOf, room_of, took_by};
+ghost use Rattle.cdb_explain.specs.RunLeft.{run_of};
 ghost use Rattle.cdb_explain.specs.declared.fault.ExplainFault.TheVariants.{Play as of_play};
 ghost use Rattle.cdb_rules.specs.ByRules.{IsInOrder};
 ghost use Rattle.cdb_setup.specs.Format.{Encodes};
@@ -44,7 +46,7 @@ pub(crate) struct Frame {
 
 /// Whether a command took an event or took some out; nothing where it left the run as it was.
 fn took_by(reply: &Reply) -> Option<bool>
-    ensures { result ≡ took_by (told reply.now) }
+    ensures { result ≡ took_by (reply_view reply.now) }
 {
     match reply {
         Reply::Stepped { .. } | Reply::Redone { .. } => Some(true),
@@ -75,8 +77,9 @@ fn carry_out(
     }
 }
 
-/// Carries the command at this position of a script out, from 0, for the only seat of a control that has carried out those before
-/// it, and tells the frame after it, where it changed the run. `TooManyEvents` where more than 5,000 events stand then.
+/// Carries the command at this position of a script out, from 0, for the only seat of a control that has carried out
+/// those before it, and tells the frame after it, where it changed the run. `TooManyEvents` where more than 5,000
+/// events stand then.
 fn next_frame(
     alloc: Global,
     control: &mut Control<AnyRun>,
@@ -118,7 +121,8 @@ fn push_frame(frames: &mut Vec<Frame>, frame: Frame) -> Result<(), NoMemory>
     Ok(())
 }
 
-/// The frames of commands, which are carried out one after the other for the only seat of a control in which nothing has happened.
+/// The frames of commands, which are carried out one after the other for the only seat of a control in which nothing
+/// has happened.
 fn find_each(
     alloc: Global,
     control: &mut Control<AnyRun>,
@@ -210,8 +214,8 @@ fn read_both<R: Source>(
     Ok((setup, commands))
 }
 
-/// The frames of a script: one for each command that changed the run, all on a canvas with room for the run of most events. A
-/// contract sees the pictures, in the order of the commands.
+/// The frames of a script: one for each command that changed the run, all on a canvas with room for the run of most
+/// events. A contract sees the pictures, in the order of the commands.
 #[derive(Drop)]
 pub struct Frames {
     setup: Setup,
@@ -238,13 +242,14 @@ impl Model for Frames {
 }
 
 impl Frames {
-    /// Reads a setup and then a script, and carries its commands out, without their replies. The pictures have `columns` columns
-    /// to a row; with 0 all events are in one row. `TooManyEvents` where more than 5,000 events stand after a command that
-    /// changed the run; the other faults are those of a play, without `Write`. After `Setup` the script is not read, and `Read` comes only where the reader
-    /// failed in this call.
+    /// Reads a setup and then a script, and carries its commands out, without their replies. The pictures have
+    /// `columns` columns to a row; with 0 all events are in one row. `TooManyEvents` where more than 5,000 events stand
+    /// after a command that changed the run; the other faults are those of a play, without `Write`. After `Setup` the
+    /// script is not read, and `Read` comes only where the reader failed in this call.
     ///
-    /// Promise: The frames of a script are the pictures of the run after each of its commands that took an event or took some out,
-    /// in order: what stands then and nothing else, with the event that the command took in bold, on a canvas that has room for each.
+    /// Promise: The frames of a script are the pictures of the run after each of its commands that took an event or
+    /// took some out, in order: what stands then and nothing else, with the event that the command took in bold, on a
+    /// canvas that has room for each.
     pub fn read<R: Source>(
         alloc: Global,
         setup: &[u8],

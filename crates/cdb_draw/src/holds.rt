@@ -5,7 +5,7 @@ ghost use Rattle.cdb_draw.specs.EventMarks.{held_text, holding_text, written_tex
 ghost use Rattle.cdb_draw.specs.Layout.{IsGrid};
 ghost use Rattle.cdb_draw.specs.Pieces.{piece_text, pieces_text};
 ghost use Rattle.cdb_rules.specs.ByRules.{cell_in};
-ghost use Rattle.cdb_streams.specs.Putting.{Puts};
+ghost use Rattle.cdb_streams.specs.PiecesPut.{Puts};
 
 use crate::arrow::register_spot;
 use crate::layout::Grid;

@@ -5,7 +5,7 @@ ghost use Rattle.cdb_draw.specs.Lanes.{end_after, lane_at, lane_end, lane_of_row
 ghost use Rattle.cdb_draw.specs.Lanes.{process_lane, register_lane_text, register_name};
 ghost use Rattle.cdb_draw.specs.Layout.{grid_of, IsGrid};
 ghost use Rattle.cdb_draw.specs.Pieces.{piece_text, pieces_text};
-ghost use Rattle.cdb_streams.specs.Putting.{Puts};
+ghost use Rattle.cdb_streams.specs.PiecesPut.{Puts};
 
 use crate::layout::{Grid, end_x, lane_y, register_y, row_of, x_of};
 use crate::piece::Piece::{After, Number, Text};

@@ -1,7 +1,8 @@
 //! Where things stand in a picture.
 
 ghost use Rattle.std.specs.Prelude.{◌≡◌, ◌+◌, ◌≤◌};
-ghost use Rattle.cdb_draw.specs.Layout.{columns_for, end_x, grid_of, height, IsGrid, IsOnPage, lane_gap, lane_y, register_y, row_height, row_of, spot, width, x_of};
+ghost use Rattle.cdb_draw.specs.Layout.{columns_for, end_x, grid_of, height, IsGrid, IsOnPage, lane_gap};
+ghost use Rattle.cdb_draw.specs.Layout.{lane_y, register_y, row_height, row_of, spot, width, x_of};
 
 use cdb_base::Proc;
 use cdb_base::limits::MAX_ENTRIES;

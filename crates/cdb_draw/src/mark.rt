@@ -1,7 +1,10 @@
 //! The marks of a picture.
 
 ghost use Rattle.std.specs.Prelude.{◌≡◌, ◌≤◌, [], option_copied, string_bytes};
-ghost use Rattle.cdb_draw.specs.EventMarks.{begun, below_place, below_text, carried_text, decided_text, decision_place, deed_with, deed_word, event_below, event_note, first_row, kind_with, kind_word, lane_of, mark_text, marked_text, note_text, second_row, shape_of, third_row, tick_text, value_of};
+ghost use Rattle.cdb_draw.specs.EventMarks.{begun, below_place, below_text, carried_text, decided_text};
+ghost use Rattle.cdb_draw.specs.EventMarks.{decision_place, deed_with, deed_word, event_below, event_note, first_row};
+ghost use Rattle.cdb_draw.specs.EventMarks.{kind_with, kind_word, lane_of, mark_text, marked_text, note_text};
+ghost use Rattle.cdb_draw.specs.EventMarks.{second_row, shape_of, third_row, tick_text, value_of};
 ghost use Rattle.cdb_draw.specs.Layout.{IsGrid};
 ghost use Rattle.cdb_explain.specs.Explanations.{whole_text};
 ghost use Rattle.cdb_explain.specs.declared.line.Causes.TheVariants.{Shown};
@@ -9,7 +12,7 @@ ghost use Rattle.cdb_draw.specs.Pieces.{piece_text, pieces_text};
 ghost use Rattle.cdb_base.specs.NameTexts.{message_text, register_text};
 ghost use Rattle.cdb_message.specs.Mail.{payload_of};
 ghost use Rattle.cdb_rules.specs.ByRules.{mail_in};
-ghost use Rattle.cdb_streams.specs.Putting.{Puts};
+ghost use Rattle.cdb_streams.specs.PiecesPut.{Puts};
 ghost use Rattle.cdb_text.specs.Reports.{value_text};
 
 use crate::holds::put_written;

@@ -18,7 +18,8 @@ use cdb_streams::{Failed, OutputFault, Sink};
 use std::alloc::Global;
 use std::marker::Model;
 
-/// A writer over memory. A call fails where memory is out, and why is kept. A contract sees the bytes and how many calls failed.
+/// A writer over memory. A call fails where memory is out, and why is kept. A contract sees the bytes and how many
+/// calls failed.
 #[derive(Drop)]
 struct Memory {
     held: Vec<u8>,
@@ -79,8 +80,8 @@ pub(crate) fn held_picture(
     }
 }
 
-/// The picture of a run of at most 999,999 events, all in full, with `columns` columns to a row; with 0 all are in one row.
-/// Only out of memory is an error.
+/// The picture of a run of at most 999,999 events, all in full, with `columns` columns to a row; with 0 all are in one
+/// row. Only out of memory is an error.
 pub fn picture_of(alloc: Global, run: &Trace, columns: u32) -> Result<Vec<u8>, NoMemory>
     requires valid { IsInOrder rules run.now }
     requires few { length run.now.history ≤ MAX_ENTRIES }

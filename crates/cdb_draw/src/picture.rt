@@ -1,7 +1,7 @@
 //! The picture of a run: lanes, the arrows of all events, and then their marks.
 
 ghost use Rattle.std.specs.Prelude.{◌≡◌, [], ◌≤◌, length};
-ghost use Rattle.cdb_causal.specs.Standing.{IsStanding};
+ghost use Rattle.cdb_causal.specs.StandingEvents.{IsStanding};
 ghost use Rattle.cdb_draw.specs.Arrows.{arrow_at};
 ghost use Rattle.cdb_draw.specs.EventMarks.{mark_at};
 ghost use Rattle.cdb_draw.specs.Layout.{IsGrid};
@@ -9,7 +9,7 @@ ghost use Rattle.cdb_draw.specs.Picture.{arrows_text, document_text, head_text, 
 ghost use Rattle.cdb_draw.specs.Pieces.{piece_text, pieces_text};
 ghost use Rattle.cdb_draw.specs.Sends.{AreSendsOf, AreTakesOf};
 ghost use Rattle.cdb_explain.specs.Explanations.{deed_at, run_after};
-ghost use Rattle.cdb_streams.specs.Putting.{Puts};
+ghost use Rattle.cdb_streams.specs.PiecesPut.{Puts};
 ghost use Rattle.cdb_streams.specs.Endings.{pieces_ending};
 ghost use Rattle.cdb_streams.specs.Written.{IsWritten, Only};
 ghost use Rattle.cdb_rules.specs.ByRules.{IsInOrder};

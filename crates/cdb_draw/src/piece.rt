@@ -1,7 +1,7 @@
 //! The pieces of a picture's text, and how they are written.
 
 ghost use Rattle.cdb_draw.specs.Pieces.{piece_text, pieces_text};
-ghost use Rattle.cdb_streams.specs.Putting.{Puts};
+ghost use Rattle.cdb_streams.specs.PiecesPut.{Puts};
 ghost use Rattle.std.specs.Prelude.{decimal};
 
 use cdb_streams::{Buffer, OutputFault, Sink};

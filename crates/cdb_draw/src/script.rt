@@ -2,7 +2,8 @@
 
 ghost use Rattle.std.specs.Prelude.{◌≡◌, ◌<◌, ◌≤◌, length, Err, Some, IfErr, IfOk, IfSome};
 ghost use Rattle.cdb_agreement.specs.Algorithms.{rules};
-ghost use Rattle.cdb_draw.specs.Drawn.{draw_ending, Draws, IsFaultOfDraw, IsFaultOfPicture, IsPictureFor, IsPictureOfPast, IsPositionFor};
+ghost use Rattle.cdb_draw.specs.Drawn.{draw_ending, Draws, IsFaultOfDraw, IsFaultOfPicture};
+ghost use Rattle.cdb_draw.specs.Drawn.{IsPictureFor, IsPictureOfPast, IsPositionFor};
 ghost use Rattle.cdb_explain.specs.Asked.{IsMissing};
 ghost use Rattle.cdb_explain.specs.StepFaults.{IsFaultOfStep};
 ghost use Rattle.cdb_explain.specs.declared.fault.ExplainFault.TheVariants.{NoStep as no_step, Play as of_play};
@@ -85,11 +86,11 @@ fn write_drawing<W: Sink>(
     Ok(())
 }
 
-/// Draws the run that a script leaves, and writes the picture as SVG, with `columns` columns to a row; with 0 all are in
-/// one row. With a step the trail to it is drawn bold, what else has led to it in full, and the rest pale; without one
-/// everything is in full.
-/// Of a run of more than 5,000 events only what has led to the step is drawn, and `TooManyEvents` comes where none is asked
-/// for.
+/// Draws the run that a script leaves, and writes the picture as SVG, with `columns` columns to a row; with 0 all are
+/// in one row. With a step the trail to it is drawn bold, what else has led to it in full, and the rest pale; without
+/// one everything is in full.
+/// Of a run of more than 5,000 events only what has led to the step is drawn, and `TooManyEvents` comes where none is
+/// asked for.
 ///
 /// The setup is read first, then the whole script, then all its lines, and the step is looked for before anything is
 /// written. So after `Write` what was written is a beginning of the picture; after `NoMemory` nothing was, or whole

@@ -4,7 +4,8 @@ ghost use Rattle.std.specs.HashMap.{get};
 ghost use Rattle.std.specs.Prelude.{◌≡◌, ◌<◌, ◌^◌, ◌*◌, ℕ, List, nat_eq, IfOk, OnOk};
 ghost use Rattle.cdb_base.specs.declared.event.Event.{Event as EventName};
 ghost use Rattle.cdb_draw.specs.Positions.{copy_of, crashed_at, is_crash_of, sent_at, taken_at};
-ghost use Rattle.cdb_draw.specs.Sends.{AreSendsOf, AreTakesOf, copy_code, HasNoted, HasTaken, kept_or_noted, message_code, message_of};
+ghost use Rattle.cdb_draw.specs.Sends.{AreSendsOf, AreTakesOf, copy_code, HasNoted, HasTaken};
+ghost use Rattle.cdb_draw.specs.Sends.{kept_or_noted, message_code, message_of};
 
 use cdb_base::{CopyName, Event, Kind, MsgName, NoMemory, Proc};
 use std::alloc::Global;

@@ -4,7 +4,7 @@ ghost use Rattle.cdb_draw.specs.Arrows.{on_way_text, some_wait, stub_text, waite
 ghost use Rattle.cdb_draw.specs.Layout.{IsGrid};
 ghost use Rattle.cdb_draw.specs.Pieces.{piece_text, pieces_text};
 ghost use Rattle.cdb_draw.specs.Sends.{AreTakesOf};
-ghost use Rattle.cdb_streams.specs.Putting.{Puts};
+ghost use Rattle.cdb_streams.specs.PiecesPut.{Puts};
 ghost use Rattle.std.specs.Prelude.{◌≡◌, ◌≤◌};
 
 use crate::layout::{Grid, spot};

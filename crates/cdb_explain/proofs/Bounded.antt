@@ -25,7 +25,8 @@ held_after rules (e ∷ journal) t seats lawful lists of_seats =
     let more = held_after rules journal u seats (subst (AreLawful rules) (sym adds.setup) lawful) (adds.lists ∙ lists) of_seats.1 in
     omega (arith, more, adds.events)
 
-pub few_events : (rules : Parts → Rules) → ((setup : Parts) → AreInRange setup → AreLawful (rules setup) setup) → (control : Journaled) → AreInRange control.setup
+pub few_events : (rules : Parts → Rules) → ((setup : Parts) → AreInRange setup → AreLawful (rules setup) setup)
+    → (control : Journaled) → AreInRange control.setup
     → AreOfSeats control.seats control.journal → length (control_state rules control).history ≤ length control.journal
 unfolding replay
 few_events rules lawful control in_range of_seats =

@@ -5,7 +5,7 @@ use Rattle.cdb_commands.specs.declared.command.Command.{Command}
 use Rattle.cdb_control.specs.Headline.{Headline}
 use Rattle.cdb_control.specs.Journal.{Journaled}
 use Rattle.cdb_control.specs.OneSeat.{HasCarriedOut, carried_out, journal_of}
-use Rattle.cdb_explain.specs.Left.{run_of}
+use Rattle.cdb_explain.specs.RunLeft.{run_of}
 use Rattle.cdb_rules.specs.Rules.{Rules}
 use Rattle.cdb_setup.specs.Parts.{Parts}
 

@@ -1,5 +1,5 @@
 pub mod Returned
-pub mod Flagging
+pub mod Flags
 pub mod SameCauses
 pub mod Along
 pub mod Bounded

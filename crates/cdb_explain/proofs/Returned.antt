@@ -7,7 +7,7 @@ use Rattle.cdb_explain.specs.Explained.{explain_ending}
 use Rattle.cdb_explain.specs.Explanations.{because_text}
 use Rattle.cdb_streams.specs.Endings.{whole_ending}
 use Rattle.cdb_streams.specs.Faults.{IsFaultOfPlay, IsSetup, of_output}
-use Rattle.cdb_explain.specs.Left.{Leaves}
+use Rattle.cdb_explain.specs.RunLeft.{Leaves}
 use Rattle.cdb_streams.specs.Streams.{Stream}
 use Rattle.cdb_streams.specs.declared.buffer.OutputFault.{OutputFault}
 use Rattle.cdb_streams.specs.declared.buffer.OutputFault.TheVariants as output
@@ -17,7 +17,7 @@ use Rattle.cdb_explain.specs.declared.fault.ExplainFault.TheVariants.{NoStep, No
 use Rattle.cdb_explain.specs.StepFaults.{IsFaultOfLeft, IsFaultOfStep}
 use Rattle.cdb_setup.specs.declared.fault.SetupFault.{SetupFault}
 use Rattle.cdb_rules.specs.RunView.{RunView}
-use Rattle.cdb_base.specs.Results.{Tells}
+use Rattle.cdb_base.specs.Results.{MapsTo}
 use Rattle.cdb_rules.specs.Rules.{Rules}
 use Rattle.cdb_setup.specs.Parts.{Parts}
 
@@ -27,8 +27,10 @@ pub output_fault : (why : OutputFault) (json : List ℕ) (old new : Stream) → 
 output_fault output.Write json old new setup = setup
 output_fault (output.NoMemory refused) json old new setup = setup.1.0
 
-pub fault_left : (rules : Parts → Rules) (json : List ℕ) (old new : Stream) (Missing Valueless : RunView → Type 0) (run : RunView) → Leaves rules json old new run
-    → (result : Result (Unit {0}) ExplainFault) → IfErr result (IsFaultOfStep (Missing run) (Valueless run)) → IfErr result (IsFaultOfLeft rules json old new Missing Valueless)
+pub fault_left : (rules : Parts → Rules) (json : List ℕ) (old new : Stream) (Missing Valueless : RunView → Type 0) (run : RunView)
+    → Leaves rules json old new run
+    → (result : Result (Unit {0}) ExplainFault) → IfErr result (IsFaultOfStep (Missing run) (Valueless run))
+    → IfErr result (IsFaultOfLeft rules json old new Missing Valueless)
 fault_left rules json old new Missing Valueless run left (Ok done) none = tt
 fault_left rules json old new Missing Valueless run left (Err NoStep) missing = (run, left, missing)
 fault_left rules json old new Missing Valueless run left (Err NoValue) none = (run, left, none)
@@ -43,7 +45,8 @@ text_ends A (output.NoMemory refused) = refl
 
 -- what is said of a fault after the run stood: it is none of reading
 module _ (Missing Valueless : Type 0) where
-  pub is_no_setup : (result : Result (Unit {0}) ExplainFault) (fault : SetupFault) → IfErr result (IsFaultOfStep Missing Valueless) → result ≡ Err (Play (play.Setup fault)) → ⊥
+  pub is_no_setup : (result : Result (Unit {0}) ExplainFault) (fault : SetupFault)
+      → IfErr result (IsFaultOfStep Missing Valueless) → result ≡ Err (Play (play.Setup fault)) → ⊥
   is_no_setup (Ok done) fault is same = cc
   is_no_setup (Err NoStep) fault is same = cc
   is_no_setup (Err NoValue) fault is same = cc
@@ -64,6 +67,6 @@ no_err value error same = cc
 
 -- a refused look for causes adds nothing
 pub no_because : (returned : Result (List StepId) Refusal) {A : Type 0} (view : A → List StepId) (result : Result A Refusal) (why : Refusal)
-    → Tells view result returned → result ≡ Err why → because_text returned ≡ []
+    → MapsTo view result returned → result ≡ Err why → because_text returned ≡ []
 no_because returned view (Ok found) why tells is = cc
 no_because returned view (Err refusal) why tells is = ap because_text tells

@@ -1,5 +1,6 @@
 -- The direct causes of an event are the same in the run once it had come to that event.
-use Rattle.std.proofs.Common.{◌≡◌, ℕ, zero, suc, true, false, Bool, List, [], ◌∷◌, Some, Result, Ok, Err, map, filter, take, slice_get, refl, sym, ap, ◌∙◌, arith}
+use Rattle.std.proofs.Common.{◌≡◌, ℕ, zero, suc, true, false, Bool, List, [], ◌∷◌, Some, Result}
+use Rattle.std.proofs.Common.{Ok, Err, map, filter, take, slice_get, refl, sym, ap, ◌∙◌, arith}
 use Rattle.std.proofs.Common.{if◌then◌else◌}
 use Rattle.std.specs.List.{flat_map}
 use Rattle.cdb_base.specs.Event.{event_name, is_step_of}
@@ -12,11 +13,11 @@ use Rattle.cdb_base.specs.declared.refusal.Refusal.{Refusal}
 use Rattle.cdb_base.specs.declared.refusal.Refusal.TheVariants as refusal
 use Rattle.cdb_causal.specs.Names.{IsNamedAt, IsPositionOf}
 use Rattle.cdb_causal.specs.Rollback.{events_before}
-use Rattle.cdb_causal.specs.Standing.{IsStanding}
+use Rattle.cdb_causal.specs.StandingEvents.{IsStanding}
 use Rattle.cdb_rules.proofs.Beginnings.{taken}
 use Rattle.cdb_rules.specs.Undo.{causes_of, direct_among, for_standing, names_processes}
 use Rattle.cdb_rules.proofs.Results.{found_is}
-use Rattle.cdb_rules.proofs.Finding.{no_process_named, stands_from_one, stands_named}
+use Rattle.cdb_rules.proofs.NamesFound.{no_process_named, stands_from_one, stands_named}
 use Rattle.cdb_rules.proofs.ListMembers.{get-take}
 
 -- the names of the direct causes of an event, before which these stand

@@ -4,7 +4,8 @@ use Rattle.std.specs.List.{flat_map}
 use Rattle.cdb_base.specs.NameTexts.{message_text}
 use Rattle.cdb_base.specs.declared.name.MsgName.{MsgName}
 use Rattle.cdb_deeds.specs.declared.deed.Deed.{Deed}
-use Rattle.cdb_deeds.specs.declared.deed.Deed.TheVariants.{Nothing, Round, Votes, VotesNone, Settles, Adopts, Keeps, Learns}
+use Rattle.cdb_deeds.specs.declared.deed.Deed.TheVariants.{Nothing, Round, Votes, VotesNone}
+use Rattle.cdb_deeds.specs.declared.deed.Deed.TheVariants.{Settles, Adopts, Keeps, Learns}
 use Rattle.cdb_deeds.specs.declared.deed.Deed.TheVariants.{SettlesRegister, SettlesInput, GivesUp, Carries}
 use Rattle.cdb_deeds.specs.declared.deed.Source.{Source}
 
@@ -27,7 +28,8 @@ register_text register = codes " r" ++ decimal register
 abbrev pub deed_text : Deed → List ℕ
 deed_text Nothing = []
 deed_text (Round round) = codes " round " ++ decimal round
-deed_text (Votes source leader by) = codes " votes " ++ source_text source ++ codes " for leader " ++ decimal leader ++ by_text by
+deed_text (Votes source leader by) =
+    codes " votes " ++ source_text source ++ codes " for leader " ++ decimal leader ++ by_text by
 deed_text (VotesNone by) = codes " votes none" ++ by_text by
 deed_text (Settles source by) = codes " settles " ++ source_text source ++ by_text by
 deed_text (Adopts source by) = codes " adopts " ++ source_text source ++ by_text by

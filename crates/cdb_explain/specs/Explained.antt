@@ -1,7 +1,7 @@
 -- What the subcommand writes: the explanation of a step of the run that a script leaves.
 use Rattle.std.specs.Prelude.{ℕ, List, Option, Result, Ok, Err}
 use Rattle.cdb_streams.specs.Endings.{Ending, Complete, WriterFailed, NotBegun}
-use Rattle.cdb_explain.specs.Left.{Leaves}
+use Rattle.cdb_explain.specs.RunLeft.{Leaves}
 use Rattle.cdb_streams.specs.Streams.{Stream}
 use Rattle.cdb_streams.specs.declared.fault.PlayFault.TheVariants as play
 use Rattle.cdb_rules.specs.RunView.{RunView}
@@ -20,7 +20,8 @@ Explains rules json p k old new text =
 
 -- no such step stands in the run that the script leaves; else as a fault of a play
 abbrev pub IsFaultOfExplain : (Parts → Rules) → List ℕ → ℕ → Option ℕ → Stream → Stream → ExplainFault → Type 0
-IsFaultOfExplain rules json p k old new = IsFaultOfLeft rules json old new (λ run. StandsNoStep run.history p k) (λ run. ⊥)
+IsFaultOfExplain rules json p k old new =
+    IsFaultOfLeft rules json old new (λ run. StandsNoStep run.history p k) (λ run. ⊥)
 
 -- how the writing of a text about a step ended, which is whole before any of it is written
 abbrev pub explain_ending : {A : Type 0} → Result A ExplainFault → Ending

@@ -1,5 +1,6 @@
 -- The explanation of a step: what led to it, as text.
-use Rattle.std.specs.Prelude.{◌≡◌, ℕ, ◌-◌, List, [], ◌++◌, codes, decimal, length, take, Option, Some, None, Result, Ok, Err, Bool, Vec}
+use Rattle.std.specs.Prelude.{◌≡◌, ℕ, ◌-◌, List, [], ◌++◌, codes, decimal, length, take}
+use Rattle.std.specs.Prelude.{Option, Some, None, Result, Ok, Err, Bool, Vec}
 use Rattle.std.specs.Global.{Global}
 use Rattle.std.specs.List.{flat_map}
 use Rattle.std.specs.Option.{option_map_or}
@@ -96,7 +97,8 @@ line_text rules causes run did after event = whole_text rules causes run did aft
 -- the line of the event at that position, where one stands there
 abbrev pub line_at : (Parts → Rules) → Causes → RunView → ℕ → List ℕ
 line_at rules causes run position =
-    option_map_or (line_text rules causes run (deed_at run position) (run_after run position)) (nth run.history position) []
+    option_map_or (line_text rules causes run (deed_at run position) (run_after run position))
+    (nth run.history position) []
 
 -- `N of M standing events`
 abbrev pub count_text : ℕ → ℕ → List ℕ

@@ -6,7 +6,8 @@ use Rattle.cdb_streams.specs.FaultTexts.{play_fault_text}
 use Rattle.cdb_explain.specs.declared.fault.ExplainFault.{ExplainFault}
 use Rattle.cdb_explain.specs.declared.fault.ExplainFault.TheVariants.{NoStep, NoValue, TooManyEvents, Play}
 
--- the refusal of a step that doesn't stand, that a step takes no value, that a step is to be named, or the text of the fault of a play
+-- the refusal of a step that doesn't stand, that a step takes no value, that a step is to be named, or the text of the
+-- fault of a play
 abbrev pub explain_fault_text : ExplainFault → List ℕ
 explain_fault_text NoStep = refusal_text refusal.NoStep
 explain_fault_text NoValue = codes "no value"

@@ -4,7 +4,7 @@ pub mod Flagged
 pub mod DeedTexts
 pub mod Explanations
 pub mod Rounds
-pub mod Left
+pub mod RunLeft
 pub mod StepFaults
 pub mod Explained
 pub mod FaultTexts

@@ -1,6 +1,6 @@
 -- Why nothing was written of a step that was asked for.
 use Rattle.std.specs.Prelude.{◌≡◌, ℕ, List}
-use Rattle.cdb_explain.specs.Left.{Leaves}
+use Rattle.cdb_explain.specs.RunLeft.{Leaves}
 use Rattle.cdb_explain.specs.declared.fault.ExplainFault.{ExplainFault}
 use Rattle.cdb_explain.specs.declared.fault.ExplainFault.TheVariants.{NoStep, NoValue, TooManyEvents, Play}
 use Rattle.cdb_rules.specs.RunView.{RunView}
@@ -18,8 +18,11 @@ IsFaultOfStep Missing Valueless TooManyEvents = ⊥
 IsFaultOfStep Missing Valueless (Play fault) = (why : OutputFault) × (fault ≡ of_output why)
 
 -- the step is missing in the run that the script leaves, or has no value there; else as a fault of a play
-abbrev pub IsFaultOfLeft : (Parts → Rules) → List ℕ → Stream → Stream → (Missing Valueless : RunView → Type 0) → ExplainFault → Type 0
-IsFaultOfLeft rules json old new Missing Valueless NoStep = (run : RunView) × Leaves rules json old new run × Missing run
-IsFaultOfLeft rules json old new Missing Valueless NoValue = (run : RunView) × Leaves rules json old new run × Valueless run
+abbrev pub IsFaultOfLeft : (Parts → Rules) → List ℕ → Stream → Stream
+    → (Missing Valueless : RunView → Type 0) → ExplainFault → Type 0
+IsFaultOfLeft rules json old new Missing Valueless NoStep =
+    (run : RunView) × Leaves rules json old new run × Missing run
+IsFaultOfLeft rules json old new Missing Valueless NoValue =
+    (run : RunView) × Leaves rules json old new run × Valueless run
 IsFaultOfLeft rules json old new Missing Valueless TooManyEvents = ⊥
 IsFaultOfLeft rules json old new Missing Valueless (Play fault) = IsFaultOfPlay json old new fault

@@ -4,7 +4,7 @@ ghost use Rattle.std.specs.Prelude.{◌≡◌, ◌≢◌, ◌<◌, ◌≤◌, []
 ghost use Rattle.cdb_base.specs.Limits.{MAX_ENTRIES};
 ghost use Rattle.cdb_control.specs.Journal.{extended};
 ghost use Rattle.cdb_control.specs.OneSeat.{HasCarriedOut};
-ghost use Rattle.cdb_explain.specs.Left.{LeavesOnHeadline};
+ghost use Rattle.cdb_explain.specs.RunLeft.{LeavesOnHeadline};
 ghost use Rattle.cdb_rules.specs.ByRules.{IsInOrder};
 ghost use Rattle.cdb_setup.specs.declared.fault.SetupFault.{SetupFault as SetupFaultName};
 ghost use Rattle.cdb_streams.specs.Faults.{IsFaultOfPlay};
@@ -54,8 +54,8 @@ fn carry_out_each<T: Runs>(
     Ok(())
 }
 
-/// A control of one seat that has carried the commands out, one after the other, 999,999 at most. After `NoMemory` the setup is
-/// given up.
+/// A control of one seat that has carried the commands out, one after the other, 999,999 at most. After `NoMemory` the
+/// setup is given up.
 pub fn control_after<T: Runs>(
     alloc: Global,
     setup: Setup,

@@ -1,4 +1,5 @@
-//! The line of an event: the event, what it carries and decides, what it did, and its direct causes where they are shown.
+//! The line of an event: the event, what it carries and decides, what it did, and its direct causes where they are
+//! shown.
 
 ghost use Rattle.cdb_base.specs.Event.{event_name};
 ghost use Rattle.cdb_control.specs.Commands.{decides};

@@ -15,8 +15,8 @@ use cdb_deeds::{ReceivedNames, Telling};
 use cdb_rules::Trace;
 use std::alloc::{AllocError, Global};
 
-/// Takes the next event of a run that is played again, and adds its line. The run is asked before the event for what the
-/// event does, and after it for all else.
+/// Takes the next event of a run that is played again, and adds its line. The run is asked before the event for what
+/// the event does, and after it for all else.
 fn push_next<T: Telling>(
     alloc: Global,
     text: &mut String,
@@ -37,9 +37,9 @@ fn push_next<T: Telling>(
     Ok(())
 }
 
-/// Adds the lines of the flagged events, in the order of the history, with their causes or without, and returns how many
-/// they are. There is a flag for each event. `NoMemory` if an allocation fails. It plays the run again, event by event, and
-/// asks it when that is soonest answered.
+/// Adds the lines of the flagged events, in the order of the history, with their causes or without, and returns how
+/// many they are. There is a flag for each event. `NoMemory` if an allocation fails. It plays the run again, event by
+/// event, and asks it when that is soonest answered.
 pub fn push_lines<T: Telling>(
     alloc: Global,
     text: &mut String,

@@ -1,7 +1,7 @@
 //! What stands in the run that a control has come to.
 
 ghost use Rattle.cdb_control.specs.Headline.{Headline};
-ghost use Rattle.cdb_explain.specs.Left.{run_of};
+ghost use Rattle.cdb_explain.specs.RunLeft.{run_of};
 ghost use Rattle.cdb_rules.specs.ByRules.{IsInOrder};
 ghost use Rattle.std.specs.Prelude.{◌≡◌, ◌≤◌, length, IfOk};
 

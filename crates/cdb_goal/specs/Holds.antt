@@ -18,7 +18,8 @@ IsDecided rules history value = ShowsProcess rules history (λ it. it.decision �
 abbrev pub Holds : Rules → List Event → Goal → Type 0
 Holds rules history Differ =
     (one other : ℕ) × (one ≢ other) × IsDecided rules history one × IsDecided rules history other
-Holds rules history All = (p : ℕ) (it : Shown) → rules.process history p ≡ Some it → it.alive ≡ true → IsSome it.decision
+Holds rules history All =
+    (p : ℕ) (it : Shown) → rules.process history p ≡ Some it → it.alive ≡ true → IsSome it.decision
 Holds rules history (Stuck round) =
     ShowsProcess rules history (λ it. round ≤ it.round) × ¬ ShowsProcess rules history (λ it. IsSome it.decision)
 Holds rules history (Decides p value) = decision_of rules history p ≡ Some value

@@ -9,7 +9,8 @@ use Rattle.cdb_goal.specs.declared.goal.TheConstants.{MAX_NUMBER}
 -- a number of this or more, in digits, after a plus or not
 abbrev pub WritesNumber : ℕ → List ℕ → ℕ → Type 0
 WritesNumber least text number =
-    IsNumeral 10 (without_leading_plus text) × (digits_value 10 (without_leading_plus text) ≡ number) × (least ≤ number) × (number ≤ MAX_NUMBER)
+    IsNumeral 10 (without_leading_plus text) × (digits_value 10 (without_leading_plus text) ≡ number)
+    × (least ≤ number) × (number ≤ MAX_NUMBER)
 
 abbrev pub is_colon : ℕ → Bool
 is_colon byte = byte == 58
@@ -19,7 +20,8 @@ HasNoColon text = before_first is_colon text ≡ text
 
 -- a process and a value, with a colon between
 abbrev pub IsNumbersOf : ℕ → ℕ → List ℕ → Type 0
-IsNumbersOf p value text = WritesNumber 1 (before_first is_colon text) p × WritesNumber 0 (after_first is_colon text) value
+IsNumbersOf p value text =
+    WritesNumber 1 (before_first is_colon text) p × WritesNumber 0 (after_first is_colon text) value
 
 -- the word names the goal
 abbrev pub IsWordOf : Goal → List ℕ → Type 0

@@ -66,8 +66,8 @@ fn decided(word: &str) -> Option<(u32, u32)>
 }
 
 impl Goal {
-    /// The goal that the word names: `differ`, `all`, `stuck:R` or `decides:P:V`, where R and P are numbers of 1 to 999,999,
-    /// and V one of 0 to 999,999.
+    /// The goal that the word names: `differ`, `all`, `stuck:R` or `decides:P:V`, where R and P are numbers of 1 to
+    /// 999,999, and V one of 0 to 999,999.
     ///
     /// Promise: A word is read as a goal exactly where it names one, and then as a goal that it names.
     pub fn read(word: &str) -> Option<Goal>

@@ -2,7 +2,7 @@
 use Rattle.std.proofs.Common.{◌≡◌, ℕ, zero, suc, ◌-◌, false, List, [], ◌∷◌, ◌++◌, get_or, map, replicate, set, None, refl, sym, ap, ◌∙◌, arith, append_assoc}
 use Rattle.std.specs.Prelude.{nat_lt}
 use Rattle.cdb_base.specs.Limits.{MAX_SEATS}
-use Rattle.cdb_commands.specs.ToldReply.{ToldReply}
+use Rattle.cdb_commands.specs.ReplyView.{ReplyView}
 use Rattle.cdb_control.specs.Journal.{AreOfSeats, Journaled, extended, reply_in}
 use Rattle.cdb_control.specs.Room.{cost, lowered}
 use Rattle.cdb_control.specs.declared.control.Entry.{Entry}
@@ -30,19 +30,22 @@ none_at zero i = refl
 none_at (suc n) zero = refl
 none_at (suc n) (suc i) = none_at n i
 
-none_lowered : (n seat : ℕ) (reply : ToldReply) → lowered (replicate n 0) seat reply ≡ replicate n 0
+none_lowered : (n seat : ℕ) (reply : ReplyView) → lowered (replicate n 0) seat reply ≡ replicate n 0
 none_lowered n seat reply =
     let left : get_or (replicate n 0) (seat - 1) 0 - cost reply ≡ 0 = omega (arith, none_at n (seat - 1)) in
     (λ i. set (all_less n i) (seat - 1) (left i)) ∙ one_set n (seat - 1)
 
 -- one entry more
-pub one_more : (rules : Parts → Rules) (first now new : Journaled) (done : List Entry) (e : Entry) → now ≡ carried_out first done → first.rooms ≡ replicate first.seats 0
+pub one_more : (rules : Parts → Rules) (first now new : Journaled) (done : List Entry) (e : Entry)
+    → now ≡ carried_out first done → first.rooms ≡ replicate first.seats 0
     → new ≡ extended rules now e.seat e.command → new ≡ carried_out first (done ++ e ∷ [])
 one_more rules first now new done e so none is =
     let rooms : now.rooms ≡ replicate first.seats 0 = ap (λ (c : Journaled). c.rooms) so ∙ none in
     let lower : lowered now.rooms e.seat (reply_in rules now e.seat e.command) ≡ first.rooms =
-    ap (λ (l : List ℕ). lowered l e.seat (reply_in rules now e.seat e.command)) rooms ∙ none_lowered first.seats e.seat (reply_in rules now e.seat e.command) ∙ sym none in
-    let journal : now.journal ++ e ∷ [] ≡ first.journal ++ (done ++ e ∷ []) = ap (λ (c : Journaled). c.journal ++ e ∷ []) so ∙ append_assoc first.journal done (e ∷ []) in
+    ap (λ (l : List ℕ). lowered l e.seat (reply_in rules now e.seat e.command)) rooms
+    ∙ none_lowered first.seats e.seat (reply_in rules now e.seat e.command) ∙ sym none in
+    let journal : now.journal ++ e ∷ [] ≡ first.journal ++ (done ++ e ∷ []) =
+    ap (λ (c : Journaled). c.journal ++ e ∷ []) so ∙ append_assoc first.journal done (e ∷ []) in
     is ∙ (λ i. record { setup = (so i).setup; seats = (so i).seats; journal = journal i; rooms = lower i })
 
 -- ---- entries of seats up to the last

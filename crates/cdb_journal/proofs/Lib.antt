@@ -2,5 +2,5 @@ pub mod Padded
 pub mod Lines
 pub mod Again
 pub mod Read
-pub mod Telling
+pub mod RepliesToSeats
 pub mod CarriedOut

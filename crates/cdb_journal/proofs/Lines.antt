@@ -1,5 +1,6 @@
 -- A journal that was written is read back.
-use Rattle.std.proofs.Common.{◌≡◌, ◌≢◌, ◌↔◌, ℕ, ◌+◌, ◌*◌, ◌<◌, ◌≤◌, Bool, true, false, not, nat_le, List, [], ◌∷◌, ◌++◌, length, map, refl, sym, ap, subst, ◌∙◌, inl, inr, arith, append_assoc, length-append}
+use Rattle.std.proofs.Common.{◌≡◌, ◌≢◌, ◌↔◌, ℕ, ◌+◌, ◌*◌, ◌<◌, ◌≤◌, Bool, true, false, not, nat_le, List, [], ◌∷◌, ◌++◌}
+use Rattle.std.proofs.Common.{length, map, refl, sym, ap, subst, ◌∙◌, inl, inr, arith, append_assoc, length-append}
 use Rattle.std.specs.Prelude.{codes, decimal, Some, None, Ok}
 use Rattle.std.specs.Char.{digit_value}
 use Rattle.std.specs.List.{AllByRecursion, join_with_byte, list_all, slice_split}
@@ -24,9 +25,9 @@ use Rattle.cdb_text.specs.Grammar.{IsInRange, HasNumbersInRange, part_text, prin
 use Rattle.cdb_text.proofs.Again.{again}
 use Rattle.cdb_text.proofs.Entries.{one_seat, one_entry_line}
 use Rattle.cdb_text.proofs.Printed.{some_part}
-use Rattle.cdb_text.proofs.Reading.{command_at}
+use Rattle.cdb_text.proofs.ReaderSteps.{command_at}
 use Rattle.cdb_streams.specs.Lines.{without_empty_end, lines_of}
-use Rattle.cdb_streams.proofs.Cutting.{is_newline, no_lines}
+use Rattle.cdb_streams.proofs.CutLines.{is_newline, no_lines}
 use Rattle.cdb_journal.specs.Journals.{AreEntriesOf, IsJournal, IsTooLong, IsWritable, entry_line, journal_text, longest_line}
 
 -- ---- no line has a byte 10
@@ -47,7 +48,8 @@ line_and_line (byte ∷ first) second a b = (a.0, line_and_line first second a.1
 
 digit_is_no_end : (byte : ℕ) → digit_value byte < 10 → is_newline byte ≡ false
 digit_is_no_end byte is =
-    false_from_ne_true (is_newline byte) (λ e. let low : digit_value 10 < 10 = subst (λ (b : ℕ). digit_value b < 10) (eqb-true byte 10 e) is in omega (arith, low))
+    false_from_ne_true (is_newline byte)
+    (λ e. let low : digit_value 10 < 10 = subst (λ (b : ℕ). digit_value b < 10) (eqb-true byte 10 e) is in omega (arith, low))
 
 digits_are_line : (word : List ℕ) → AllDigits 10 word → IsLine word
 digits_are_line [] all = tt
@@ -88,7 +90,8 @@ joined_is_line [] e all = tt
 joined_is_line (part ∷ []) e all = let tests = and_parts _ _ e in part_is_line part tests.0 all.0
 joined_is_line (part ∷ next ∷ parts) e all =
     let tests = and_parts _ _ e in
-    line_and_line (part_text part) (32 ∷ join_with_byte 32 (map part_text (next ∷ parts))) (part_is_line part tests.0 all.0) (refl, joined_is_line (next ∷ parts) tests.1 all.1)
+    line_and_line (part_text part) (32 ∷ join_with_byte 32 (map part_text (next ∷ parts)))
+    (part_is_line part tests.0 all.0) (refl, joined_is_line (next ∷ parts) tests.1 all.1)
 
 text_is_line : (seat : ℕ) (command : Command) → IsSeat seat → HasNumbersInRange command → IsLine (entry_text seat command)
 text_is_line seat command is ranges =
@@ -168,7 +171,8 @@ part_is_short (number n) is = length-decimal-le 6 n (omega arith) (omega (arith,
 part_is_short (register (R p)) is = omega (arith, length-decimal-le 2 p (omega arith) (omega (arith, is.1)) (omega (arith, is.1)))
 part_is_short (register Dec) is = omega arith
 
-joined_is_short : (parts : List CommandPart) → parts ≢ [] → AllByRecursion IsInRange parts → length (join_with_byte 32 (map part_text parts)) + 1 ≤ most_in parts
+joined_is_short : (parts : List CommandPart) → parts ≢ [] → AllByRecursion IsInRange parts
+    → length (join_with_byte 32 (map part_text parts)) + 1 ≤ most_in parts
 joined_is_short [] some all = absurd (some refl)
 joined_is_short (part ∷ []) some all = omega (arith, part_is_short part all.0)
 joined_is_short (part ∷ next ∷ parts) some all =
@@ -214,7 +218,8 @@ text_is_short (e ∷ es) all =
 
 -- ---- of a journal that can be written
 
-have_lines : (seats : ℕ) (journal : List Entry) → seats ≤ MAX_SEATS → AreOfSeats seats journal → AllByRecursion (λ e. HasNumbersInRange e.command) journal → HaveLines journal
+have_lines : (seats : ℕ) (journal : List Entry) → seats ≤ MAX_SEATS → AreOfSeats seats journal
+    → AllByRecursion (λ e. HasNumbersInRange e.command) journal → HaveLines journal
 have_lines seats [] few of_seats ranges = tt
 have_lines seats (e ∷ es) few of_seats ranges =
     (((of_seats.0.0, omega (arith, of_seats.0.1, few)), ranges.0), have_lines seats es few of_seats.1 ranges.1)

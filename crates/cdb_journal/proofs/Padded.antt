@@ -1,5 +1,6 @@
 -- More seats change no reply to the others.
-use Rattle.std.proofs.Common.{◌≡◌, ℕ, ◌+◌, ◌-◌, ◌<◌, ◌≤◌, Bool, true, false, not, List, [], ◌∷◌, ◌++◌, length, replicate, set, Option, Some, None, Result, Ok, Err, refl, sym, ap, subst, ◌∙◌, arith, nat_eq, nat_le, is_some}
+use Rattle.std.proofs.Common.{◌≡◌, ℕ, ◌+◌, ◌-◌, ◌<◌, ◌≤◌, Bool, true, false, not, List, [], ◌∷◌, ◌++◌, length, replicate, set}
+use Rattle.std.proofs.Common.{Option, Some, None, Result, Ok, Err, refl, sym, ap, subst, ◌∙◌, arith, nat_eq, nat_le, is_some}
 use Rattle.std.specs.Map.{lookup}
 use Rattle.std.proofs.lemmas.List.{length-set, length-replicate, replicate-append-replicate, set-append_left, get_or_append_left}
 use Rattle.cdb_base.specs.Limits.{MAX_BREAKPOINTS}
@@ -9,13 +10,15 @@ use Rattle.cdb_base.specs.declared.event.Event.{Event}
 use Rattle.cdb_base.specs.declared.name.StepId.{StepId}
 use Rattle.cdb_base.specs.declared.refusal.Refusal.{Refusal}
 use Rattle.cdb_base.specs.declared.refusal.Refusal.TheVariants.{NoProcess, NothingToRedo, NoBreak, BreakLimit}
-use Rattle.cdb_commands.specs.ToldReply.{ToldReply, Forgot}
+use Rattle.cdb_commands.specs.ReplyView.{ReplyView, Forgot}
 use Rattle.cdb_commands.specs.declared.command.Command.{Command}
-use Rattle.cdb_commands.specs.declared.command.Command.TheVariants.{Step, Auto, Lose, Undo, UndoLost, Redo, Forget, Rollback, RollbackLost, Why, WhyLost, Break, Unbreak, Resume, Show, Decisions}
+use Rattle.cdb_commands.specs.declared.command.Command.TheVariants.{Step, Auto, Lose, Undo, UndoLost, Redo, Forget, Rollback, RollbackLost}
+use Rattle.cdb_commands.specs.declared.command.Command.TheVariants.{Why, WhyLost, Break, Unbreak, Resume, Show, Decisions}
 use Rattle.cdb_commands.specs.declared.command.View.{View}
 use Rattle.cdb_commands.specs.declared.command.View.TheVariants as view
 use Rattle.cdb_control.specs.Auto.{choice}
-use Rattle.cdb_control.specs.Commands.{Outcome, unless, granted, found, unpaused, step_done, step, undone_by, undo, rollback, why, redone, show, outcome, reply_of, obey}
+use Rattle.cdb_control.specs.Commands.{Outcome, unless, granted, found, unpaused, step_done, step, undone_by}
+use Rattle.cdb_control.specs.Commands.{undo, rollback, why, redone, show, outcome, reply_of, obey}
 use Rattle.cdb_control.specs.Journal.{AreOfSeats}
 use Rattle.cdb_control.specs.State.{State, first_control_state, redo_of, last_of}
 use Rattle.cdb_control.specs.Stops.{names_none_of}
@@ -26,7 +29,7 @@ use Rattle.cdb_rules.specs.Rules.{Rules}
 use Rattle.cdb_rules.specs.Undo.{undo_of, rollback_of, causes_of}
 use Rattle.cdb_rules.specs.declared.event_ref.EventRef.TheVariants as named
 use Rattle.cdb_setup.specs.Parts.{Parts}
-use Rattle.cdb_journal.specs.Told.{Told, told_from, told_along}
+use Rattle.cdb_journal.specs.SeatReplies.{SeatReply, told_from, told_along}
 
 -- the state with further seats
 abbrev padded : List (List Event) → State → State
@@ -43,11 +46,13 @@ module _ (more : List (List Event)) (t : State) where
   unless-pads true r wide narrow h = record { reply = refl; after = refl; lists = refl }
   unless-pads false r wide narrow h = h
 
-  granted-pads : {A : Type 0} (x : Result A Refusal) (wide narrow : A → Outcome) → ((a : A) → Pads more t (wide a) (narrow a)) → Pads more t (granted x (padded more t) wide) (granted x t narrow)
+  granted-pads : {A : Type 0} (x : Result A Refusal) (wide narrow : A → Outcome)
+      → ((a : A) → Pads more t (wide a) (narrow a)) → Pads more t (granted x (padded more t) wide) (granted x t narrow)
   granted-pads (Ok a) wide narrow h = h a
   granted-pads (Err r) wide narrow h = record { reply = refl; after = refl; lists = refl }
 
-  found-pads : {A : Type 0} (x : Option A) (r : Refusal) (wide narrow : A → Outcome) → ((a : A) → Pads more t (wide a) (narrow a)) → Pads more t (found x r (padded more t) wide) (found x r t narrow)
+  found-pads : {A : Type 0} (x : Option A) (r : Refusal) (wide narrow : A → Outcome)
+      → ((a : A) → Pads more t (wide a) (narrow a)) → Pads more t (found x r (padded more t) wide) (found x r t narrow)
   found-pads (Some a) r wide narrow h = h a
   found-pads None r wide narrow h = record { reply = refl; after = refl; lists = refl }
 
@@ -150,10 +155,10 @@ told_padded rules more t seats [] many all = refl
 told_padded rules more t seats (e ∷ es) many all =
     let its = pads more t rules e.seat (omega (arith, all.0.0, all.0.1, many)) e.command in
     let next = obey rules t e.seat e.command in
-    let first : Told = record { seat = e.seat; reply = reply_of rules (padded more t) e.seat e.command } in
+    let first : SeatReply = record { seat = e.seat; reply = reply_of rules (padded more t) e.seat e.command } in
     ap (λ (state : State). first ∷ told_from rules state es) its.after
-    ∙ ap (λ (reply : ToldReply). (let told : Told = record { seat = e.seat; reply = reply } in told) ∷ told_from rules (padded more next) es) its.reply
-    ∙ ap (λ (others : List Told). (let told : Told = record { seat = e.seat; reply = reply_of rules t e.seat e.command } in told) ∷ others)
+    ∙ ap (λ (reply : ReplyView). (let told : SeatReply = record { seat = e.seat; reply = reply } in told) ∷ told_from rules (padded more next) es) its.reply
+    ∙ ap (λ (others : List SeatReply). (let told : SeatReply = record { seat = e.seat; reply = reply_of rules t e.seat e.command } in told) ∷ others)
     (told_padded rules more next seats es (its.lists ∙ many) all.1)
 
 lists_of : (n : ℕ) → length (replicate n (let none : List Event = [] in none)) ≡ n

@@ -1,10 +1,10 @@
 -- A journal that is under way of being read.
-use Rattle.std.proofs.Common.{◌≡◌, ℕ, ◌+◌, ◌<◌, List, [], ◌∷◌, ◌++◌, length, refl, sym, ap, ◌∙◌, append_assoc, append-nil, arith, length-append}
+use Rattle.std.proofs.Common.{◌≡◌, ℕ, ◌+◌, List, [], ◌∷◌, ◌++◌, length, refl, sym, ap, ◌∙◌, append_assoc, append-nil, arith, length-append}
 use Rattle.cdb_control.specs.declared.control.Entry.{Entry}
 use Rattle.cdb_text.specs.Entries.{IsEntryLine, IsFaultOfEntry}
 use Rattle.cdb_text.specs.declared.fault.LineFault.{LineFault}
 use Rattle.cdb_streams.specs.Lines.{lines_of}
-use Rattle.cdb_streams.proofs.Cutting.{no_lines}
+use Rattle.cdb_streams.proofs.CutLines.{no_lines}
 use Rattle.cdb_journal.specs.Journals.{AreEntriesOf, IsFirstBadEntry}
 
 -- the lines read so far are those of the entries, and what is left has the others
@@ -17,7 +17,8 @@ pub record IsUnderWay (text : List ℕ) (entries : List Entry) (rest : List ℕ)
 pub begun : (text : List ℕ) → IsUnderWay text [] text
 begun text = record { read = []; whole = refl; entries_are = tt; so_many = refl }
 
-one_more : (entries : List Entry) (lines : List (List ℕ)) (e : Entry) (line : List ℕ) → AreEntriesOf entries lines → IsEntryLine e.seat e.command line → AreEntriesOf (entries ++ e ∷ []) (lines ++ line ∷ [])
+one_more : (entries : List Entry) (lines : List (List ℕ)) (e : Entry) (line : List ℕ) → AreEntriesOf entries lines
+    → IsEntryLine e.seat e.command line → AreEntriesOf (entries ++ e ∷ []) (lines ++ line ∷ [])
 one_more [] [] e line are is = (is, tt)
 one_more [] (other ∷ lines) e line are is = absurd are
 one_more (other ∷ entries) [] e line are is = absurd are
@@ -30,12 +31,10 @@ nothing_left (x ∷ xs) e = absurd (omega (arith, e))
 pub no_lines_left : (rest : List ℕ) → length rest ≡ 0 → length (lines_of rest) ≡ 0
 no_lines_left rest none = ap (λ (r : List ℕ). length (lines_of r)) (nothing_left rest none) ∙ ap length no_lines
 
-module _ (text : List ℕ) (entries : List Entry) (rest line behind : List ℕ) (u : IsUnderWay text entries rest) (cut : lines_of rest ≡ line ∷ lines_of behind) where
+module _ (text : List ℕ) (entries : List Entry) (rest line behind : List ℕ)
+    (u : IsUnderWay text entries rest) (cut : lines_of rest ≡ line ∷ lines_of behind) where
   split : lines_of text ≡ u.read ++ (line ∷ lines_of behind)
   split = u.whole ∙ ap (λ lines. u.read ++ lines) cut
-
-  pub room_left : length entries < length (lines_of text)
-  room_left = omega (arith, u.so_many, ap length split, length-append u.read (line ∷ lines_of behind))
 
   pub one_line : (e : Entry) → IsEntryLine e.seat e.command line → IsUnderWay text (entries ++ e ∷ []) behind
   one_line e is =

@@ -6,7 +6,7 @@ use Rattle.cdb_control.specs.declared.control.Entry.{Entry}
 use Rattle.cdb_rules.specs.Rules.{Rules}
 use Rattle.cdb_setup.specs.Parts.{Parts}
 use Rattle.cdb_journal.specs.Journals.{IsJournal, IsWritable, journal_text}
-use Rattle.cdb_journal.specs.Told.{told_along, told_in, told_to}
+use Rattle.cdb_journal.specs.SeatReplies.{told_along, told_in, told_to}
 
 -- of each control whose journal can be written
 abbrev pub ForWritten : (Journaled → Type 0) → Type 0
@@ -23,4 +23,5 @@ IsToldAgain c =
 
 -- each seat is told the replies to its commands
 abbrev pub TellsEachSeat : Type 0
-TellsEachSeat = (rules : Parts → Rules) (c : Journaled) (seat : ℕ) → told_to seat (told_in rules c) ≡ replies_in rules seat c
+TellsEachSeat =
+    (rules : Parts → Rules) (c : Journaled) (seat : ℕ) → told_to seat (told_in rules c) ≡ replies_in rules seat c

@@ -1,6 +1,6 @@
 -- what the public contracts name
 pub mod Journals
-pub mod Told
+pub mod SeatReplies
 pub mod Replays
 pub mod OpenedFrom
 pub mod Laws

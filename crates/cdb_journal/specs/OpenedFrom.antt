@@ -19,14 +19,15 @@ IsJournalOf seats entries text = IsJournal entries text × AreOfSeats seats entr
 
 -- the control has carried out the entries of the journal, each of a seat from 1 to that number
 abbrev pub IsOpenedFrom : Parts → ℕ → List ℕ → Journaled → Type 0
-IsOpenedFrom setup seats text c = (entries : List Entry) × IsJournalOf seats entries text × (c ≡ opened_from setup seats entries)
+IsOpenedFrom setup seats text c =
+    (entries : List Entry) × IsJournalOf seats entries text × (c ≡ opened_from setup seats entries)
 
 -- the index of the first entry of a seat above that number
 abbrev pub first_beyond : ℕ → List Entry → Option ℕ
 first_beyond seats entries = position (λ e. nat_lt seats e.seat) entries
 
--- Why there is no such control: the text is no journal, or memory is out; or this line is the first of a seat above that
--- number.
+-- Why there is no such control: the text is no journal, or memory is out; or this line is the first of a seat above
+-- that number.
 abbrev pub IsFaultOfOpening : ℕ → List ℕ → ScriptFault → Type 0
 IsFaultOfOpening seats text fault =
     IsFaultOfJournal fault text

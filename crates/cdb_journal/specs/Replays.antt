@@ -12,9 +12,10 @@ use Rattle.cdb_streams.specs.Streams.{IsReadToEnd, Stream}
 use Rattle.cdb_streams.specs.declared.fault.PlayFault.{PlayFault}
 use Rattle.cdb_streams.specs.declared.fault.PlayFault.TheVariants.{Setup, Line, ScriptTooLong, Read, Write, NoMemory}
 use Rattle.cdb_journal.specs.Journals.{IsFaultOfReading, IsJournal, IsWritable, journal_text}
-use Rattle.cdb_journal.specs.Told.{told_along, told_in, told_text}
+use Rattle.cdb_journal.specs.SeatReplies.{told_along, told_in, told_text}
 
--- the text has the replies to the entries of a journal, by the rules of the setup that a text of JSON encodes, with 64 seats
+-- the text has the replies to the entries of a journal, by the rules of the setup that a text of JSON encodes, with 64
+-- seats
 pub record IsReplayOf (rules : Parts → Rules) (json journal text : List ℕ) : Type 0 where
   pub setup : Parts
   pub entries : List Entry
@@ -26,7 +27,8 @@ pub record IsReplayOf (rules : Parts → Rules) (json journal text : List ℕ) :
 abbrev pub Replays : (Parts → Rules) → List ℕ → Stream → Stream → List ℕ → Type 0
 Replays rules json old new text = (journal : List ℕ) × IsReadToEnd old journal new × IsReplayOf rules json journal text
 
--- such a replay; and where the journal is that of a control of the setup, as it is written, each seat is told what it was told
+-- such a replay; and where the journal is that of a control of the setup, as it is written, each seat is told what it
+-- was told
 pub record TellsAgain (rules : Parts → Rules) (json : List ℕ) (old new : Stream) (text : List ℕ) : Type 0 where
   pub replays : Replays rules json old new text
   pub again : (c : Journaled) → IsWritable c → c.setup ≡ replays.2.setup → journal_text c.journal ≡ replays.0

@@ -2,8 +2,8 @@
 
 ghost use Rattle.cdb_journal.specs.Laws.{IsReadBack, IsToldAgain, ForWritten, TellsEachSeat};
 
-/// A journal that was written is read back, and as no other; and replayed, with 64 seats, it tells each entry's seat the
-/// reply that it had, whatever the number of seats was.
+/// A journal that was written is read back, and as no other; and replayed, with 64 seats, it tells each entry's seat
+/// the reply that it had, whatever the number of seats was.
 pub fn journals_are_replayed()
     ensures read_back { ForWritten IsReadBack }
     ensures told_again { ForWritten IsToldAgain }

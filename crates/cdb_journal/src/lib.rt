@@ -1,4 +1,5 @@
-//! Journals as text, and the law of replay: a journal that was written is read back, and each seat is told what it was told.
+//! Journals as text, and the law of replay: a journal that was written is read back, and each seat is told what it was
+//! told.
 //!
 //! ```text
 //! let text = journal_text(alloc, control.journal())?;

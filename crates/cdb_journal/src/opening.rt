@@ -85,8 +85,8 @@ fn open_on<R: Runs>(
 /// without bytes is a journal without entries. No seat has room.
 ///
 /// # Errors
-/// `TooLong` and `Line` where the text is no journal, as of `entries_of`. Where it is one, `Line` with the fault Number for
-/// the first line of a seat beyond the last. `NoMemory` where an allocation fails, but not in place of `TooLong`.
+/// `TooLong` and `Line` where the text is no journal, as of `entries_of`. Where it is one, `Line` with the fault Number
+/// for the first line of a seat beyond the last. `NoMemory` where an allocation fails, but not in place of `TooLong`.
 ///
 /// Promise: Sessions that go on from a journal begin with exactly its entries carried out.
 pub fn open_from<R: Runs>(

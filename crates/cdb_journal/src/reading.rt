@@ -1,6 +1,7 @@
 //! The entries of a text.
 
-ghost use Rattle.std.specs.Prelude.{◌≡◌, ◌+◌, ◌≤◌, ◌∷◌, [], ◌++◌, length, vec_len, vec_capacity, ◌<◌, Err, IfOk, IfErr, MatchBool};
+ghost use Rattle.std.specs.Prelude.{◌≡◌, ◌+◌, ◌≤◌, ◌∷◌, [], ◌++◌, length, vec_len, vec_capacity};
+ghost use Rattle.std.specs.Prelude.{◌<◌, Err, IfOk, IfErr, MatchBool};
 ghost use Rattle.cdb_base.specs.Limits.{MAX_ENTRIES};
 ghost use Rattle.cdb_control.specs.Journal.{entry};
 ghost use Rattle.cdb_streams.specs.Lines.{lines_of};
@@ -15,8 +16,8 @@ use cdb_streams::{PlayFault, ScriptFault, Source, first_line, read_up_to};
 use cdb_text::parse_entry;
 use std::alloc::Global;
 
-/// How many bytes the longest line of an entry has, which is `64 rollback lost 999999 999999 999999` and the byte 10 at its
-/// end.
+/// How many bytes the longest line of an entry has, which is `64 rollback lost 999999 999999 999999` and the byte 10 at
+/// its end.
 const LONGEST_LINE: usize = 38;
 
 /// The most bytes that a journal may have: as many as the longest lines of the most entries.

@@ -1,16 +1,17 @@
-//! A journal is played again: its commands are carried out one after the other, each for its seat, and each reply is written.
+//! A journal is played again: its commands are carried out one after the other, each for its seat, and each reply is
+//! written.
 
 ghost use Rattle.std.specs.Prelude.{◌≡◌, ◌+◌, ◌<◌, ◌≤◌, [], ◌++◌, codes, decimal, length, Err, IfErr, IfOk, OnOk};
 ghost use Rattle.cdb_base.specs.Limits.{MAX_ENTRIES, MAX_SEATS};
 ghost use Rattle.cdb_control.specs.Journal.{AreOfSeats, control_state, extended, opened, reply_in};
 ghost use Rattle.cdb_setup.specs.Parts.{IsWithin};
 ghost use Rattle.cdb_setup.specs.declared.fault.SetupFault.{SetupFault as SetupFaultName};
-ghost use Rattle.cdb_streams.specs.Putting.{Puts};
+ghost use Rattle.cdb_streams.specs.PiecesPut.{Puts};
 ghost use Rattle.cdb_streams.specs.Endings.{pieces_ending, play_ending};
 ghost use Rattle.cdb_streams.specs.Streams.{FailsWhere};
 ghost use Rattle.cdb_streams.specs.Written.{IsWritten, Only};
 ghost use Rattle.cdb_journal.specs.Replays.{IsFaultOfReplay, Replays, TellsAgain};
-ghost use Rattle.cdb_journal.specs.Told.{told_along, told_from, told_line, told_text};
+ghost use Rattle.cdb_journal.specs.SeatReplies.{told_along, told_from, told_line, told_text};
 
 use crate::laws;
 use crate::reading::read_entries;
@@ -57,8 +58,8 @@ fn perform<T: Runs, W: Sink>(
     put_reply(&reply, text, buffer, out)
 }
 
-/// Carries the commands out, one after the other, each for its seat, and puts the line of each reply, whose text is made in
-/// `text`. After an error what was put is a beginning of the lines.
+/// Carries the commands out, one after the other, each for its seat, and puts the line of each reply, whose text is
+/// made in `text`. After an error what was put is a beginning of the lines.
 fn perform_each<T: Runs, W: Sink>(
     alloc: Global,
     control: &mut Control<T>,
@@ -166,15 +167,17 @@ fn replay_by<T: Runs, R: Source, W: Sink>(
     Ok(())
 }
 
-/// Plays a journal again on a run of the setup, with seats 1 to 64, and writes `S REPLY` for each entry: the number of its
-/// seat, and the text of its reply.
+/// Plays a journal again on a run of the setup, with seats 1 to 64, and writes `S REPLY` for each entry: the number of
+/// its seat, and the text of its reply.
 ///
-/// The setup is read first, then the whole journal, then all its lines, each `S LINE`: so after `Setup` the journal is not
-/// read, and after `Setup`, `Read`, `ScriptTooLong` and `Line` nothing was written. After `Write` what was written is a
-/// beginning of the lines, and after `NoMemory` one of whole pieces of 65,536 bytes. `Read` and `Write` come only where the
-/// reader or the writer failed in this call. A setup that is too long is refused as such, and never as out of memory.
+/// The setup is read first, then the whole journal, then all its lines, each `S LINE`: so after `Setup` the journal is
+/// not read, and after `Setup`, `Read`, `ScriptTooLong` and `Line` nothing was written. After `Write` what was written
+/// is a beginning of the lines, and after `NoMemory` one of whole pieces of 65,536 bytes. `Read` and `Write` come only
+/// where the reader or the writer failed in this call. A setup that is too long is refused as such, and never as out of
+/// memory.
 ///
-/// Promise: A journal that was written, with however many seats, is read back, and each seat is told again what it was told.
+/// Promise: A journal that was written, with however many seats, is read back, and each seat is told again what it was
+/// told.
 pub fn replay<T: Runs, R: Source, W: Sink>(
     alloc: Global,
     setup: &[u8],

@@ -365,7 +365,8 @@ module _ (old new : Index) (inbox : List Received) (y : Received) where
         let d = a_decision _ none in
         record {
           rounds =
-              λ q. subst (λ m. IsRoundOf q (get nat_eq m q) inbox) (sym rows) (IsRoundOf-shorter q inbox y (d.2 q) (d.3 q) (get nat_eq old.rows q) (h.rounds q));
+              λ q.
+              subst (λ m. IsRoundOf q (get nat_eq m q) inbox) (sym rows) (IsRoundOf-shorter q inbox y (d.2 q) (d.3 q) (get nat_eq old.rows q) (h.rounds q));
           decisions = AreFirsts-forget as_decision inbox y d.0 old.decisions new.decisions d.1 h.decisions changes;
         }
 

@@ -108,26 +108,6 @@ module _ (q : ℕ) (sent posted : Payload → Type 0) (heard more : ℕ → Payl
     estimate = more_heard basis.leader (P1 r v basis.named) basis.estimate;
   }
 
-  carried_follows : (r e : ℕ) → Carried heard r e → Carried more r e
-  carried_follows r e it = (it.0, more_heard it.0 (P2 r (Some e)) it.1)
-
-  voted_follows : (r e s : ℕ) → Voted heard r e s → Voted more r e s
-  voted_follows r e s it = (it.0, more_heard s (P2 r it.0) it.1, go it.2)
-    where
-      go : (it.0 ≡ None) ⊎ Carried heard r e → (it.0 ≡ None) ⊎ Carried more r e
-      go (inl none) = inl none
-      go (inr carried) = inr (carried_follows r e carried)
-
-  pub leave_follows : (r e : ℕ) → LeaveBasis q sent heard r e → LeaveBasis q posted more r e
-  leave_follows r e basis = record {
-    quorum = quorum_follows q _ _ (λ s it. voted_follows r e s it) basis.quorum;
-    value = go basis.value;
-  }
-    where
-      go : Carried heard r e ⊎ ((k : ℕ) × sent (P1 r e k)) → Carried more r e ⊎ ((k : ℕ) × posted (P1 r e k))
-      go (inl carried) = inl (carried_follows r e carried)
-      go (inr own) = inr (own.0, more_sent (P1 r e own.0) own.1)
-
   pub first_or_leave_follows : (r e : ℕ) → (r ≡ 0) ⊎ LeaveBasis q sent heard r e → (r ≡ 0) ⊎ LeaveBasis q posted more r e
   first_or_leave_follows r e h1 = grind (arith, common_steps, gets)
 

@@ -10,8 +10,8 @@ use Rattle.cdb_base.specs.Positions.{set_nth}
 use Rattle.cdb_base.specs.declared.name.MsgName.{MsgName}
 use Rattle.cdb_base.specs.declared.name.CopyName.{CopyName}
 use Rattle.cdb_message.specs.Names.{NameSet}
-use Rattle.cdb_message.specs.declared.floors.Passed.{Passed}
-use Rattle.cdb_message.specs.Passed.{IsPassed, AreClosed, LeavesOut, RaisesFloor}
+use Rattle.cdb_message.specs.declared.watermarks.Passed.{Passed}
+use Rattle.cdb_message.specs.Passed.{IsPassed, AreClosed, LeavesOut, RaisesWatermark}
 use Rattle.cdb_message.specs.Mail.{MailState, message_name, copy_name, received_by, is_received, is_open, add_receive, add_loss, remove_receive, remove_loss}
 use Rattle.cdb_message.proofs.Sets.{name_cmp_total, name_cmp-IsAntisymmetric, copy_cmp_total, copy_cmp-IsAntisymmetric}
 
@@ -90,10 +90,10 @@ module _ (passed : Passed) (mail : MailState) (closed : AreClosed passed mail) w
         (λ same. differs q t m from is (ap (λ copy. copy.to) same) (ap (λ copy. copy.msg) same)))
         (closed q t m from (leaves q t m from is).0)
 
-  -- a floor that moved on to a number up to which no copy is open
+  -- a watermark that moved on to a number up to which no copy is open
   module _ (raised : Passed) (p s number : ℕ)
       (none : (m : ℕ) → 1 ≤ m → m ≤ number → is_open mail p (message_name s m) ≡ false)
-      (raises : RaisesFloor passed raised p s number) where
+      (raises : RaisesWatermark passed raised p s number) where
     pub closed-raised : AreClosed raised mail
     closed-raised q t m from is =
         elim (raises q t m is) [

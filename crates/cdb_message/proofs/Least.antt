@@ -10,7 +10,7 @@ use Rattle.cdb_base.specs.declared.name.MsgName.{MsgName}
 use Rattle.cdb_message.specs.Mail.{MailState, message_name, sent_by, sent_names, messages_of, is_sent, is_open, is_above, copies_for, next_pending, IsPending}
 use Rattle.cdb_message.specs.Mail.{IsLeastPending, HasNonePending}
 use Rattle.cdb_message.specs.Names.{is_name_below}
-use Rattle.cdb_message.proofs.Rising.{Rise, all-mapped, all-joined, all_nine, below-not_back, copies-rise, not_below_itself}
+use Rattle.cdb_message.proofs.RisingNumbers.{Rise, all-mapped, all-joined, all_nine, below-not_back, copies-rise, not_below_itself}
 use Rattle.cdb_message.proofs.Sent.{is_sent_within, unsent_by_none}
 
 -- ---- lists

@@ -1,10 +1,10 @@
-pub mod FloorLaws
+pub mod WatermarkLaws
 pub mod Closed
 pub mod Tables
-pub mod Pending
+pub mod PendingFound
 pub mod Sets
 pub mod TakenBack
 pub mod Sent
-pub mod Rising
+pub mod RisingNumbers
 pub mod Least
 pub mod Changed

@@ -10,9 +10,9 @@
 
 mod copies;
 mod flags;
-mod floors;
 pub mod mail;
 mod names;
 mod outbox;
+mod watermarks;
 
 pub use mail::Mail;

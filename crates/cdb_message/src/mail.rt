@@ -6,9 +6,9 @@ ghost use Rattle.std.specs.Option.{option_copied};
 ghost use Rattle.cdb_message.specs.Search.{IsLowestAbove, HasNoneAbove};
 
 use crate::copies::Copies;
-use crate::floors::Passed;
 use crate::names::Names;
 use crate::outbox::Outbox;
+use crate::watermarks::Passed;
 use cdb_base::{CopyName, MsgName, NoMemory, Payload, Proc};
 use std::alloc::Global;
 use std::marker::Model;
@@ -64,7 +64,7 @@ impl Mail {
     ghost use Rattle.cdb_message.specs.Mail.{remove_send, remove_receive, remove_loss};
     ghost use Rattle.cdb_message.specs.Mail.{TakesBackSend, TakesBackReceive, TakesBackLoss};
     ghost use Rattle.cdb_message.specs.Mail.{next_pending, HasNonePending, IsLeastPending};
-    ghost use Rattle.cdb_message.specs.Floors.{HasNoneOpen};
+    ghost use Rattle.cdb_message.specs.Watermarks.{HasNoneOpen};
     ghost use Rattle.cdb_message.specs.Search.{first_of_sender, messages_from};
 
     /// The mail of `n` processes, at most 9, none of which has sent or received anything. `NoMemory` if
@@ -262,7 +262,7 @@ impl Mail {
         ensures { result ≡ first_of_sender self.now p s after }
     {
         let low = lowest_above(after, s)?;
-        let behind = u32::from(self.floor(p, s)) + 1;
+        let behind = u32::from(self.watermark(p, s)) + 1;
         self.first_open(p, s, low.max(behind))
     }
 
@@ -283,10 +283,10 @@ impl Mail {
     }
 
     /// A number up to which process `p` has received or lost each message of `s`.
-    fn floor(&self, p: Proc, s: Proc) -> u16
+    fn watermark(&self, p: Proc, s: Proc) -> u16
         ensures { HasNoneOpen self.now p s result }
     {
-        self.passed.floor(p, s)
+        self.passed.watermark(p, s)
     }
 
     /// A number at least as high as the one given, up to which `p` has received or lost each message of `s` too.
@@ -299,25 +299,25 @@ impl Mail {
     }
 
     /// The greatest number of that kind, among the messages that were sent.
-    fn highest_floor(&self, p: Proc, s: Proc) -> u16
+    fn highest_watermark(&self, p: Proc, s: Proc) -> u16
         requires among { p ≤ length self.now.received }
         ensures { HasNoneOpen self.now p s result }
     {
         let count = self.count_sent(s);
-        let mut floor = self.floor(p, s);
-        while floor < count && !self.is_open(p, MsgName { s, m: floor + 1 }) {
-            floor = self.behind(p, s, floor + 1);
+        let mut mark = self.watermark(p, s);
+        while mark < count && !self.is_open(p, MsgName { s, m: mark + 1 }) {
+            mark = self.behind(p, s, mark + 1);
         }
-        floor
+        mark
     }
 
-    /// Moves the floor of receiver `p` and sender `s` on as far as it goes.
+    /// Moves the watermark of receiver `p` and sender `s` on as far as it goes.
     fn pass_over(&mut self, p: Proc, s: Proc)
         requires among { p ≤ length self.old.received }
         ensures { self.new ≡ self.old }
     {
-        let floor = self.highest_floor(p, s);
-        self.passed.set_floor(p, s, floor);
+        let watermark = self.highest_watermark(p, s);
+        self.passed.set_watermark(p, s, watermark);
     }
 
     /// How many messages process `s` sent: at most 9,999.

@@ -1,6 +1,6 @@
 pub mod OnAndOn
 mod TooMany
-pub mod Listing
-pub mod Following
-pub mod Tracing
-pub mod Answering
+pub mod ListItems
+pub mod PageSteps
+pub mod PageTrace
+pub mod PageAnswers

@@ -1,35 +1,23 @@
 -- A page keeps up with its journal as that grows.
-use Rattle.std.proofs.Common.{◌≡◌, ◌∙◌, inl, inr, ℕ, zero, suc, ◌<◌, ◌≤◌, List, [], ◌∷◌, ◌++◌, length, take, drop, Option, None, Some, Result, Ok, Err, refl, sym, ap, subst, arith, append_assoc, append-nil, length-append}
-use Rattle.std.specs.Prelude.{All, IfErr, IfOk, IfSome, option_map}
+use Rattle.std.proofs.Common.{◌≡◌, ◌∙◌, inl, inr, ℕ, zero, suc, ◌<◌, ◌≤◌, List, [], ◌∷◌, ◌++◌, length, take, drop, Option}
+use Rattle.std.proofs.Common.{None, Some, Result, Ok, Err, refl, sym, ap, arith, append_assoc, append-nil, length-append}
+use Rattle.std.specs.Prelude.{All, IfErr, IfOk, IfSome}
 use Rattle.std.specs.Io.{WritesAtMost}
-use Rattle.std.specs.Io.KnownBytes.{Appends, Keeps, WriteAppends}
 use Rattle.std.specs.Result.{result_unwrap_or}
-use Rattle.std.proofs.KnownBytes.{Appends-trans}
 use Rattle.std.proofs.Math.Seq.{drop-append_seam, take-append_seam}
 use Rattle.std.proofs.lemmas.List.{length-take-le}
 use Rattle.std.proofs.lemmas.List.Elements.{All-append, All-cons, All-nil, All-weaker}
 use Rattle.cdb_explain.specs.declared.fault.ExplainFault.{ExplainFault}
 use Rattle.cdb_streams.specs.Streams.{Stream}
 use Rattle.cdb_streams.specs.declared.sink.Failed.{Failed}
-use Rattle.cdb_page.specs.Live.{EndsWithPage, Live, KeepsUp, HasTaken, IsMadeWith, IsPageSoFar, Shows, ShowsLines, Versions, files_of, journal_so_far, made_with, taken_of, with_version}
+use Rattle.cdb_page.specs.Live.{EndsWithPage, Live, KeepsUp, HasTaken, IsMadeWith, IsPageSoFar, Shows, ShowsLines}
+use Rattle.cdb_page.specs.Live.{Versions, journal_so_far, made_with, taken_of, with_version}
 use Rattle.cdb_page.specs.OfJournals.{IsFaultOfJournalPage, IsPageOfJournal}
 
 -- ---- what the file of the journal took
 
-appends_kept : (a b c : Option (List ℕ)) (text : List ℕ) → Appends a b text → Keeps b c → Appends a c text
-appends_kept None b c text p q = tt
-appends_kept (Some x) None c text p q = absurd p
-appends_kept (Some x) (Some y) None text p q = absurd q
-appends_kept (Some x) (Some y) (Some z) text p q = q ∙ p
-
-pub took_more : (text piece : List ℕ) (old new : Stream) (written : Result ℕ Failed)
-    → WriteAppends old.bytes new.bytes written piece → HasTaken text old → HasTaken (text ++ taken_of written piece) new
-took_more text piece old new (Ok count) wrote (first, empty, took) =
-    (first, empty, Appends-trans first old.bytes new.bytes text (take count piece) took wrote)
-took_more text piece old new (Err failed) wrote (first, empty, took) =
-    (first, empty, subst (Appends first new.bytes) (sym (append-nil text)) (appends_kept first old.bytes new.bytes text took wrote))
-
-pub took_some : (text piece : List ℕ) (written : Result ℕ Failed) → WritesAtMost written piece → 0 < result_unwrap_or written 0 → 0 < length (text ++ taken_of written piece)
+pub took_some : (text piece : List ℕ) (written : Result ℕ Failed) → WritesAtMost written piece
+    → 0 < result_unwrap_or written 0 → 0 < length (text ++ taken_of written piece)
 took_some text piece (Ok count) within some = omega (arith, length-append text (take count piece), length-take-le count piece within)
 took_some text piece (Err failed) within some = absurd (omega arith)
 
@@ -81,7 +69,8 @@ keeps_up_still it taken failures journal up same has = record {
 
 -- what it took has the page that was written
 shown : (it : Live) (more : List ℕ) (failures : ℕ) (journal : Option Stream) (versions : Versions) (outcome : Result (Unit {0}) ExplainFault)
-    → KeepsUp it → IfSome journal (HasTaken (it.taken ++ more)) → 0 < length (it.taken ++ more) → ShowsLines it.json (it.taken ++ more) it.versions versions outcome
+    → KeepsUp it → IfSome journal (HasTaken (it.taken ++ more)) → 0 < length (it.taken ++ more)
+    → ShowsLines it.json (it.taken ++ more) it.versions versions outcome
     → KeepsUp (record it { taken = it.taken ++ more; failures = failures; journal = journal; versions = versions; outcome = outcome })
 shown it more failures journal versions (Ok done) up has some (ends, (page, is, versions_are)) =
     let all = it.taken ++ more in
@@ -110,7 +99,8 @@ keeps_up_on it more taken failures journal versions outcome up same has some sho
     rw same (shown it more failures journal versions outcome up (rw same at has) (rw same at some) (rw same at shows))
 
 -- at the beginning
-first_each : (json from : List ℕ) (old new : Versions) (outcome : Result (Unit {0}) ExplainFault) → IfSome old (λ texts. texts ≡ []) → Shows json from old new outcome
+first_each : (json from : List ℕ) (old new : Versions) (outcome : Result (Unit {0}) ExplainFault)
+    → IfSome old (λ texts. texts ≡ []) → Shows json from old new outcome
     → IfSome new (All (IsPageSoFar json from []))
 first_each json from None new (Ok done) empty (page, is, new_is) = rw new_is tt
 first_each json from (Some texts) new (Ok done) empty (page, is, new_is) =
@@ -174,7 +164,3 @@ unfolding first_of rest_of
 made_with_same it journal json from text is =
     let same = same_setup json from text it.json it.from it.taken (ap rest_of is) in
     (record { files = ap first_of is; json_is = same.0; from_is = same.1 }, same.2)
-
-pub as_many_files : {A B : Type 0} (f : A → B) (file : Option A) → files_of (option_map f file) ≡ files_of file
-as_many_files f None = refl
-as_many_files f (Some file) = refl

@@ -7,8 +7,8 @@ use Rattle.cdb_trail.specs.Origins.{IsOriginIn}
 use Rattle.cdb_page.specs.Listed.{AreAllIn, IsNeededBy}
 use Rattle.cdb_page.specs.declared.entries.Entry.{Entry}
 
--- the entry of the event at a position: its direct causes, those of which it is one, the first event that needs it, and from
--- where its value came
+-- the entry of the event at a position: its direct causes, those of which it is one, the first event that needs it, and
+-- from where its value came
 pub record IsEntry (run : RunView) (at : ℕ) (entry : Entry) : Type 0 where
   pub causes : AreAllIn run.history (λ other. IsDirectCause depends run.history other at) entry.causes.items
   pub dependents : AreAllIn run.history (λ other. IsDirectCause depends run.history at other) entry.dependents.items
@@ -18,4 +18,5 @@ pub record IsEntry (run : RunView) (at : ℕ) (entry : Entry) : Type 0 where
 -- each event has its entry, in order
 abbrev pub AreEntries : RunView → List Entry → Type 0
 AreEntries run entries =
-    (length entries ≡ length run.history) × ((i : ℕ) (entry : Entry) → slice_get entries i ≡ Some entry → IsEntry run (suc i) entry)
+    (length entries ≡ length run.history)
+    × ((i : ℕ) (entry : Entry) → slice_get entries i ≡ Some entry → IsEntry run (suc i) entry)

@@ -18,7 +18,8 @@ use Rattle.cdb_page.specs.declared.entries.Entry.{Entry}
 -- the positions that are reached from one: itself, and with each position those that its entry lists
 pub data IsReached (listed : Entry → List ℕ) (entries : List Entry) (from : ℕ) : ℕ → Type 0 where
   itself : IsReached listed entries from from
-  onward : {at other : ℕ} {entry : Entry} → IsReached listed entries from at → nth entries at ≡ Some entry → Contains (listed entry) other → IsReached listed entries from other
+  onward : {at other : ℕ} {entry : Entry} → IsReached listed entries from at
+      → nth entries at ≡ Some entry → Contains (listed entry) other → IsReached listed entries from other
 
 -- what an entry lists
 abbrev pub its_causes : Entry → List ℕ
@@ -29,8 +30,10 @@ its_dependents entry = entry.dependents.items
 
 -- the positions along which the origins lead back from one, the last, to the input of process q
 pub data IsTraced (entries : List Entry) (q : ℕ) : ℕ → List ℕ → Type 0 where
-  begins : {at : ℕ} {entry : Entry} → nth entries at ≡ Some entry → entry.origin ≡ Some (Input q) → IsTraced entries q at (at ∷ [])
-  goes_on : {before at : ℕ} {entry : Entry} {trail : List ℕ} → IsTraced entries q before trail → nth entries at ≡ Some entry → entry.origin ≡ Some (Step before)
+  begins : {at : ℕ} {entry : Entry} → nth entries at ≡ Some entry
+      → entry.origin ≡ Some (Input q) → IsTraced entries q at (at ∷ [])
+  goes_on : {before at : ℕ} {entry : Entry} {trail : List ℕ} → IsTraced entries q before trail
+      → nth entries at ≡ Some entry → entry.origin ≡ Some (Step before)
       → IsTraced entries q at (trail ++ at ∷ [])
 
 -- a trail from the input of process q to that position, by the algorithm of the run
@@ -53,4 +56,5 @@ IsTrailOfValue run = IsTrailOfValueBy run.setup.algorithm run
 abbrev pub AnswersUndo : RunView → Event → Option ℕ → Type 0
 AnswersUndo run event None = result_of_undo run (event_name event) ≡ Ok event
 AnswersUndo run event (Some needed) =
-    (first : Event) × (nth run.history needed ≡ Some first) × (result_of_undo run (event_name event) ≡ Err (NeededBy (event_name first)))
+    (first : Event) × (nth run.history needed ≡ Some first)
+    × (result_of_undo run (event_name event) ≡ Err (NeededBy (event_name first)))

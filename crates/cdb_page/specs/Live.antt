@@ -1,5 +1,6 @@
 -- A page that keeps up with a journal: with each entry that the journal gets the file of the page is written anew.
-use Rattle.std.specs.Prelude.{◌≡◌, ◌⊎◌, ℕ, List, [], ◌∷◌, ◌++◌, length, take, All, Option, None, Some, option_map, Result, Ok, Err, IfOk, IfErr, IfSome}
+use Rattle.std.specs.Prelude.{◌≡◌, ◌⊎◌, ℕ, List, [], ◌∷◌, ◌++◌, length, take, All, Option, None}
+use Rattle.std.specs.Prelude.{Some, option_map, Result, Ok, Err, IfOk, IfErr, IfSome}
 use Rattle.std.specs.Io.KnownBytes.{Appends}
 use Rattle.cdb_explain.specs.declared.fault.ExplainFault.{ExplainFault}
 use Rattle.cdb_streams.specs.Streams.{Stream}
@@ -24,9 +25,9 @@ Rewrites versions old new text (Err fault) = versions new ≡ versions old
 
 -- ---- a page that keeps up with a journal
 
--- What is known of one: the setup, as JSON; the text of the journal from which it goes on, and what it took of the whole journal,
--- from its first entry; how many calls failed; the file of the journal, where it has one; what the file of the page has had; and how the
--- last writing of the page ended
+-- What is known of one: the setup, as JSON; the text of the journal from which it goes on, and what it took of the
+-- whole journal, from its first entry; how many calls failed; the file of the journal, where it has one; what the file
+-- of the page has had; and how the last writing of the page ended
 pub record Live : Type 0 where
   pub json : List ℕ
   pub from : List ℕ
@@ -41,8 +42,8 @@ abbrev pub files_of : {A : Type 0} → Option A → ℕ
 files_of None = 0
 files_of (Some file) = 1
 
--- As a writer it holds what it was made with, each text behind its length, and then what it took. So one that holds the same at its
--- beginning is of the same setup.
+-- As a writer it holds what it was made with, each text behind its length, and then what it took. So one that holds the
+-- same at its beginning is of the same setup.
 abbrev pub made_with : {A : Type 0} → Option A → List ℕ → List ℕ → List ℕ
 made_with journal json from = files_of journal ∷ (length json ∷ json) ++ (length from ∷ from)
 
@@ -73,7 +74,8 @@ IsPageSoFar json from taken page =
 
 -- how the writing of a page ended: the file has it, or what it had
 abbrev pub Shows : List ℕ → List ℕ → Versions → Versions → Result (Unit {0}) ExplainFault → Type 0
-Shows json journal old new (Ok done) = (page : List ℕ) × IsPageOfJournal json journal page × (new ≡ with_version old page)
+Shows json journal old new (Ok done) =
+    (page : List ℕ) × IsPageOfJournal json journal page × (new ≡ with_version old page)
 Shows json journal old new (Err fault) = (new ≡ old) × IsFaultOfJournalPage json journal fault
 
 -- the same of a journal of whole lines
@@ -95,9 +97,9 @@ abbrev pub EndsWithPage : List ℕ → List ℕ → List (List ℕ) → Type 0
 EndsWithPage json journal versions =
     (before : List (List ℕ)) × (page : List ℕ) × (versions ≡ before ++ page ∷ []) × IsPageOfJournal json journal page
 
--- Each text that the file has had is a whole page, of the run that the first lines of the journal leave; and where nothing failed the
--- last one is that of all that was taken. Of the file of the journal, where it has one, it says little: a writer of which at first nothing
--- is known may have taken any text.
+-- Each text that the file has had is a whole page, of the run that the first lines of the journal leave; and where
+-- nothing failed the last one is that of all that was taken. Of the file of the journal, where it has one, it says
+-- little: a writer of which at first nothing is known may have taken any text.
 pub record KeepsUp (it : Live) : Type 0 where
   pub journal : IfSome it.journal (HasTaken it.taken)
   pub each : IfSome it.versions (All (IsPageSoFar it.json it.from it.taken))

@@ -4,7 +4,7 @@ use Rattle.cdb_agreement.specs.Algorithms.{rules}
 use Rattle.cdb_base.specs.Limits.{MAX_SEATS}
 use Rattle.cdb_control.specs.Journal.{Journaled}
 use Rattle.cdb_draw.specs.Drawn.{IsCrowded}
-use Rattle.cdb_explain.specs.Left.{run_of}
+use Rattle.cdb_explain.specs.RunLeft.{run_of}
 use Rattle.cdb_explain.specs.declared.fault.ExplainFault.{ExplainFault}
 use Rattle.cdb_explain.specs.declared.fault.ExplainFault.TheVariants.{Play, TooManyEvents}
 use Rattle.cdb_journal.specs.OpenedFrom.{IsOpenedFrom}
@@ -25,7 +25,8 @@ abbrev pub IsPageOfJournal : List ℕ → List ℕ → List ℕ → Type 0
 IsPageOfJournal json journal text =
     (run : RunView) × IsRunOfJournal json journal run × IsPageOfFew EachTwoSeconds run text
 
--- why there is none: the run has more events than are drawn; or there is no such run, or memory or the file's writer failed
+-- why there is none: the run has more events than are drawn; or there is no such run, or memory or the file's writer
+-- failed
 abbrev pub IsFaultOfJournalPage : List ℕ → List ℕ → ExplainFault → Type 0
 IsFaultOfJournalPage json journal TooManyEvents = (run : RunView) × IsRunOfJournal json journal run × IsCrowded run
 IsFaultOfJournalPage json journal (Play fault) = Unit {0}

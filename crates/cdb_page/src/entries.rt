@@ -12,8 +12,8 @@ use cdb_rules::Trace;
 use cdb_trail::{Origin, origins_of};
 use std::alloc::Global;
 
-/// What a page has of an event: by position, from 1, its direct causes and those of which it is one, and the first event that
-/// needs it; and from where its value came.
+/// What a page has of an event: by position, from 1, its direct causes and those of which it is one, and the first
+/// event that needs it; and from where its value came.
 #[derive(Drop)]
 pub struct Entry {
     pub causes: Vec<usize>,

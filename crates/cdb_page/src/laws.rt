@@ -7,7 +7,8 @@ ghost use Rattle.cdb_causal.specs.Dependence.{depends};
 ghost use Rattle.cdb_causal.specs.Past.{HasLedTo};
 ghost use Rattle.cdb_causal.specs.Rollback.{IsRolledBack};
 ghost use Rattle.cdb_page.specs.Entries.{AreEntries};
-ghost use Rattle.cdb_page.specs.Followed.{AnswersUndo, IsReached, IsTraced, IsTrailOfRun, IsTrailOfValue, its_causes, its_dependents};
+ghost use Rattle.cdb_page.specs.Followed.{AnswersUndo, IsReached, IsTraced, IsTrailOfRun};
+ghost use Rattle.cdb_page.specs.Followed.{IsTrailOfValue, its_causes, its_dependents};
 ghost use Rattle.cdb_page.specs.declared.entries.Entry.{Entry};
 ghost use Rattle.cdb_rules.specs.ByRules.{IsInOrder};
 ghost use Rattle.cdb_rules.specs.RunView.{RunView};
@@ -35,10 +36,11 @@ pub fn origins_lead_along_trails()
         IsTrailOfValue run q v at trail → IsTraced entries q at trail }
 {}
 
-/// The event that an entry says is needed first is the one for which undo is refused, by the rules of any run; where it says
-/// none undo is granted.
+/// The event that an entry says is needed first is the one for which undo is refused, by the rules of any run; where it
+/// says none undo is granted.
 pub fn needed_answers_undo<T: Runs>()
-    ensures { (run : RunView) → AreInRange run.setup → IsInOrder T.rules run → (entries : List Entry) → AreEntries run entries →
+    ensures { (run : RunView) → AreInRange run.setup → IsInOrder T.rules run
+        → (entries : List Entry) → AreEntries run entries →
         (at : ℕ) (entry : Entry) (event : Event) → nth entries at ≡ Some entry → nth run.history at ≡ Some event →
         AnswersUndo run event entry.needed }
 {}

@@ -1,5 +1,5 @@
-//! The page of a run: one file that a browser opens, with the picture of the run and what its script needs of each event. The
-//! functions of `laws` do nothing: the contract of each is the law.
+//! The page of a run: one file that a browser opens, with the picture of the run and what its script needs of each
+//! event. The functions of `laws` do nothing: the contract of each is the law.
 //!
 //! ```text
 //! write_page(alloc, setup, &mut script, &mut output)?;

@@ -4,7 +4,8 @@ ghost use Rattle.std.specs.Prelude.{◌≡◌, ◌↔◌, ◌≤◌, ℕ, List, 
 ghost use Rattle.std.specs.Io.{WritesAtMost};
 ghost use Rattle.cdb_agreement.specs.Algorithms.{rules};
 ghost use Rattle.cdb_base.specs.Limits.{MAX_ENTRIES as most_entries};
-ghost use Rattle.cdb_page.specs.Live.{EndsLine, KeepsUp, HasFileTaken, IsMadeWith, Shows, ShowsLines, files_of, taken_of};
+ghost use Rattle.cdb_page.specs.Live.{EndsLine, KeepsUp, HasFileTaken, IsMadeWith};
+ghost use Rattle.cdb_page.specs.Live.{Shows, ShowsLines, files_of, taken_of};
 ghost use Rattle.cdb_page.specs.OfJournals.{IsFaultOfJournalPage, IsPageOfJournal, IsRunOfJournal};
 ghost use Rattle.cdb_rules.specs.ByRules.{IsInOrder};
 ghost use Rattle.cdb_streams.specs.Streams.{counted, is_failure};
@@ -88,9 +89,10 @@ fn ends_line(text: &[u8]) -> bool
     }
 }
 
-/// A page that keeps up with a journal: what the journal of sessions is written to, as they go on. With each entry the file of the page is
-/// written anew, with the page of the run that the journal then leaves; a file of the journal, where it has one, is written to first. Where
-/// the page can't be made or written it stays as it was, the journal is kept all the same, and the next entry tries again.
+/// A page that keeps up with a journal: what the journal of sessions is written to, as they go on. With each entry the
+/// file of the page is written anew, with the page of the run that the journal then leaves; a file of the journal,
+/// where it has one, is written to first. Where the page can't be made or written it stays as it was, the journal is
+/// kept all the same, and the next entry tries again.
 #[derive(Drop)]
 pub struct LivePage<'a, J: Sink + Drop, P: Rewritten + Drop> {
     alloc: Global,
@@ -131,8 +133,9 @@ impl<'a, J: Sink + Drop, P: Rewritten + Drop> Model for LivePage<'a, J, P> {
 }
 
 impl<'a, J: Sink + Drop, P: Rewritten + Drop> LivePage<'a, J, P> {
-    /// A page of the run of a setup, which goes on from a journal, in a file that has had no text; the file of the journal, where there
-    /// is one, is empty. The page of the journal from which it goes on is written at once, and room is made for the longest journal.
+    /// A page of the run of a setup, which goes on from a journal, in a file that has had no text; the file of the
+    /// journal, where there is one, is empty. The page of the journal from which it goes on is written at once, and
+    /// room is made for the longest journal.
     ///
     /// # Errors
     /// `NoMemory` where there is no such room; the files are as they were.
@@ -164,8 +167,8 @@ impl<'a, J: Sink + Drop, P: Rewritten + Drop> LivePage<'a, J, P> {
 
     /// How the last writing of the page ended: the page is that of all that was taken, or this is why it is not.
     ///
-    /// Promise: Each text that the file of a live page has had is a whole page, of the run that the first lines of the journal leave, and
-    /// where nothing failed the last one is that of all that was taken.
+    /// Promise: Each text that the file of a live page has had is a whole page, of the run that the first lines of the
+    /// journal leave, and where nothing failed the last one is that of all that was taken.
     pub fn outcome(&self) -> Result<(), ExplainFault>
         ensures is { result ≡ self.now.outcome }
         ensures keeps_up { KeepsUp self.now }
@@ -187,8 +190,8 @@ fn pass_on<J: Sink>(piece: &[u8], file: &mut Option<J>) -> Result<usize, Failed>
     }
 }
 
-/// Takes a beginning of a piece, as much of it as the file takes, where there is one; the file of the journal comes first, and memory
-/// before it.
+/// Takes a beginning of a piece, as much of it as the file takes, where there is one; the file of the journal comes
+/// first, and memory before it.
 fn take<J: Sink>(piece: &[u8], taken: &mut Vec<u8>, file: &mut Option<J>) -> Result<usize, Failed>
     requires { HasFileTaken J.stream file.old taken.old.items }
     ensures within { WritesAtMost result piece.now }

@@ -5,7 +5,8 @@ ghost use Rattle.cdb_agreement.specs.Algorithms.{rules};
 ghost use Rattle.cdb_base.specs.Limits.{MAX_ENTRIES as most_entries};
 ghost use Rattle.cdb_page.specs.Pages.{IsPage, refresh_text};
 ghost use Rattle.cdb_page.specs.Written.{IsFaultOfFew, IsPageOfFew};
-ghost use Rattle.cdb_page.specs.declared.parts.TheConstants.{CONTROLS as controls, HEAD as head, LOOKS as looks, SCRIPT as script};
+ghost use Rattle.cdb_page.specs.declared.parts.TheConstants.{CONTROLS as controls, HEAD as head};
+ghost use Rattle.cdb_page.specs.declared.parts.TheConstants.{LOOKS as looks, SCRIPT as script};
 ghost use Rattle.cdb_rules.specs.ByRules.{IsInOrder};
 
 use crate::entries::entries_of;

@@ -1,7 +1,8 @@
 //! The entries of a page as text.
 
 ghost use Rattle.std.specs.Prelude.{◌≡◌, ◌++◌, codes, decimal, IfOk};
-ghost use Rattle.cdb_page.specs.Pages.{entries_text, entry_text, from_of, input_of, listed_text, positions_text, sources_text};
+ghost use Rattle.cdb_page.specs.Pages.{entries_text, entry_text, from_of, input_of};
+ghost use Rattle.cdb_page.specs.Pages.{listed_text, positions_text, sources_text};
 ghost use Rattle.cdb_text.specs.Pushes.{Pushes};
 
 use crate::entries::Entry;

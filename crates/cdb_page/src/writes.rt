@@ -22,7 +22,8 @@ use cdb_rules::Trace;
 use cdb_streams::{Sink, Source, write_text};
 use std::alloc::Global;
 
-/// Writes the page of this run, which is whole before any of it is written. `TooManyEvents` where it has more than 5,000.
+/// Writes the page of this run, which is whole before any of it is written. `TooManyEvents` where it has more than
+/// 5,000.
 fn write_page_of<W: Sink>(alloc: Global, run: &Trace, out: &mut W) -> Result<(), ExplainFault>
     requires valid { IsInOrder rules run.now }
     requires few { length run.now.history ≤ most_entries }
@@ -35,19 +36,21 @@ fn write_page_of<W: Sink>(alloc: Global, run: &Trace, out: &mut W) -> Result<(),
     Ok(())
 }
 
-/// Writes the page of the run that a script leaves: a document that a browser opens from where it lies, which loads nothing.
-/// It has the picture of the run, as `draw` draws it, and of each event, for its script, the direct causes, the events of
-/// which it is one, the first event that needs it, and from where its value came. Of a run of more than 5,000 events it is
-/// refused as `TooManyEvents`.
+/// Writes the page of the run that a script leaves: a document that a browser opens from where it lies, which loads
+/// nothing. It has the picture of the run, as `draw` draws it, and of each event, for its script, the direct causes,
+/// the events of which it is one, the first event that needs it, and from where its value came. Of a run of more than
+/// 5,000 events it is refused as `TooManyEvents`.
 ///
-/// The setup is read first, then the whole script, then all its lines; the page is whole before any of it is written. So
-/// after `Write` what was written is a beginning of the page, and after any other fault nothing was written. After `Setup`
-/// the script is not read; `Read` comes only where the reader failed in this call, and `Write` only where the writer did.
+/// The setup is read first, then the whole script, then all its lines; the page is whole before any of it is written.
+/// So after `Write` what was written is a beginning of the page, and after any other fault nothing was written. After
+/// `Setup` the script is not read; `Read` comes only where the reader failed in this call, and `Write` only where the
+/// writer did.
 ///
-/// Promise: A page has the picture of the run, and an entry for each event, in the order of the history: exactly its direct causes
-/// and those of which it is one, in order, the first event that depends on it, for which undo is refused, and the step or the
-/// input from which its value came. Followed, these lead to exactly its past, its consequences and its trail (`laws`). What
-/// its script shows of them is tested in a browser. `TooManyEvents` comes only of a run with more than are drawn. After a fault nothing was written, but after a failed write a beginning.
+/// Promise: A page has the picture of the run, and an entry for each event, in the order of the history: exactly its
+/// direct causes and those of which it is one, in order, the first event that depends on it, for which undo is refused,
+/// and the step or the input from which its value came. Followed, these lead to exactly its past, its consequences and
+/// its trail (`laws`). What its script shows of them is tested in a browser. `TooManyEvents` comes only of a run with
+/// more than are drawn. After a fault nothing was written, but after a failed write a beginning.
 pub fn write_page<R: Source, W: Sink>(
     alloc: Global,
     setup: &[u8],

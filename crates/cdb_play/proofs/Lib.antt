@@ -1,9 +1,9 @@
-pub mod Transcribing
-pub mod Ending
+pub mod Transcripts
+pub mod Ends
 pub mod ScriptsRead
 pub mod RaceTexts
 pub mod RaceGrowth
 pub mod SeatsFit
 pub mod RunningFaults
-pub mod Agreeing
+pub mod Agreement
 pub mod OnHeadline

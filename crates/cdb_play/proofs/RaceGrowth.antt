@@ -5,7 +5,7 @@ use Rattle.std.proofs.Common.{◌≡◌, ℕ, ◌+◌, ◌<◌, List, [], ◌∷
 use Rattle.std.specs.List.{flat_map}
 use Rattle.std.proofs.lemmas.Grind.{flat_map-append}
 use Rattle.std.proofs.lemmas.List.{length-map, map-append, take_more}
-use Rattle.cdb_commands.specs.ToldReply.{ToldReply, told}
+use Rattle.cdb_commands.specs.ReplyView.{ReplyView, reply_view}
 use Rattle.cdb_commands.specs.declared.reply.Reply.{Reply}
 use Rattle.cdb_race.specs.Races.{all_told}
 use Rattle.cdb_text.specs.Texts.{text_of}
@@ -15,34 +15,35 @@ use Rattle.cdb_play.proofs.RaceTexts.{seats_text-append}
 
 -- the texts of replies
 abbrev pub texts : List Reply → List ℕ
-texts list = flat_map text_of (map told list)
+texts list = flat_map text_of (map reply_view list)
 
 module _ (replies : List Reply) (i : ℕ) (reply : Reply) (is : reply ≡ get_or replies i reply) (below : i < length replies) where
   texts-append : (xs ys : List Reply) → texts (xs ++ ys) ≡ texts xs ++ texts ys
-  texts-append xs ys = ap (flat_map text_of) (map-append told xs ys) ∙ flat_map-append text_of (map told xs) (map told ys)
+  texts-append xs ys = ap (flat_map text_of) (map-append reply_view xs ys) ∙ flat_map-append text_of (map reply_view xs) (map reply_view ys)
 
-  pub one_reply : texts (take (i + 1) replies) ≡ texts (take i replies) ++ text_of (told reply)
+  pub one_reply : texts (take (i + 1) replies) ≡ texts (take i replies) ++ text_of (reply_view reply)
   one_reply = grind (arith, common_steps, gets)
 
-  pub parted_replies : texts replies ≡ texts (take i replies) ++ (text_of (told reply) ++ texts (drop (i + 1) replies))
+  pub parted_replies : texts replies ≡ texts (take i replies) ++ (text_of (reply_view reply) ++ texts (drop (i + 1) replies))
   parted_replies =
       ap texts (parted replies i reply below ∙ ap (λ r. take i replies ++ r ∷ drop (i + 1) replies) (sym is))
       ∙ texts-append (take i replies) (reply ∷ drop (i + 1) replies)
 
 module _ (first : ℕ) (seats : List (Vec Reply Global)) (i : ℕ) (replies : Vec Reply Global)
     (is : replies ≡ get_or seats i replies) (below : i < length seats) where
-  abbrev told_of : Vec Reply Global → List ToldReply
-  told_of list = map told list.items
+  abbrev told_of : Vec Reply Global → List ReplyView
+  told_of list = map reply_view list.items
 
   count : length (all_told (take i seats)) ≡ i
   count = length-map (take i seats) told_of ∙ omega (arith, length-take i seats)
 
-  behind : (others : List (List ToldReply))
+  behind : (others : List (List ReplyView))
       → seats_text first (all_told (take i seats) ++ others) ≡ seats_text first (all_told (take i seats)) ++ seats_text (first + i) others
   behind others =
       seats_text-append first (all_told (take i seats)) others ∙ ap (λ n. seats_text first (all_told (take i seats)) ++ seats_text (first + n) others) count
 
-  pub one_seat : seats_text first (all_told (take (i + 1) seats)) ≡ seats_text first (all_told (take i seats)) ++ seat_text (first + i) (map told replies.items)
+  pub one_seat : seats_text first (all_told (take (i + 1) seats))
+      ≡ seats_text first (all_told (take i seats)) ++ seat_text (first + i) (map reply_view replies.items)
   one_seat =
       ap (λ s. seats_text first (all_told s)) (take_more seats i replies below ∙ ap (λ r. take i seats ++ r ∷ []) (sym is))
       ∙ ap (seats_text first) (map-append told_of (take i seats) (replies ∷ [])) ∙ behind (told_of replies ∷ [])
@@ -50,7 +51,7 @@ module _ (first : ℕ) (seats : List (Vec Reply Global)) (i : ℕ) (replies : Ve
 
   pub parted_seats : seats_text first (all_told seats)
       ≡ seats_text first (all_told (take i seats))
-      ++ (seat_text (first + i) (map told replies.items) ++ seats_text (first + i + 1) (all_told (drop (i + 1) seats)))
+      ++ (seat_text (first + i) (map reply_view replies.items) ++ seats_text (first + i + 1) (all_told (drop (i + 1) seats)))
   parted_seats =
       ap (λ s. seats_text first (all_told s)) (parted seats i replies below ∙ ap (λ r. take i seats ++ r ∷ drop (i + 1) seats)
       (sym is)) ∙ ap (seats_text first) (map-append told_of (take i seats) (replies ∷ drop (i + 1) seats))

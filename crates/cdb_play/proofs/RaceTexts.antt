@@ -3,7 +3,7 @@ use Rattle.std.proofs.Common.{◌≡◌, ℕ, suc, ◌+◌, ◌-◌, ◌<◌, Li
 use Rattle.std.proofs.Common.{append_assoc, length-drop}
 use Rattle.std.specs.List.{range_with_len}
 use Rattle.std.proofs.lemmas.List.{get_or-drop, drop-map, take_rest}
-use Rattle.cdb_commands.specs.ToldReply.{ToldReply, told}
+use Rattle.cdb_commands.specs.ReplyView.{ReplyView, reply_view}
 use Rattle.cdb_control.specs.Journal.{Journaled}
 use Rattle.cdb_commands.specs.declared.command.Command.{Command}
 use Rattle.cdb_commands.specs.declared.reply.Reply.{Reply}
@@ -14,7 +14,7 @@ use Rattle.cdb_play.specs.Races.{seat_text, seats_text, end_text, last_decisions
 use Rattle.cdb_play.specs.RaceStages.{IsTextOfCommands}
 
 -- seats, and then others
-pub seats_text-append : (first : ℕ) (lists others : List (List ToldReply))
+pub seats_text-append : (first : ℕ) (lists others : List (List ReplyView))
     → seats_text first (lists ++ others) ≡ seats_text first lists ++ seats_text (first + length lists) others
 seats_text-append first [] others = ap (λ n. seats_text n others) (omega arith)
 seats_text-append first (replies_given ∷ lists) others =
@@ -24,7 +24,7 @@ seats_text-append first (replies_given ∷ lists) others =
     ∙ sym (append_assoc (seat_text first replies_given) (seats_text (first + 1) lists) (seats_text (first + suc (length lists)) others))
 
 -- lists with these items, in order
-these_items : (f : ℕ → List ToldReply) (first : ℕ) (lists : List (List ToldReply))
+these_items : (f : ℕ → List ReplyView) (first : ℕ) (lists : List (List ReplyView))
     → ((k : ℕ) → k < length lists → get_or lists k [] ≡ f (first + k)) → lists ≡ map f (range_with_len first (length lists))
 these_items f first [] same = refl
 these_items f first (replies_given ∷ lists) same =
@@ -34,7 +34,7 @@ these_items f first (replies_given ∷ lists) same =
 
 -- what the seats of the scripts were answered is what the journal says
 pub text_of_race : (rules : Parts → Rules) (setup : Parts) (turns : ℕ) (scripts : List (List Command)) (c : Journaled)
-    (replies_given : List (List ToldReply)) → IsRaced rules setup turns scripts c replies_given
+    (replies_given : List (List ReplyView)) → IsRaced rules setup turns scripts c replies_given
     → seats_text (c.setup.processes + 1) (drop setup.processes replies_given) ++ end_text (last_decisions rules c) ≡ race_text rules c
 unfolding race_text
 text_of_race rules setup turns scripts c replies_given raced =
@@ -55,7 +55,7 @@ pub text_of_replies : (rules : Parts → Rules) (setup : Parts) (turns : ℕ) (s
 text_of_replies rules setup turns scripts c replies shown n same count raced =
     ap (λ list. seats_text (c.setup.processes + 1) (all_told list) ++ end_text (last_decisions rules c)) (take_rest shown n ∙ ap (drop n) same)
     ∙ ap (λ lists. seats_text (c.setup.processes + 1) lists ++ end_text (last_decisions rules c))
-    (sym (drop-map (λ (list : Vec Reply Global). map told list.items) n replies))
+    (sym (drop-map (λ (list : Vec Reply Global). map reply_view list.items) n replies))
     ∙ ap (λ k. seats_text (c.setup.processes + 1) (drop k (all_told replies)) ++ end_text (last_decisions rules c)) count
     ∙ text_of_race rules setup turns scripts c (all_told replies) raced
 

@@ -1,6 +1,6 @@
 -- What is said of the stages of a race.
 use Rattle.std.specs.Prelude.{◌≡◌, ℕ, ◌+◌, List, length}
-use Rattle.cdb_commands.specs.ToldReply.{ToldReply}
+use Rattle.cdb_commands.specs.ReplyView.{ReplyView}
 use Rattle.cdb_control.specs.Journal.{Journaled}
 use Rattle.cdb_commands.specs.declared.command.Command.{Command}
 use Rattle.cdb_race.specs.Races.{IsRaced, MayFill}
@@ -30,7 +30,7 @@ module _ (IsFaultOfSessions : Parts → ℕ → List (List Command) → ThreadFa
 -- the text is that of a race of these commands
 abbrev pub IsTextOfCommands : (Parts → Rules) → Parts → ℕ → List (List Command) → List ℕ → Type 0
 IsTextOfCommands rules setup turns commands text =
-    (control : Journaled) × (replies_given : List (List ToldReply))
+    (control : Journaled) × (replies_given : List (List ReplyView))
     × IsRaced rules setup turns commands control replies_given
     × (text ≡ race_text rules control)
 

@@ -3,7 +3,7 @@ use Rattle.std.specs.Prelude.{◌≡◌, ℕ, ◌+◌, ◌-◌, ◌≤◌, ◌==
 use Rattle.std.specs.Prelude.{Result, OnOk, if◌then◌else◌}
 use Rattle.std.specs.List.{AllZip, flat_map, list_all, range_with_len}
 use Rattle.std.proofs.Common.{Vec, Global}
-use Rattle.cdb_commands.specs.ToldReply.{ToldReply}
+use Rattle.cdb_commands.specs.ReplyView.{ReplyView}
 use Rattle.cdb_control.specs.Journal.{Journaled, control_state}
 use Rattle.cdb_commands.specs.declared.command.Command.{Command}
 use Rattle.cdb_race.specs.Faults as of_threads
@@ -34,11 +34,11 @@ abbrev pub seat_heading : ℕ → List ℕ
 seat_heading seat = codes "seat " ++ decimal seat ++ codes "\n"
 
 -- that line, and then the texts of the seat's replies
-abbrev pub seat_text : ℕ → List ToldReply → List ℕ
+abbrev pub seat_text : ℕ → List ReplyView → List ℕ
 seat_text seat replies_given = seat_heading seat ++ flat_map text_of replies_given
 
 -- seats from this number on, each with its replies
-abbrev pub seats_text : ℕ → List (List ToldReply) → List ℕ
+abbrev pub seats_text : ℕ → List (List ReplyView) → List ℕ
 seats_text seat [] = []
 seats_text seat (replies_given ∷ others) = seat_text seat replies_given ++ seats_text (seat + 1) others
 
@@ -87,7 +87,7 @@ abbrev pub script_seats : Journaled → List ℕ
 script_seats c = range_with_len (c.setup.processes + 1) (c.seats - c.setup.processes)
 
 -- the seats of the scripts with these replies, and then the decisions of the last state
-abbrev pub text_with : (Parts → Rules) → Journaled → List (List ToldReply) → List ℕ
+abbrev pub text_with : (Parts → Rules) → Journaled → List (List ReplyView) → List ℕ
 text_with rules c replies_given = seats_text (c.setup.processes + 1) replies_given ++ end_text (last_decisions rules c)
 
 -- the text of a race with this journal
@@ -124,7 +124,7 @@ pub record IsTextOnSetup (rules : Parts → Rules) (setup : Parts) (turns : ℕ)
     (text : List ℕ) : Type 0 where
   pub commands : List (List Command)
   pub control : Journaled
-  pub replies_given : List (List ToldReply)
+  pub replies_given : List (List ReplyView)
   pub read : AreScripts commands scripts
   pub raced : IsRaced rules setup turns commands control replies_given
   pub is : text ≡ race_text rules control

@@ -5,7 +5,7 @@ ghost use Rattle.cdb_base.specs.Limits.{MAX_ENTRIES};
 ghost use Rattle.cdb_control.specs.Journal.{extended};
 ghost use Rattle.cdb_setup.specs.declared.fault.SetupFault.{SetupFault as SetupFaultName};
 ghost use Rattle.cdb_control.specs.OneSeat.{HasCarriedOut};
-ghost use Rattle.cdb_streams.specs.Putting.{Puts};
+ghost use Rattle.cdb_streams.specs.PiecesPut.{Puts};
 ghost use Rattle.cdb_streams.specs.Endings.{pieces_ending, play_ending};
 ghost use Rattle.cdb_streams.specs.Faults.{IsFaultOfPlay};
 ghost use Rattle.cdb_streams.specs.Streams.{FailsWhere};

@@ -1,5 +1,5 @@
 pub mod Shown
-pub mod Opening
+pub mod OpenedFiles
 pub mod Seen
 pub mod Raced
 pub mod Reported

@@ -2,7 +2,7 @@
 use Rattle.std.proofs.Common.{◌≡◌, ◌≢◌, ℕ, List, [], ◌∷◌, Option, Some, None, Bor, inl, inr, refl, length, arith}
 use Rattle.std.specs.Prelude.{Vec}
 use Rattle.std.specs.Global.{Global}
-use Rattle.cdb_base.specs.Requests.{Asked, Script, Play, Race, Ask, Frames, Debug, Replay, Search, Shrink, Same, Clocks, Page, Text, asked_for, texts}
+use Rattle.cdb_base.specs.Requests.{RequestView, Script, Play, Race, Ask, Frames, Debug, Replay, Search, Shrink, Same, Clocks, Page, Text, asked_for, texts}
 use Rattle.cdb_base.specs.declared.request.Request.{Request}
 use Rattle.cdb_base.specs.declared.request.Request.TheVariants as request
 use Rattle.cdb_streams.specs.Streams.{Stream}
@@ -11,7 +11,7 @@ use Rattle.cdb_program.specs.Outcomes.{RequestEnd}
 use Rattle.cdb_program.specs.Requests.{DebugsAlone, DebugsHere, Does, IsDone, IsNoSession, PerformsAsked, PerformsSeats, PerformsSessions}
 use Rattle.cdb_program.specs.LivePages.{DebugsBytesPaged}
 
-pub does_but_error : (asked : Asked) (old new : Seen) (error : Stream) (outcome : RequestEnd) → Does asked old new outcome
+pub does_but_error : (asked : RequestView) (old new : Seen) (error : Stream) (outcome : RequestEnd) → Does asked old new outcome
     → Does asked old (record new { error = error }) outcome
 does_but_error Script old new error outcome does = does
 does_but_error (Play setup script) old new error outcome does = does
@@ -28,7 +28,7 @@ does_but_error (Clocks setup script) old new error outcome does = does
 does_but_error (Page setup script) old new error outcome does = does
 
 -- what is not one of sessions is performed where it is done
-pub record IsDoneAlone (asked : Asked) : Type 0 where
+pub record IsDoneAlone (asked : RequestView) : Type 0 where
   pub no_session : IsNoSession asked
   pub performs : (prompt : Text) (old new : Seen) (status : ℕ) → IsDone (Does asked) old new status → PerformsAsked prompt asked old new status
 

@@ -1,5 +1,6 @@
 -- Seats are found one after the other, and what is known of their sessions.
-use Rattle.std.proofs.Common.{◌≡◌, ℕ, zero, suc, ◌+◌, ◌<◌, List, [], ◌∷◌, ◌++◌, length, get_or, take, drop, map, Bor, refl, sym, ap, subst, ◌∙◌, append_assoc, arith}
+use Rattle.std.proofs.Common.{◌≡◌, ℕ, zero, suc, ◌+◌, ◌<◌, List, [], ◌∷◌, ◌++◌, length, get_or, take}
+use Rattle.std.proofs.Common.{drop, map, Bor, refl, sym, ap, subst, ◌∙◌, append_assoc, arith}
 use Rattle.std.specs.Prelude.{Option, Some, None, option_map, Result, Err}
 use Rattle.std.proofs.lemmas.List.{length-map, get_or-map}
 use Rattle.cdb_session.specs.Moves.{Known}
@@ -8,7 +9,7 @@ use Rattle.cdb_shared_session.specs.Openings.{SeatSeen}
 use Rattle.cdb_rules.specs.RunView.{RunView}
 use Rattle.cdb_session.specs.declared.inquiry.Inquiry.{Inquiry}
 use Rattle.cdb_shared_session.specs.SharedSessions.{HasEnded, IsFinished}
-use Rattle.cdb_shared_session.specs.Keeping.{kept_outcome}
+use Rattle.cdb_shared_session.specs.KeptOutcomes.{kept_outcome}
 use Rattle.cdb_shared_session.specs.Reported.{RunsSessions}
 use Rattle.cdb_shared_session.specs.Reports.{outcomes, failures_text, status_of}
 use Rattle.cdb_shared_session.specs.declared.endpoint.Finished.{Finished}
@@ -22,28 +23,32 @@ use Rattle.cdb_streams.specs.declared.fault.PlayFault.{PlayFault}
 use Rattle.cdb_streams.specs.declared.fault.PlayFault.TheVariants as play
 use Rattle.cdb_base.specs.Requests.{texts}
 use Rattle.cdb_program.specs.Known.{FilesSeen, after_opening, after_failing, any_name}
-use Rattle.cdb_program.specs.Reading.{FailsToRead}
+use Rattle.cdb_program.specs.FilesRead.{FailsToRead}
 use Rattle.cdb_program.specs.declared.fault.Fault.{Fault}
-use Rattle.cdb_program.specs.declared.fault.Fault.TheVariants.{Play, Race, NoStep, NoValue, Different, NoGoal, NotFound, DoesNotHold, TooManyEvents, TooManySeats, Refused, Journal, Page}
+use Rattle.cdb_program.specs.declared.fault.Fault.TheVariants.{Play, Race, NoStep, NoValue, Different, NoGoal, NotFound, DoesNotHold}
+use Rattle.cdb_program.specs.declared.fault.Fault.TheVariants.{TooManyEvents, TooManySeats, Refused, Journal, Page}
 use Rattle.cdb_streams.specs.Faults.{of_reading}
 use Rattle.cdb_streams.specs.declared.source.ReadFault.{ReadFault}
 use Rattle.cdb_streams.specs.declared.source.ReadFault.TheVariants as reading
-use Rattle.cdb_program.specs.Seating.{AreOpenersOf, CanOpenSeat, FindsSeat, IsFaultOfSeats, IsOpenerOf, MakesFile}
+use Rattle.cdb_program.specs.SeatStreams.{AreOpenersOf, CanOpenSeat, FindsSeat, IsFaultOfSeats, IsOpenerOf, MakesFile}
 use Rattle.cdb_streams.specs.Endings.{whole_ending}
 use Rattle.cdb_streams.specs.Streams.{Stream, Writes}
 use Rattle.cdb_streams.specs.declared.sink.Failed.{Failed}
 use Rattle.cdb_program.proofs.Seen.{stream_written, stream_writes}
-use Rattle.cdb_program.proofs.Opening.{read_none, opened_then, failed_then, fails_before, one_more_name, taken_and_left}
+use Rattle.cdb_program.proofs.OpenedFiles.{read_none, opened_then, failed_then, fails_before, one_more_name, taken_and_left}
 
 -- ---- seats that are found
 
 -- it is refused
-pub one_fails : (P : Type 0) (opens : P → Result SeatSeen ReadFault → Type 0) (old new : FilesSeen) (name : Bor (List ℕ)) (fault : ReadFault) → (let found : Result P ReadFault = Err fault in FindsSeat opens old new name.now found) → FailsToRead old new (name.now ∷ []) (Play (of_reading fault) name)
+pub one_fails : (P : Type 0) (opens : P → Result SeatSeen ReadFault → Type 0) (old new : FilesSeen) (name : Bor (List ℕ)) (fault : ReadFault)
+    → (let found : Result P ReadFault = Err fault in FindsSeat opens old new name.now found)
+    → FailsToRead old new (name.now ∷ []) (Play (of_reading fault) name)
 one_fails P opens old new name reading.Failed is = ([], [], refl, is)
 one_fails P opens old new name (reading.NoMemory refused) is = ([], name.now ∷ [], refl, is ∙ (read_none old).0)
 
 -- what can't be read or opened is why there are no sessions
-pub as_fault : (setup : List ℕ) (seats : List (List ℕ)) (from : Option (List ℕ)) (files : List (List ℕ)) (old new : FilesSeen) (fault : Fault) → FailsToRead old new (setup ∷ (any_name from ++ (seats ++ files))) fault → IsFaultOfSeats setup seats from files old new fault
+pub as_fault : (setup : List ℕ) (seats : List (List ℕ)) (from : Option (List ℕ)) (files : List (List ℕ)) (old new : FilesSeen) (fault : Fault)
+    → FailsToRead old new (setup ∷ (any_name from ++ (seats ++ files))) fault → IsFaultOfSeats setup seats from files old new fault
 as_fault setup seats from files old new (Play why name) fails = fails
 as_fault setup seats from files old new (Race why) fails = absurd fails
 as_fault setup seats from files old new (Journal why) fails = fails
@@ -58,17 +63,20 @@ as_fault setup seats from files old new Different fails = fails
 as_fault setup seats from files old new TooManySeats fails = absurd fails
 as_fault setup seats from files old new (Refused reason) fails = fails
 
-pub no_file : (P : Type 0) (stream : P → Stream) (old new : FilesSeen) (name : Bor (List ℕ)) (fault : ReadFault) → (let made : Result P ReadFault = Err fault in MakesFile stream old new name.now made) → FailsToRead old new (name.now ∷ []) (Play (of_reading fault) name)
+pub no_file : (P : Type 0) (stream : P → Stream) (old new : FilesSeen) (name : Bor (List ℕ)) (fault : ReadFault)
+    → (let made : Result P ReadFault = Err fault in MakesFile stream old new name.now made) → FailsToRead old new (name.now ∷ []) (Play (of_reading fault) name)
 no_file P stream old new name reading.Failed is = ([], [], refl, is)
 no_file P stream old new name (reading.NoMemory refused) is = ([], name.now ∷ [], refl, is ∙ (read_none old).0)
 
 -- others were opened before it
-pub fails_later : (old mid new : FilesSeen) (first second : List (List ℕ)) (fault : Fault) → mid ≡ after_opening old first → FailsToRead mid new second fault → FailsToRead old new (first ++ second) fault
+pub fails_later : (old mid new : FilesSeen) (first second : List (List ℕ)) (fault : Fault)
+    → mid ≡ after_opening old first → FailsToRead mid new second fault → FailsToRead old new (first ++ second) fault
 fails_later old mid new first second (Play play.Read name) before (good, rest, whole, failed) = (
   first ++ good,
   rest,
   ap (λ (l : List (List ℕ)). first ++ l) whole ∙ sym (append_assoc first good (name.now ∷ rest)),
-  failed_then old mid new first (good ++ name.now ∷ []) before failed ∙ ap (λ (l : List (List ℕ)). after_failing old l) (sym (append_assoc first good (name.now ∷ []))),
+  failed_then old mid new first (good ++ name.now ∷ []) before failed
+      ∙ ap (λ (l : List (List ℕ)). after_failing old l) (sym (append_assoc first good (name.now ∷ []))),
 )
 fails_later old mid new first second (Play (play.NoMemory refused) name) before (good, rest, whole, opened) = (
   first ++ good,
@@ -94,15 +102,18 @@ fails_later old mid new first second TooManySeats before fails = absurd fails
 fails_later old mid new first second (Refused reason) before fails = absurd fails
 
 -- the seat at this position of a list is refused
-pub seat_fails : (old mid new : FilesSeen) (names : List (Bor (List ℕ))) (i : ℕ) (d : Bor (List ℕ)) (fault : Fault) → i < length names → mid ≡ after_opening old (texts (take i names))
+pub seat_fails : (old mid new : FilesSeen) (names : List (Bor (List ℕ))) (i : ℕ) (d : Bor (List ℕ)) (fault : Fault)
+    → i < length names → mid ≡ after_opening old (texts (take i names))
     → FailsToRead mid new ((get_or names i d).now ∷ []) fault → FailsToRead old new (texts names) fault
 seat_fails old mid new names i d fault below before fails =
     subst (λ (l : List (List ℕ)). FailsToRead old new l fault) (sym (taken_and_left names (i + 1)))
     (fails_before old new (texts (take (i + 1) names)) (texts (drop (i + 1) names)) fault
-    (subst (λ (l : List (List ℕ)). FailsToRead old new l fault) (sym (one_more_name names i d below)) (fails_later old mid new (texts (take i names)) ((get_or names i d).now ∷ []) fault before fails)))
+    (subst (λ (l : List (List ℕ)). FailsToRead old new l fault) (sym (one_more_name names i d below))
+    (fails_later old mid new (texts (take i names)) ((get_or names i d).now ∷ []) fault before fails)))
 
 -- one seat more is found
-pub seat_opened : (old mid new : FilesSeen) (names : List (Bor (List ℕ))) (i : ℕ) (d : Bor (List ℕ)) → i < length names → mid ≡ after_opening old (texts (take i names)) → new ≡ after_opening mid ((get_or names i d).now ∷ [])
+pub seat_opened : (old mid new : FilesSeen) (names : List (Bor (List ℕ))) (i : ℕ) (d : Bor (List ℕ)) → i < length names
+    → mid ≡ after_opening old (texts (take i names)) → new ≡ after_opening mid ((get_or names i d).now ∷ [])
     → new ≡ after_opening old (texts (take (i + 1) names))
 seat_opened old mid new names i d below before after =
     opened_then old mid new (texts (take i names)) ((get_or names i d).now ∷ []) before after ∙ ap (after_opening old) (sym (one_more_name names i d below))
@@ -116,15 +127,18 @@ module _ {P : Type 0} (opens : P → Result SeatSeen ReadFault → Type 0) where
   one_more_seat files (n ∷ names) (p ∷ openers) name opener before its = (before.0, one_more_seat files names openers name opener before.1 its)
 
   -- and its opener is that of its name
-  pub seat_openers : (old mid : FilesSeen) (names : List (Bor (List ℕ))) (i : ℕ) (d : Bor (List ℕ)) (openers : List P) (opener : P) → i < length names → mid ≡ after_opening old (texts (take i names))
-      → AreOpenersOf opens old (texts (take i names)) openers → IsOpenerOf opens mid (get_or names i d).now opener → AreOpenersOf opens old (texts (take (i + 1) names)) (openers ++ opener ∷ [])
+  pub seat_openers : (old mid : FilesSeen) (names : List (Bor (List ℕ))) (i : ℕ) (d : Bor (List ℕ)) (openers : List P) (opener : P)
+      → i < length names → mid ≡ after_opening old (texts (take i names))
+      → AreOpenersOf opens old (texts (take i names)) openers → IsOpenerOf opens mid (get_or names i d).now opener
+      → AreOpenersOf opens old (texts (take (i + 1) names)) (openers ++ opener ∷ [])
   seat_openers old mid names i d openers opener below before seats its =
       let name = (get_or names i d).now in
       subst (λ (l : List (List ℕ)). AreOpenersOf opens old l (openers ++ opener ∷ [])) (sym (one_more_name names i d below))
       (one_more_seat old (texts (take i names)) openers name opener seats (subst (λ (f : FilesSeen). IsOpenerOf opens f name opener) before its))
 
   -- the openers are those of the names, whatever was opened before
-  pub seats_known : (old mid : FilesSeen) (first names : List (List ℕ)) (openers : List P) → mid ≡ after_opening old first → AreOpenersOf opens mid names openers → AreOpenersOf opens old names openers
+  pub seats_known : (old mid : FilesSeen) (first names : List (List ℕ)) (openers : List P)
+      → mid ≡ after_opening old first → AreOpenersOf opens mid names openers → AreOpenersOf opens old names openers
   seats_known old mid first names openers before are = subst (λ (f : FilesSeen). AreOpenersOf opens f names openers) before are
 
   pub as_many : (files : FilesSeen) (names : List (List ℕ)) (openers : List P) → AreOpenersOf opens files names openers → length names ≡ length openers
@@ -133,7 +147,8 @@ module _ {P : Type 0} (opens : P → Result SeatSeen ReadFault → Type 0) where
   as_many files (name ∷ names) [] are = absurd are
   as_many files (name ∷ names) (opener ∷ openers) are = ap suc (as_many files names openers are.1)
 
-  opener_at : (files : FilesSeen) (names : List (List ℕ)) (openers : List P) (k : ℕ) (n : List ℕ) (p : P) → AreOpenersOf opens files names openers → k < length openers → IsOpenerOf opens files (get_or names k n) (get_or openers k p)
+  opener_at : (files : FilesSeen) (names : List (List ℕ)) (openers : List P) (k : ℕ) (n : List ℕ) (p : P)
+      → AreOpenersOf opens files names openers → k < length openers → IsOpenerOf opens files (get_or names k n) (get_or openers k p)
   opener_at files [] [] k n p are low = absurd (omega arith)
   opener_at files [] (opener ∷ openers) k n p are low = absurd are
   opener_at files (name ∷ names) [] k n p are low = absurd are
@@ -159,10 +174,14 @@ module _ {T : Type 0} (known : T → Known) where
   same_outcomes (its ∷ finished) = ap (λ (l : List (Result (Unit {0}) PlayFault)). its.outcome ∷ l) (same_outcomes finished)
 
 -- sessions that took place, by what is known of their seats, of what each read and wrote, and of the streams
-module _ {P T J O E : Type 0} (rules : Parts → Rules) (Answers : RunView → Inquiry → List ℕ → Type 0) (known : T → Known) (opens : P → Result SeatSeen ReadFault → Type 0) (file_stream : J → Stream) (output_stream : O → Stream) (error_stream : E → Stream) where
-  pub holds_seen : (files : FilesSeen) (names : List (List ℕ)) (json from : List ℕ) (openers : List P) (file : Option J) (output output_after : O) (error error_after : E) (ended : ℕ × Option (Kept J))
-      → AreOpenersOf opens files names openers → RunsSessions rules Answers known opens file_stream output_stream error_stream json from openers file output output_after error error_after ended
-      → RunsSessions rules Answers (λ (k : Known). k) (CanOpenSeat files) file_stream (λ (s : Stream). s) (λ (s : Stream). s) json from names file (output_stream output) (output_stream output_after) (error_stream error)
+module _ {P T J O E : Type 0} (rules : Parts → Rules) (Answers : RunView → Inquiry → List ℕ → Type 0) (known : T → Known)
+    (opens : P → Result SeatSeen ReadFault → Type 0) (file_stream : J → Stream) (output_stream : O → Stream) (error_stream : E → Stream) where
+  pub holds_seen : (files : FilesSeen) (names : List (List ℕ)) (json from : List ℕ) (openers : List P)
+      (file : Option J) (output output_after : O) (error error_after : E) (ended : ℕ × Option (Kept J))
+      → AreOpenersOf opens files names openers
+      → RunsSessions rules Answers known opens file_stream output_stream error_stream json from openers file output output_after error error_after ended
+      → RunsSessions rules Answers (λ (k : Known). k) (CanOpenSeat files) file_stream (λ (s : Stream). s)
+      (λ (s : Stream). s) json from names file (output_stream output) (output_stream output_after) (error_stream error)
       (error_stream error_after) ended
   holds_seen files names json from openers file output output_after error error_after ended are h =
       let same = same_outcomes known h.finished in
@@ -186,17 +205,22 @@ module _ {P T J O E : Type 0} (rules : Parts → Rules) (Answers : RunView → I
               let d = some_of openers (omega (arith, below)) in
               let e = some_of h.finished (omega (arith, below, h.sessions.many)) in
               let its_end = get_or h.finished k e in
-              let its = ended_by rules Answers h.begun h.control (k + 1) (opens (get_or openers k d)) (CanOpenSeat files (get_or names k n)) (opener_at opens files names openers k n d are below) (option_map known its_end.console) its_end.outcome (h.sessions.each k d e below) in
+              let its =
+              ended_by rules Answers h.begun h.control (k + 1) (opens (get_or openers k d)) (CanOpenSeat files (get_or names k n))
+              (opener_at opens files names openers k n d are below) (option_map known its_end.console) its_end.outcome (h.sessions.each k d e below) in
               let finished = sym (get_or-map (known_finished known) h.finished k e a (omega (arith, below, h.sessions.many))) in
-              subst (λ (x : Finished Known). IsFinished rules Answers (λ (k : Known). k) h.begun h.control (k + 1) (CanOpenSeat files (get_or names k n)) x) finished
-              (subst (λ (o : Option Known). HasEnded rules Answers h.begun h.control (k + 1) (CanOpenSeat files (get_or names k n)) o its_end.outcome) (sym (same_known (option_map known its_end.console))) its);
+              subst (λ (x : Finished Known).
+              IsFinished rules Answers (λ (k : Known). k) h.begun h.control (k + 1) (CanOpenSeat files (get_or names k n)) x) finished
+              (subst (λ (o : Option Known). HasEnded rules Answers h.begun h.control (k + 1) (CanOpenSeat files (get_or names k n)) o its_end.outcome)
+              (sym (same_known (option_map known its_end.console))) its);
         };
         keeps = h.keeps;
         written = h.written;
         journal = stream_written output_stream (whole_ending h.written) output output_after _ h.journal;
         reported = h.reported;
         lines =
-            subst (λ (x : List (Result (Unit {0}) PlayFault)). Writes (λ (s : Stream). s) h.reported (error_stream error) (error_stream error_after) (failures_text h.written (kept_outcome ended.1) x)) (sym same)
+            subst (λ (x : List (Result (Unit {0}) PlayFault)). Writes (λ (s : Stream). s) h.reported (error_stream error)
+            (error_stream error_after) (failures_text h.written (kept_outcome ended.1) x)) (sym same)
             (stream_writes error_stream (Unit {0}) Failed h.reported error error_after _ h.lines);
         status_is = h.status_is ∙ (λ i. status_of h.written (kept_outcome ended.1) (sym same i));
       }
@@ -204,7 +228,8 @@ module _ {P T J O E : Type 0} (rules : Parts → Rules) (Answers : RunView → I
   -- the file of the journal by what is known of it
   pub file_seen : (json from : List ℕ) (openers : List P) (file : Option J) (output output_after : O) (error error_after : E) (ended : ℕ × Option (Kept J))
       → RunsSessions rules Answers known opens file_stream output_stream error_stream json from openers file output output_after error error_after ended
-      → RunsSessions rules Answers known opens (λ (s : Stream). s) output_stream error_stream json from openers (option_map file_stream file) output output_after error error_after (ended.0, option_map (seen_kept file_stream) ended.1)
+      → RunsSessions rules Answers known opens (λ (s : Stream). s) output_stream error_stream json from openers
+      (option_map file_stream file) output output_after error error_after (ended.0, option_map (seen_kept file_stream) ended.1)
   file_seen json from openers file output output_after error error_after ended h =
       let same = sym (outcome_seen file_stream ended.1) in
       record {
@@ -220,6 +245,8 @@ module _ {P T J O E : Type 0} (rules : Parts → Rules) (Answers : RunView → I
         written = h.written;
         journal = h.journal;
         reported = h.reported;
-        lines = subst (λ (x : Result (Unit {0}) OutputFault). Writes error_stream h.reported error error_after (failures_text h.written x (outcomes h.finished))) same h.lines;
+        lines =
+            subst (λ (x : Result (Unit {0}) OutputFault).
+            Writes error_stream h.reported error error_after (failures_text h.written x (outcomes h.finished))) same h.lines;
         status_is = h.status_is ∙ (λ i. status_of h.written (same i) (outcomes h.finished));
       }

@@ -21,12 +21,12 @@ use Rattle.cdb_agreement.specs.SameState.{ReachSameState}
 use Rattle.cdb_setup.specs.declared.fault.SetupFault.{SetupFault}
 use Rattle.cdb_journal.specs.Replays.{IsFaultOfReplay, Replays, TellsAgain}
 use Rattle.cdb_same.specs.Same.{same_ending, ComparesText, IsFaultOfSame, TellsSame}
-use Rattle.cdb_clocks.specs.Told.{clocks_ending, IsFaultOfClocks, WritesClocks}
+use Rattle.cdb_clocks.specs.WrittenClocks.{clocks_ending, IsFaultOfClocks, WritesClocks}
 use Rattle.cdb_program.specs.Clocks.{AreWritten}
-use Rattle.cdb_program.specs.Comparing.{IsCompared}
-use Rattle.cdb_program.specs.Playing.{IsPlay}
-use Rattle.cdb_program.specs.Replaying.{IsReplay}
-use Rattle.cdb_program.specs.Searching.{IsSearch, IsShrink}
+use Rattle.cdb_program.specs.Comparisons.{IsCompared}
+use Rattle.cdb_program.specs.Plays.{IsPlay}
+use Rattle.cdb_program.specs.Replays.{IsReplay}
+use Rattle.cdb_program.specs.Searches.{IsSearch, IsShrink}
 use Rattle.cdb_goal.specs.declared.goal.Goal.{Goal}
 use Rattle.cdb_search.specs.Found.{IsFaultOfSearch, IsFound, search_ending}
 use Rattle.cdb_search.specs.Shrunk.{IsFaultOfShrink, WritesShrunk}
@@ -34,7 +34,8 @@ use Rattle.cdb_search.specs.declared.fault.SearchFault.{SearchFault}
 use Rattle.cdb_search.specs.declared.fault.SearchFault.TheVariants as search
 
 -- what was written of a text, by the writer's stream
-pub stream_written : {W : Type 0} (stream : W → Stream) (ending : Ending) (old new : W) (IsText : List ℕ → Type 0) → IsWritten stream ending old new IsText → IsWritten (λ (s : Stream). s) ending (stream old) (stream new) IsText
+pub stream_written : {W : Type 0} (stream : W → Stream) (ending : Ending) (old new : W) (IsText : List ℕ → Type 0)
+    → IsWritten stream ending old new IsText → IsWritten (λ (s : Stream). s) ending (stream old) (stream new) IsText
 stream_written stream Complete old new IsText wrote = wrote
 stream_written stream WriterFailed old new IsText wrote = wrote
 stream_written stream CutShort old new IsText (inl same) = inl (ap stream same)
@@ -42,13 +43,16 @@ stream_written stream CutShort old new IsText (inr wrote) = inr wrote
 stream_written stream NotBegun old new IsText same = ap stream same
 
 -- the same where nothing but the writer can fail
-pub stream_writes : {W : Type 0} (stream : W → Stream) (A E : Type 0) (result : Result A E) (old new : W) (text : List ℕ) → Writes stream result old new text → Writes (λ (s : Stream). s) result (stream old) (stream new) text
+pub stream_writes : {W : Type 0} (stream : W → Stream) (A E : Type 0) (result : Result A E) (old new : W) (text : List ℕ)
+    → Writes stream result old new text → Writes (λ (s : Stream). s) result (stream old) (stream new) text
 stream_writes stream A E (Ok done) old new text wrote = wrote
 stream_writes stream A E (Err failed) old new text wrote = wrote
 
 -- what a play says of its reader and its writer
-pub play_seen : {R W : Type 0} (reader : R → Stream) (writer : W → Stream) (json : List ℕ) (played : Result (Unit {0}) PlayFault) (script rest : R) (old new : W)
-    → IsWritten writer (play_ending played) old new (Plays rules json (reader script) (reader rest)) → IsWritten writer (play_ending played) old new (RestsOnHeadline rules ReachSameState json (reader script) (reader rest)) → IfErr played (IsFaultOfPlay json (reader script) (reader rest))
+pub play_seen : {R W : Type 0} (reader : R → Stream) (writer : W → Stream)
+    (json : List ℕ) (played : Result (Unit {0}) PlayFault) (script rest : R) (old new : W)
+    → IsWritten writer (play_ending played) old new (Plays rules json (reader script) (reader rest)) → IsWritten writer (play_ending played) old
+    new (RestsOnHeadline rules ReachSameState json (reader script) (reader rest)) → IfErr played (IsFaultOfPlay json (reader script) (reader rest))
     → ((fault : SetupFault) → played ≡ Err (play.Setup fault) → rest ≡ script) → FailsWhere reader (played ≡ Err play.Read) script rest
     → IsPlay json played (reader script) (reader rest) (writer old) (writer new)
 play_seen reader writer json played script rest old new wrote headline fault same read = record {
@@ -60,8 +64,10 @@ play_seen reader writer json played script rest old new wrote headline fault sam
 }
 
 -- what a replay says of its reader and its writer
-pub replay_seen : {R W : Type 0} (reader : R → Stream) (writer : W → Stream) (json : List ℕ) (replayed : Result (Unit {0}) PlayFault) (journal rest : R) (old new : W)
-    → IsWritten writer (play_ending replayed) old new (Replays rules json (reader journal) (reader rest)) → IsWritten writer (play_ending replayed) old new (TellsAgain rules json (reader journal) (reader rest)) → IfErr replayed (IsFaultOfReplay json (reader journal) (reader rest))
+pub replay_seen : {R W : Type 0} (reader : R → Stream) (writer : W → Stream)
+    (json : List ℕ) (replayed : Result (Unit {0}) PlayFault) (journal rest : R) (old new : W)
+    → IsWritten writer (play_ending replayed) old new (Replays rules json (reader journal) (reader rest)) → IsWritten writer (play_ending replayed)
+    old new (TellsAgain rules json (reader journal) (reader rest)) → IfErr replayed (IsFaultOfReplay json (reader journal) (reader rest))
     → ((fault : SetupFault) → replayed ≡ Err (play.Setup fault) → rest ≡ journal) → FailsWhere reader (replayed ≡ Err play.Read) journal rest
     → IsReplay json replayed (reader journal) (reader rest) (writer old) (writer new)
 replay_seen reader writer json replayed journal rest old new wrote again fault same read = record {
@@ -74,26 +80,32 @@ replay_seen reader writer json replayed journal rest old new wrote again fault s
 
 -- what a search says of its writer
 pub search_seen : {W : Type 0} (writer : W → Stream) (json : List ℕ) (goal : Goal) (walks : ℕ) (searched : Result (Unit {0}) SearchFault) (old new : W)
-    → IsWritten writer (search_ending searched) old new (IsFound rules json goal) → IfErr searched (IsFaultOfSearch json walks) → IsSearch json goal walks searched (writer old) (writer new)
+    → IsWritten writer (search_ending searched) old new (IsFound rules json goal)
+    → IfErr searched (IsFaultOfSearch json walks) → IsSearch json goal walks searched (writer old) (writer new)
 search_seen writer json goal walks searched old new wrote fault =
     record { wrote = stream_written writer (search_ending searched) old new (IsFound rules json goal) wrote; fault = fault }
 
 -- what a comparison of runs says of its writer
-pub compared_seen : {W : Type 0} (writer : W → Stream) (json first second : List ℕ) (told : Result Bool PlayFault) (old new : W) → IsWritten writer (same_ending told) old new (ComparesText rules json first second)
+pub compared_seen : {W : Type 0} (writer : W → Stream) (json first second : List ℕ) (told : Result Bool PlayFault) (old new : W)
+    → IsWritten writer (same_ending told) old new (ComparesText rules json first second)
     → IfOk told (TellsSame rules json first second) → IfErr told (IsFaultOfSame json first second) → IsCompared json first second told (writer old) (writer new)
 compared_seen writer json first second told old new wrote same fault =
     record { wrote = stream_written writer (same_ending told) old new (ComparesText rules json first second) wrote; same = same; fault = fault }
 
 -- and what the writing of clocks says of it
-pub clocks_seen : {W : Type 0} (writer : W → Stream) (json script : List ℕ) (written : Result (Unit {0}) PlayFault) (old new : W) → IsWritten writer (clocks_ending written) old new (WritesClocks rules json script)
+pub clocks_seen : {W : Type 0} (writer : W → Stream) (json script : List ℕ) (written : Result (Unit {0}) PlayFault) (old new : W)
+    → IsWritten writer (clocks_ending written) old new (WritesClocks rules json script)
     → IfErr written (IsFaultOfClocks json script) → AreWritten json script written (writer old) (writer new)
 clocks_seen writer json script written old new wrote fault =
     record { wrote = stream_written writer (clocks_ending written) old new (WritesClocks rules json script) wrote; fault = fault }
 
 -- what the making of a small script says of its reader and its writer
-pub shrink_seen : {R W : Type 0} (reader : R → Stream) (writer : W → Stream) (json : List ℕ) (goal : Goal) (shrunk : Result (Unit {0}) SearchFault) (script rest : R) (old new : W)
-    → IsWritten writer (search_ending shrunk) old new (WritesShrunk rules json goal (reader script) (reader rest)) → IfErr shrunk (IsFaultOfShrink rules json goal (reader script) (reader rest))
-    → ((fault : SetupFault) → shrunk ≡ Err (search.Play (play.Setup fault)) → rest ≡ script) → FailsWhere reader (shrunk ≡ Err (search.Play play.Read)) script rest
+pub shrink_seen : {R W : Type 0} (reader : R → Stream) (writer : W → Stream) (json : List ℕ)
+    (goal : Goal) (shrunk : Result (Unit {0}) SearchFault) (script rest : R) (old new : W)
+    → IsWritten writer (search_ending shrunk) old new (WritesShrunk rules json goal (reader script) (reader rest))
+    → IfErr shrunk (IsFaultOfShrink rules json goal (reader script) (reader rest))
+    → ((fault : SetupFault) → shrunk ≡ Err (search.Play (play.Setup fault)) → rest ≡ script)
+    → FailsWhere reader (shrunk ≡ Err (search.Play play.Read)) script rest
     → IsShrink json goal shrunk (reader script) (reader rest) (writer old) (writer new)
 shrink_seen reader writer json goal shrunk script rest old new wrote fault same read = record {
   wrote = stream_written writer (search_ending shrunk) old new (WritesShrunk rules json goal (reader script) (reader rest)) wrote;
@@ -103,8 +115,10 @@ shrink_seen reader writer json goal shrunk script rest old new wrote fault same 
 }
 
 -- the same of a session whose journal was kept
-debugged_seen : {J : Type 0} (stream : J → Stream) (rules_of : Parts → Rules) (Answers : RunView → Inquiry → List ℕ → Type 0) (prompt json from : List ℕ) (old new : Known) (file : J) (ended : Result (Unit {0}) PlayFault × Kept J)
-    → DebugsKept stream rules_of Answers prompt json from old new file ended → DebugsKept itself rules_of Answers prompt json from old new (stream file) (ended.0, seen_kept stream ended.1)
+debugged_seen : {J : Type 0} (stream : J → Stream) (rules_of : Parts → Rules) (Answers : RunView → Inquiry → List ℕ → Type 0)
+    (prompt json from : List ℕ) (old new : Known) (file : J) (ended : Result (Unit {0}) PlayFault × Kept J)
+    → DebugsKept stream rules_of Answers prompt json from old new file ended
+    → DebugsKept itself rules_of Answers prompt json from old new (stream file) (ended.0, seen_kept stream ended.1)
 debugged_seen stream rules_of Answers prompt json from old new file (Err fault, kept) (inl (is, makes, same)) = inl (is, makes, ap (seen_kept stream) same)
 debugged_seen stream rules_of Answers prompt json from old new file (Ok done, kept) (inl not) = absurd not
 debugged_seen stream rules_of Answers prompt json from old new file (returned, kept) (inr (setup, begun, encodes, opened, (made, makes, holds))) =
@@ -128,8 +142,10 @@ debugged_seen stream rules_of Answers prompt json from old new file (returned, k
     )
 
 -- so of texts that are equal to these
-pub debugged_of : {J : Type 0} (stream : J → Stream) (rules_of : Parts → Rules) (Answers : RunView → Inquiry → List ℕ → Type 0) (texts others : List ℕ × List ℕ × List ℕ) → others ≡ texts → (old new : Known) (file : J) (ended : Result (Unit {0}) PlayFault × Kept J)
-    → DebugsKept stream rules_of Answers others.0 others.1 others.2 old new file ended → DebugsKept itself rules_of Answers texts.0 texts.1 texts.2 old new (stream file) (ended.0, seen_kept stream ended.1)
+pub debugged_of : {J : Type 0} (stream : J → Stream) (rules_of : Parts → Rules) (Answers : RunView → Inquiry → List ℕ → Type 0)
+    (texts others : List ℕ × List ℕ × List ℕ) → others ≡ texts → (old new : Known) (file : J) (ended : Result (Unit {0}) PlayFault × Kept J)
+    → DebugsKept stream rules_of Answers others.0 others.1 others.2 old new file ended
+    → DebugsKept itself rules_of Answers texts.0 texts.1 texts.2 old new (stream file) (ended.0, seen_kept stream ended.1)
 debugged_of stream rules_of Answers texts others same old new file ended d =
     debugged_seen stream rules_of Answers texts.0 texts.1 texts.2 old new file ended
     (subst (λ (all : List ℕ × List ℕ × List ℕ). DebugsKept stream rules_of Answers all.0 all.1 all.2 old new file ended) same d)

@@ -1,4 +1,5 @@
--- What a session answers that is asked of its run: what the subcommand prints of the run, or reports where it prints nothing.
+-- What a session answers that is asked of its run: what the subcommand prints of the run, or reports where it prints
+-- nothing.
 use Rattle.std.specs.Prelude.{◌≡◌, ◌⊎◌, ℕ, List}
 use Rattle.cdb_agreement.specs.Algorithms.{rules}
 use Rattle.cdb_base.specs.declared.question.StepAsked.{StepAsked}
@@ -23,7 +24,8 @@ abbrev pub IsExplained : RunView → StepAsked → List ℕ → Type 0
 IsExplained run step text = IsStepExplained rules run step.p step.k text ⊎ TellsNoStep run step text
 
 abbrev pub IsTrailed : RunView → StepAsked → List ℕ → Type 0
-IsTrailed run step text = IsTrailToStep run step.p step.k text ⊎ (TellsNoStep run step text ⊎ TellsNoValue run step text)
+IsTrailed run step text =
+    IsTrailToStep run step.p step.k text ⊎ (TellsNoStep run step text ⊎ TellsNoValue run step text)
 
 abbrev pub IsAnswer : RunView → Inquiry → List ℕ → Type 0
 IsAnswer run (Explain step) = IsExplained run step

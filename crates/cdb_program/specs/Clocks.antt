@@ -1,13 +1,13 @@
 -- What requests for clocks do.
 use Rattle.std.specs.Prelude.{ℕ, List, [], ◌∷◌, Result, IfErr}
 use Rattle.cdb_agreement.specs.Algorithms.{rules}
-use Rattle.cdb_clocks.specs.Told.{clocks_ending, IsFaultOfClocks, WritesClocks}
+use Rattle.cdb_clocks.specs.WrittenClocks.{clocks_ending, IsFaultOfClocks, WritesClocks}
 use Rattle.cdb_streams.specs.Streams.{Stream, itself}
 use Rattle.cdb_streams.specs.Written.{IsWritten}
 use Rattle.cdb_streams.specs.declared.fault.PlayFault.{PlayFault}
 use Rattle.cdb_program.specs.Known.{Seen}
 use Rattle.cdb_program.specs.Outcomes.{RequestEnd, IsOfPlay}
-use Rattle.cdb_program.specs.Reading.{ReadsThen}
+use Rattle.cdb_program.specs.FilesRead.{ReadsThen}
 
 -- The clocks of the run that a script leaves on the setup of this text were written so. The output is seen before and
 -- after.

@@ -4,9 +4,10 @@ use Rattle.std.specs.List.{find}
 use Rattle.cdb_shared_session.specs.Openings.{SeatSeen}
 use Rattle.cdb_streams.specs.Streams.{Stream, one_more}
 
--- Files: those that are known, each a name and its bytes; the names of those that were opened, in order, where these are known;
--- how many could not be read, in 64 bits; the seats that are known, each a name and what it has when its streams are open,
--- none where they can't be opened; and the files that were written whole, each a name and its bytes, in order, where these are known
+-- Files: those that are known, each a name and its bytes; the names of those that were opened, in order, where these
+-- are known; how many could not be read, in 64 bits; the seats that are known, each a name and what it has when its
+-- streams are open, none where they can't be opened; and the files that were written whole, each a name and its bytes,
+-- in order, where these are known
 pub record FilesSeen : Type 0 where
   pub known : List (List ℕ × List ℕ)
   pub opened : Option (List (List ℕ))

@@ -1,5 +1,6 @@
 -- What sessions do of whose run a page is shown, as it goes on.
-use Rattle.std.specs.Prelude.{◌≡◌, ◌⊎◌, ◌==◌, ℕ, if◌then◌else◌, List, [], ◌∷◌, ◌++◌, Option, Some, None, Result, Ok, Err, IfSome}
+use Rattle.std.specs.Prelude.{◌≡◌, ◌⊎◌, ◌==◌, ℕ, if◌then◌else◌, List, [], ◌∷◌, ◌++◌}
+use Rattle.std.specs.Prelude.{Option, Some, None, Result, Ok, Err, IfSome}
 use Rattle.cdb_agreement.specs.Algorithms.{rules}
 use Rattle.cdb_explain.specs.declared.fault.ExplainFault.{ExplainFault}
 use Rattle.cdb_page.specs.Live.{IsMadeWith, KeepsUp, Live, Versions, stream_of}
@@ -12,13 +13,13 @@ use Rattle.cdb_streams.specs.declared.fault.PlayFault.{PlayFault}
 use Rattle.cdb_streams.specs.declared.source.ReadFault.{ReadFault}
 use Rattle.cdb_streams.specs.declared.source.ReadFault.TheVariants as reading
 use Rattle.cdb_program.specs.Answers.{IsAnswer}
-use Rattle.cdb_program.specs.Beginning.{AreOfBeginning}
-use Rattle.cdb_program.specs.Debugging.{console_of}
+use Rattle.cdb_program.specs.Beginnings.{AreOfBeginning}
+use Rattle.cdb_program.specs.DebugSessions.{console_of}
 use Rattle.cdb_program.specs.Known.{FilesSeen, Seen, after_opening, after_failing, any_name}
 use Rattle.cdb_program.specs.Outcomes.{RequestEnd, IsOfKept}
-use Rattle.cdb_program.specs.Reading.{CannotReadFiles}
+use Rattle.cdb_program.specs.FilesRead.{CannotReadFiles}
 use Rattle.cdb_program.specs.Reports.{IsReported}
-use Rattle.cdb_program.specs.Seating.{CanOpenSeat, HasSeated, RefusesSeats}
+use Rattle.cdb_program.specs.SeatStreams.{CanOpenSeat, HasSeated, RefusesSeats}
 use Rattle.cdb_program.specs.declared.fault.Fault.TheVariants.{Page}
 
 -- ---- the file of a page, and the page in it
@@ -37,7 +38,8 @@ MakesPage versions old new name (Err (reading.NoMemory refused)) = new ≡ old
 abbrev pub files_for : Option (List ℕ) → List ℕ → List (List ℕ)
 files_for journal page = any_name journal ++ page ∷ []
 
--- the page of a run on this setup, from that journal on; there is a file of the journal where one was named, and nothing was kept yet
+-- the page of a run on this setup, from that journal on; there is a file of the journal where one was named, and
+-- nothing was kept yet
 abbrev pub IsNewPage : Option (List ℕ) → List ℕ → List ℕ → Live → Type 0
 IsNewPage journal json from it = IsMadeWith journal json from it × (it.taken ≡ [])
 
@@ -59,15 +61,17 @@ IsOfPageAfter (Ok done) shown outcome = IsOfPage shown outcome
 IsOfPageAfter (Err fault) shown outcome = outcome ≡ Err fault
 
 -- it ended as the session did and the keeping of its journal, and else as the last writing of the page
-abbrev pub IsOfPaged : Result (Unit {0}) PlayFault → Result (Unit {0}) OutputFault → Result (Unit {0}) ExplainFault → RequestEnd → Type 0
+abbrev pub IsOfPaged : Result (Unit {0}) PlayFault → Result (Unit {0}) OutputFault
+    → Result (Unit {0}) ExplainFault → RequestEnd → Type 0
 IsOfPaged debugged kept shown outcome =
     (before : RequestEnd) × IsOfKept debugged kept before × IsOfPageAfter before shown outcome
 
 -- ---- a session here
 
--- A session took place over standard input and output, and all the time the page was a whole one, of the run that the first lines of the
--- journal leave; at the end it is that of the whole journal, or why it is not is told.
-pub record DebugsBytesPaged (journal : Option (List ℕ)) (json from prompt : List ℕ) (old new : Seen) (outcome : RequestEnd) : Type 0 where
+-- A session took place over standard input and output, and all the time the page was a whole one, of the run that the
+-- first lines of the journal leave; at the end it is that of the whole journal, or why it is not is told.
+pub record DebugsBytesPaged (journal : Option (List ℕ))
+    (json from prompt : List ℕ) (old new : Seen) (outcome : RequestEnd) : Type 0 where
   pub first : Live
   pub begun : IsNewPage journal json from first
   pub ended : Result (Unit {0}) PlayFault × Kept Live
@@ -75,9 +79,10 @@ pub record DebugsBytesPaged (journal : Option (List ℕ)) (json from prompt : Li
   pub page : IsKeptPage journal json from ended.1.file
   pub ends : IsOfPaged ended.0 (ended.1).outcome (ended.1.file).outcome outcome
 
--- The file of the setup is read, and that of the journal if one is named, those of the new journal and of the page are made, and then the
--- session takes place. Where one of these can't be opened, no input is read.
-abbrev pub DebugsFilePaged : List ℕ → Option (List ℕ) → Option (List ℕ) → List ℕ → List ℕ → Seen → Seen → RequestEnd → Type 0
+-- The file of the setup is read, and that of the journal if one is named, those of the new journal and of the page are
+-- made, and then the session takes place. Where one of these can't be opened, no input is read.
+abbrev pub DebugsFilePaged : List ℕ → Option (List ℕ) → Option (List ℕ)
+    → List ℕ → List ℕ → Seen → Seen → RequestEnd → Type 0
 DebugsFilePaged setup from journal page prompt old new outcome =
     (CannotReadFiles (setup ∷ (any_name from ++ files_for journal page)) old new outcome × (new.input ≡ old.input))
     ⊎ ((json begun : List ℕ) × (new.files ≡ after_opening old.files (setup ∷ (any_name from ++ files_for journal page)))
@@ -89,9 +94,10 @@ DebugsFilePaged setup from journal page prompt old new outcome =
 abbrev pub first_status : ℕ → ℕ → ℕ
 first_status first second = if first == 0 then second else first
 
--- There were sessions of these seats, and all the time the page was as for a session here. What failed was reported, of the sessions
--- and the journal as without a page, and then of the page.
-pub record HoldsPaged (setup : List ℕ) (seats : List (List ℕ)) (from journal : Option (List ℕ)) (page : List ℕ) (old new : Seen) (status : ℕ)
+-- There were sessions of these seats, and all the time the page was as for a session here. What failed was reported, of
+-- the sessions and the journal as without a page, and then of the page.
+pub record HoldsPaged (setup : List ℕ) (seats : List (List ℕ))
+    (from journal : Option (List ℕ)) (page : List ℕ) (old new : Seen) (status : ℕ)
     : Type 0 where
   pub json : List ℕ
   pub begun : List ℕ
@@ -101,7 +107,8 @@ pub record HoldsPaged (setup : List ℕ) (seats : List (List ℕ)) (from journal
   pub its_status : ℕ
   pub kept : Kept Live
   pub error : Stream
-  pub sessions : RunsSessions rules IsAnswer (λ known. known) (CanOpenSeat old.files) stream_of itself itself json begun seats (Some first)
+  pub sessions : RunsSessions rules IsAnswer (λ known. known)
+      (CanOpenSeat old.files) stream_of itself itself json begun seats (Some first)
       old.output new.output old.error error (its_status, Some kept)
   pub is : IsKeptPage journal json begun kept.file
   pub page_end : RequestEnd
@@ -111,7 +118,9 @@ pub record HoldsPaged (setup : List ℕ) (seats : List (List ℕ)) (from journal
   pub status_is : status ≡ first_status its_status page_status
 
 -- there were sessions of these seats, or not; standard input is left as it is
-abbrev pub PerformsPaged : List ℕ → List (List ℕ) → Option (List ℕ) → Option (List ℕ) → List ℕ → Seen → Seen → ℕ → Type 0
+abbrev pub PerformsPaged : List ℕ → List (List ℕ) → Option (List ℕ)
+    → Option (List ℕ) → List ℕ → Seen → Seen → ℕ → Type 0
 PerformsPaged setup seats from journal page old new status =
     (new.input ≡ old.input)
-    × (RefusesSeats setup seats from (files_for journal page) old new status ⊎ HoldsPaged setup seats from journal page old new status)
+    × (RefusesSeats setup seats from (files_for journal page) old new status
+    ⊎ HoldsPaged setup seats from journal page old new status)

@@ -8,7 +8,8 @@ use Rattle.cdb_streams.specs.declared.buffer.OutputFault.{OutputFault}
 use Rattle.cdb_streams.specs.declared.fault.PlayFault.{PlayFault}
 use Rattle.cdb_streams.specs.declared.fault.RaceFault.{RaceFault}
 use Rattle.cdb_program.specs.declared.fault.Fault.{Fault}
-use Rattle.cdb_program.specs.declared.fault.Fault.TheVariants.{Play, Race, Journal, NoStep, NoValue, Different, NotFound, DoesNotHold, TooManyEvents}
+use Rattle.cdb_program.specs.declared.fault.Fault.TheVariants.{Play, Race, Journal, NoStep, NoValue, Different}
+use Rattle.cdb_program.specs.declared.fault.Fault.TheVariants.{NotFound, DoesNotHold, TooManyEvents}
 
 -- how a request ended
 abbrev pub RequestEnd : Type 0
@@ -39,7 +40,8 @@ IsOfExplain name (Ok done) (Ok its_done) = Unit {0}
 IsOfExplain name (Err explain.NoStep) (Err NoStep) = Unit {0}
 IsOfExplain name (Err explain.NoValue) (Err NoValue) = Unit {0}
 IsOfExplain name (Err explain.TooManyEvents) (Err TooManyEvents) = Unit {0}
-IsOfExplain name (Err (explain.Play fault)) (Err (Play its_fault its_name)) = (its_fault ≡ fault) × (its_name.now ≡ name)
+IsOfExplain name (Err (explain.Play fault)) (Err (Play its_fault its_name)) =
+    (its_fault ≡ fault) × (its_name.now ≡ name)
 IsOfExplain name explained outcome = ⊥
 
 -- it ended as the search did, whose fault of a play has that name

@@ -16,15 +16,16 @@ use Rattle.cdb_setup.specs.declared.fault.SetupFault.{SetupFault}
 use Rattle.cdb_trail.specs.Written.{WritesTrail, IsFaultOfTrail}
 use Rattle.cdb_program.specs.Known.{Seen, in_memory}
 use Rattle.cdb_program.specs.Outcomes.{RequestEnd, IsOfExplain}
-use Rattle.cdb_program.specs.Reading.{ReadsThen}
+use Rattle.cdb_program.specs.FilesRead.{ReadsThen}
 
 -- how the writing of such a text ended
 abbrev pub TextEnd : Type 0
 TextEnd = Result (Unit {0}) ExplainFault
 
--- The writing of a text of this kind ended so, and its fault, where it has one, is of this kind. The script's reader and
--- the output are seen before and after.
-pub record IsTextOfRun (ended : TextEnd) (ending : Ending) (IsText : List ℕ → Type 0) (IsFault : ExplainFault → Type 0) (script left old new : Stream) : Type 0 where
+-- The writing of a text of this kind ended so, and its fault, where it has one, is of this kind. The script's reader
+-- and the output are seen before and after.
+pub record IsTextOfRun (ended : TextEnd) (ending : Ending) (IsText : List ℕ → Type 0)
+    (IsFault : ExplainFault → Type 0) (script left old new : Stream) : Type 0 where
   pub wrote : IsWritten itself ending old new IsText
   pub fault : IfErr ended IsFault
   pub unread : (fault : SetupFault) → ended ≡ Err (Play (play.Setup fault)) → left ≡ script

@@ -9,7 +9,9 @@ use Rattle.cdb_streams.specs.Statuses.{play_status, race_status}
 use Rattle.cdb_streams.specs.Streams.{Stream, Writes, itself}
 use Rattle.cdb_streams.specs.declared.sink.Failed.{Failed}
 use Rattle.cdb_program.specs.declared.fault.Fault.{Fault}
-use Rattle.cdb_program.specs.declared.fault.Fault.TheVariants.{Play, Race, Journal, Page, NoStep, NoValue, Different, NoGoal, NotFound, DoesNotHold, TooManyEvents, TooManySeats, Refused}
+use Rattle.cdb_program.specs.declared.fault.Fault.TheVariants.{Play, Race, Journal, Page, NoStep, NoValue}
+use Rattle.cdb_program.specs.declared.fault.Fault.TheVariants.{Different, NoGoal, NotFound, DoesNotHold}
+use Rattle.cdb_program.specs.declared.fault.Fault.TheVariants.{TooManyEvents, TooManySeats, Refused}
 
 -- that a goal held in none of so many walks
 abbrev pub not_found_text : ℕ → List ℕ
@@ -61,4 +63,5 @@ fault_status (Refused reason) = 2
 abbrev pub IsReported : Result (Unit {0}) Fault → Stream → Stream → ℕ → Type 0
 IsReported (Ok done) old new status = (new ≡ old) × (status ≡ 0)
 IsReported (Err fault) old new status =
-    ((reported : Result (Unit {0}) Failed) × Writes itself reported old new (fault_text fault)) × (status ≡ fault_status fault)
+    ((reported : Result (Unit {0}) Failed) × Writes itself reported old new (fault_text fault))
+    × (status ≡ fault_status fault)

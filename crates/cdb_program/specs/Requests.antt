@@ -1,6 +1,7 @@
 -- What the program does with a request.
 use Rattle.std.specs.Prelude.{◌≡◌, ℕ, ◌≤◌, List, [], ◌∷◌, codes, Option, Some, None, Ok, Err}
-use Rattle.cdb_base.specs.Requests.{Asked, Script, Play, Race, Ask, Frames, Debug, Replay, Search, Shrink, Same, Clocks, Page, Text, asked_for}
+use Rattle.cdb_base.specs.Requests.{RequestView, Script, Play, Race, Ask, Frames, Debug, Replay}
+use Rattle.cdb_base.specs.Requests.{Search, Shrink, Same, Clocks, Page, Text, asked_for}
 use Rattle.cdb_base.specs.declared.question.StepAsked.{StepAsked}
 use Rattle.cdb_streams.specs.Streams.{Stream, Takes, Fails, itself}
 use Rattle.cdb_streams.specs.declared.fault.PlayFault.TheVariants.{Write}
@@ -9,20 +10,20 @@ use Rattle.cdb_agreement.specs.SameState.{ReachSameState}
 use Rattle.cdb_control.specs.Headline.{Headline}
 use Rattle.cdb_control.specs.Laws.{ForJournals}
 use Rattle.cdb_program.specs.Clocks.{ClocksFiles}
-use Rattle.cdb_program.specs.Comparing.{ComparesFiles}
-use Rattle.cdb_program.specs.Debugging.{DebugsFile, DebugsFileKept}
-use Rattle.cdb_program.specs.Framing.{FramesFiles}
+use Rattle.cdb_program.specs.Comparisons.{ComparesFiles}
+use Rattle.cdb_program.specs.DebugSessions.{DebugsFile, DebugsFileKept}
+use Rattle.cdb_program.specs.FrameFiles.{FramesFiles}
 use Rattle.cdb_program.specs.Known.{Seen}
 use Rattle.cdb_program.specs.LivePages.{DebugsFilePaged, PerformsPaged}
 use Rattle.cdb_program.specs.Outcomes.{RequestEnd}
-use Rattle.cdb_program.specs.Paging.{PagesFiles}
-use Rattle.cdb_program.specs.Playing.{PlaysInput, PlaysFiles}
+use Rattle.cdb_program.specs.PageFiles.{PagesFiles}
+use Rattle.cdb_program.specs.Plays.{PlaysInput, PlaysFiles}
 use Rattle.cdb_program.specs.Questions.{AsksFiles}
-use Rattle.cdb_program.specs.Racing.{RacesFiles}
-use Rattle.cdb_program.specs.Replaying.{ReplaysFiles}
+use Rattle.cdb_program.specs.Races.{RacesFiles}
+use Rattle.cdb_program.specs.Replays.{ReplaysFiles}
 use Rattle.cdb_program.specs.Reports.{IsReported}
-use Rattle.cdb_program.specs.Searching.{SearchesFile, ShrinksFiles}
-use Rattle.cdb_program.specs.Seating.{PerformsShared}
+use Rattle.cdb_program.specs.Searches.{SearchesFile, ShrinksFiles}
+use Rattle.cdb_program.specs.SeatStreams.{PerformsShared}
 use Rattle.cdb_program.specs.declared.fault.Fault.{Fault}
 use Rattle.cdb_program.specs.declared.fault.Fault.TheVariants as fault
 use Rattle.cdb_program.specs.declared.request.Action.{Action}
@@ -30,12 +31,12 @@ use Rattle.cdb_program.specs.declared.request.Action.TheVariants.{Perform, Print
 use Rattle.cdb_program.specs.declared.request.TheConstants.{MAX_TURNS}
 
 -- a race has turns that its threads can count
-abbrev pub HasTurns : Asked → Type 0
+abbrev pub HasTurns : RequestView → Type 0
 HasTurns (Race setup turns scripts) = turns ≤ MAX_TURNS
 HasTurns asked = Unit {0}
 
 -- what is asked for is not one of sessions
-abbrev pub IsNoSession : Asked → Type 0
+abbrev pub IsNoSession : RequestView → Type 0
 IsNoSession (Debug setup seats from journal page) = ⊥
 IsNoSession asked = Unit {0}
 
@@ -59,7 +60,7 @@ DrawsFrames setup script folder columns (Some step) old new outcome =
     RefusesWith (codes "--frames takes no P\n") old new outcome
 
 -- what is done where no session is asked for, but for what is reported of a fault
-abbrev pub Does : Asked → Seen → Seen → RequestEnd → Type 0
+abbrev pub Does : RequestView → Seen → Seen → RequestEnd → Type 0
 Does Script old new outcome = PlaysInput old new outcome
 Does (Play setup script) old new outcome = PlaysFiles setup script old new outcome
 Does (Race setup turns scripts) old new outcome = RacesFiles setup turns scripts old new outcome
@@ -87,7 +88,8 @@ PrintsText text old new outcome = ReadsNothing old new × Prints text old.output
 abbrev pub RefusesFor : Fault → Seen → Seen → RequestEnd → Type 0
 RefusesFor fault old new outcome = ReadsNothing old new × (new.output ≡ old.output) × (outcome ≡ Err fault)
 
--- a session here, with this prompt, which goes on from a journal and whose journal is kept in a file, where these are named
+-- a session here, with this prompt, which goes on from a journal and whose journal is kept in a file, where these are
+-- named
 abbrev pub DebugsAlone : Text → Option Text → Option Text → Text → Seen → Seen → RequestEnd → Type 0
 DebugsAlone setup from None prompt old new outcome = DebugsFile setup from prompt old new outcome
 DebugsAlone setup from (Some journal) prompt old new outcome = DebugsFileKept setup from journal prompt old new outcome
@@ -95,7 +97,8 @@ DebugsAlone setup from (Some journal) prompt old new outcome = DebugsFileKept se
 -- the same, with a page of its run in a file, where one is named
 abbrev pub DebugsHere : Text → Option Text → Option Text → Option Text → Text → Seen → Seen → RequestEnd → Type 0
 DebugsHere setup from journal None prompt old new outcome = DebugsAlone setup from journal prompt old new outcome
-DebugsHere setup from journal (Some page) prompt old new outcome = DebugsFilePaged setup from journal page prompt old new outcome
+DebugsHere setup from journal (Some page) prompt old new outcome =
+    DebugsFilePaged setup from journal page prompt old new outcome
 
 -- this was done, and how it ended was reported
 abbrev pub IsDone : (Seen → Seen → RequestEnd → Type 0) → Seen → Seen → ℕ → Type 0
@@ -105,17 +108,19 @@ IsDone DoesIt old new status =
 -- sessions of several seats, with a page of their run in a file, where one is named
 abbrev pub PerformsSeats : Text → List Text → Option Text → Option Text → Option Text → Seen → Seen → ℕ → Type 0
 PerformsSeats setup seats from journal None old new status = PerformsShared setup seats from journal old new status
-PerformsSeats setup seats from journal (Some page) old new status = PerformsPaged setup seats from journal page old new status
+PerformsSeats setup seats from journal (Some page) old new status =
+    PerformsPaged setup seats from journal page old new status
 
 -- sessions of these seats, or one here without seats
-abbrev pub PerformsSessions : Text → List Text → Option Text → Option Text → Option Text → Text → Seen → Seen → ℕ → Type 0
+abbrev pub PerformsSessions : Text → List Text → Option Text
+    → Option Text → Option Text → Text → Seen → Seen → ℕ → Type 0
 PerformsSessions setup [] from journal page prompt old new status =
     IsDone (DebugsHere setup from journal page prompt) old new status
 PerformsSessions setup (seat ∷ seats) from journal page prompt old new status =
     PerformsSeats setup (seat ∷ seats) from journal page old new status
 
 -- what was asked for was done, a session here with this prompt, and how it ended was reported
-abbrev pub PerformsAsked : Text → Asked → Seen → Seen → ℕ → Type 0
+abbrev pub PerformsAsked : Text → RequestView → Seen → Seen → ℕ → Type 0
 PerformsAsked prompt (Debug setup seats from journal page) old new status =
     PerformsSessions setup seats from journal page prompt old new status
 PerformsAsked prompt asked old new status = IsDone (Does asked) old new status
@@ -131,6 +136,7 @@ Performs (Perform request prompt) old new status = PerformsAsked prompt.now (ask
 Performs (Print text) old new status = IsDone (PrintsText text.now) old new status
 Performs (Refuse fault) old new status = IsDone (RefusesFor fault) old new status
 
--- the headline holds of every journal of commands of seats that there are, on each setup in range, by the rules of either algorithm
+-- the headline holds of every journal of commands of seats that there are, on each setup in range, by the rules of
+-- either algorithm
 abbrev pub HeadlineHolds : Type 0
 HeadlineHolds = ForJournals (λ setup seats journal. Headline rules ReachSameState setup seats journal)

@@ -5,7 +5,7 @@ ghost use Rattle.cdb_program.specs.Clocks.{ClocksFiles};
 
 use crate::fault::{Fault, of_play};
 use crate::files::{Files, read_two};
-use crate::outside::Outside;
+use crate::world::World;
 use cdb_any_run::AnyRun;
 use cdb_clocks::clocks as write_clocks;
 use cdb_streams::{Sink, Source};
@@ -16,17 +16,17 @@ pub fn clock_files<'a, F: Files + Drop, I: Source + Drop, O: Sink + Drop, E: Sin
     alloc: Global,
     setup: &'a str,
     script: &'a str,
-    outside: &mut Outside<F, I, O, E>,
+    world: &mut World<F, I, O, E>,
 ) -> Result<(), Fault<'a>>
-    ensures does { ClocksFiles setup.entry.now script.entry.now outside.old outside.new result }
-    ensures error { outside.new.error ≡ outside.old.error }
+    ensures does { ClocksFiles setup.entry.now script.entry.now world.old world.new result }
+    ensures error { world.new.error ≡ world.old.error }
 {
-    let (json, bytes) = read_two(alloc, &mut outside.files, setup, script)?;
+    let (json, bytes) = read_two(alloc, &mut world.files, setup, script)?;
     let written = write_clocks::<AnyRun, O>(
         alloc,
         json.as_slice(),
         bytes.as_slice(),
-        &mut outside.streams.output,
+        &mut world.streams.output,
     );
     of_play(written, script)
 }

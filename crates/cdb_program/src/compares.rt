@@ -1,11 +1,11 @@
 //! Comparisons of the runs that two scripts leave, of what is outside.
 
 ghost use Rattle.std.specs.Prelude.{◌≡◌};
-ghost use Rattle.cdb_program.specs.Comparing.{ComparesFiles};
+ghost use Rattle.cdb_program.specs.Comparisons.{ComparesFiles};
 
 use crate::fault::{Fault, of_same};
 use crate::files::{Files, read_three};
-use crate::outside::Outside;
+use crate::world::World;
 use cdb_any_run::AnyRun;
 use cdb_same::same;
 use cdb_streams::{Sink, Source};
@@ -17,19 +17,19 @@ pub fn compare_files<'a, F: Files + Drop, I: Source + Drop, O: Sink + Drop, E: S
     setup: &'a str,
     first: &'a str,
     second: &'a str,
-    outside: &mut Outside<F, I, O, E>,
+    world: &mut World<F, I, O, E>,
 ) -> Result<(), Fault<'a>>
     ensures does { ComparesFiles setup.entry.now first.entry.now second.entry.now
-        outside.old outside.new result }
-    ensures error { outside.new.error ≡ outside.old.error }
+        world.old world.new result }
+    ensures error { world.new.error ≡ world.old.error }
 {
-    let (json, one, other) = read_three(alloc, &mut outside.files, setup, first, second)?;
+    let (json, one, other) = read_three(alloc, &mut world.files, setup, first, second)?;
     let told = same::<AnyRun, O>(
         alloc,
         json.as_slice(),
         one.as_slice(),
         other.as_slice(),
-        &mut outside.streams.output,
+        &mut world.streams.output,
     );
     of_same(told)
 }

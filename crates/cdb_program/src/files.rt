@@ -2,11 +2,11 @@
 
 ghost use Rattle.std.specs.Prelude.{[], ◌∷◌};
 ghost use Rattle.cdb_base.specs.Requests.{texts};
-ghost use Rattle.cdb_program.specs.Framing.{TakesFolder, WritesWhole};
+ghost use Rattle.cdb_program.specs.FrameFiles.{TakesFolder, WritesWhole};
 ghost use Rattle.cdb_program.specs.Known.{FilesSeen};
 ghost use Rattle.cdb_program.specs.LivePages.{MakesPage};
-ghost use Rattle.cdb_program.specs.Reading.{both, many, single, three, Reads, ReadsFile};
-ghost use Rattle.cdb_program.specs.Seating.{FindsSeat, MakesFile};
+ghost use Rattle.cdb_program.specs.FilesRead.{both, many, single, three, Reads, ReadsFile};
+ghost use Rattle.cdb_program.specs.SeatStreams.{FindsSeat, MakesFile};
 
 use crate::fault::Fault;
 use cdb_base::NoMemory;
@@ -42,20 +42,20 @@ pub trait Files {
     fn read(&mut self, alloc: Global, name: &str, most: usize) -> Result<Vec<u8>, ReadFault>
         ensures { ReadsFile (seen self.old) (seen self.new) name.now most result };
 
-    /// Finds the seat of this name: a terminal device, or `IN:OUT`, a pair of files or pipes. Its streams are not opened
-    /// yet, and so it doesn't wait.
+    /// Finds the seat of this name: a terminal device, or `IN:OUT`, a pair of files or pipes. Its streams are not
+    /// opened yet, and so it doesn't wait.
     ///
     /// # Errors
-    /// `Failed` where what it would write has something in it, and `NoMemory` where an allocation fails, which counts as
-    /// if it had not been opened.
+    /// `Failed` where what it would write has something in it, and `NoMemory` where an allocation fails, which counts
+    /// as if it had not been opened.
     fn find_seat(&mut self, alloc: Global, name: &str) -> Result<Self::Seat, ReadFault>
         ensures { FindsSeat Self.Seat.opens (seen self.old) (seen self.new) name.now result };
 
     /// Makes the file of this name, or opens it where it is there and empty.
     ///
     /// # Errors
-    /// `Failed` where it has something in it or can't be opened, and `NoMemory` where an allocation fails, which counts as
-    /// if it had not been opened.
+    /// `Failed` where it has something in it or can't be opened, and `NoMemory` where an allocation fails, which counts
+    /// as if it had not been opened.
     fn make_file(&mut self, alloc: Global, name: &str) -> Result<Self::Made, ReadFault>
         ensures { MakesFile Self.Made.stream (seen self.old) (seen self.new) name.now result };
 
@@ -69,8 +69,8 @@ pub trait Files {
     /// Takes the folder of this name to write to, which is made where it is not there.
     ///
     /// # Errors
-    /// `Failed` where it has something in it or can't be made, and `NoMemory` where an allocation fails, which counts as if it
-    /// had not been opened.
+    /// `Failed` where it has something in it or can't be made, and `NoMemory` where an allocation fails, which counts
+    /// as if it had not been opened.
     fn take_folder(&mut self, alloc: Global, name: &str) -> Result<(), ReadFault>
         ensures { TakesFolder (seen self.old) (seen self.new) name.now result };
 
@@ -78,8 +78,8 @@ pub trait Files {
     fn write_whole(&mut self, alloc: Global, name: &str, bytes: &[u8]) -> Result<(), OutputFault>
         ensures { WritesWhole (seen self.old) (seen self.new) name.now bytes.now result };
 
-    /// Shows that so many of so many walks are done, in a line that is written over, where standard error is a terminal. Of that line
-    /// nothing is known, and what can't be shown is left out.
+    /// Shows that so many of so many walks are done, in a line that is written over, where standard error is a
+    /// terminal. Of that line nothing is known, and what can't be shown is left out.
     fn show_progress(&self, done: u32, all: u32);
 
     /// Clears that line.

@@ -1,12 +1,13 @@
 //! Frames of scripts of what is outside, each written to a file of its own.
 
-ghost use Rattle.std.specs.Prelude.{◌≡◌, ◌++◌, ◌∷◌, [], ◌+◌, ◌<◌, decimal, length, replicate, string_bytes, IfOk, OnOk, OnErr};
-ghost use Rattle.cdb_program.specs.Framing.{file_of, frame_name, FramesFiles, WritesFrames};
+ghost use Rattle.std.specs.Prelude.{◌≡◌, ◌++◌, ◌∷◌, [], ◌+◌, ◌<◌, decimal, length};
+ghost use Rattle.std.specs.Prelude.{replicate, string_bytes, IfOk, OnOk, OnErr};
+ghost use Rattle.cdb_program.specs.FrameFiles.{file_of, frame_name, FramesFiles, WritesFrames};
 ghost use Rattle.cdb_program.specs.Known.{after_writing};
 
 use crate::fault::{Fault, of_explain};
 use crate::files::{Files, read_two};
-use crate::outside::Outside;
+use crate::world::World;
 use cdb_draw::Frames;
 use cdb_streams::{Bytes, OutputFault, PlayFault, Sink, Source};
 use std::alloc::{AllocError, Global};
@@ -65,8 +66,8 @@ fn write_frame<F: Files>(
     files.write_whole(alloc, name.as_str(), picture.as_slice())
 }
 
-/// Writes the pictures of frames to the files of a folder, one after the other, since all of them may be more than memory holds. So
-/// after an error the first ones are there, each whole.
+/// Writes the pictures of frames to the files of a folder, one after the other, since all of them may be more than
+/// memory holds. So after an error the first ones are there, each whole.
 ///
 /// # Errors
 /// `Play(Read, folder)` where the folder is refused, `Play(Write, folder)` where a file can't be written, and
@@ -90,24 +91,24 @@ fn write_frames<'a, F: Files>(
     Ok(())
 }
 
-/// Draws the frames of a script file on a setup file, with `columns` columns to a row, into the files of a folder. The folder is taken
-/// once all commands were carried out.
+/// Draws the frames of a script file on a setup file, with `columns` columns to a row, into the files of a folder. The
+/// folder is taken once all commands were carried out.
 pub fn frame_files<'a, F: Files + Drop, I: Source + Drop, O: Sink + Drop, E: Sink + Drop>(
     alloc: Global,
     setup: &'a str,
     script: &'a str,
     folder: &'a str,
     columns: u32,
-    outside: &mut Outside<F, I, O, E>,
+    world: &mut World<F, I, O, E>,
 ) -> Result<(), Fault<'a>>
     ensures does { FramesFiles setup.entry.now script.entry.now folder.entry.now columns
-        outside.old outside.new result }
-    ensures error { outside.new.error ≡ outside.old.error }
+        world.old world.new result }
+    ensures error { world.new.error ≡ world.old.error }
 {
-    let (json, bytes) = read_two(alloc, &mut outside.files, setup, script)?;
+    let (json, bytes) = read_two(alloc, &mut world.files, setup, script)?;
     let mut commands = Bytes::new(bytes.as_slice());
     match Frames::read(alloc, json.as_slice(), &mut commands, columns) {
-        Ok(frames) => write_frames(alloc, &mut outside.files, folder, &frames),
+        Ok(frames) => write_frames(alloc, &mut world.files, folder, &frames),
         Err(fault) => of_explain(Err(fault), script),
     }
 }

@@ -4,17 +4,18 @@ ghost use Rattle.std.specs.Prelude.{◌≡◌, ◌≤◌, ◌∷◌, [], length,
 ghost use Rattle.cdb_base.specs.Requests.{any_text, texts};
 ghost use Rattle.cdb_page.specs.Live.{KeepsUp};
 ghost use Rattle.cdb_program.specs.Known.{after_opening};
-ghost use Rattle.cdb_program.specs.LivePages.{DebugsFilePaged, HasHadNone, HoldsPaged, IsNewPage, IsOfPage, IsOfPaged, PerformsPaged, files_for, first_status};
-ghost use Rattle.cdb_program.specs.Reading.{FailsToRead};
-ghost use Rattle.cdb_program.specs.Seating.{IsFaultOfSeats};
+ghost use Rattle.cdb_program.specs.LivePages.{DebugsFilePaged, HasHadNone, HoldsPaged, IsNewPage, IsOfPage};
+ghost use Rattle.cdb_program.specs.LivePages.{IsOfPaged, PerformsPaged, files_for, first_status};
+ghost use Rattle.cdb_program.specs.FilesRead.{FailsToRead};
+ghost use Rattle.cdb_program.specs.SeatStreams.{IsFaultOfSeats};
 
 use crate::answers::Printed;
 use crate::beginning::read_beginning;
 use crate::fault::{Fault, of_kept};
 use crate::files::Files;
-use crate::outside::Outside;
 use crate::reports::report;
 use crate::seats::{find_each, make_any};
+use crate::world::World;
 use cdb_any_run::AnyRun;
 use cdb_base::limits::MAX_SEATS;
 use cdb_explain::ExplainFault;
@@ -48,12 +49,12 @@ fn make_page<'a, F: Files>(
     }
 }
 
-/// A page of a run of the setup of this text, which goes on from a journal, in the file of this name; and the file of the new journal, if
-/// one is named.
+/// A page of a run of the setup of this text, which goes on from a journal, in the file of this name; and the file of
+/// the new journal, if one is named.
 ///
 /// # Errors
-/// `Play(Read, name)` with the name of the first file that is refused; the one after it is not opened. `Play(NoMemory, _)` where
-/// an allocation fails.
+/// `Play(Read, name)` with the name of the first file that is refused; the one after it is not opened. `Play(NoMemory,
+/// _)` where an allocation fails.
 fn begin_page<'a, 'b, F: Files>(
     alloc: Global,
     files: &mut F,
@@ -100,7 +101,8 @@ fn of_paged<'a>(
     }
 }
 
-/// Holds a session as `debug_file` does, keeps a page of its run in a file, and its journal in a file of its own, if one is named.
+/// Holds a session as `debug_file` does, keeps a page of its run in a file, and its journal in a file of its own, if
+/// one is named.
 pub fn debug_file_paged<'a, F: Files + Drop, I: Source + Drop, O: Sink + Drop, E: Sink + Drop>(
     alloc: Global,
     setup: &'a str,
@@ -108,21 +110,22 @@ pub fn debug_file_paged<'a, F: Files + Drop, I: Source + Drop, O: Sink + Drop, E
     journal: Option<&'a str>,
     page: &'a str,
     prompt: &str,
-    outside: &mut Outside<F, I, O, E>,
+    world: &mut World<F, I, O, E>,
 ) -> Result<(), Fault<'a>>
-    ensures does { DebugsFilePaged setup.entry.now (any_text from.entry) (any_text journal.entry) page.entry.now prompt.now
-        outside.old outside.new result }
-    ensures error { outside.new.error ≡ outside.old.error }
+    ensures does { DebugsFilePaged setup.entry.now (any_text from.entry)
+        (any_text journal.entry) page.entry.now prompt.now
+        world.old world.new result }
+    ensures error { world.new.error ≡ world.old.error }
 {
-    let (json, begun) = read_beginning(alloc, &mut outside.files, setup, from)?;
+    let (json, begun) = read_beginning(alloc, &mut world.files, setup, from)?;
     let (json, begun) = (json.as_slice(), begun.as_slice());
-    let live = begin_page(alloc, &mut outside.files, json, begun, journal, page)?;
+    let live = begin_page(alloc, &mut world.files, json, begun, journal, page)?;
     let (debugged, kept) = debug_kept::<AnyRun, Printed, _, _>(
         alloc,
         json,
         begun,
         prompt.as_bytes(),
-        &mut outside.streams,
+        &mut world.streams,
         live,
     );
     of_paged(debugged, kept.outcome, kept.file.outcome())
@@ -148,8 +151,8 @@ fn first_status(first: u8, second: u8) -> u8
     if first == 0 { second } else { first }
 }
 
-/// Holds sessions of these seats as `hold_seats` does, keeps a page of their run in a file, and their journal in a file of its own, if one
-/// is named; reports what failed of the page, behind all else, and returns the status.
+/// Holds sessions of these seats as `hold_seats` does, keeps a page of their run in a file, and their journal in a file
+/// of its own, if one is named; reports what failed of the page, behind all else, and returns the status.
 fn hold_paged<
     'a,
     R: Threads + Wait + Clock + Sync,
@@ -165,26 +168,26 @@ fn hold_paged<
     from: Option<&'a str>,
     journal: Option<&'a str>,
     page: &'a str,
-    outside: &mut Outside<F, I, O, E>,
+    world: &mut World<F, I, O, E>,
 ) -> Result<u8, Fault<'a>>
     requires { 1 ≤ length seats.now }
     ensures sessions { IfOk result
         (HoldsPaged setup.entry.now (texts seats.now) (any_text from.entry) (any_text journal.entry) page.entry.now
-        outside.old outside.new) }
+        world.old world.new) }
     ensures fault { IfErr result (IsFaultOfSeats setup.entry.now (texts seats.now) (any_text from.entry)
-        (files_for (any_text journal.entry) page.entry.now) outside.old.files outside.new.files) }
-    ensures output { IfErr result (λ _. outside.new.output ≡ outside.old.output) }
-    ensures error { IfErr result (λ _. outside.new.error ≡ outside.old.error) }
-    ensures input { outside.new.input ≡ outside.old.input }
+        (files_for (any_text journal.entry) page.entry.now) world.old.files world.new.files) }
+    ensures output { IfErr result (λ _. world.new.output ≡ world.old.output) }
+    ensures error { IfErr result (λ _. world.new.error ≡ world.old.error) }
+    ensures input { world.new.input ≡ world.old.input }
 {
     if seats.len() > usize::from(MAX_SEATS) {
         return Err(Fault::TooManySeats);
     }
-    let (json, begun) = read_beginning(alloc, &mut outside.files, setup, from)?;
-    let openers = find_each(alloc, &mut outside.files, seats)?;
+    let (json, begun) = read_beginning(alloc, &mut world.files, setup, from)?;
+    let openers = find_each(alloc, &mut world.files, seats)?;
     let (json, begun) = (json.as_slice(), begun.as_slice());
-    let live = begin_page(alloc, &mut outside.files, json, begun, journal, page)?;
-    let (output, error) = (&mut outside.streams.output, &mut outside.error);
+    let live = begin_page(alloc, &mut world.files, json, begun, journal, page)?;
+    let (output, error) = (&mut world.streams.output, &mut world.error);
     match debug_shared::<AnyRun, Printed, _, _, R, O, E>(
         threads,
         alloc,
@@ -196,7 +199,7 @@ fn hold_paged<
         error,
     ) {
         Ok((status, kept)) => {
-            let its = report(of_page(outcome_of(kept)), &mut outside.error);
+            let its = report(of_page(outcome_of(kept)), &mut world.error);
             Ok(first_status(status, its))
         }
         Err(fault) => Err(Fault::Race(fault)),
@@ -218,14 +221,14 @@ pub fn perform_paged<
     from: Option<&str>,
     journal: Option<&str>,
     page: &str,
-    outside: &mut Outside<F, I, O, E>,
+    world: &mut World<F, I, O, E>,
 ) -> u8
     requires { 1 ≤ length seats.now }
     ensures { PerformsPaged setup.now (texts seats.now) (any_text from.entry) (any_text journal.entry) page.now
-        outside.old outside.new result }
+        world.old world.new result }
 {
-    match hold_paged(threads, alloc, setup, seats, from, journal, page, outside) {
+    match hold_paged(threads, alloc, setup, seats, from, journal, page, world) {
         Ok(status) => status,
-        Err(fault) => report(Err(fault), &mut outside.error),
+        Err(fault) => report(Err(fault), &mut world.error),
     }
 }

@@ -1,11 +1,11 @@
 //! Plays of what is outside.
 
 ghost use Rattle.std.specs.Prelude.{◌≡◌};
-ghost use Rattle.cdb_program.specs.Playing.{PlaysInput, PlaysFiles};
+ghost use Rattle.cdb_program.specs.Plays.{PlaysInput, PlaysFiles};
 
 use crate::fault::{Fault, of_play};
 use crate::files::{Files, read_two};
-use crate::outside::Outside;
+use crate::world::World;
 use cdb_any_run::AnyRun;
 use cdb_play::play;
 use cdb_streams::{HeldBytes, Sink, Source};
@@ -18,12 +18,12 @@ const ONE_PROCESS: &[u8] =
 /// Plays the script on standard input.
 pub fn play_input<F: Files + Drop, I: Source + Drop, O: Sink + Drop, E: Sink + Drop>(
     alloc: Global,
-    outside: &mut Outside<F, I, O, E>,
+    world: &mut World<F, I, O, E>,
 ) -> Result<(), Fault<'static>>
-    ensures does { PlaysInput outside.old outside.new result }
-    ensures error { outside.new.error ≡ outside.old.error }
+    ensures does { PlaysInput world.old world.new result }
+    ensures error { world.new.error ≡ world.old.error }
 {
-    let streams = &mut outside.streams;
+    let streams = &mut world.streams;
     let played = play::<AnyRun, I, O>(alloc, ONE_PROCESS, &mut streams.input, &mut streams.output);
     of_play(played, "standard input")
 }
@@ -33,18 +33,18 @@ pub fn play_files<'a, F: Files + Drop, I: Source + Drop, O: Sink + Drop, E: Sink
     alloc: Global,
     setup: &'a str,
     script: &'a str,
-    outside: &mut Outside<F, I, O, E>,
+    world: &mut World<F, I, O, E>,
 ) -> Result<(), Fault<'a>>
-    ensures does { PlaysFiles setup.entry.now script.entry.now outside.old outside.new result }
-    ensures error { outside.new.error ≡ outside.old.error }
+    ensures does { PlaysFiles setup.entry.now script.entry.now world.old world.new result }
+    ensures error { world.new.error ≡ world.old.error }
 {
-    let (json, bytes) = read_two(alloc, &mut outside.files, setup, script)?;
+    let (json, bytes) = read_two(alloc, &mut world.files, setup, script)?;
     let mut commands = HeldBytes::new(alloc, bytes);
     let played = play::<AnyRun, _, O>(
         alloc,
         json.as_slice(),
         &mut commands,
-        &mut outside.streams.output,
+        &mut world.streams.output,
     );
     of_play(played, script)
 }

@@ -10,7 +10,7 @@ ghost use Rattle.cdb_streams.specs.declared.fault.PlayFault.TheVariants as play;
 
 use crate::fault::{Fault, of_explain};
 use crate::files::{Files, read_two};
-use crate::outside::Outside;
+use crate::world::World;
 use cdb_any_run::AnyRun;
 use cdb_base::Question;
 use cdb_draw::draw;
@@ -54,20 +54,20 @@ pub fn answer_files<'a, F: Files + Drop, I: Source + Drop, O: Sink + Drop, E: Si
     setup: &'a str,
     script: &'a str,
     question: Question,
-    outside: &mut Outside<F, I, O, E>,
+    world: &mut World<F, I, O, E>,
 ) -> Result<(), Fault<'a>>
     ensures does { AsksFiles setup.entry.now script.entry.now question
-        outside.old outside.new result }
-    ensures error { outside.new.error ≡ outside.old.error }
+        world.old world.new result }
+    ensures error { world.new.error ≡ world.old.error }
 {
-    let (json, bytes) = read_two(alloc, &mut outside.files, setup, script)?;
+    let (json, bytes) = read_two(alloc, &mut world.files, setup, script)?;
     let mut commands = Bytes::new(bytes.as_slice());
     let answered = answer(
         alloc,
         json.as_slice(),
         &mut commands,
         question,
-        &mut outside.streams.output,
+        &mut world.streams.output,
     );
     of_explain(answered, script)
 }

@@ -2,13 +2,13 @@
 
 ghost use Rattle.std.specs.Prelude.{◌≡◌, ◌≤◌};
 ghost use Rattle.cdb_play.specs.Races.{bytes_of};
-ghost use Rattle.cdb_program.specs.Racing.{RacesOn, RacesFiles};
+ghost use Rattle.cdb_program.specs.Races.{RacesOn, RacesFiles};
 ghost use Rattle.cdb_base.specs.Requests.{texts};
 
 use crate::fault::{Fault, of_race};
 use crate::files::{Files, read_each, read_file};
-use crate::outside::Outside;
 use crate::request::MAX_TURNS;
+use crate::world::World;
 use cdb_any_run::AnyRun;
 use cdb_play::race_on;
 use cdb_setup::Setup;
@@ -55,21 +55,21 @@ pub fn race_files<
     setup: &'a str,
     turns: u32,
     scripts: &[&'a str],
-    outside: &mut Outside<F, I, O, E>,
+    world: &mut World<F, I, O, E>,
 ) -> Result<(), Fault<'a>>
     requires { turns ≤ MAX_TURNS }
     ensures does { RacesFiles setup.entry.now turns (texts scripts.now)
-        outside.old outside.new result }
-    ensures error { outside.new.error ≡ outside.old.error }
+        world.old world.new result }
+    ensures error { world.new.error ≡ world.old.error }
 {
-    let json = read_file(alloc, &mut outside.files, setup)?;
-    let contents = read_each(alloc, &mut outside.files, scripts)?;
+    let json = read_file(alloc, &mut world.files, setup)?;
+    let contents = read_each(alloc, &mut world.files, scripts)?;
     race_bytes(
         threads,
         alloc,
         json.as_slice(),
         turns,
         contents.as_slice(),
-        &mut outside.streams.output,
+        &mut world.streams.output,
     )
 }

@@ -1,11 +1,11 @@
 //! Replays of what is outside.
 
 ghost use Rattle.std.specs.Prelude.{◌≡◌};
-ghost use Rattle.cdb_program.specs.Replaying.{ReadsBoth, ReadsJournal, ReplaysFiles};
+ghost use Rattle.cdb_program.specs.Replays.{ReadsBoth, ReadsJournal, ReplaysFiles};
 
 use crate::fault::{Fault, of_play};
 use crate::files::{Files, read_file};
-use crate::outside::Outside;
+use crate::world::World;
 use cdb_any_run::AnyRun;
 use cdb_journal::{MOST_JOURNAL, replay};
 use cdb_streams::{HeldBytes, PlayFault, Sink, Source};
@@ -54,18 +54,18 @@ pub fn replay_files<'a, F: Files + Drop, I: Source + Drop, O: Sink + Drop, E: Si
     alloc: Global,
     setup: &'a str,
     journal: &'a str,
-    outside: &mut Outside<F, I, O, E>,
+    world: &mut World<F, I, O, E>,
 ) -> Result<(), Fault<'a>>
-    ensures does { ReplaysFiles setup.entry.now journal.entry.now outside.old outside.new result }
-    ensures error { outside.new.error ≡ outside.old.error }
+    ensures does { ReplaysFiles setup.entry.now journal.entry.now world.old world.new result }
+    ensures error { world.new.error ≡ world.old.error }
 {
-    let (json, bytes) = read_both(alloc, &mut outside.files, setup, journal)?;
+    let (json, bytes) = read_both(alloc, &mut world.files, setup, journal)?;
     let mut entries = HeldBytes::new(alloc, bytes);
     let replayed = replay::<AnyRun, _, O>(
         alloc,
         json.as_slice(),
         &mut entries,
-        &mut outside.streams.output,
+        &mut world.streams.output,
     );
     of_play(replayed, journal)
 }

@@ -12,8 +12,8 @@ use cdb_streams::{
     write_race_fault,
 };
 
-/// The status after a step that doesn't stand, takes no value or has to be named, after a goal that doesn't hold, and after runs
-/// that differ.
+/// The status after a step that doesn't stand, takes no value or has to be named, after a goal that doesn't hold, and
+/// after runs that differ.
 const NO_STEP: u8 = 1;
 
 /// The status after arguments that can't be carried out.

@@ -2,7 +2,9 @@
 
 ghost use Rattle.std.specs.Prelude.{◌≡◌, ◌≤◌, length};
 ghost use Rattle.cdb_base.specs.Requests.{any_text, asked_for, texts};
-ghost use Rattle.cdb_program.specs.Requests.{DebugsAlone, DebugsHere, Does, DrawsFrames, HasTurns, IsDone, IsNoSession, HeadlineHolds, MayPerform, Performs, PerformsAsked, PerformsSeats, PerformsSessions, PrintsText};
+ghost use Rattle.cdb_program.specs.Requests.{DebugsAlone, DebugsHere, Does, DrawsFrames, HasTurns, IsDone};
+ghost use Rattle.cdb_program.specs.Requests.{IsNoSession, HeadlineHolds, MayPerform, Performs, PerformsAsked};
+ghost use Rattle.cdb_program.specs.Requests.{PerformsSeats, PerformsSessions, PrintsText};
 
 use crate::clocks::clock_files;
 use crate::compares::compare_files;
@@ -11,7 +13,6 @@ use crate::fault::Fault;
 use crate::files::Files;
 use crate::frames::frame_files;
 use crate::live_pages::{debug_file_paged, perform_paged};
-use crate::outside::Outside;
 use crate::pages::page_files;
 use crate::plays::{play_files, play_input};
 use crate::questions::answer_files;
@@ -20,6 +21,7 @@ use crate::replays::replay_files;
 use crate::reports::report;
 use crate::searches::{search_file, shrink_files};
 use crate::seats::perform_shared;
+use crate::world::World;
 use cdb_any_run::AnyRun;
 use cdb_base::{Request, StepAsked};
 use cdb_control::laws;
@@ -57,15 +59,15 @@ fn draw_frames<'a, F: Files + Drop, I: Source + Drop, O: Sink + Drop, E: Sink + 
     folder: &'a str,
     columns: u32,
     step: Option<StepAsked>,
-    outside: &mut Outside<F, I, O, E>,
+    world: &mut World<F, I, O, E>,
 ) -> Result<(), Fault<'a>>
     ensures does { DrawsFrames setup.entry.now script.entry.now folder.entry.now columns step
-        outside.old outside.new result }
-    ensures error { outside.new.error ≡ outside.old.error }
+        world.old world.new result }
+    ensures error { world.new.error ≡ world.old.error }
 {
     match step {
         Some(_) => Err(Fault::Refused(NO_STEP)),
-        None => frame_files(alloc, setup, script, folder, columns, outside),
+        None => frame_files(alloc, setup, script, folder, columns, world),
     }
 }
 
@@ -81,53 +83,53 @@ fn carry_out<
     threads: &R,
     alloc: Global,
     request: &'a Request<'a>,
-    outside: &mut Outside<F, I, O, E>,
+    world: &mut World<F, I, O, E>,
 ) -> Result<(), Fault<'a>>
     requires turns { HasTurns (asked_for request.now) }
     requires other { IsNoSession (asked_for request.now) }
-    ensures does { Does (asked_for request.entry.now) outside.old outside.new result }
-    ensures error { outside.new.error ≡ outside.old.error }
+    ensures does { Does (asked_for request.entry.now) world.old world.new result }
+    ensures error { world.new.error ≡ world.old.error }
 {
     match request {
-        Request::Script => play_input(alloc, outside),
-        Request::Play { setup, script } => play_files(alloc, setup, script, outside),
+        Request::Script => play_input(alloc, world),
+        Request::Play { setup, script } => play_files(alloc, setup, script, world),
         Request::Race {
             setup,
             turns,
             scripts,
-        } => race_files(threads, alloc, setup, *turns, scripts.as_slice(), outside),
+        } => race_files(threads, alloc, setup, *turns, scripts.as_slice(), world),
         Request::Ask {
             setup,
             script,
             question,
-        } => answer_files(alloc, setup, script, *question, outside),
+        } => answer_files(alloc, setup, script, *question, world),
         Request::Frames {
             setup,
             script,
             folder,
             columns,
             step,
-        } => draw_frames(alloc, setup, script, folder, *columns, *step, outside),
+        } => draw_frames(alloc, setup, script, folder, *columns, *step, world),
         Request::Debug { .. } => unreachable!(),
-        Request::Replay { setup, journal } => replay_files(alloc, setup, journal, outside),
+        Request::Replay { setup, journal } => replay_files(alloc, setup, journal, world),
         Request::Search {
             setup,
             goal,
             seed,
             walks,
-        } => search_file(alloc, setup, goal, *seed, *walks, outside),
+        } => search_file(alloc, setup, goal, *seed, *walks, world),
         Request::Shrink {
             setup,
             script,
             goal,
-        } => shrink_files(alloc, setup, script, goal, outside),
+        } => shrink_files(alloc, setup, script, goal, world),
         Request::Same {
             setup,
             first,
             second,
-        } => compare_files(alloc, setup, first, second, outside),
-        Request::Clocks { setup, script } => clock_files(alloc, setup, script, outside),
-        Request::Page { setup, script } => page_files(alloc, setup, script, outside),
+        } => compare_files(alloc, setup, first, second, world),
+        Request::Clocks { setup, script } => clock_files(alloc, setup, script, world),
+        Request::Page { setup, script } => page_files(alloc, setup, script, world),
     }
 }
 
@@ -138,32 +140,32 @@ fn perform_one<
     I: Source + Drop,
     O: Sink + Drop,
     E: Sink + Drop,
->(threads: &R, alloc: Global, request: &Request<'_>, outside: &mut Outside<F, I, O, E>) -> u8
+>(threads: &R, alloc: Global, request: &Request<'_>, world: &mut World<F, I, O, E>) -> u8
     requires turns { HasTurns (asked_for request.now) }
     requires other { IsNoSession (asked_for request.now) }
-    ensures { IsDone (Does (asked_for request.now)) outside.old outside.new result }
+    ensures { IsDone (Does (asked_for request.now)) world.old world.new result }
 {
-    let outcome = carry_out(threads, alloc, request, outside);
-    report(outcome, &mut outside.error)
+    let outcome = carry_out(threads, alloc, request, world);
+    report(outcome, &mut world.error)
 }
 
-/// Holds a session here, which goes on from the journal of the one name, if there is one, and keeps its journal in the file of
-/// the other name, if there is one.
+/// Holds a session here, which goes on from the journal of the one name, if there is one, and keeps its journal in the
+/// file of the other name, if there is one.
 fn debug_alone<'a, F: Files + Drop, I: Source + Drop, O: Sink + Drop, E: Sink + Drop>(
     alloc: Global,
     setup: &'a str,
     from: Option<&'a str>,
     journal: Option<&'a str>,
     prompt: &'a str,
-    outside: &mut Outside<F, I, O, E>,
+    world: &mut World<F, I, O, E>,
 ) -> Result<(), Fault<'a>>
     ensures does { DebugsAlone setup.entry.now (any_text from.entry) (any_text journal.entry) prompt.entry.now
-        outside.old outside.new result }
-    ensures error { outside.new.error ≡ outside.old.error }
+        world.old world.new result }
+    ensures error { world.new.error ≡ world.old.error }
 {
     match journal {
-        Some(file) => debug_file_kept(alloc, setup, from, file, prompt, outside),
-        None => debug_file(alloc, setup, from, prompt, outside),
+        Some(file) => debug_file_kept(alloc, setup, from, file, prompt, world),
+        None => debug_file(alloc, setup, from, prompt, world),
     }
 }
 
@@ -175,15 +177,15 @@ fn debug_here<'a, F: Files + Drop, I: Source + Drop, O: Sink + Drop, E: Sink + D
     journal: Option<&'a str>,
     page: Option<&'a str>,
     prompt: &'a str,
-    outside: &mut Outside<F, I, O, E>,
+    world: &mut World<F, I, O, E>,
 ) -> Result<(), Fault<'a>>
     ensures does { DebugsHere setup.entry.now (any_text from.entry) (any_text journal.entry) (any_text page.entry)
-        prompt.entry.now outside.old outside.new result }
-    ensures error { outside.new.error ≡ outside.old.error }
+        prompt.entry.now world.old world.new result }
+    ensures error { world.new.error ≡ world.old.error }
 {
     match page {
-        Some(page) => debug_file_paged(alloc, setup, from, journal, page, prompt, outside),
-        None => debug_alone(alloc, setup, from, journal, prompt, outside),
+        Some(page) => debug_file_paged(alloc, setup, from, journal, page, prompt, world),
+        None => debug_alone(alloc, setup, from, journal, prompt, world),
     }
 }
 
@@ -202,15 +204,16 @@ fn perform_seats<
     from: Option<&str>,
     journal: Option<&str>,
     page: Option<&str>,
-    outside: &mut Outside<F, I, O, E>,
+    world: &mut World<F, I, O, E>,
 ) -> u8
     requires { 1 ≤ length seats.now }
-    ensures { PerformsSeats setup.now (texts seats.now) (any_text from.entry) (any_text journal.entry) (any_text page.entry)
-        outside.old outside.new result }
+    ensures { PerformsSeats setup.now (texts seats.now)
+        (any_text from.entry) (any_text journal.entry) (any_text page.entry)
+        world.old world.new result }
 {
     match page {
-        Some(page) => perform_paged(threads, alloc, setup, seats, from, journal, page, outside),
-        None => perform_shared(threads, alloc, setup, seats, from, journal, outside),
+        Some(page) => perform_paged(threads, alloc, setup, seats, from, journal, page, world),
+        None => perform_shared(threads, alloc, setup, seats, from, journal, world),
     }
 }
 
@@ -230,16 +233,16 @@ fn perform_sessions<
     journal: Option<&str>,
     page: Option<&str>,
     prompt: &str,
-    outside: &mut Outside<F, I, O, E>,
+    world: &mut World<F, I, O, E>,
 ) -> u8
     ensures { PerformsSessions setup.now (texts seats.now) (any_text from.entry) (any_text journal.entry)
-        (any_text page.entry) prompt.now outside.old outside.new result }
+        (any_text page.entry) prompt.now world.old world.new result }
 {
     if !seats.is_empty() {
-        return perform_seats(threads, alloc, setup, seats, from, journal, page, outside);
+        return perform_seats(threads, alloc, setup, seats, from, journal, page, world);
     }
-    let debugged = debug_here(alloc, setup, from, journal, page, prompt, outside);
-    report(debugged, &mut outside.error)
+    let debugged = debug_here(alloc, setup, from, journal, page, prompt, world);
+    report(debugged, &mut world.error)
 }
 
 /// Performs a request, in which a session here has this prompt, and reports on standard error how it ended.
@@ -254,10 +257,10 @@ fn perform_request<
     alloc: Global,
     request: &Request<'_>,
     prompt: &str,
-    outside: &mut Outside<F, I, O, E>,
+    world: &mut World<F, I, O, E>,
 ) -> u8
     requires { HasTurns (asked_for request.now) }
-    ensures { PerformsAsked prompt.now (asked_for request.now) outside.old outside.new result }
+    ensures { PerformsAsked prompt.now (asked_for request.now) world.old world.new result }
 {
     match request {
         Request::Debug {
@@ -275,22 +278,22 @@ fn perform_request<
             *journal,
             *page,
             prompt,
-            outside,
+            world,
         ),
-        _ => perform_one(threads, alloc, request, outside),
+        _ => perform_one(threads, alloc, request, world),
     }
 }
 
 /// Writes a text to standard output, and reports on standard error whether that failed.
 fn print<F: Files + Drop, I: Source + Drop, O: Sink + Drop, E: Sink + Drop>(
     text: &str,
-    outside: &mut Outside<F, I, O, E>,
+    world: &mut World<F, I, O, E>,
 ) -> u8
-    ensures { IsDone (PrintsText text.now) outside.old outside.new result }
+    ensures { IsDone (PrintsText text.now) world.old world.new result }
 {
-    let written = write_all(&mut outside.streams.output, text.as_bytes());
+    let written = write_all(&mut world.streams.output, text.as_bytes());
     let printed = written.map_err(|_| Fault::Play(PlayFault::Write, ""));
-    report(printed, &mut outside.error)
+    report(printed, &mut world.error)
 }
 
 /// Performs an action, reports on standard error how it ended, and returns the status with which the program ends: 0
@@ -307,18 +310,18 @@ pub fn perform<
     I: Source + Drop,
     O: Sink + Drop,
     E: Sink + Drop,
->(threads: &R, alloc: Global, action: Action<'_, '_>, outside: &mut Outside<F, I, O, E>) -> u8
+>(threads: &R, alloc: Global, action: Action<'_, '_>, world: &mut World<F, I, O, E>) -> u8
     requires { MayPerform action }
-    ensures performs { Performs action.entry outside.old outside.new result }
+    ensures performs { Performs action.entry world.old world.new result }
     // Whatever was played for it, the headline holds of its journal.
     ensures headline { HeadlineHolds }
 {
     laws::headline::<AnyRun>();
     match action {
         Action::Perform { request, prompt } => {
-            perform_request(threads, alloc, request, prompt, outside)
+            perform_request(threads, alloc, request, prompt, world)
         }
-        Action::Print(text) => print(text, outside),
-        Action::Refuse(fault) => report(Err(fault), &mut outside.error),
+        Action::Print(text) => print(text, world),
+        Action::Refuse(fault) => report(Err(fault), &mut world.error),
     }
 }

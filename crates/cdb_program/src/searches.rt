@@ -1,11 +1,11 @@
 //! Searches on what is outside, and scripts made small.
 
 ghost use Rattle.std.specs.Prelude.{◌≡◌};
-ghost use Rattle.cdb_program.specs.Searching.{SearchesFile, SearchesFor, ShrinksFiles, ShrinksTo};
+ghost use Rattle.cdb_program.specs.Searches.{SearchesFile, SearchesFor, ShrinksFiles, ShrinksTo};
 
 use crate::fault::{Fault, of_search};
 use crate::files::{Files, read_file, read_two};
-use crate::outside::Outside;
+use crate::world::World;
 use cdb_any_run::AnyRun;
 use cdb_goal::Goal;
 use cdb_search::{Watch, search, shrink};
@@ -32,14 +32,14 @@ fn search_for<'a, F: Files + Drop, I: Source + Drop, O: Sink + Drop, E: Sink + D
     goal: Goal,
     seed: u32,
     walks: u32,
-    outside: &mut Outside<F, I, O, E>,
+    world: &mut World<F, I, O, E>,
 ) -> Result<(), Fault<'a>>
-    ensures does { SearchesFor setup.entry.now goal walks outside.old outside.new result }
-    ensures error { outside.new.error ≡ outside.old.error }
+    ensures does { SearchesFor setup.entry.now goal walks world.old world.new result }
+    ensures error { world.new.error ≡ world.old.error }
 {
-    let json = read_file(alloc, &mut outside.files, setup)?;
+    let json = read_file(alloc, &mut world.files, setup)?;
     let progress = Progress {
-        files: &outside.files,
+        files: &world.files,
         walks,
     };
     let searched = search::<AnyRun, _, O>(
@@ -49,27 +49,27 @@ fn search_for<'a, F: Files + Drop, I: Source + Drop, O: Sink + Drop, E: Sink + D
         seed,
         walks,
         &progress,
-        &mut outside.streams.output,
+        &mut world.streams.output,
     );
-    outside.files.clear_progress();
+    world.files.clear_progress();
     of_search(searched, setup)
 }
 
-/// Searches for a run of a setup file in which the goal of this word holds, with this seed and at most so many walks. A word that
-/// names no goal is refused before the file is opened.
+/// Searches for a run of a setup file in which the goal of this word holds, with this seed and at most so many walks. A
+/// word that names no goal is refused before the file is opened.
 pub fn search_file<'a, F: Files + Drop, I: Source + Drop, O: Sink + Drop, E: Sink + Drop>(
     alloc: Global,
     setup: &'a str,
     goal: &str,
     seed: u32,
     walks: u32,
-    outside: &mut Outside<F, I, O, E>,
+    world: &mut World<F, I, O, E>,
 ) -> Result<(), Fault<'a>>
-    ensures does { SearchesFile setup.entry.now goal.now walks outside.old outside.new result }
-    ensures error { outside.new.error ≡ outside.old.error }
+    ensures does { SearchesFile setup.entry.now goal.now walks world.old world.new result }
+    ensures error { world.new.error ≡ world.old.error }
 {
     match Goal::read(goal) {
-        Some(goal) => search_for(alloc, setup, goal, seed, walks, outside),
+        Some(goal) => search_for(alloc, setup, goal, seed, walks, world),
         None => Err(Fault::NoGoal),
     }
 }
@@ -80,39 +80,39 @@ fn shrink_to<'a, F: Files + Drop, I: Source + Drop, O: Sink + Drop, E: Sink + Dr
     setup: &'a str,
     script: &'a str,
     goal: Goal,
-    outside: &mut Outside<F, I, O, E>,
+    world: &mut World<F, I, O, E>,
 ) -> Result<(), Fault<'a>>
     ensures does { ShrinksTo setup.entry.now script.entry.now goal
-        outside.old outside.new result }
-    ensures error { outside.new.error ≡ outside.old.error }
+        world.old world.new result }
+    ensures error { world.new.error ≡ world.old.error }
 {
-    let (json, bytes) = read_two(alloc, &mut outside.files, setup, script)?;
+    let (json, bytes) = read_two(alloc, &mut world.files, setup, script)?;
     let mut commands = Bytes::new(bytes.as_slice());
     let shrunk = shrink::<AnyRun, Bytes, O>(
         alloc,
         json.as_slice(),
         &mut commands,
         goal,
-        &mut outside.streams.output,
+        &mut world.streams.output,
     );
     of_search(shrunk, script)
 }
 
-/// Makes a script file small on a run of a setup file, as long as the goal of this word holds. A word that names no goal is refused
-/// before a file is opened.
+/// Makes a script file small on a run of a setup file, as long as the goal of this word holds. A word that names no
+/// goal is refused before a file is opened.
 pub fn shrink_files<'a, F: Files + Drop, I: Source + Drop, O: Sink + Drop, E: Sink + Drop>(
     alloc: Global,
     setup: &'a str,
     script: &'a str,
     goal: &str,
-    outside: &mut Outside<F, I, O, E>,
+    world: &mut World<F, I, O, E>,
 ) -> Result<(), Fault<'a>>
     ensures does { ShrinksFiles setup.entry.now script.entry.now goal.now
-        outside.old outside.new result }
-    ensures error { outside.new.error ≡ outside.old.error }
+        world.old world.new result }
+    ensures error { world.new.error ≡ world.old.error }
 {
     match Goal::read(goal) {
-        Some(goal) => shrink_to(alloc, setup, script, goal, outside),
+        Some(goal) => shrink_to(alloc, setup, script, goal, world),
         None => Err(Fault::NoGoal),
     }
 }

@@ -2,16 +2,17 @@
 
 ghost use Rattle.std.specs.Prelude.{◌≡◌, ◌≤◌, ◌∷◌, [], length, option_map, vec_len, IfOk, IfErr};
 ghost use Rattle.cdb_program.specs.Known.{after_opening, any_name};
-ghost use Rattle.cdb_program.specs.Reading.{FailsToRead};
+ghost use Rattle.cdb_program.specs.FilesRead.{FailsToRead};
 ghost use Rattle.cdb_base.specs.Requests.{any_text, texts};
-ghost use Rattle.cdb_program.specs.Seating.{AreOpenersOf, HoldsSeats, IsEmpty, IsFaultOfSeats, IsNewFile, IsOpenerOf, PerformsShared};
+ghost use Rattle.cdb_program.specs.SeatStreams.{AreOpenersOf, HoldsSeats, IsEmpty, IsFaultOfSeats};
+ghost use Rattle.cdb_program.specs.SeatStreams.{IsNewFile, IsOpenerOf, PerformsShared};
 
 use crate::answers::Printed;
 use crate::beginning::read_beginning;
 use crate::fault::Fault;
 use crate::files::Files;
-use crate::outside::Outside;
 use crate::reports::report;
+use crate::world::World;
 use cdb_any_run::AnyRun;
 use cdb_base::NoMemory;
 use cdb_base::limits::MAX_SEATS;
@@ -116,8 +117,8 @@ pub(crate) fn make_any<'a, F: Files>(
     }
 }
 
-/// Holds sessions of these seats over one run of a setup file, which go on from a journal if one is named, and returns the
-/// status. A fault is not reported yet.
+/// Holds sessions of these seats over one run of a setup file, which go on from a journal if one is named, and returns
+/// the status. A fault is not reported yet.
 fn hold_seats<
     'a,
     R: Threads + Wait + Clock + Sync,
@@ -132,25 +133,25 @@ fn hold_seats<
     seats: &[&'a str],
     from: Option<&'a str>,
     file: Option<&'a str>,
-    outside: &mut Outside<F, I, O, E>,
+    world: &mut World<F, I, O, E>,
 ) -> Result<u8, Fault<'a>>
     requires { 1 ≤ length seats.now }
     ensures sessions { IfOk result
         (HoldsSeats setup.entry.now (texts seats.now) (any_text from.entry) (any_text file.entry)
-        outside.old outside.new) }
+        world.old world.new) }
     ensures fault { IfErr result (IsFaultOfSeats setup.entry.now (texts seats.now) (any_text from.entry)
-        (any_name (any_text file.entry)) outside.old.files outside.new.files) }
-    ensures output { IfErr result (λ _. outside.new.output ≡ outside.old.output) }
-    ensures error { IfErr result (λ _. outside.new.error ≡ outside.old.error) }
-    ensures input { outside.new.input ≡ outside.old.input }
+        (any_name (any_text file.entry)) world.old.files world.new.files) }
+    ensures output { IfErr result (λ _. world.new.output ≡ world.old.output) }
+    ensures error { IfErr result (λ _. world.new.error ≡ world.old.error) }
+    ensures input { world.new.input ≡ world.old.input }
 {
     if seats.len() > usize::from(MAX_SEATS) {
         return Err(Fault::TooManySeats);
     }
-    let (json, journal) = read_beginning(alloc, &mut outside.files, setup, from)?;
-    let openers = find_each(alloc, &mut outside.files, seats)?;
-    let file = make_any(alloc, &mut outside.files, file)?;
-    let (output, error) = (&mut outside.streams.output, &mut outside.error);
+    let (json, journal) = read_beginning(alloc, &mut world.files, setup, from)?;
+    let openers = find_each(alloc, &mut world.files, seats)?;
+    let file = make_any(alloc, &mut world.files, file)?;
+    let (output, error) = (&mut world.streams.output, &mut world.error);
     match debug_shared::<AnyRun, Printed, _, _, R, O, E>(
         threads,
         alloc,
@@ -166,8 +167,8 @@ fn hold_seats<
     }
 }
 
-/// Holds sessions of these seats, one at least, over one run of a setup file, which go on from a journal if one is named,
-/// reports on standard error what failed, and returns the status with which the program ends.
+/// Holds sessions of these seats, one at least, over one run of a setup file, which go on from a journal if one is
+/// named, reports on standard error what failed, and returns the status with which the program ends.
 pub fn perform_shared<
     R: Threads + Wait + Clock + Sync,
     F: Files + Drop,
@@ -181,14 +182,14 @@ pub fn perform_shared<
     seats: &[&str],
     from: Option<&str>,
     file: Option<&str>,
-    outside: &mut Outside<F, I, O, E>,
+    world: &mut World<F, I, O, E>,
 ) -> u8
     requires { 1 ≤ length seats.now }
     ensures { PerformsShared setup.now (texts seats.now) (any_text from.entry) (any_text file.entry)
-        outside.old outside.new result }
+        world.old world.new result }
 {
-    match hold_seats(threads, alloc, setup, seats, from, file, outside) {
+    match hold_seats(threads, alloc, setup, seats, from, file, world) {
         Ok(status) => status,
-        Err(fault) => report(Err(fault), &mut outside.error),
+        Err(fault) => report(Err(fault), &mut world.error),
     }
 }

@@ -1,7 +1,7 @@
 -- From what a thread has done to what its seat has finished.
 use Rattle.std.proofs.Common.{◌≡◌, inl, inr, ℕ, List, None, refl, length, take, ap, ◌∙◌, subst, arith}
 use Rattle.std.proofs.lemmas.List.{take_all}
-use Rattle.cdb_commands.specs.ToldReply.{ToldReply}
+use Rattle.cdb_commands.specs.ReplyView.{ReplyView}
 use Rattle.cdb_commands.specs.declared.command.Command.{Command}
 use Rattle.cdb_race.specs.Faults.{fault_at}
 use Rattle.cdb_race.specs.Plans.{script_of}
@@ -14,12 +14,17 @@ use Rattle.cdb_shared.specs.Sessions.{calls_of, replies_to, IsDriven}
 use Rattle.cdb_shared.specs.declared.session.End.{End}
 use Rattle.cdb_shared.specs.declared.session.End.TheVariants.{All, Done, Stopped, NoMemory, JournalFull}
 
-driven_out : (rules : Parts → Rules) (turns : ℕ) (seat : SeatView) (end : End) → EndsWell end → HasDriven rules turns seat end → IsDrivenOut seat.number turns (calls_of seat) (replies_to rules seat)
-driven_out rules turns seat end (inl is) h = record { count = h.count; few = h.few; calls_are = h.calls; ended = inl (subst (λ (e : End). IsDriven e h.count turns (replies_to rules seat)) is h.ended) }
-driven_out rules turns seat end (inr is) h = record { count = h.count; few = h.few; calls_are = h.calls; ended = inr (subst (λ (e : End). IsDriven e h.count turns (replies_to rules seat)) is h.ended) }
+driven_out : (rules : Parts → Rules) (turns : ℕ) (seat : SeatView) (end : End) → EndsWell end
+    → HasDriven rules turns seat end → IsDrivenOut seat.number turns (calls_of seat) (replies_to rules seat)
+driven_out rules turns seat end (inl is) h =
+    record { count = h.count; few = h.few; calls_are = h.calls; ended = inl (subst (λ (e : End). IsDriven e h.count turns (replies_to rules seat)) is h.ended) }
+driven_out rules turns seat end (inr is) h =
+    record { count = h.count; few = h.few; calls_are = h.calls; ended = inr (subst (λ (e : End). IsDriven e h.count turns (replies_to rules seat)) is h.ended) }
 
-served_out : (rules : Parts → Rules) (commands : List Command) (seat : SeatView) (replied : List ToldReply) (end : End) → EndsWell end → HasServed rules commands seat replied end → (calls_of seat ≡ commands) × (replies_to rules seat ≡ replied)
-served_out rules commands seat replied end (inl is) h = (h.calls ∙ ap (λ n. take n commands) (h.whole is) ∙ take_all (length commands) commands (omega arith), h.replies)
+served_out : (rules : Parts → Rules) (commands : List Command) (seat : SeatView) (replied : List ReplyView) (end : End)
+    → EndsWell end → HasServed rules commands seat replied end → (calls_of seat ≡ commands) × (replies_to rules seat ≡ replied)
+served_out rules commands seat replied end (inl is) h =
+    (h.calls ∙ ap (λ n. take n commands) (h.whole is) ∙ take_all (length commands) commands (omega arith), h.replies)
 served_out rules commands seat replied end (inr is) h = absurd (h.done is)
 
 -- a seat without a fault
@@ -31,7 +36,8 @@ ends_well seat (NoMemory refused) none = absurd (cc)
 ends_well seat JournalFull none = absurd (cc)
 
 -- a session that ended well
-pub finished : (rules : Parts → Rules) (plan : Plan) (before seat : SeatView) (replied : List ToldReply) (end : End) → EndsWell end → HasRun rules plan before seat replied end → HasFinished rules plan before seat replied
+pub finished : (rules : Parts → Rules) (plan : Plan) (before seat : SeatView) (replied : List ReplyView) (end : End)
+    → EndsWell end → HasRun rules plan before seat replied end → HasFinished rules plan before seat replied
 finished rules plan before seat replied end well h = record {
   later = h.later;
   driven = λ low. let driven = h.driven low in (driven_out rules plan.turns seat end well driven.0, driven.1);

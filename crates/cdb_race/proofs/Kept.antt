@@ -11,7 +11,8 @@ use Rattle.cdb_shared.specs.Gates.{Heard}
 use Rattle.cdb_shared.specs.Seats.{SeatView}
 use Rattle.cdb_shared.specs.declared.session.End.{End}
 
-module _ {T G : Type 0} (rules : Parts → Rules) (plan : Plan) (seat : SeatView) (gate : G) (handle its : PromisedHandle (Ran T) (SeatPromise T G)) (is : handle ≡ its) (promise : IsPromise plan seat gate its.promise) where
+module _ {T G : Type 0} (rules : Parts → Rules) (plan : Plan) (seat : SeatView) (gate : G)
+    (handle its : PromisedHandle (Ran T) (SeatPromise T G)) (is : handle ≡ its) (promise : IsPromise plan seat gate its.promise) where
   plan_is : handle.promise.plan ≡ plan
   plan_is = ap (λ (h : PromisedHandle (Ran T) (SeatPromise T G)). h.promise.plan) is ∙ promise.plan_is
 
@@ -24,5 +25,6 @@ module _ {T G : Type 0} (rules : Parts → Rules) (plan : Plan) (seat : SeatView
   pub kept_ran : (ran : Ran T) → HasRan rules handle.promise.plan handle.promise.seat.value ran → HasRan rules plan seat ran
   kept_ran ran kept = subst (λ (x : Plan × SeatView). HasRan rules x.0 x.1 ran) (λ i. (plan_is i, seat_is i)) kept
 
-  pub kept_ended : (heard : G → Option (List Heard)) (passes : G → Bool) (after : SeatView) (end : End) → HasEndedAtGate heard passes handle.promise.gate.value handle.promise.seat.value after end → HasEndedAtGate heard passes gate seat after end
+  pub kept_ended : (heard : G → Option (List Heard)) (passes : G → Bool) (after : SeatView) (end : End)
+      → HasEndedAtGate heard passes handle.promise.gate.value handle.promise.seat.value after end → HasEndedAtGate heard passes gate seat after end
   kept_ended heard passes after end kept = subst (λ (x : G × SeatView). HasEndedAtGate heard passes x.0 x.1 after end) (λ i. (gate_is i, seat_is i)) kept

@@ -1,5 +1,6 @@
 -- A journal of a race under way is no longer than the seats make calls.
-use Rattle.std.proofs.Common.{◌≡◌, ◌≢◌, ℕ, zero, suc, ◌+◌, ◌*◌, ◌<◌, ◌≤◌, ◌==◌, Bool, true, false, cond, List, [], ◌∷◌, length, map, sum, get_or, refl, ap, ◌∙◌, arith, length-take}
+use Rattle.std.proofs.Common.{◌≡◌, ◌≢◌, ℕ, zero, suc, ◌+◌, ◌*◌, ◌<◌, ◌≤◌, ◌==◌, Bool, true, false, cond, List}
+use Rattle.std.proofs.Common.{[], ◌∷◌, length, map, sum, get_or, refl, ap, ◌∙◌, arith, length-take}
 use Rattle.std.proofs.lemmas.Bool.Decides.{nat_tests}
 use Rattle.std.proofs.lemmas.List.{length-replicate}
 use Rattle.std.proofs.lemmas.List.Sums.{sum_by-cons}
@@ -60,7 +61,8 @@ of_processes (suc n) turns es each =
     let last = each (suc n) (omega arith) (omega arith) in
     omega (arith, rest, last)
 
-of_scripts : (from : ℕ) (scripts : List (List Command)) (es : List Entry) → ((k : ℕ) → k < length scripts → length (own (from + k + 1) es) ≤ length (get_or scripts k []))
+of_scripts : (from : ℕ) (scripts : List (List Command)) (es : List Entry)
+    → ((k : ℕ) → k < length scripts → length (own (from + k + 1) es) ≤ length (get_or scripts k []))
     → of_first (from + length scripts) es ≤ of_first from es + sum (map length scripts)
 of_scripts from [] es each = let same : from + 0 ≡ from = omega arith in let first = ap (λ n. of_first n es) same in omega (arith, first)
 of_scripts from (script ∷ scripts) es each =
@@ -70,23 +72,30 @@ of_scripts from (script ∷ scripts) es each =
     let here = each 0 (omega arith) in
     let mine = ap (λ n. length (own n es)) at in
     let whole = ap (λ n. of_first n es) position in
-    let total : sum (map length (script ∷ scripts)) ≡ length script + sum (map length scripts) = sum_by-cons (λ (n : ℕ). n) (length script) (map length scripts) in
+    let total : sum (map length (script ∷ scripts)) ≡ length script + sum (map length scripts) =
+    sum_by-cons (λ (n : ℕ). n) (length script) (map length scripts) in
     let first : length (get_or (script ∷ scripts) 0 []) ≡ length script = refl in
     let next : of_first (suc from) es ≡ of_first from es + length (own (suc from) es) = refl in
     omega (arith, rest, here, mine, whole, total, first, next)
   where
-    subst_position : (k : ℕ) → length (own (from + suc k + 1) es) ≤ length (get_or scripts k []) → length (own (suc from + k + 1) es) ≤ length (get_or scripts k [])
+    subst_position : (k : ℕ) → length (own (from + suc k + 1) es) ≤ length (get_or scripts k [])
+        → length (own (suc from + k + 1) es) ≤ length (get_or scripts k [])
     subst_position k low =
         let same : suc from + k + 1 ≡ from + suc k + 1 = omega arith in
         let mine = ap (λ n. length (own n es)) same in
         omega (arith, low, mine)
 
 -- so the journal of a race has no more entries than that
-pub few_calls : (setup : Parts) (turns : ℕ) (scripts : List (List Command)) (c : Journaled) → IsUnderWay setup turns scripts c → length c.journal ≤ most_calls setup turns scripts
+pub few_calls : (setup : Parts) (turns : ℕ) (scripts : List (List Command)) (c : Journaled)
+    → IsUnderWay setup turns scripts c → length c.journal ≤ most_calls setup turns scripts
 few_calls setup turns scripts c way =
     let es = c.journal in
-    let processes = of_processes setup.processes turns es (λ p from to. let d = way.driven p from to in let many = ap length d.2 ∙ length-replicate d.0 (Auto p) in let few = d.1 in omega (arith, many, few)) in
-    let served = of_scripts setup.processes scripts es (λ k low. let s = way.served k low in let many = ap length s.1 in omega (arith, many, length-take s.0 (get_or scripts k []))) in
+    let processes =
+    of_processes setup.processes turns es
+    (λ p from to. let d = way.driven p from to in let many = ap length d.2 ∙ length-replicate d.0 (Auto p) in let few = d.1 in omega (arith, many, few)) in
+    let served =
+    of_scripts setup.processes scripts es
+    (λ k low. let s = way.served k low in let many = ap length s.1 in omega (arith, many, length-take s.0 (get_or scripts k []))) in
     let all = all_counted c.seats es way.entries in
     let seats = ap (λ n. of_first n es) way.seats_are in
     omega (arith, processes, served, all, seats)

@@ -31,7 +31,8 @@ of_end n seat (NoMemory refused) why has within = let same : fault.NoMemory refu
 of_end n seat JournalFull why has within = let same : fault.JournalFull ≡ why = cc in subst (IsAmongSeats n) same tt
 
 -- what each outcome says of its seat: the last seat's comes first
-number_at : {T : Type 0} (rules : Parts → Rules) (shared : TableId) (plan : Plan) (setup : Parts) (before : List SeatView) (rans : List (Ran T)) → AreFresh shared setup (seats_of plan) before → length rans ≡ seats_of plan
+number_at : {T : Type 0} (rules : Parts → Rules) (shared : TableId) (plan : Plan) (setup : Parts) (before : List SeatView) (rans : List (Ran T))
+    → AreFresh shared setup (seats_of plan) before → length rans ≡ seats_of plan
     → AllRan rules plan before rans → (k : ℕ) (its : Ran T) → k < length rans → get_or rans k its ≡ its → its.seat.number ≡ 1 + (length before - 1 - k)
 number_at {T} rules shared plan setup before rans new many all k its within at =
     let nobody = fresh_seat shared (opened setup 0) 0 in
@@ -41,18 +42,22 @@ number_at {T} rules shared plan setup before rans new many all k its within at =
     ap (λ (r : Ran T). r.seat.number) (sym at) ∙ later ∙ first
 
 -- and so does that of the least seat
-pub of_last : {T : Type 0} (rules : Parts → Rules) (shared : TableId) (plan : Plan) (setup : Parts) (before : List SeatView) (rans : List (Ran T)) (why : RaceFault) → AreFresh shared setup (seats_of plan) before → length rans ≡ seats_of plan
+pub of_last : {T : Type 0} (rules : Parts → Rules) (shared : TableId) (plan : Plan) (setup : Parts) (before : List SeatView)
+    (rans : List (Ran T)) (why : RaceFault) → AreFresh shared setup (seats_of plan) before → length rans ≡ seats_of plan
     → AllRan rules plan before rans → IsLastFault why rans → IsAmongSeats (seats_of plan) why
 of_last {T} rules shared plan setup before rans why new many all last =
     let its = last.its in
     let number = number_at rules shared plan setup before rans new many all last.position its last.within last.at in
-    of_end (seats_of plan) its.seat.number its.end why last.has (omega (arith, number, last.within, new.many, many), omega (arith, number, new.many, many, last.within))
+    of_end (seats_of plan) its.seat.number its.end why last.has
+    (omega (arith, number, last.within, new.many, many), omega (arith, number, new.many, many, last.within))
 
 -- the last outcome with a fault is that of the least seat which has one
-pub least_seat : {T : Type 0} (rules : Parts → Rules) (shared : TableId) (plan : Plan) (setup : Parts) (before : List SeatView) (rans : List (Ran T)) (why : RaceFault) → AreFresh shared setup (seats_of plan) before → length rans ≡ seats_of plan
+pub least_seat : {T : Type 0} (rules : Parts → Rules) (shared : TableId) (plan : Plan) (setup : Parts) (before : List SeatView)
+    (rans : List (Ran T)) (why : RaceFault) → AreFresh shared setup (seats_of plan) before → length rans ≡ seats_of plan
     → AllRan rules plan before rans → IsLastFault why rans → IsOfLeastSeat why rans
 least_seat {T} rules shared plan setup before rans why new many all last =
-    let number : (k : ℕ) (its : Ran T) → k < length rans → get_or rans k its ≡ its → its.seat.number ≡ 1 + (length before - 1 - k) = number_at rules shared plan setup before rans new many all in
+    let number : (k : ℕ) (its : Ran T) → k < length rans → get_or rans k its ≡ its → its.seat.number ≡ 1 + (length before - 1 - k) =
+    number_at rules shared plan setup before rans new many all in
     record {
       its = last.its;
       ran = (last.position, last.within, last.at);
@@ -78,7 +83,8 @@ some_gate [] low = absurd (omega arith)
 some_gate (gate ∷ gates) low = gate
 
 -- where all gates let every call go on no seat stopped
-never_stopped : {G : Type 0} (T : Type 0) (rules : Parts → Rules) (heard : G → Option (List Heard)) (passes : G → Bool) (gates : List G) (setup : Parts) (turns : ℕ) (scripts : List (List Command)) (why : RaceFault) → length gates ≡ setup.processes + length scripts
+never_stopped : {G : Type 0} (T : Type 0) (rules : Parts → Rules) (heard : G → Option (List Heard)) (passes : G → Bool) (gates : List G)
+    (setup : Parts) (turns : ℕ) (scripts : List (List Command)) (why : RaceFault) → length gates ≡ setup.processes + length scripts
     → IsFaultBehind T rules heard passes gates setup turns scripts why → AllPass passes gates → (seat : ℕ) → why ≡ fault.Stopped seat → ⊥
 never_stopped T rules heard passes gates setup turns scripts why many it all seat is =
     let least = it.least in
@@ -86,7 +92,8 @@ never_stopped T rules heard passes gates setup turns scripts why many it all sea
     let nobody = fresh_seat it.shared (opened setup 0) 0 in
     let first = some_gate gates (omega (arith, many, it.many, least.ran.1, it.processes_are, ap length it.scripts_are)) in
     let ended = it.ended least.ran.0 its first least.ran.1 nobody in
-    let end : (get_or it.rans least.ran.0 its).end ≡ Stopped = ap (λ (r : Ran T). r.end) least.ran.2 ∙ stopped its.seat.number seat its.end (least.has ∙ ap (λ (f : RaceFault). Some f) is) in
+    let end : (get_or it.rans least.ran.0 its).end ≡ Stopped =
+    ap (λ (r : Ran T). r.end) least.ran.2 ∙ stopped its.seat.number seat its.end (least.has ∙ ap (λ (f : RaceFault). Some f) is) in
     ended.passed (all (length gates - 1 - least.ran.0) first (omega (arith, many, it.many, least.ran.1, it.processes_are, ap length it.scripts_are))) end
 
 -- so it is told of none
@@ -102,7 +109,9 @@ not_of_threads (fault.NoMemory refused) it = tt
 not_of_threads fault.JournalFull it = tt
 not_of_threads (fault.Spawn refused) it = tt
 
-pub told_passes : {G : Type 0} (T : Type 0) (rules : Parts → Rules) (heard : G → Option (List Heard)) (passes : G → Bool) (gates : List G) (setup : Parts) (turns : ℕ) (scripts : List (List Command)) (why : RaceFault) → length gates ≡ setup.processes + length scripts
+pub told_passes : {G : Type 0} (T : Type 0) (rules : Parts → Rules) (heard : G → Option (List Heard)) (passes : G → Bool) (gates : List G)
+    (setup : Parts) (turns : ℕ) (scripts : List (List Command)) (why : RaceFault) → length gates ≡ setup.processes + length scripts
     → IsTold T rules heard passes gates setup turns scripts why → AllPass passes gates → IsNotStopped why
 told_passes T rules heard passes gates setup turns scripts why many (inl threads) all = not_of_threads why threads
-told_passes T rules heard passes gates setup turns scripts why many (inr it) all = not_stopped why (never_stopped T rules heard passes gates setup turns scripts why many it all)
+told_passes T rules heard passes gates setup turns scripts why many (inr it) all =
+    not_stopped why (never_stopped T rules heard passes gates setup turns scripts why many it all)

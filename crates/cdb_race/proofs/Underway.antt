@@ -1,8 +1,9 @@
 -- What the final journal has of the seats of a race that a fault ended.
-use Rattle.std.proofs.Common.{◌≡◌, ℕ, ◌+◌, ◌-◌, ◌<◌, ◌≤◌, List, [], All, Some, Result, Err, length, map, replicate, take, get_or, sym, ap, ◌∙◌, subst, arith, length-append}
+use Rattle.std.proofs.Common.{◌≡◌, ℕ, ◌+◌, ◌-◌, ◌<◌, ◌≤◌, List, [], All, Some, Result, Err, length, map}
+use Rattle.std.proofs.Common.{replicate, take, get_or, sym, ap, ◌∙◌, subst, arith, length-append}
 use Rattle.atomic_table.specs.Seated.{TableId}
 use Rattle.cdb_base.specs.Limits.{MAX_ENTRIES}
-use Rattle.cdb_commands.specs.ToldReply.{told}
+use Rattle.cdb_commands.specs.ReplyView.{reply_view}
 use Rattle.cdb_control.specs.Journal.{Journaled, opened, own, AreOfSeats}
 use Rattle.cdb_commands.specs.declared.command.Command.TheVariants.{Auto}
 use Rattle.cdb_race.specs.Faults.{fault_at}
@@ -32,9 +33,11 @@ met_full seat Stopped has = absurd cc
 met_full seat (NoMemory refused) has = absurd cc
 met_full seat JournalFull has = cc
 
-module _ {T : Type 0} (rules : Parts → Rules) (shared : TableId) (plan : Plan) (setup : Parts) (c : Journaled) (before : List SeatView) (rans : List (Ran T)) (nobody : Ran T)
+module _ {T : Type 0} (rules : Parts → Rules) (shared : TableId) (plan : Plan) (setup : Parts)
+    (c : Journaled) (before : List SeatView) (rans : List (Ran T)) (nobody : Ran T)
     (same : plan.processes ≡ setup.processes) (new : AreFresh shared setup (seats_of plan) before) (many : length rans ≡ seats_of plan)
-    (all : AllRan rules plan before rans) (seats : List SeatView) (long : length seats ≡ length rans) (gathered : AreSeatsOf seats rans) (known : All (λ seat. IsKnownBy c seat) seats) where
+    (all : AllRan rules plan before rans) (seats : List SeatView) (long : length seats ≡ length rans)
+    (gathered : AreSeatsOf seats rans) (known : All (λ seat. IsKnownBy c seat) seats) where
   -- the outcome of the seat at this position
   abbrev ran_at : ℕ → Ran T
   ran_at k = get_or rans (seats_of plan - 1 - k) nobody
@@ -43,13 +46,15 @@ module _ {T : Type 0} (rules : Parts → Rules) (shared : TableId) (plan : Plan)
   knows k low =
       let position = length rans - 1 - k in
       let back : length rans - 1 - position ≡ k = omega (arith, low) in
-      subst (IsKnownBy c) (gathered position nobody.seat nobody (omega (arith, low)) ∙ ap (λ i. (get_or rans i nobody).seat) back) (known position nobody.seat (omega (arith, long, low)))
+      subst (IsKnownBy c) (gathered position nobody.seat nobody (omega (arith, low)) ∙ ap (λ i. (get_or rans i nobody).seat) back)
+      (known position nobody.seat (omega (arith, long, low)))
 
   has_ran : (k : ℕ) → k < seats_of plan → HasRan rules plan (fresh_seat shared (opened setup (seats_of plan)) (1 + k)) (ran_at k)
   has_ran k low =
       let none = fresh_seat shared (opened setup 0) 0 in
       let position : length before - 1 - (seats_of plan - 1 - k) ≡ k = omega (arith, new.many) in
-      subst (λ (b : SeatView). HasRan rules plan b (ran_at k)) (ap (λ i. get_or before i none) position ∙ new.each k none low) (all (seats_of plan - 1 - k) nobody (omega (arith, many)) none)
+      subst (λ (b : SeatView). HasRan rules plan b (ran_at k)) (ap (λ i. get_or before i none) position ∙ new.each k none low)
+      (all (seats_of plan - 1 - k) nobody (omega (arith, many)) none)
 
   driven_at : (p : ℕ) → 1 ≤ p → p ≤ plan.processes → (count : ℕ) × (count ≤ plan.turns) × (own p c.journal ≡ replicate count (Auto p))
   driven_at p from to =
@@ -58,8 +63,12 @@ module _ {T : Type 0} (rules : Parts → Rules) (shared : TableId) (plan : Plan)
       let h = has_ran k low in
       let seat = (ran_at k).seat in
       let is : seat.number ≡ p = h.later.number ∙ omega arith in
-      let driven = (h.driven (omega arith)).0 in
-      (driven.count, driven.few, own_known c seat p is (knows (seats_of plan - 1 - k) (omega (arith, many))) ∙ driven.calls ∙ ap (λ n. replicate driven.count (Auto n)) is)
+      let driven = (h.driven (omega arith)).0 in (
+        driven.count,
+        driven.few,
+        own_known c seat p is (knows (seats_of plan - 1 - k) (omega (arith, many)))
+            ∙ driven.calls ∙ ap (λ n. replicate driven.count (Auto n)) is,
+      )
 
   served_at : (k : ℕ) → k < length plan.scripts.now → (count : ℕ) × (own (plan.processes + k + 1) c.journal ≡ take count (get_or plan.scripts.now k []))
   served_at k below =
@@ -70,8 +79,11 @@ module _ {T : Type 0} (rules : Parts → Rules) (shared : TableId) (plan : Plan)
       let is : seat.number ≡ position + 1 = h.later.number ∙ omega arith in
       let its : 1 + position - plan.processes - 1 ≡ k = omega arith in
       let served = h.served (omega arith) in
-      let count = length (map told (ran_at position).replies.items) in
-      (count, own_known c seat (position + 1) is (knows (seats_of plan - 1 - position) (omega (arith, many))) ∙ served.calls ∙ ap (λ n. take count (get_or plan.scripts.now n [])) its)
+      let count = length (map reply_view (ran_at position).replies.items) in (
+        count,
+        own_known c seat (position + 1) is (knows (seats_of plan - 1 - position) (omega (arith, many)))
+            ∙ served.calls ∙ ap (λ n. take count (get_or plan.scripts.now n [])) its,
+      )
 
   pub under_way : 1 ≤ setup.processes → AreOfSeats c.seats c.journal → IsUnderWay setup plan.turns plan.scripts.now c
   under_way some entries =
@@ -87,7 +99,8 @@ module _ {T : Type 0} (rules : Parts → Rules) (shared : TableId) (plan : Plan)
       }
 
   -- the journal that a seat saw is no longer than the final one
-  pub full_at : (position : ℕ) → position < length rans → (get_or rans position nobody).end ≡ JournalFull → length c.journal ≤ MAX_ENTRIES → length c.journal ≡ MAX_ENTRIES
+  pub full_at : (position : ℕ) → position < length rans → (get_or rans position nobody).end ≡ JournalFull
+      → length c.journal ≤ MAX_ENTRIES → length c.journal ≡ MAX_ENTRIES
   full_at position low is few =
       let seat = (get_or rans position nobody).seat in
       let seen = (all position nobody low (fresh_seat shared (opened setup 0) 0)).full is in

@@ -1,5 +1,6 @@
 -- Which fault a race returns.
-use Rattle.std.specs.Prelude.{◌≡◌, ◌≢◌, ◌⊎◌, ℕ, ◌≤◌, Bool, List, All, Contains, length, Option, Some, None, Vec, vec_len, vec_capacity}
+use Rattle.std.specs.Prelude.{◌≡◌, ◌≢◌, ◌⊎◌, ℕ, ◌≤◌, Bool, List, All, Contains, length}
+use Rattle.std.specs.Prelude.{Option, Some, None, Vec, vec_len, vec_capacity}
 use Rattle.std.specs.Global.{Global}
 use Rattle.atomic_table.specs.Seated.{TableId}
 use Rattle.cdb_commands.specs.declared.command.Command.{Command}
@@ -34,9 +35,11 @@ abbrev pub AreWell : {T : Type 0} → List (Ran T) → Type 0
 AreWell rans = All (λ ran. fault_in ran ≡ None) rans
 
 -- where none has, these are the seats and the replies of a race whose seats have finished
-abbrev pub HaveFinished : {T : Type 0} → (Parts → Rules) → Vec (Ran T) Global → Vec SeatView Global → Vec (Vec Reply Global) Global → Type 0
+abbrev pub HaveFinished : {T : Type 0} → (Parts → Rules) → Vec (Ran T) Global
+    → Vec SeatView Global → Vec (Vec Reply Global) Global → Type 0
 HaveFinished rules rans seats replies =
-    (plan : Plan) (before : List SeatView) → length before ≡ vec_len rans → AllRan rules plan before rans.items → AreWell rans.items
+    (plan : Plan) (before : List SeatView) → length before ≡ vec_len rans
+    → AllRan rules plan before rans.items → AreWell rans.items
     → AllFinished rules plan before seats.items (all_told replies.items)
 
 -- there is room for so many seats and their replies
@@ -67,9 +70,11 @@ IsFaultOfThreads (fault.NoMemory refused) = Unit {0}
 IsFaultOfThreads (fault.Spawn refused) = Unit {0}
 IsFaultOfThreads other = ⊥
 
--- Behind these gates: each seat has run, its session ended by its gate, and of the seats whose session a fault ended the least
--- has this one.
-pub record IsFaultBehind {G : Type 0} (T : Type 0) (rules : Parts → Rules) (heard : G → Option (List Heard)) (passes : G → Bool) (gates : List G) (setup : Parts) (turns : ℕ) (scripts : List (List Command)) (fault : RaceFault) : Type 0 where
+-- Behind these gates: each seat has run, its session ended by its gate, and of the seats whose session a fault ended
+-- the least has this one.
+pub record IsFaultBehind {G : Type 0} (T : Type 0) (rules : Parts → Rules)
+    (heard : G → Option (List Heard)) (passes : G → Bool) (gates : List G) (setup : Parts)
+    (turns : ℕ) (scripts : List (List Command)) (fault : RaceFault) : Type 0 where
   pub plan : Plan
   pub processes_are : plan.processes ≡ setup.processes
   pub turns_are : plan.turns ≡ turns

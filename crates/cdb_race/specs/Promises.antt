@@ -1,8 +1,9 @@
 -- What a started thread promises, and what it hands back.
-use Rattle.std.specs.Prelude.{◌≡◌, ◌≢◌, ℕ, ◌-◌, ◌<◌, Bool, true, List, Option, map, slice_index_or, Vec, vec_len, ◌≤◌, []}
+use Rattle.std.specs.Prelude.{◌≡◌, ◌≢◌, ℕ, ◌-◌, ◌<◌, Bool, true, List, Option}
+use Rattle.std.specs.Prelude.{map, slice_index_or, Vec, vec_len, ◌≤◌, []}
 use Rattle.std.specs.Global.{Global}
 use Rattle.std.specs.declared.thread.PromisedHandle.{PromisedHandle}
-use Rattle.cdb_commands.specs.ToldReply.{told}
+use Rattle.cdb_commands.specs.ReplyView.{reply_view}
 use Rattle.cdb_race.specs.Runs.{HasRun}
 use Rattle.cdb_race.specs.declared.plan.Plan.{Plan}
 use Rattle.cdb_race.specs.declared.worker.Ran.{Ran}
@@ -17,7 +18,8 @@ use Rattle.atomic_table.specs.Seated.{TableId}
 use Rattle.cdb_race.specs.Plans.{seats_of}
 
 -- a promise of this seat, with this gate, by this plan
-pub record IsPromise {T G : Type 0} (plan : Plan) (seat : SeatView) (gate : G) (promise : SeatPromise T G) : Type 0 where
+pub record IsPromise {T G : Type 0} (plan : Plan) (seat : SeatView)
+    (gate : G) (promise : SeatPromise T G) : Type 0 where
   pub plan_is : promise.plan ≡ plan
   pub seat_is : promise.seat.value ≡ seat
   pub gate_is : promise.gate.value ≡ gate
@@ -32,10 +34,11 @@ ArePromises {T} {G} plan seats gates handles =
 
 -- what the seat's thread hands back says what the seat has done
 abbrev pub HasRan : {T : Type 0} → (Parts → Rules) → Plan → SeatView → Ran T → Type 0
-HasRan rules plan before ran = HasRun rules plan before ran.seat (map told ran.replies.items) ran.end
+HasRan rules plan before ran = HasRun rules plan before ran.seat (map reply_view ran.replies.items) ran.end
 
 -- how a session ended, by its gate: the gate has heard of it, and one that lets all calls go on has stopped none
-pub record HasEndedAtGate {G : Type 0} (heard : G → Option (List Heard)) (passes : G → Bool) (gate : G) (before after : SeatView) (end : End) : Type 0 where
+pub record HasEndedAtGate {G : Type 0} (heard : G → Option (List Heard))
+    (passes : G → Bool) (gate : G) (before after : SeatView) (end : End) : Type 0 where
   pub last : G
   pub hears : Hears (heard gate) (heard last) before after end
   pub passed : passes gate ≡ true → end ≢ Stopped

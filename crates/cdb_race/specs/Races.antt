@@ -1,8 +1,9 @@
 -- What a race has done.
-use Rattle.std.specs.Prelude.{◌≡◌, ℕ, ◌+◌, ◌-◌, ◌*◌, ◌<◌, ◌≤◌, Bool, true, List, [], Option, All, length, map, replicate, sum, take, slice_index_or, Vec}
+use Rattle.std.specs.Prelude.{◌≡◌, ℕ, ◌+◌, ◌-◌, ◌*◌, ◌<◌, ◌≤◌, Bool, true, List, [], Option}
+use Rattle.std.specs.Prelude.{All, length, map, replicate, sum, take, slice_index_or, Vec}
 use Rattle.std.specs.Global.{Global}
 use Rattle.cdb_base.specs.Limits.{MAX_ENTRIES}
-use Rattle.cdb_commands.specs.ToldReply.{ToldReply, told}
+use Rattle.cdb_commands.specs.ReplyView.{ReplyView, reply_view}
 use Rattle.cdb_control.specs.Journal.{Journaled, own, AreOfSeats}
 pub use Rattle.cdb_control.specs.Journal.{replies_in}
 use Rattle.cdb_commands.specs.declared.command.Command.{Command}
@@ -19,8 +20,8 @@ use Rattle.cdb_shared.specs.Gates.{Heard}
 use Rattle.cdb_shared.specs.Seats.{SeatView}
 
 -- what lists of replies hold
-abbrev pub all_told : List (Vec Reply Global) → List (List ToldReply)
-all_told replies = map (λ list. map told list.items) replies
+abbrev pub all_told : List (Vec Reply Global) → List (List ReplyView)
+all_told replies = map (λ list. map reply_view list.items) replies
 
 -- the outcomes of the threads of these seats, the last seat's first
 abbrev pub AllRan : {T : Type 0} → (Parts → Rules) → Plan → List SeatView → List (Ran T) → Type 0
@@ -29,11 +30,13 @@ AllRan {T} rules plan seats rans =
     → HasRan rules plan (slice_index_or seats (length seats - 1 - k) before) (slice_index_or rans k ran)
 
 -- how the sessions of these outcomes ended, by their gates; the last gate's and seat's first
-abbrev pub AllEnded : {T G : Type 0} → (G → Option (List Heard)) → (G → Bool) → List G → List SeatView → List (Ran T) → Type 0
+abbrev pub AllEnded : {T G : Type 0} → (G → Option (List Heard))
+    → (G → Bool) → List G → List SeatView → List (Ran T) → Type 0
 AllEnded {T} {G} heard passes gates seats rans =
     (k : ℕ) (ran : Ran T) (gate : G) → k < length rans → (before : SeatView)
     → let of_k = slice_index_or rans k ran in
-    HasEndedAtGate heard passes (slice_index_or gates (length gates - 1 - k) gate) (slice_index_or seats (length seats - 1 - k) before) of_k.seat of_k.end
+    HasEndedAtGate heard passes (slice_index_or gates (length gates - 1 - k) gate)
+    (slice_index_or seats (length seats - 1 - k) before) of_k.seat of_k.end
 
 -- each of these gates lets every call go on
 abbrev pub AllPass : {G : Type 0} → (G → Bool) → List G → Type 0
@@ -46,14 +49,16 @@ AreSeatsOf {T} seats rans =
     → slice_index_or seats k seat ≡ (slice_index_or rans (length rans - 1 - k) ran).seat
 
 -- each of these seats has finished, and each has its replies
-abbrev pub AllFinished : (Parts → Rules) → Plan → List SeatView → List SeatView → List (List ToldReply) → Type 0
+abbrev pub AllFinished : (Parts → Rules) → Plan → List SeatView → List SeatView → List (List ReplyView) → Type 0
 AllFinished rules plan before seats replies_given =
-    (k : ℕ) (seat : SeatView) (list : List ToldReply) → k < length seats
-    → (b : SeatView) → HasFinished rules plan (slice_index_or before k b) (slice_index_or seats k seat) (slice_index_or replies_given k list)
+    (k : ℕ) (seat : SeatView) (list : List ReplyView) → k < length seats
+    → (b : SeatView) → HasFinished rules plan (slice_index_or before k b)
+    (slice_index_or seats k seat) (slice_index_or replies_given k list)
 
--- The final control and the replies of each seat: each process was driven by its seat, each script was served by its seat, and
--- the journal has no other entries.
-pub record IsRaced (rules : Parts → Rules) (setup : Parts) (turns : ℕ) (scripts : List (List Command)) (c : Journaled) (replies_given : List (List ToldReply)) : Type 0 where
+-- The final control and the replies of each seat: each process was driven by its seat, each script was served by its
+-- seat, and the journal has no other entries.
+pub record IsRaced (rules : Parts → Rules) (setup : Parts) (turns : ℕ) (scripts : List (List Command))
+    (c : Journaled) (replies_given : List (List ReplyView)) : Type 0 where
   pub setup_is : c.setup ≡ setup
   pub seats_are : c.seats ≡ setup.processes + length scripts
   pub entries : AreOfSeats c.seats c.journal
@@ -64,13 +69,14 @@ pub record IsRaced (rules : Parts → Rules) (setup : Parts) (turns : ℕ) (scri
   pub replied : (k : ℕ) → k < length scripts
       → slice_index_or replies_given (setup.processes + k) [] ≡ replies_in rules (setup.processes + k + 1) c
 
--- A race that is not at its end: each process was driven by its seat for no more than its turns, of each script its seat served
--- a beginning, and the journal has no other entries.
+-- A race that is not at its end: each process was driven by its seat for no more than its turns, of each script its
+-- seat served a beginning, and the journal has no other entries.
 pub record IsUnderWay (setup : Parts) (turns : ℕ) (scripts : List (List Command)) (c : Journaled) : Type 0 where
   pub setup_is : c.setup ≡ setup
   pub seats_are : c.seats ≡ setup.processes + length scripts
   pub entries : AreOfSeats c.seats c.journal
-  pub driven : (p : ℕ) → 1 ≤ p → p ≤ setup.processes → (count : ℕ) × (count ≤ turns) × (own p c.journal ≡ replicate count (Auto p))
+  pub driven : (p : ℕ) → 1 ≤ p → p ≤ setup.processes
+      → (count : ℕ) × (count ≤ turns) × (own p c.journal ≡ replicate count (Auto p))
   pub served : (k : ℕ) → k < length scripts
       → (count : ℕ) × (own (setup.processes + k + 1) c.journal ≡ take count (slice_index_or scripts k []))
 
@@ -80,7 +86,8 @@ most_calls setup turns scripts = setup.processes * turns + sum (map length scrip
 
 -- a race whose final control and replies are these
 abbrev pub HasRaced : {T : Type 0} → (Parts → Rules) → Parts → ℕ → List (List Command) → Raced T → Type 0
-HasRaced rules setup turns scripts raced = IsRaced rules setup turns scripts raced.control (all_told raced.replies.items)
+HasRaced rules setup turns scripts raced =
+    IsRaced rules setup turns scripts raced.control (all_told raced.replies.items)
 
 -- a race under way has come to a full journal
 abbrev pub FillsJournal : Parts → ℕ → List (List Command) → Type 0

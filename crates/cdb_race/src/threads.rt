@@ -2,7 +2,8 @@
 ghost use Rattle.std.specs.Prelude.{◌≡◌, ◌+◌, ◌<◌, ◌≤◌, length, vec_len, All, IfOk, IfErr, MatchOption, Err};
 ghost use Rattle.cdb_base.specs.Memory.{no_memory};
 ghost use Rattle.cdb_base.specs.Limits.{MAX_SEATS};
-ghost use Rattle.cdb_race.specs.Faults.{fault_in, AreWell, HaveFinished, IsAmongSeats, IsFaultOfThreads, IsNotStopped, IsRoomFor, IsTold};
+ghost use Rattle.cdb_race.specs.Faults.{fault_in, AreWell, HaveFinished, IsAmongSeats, IsFaultOfThreads};
+ghost use Rattle.cdb_race.specs.Faults.{IsNotStopped, IsRoomFor, IsTold};
 ghost use Rattle.cdb_race.specs.LastFault.{IsLastFault};
 ghost use Rattle.cdb_race.specs.Promises.{IsReady, ArePromises, IsPromise, HasRan, HasEndedAtGate};
 ghost use Rattle.cdb_race.specs.Races.{AllRan, AllEnded, AllPass, AreSeatsOf, FillsJournal, HasRaced, MayFill};
@@ -261,8 +262,9 @@ fn open_shared<T: Runs, R: Wait>(
 /// Drives each process by this many turns and serves each script, each in a thread of its own, and joins
 /// them all. The seats and the gates of the processes come first, and then those of the scripts; there
 /// are at most 64. All memory for what it hands back is taken before the threads start. Of several faults of sessions
-/// the one of the least seat is returned, and the race leaves nothing then. `Stopped` comes only from a gate that did not let a call go on, and `JournalFull` only where these processes
-/// and scripts make as many calls as a journal has entries at most.
+/// the one of the least seat is returned, and the race leaves nothing then. `Stopped` comes only from a gate that did
+/// not let a call go on, and `JournalFull` only where these processes and scripts make as many calls as a journal has
+/// entries at most.
 ///
 /// Promise: A race that ends well has a journal of each script's commands in order, `auto` of each process as often as
 /// its turns or until it was done, and no more; the headline holds of it. `JournalFull` comes only where processes

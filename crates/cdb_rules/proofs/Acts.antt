@@ -1,5 +1,6 @@
 -- An enabled step is what its act takes.
-use Rattle.std.proofs.Common.{◌≡◌, ℕ, ◌+◌, ◌≤◌, Bool, true, false, not, ◌==◌, nat_le, length, Option, Some, None, Ok, IsSome, is_some, option_map, Err, refl, sym, ap, ◌∙◌, subst, arith}
+use Rattle.std.proofs.Common.{◌≡◌, ℕ, ◌+◌, ◌≤◌, Bool, true, false, not, ◌==◌, nat_le, length, Option, Some}
+use Rattle.std.proofs.Common.{None, Ok, IsSome, is_some, option_map, Err, refl, sym, ap, ◌∙◌, subst, arith}
 use Rattle.std.proofs.lemmas.Bool.Decides.{nat_tests}
 use Rattle.std.proofs.lemmas.Option.{same_Some}
 use Rattle.std.specs.Option.{option_map_or}
@@ -16,7 +17,8 @@ use Rattle.cdb_process.specs.declared.Wish.{Wish}
 use Rattle.cdb_register.specs.Registers.{register_of}
 use Rattle.cdb_register.specs.declared.RegisterState.{RegisterState}
 use Rattle.cdb_rules.specs.Mail.{mail_of}
-use Rattle.cdb_rules.specs.Refusals.{act_for, accepts_act, accepts_kind, asks_for, first_refusal, lacks_answer, named_event, named_kind, names_no_leader, planned, step_checks, step_result, unless_refused, wished_kind}
+use Rattle.cdb_rules.specs.Refusals.{act_for, accepts_act, accepts_kind, asks_for, first_refusal, lacks_answer, named_event, named_kind}
+use Rattle.cdb_rules.specs.Refusals.{names_no_leader, planned, step_checks, step_result, unless_refused, wished_kind}
 use Rattle.cdb_rules.specs.Refusals.{receives_such}
 use Rattle.cdb_rules.specs.State.{Machine, ProcessState, RunState}
 use Rattle.cdb_rules.specs.Step.{after, is_among}
@@ -55,7 +57,8 @@ lacks_none answer Local = refl
 lacks_none answer Learn = refl
 lacks_none answer Crash = refl
 
-module _ {L : Type 0} (machine : Machine L) (lawful : IsLawful machine) (setup : Parts) (number : length machine.firsts ≡ setup.processes) (state : RunState L) (p : ℕ) where
+module _ {L : Type 0} (machine : Machine L) (lawful : IsLawful machine) (setup : Parts)
+    (number : length machine.firsts ≡ setup.processes) (state : RunState L) (p : ℕ) where
   module _ (local : L) (answer : Option ℕ) where
     abbrev sends : ℕ
     sends = length (sent_by (mail_of state) p)
@@ -72,7 +75,8 @@ module _ {L : Type 0} (machine : Machine L) (lawful : IsLawful machine) (setup :
         ap (option_map (wished_kind sends)) wished.1 ∙ ap (λ n. Some (Send n)) (same_number m (sends + 1) q.0)
     names_it (Recv s m) h = refl
     names_it (Read register) h =
-        let stands = map_or_true (λ (it : RegisterState). is_some (machine.next local (input.Read register it.cell))) (register_of state.registers register) h in
+        let stands =
+        map_or_true (λ (it : RegisterState). is_some (machine.next local (input.Read register it.cell))) (register_of state.registers register) h in
         ap (option_map (wished_kind sends)) ((lawful.read local register stands.0.cell).0 stands.2)
     names_it (Write register) h =
         let q = both (is_some (register_of state.registers register)) (is_some (machine.next local (input.Write register))) h in
@@ -118,7 +122,8 @@ module _ {L : Type 0} (machine : Machine L) (lawful : IsLawful machine) (setup :
       let to = some_of (after machine state (Step p k kind)) enabled in
       let taken = taken_from machine state to.0 p k kind to.1 in
       let same = same_Some taken.process process (sym taken.at_process ∙ at) in
-      let accepted = subst (λ (x : ProcessState L). IsAccepted machine x k kind (sight_in state p kind) taken.next) same (parts machine state to.0 p k kind taken) in
+      let accepted =
+      subst (λ (x : ProcessState L). IsAccepted machine x k kind (sight_in state p kind) taken.next) same (parts machine state to.0 p k kind taken) in
       let accepts = accepts_by machine lawful state p process at k kind taken.next accepted in
       let fits = fits_by machine lawful state p process at k kind taken.next accepted in
       let passes = receive_passes machine mail p kind fits in
@@ -127,7 +132,8 @@ module _ {L : Type 0} (machine : Machine L) (lawful : IsLawful machine) (setup :
         (
           accepted.going,
           (
-            turned (accepts_act machine progress.local (length (sent_by mail p)) state.registers (act_for kind)) (accepts_it progress.local answer kind accepts),
+            turned (accepts_act machine progress.local (length (sent_by mail p)) state.registers (act_for kind))
+                (accepts_it progress.local answer kind accepts),
             (
               asks_as_kind (λ name. not (is_sent mail name)) kind ∙ passes.0,
               (

@@ -1,7 +1,8 @@
 -- How far the numbers of a run can rise.
 use Rattle.std.proofs.lemmas.Grind.{common_steps}
 use Rattle.std.proofs.lemmas.Option.{gets, none-some, same_Some}
-use Rattle.std.proofs.Common.{◌≡◌, ℕ, zero, suc, ◌+◌, ◌*◌, ◌<◌, ◌≤◌, ◌≢◌, ◌==◌, slice_get, slice_set, true, false, List, [], ◌∷◌, length, map, replicate, Option, Some, None, option_map, option_to_list, if◌then◌else◌, refl, sym, ap, ◌∙◌, subst, arith}
+use Rattle.std.proofs.Common.{◌≡◌, ℕ, zero, suc, ◌+◌, ◌*◌, ◌<◌, ◌≤◌, ◌≢◌, ◌==◌, slice_get, slice_set, true, false, List, [], ◌∷◌, length, map}
+use Rattle.std.proofs.Common.{replicate, Option, Some, None, option_map, option_to_list, if◌then◌else◌, refl, sym, ap, ◌∙◌, subst, arith}
 use Rattle.std.proofs.lemmas.List.{length-map}
 use Rattle.std.proofs.lemmas.Bool.Decides.{nat_tests}
 use Rattle.cdb_base.specs.Positions.{nth, set_nth, update_nth}
@@ -19,7 +20,7 @@ use Rattle.cdb_rules.specs.Mail.{mail_of}
 use Rattle.cdb_rules.specs.State.{Machine, ProcessState, RunState, start, fresh_process}
 use Rattle.cdb_process.specs.Wishes.{wished_cell}
 use Rattle.cdb_rules.specs.Step.{may_lose, after}
-use Rattle.cdb_rules.specs.Taking.{queries_after, registers_after}
+use Rattle.cdb_rules.specs.InputsTaken.{queries_after, registers_after}
 use Rattle.cdb_rules.proofs.Stages.{sight_in, sent_after, process_after}
 use Rattle.cdb_rules.proofs.Positions.{nth-set_nth_same, nth-set_nth_other, nth-update_nth_same, nth-update_nth_other}
 use Rattle.cdb_rules.proofs.Taken.{IsTaken, taken_from, parts, where_true}
@@ -58,39 +59,50 @@ queries_few : (queries steps : ℕ) (kind : Kind) → queries ≤ steps → quer
 queries_few queries steps (Query leader) few = omega (arith, few)
 queries_few queries steps _ few = omega (arith, few)
 
-written_more : (cell : Cell) (o : Option RegisterState) (stands : RegisterState) (most : ℕ) → ((old : RegisterState) → o ≡ Some old → old.writes ≤ most) → option_map (put_cell cell) o ≡ Some stands → stands.writes ≤ most + 1
+written_more : (cell : Cell) (o : Option RegisterState) (stands : RegisterState) (most : ℕ)
+    → ((old : RegisterState) → o ≡ Some old → old.writes ≤ most) → option_map (put_cell cell) o ≡ Some stands → stands.writes ≤ most + 1
 written_more cell o stands most h1 h2 = grind (arith, common_steps, gets)
 
-kept_few : (o : Option RegisterState) (stands : RegisterState) (most : ℕ) → ((old : RegisterState) → o ≡ Some old → old.writes ≤ most) → o ≡ Some stands → stands.writes ≤ most + 1
+kept_few : (o : Option RegisterState) (stands : RegisterState) (most : ℕ)
+    → ((old : RegisterState) → o ≡ Some old → old.writes ≤ most) → o ≡ Some stands → stands.writes ≤ most + 1
 kept_few o stands most few at = let less = few stands at in omega (arith, less)
 
-write_few : (registers : RegisterStates) (x y : Reg) (cell : Cell) (stands : RegisterState) (most : ℕ) → ((register : Reg) (old : RegisterState) → register_of registers register ≡ Some old → old.writes ≤ most) → register_of (with_register (put_cell cell) registers x) y ≡ Some stands → stands.writes ≤ most + 1
+write_few : (registers : RegisterStates) (x y : Reg) (cell : Cell) (stands : RegisterState) (most : ℕ)
+    → ((register : Reg) (old : RegisterState) → register_of registers register ≡ Some old → old.writes ≤ most)
+    → register_of (with_register (put_cell cell) registers x) y ≡ Some stands → stands.writes ≤ most + 1
 write_few registers (R p) (R q) cell stands most few at =
     elim (p == q) as (λ b. (p == q) ≡ b → stands.writes ≤ most + 1) [
-      | true ↦ λ e. written_more cell (nth registers.of_processes q) stands most (few (R q)) (sym (nth-update_nth_same (put_cell cell) registers.of_processes q) ∙ subst (λ i. nth (update_nth (put_cell cell) registers.of_processes i) q ≡ Some stands) (is_same p q e) at)
-      | false ↦ λ e. kept_few (nth registers.of_processes q) stands most (few (R q)) (sym (nth-update_nth_other (put_cell cell) registers.of_processes p q (is_other p q e)) ∙ at)
+      | true ↦ λ e. written_more cell (nth registers.of_processes q) stands most (few (R q)) (sym (nth-update_nth_same (put_cell cell)
+          registers.of_processes q) ∙ subst (λ i. nth (update_nth (put_cell cell) registers.of_processes i) q ≡ Some stands) (is_same p q e) at)
+      | false ↦ λ e. kept_few (nth registers.of_processes q) stands most (few (R q))
+          (sym (nth-update_nth_other (put_cell cell) registers.of_processes p q (is_other p q e)) ∙ at)
     ] refl
 write_few registers (R p) Dec cell stands most few at = kept_few registers.of_decision stands most (few Dec) at
 write_few registers Dec (R q) cell stands most few at = kept_few (nth registers.of_processes q) stands most (few (R q)) at
 write_few registers Dec Dec cell stands most few at = written_more cell registers.of_decision stands most (few Dec) at
 
-registers_few : (registers : RegisterStates) (kind : Kind) (cell : Option Cell) (y : Reg) (stands : RegisterState) (most : ℕ) → ((register : Reg) (old : RegisterState) → register_of registers register ≡ Some old → old.writes ≤ most) → register_of (registers_after registers kind cell) y ≡ Some stands → stands.writes ≤ most + 1
+registers_few : (registers : RegisterStates) (kind : Kind) (cell : Option Cell) (y : Reg) (stands : RegisterState) (most : ℕ)
+    → ((register : Reg) (old : RegisterState) → register_of registers register ≡ Some old → old.writes ≤ most)
+    → register_of (registers_after registers kind cell) y ≡ Some stands → stands.writes ≤ most + 1
 registers_few registers (Write x) (Some cell) y stands most few at = write_few registers x y cell stands most few at
 registers_few registers (Write x) None y stands most few at = kept_few (register_of registers y) stands most (few y) at
 registers_few registers _ cell y stands most few at = kept_few (register_of registers y) stands most (few y) at
 
 module _ {L : Type 0} where
-  one_step_more : (processes : List (ProcessState L)) (i : ℕ) (process left : ProcessState L) → slice_get processes i ≡ Some process → left.progress.steps ≡ process.progress.steps + 1 → all_steps (slice_set processes i left) ≡ all_steps processes + 1
+  one_step_more : (processes : List (ProcessState L)) (i : ℕ) (process left : ProcessState L) → slice_get processes i ≡ Some process
+      → left.progress.steps ≡ process.progress.steps + 1 → all_steps (slice_set processes i left) ≡ all_steps processes + 1
   one_step_more [] i process left at more = absurd (none-some process at)
   one_step_more (x ∷ xs) zero process left at more =
       let same = ap (λ (y : ProcessState L). y.progress.steps) (same_Some x process at) in omega arith
   one_step_more (x ∷ xs) (suc i) process left at more = let rest = one_step_more xs i process left at more in omega (arith, rest)
 
-  pub all_steps_after : (processes : List (ProcessState L)) (p : ℕ) (process left : ProcessState L) → nth processes p ≡ Some process → left.progress.steps ≡ process.progress.steps + 1 → all_steps (set_nth processes p left) ≡ all_steps processes + 1
+  pub all_steps_after : (processes : List (ProcessState L)) (p : ℕ) (process left : ProcessState L) → nth processes p ≡ Some process
+      → left.progress.steps ≡ process.progress.steps + 1 → all_steps (set_nth processes p left) ≡ all_steps processes + 1
   all_steps_after processes zero process left at more = absurd (none-some process at)
   all_steps_after processes (suc i) process left at more = one_step_more processes i process left at more
 
-  pub all_steps_few : (processes : List (ProcessState L)) → ((p : ℕ) (process : ProcessState L) → nth processes p ≡ Some process → IsBounded process) → all_steps processes ≤ 9999 * length processes
+  pub all_steps_few : (processes : List (ProcessState L))
+      → ((p : ℕ) (process : ProcessState L) → nth processes p ≡ Some process → IsBounded process) → all_steps processes ≤ 9999 * length processes
   all_steps_few [] bounded = omega arith
   all_steps_few (x ∷ xs) bounded =
       let here_few = (bounded 1 x refl).steps in
@@ -101,7 +113,8 @@ module _ {L : Type 0} where
       later xs zero process x at = absurd (none-some process at)
       later xs (suc i) process x at = at
 
-  sends_few : (machine : Machine L) (process : ProcessState L) (kind : Kind) → length process.sent ≤ process.progress.steps → length (sent_after machine process kind) ≤ process.progress.steps + 1
+  sends_few : (machine : Machine L) (process : ProcessState L) (kind : Kind)
+      → length process.sent ≤ process.progress.steps → length (sent_after machine process kind) ≤ process.progress.steps + 1
   sends_few machine process kind h1 = grind (arith, common_steps, gets)
 
   module _ (machine : Machine L) where
@@ -121,7 +134,12 @@ module _ {L : Type 0} where
             sends = sends_few machine t.process kind was.sends;
           }
 
-      left_sound : IsSound machine (record { processes = set_nth state.processes p left; registers = registers_after state.registers kind (wished_cell (machine.wish t.process.progress.local)); lost = state.lost })
+      left_sound : IsSound machine (record {
+        processes = set_nth state.processes p left;
+        registers =
+            registers_after state.registers kind (wished_cell (machine.wish t.process.progress.local));
+        lost = state.lost;
+      })
       left_sound =
           record {
             count = length-set_nth state.processes p left ∙ sound.count;
@@ -129,12 +147,14 @@ module _ {L : Type 0} where
                 elim (p == q) as (λ b. (p == q) ≡ b → IsBounded process) [
                   | true ↦ λ e.
                       let same : p ≡ q = is_same p q e in
-                      subst IsBounded (same_Some left process (sym (nth-set_nth_same state.processes p left t.process t.at_process) ∙ subst (λ i. nth (set_nth state.processes p left) i ≡ Some process) (sym same) at)) left_bounded
+                      subst IsBounded (same_Some left process (sym (nth-set_nth_same state.processes p left t.process t.at_process)
+                      ∙ subst (λ i. nth (set_nth state.processes p left) i ≡ Some process) (sym same) at)) left_bounded
                   | false ↦ λ e. sound.bounded q process (sym (nth-set_nth_other state.processes p q left (is_other p q e)) ∙ at)
                 ] refl;
             few_writes = λ register stands at.
                 subst (λ most. stands.writes ≤ most) (sym (all_steps_after state.processes p t.process left t.at_process refl))
-                (registers_few state.registers kind (wished_cell (machine.wish t.process.progress.local)) register stands (all_steps state.processes) sound.few_writes at);
+                (registers_few state.registers kind (wished_cell (machine.wish t.process.progress.local))
+                register stands (all_steps state.processes) sound.few_writes at);
           }
 
       -- a step keeps a run sound
@@ -145,11 +165,13 @@ module _ {L : Type 0} where
     event_sound state to (Step p k kind) leads sound = step_sound state to p k kind (taken_from machine state to p k kind leads) sound
     event_sound state to (Lost copy) leads sound =
         let lost = where_true (may_lose machine (mail_of state) copy) (Some (record state { lost = set.insert state.lost copy })) to leads in
-        subst (IsSound machine) (same_Some (record state { lost = set.insert state.lost copy }) to lost.1) (record { count = sound.count; bounded = sound.bounded; few_writes = sound.few_writes })
+        subst (IsSound machine) (same_Some (record state { lost = set.insert state.lost copy }) to lost.1)
+        (record { count = sound.count; bounded = sound.bounded; few_writes = sound.few_writes })
 
     fresh_at : (firsts : List L) (i : ℕ) (process : ProcessState L) → slice_get (map fresh_process firsts) i ≡ Some process → IsBounded process
     fresh_at [] i process at = absurd (none-some process at)
-    fresh_at (x ∷ xs) zero process at = subst IsBounded (same_Some (fresh_process x) process at) (record { steps = omega arith; queries = omega arith; sends = omega arith })
+    fresh_at (x ∷ xs) zero process at =
+        subst IsBounded (same_Some (fresh_process x) process at) (record { steps = omega arith; queries = omega arith; sends = omega arith })
     fresh_at (x ∷ xs) (suc i) process at = fresh_at xs i process at
 
     unwritten : (n : ℕ) (register : Reg) (stands : RegisterState) → register_of (fresh_registers n) register ≡ Some stands → stands.writes ≡ 0
@@ -160,7 +182,8 @@ module _ {L : Type 0} where
         record {
           count = length-map machine.firsts fresh_process;
           bounded = λ p process at. fresh_bounded p process at;
-          few_writes = λ register stands at. let none = unwritten (if machine.has_registers then length machine.firsts else 0) register stands at in omega (arith, none);
+          few_writes =
+              λ register stands at. let none = unwritten (if machine.has_registers then length machine.firsts else 0) register stands at in omega (arith, none);
         }
       where
         fresh_bounded : (p : ℕ) (process : ProcessState L) → nth (map fresh_process machine.firsts) p ≡ Some process → IsBounded process
@@ -168,7 +191,8 @@ module _ {L : Type 0} where
         fresh_bounded (suc i) process at = fresh_at machine.firsts i process at
 
   -- of nine processes at most no register has as many writes as it may have
-  pub writes_below : (machine : Machine L) (state : RunState L) → IsSound machine state → length machine.firsts ≤ 9 → (register : Reg) (stands : RegisterState) → register_of state.registers register ≡ Some stands → stands.writes < 999999
+  pub writes_below : (machine : Machine L) (state : RunState L) → IsSound machine state → length machine.firsts ≤ 9
+      → (register : Reg) (stands : RegisterState) → register_of state.registers register ≡ Some stands → stands.writes < 999999
   writes_below machine state sound few register stands at =
       let writes = sound.few_writes register stands at in
       let steps = all_steps_few state.processes sound.bounded in

@@ -22,11 +22,13 @@ join : (a b : Bool) → a ≡ true → b ≡ true → (a && b) ≡ true
 join true b h k = k
 join false b h k = absurd (true≢false (sym h))
 
-module _ {L : Type 0} (machine : Machine L) (lawful : IsLawful machine) (state : RunState L) (p : ℕ) (process : ProcessState L) (at : nth state.processes p ≡ Some process) where
+module _ {L : Type 0} (machine : Machine L) (lawful : IsLawful machine) (state : RunState L)
+    (p : ℕ) (process : ProcessState L) (at : nth state.processes p ≡ Some process) where
   abbrev sends : ℕ
   sends = length (sent_by (mail_of state) p)
 
-  pub accepts_by : (k : ℕ) (kind : Kind) (next : L) → IsAccepted machine process k kind (sight_in state p kind) next → accepts_kind machine process.progress.local sends state.registers kind ≡ true
+  pub accepts_by : (k : ℕ) (kind : Kind) (next : L) → IsAccepted machine process k kind (sight_in state p kind) next
+      → accepts_kind machine process.progress.local sends state.registers kind ≡ true
   accepts_by k kind next h1 = grind (arith, common_steps, gets)
 
   pub fits_by : (k : ℕ) (kind : Kind) (next : L) → IsAccepted machine process k kind (sight_in state p kind) next → Fits machine (mail_of state) p kind
@@ -34,7 +36,8 @@ module _ {L : Type 0} (machine : Machine L) (lawful : IsLawful machine) (state :
   fits_by k (Recv s m) next a =
       let arrived = arrives (mail_of state) p s m a.met in (
         arrived.0,
-        ap (λ names. set.contains names (message_name s m)) (received_is state p process at) ∙ not_true (set.contains process.received (message_name s m)) a.due,
+        ap (λ names. set.contains names (message_name s m)) (received_is state p process at)
+            ∙ not_true (set.contains process.received (message_name s m)) a.due,
         arrived.1,
       )
   fits_by k _ next a = tt

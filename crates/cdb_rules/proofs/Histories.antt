@@ -17,27 +17,33 @@ module _ {L : Type 0} (machine : Machine L) where
   pub fold_exchanged : (history other : List Event) → IsExchanged depends history other → fold machine history ≡ fold machine other
   fold_exchanged history other p = reached_exchanged (after machine) depends (after_commutes machine) (start machine) p
 
-  pub fold_free : (history : List Event) (at : ℕ) (event : Event) → nth history at ≡ Some event → IsFree depends history at → fold machine (without history at ++ event ∷ []) ≡ fold machine history
+  pub fold_free : (history : List Event) (at : ℕ) (event : Event) → nth history at ≡ Some event
+      → IsFree depends history at → fold machine (without history at ++ event ∷ []) ≡ fold machine history
   fold_free history at event stands free = reached_free (after machine) depends (after_commutes machine) (start machine) history at event stands free
 
-  pub undo_valid : (history : List Event) (at : ℕ) (event : Event) → nth history at ≡ Some event → IsFree depends history at → IsValid machine history → IsValid machine (without history at)
+  pub undo_valid : (history : List Event) (at : ℕ) (event : Event) → nth history at ≡ Some event
+      → IsFree depends history at → IsValid machine history → IsValid machine (without history at)
   undo_valid history at event stands free valid =
       reached_front_some (after machine) (start machine) (without history at) (event ∷ []) (subst IsSome (sym (fold_free history at event stands free)) valid)
 
-  undo_redo : (history : List Event) (at : ℕ) (event : Event) → nth history at ≡ Some event → IsFree depends history at → option_and_then (λ state. after machine state event) (fold machine (without history at)) ≡ fold machine history
-  undo_redo history at event stands free = sym (reached_push (after machine) (start machine) (without history at) event) ∙ fold_free history at event stands free
+  undo_redo : (history : List Event) (at : ℕ) (event : Event) → nth history at ≡ Some event → IsFree depends history at
+      → option_and_then (λ state. after machine state event) (fold machine (without history at)) ≡ fold machine history
+  undo_redo history at event stands free =
+      sym (reached_push (after machine) (start machine) (without history at) event) ∙ fold_free history at event stands free
 
   pub reached_state : (history : List Event) → IsValid machine history → fold machine history ≡ Some (state_of machine history)
   reached_state history h1 = grind (arith, common_steps, gets)
 
   -- the event, taken again last, leads to the state that the history reached
-  pub undo_again : (history : List Event) (at : ℕ) (event : Event) → nth history at ≡ Some event → IsFree depends history at → IsValid machine history → after machine (state_of machine (without history at)) event ≡ Some (state_of machine history)
+  pub undo_again : (history : List Event) (at : ℕ) (event : Event) → nth history at ≡ Some event → IsFree depends history at
+      → IsValid machine history → after machine (state_of machine (without history at)) event ≡ Some (state_of machine history)
   undo_again history at event stands free valid =
       sym (ap (option_and_then (λ state. after machine state event)) (reached_state (without history at) (undo_valid history at event stands free valid)))
       ∙ undo_redo history at event stands free
       ∙ reached_state history valid
 
-  pub undo_enabled : (history : List Event) (at : ℕ) (event : Event) → nth history at ≡ Some event → IsFree depends history at → IsValid machine history → IsEnabled machine (state_of machine (without history at)) event
+  pub undo_enabled : (history : List Event) (at : ℕ) (event : Event) → nth history at ≡ Some event
+      → IsFree depends history at → IsValid machine history → IsEnabled machine (state_of machine (without history at)) event
   undo_enabled history at event stands free valid = subst IsSome (sym (undo_again history at event stands free valid)) refl
 
   pub rollback_redo : (history : List Event) (at : ℕ) → fold machine (remaining depends history at ++ rolled_back depends history at) ≡ fold machine history
@@ -45,4 +51,5 @@ module _ {L : Type 0} (machine : Machine L) where
 
   pub rollback_valid : (history : List Event) (at : ℕ) → IsValid machine history → IsValid machine (remaining depends history at)
   rollback_valid history at valid =
-      reached_front_some (after machine) (start machine) (remaining depends history at) (rolled_back depends history at) (subst IsSome (sym (rollback_redo history at)) valid)
+      reached_front_some (after machine) (start machine) (remaining depends history at)
+      (rolled_back depends history at) (subst IsSome (sym (rollback_redo history at)) valid)

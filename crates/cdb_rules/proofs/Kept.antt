@@ -1,7 +1,9 @@
 -- What an event leaves of what another one meets, where the one does not affect the other.
 use Rattle.std.proofs.lemmas.Grind.{common_steps}
 use Rattle.std.proofs.lemmas.Option.{gets}
-use Rattle.std.proofs.Common.{◌≡◌, ℕ, ◌+◌, ◌≢◌, Bool, true, false, not, ◌&&◌, ◌||◌, ◌==◌, List, [], ◌++◌, length, Option, Some, None, is_some, option_map, option_to_list, unwrap_or, nat_eq, if◌then◌else◌, refl, sym, ap, ap₂, ◌∙◌, subst, true≢false, eq-eqb, eqb-true, append-nil, arith}
+use Rattle.std.proofs.Common.{◌≡◌, ℕ, ◌+◌, ◌≢◌, Bool, true, false, not, ◌&&◌, ◌||◌, ◌==◌, List, [], ◌++◌, length, Option, Some, None, is_some, option_map}
+use Rattle.std.proofs.Common.{option_to_list, unwrap_or, nat_eq, if◌then◌else◌, refl, sym, ap, ap₂, ◌∙◌, subst, true≢false, eq-eqb, eqb-true, append-nil}
+use Rattle.std.proofs.Common.{arith}
 use Rattle.std.proofs.lemmas.Bool.Decides.{nat_tests}
 use Rattle.std.specs.FinSet as set
 use Rattle.std.specs.Cmp.{Equal-is}
@@ -27,7 +29,7 @@ use Rattle.cdb_rules.specs.Mail.{mail_of}
 use Rattle.cdb_rules.specs.State.{Machine, ProcessState, RunState}
 use Rattle.cdb_process.specs.Wishes.{wished_cell}
 use Rattle.cdb_rules.specs.Step.{is_among, may_lose}
-use Rattle.cdb_rules.specs.Taking.{Sight, arriving, registers_after}
+use Rattle.cdb_rules.specs.InputsTaken.{Sight, arriving, registers_after}
 use Rattle.cdb_rules.proofs.Stages.{sight_in, accepted, sent_after, received_after, process_after}
 use Rattle.cdb_rules.proofs.Mails.{sent_is, received_is}
 use Rattle.cdb_rules.proofs.Positions.{nth-map, nth-set_nth_other, nth-set_nth_same, nth_push_other, nth-update_nth_other, update_nth-update_nth}
@@ -45,13 +47,15 @@ is_false false h = refl
 
 -- the registers
 
-register_of_other : (registers : RegisterStates) (x y : Reg) (cell : Cell) → same_register x y ≡ false → register_of (with_register (put_cell cell) registers x) y ≡ register_of registers y
+register_of_other : (registers : RegisterStates) (x y : Reg) (cell : Cell) → same_register x y ≡ false
+    → register_of (with_register (put_cell cell) registers x) y ≡ register_of registers y
 register_of_other registers (R p) (R q) cell h = nth-update_nth_other (put_cell cell) registers.of_processes p q (nat_eq-ne p q h)
 register_of_other registers (R p) Dec cell h = refl
 register_of_other registers Dec (R q) cell h = refl
 register_of_other registers Dec Dec cell h = absurd (true≢false h)
 
-put_cell-put_cell : (registers : RegisterStates) (x y : Reg) (a b : Cell) → same_register x y ≡ false → with_register (put_cell b) (with_register (put_cell a) registers x) y ≡ with_register (put_cell a) (with_register (put_cell b) registers y) x
+put_cell-put_cell : (registers : RegisterStates) (x y : Reg) (a b : Cell) → same_register x y ≡ false
+    → with_register (put_cell b) (with_register (put_cell a) registers x) y ≡ with_register (put_cell a) (with_register (put_cell b) registers y) x
 put_cell-put_cell registers (R p) (R q) a b h =
     ap (λ l. record registers { of_processes = l }) (update_nth-update_nth (put_cell a) (put_cell b) registers.of_processes p q (nat_eq-ne p q h))
 put_cell-put_cell registers (R p) Dec a b h = refl
@@ -59,14 +63,16 @@ put_cell-put_cell registers Dec (R q) a b h = refl
 put_cell-put_cell registers Dec Dec a b h = absurd (true≢false h)
 
 -- writes of different registers may change places
-pub registers_swap : (registers : RegisterStates) (p : ℕ) (first second : Kind) (a b : Option Cell) → kind_affects p first second ≡ false → registers_after (registers_after registers first a) second b ≡ registers_after (registers_after registers second b) first a
+pub registers_swap : (registers : RegisterStates) (p : ℕ) (first second : Kind) (a b : Option Cell) → kind_affects p first second ≡ false
+    → registers_after (registers_after registers first a) second b ≡ registers_after (registers_after registers second b) first a
 registers_swap registers p (Write x) (Write y) (Some a) (Some b) h = put_cell-put_cell registers x y a b h
 registers_swap registers p (Write x) (Write y) None (Some b) h = refl
 registers_swap registers p (Write x) (Write y) (Some a) None h = refl
 registers_swap registers p (Write x) (Write y) None None h = refl
 registers_swap registers p _ _ a b h = refl
 
-register_of_after : (registers : RegisterStates) (p : ℕ) (kind : Kind) (cell : Option Cell) (x : Reg) → kind_affects p kind (Read x) ≡ false → register_of (registers_after registers kind cell) x ≡ register_of registers x
+register_of_after : (registers : RegisterStates) (p : ℕ) (kind : Kind) (cell : Option Cell) (x : Reg)
+    → kind_affects p kind (Read x) ≡ false → register_of (registers_after registers kind cell) x ≡ register_of registers x
 register_of_after registers p (Write y) (Some cell) x h = register_of_other registers y x cell h
 register_of_after registers p (Write y) None x h = refl
 register_of_after registers p _ cell x h = refl
@@ -92,17 +98,22 @@ same_name a b h = name_cmp-IsAntisymmetric a b ((Equal-is (name_cmp a b)).0 h)
 
 -- another copy is lost or not as before
 pub other_copy : (lost : CopySet) (a b : CopyName) → a ≢ b → set.contains (set.insert lost a) b ≡ set.contains lost b
-other_copy lost a b ne = set.contains-insert copy_cmp_total lost a b ∙ ap (λ t. t || set.contains lost b) (is_false (eq_by_cmp copy_cmp b a) (λ e. ne (sym (same_copy b a e))))
+other_copy lost a b ne =
+    set.contains-insert copy_cmp_total lost a b ∙ ap (λ t. t || set.contains lost b) (is_false (eq_by_cmp copy_cmp b a) (λ e. ne (sym (same_copy b a e))))
 
 -- another name is received or not as before
 pub other_name : (received : NameSet) (a b : MsgName) → a ≢ b → set.contains (set.insert received a) b ≡ set.contains received b
-other_name received a b ne = set.contains-insert name_cmp_total received a b ∙ ap (λ t. t || set.contains received b) (is_false (eq_by_cmp name_cmp b a) (λ e. ne (sym (same_name b a e))))
+other_name received a b ne =
+    set.contains-insert name_cmp_total received a b
+    ∙ ap (λ t. t || set.contains received b) (is_false (eq_by_cmp name_cmp b a) (λ e. ne (sym (same_name b a e))))
 
 -- a step that receives no such message leaves the set as it is, as far as that message goes
-received_other : (received : NameSet) (kind : Kind) (name : MsgName) → receives name.s name.m kind ≡ false → set.contains (received_after received kind) name ≡ set.contains received name
+received_other : (received : NameSet) (kind : Kind) (name : MsgName) → receives name.s name.m kind ≡ false
+    → set.contains (received_after received kind) name ≡ set.contains received name
 received_other received (Recv s m) name h =
     other_name received (message_name s m) name
-    (λ e. true≢false (sym (ap₂ (λ a b. a && b) (eq-eqb name.s s (sym (ap (λ (n : MsgName). n.s) e))) (eq-eqb name.m m (sym (ap (λ (n : MsgName). n.m) e)))) ∙ h))
+    (λ e.
+    true≢false (sym (ap₂ (λ a b. a && b) (eq-eqb name.s s (sym (ap (λ (n : MsgName). n.s) e))) (eq-eqb name.m m (sym (ap (λ (n : MsgName). n.m) e)))) ∙ h))
 received_other received _ name h = refl
 
 module _ {L : Type 0} (machine : Machine L) where
@@ -110,11 +121,13 @@ module _ {L : Type 0} (machine : Machine L) where
   number_is a b h = grind (arith, nat_tests)
 
   -- a send has the next number
-  pub next_number : (process : ProcessState L) (k m : ℕ) (around : Sight) (next : L) → accepted machine process k (Send m) around ≡ Some next → m ≡ length process.sent + 1
+  pub next_number : (process : ProcessState L) (k m : ℕ) (around : Sight) (next : L)
+      → accepted machine process k (Send m) around ≡ Some next → m ≡ length process.sent + 1
   next_number process k m around next h1 = grind (arith, common_steps, gets)
 
   -- a step that does not send the m-th message leaves it as it is
-  sent_other : (process : ProcessState L) (k : ℕ) (kind : Kind) (around : Sight) (next : L) → accepted machine process k kind around ≡ Some next → (m : ℕ) → (kind ≡ Send m → ⊥) → nth (sent_after machine process kind) m ≡ nth process.sent m
+  sent_other : (process : ProcessState L) (k : ℕ) (kind : Kind) (around : Sight) (next : L) → accepted machine process k kind around ≡ Some next
+      → (m : ℕ) → (kind ≡ Send m → ⊥) → nth (sent_after machine process kind) m ≡ nth process.sent m
   sent_other process k kind around next h1 m h2 = grind (arith, common_steps, gets)
 
   -- what a step leaves
@@ -140,12 +153,14 @@ module _ {L : Type 0} (machine : Machine L) where
     pub other_sent_kept : (s : ℕ) → p ≢ s → sent_by (mail_of to) s ≡ sent_by (mail_of state) s
     other_sent_kept s other =
         ap (λ o. unwrap_or o [])
-        (nth-map (λ (x : ProcessState L). x.sent) to.processes s ∙ ap (option_map (λ (x : ProcessState L). x.sent)) (process_kept s other) ∙ sym (nth-map (λ (x : ProcessState L). x.sent) state.processes s))
+        (nth-map (λ (x : ProcessState L). x.sent) to.processes s ∙ ap (option_map (λ (x : ProcessState L). x.sent)) (process_kept s other)
+        ∙ sym (nth-map (λ (x : ProcessState L). x.sent) state.processes s))
 
     pub other_received_kept : (q : ℕ) → p ≢ q → received_by (mail_of to) q ≡ received_by (mail_of state) q
     other_received_kept q other =
         ap (λ o. unwrap_or o set.empty)
-        (nth-map (λ (x : ProcessState L). x.received) to.processes q ∙ ap (option_map (λ (x : ProcessState L). x.received)) (process_kept q other) ∙ sym (nth-map (λ (x : ProcessState L). x.received) state.processes q))
+        (nth-map (λ (x : ProcessState L). x.received) to.processes q ∙ ap (option_map (λ (x : ProcessState L). x.received)) (process_kept q other)
+        ∙ sym (nth-map (λ (x : ProcessState L). x.received) state.processes q))
 
     -- a message that the step does not send
     pub payload_kept : (name : MsgName) → sends name.s name.m p kind ≡ false → payload_of (mail_of to) name ≡ payload_of (mail_of state) name
@@ -158,9 +173,11 @@ module _ {L : Type 0} (machine : Machine L) where
         ] refl
 
     -- a message that the step does not receive
-    pub received_kept : (q : ℕ) (name : MsgName) → (nat_eq p q && receives name.s name.m kind) ≡ false → is_received (mail_of to) q name ≡ is_received (mail_of state) q name
+    pub received_kept : (q : ℕ) (name : MsgName) → (nat_eq p q && receives name.s name.m kind) ≡ false
+        → is_received (mail_of to) q name ≡ is_received (mail_of state) q name
     received_kept q name h =
-        elim (nat_eq p q) as (λ b. nat_eq p q ≡ b → (b && receives name.s name.m kind) ≡ false → is_received (mail_of to) q name ≡ is_received (mail_of state) q name) [
+        elim (nat_eq p q) as
+        (λ b. nat_eq p q ≡ b → (b && receives name.s name.m kind) ≡ false → is_received (mail_of to) q name ≡ is_received (mail_of state) q name) [
           | true ↦ λ e r.
               subst (λ i. is_received (mail_of to) i name ≡ is_received (mail_of state) i name) (nat_eq-is p q e)
               (ap (λ names. set.contains names name) (received_is to p left at_left)
@@ -185,10 +202,13 @@ module _ {L : Type 0} (machine : Machine L) where
     sight_kept q _ h = refl
 
     -- whether a copy may be lost of which the step neither sends the message nor receives it
-    pub may_lose_kept : (copy : CopyName) → sends copy.msg.s copy.msg.m p kind ≡ false → (nat_eq p copy.to && receives copy.msg.s copy.msg.m kind) ≡ false → may_lose machine (mail_of to) copy ≡ may_lose machine (mail_of state) copy
+    pub may_lose_kept : (copy : CopyName) → sends copy.msg.s copy.msg.m p kind ≡ false
+        → (nat_eq p copy.to && receives copy.msg.s copy.msg.m kind) ≡ false → may_lose machine (mail_of to) copy ≡ may_lose machine (mail_of state) copy
     may_lose_kept copy unsent unreceived =
-        ap₂ (λ sent received. machine.loses_copies && is_among (length machine.firsts) copy.to && sent && not received && not (is_lost (mail_of to) copy)) (ap is_some (payload_kept copy.msg unsent)) (received_kept copy.to copy.msg unreceived)
-        ∙ ap (λ lost. machine.loses_copies && is_among (length machine.firsts) copy.to && is_sent (mail_of state) copy.msg && not (is_received (mail_of state) copy.to copy.msg) && not (set.contains lost copy)) lost_kept
+        ap₂ (λ sent received. machine.loses_copies && is_among (length machine.firsts) copy.to && sent && not received && not (is_lost (mail_of to) copy))
+        (ap is_some (payload_kept copy.msg unsent)) (received_kept copy.to copy.msg unreceived)
+        ∙ ap (λ lost. machine.loses_copies && is_among (length machine.firsts) copy.to && is_sent (mail_of state) copy.msg
+        && not (is_received (mail_of state) copy.to copy.msg) && not (set.contains lost copy)) lost_kept
 
 -- what a loss leaves
 
@@ -196,13 +216,16 @@ module _ {L : Type 0} where
   abbrev pub with_loss : RunState L → CopyName → RunState L
   with_loss state copy = record state { lost = set.insert state.lost copy }
 
-  arriving_but : (state : RunState L) (copy : CopyName) (q : ℕ) (name : MsgName) → (nat_eq q copy.to && receives copy.msg.s copy.msg.m (Recv name.s name.m)) ≡ false → arriving (mail_of (with_loss state copy)) q name ≡ arriving (mail_of state) q name
+  arriving_but : (state : RunState L) (copy : CopyName) (q : ℕ) (name : MsgName) → (nat_eq q copy.to && receives copy.msg.s copy.msg.m (Recv name.s name.m))
+      ≡ false → arriving (mail_of (with_loss state copy)) q name ≡ arriving (mail_of state) q name
   arriving_but state copy q name h =
       ap (λ b. if b then None else payload_of (mail_of state) name)
       (other_copy state.lost copy (copy_name name q)
-      (λ e. true≢false (sym (ap₂ (λ a b. a && b) (eq-eqb q copy.to (sym (ap (λ (c : CopyName). c.to) e))) (ap₂ (λ a b. a && b) (eq-eqb copy.msg.s name.s (ap (λ (c : CopyName). c.msg.s) e)) (eq-eqb copy.msg.m name.m (ap (λ (c : CopyName). c.msg.m) e)))) ∙ h)))
+      (λ e. true≢false (sym (ap₂ (λ a b. a && b) (eq-eqb q copy.to (sym (ap (λ (c : CopyName). c.to) e))) (ap₂ (λ a b. a && b)
+      (eq-eqb copy.msg.s name.s (ap (λ (c : CopyName). c.msg.s) e)) (eq-eqb copy.msg.m name.m (ap (λ (c : CopyName). c.msg.m) e)))) ∙ h)))
 
   -- what a step meets that does not receive the copy
-  pub sight_but : (state : RunState L) (copy : CopyName) (q l : ℕ) (other : Kind) → affects (Lost copy) (Step q l other) ≡ false → sight_in (with_loss state copy) q other ≡ sight_in state q other
+  pub sight_but : (state : RunState L) (copy : CopyName) (q l : ℕ) (other : Kind)
+      → affects (Lost copy) (Step q l other) ≡ false → sight_in (with_loss state copy) q other ≡ sight_in state q other
   sight_but state copy q l (Recv s m) h = ap (λ o. record { message = o; register = None }) (arriving_but state copy q (message_name s m) h)
   sight_but state copy q l _ h = refl

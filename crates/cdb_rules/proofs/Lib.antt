@@ -24,14 +24,14 @@ pub mod Histories
 pub mod Members
 pub mod OwnOfState
 pub mod SameState
-pub mod Naming
+pub mod NamedEvents
 pub mod Bounds
 pub mod Limits
 -- an event is found, undone and rolled back
-pub mod Finding
+pub mod NamesFound
 pub mod Results
 pub mod WhereOk
-pub mod Standing
+pub mod AllStanding
 pub mod Removed
 pub mod TakenBack
 pub mod OfRun

@@ -10,7 +10,7 @@ use Rattle.cdb_rules.specs.State.{Machine, RunState, start}
 use Rattle.cdb_rules.specs.Step.{after, fold, IsValid}
 use Rattle.cdb_rules.proofs.Bounds.{IsSound, start_sound, event_sound}
 use Rattle.cdb_rules.proofs.Members.{Reaches, first_step}
-use Rattle.cdb_rules.proofs.Naming.{in_cases, lost_after_send}
+use Rattle.cdb_rules.proofs.NamedEvents.{in_cases, lost_after_send}
 use Rattle.cdb_rules.proofs.Numbers.{send_number}
 use Rattle.cdb_rules.proofs.Mails.{sent_is}
 use Rattle.cdb_rules.proofs.Taken.{taken_from, parts, some_of}
@@ -25,16 +25,22 @@ in_front first second (x ∷ xs) (here later) = here
 in_front first second (x ∷ xs) (there before) = there (in_front first second xs before)
 
 module _ {L : Type 0} (machine : Machine L) where
-  taken_within : (state next : RunState L) (p k : ℕ) (kind : Kind) → after machine state (Step p k kind) ≡ Some next → IsSound machine state → IsNumberedWithin k kind
+  taken_within : (state next : RunState L) (p k : ℕ) (kind : Kind)
+      → after machine state (Step p k kind) ≡ Some next → IsSound machine state → IsNumberedWithin k kind
   taken_within state next p k kind one sound =
       let t = taken_from machine state next p k kind one in
       let a = parts machine state next p k kind t in
       let number = a.number in
       let limit = a.limit in
-      let sends = (sound.bounded p t.process t.at_process).sends in
-      (limit, λ m is. let n = send_number machine state next p k kind t m is in let was = ap length (sent_is state p t.process t.at_process) in omega (arith, number, limit, sends, n, was))
+      let sends = (sound.bounded p t.process t.at_process).sends in (
+        limit,
+        λ m is. let n = send_number machine state next p k kind t m is in
+            let was = ap length (sent_is state p t.process t.at_process) in
+            omega (arith, number, limit, sends, n, was),
+      )
 
-  numbered_within : (events : List Event) (state to : RunState L) → Reaches machine state events to → IsSound machine state → (p k : ℕ) (kind : Kind) → IsIn (Step p k kind) events → IsNumberedWithin k kind
+  numbered_within : (events : List Event) (state to : RunState L) → Reaches machine state events to
+      → IsSound machine state → (p k : ℕ) (kind : Kind) → IsIn (Step p k kind) events → IsNumberedWithin k kind
   numbered_within [] state to h sound p k kind i = elim i [ ]
   numbered_within (event ∷ events) state to h sound p k kind i =
       let s = first_step machine state to event events h in
@@ -45,7 +51,8 @@ module _ {L : Type 0} (machine : Machine L) where
 
   module _ (history : List Event) (valid : IsValid machine history) where
     stand_within : (p k : ℕ) (kind : Kind) → IsIn (Step p k kind) history → IsNumberedWithin k kind
-    stand_within p k kind i = let to = some_of (fold machine history) valid in numbered_within history (start machine) to.0 to.1 (start_sound machine) p k kind i
+    stand_within p k kind i = let to = some_of (fold machine history) valid in
+        numbered_within history (start machine) to.0 to.1 (start_sound machine) p k kind i
 
     pub step_within : (p k : ℕ) (kind : Kind) → IsIn (Step p k kind) history → k ≤ 9999
     step_within p k kind i = (stand_within p k kind i).0

@@ -1,10 +1,11 @@
 -- What stands in lists that are made of others.
 use Rattle.std.proofs.lemmas.Grind.{common_steps}
 use Rattle.std.proofs.lemmas.Option.{gets}
-use Rattle.std.proofs.Common.{◌≡◌, ℕ, suc, ◌<◌, ◌≤◌, Bool, true, false, ◌||◌, ◌⊎◌, inl, inr, ⊎_elim, List, [], ◌∷◌, ◌++◌, Some, length, take, map, filter, cond, slice_get, refl, sym, ap, ◌∙◌, subst, true≢false, arith}
+use Rattle.std.proofs.Common.{◌≡◌, ℕ, suc, ◌<◌, ◌≤◌, Bool, true, false, ◌||◌, ◌⊎◌, inl, inr, ⊎_elim, List, [], ◌∷◌, ◌++◌, Some}
+use Rattle.std.proofs.Common.{length, take, map, filter, cond, slice_get, refl, sym, ap, ◌∙◌, subst, true≢false, arith}
 use Rattle.std.specs.List.{list_any, flat_map}
 use Rattle.cdb_causal.specs.Exchange.{IsIn, here, there}
-use Rattle.cdb_rules.proofs.Naming.{in_cases}
+use Rattle.cdb_rules.proofs.NamedEvents.{in_cases}
 
 module _ {E : Type 0} where
   pub nothing_in : (x : E) → IsIn x [] → ⊥
@@ -34,8 +35,10 @@ module _ {E : Type 0} where
     in_filter x [] i holds = absurd (nothing_in x i)
     in_filter x (y ∷ ys) i holds =
         ⊎_elim
-        (λ same. subst (λ b. IsIn x (cond b (y ∷ filter test ys) (filter test ys))) (sym (ap test (sym same) ∙ holds)) (subst (λ z. IsIn x (z ∷ filter test ys)) same here))
-        (λ later. let rest = in_filter x ys later holds in elim (test y) as (λ b. IsIn x (cond b (y ∷ filter test ys) (filter test ys))) [ true ↦ there rest | false ↦ rest ])
+        (λ same. subst (λ b. IsIn x (cond b (y ∷ filter test ys) (filter test ys)))
+        (sym (ap test (sym same) ∙ holds)) (subst (λ z. IsIn x (z ∷ filter test ys)) same here))
+        (λ later. let rest = in_filter x ys later holds in
+        elim (test y) as (λ b. IsIn x (cond b (y ∷ filter test ys) (filter test ys))) [ true ↦ there rest | false ↦ rest ])
         (in_cases x y ys i)
 
     pub from_filter : (x : E) (xs : List E) → IsIn x (filter test xs) → IsIn x xs × (test x ≡ true)

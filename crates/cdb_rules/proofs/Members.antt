@@ -1,6 +1,7 @@
 -- What an event of a list says of the state before the list and of the state behind it, and what the order of two
 -- events says.
-use Rattle.std.proofs.Common.{◌≡◌, ℕ, zero, suc, ◌<◌, ◌≤◌, Bool, true, false, not, ◌&&◌, ◌⊎◌, inl, inr, ⊎_elim, List, [], ◌∷◌, length, map, Option, Some, slice_get, refl, sym, ap, ◌∙◌, subst, true≢false, le_trans, arith}
+use Rattle.std.proofs.Common.{◌≡◌, ℕ, zero, suc, ◌<◌, ◌≤◌, Bool, true, false, not, ◌&&◌, ◌⊎◌, inl, inr, ⊎_elim, List, [], ◌∷◌}
+use Rattle.std.proofs.Common.{length, map, Option, Some, slice_get, refl, sym, ap, ◌∙◌, subst, true≢false, le_trans, arith}
 use Rattle.std.proofs.lemmas.Option.{none-some, same_Some}
 use Rattle.std.specs.FinSet as set
 use Rattle.cdb_base.specs.Positions.{nth}
@@ -20,7 +21,9 @@ use Rattle.cdb_rules.specs.State.{Machine, OwnEvent, ProcessState, RunState, fre
 use Rattle.cdb_rules.specs.Step.{is_among, after}
 use Rattle.cdb_rules.proofs.Commutes.{after_taken, lost_from, parts_of}
 use Rattle.cdb_rules.proofs.Mails.{not_true}
-use Rattle.cdb_rules.proofs.Numbers.{IsCounted, steps_of, sends_of, writes_of, own_at, noted, number_is, number_after, send_number, received_sent, received_not_lost, received_now, access_noted, write_counts, step_stands, copy_joins, steps_grow, sends_grow, writes_grow, received_stays, lost_stays, lost_cases, own_kept, own_cases, counted_after}
+use Rattle.cdb_rules.proofs.Numbers.{IsCounted, steps_of, sends_of, writes_of, own_at, noted, number_is, number_after, send_number, received_sent}
+use Rattle.cdb_rules.proofs.Numbers.{received_not_lost, received_now, access_noted, write_counts, step_stands, copy_joins, steps_grow, sends_grow}
+use Rattle.cdb_rules.proofs.Numbers.{writes_grow, received_stays, lost_stays, lost_cases, own_kept, own_cases, counted_after}
 use Rattle.cdb_rules.proofs.Positions.{nth_within}
 use Rattle.cdb_rules.proofs.Taken.{IsTaken, taken_from, bound, both, some_of}
 
@@ -32,7 +35,8 @@ module _ {L : Type 0} (machine : Machine L) where
   Reaches state events to = reached (after machine) state events ≡ Some to
 
   -- the first event and the rest
-  pub first_step : (state to : RunState L) (event : Event) (events : List Event) → Reaches state (event ∷ events) to → (next : RunState L) × (after machine state event ≡ Some next) × Reaches next events to
+  pub first_step : (state to : RunState L) (event : Event) (events : List Event) → Reaches state (event ∷ events) to
+      → (next : RunState L) × (after machine state event ≡ Some next) × Reaches next events to
   first_step state to event events h = bound (λ next. reached (after machine) next events) (after machine state event) to h
 
   -- what a loss asks for
@@ -44,7 +48,9 @@ module _ {L : Type 0} (machine : Machine L) where
   pub losable : (state to : RunState L) (copy : CopyName) → after machine state (Lost copy) ≡ Some to → IsLosable state copy
   losable state to copy h =
       let kept = parts_of machine state copy (is_lost (mail_of state) copy) (lost_from machine state to copy h).0 in
-      let first = both (machine.loses_copies && is_among (length machine.firsts) copy.to && is_sent (mail_of state) copy.msg) (not (is_received (mail_of state) copy.to copy.msg)) kept.0 in
+      let first =
+      both (machine.loses_copies && is_among (length machine.firsts) copy.to && is_sent (mail_of state) copy.msg)
+      (not (is_received (mail_of state) copy.to copy.msg)) kept.0 in
       record {
         sent = (both (machine.loses_copies && is_among (length machine.firsts) copy.to) (is_sent (mail_of state) copy.msg) first.0).1;
         unreceived = not_true (is_received (mail_of state) copy.to copy.msg) first.1;
@@ -53,13 +59,15 @@ module _ {L : Type 0} (machine : Machine L) where
 
   -- what the own lists have at the end stood there before, or is in the list
 
-  own_stays : (events : List Event) (state to : RunState L) → Reaches state events to → (p k : ℕ) (own : OwnEvent) → own_at state p k ≡ Some own → own_at to p k ≡ Some own
+  own_stays : (events : List Event) (state to : RunState L) → Reaches state events to
+      → (p k : ℕ) (own : OwnEvent) → own_at state p k ≡ Some own → own_at to p k ≡ Some own
   own_stays [] state to h p k own at = subst (λ x. own_at x p k ≡ Some own) (same_Some state to h) at
   own_stays (event ∷ events) state to h p k own at =
       let s = first_step state to event events h in
       own_stays events s.0 to s.2 p k own (own_kept machine state s.0 event s.1 p k own at)
 
-  pub own_comes : (events : List Event) (state to : RunState L) → Reaches state events to → (p k : ℕ) (own : OwnEvent) → own_at to p k ≡ Some own → (own_at state p k ≡ Some own) ⊎ IsIn own.event events
+  pub own_comes : (events : List Event) (state to : RunState L) → Reaches state events to
+      → (p k : ℕ) (own : OwnEvent) → own_at to p k ≡ Some own → (own_at state p k ≡ Some own) ⊎ IsIn own.event events
   own_comes [] state to h p k own at = inl (subst (λ x. own_at x p k ≡ Some own) (sym (same_Some state to h)) at)
   own_comes (event ∷ events) state to h p k own at =
       let s = first_step state to event events h in
@@ -70,13 +78,15 @@ module _ {L : Type 0} (machine : Machine L) where
 
   -- and so do lost copies
 
-  lost_remains : (events : List Event) (state to : RunState L) → Reaches state events to → (copy : CopyName) → is_lost (mail_of state) copy ≡ true → is_lost (mail_of to) copy ≡ true
+  lost_remains : (events : List Event) (state to : RunState L) → Reaches state events to
+      → (copy : CopyName) → is_lost (mail_of state) copy ≡ true → is_lost (mail_of to) copy ≡ true
   lost_remains [] state to h copy is = subst (λ (x : RunState L). is_lost (mail_of x) copy ≡ true) (same_Some state to h) is
   lost_remains (event ∷ events) state to h copy is =
       let s = first_step state to event events h in
       lost_remains events s.0 to s.2 copy (lost_stays machine state s.0 event s.1 copy is)
 
-  pub lost_comes : (events : List Event) (state to : RunState L) → Reaches state events to → (copy : CopyName) → is_lost (mail_of to) copy ≡ true → (is_lost (mail_of state) copy ≡ true) ⊎ IsIn (Lost copy) events
+  pub lost_comes : (events : List Event) (state to : RunState L) → Reaches state events to → (copy : CopyName)
+      → is_lost (mail_of to) copy ≡ true → (is_lost (mail_of state) copy ≡ true) ⊎ IsIn (Lost copy) events
   lost_comes [] state to h copy is = inl (subst (λ (x : RunState L). is_lost (mail_of x) copy ≡ true) (sym (same_Some state to h)) is)
   lost_comes (event ∷ events) state to h copy is =
       let s = first_step state to event events h in
@@ -104,7 +114,8 @@ module _ {L : Type 0} (machine : Machine L) where
   IsMember state to (Step p k kind) = IsStepMember state to p k kind
   IsMember state to (Lost copy) = IsLossMember state to copy
 
-  first_step_member : (state next to : RunState L) (p k : ℕ) (kind : Kind) (events : List Event) → IsCounted state → IsTaken machine state p k kind next → Reaches next events to → IsStepMember state to p k kind
+  first_step_member : (state next to : RunState L) (p k : ℕ) (kind : Kind) (events : List Event) → IsCounted state
+      → IsTaken machine state p k kind next → Reaches next events to → IsStepMember state to p k kind
   first_step_member state next to p k kind events counted t h =
       record {
         number = let n = number_is machine state next p k kind t in omega (arith, n);
@@ -116,9 +127,11 @@ module _ {L : Type 0} (machine : Machine L) where
       }
 
   pub now_lost : (state next : RunState L) (copy : CopyName) → after machine state (Lost copy) ≡ Some next → is_lost (mail_of next) copy ≡ true
-  now_lost state next copy one = subst (λ (x : RunState L). is_lost (mail_of x) copy ≡ true) (lost_from machine state next copy one).1 (copy_joins state.lost copy)
+  now_lost state next copy one =
+      subst (λ (x : RunState L). is_lost (mail_of x) copy ≡ true) (lost_from machine state next copy one).1 (copy_joins state.lost copy)
 
-  first_loss_member : (state next to : RunState L) (copy : CopyName) (events : List Event) → after machine state (Lost copy) ≡ Some next → Reaches next events to → IsLossMember state to copy
+  first_loss_member : (state next to : RunState L) (copy : CopyName) (events : List Event)
+      → after machine state (Lost copy) ≡ Some next → Reaches next events to → IsLossMember state to copy
   first_loss_member state next to copy events one h =
       let lost = losable state next copy one in
       record {
@@ -127,8 +140,10 @@ module _ {L : Type 0} (machine : Machine L) where
         stands = lost_remains events next to h copy (now_lost state next copy one);
       }
 
-  pub first_member : (state next to : RunState L) (event : Event) (events : List Event) → IsCounted state → after machine state event ≡ Some next → Reaches next events to → IsMember state to event
-  first_member state next to (Step p k kind) events counted one h = first_step_member state next to p k kind events counted (taken_from machine state next p k kind one) h
+  pub first_member : (state next to : RunState L) (event : Event) (events : List Event) → IsCounted state
+      → after machine state event ≡ Some next → Reaches next events to → IsMember state to event
+  first_member state next to (Step p k kind) events counted one h =
+      first_step_member state next to p k kind events counted (taken_from machine state next p k kind one) h
   first_member state next to (Lost copy) events counted one h = first_loss_member state next to copy events one h
 
   later_member : (state next to : RunState L) (event other : Event) → after machine state event ≡ Some next → IsMember next to other → IsMember state to other
@@ -150,7 +165,8 @@ module _ {L : Type 0} (machine : Machine L) where
         stands = m.stands;
       }
 
-  pub member : (events : List Event) (state to : RunState L) → IsCounted state → Reaches state events to → (event : Event) → IsIn event events → IsMember state to event
+  pub member : (events : List Event) (state to : RunState L) → IsCounted state
+      → Reaches state events to → (event : Event) → IsIn event events → IsMember state to event
   member [] state to counted h event i = elim i [ ]
   member (first ∷ events) state to counted h event i =
       let s = first_step state to first events h in
@@ -168,7 +184,9 @@ module _ {L : Type 0} (machine : Machine L) where
   pub record AreStepsOrdered (to : RunState L) (p k : ℕ) (kind : Kind) (q l : ℕ) (other : Kind) : Type 0 where
     pub numbers : p ≡ q → k < l
     pub no_early_receive : (m : ℕ) → kind ≡ Recv q m → other ≡ Send m → ⊥
-    pub writes : (register : Reg) → accesses register kind ≡ true → accesses register other ≡ true → (a : ℕ) × (b : ℕ) × (own_at to p k ≡ Some (record { event = Step p k kind; writes_before = Some a })) × (own_at to q l ≡ Some (record { event = Step q l other; writes_before = Some b })) × (a ≤ b) × (kind ≡ Write register → a < b)
+    pub writes : (register : Reg) → accesses register kind ≡ true → accesses register other ≡ true
+        → (a : ℕ) × (b : ℕ) × (own_at to p k ≡ Some (record { event = Step p k kind; writes_before = Some a }))
+        × (own_at to q l ≡ Some (record { event = Step q l other; writes_before = Some b })) × (a ≤ b) × (kind ≡ Write register → a < b)
 
   -- a step of process p receives that copy
   abbrev pub ReceivesCopy : ℕ → Kind → CopyName → Type 0
@@ -184,7 +202,8 @@ module _ {L : Type 0} (machine : Machine L) where
   IsOrdered to (Lost copy) (Step p k kind) = (SendsCopy p kind copy → ⊥) × (ReceivesCopy p kind copy → ⊥)
   IsOrdered to (Lost copy) (Lost other) = copy ≡ other → ⊥
 
-  steps_ordered : (state next to : RunState L) (p k : ℕ) (kind : Kind) (q l : ℕ) (other : Kind) (events : List Event) → IsCounted state → IsTaken machine state p k kind next → Reaches next events to → IsStepMember next to q l other → AreStepsOrdered to p k kind q l other
+  steps_ordered : (state next to : RunState L) (p k : ℕ) (kind : Kind) (q l : ℕ) (other : Kind) (events : List Event) → IsCounted state
+      → IsTaken machine state p k kind next → Reaches next events to → IsStepMember next to q l other → AreStepsOrdered to p k kind q l other
   unfolding first_step_member
   steps_ordered state next to p k kind q l other events counted t h m =
       record {
@@ -210,12 +229,15 @@ module _ {L : Type 0} (machine : Machine L) where
             );
       }
 
-  head_ordered : (state next to : RunState L) (first second : Event) (events : List Event) → IsCounted state → after machine state first ≡ Some next → Reaches next events to → IsMember next to second → IsOrdered to first second
-  head_ordered state next to (Step p k kind) (Step q l other) events counted one h m = steps_ordered state next to p k kind q l other events counted (taken_from machine state next p k kind one) h m
+  head_ordered : (state next to : RunState L) (first second : Event) (events : List Event) → IsCounted state
+      → after machine state first ≡ Some next → Reaches next events to → IsMember next to second → IsOrdered to first second
+  head_ordered state next to (Step p k kind) (Step q l other) events counted one h m =
+      steps_ordered state next to p k kind q l other events counted (taken_from machine state next p k kind one) h m
   head_ordered state next to (Step p k kind) (Lost copy) events counted one h m =
       λ receives.
       m.unreceived
-      (subst (λ i. is_received (mail_of next) i copy.msg ≡ true) receives.0 (received_now machine state next p k kind (taken_from machine state next p k kind one) copy.msg.s copy.msg.m receives.1))
+      (subst (λ i. is_received (mail_of next) i copy.msg ≡ true) receives.0
+      (received_now machine state next p k kind (taken_from machine state next p k kind one) copy.msg.s copy.msg.m receives.1))
   head_ordered state next to (Lost copy) (Step p k kind) events counted one h m = (
     λ sends.
         let sent = some_of (nth (sent_by (mail_of state) copy.msg.s) copy.msg.m) (losable state next copy one).sent in
@@ -230,13 +252,15 @@ module _ {L : Type 0} (machine : Machine L) where
   head_ordered state next to (Lost copy) (Lost other) events counted one h m =
       λ same. m.fresh (subst (λ c. is_lost (mail_of next) c ≡ true) same (now_lost state next copy one))
 
-  pub ordered : (events : List Event) (state to : RunState L) → IsCounted state → Reaches state events to → (first second : Event) → IsBefore first second events → IsOrdered to first second
+  pub ordered : (events : List Event) (state to : RunState L) → IsCounted state → Reaches state events to
+      → (first second : Event) → IsBefore first second events → IsOrdered to first second
   ordered [] state to counted h first second b = elim b [ ]
   ordered (event ∷ events) state to counted h first second b =
       let s = first_step state to event events h in
       let then_counted = counted_after machine state s.0 event s.1 counted in
       ⊎_elim
-      (λ e. subst (λ x. IsOrdered to x second) (sym e.0) (head_ordered state s.0 to event second events counted s.1 s.2 (member events s.0 to then_counted s.2 second e.1)))
+      (λ e. subst (λ x. IsOrdered to x second) (sym e.0)
+      (head_ordered state s.0 to event second events counted s.1 s.2 (member events s.0 to then_counted s.2 second e.1)))
       (λ c. ordered events s.0 to then_counted s.2 first second c)
       (before_cases first second event events b)
     where
@@ -246,7 +270,8 @@ module _ {L : Type 0} (machine : Machine L) where
 
   -- at the start no process has done anything, and no copy is lost
 
-  slice_get-fresh : (firsts : List L) (k : ℕ) (process : ProcessState L) → slice_get (map fresh_process firsts) k ≡ Some process → (first : L) × (fresh_process first ≡ process)
+  slice_get-fresh : (firsts : List L) (k : ℕ) (process : ProcessState L)
+      → slice_get (map fresh_process firsts) k ≡ Some process → (first : L) × (fresh_process first ≡ process)
   slice_get-fresh [] k process h = absurd (none-some process h)
   slice_get-fresh (x ∷ xs) zero process h = (x, same_Some (fresh_process x) process h)
   slice_get-fresh (x ∷ xs) (suc k) process h = slice_get-fresh xs k process h

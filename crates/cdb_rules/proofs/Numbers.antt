@@ -2,7 +2,8 @@
 -- that it reads or writes.
 use Rattle.std.proofs.lemmas.Grind.{common_steps}
 use Rattle.std.proofs.lemmas.Option.{gets, same_Some}
-use Rattle.std.proofs.Common.{◌≡◌, ℕ, ◌+◌, ◌≤◌, Bool, true, false, ◌||◌, ◌⊎◌, inl, inr, ⊎_elim, length, Option, Some, None, option_and_then, option_map, option_to_list, nat_eq, refl, sym, ap, ap₂, ◌∙◌, subst, le_refl, le_of_eq, length-append, arith}
+use Rattle.std.proofs.Common.{◌≡◌, ℕ, ◌+◌, ◌≤◌, Bool, true, false, ◌||◌, ◌⊎◌, inl, inr, ⊎_elim, length, Option, Some, None, option_and_then}
+use Rattle.std.proofs.Common.{option_map, option_to_list, nat_eq, refl, sym, ap, ap₂, ◌∙◌, subst, le_refl, le_of_eq, length-append, arith}
 use Rattle.std.proofs.lemmas.List.{length_push}
 use Rattle.std.specs.FinSet as set
 use Rattle.std.specs.Cmp.{Equal-is, tied_itself}
@@ -28,7 +29,7 @@ use Rattle.cdb_rules.specs.Mail.{mail_of}
 use Rattle.cdb_rules.specs.State.{Machine, OwnEvent, ProcessState, RunState}
 use Rattle.cdb_process.specs.Wishes.{wished_payload, wished_cell}
 use Rattle.cdb_rules.specs.Step.{after}
-use Rattle.cdb_rules.specs.Taking.{registers_after}
+use Rattle.cdb_rules.specs.InputsTaken.{registers_after}
 use Rattle.cdb_rules.proofs.Stages.{sight_in, meets, is_due, sent_after, received_after, own_event}
 use Rattle.cdb_rules.proofs.Commutes.{lost_from}
 use Rattle.cdb_rules.proofs.Kept.{nat_eq-ne, nat_eq-is, same_copy, left, at_left, process_kept, lost_kept, other_sent_kept, other_received_kept}
@@ -72,24 +73,30 @@ of_register-put_cell : (cell : Cell) (o : Option RegisterState) → of_register 
 of_register-put_cell cell None = le_refl 0
 of_register-put_cell cell (Some register) = omega arith
 
-written_grows : (registers : RegisterStates) (x y : Reg) (cell : Cell) → of_register (register_of registers y) ≤ of_register (register_of (with_register (put_cell cell) registers x) y)
+written_grows : (registers : RegisterStates) (x y : Reg) (cell : Cell)
+    → of_register (register_of registers y) ≤ of_register (register_of (with_register (put_cell cell) registers x) y)
 written_grows registers (R p) (R q) cell =
-    elim (nat_eq p q) as (λ b. nat_eq p q ≡ b → of_register (nth registers.of_processes q) ≤ of_register (nth (update_nth (put_cell cell) registers.of_processes p) q)) [
+    elim (nat_eq p q) as
+    (λ b. nat_eq p q ≡ b → of_register (nth registers.of_processes q) ≤ of_register (nth (update_nth (put_cell cell) registers.of_processes p) q)) [
       | true ↦ λ e.
           let same : p ≡ q = nat_eq-is p q e in
           subst (λ i. of_register (nth registers.of_processes i) ≤ of_register (nth (update_nth (put_cell cell) registers.of_processes p) i)) same
-          (subst (λ o. of_register (nth registers.of_processes p) ≤ of_register o) (sym (nth-update_nth_same (put_cell cell) registers.of_processes p)) (of_register-put_cell cell (nth registers.of_processes p)))
+          (subst (λ o. of_register (nth registers.of_processes p) ≤ of_register o)
+          (sym (nth-update_nth_same (put_cell cell) registers.of_processes p)) (of_register-put_cell cell (nth registers.of_processes p)))
       | false ↦ λ e. le_of_eq (ap of_register (sym (nth-update_nth_other (put_cell cell) registers.of_processes p q (nat_eq-ne p q e))))
     ] refl
 written_grows registers (R p) Dec cell = le_refl (of_register registers.of_decision)
 written_grows registers Dec (R q) cell = le_refl (of_register (nth registers.of_processes q))
 written_grows registers Dec Dec cell = of_register-put_cell cell registers.of_decision
 
-written_one : (registers : RegisterStates) (x : Reg) (cell : Cell) (register : RegisterState) → register_of registers x ≡ Some register → of_register (register_of (with_register (put_cell cell) registers x) x) ≡ register.writes + 1
-written_one registers (R p) cell register at = ap of_register (nth-update_nth_same (put_cell cell) registers.of_processes p) ∙ ap (λ o. of_register (option_map (put_cell cell) o)) at
+written_one : (registers : RegisterStates) (x : Reg) (cell : Cell) (register : RegisterState) → register_of registers x ≡ Some register
+    → of_register (register_of (with_register (put_cell cell) registers x) x) ≡ register.writes + 1
+written_one registers (R p) cell register at =
+    ap of_register (nth-update_nth_same (put_cell cell) registers.of_processes p) ∙ ap (λ o. of_register (option_map (put_cell cell) o)) at
 written_one registers Dec cell register at = ap (λ o. of_register (option_map (put_cell cell) o)) at
 
-registers_grow : (registers : RegisterStates) (kind : Kind) (cell : Option Cell) (y : Reg) → of_register (register_of registers y) ≤ of_register (register_of (registers_after registers kind cell) y)
+registers_grow : (registers : RegisterStates) (kind : Kind) (cell : Option Cell) (y : Reg)
+    → of_register (register_of registers y) ≤ of_register (register_of (registers_after registers kind cell) y)
 registers_grow registers (Write x) (Some cell) y = written_grows registers x y cell
 registers_grow registers (Write x) None y = le_refl (of_register (register_of registers y))
 registers_grow registers _ cell y = le_refl (of_register (register_of registers y))
@@ -108,15 +115,18 @@ name_stays : (received : NameSet) (a b : MsgName) → set.contains received b �
 name_stays received a b h = set.contains-insert name_cmp_total received a b ∙ ap (λ t. eq_by_cmp name_cmp b a || t) h ∙ or-true (eq_by_cmp name_cmp b a)
 
 name_joins : (received : NameSet) (a : MsgName) → set.contains (set.insert received a) a ≡ true
-name_joins received a = set.contains-insert name_cmp_total received a a ∙ ap (λ t. t || set.contains received a) ((Equal-is (name_cmp a a)).1 (tied_itself name_cmp_total a))
+name_joins received a =
+    set.contains-insert name_cmp_total received a a ∙ ap (λ t. t || set.contains received a) ((Equal-is (name_cmp a a)).1 (tied_itself name_cmp_total a))
 
 copy_stays : (lost : CopySet) (a b : CopyName) → set.contains lost b ≡ true → set.contains (set.insert lost a) b ≡ true
 copy_stays lost a b h = set.contains-insert copy_cmp_total lost a b ∙ ap (λ t. eq_by_cmp copy_cmp b a || t) h ∙ or-true (eq_by_cmp copy_cmp b a)
 
 pub copy_joins : (lost : CopySet) (a : CopyName) → set.contains (set.insert lost a) a ≡ true
-copy_joins lost a = set.contains-insert copy_cmp_total lost a a ∙ ap (λ t. t || set.contains lost a) ((Equal-is (copy_cmp a a)).1 (tied_itself copy_cmp_total a))
+copy_joins lost a =
+    set.contains-insert copy_cmp_total lost a a ∙ ap (λ t. t || set.contains lost a) ((Equal-is (copy_cmp a a)).1 (tied_itself copy_cmp_total a))
 
-received_more : (received : NameSet) (kind : Kind) (name : MsgName) → set.contains received name ≡ true → set.contains (received_after received kind) name ≡ true
+received_more : (received : NameSet) (kind : Kind) (name : MsgName)
+    → set.contains received name ≡ true → set.contains (received_after received kind) name ≡ true
 received_more received (Recv s m) name h = name_stays received (message_name s m) name h
 received_more received _ name h = h
 
@@ -145,7 +155,10 @@ module _ {L : Type 0} (machine : Machine L) (state to : RunState L) (p k : ℕ) 
       elim (nat_eq p q) as (λ b. nat_eq p q ≡ b → sends_of state q ≤ sends_of to q) [
         | true ↦ λ e.
             subst (λ i. sends_of state i ≤ sends_of to i) (nat_eq-is p q e)
-            (let was = ap length (sent_is state p t.process t.at_process) in let is = ap length (sent_is to p next_process at_next) in let more = sent_more machine t.process kind in omega (arith, was, is, more))
+            (let was = ap length (sent_is state p t.process t.at_process) in
+            let is = ap length (sent_is to p next_process at_next) in
+            let more = sent_more machine t.process kind in
+            omega (arith, was, is, more))
         | false ↦ λ e. le_of_eq (ap length (sym (other_sent_kept machine state to p k kind t q (nat_eq-ne p q e))))
       ] refl
 
@@ -154,7 +167,9 @@ module _ {L : Type 0} (machine : Machine L) (state to : RunState L) (p k : ℕ) 
       elim (nat_eq p q) as (λ b. nat_eq p q ≡ b → is_received (mail_of to) q name ≡ true) [
         | true ↦ λ e.
             let same : p ≡ q = nat_eq-is p q e in
-            let old = sym (ap (λ names. set.contains names name) (received_is state p t.process t.at_process)) ∙ subst (λ i. is_received (mail_of state) i name ≡ true) (sym same) h in
+            let old =
+            sym (ap (λ names. set.contains names name) (received_is state p t.process t.at_process))
+            ∙ subst (λ i. is_received (mail_of state) i name ≡ true) (sym same) h in
             subst (λ i. is_received (mail_of to) i name ≡ true) same
             (ap (λ names. set.contains names name) (received_is to p next_process at_next) ∙ received_more t.process.received kind name old)
         | false ↦ λ e. ap (λ names. set.contains names name) (other_received_kept machine state to p k kind t q (nat_eq-ne p q e)) ∙ h
@@ -175,7 +190,8 @@ module _ {L : Type 0} (machine : Machine L) (state to : RunState L) (p k : ℕ) 
   send_number m h1 = grind (arith, common_steps, gets)
 
   -- what is received was sent, and is neither received nor lost
-  pub arrived : (s m : ℕ) → kind ≡ Recv s m → (is_sent (mail_of state) (message_name s m) ≡ true) × (is_lost (mail_of state) (copy_name (message_name s m) p) ≡ false)
+  pub arrived : (s m : ℕ) → kind ≡ Recv s m
+      → (is_sent (mail_of state) (message_name s m) ≡ true) × (is_lost (mail_of state) (copy_name (message_name s m) p) ≡ false)
   arrived s m e = arrives (mail_of state) p s m (subst (λ x. meets x (sight_in state p x) ≡ true) e goes_on.met)
 
   pub received_sent : (s m : ℕ) → kind ≡ Recv s m → m ≤ sends_of state s
@@ -218,7 +234,8 @@ module _ {L : Type 0} (machine : Machine L) (state to : RunState L) (p k : ℕ) 
       ] refl
 
   -- a read or a write meets the register as it stands
-  met_register : (register : Reg) → accesses register kind ≡ true → ((kind ≡ Read register) ⊎ (kind ≡ Write register)) × (stands : RegisterState) × (register_of state.registers register ≡ Some stands)
+  met_register : (register : Reg) → accesses register kind ≡ true
+      → ((kind ≡ Read register) ⊎ (kind ≡ Write register)) × (stands : RegisterState) × (register_of state.registers register ≡ Some stands)
   met_register register h =
       let cases = access_cases register kind h in
       let met : (stands : RegisterState) × (register_of state.registers register ≡ Some stands) =
@@ -253,31 +270,40 @@ module _ {L : Type 0} (machine : Machine L) (state to : RunState L) where
 
   pub writes_grow : (event : Event) → after machine state event ≡ Some to → (register : Reg) → writes_of state register ≤ writes_of to register
   writes_grow (Step p k kind) h register = step_writes_grow machine state to p k kind (taken_from machine state to p k kind h) register
-  writes_grow (Lost copy) h register = subst (λ (x : RunState L). writes_of state register ≤ writes_of x register) (lost_from machine state to copy h).1 (le_refl (writes_of state register))
+  writes_grow (Lost copy) h register =
+      subst (λ (x : RunState L). writes_of state register ≤ writes_of x register) (lost_from machine state to copy h).1 (le_refl (writes_of state register))
 
-  pub received_stays : (event : Event) → after machine state event ≡ Some to → (q : ℕ) (name : MsgName) → is_received (mail_of state) q name ≡ true → is_received (mail_of to) q name ≡ true
+  pub received_stays : (event : Event) → after machine state event ≡ Some to → (q : ℕ) (name : MsgName)
+      → is_received (mail_of state) q name ≡ true → is_received (mail_of to) q name ≡ true
   received_stays (Step p k kind) h q name was = step_received_stays machine state to p k kind (taken_from machine state to p k kind h) q name was
   received_stays (Lost copy) h q name was = subst (λ (x : RunState L). is_received (mail_of x) q name ≡ true) (lost_from machine state to copy h).1 was
 
-  pub lost_stays : (event : Event) → after machine state event ≡ Some to → (copy : CopyName) → is_lost (mail_of state) copy ≡ true → is_lost (mail_of to) copy ≡ true
-  lost_stays (Step p k kind) h copy was = ap (λ lost. set.contains lost copy) (lost_kept machine state to p k kind (taken_from machine state to p k kind h)) ∙ was
-  lost_stays (Lost other) h copy was = subst (λ (x : RunState L). is_lost (mail_of x) copy ≡ true) (lost_from machine state to other h).1 (copy_stays state.lost other copy was)
+  pub lost_stays : (event : Event) → after machine state event ≡ Some to → (copy : CopyName)
+      → is_lost (mail_of state) copy ≡ true → is_lost (mail_of to) copy ≡ true
+  lost_stays (Step p k kind) h copy was =
+      ap (λ lost. set.contains lost copy) (lost_kept machine state to p k kind (taken_from machine state to p k kind h)) ∙ was
+  lost_stays (Lost other) h copy was =
+      subst (λ (x : RunState L). is_lost (mail_of x) copy ≡ true) (lost_from machine state to other h).1 (copy_stays state.lost other copy was)
 
   -- what is lost after an event was lost before, or the event is its loss
-  pub lost_cases : (event : Event) → after machine state event ≡ Some to → (copy : CopyName) → is_lost (mail_of to) copy ≡ true → (is_lost (mail_of state) copy ≡ true) ⊎ (event ≡ Lost copy)
-  lost_cases (Step p k kind) h copy is = inl (sym (ap (λ lost. set.contains lost copy) (lost_kept machine state to p k kind (taken_from machine state to p k kind h))) ∙ is)
+  pub lost_cases : (event : Event) → after machine state event ≡ Some to → (copy : CopyName)
+      → is_lost (mail_of to) copy ≡ true → (is_lost (mail_of state) copy ≡ true) ⊎ (event ≡ Lost copy)
+  lost_cases (Step p k kind) h copy is =
+      inl (sym (ap (λ lost. set.contains lost copy) (lost_kept machine state to p k kind (taken_from machine state to p k kind h))) ∙ is)
   lost_cases (Lost other) h copy is =
       ⊎_elim
       (λ tied. inr (ap Lost (sym (same_copy copy other tied))))
       inl
       (or_cases (eq_by_cmp copy_cmp copy other) (set.contains state.lost copy)
-      (sym (set.contains-insert copy_cmp_total state.lost other copy) ∙ subst (λ (x : RunState L). is_lost (mail_of x) copy ≡ true) (sym (lost_from machine state to other h).1) is))
+      (sym (set.contains-insert copy_cmp_total state.lost other copy)
+      ∙ subst (λ (x : RunState L). is_lost (mail_of x) copy ≡ true) (sym (lost_from machine state to other h).1) is))
 
   pub own_kept : (event : Event) → after machine state event ≡ Some to → (q l : ℕ) (own : OwnEvent) → own_at state q l ≡ Some own → own_at to q l ≡ Some own
   own_kept (Step p k kind) h q l own was = step_own_kept machine state to p k kind (taken_from machine state to p k kind h) q l own was
   own_kept (Lost copy) h q l own was = subst (λ (x : RunState L). own_at x q l ≡ Some own) (lost_from machine state to copy h).1 was
 
-  pub own_cases : (event : Event) → after machine state event ≡ Some to → (q l : ℕ) (own : OwnEvent) → own_at to q l ≡ Some own → (own_at state q l ≡ Some own) ⊎ (event ≡ own.event)
+  pub own_cases : (event : Event) → after machine state event ≡ Some to → (q l : ℕ) (own : OwnEvent)
+      → own_at to q l ≡ Some own → (own_at state q l ≡ Some own) ⊎ (event ≡ own.event)
   own_cases (Step p k kind) h q l own is = step_own_cases machine state to p k kind (taken_from machine state to p k kind h) q l own is
   own_cases (Lost copy) h q l own is = inl (subst (λ (x : RunState L). own_at x q l ≡ Some own) (sym (lost_from machine state to copy h).1) is)
 

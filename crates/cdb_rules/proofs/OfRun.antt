@@ -22,7 +22,7 @@ use Rattle.cdb_rules.proofs.Commutes.{lost_from}
 use Rattle.cdb_rules.proofs.FirstStates.{length-first_states}
 use Rattle.cdb_rules.proofs.Histories.{reached_state}
 use Rattle.cdb_rules.proofs.Stages.{is_due}
-use Rattle.cdb_rules.proofs.Standing.{valid_named}
+use Rattle.cdb_rules.proofs.AllStanding.{valid_named}
 use Rattle.cdb_rules.proofs.Taken.{both, parts, taken_from, some_of}
 use Rattle.cdb_setup.specs.Parts.{Parts, AreInRange}
 

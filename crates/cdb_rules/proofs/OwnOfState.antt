@@ -1,5 +1,6 @@
 -- The own events of a process, as the state has them, are its steps as the history alone tells them.
-use Rattle.std.proofs.Common.{arith, ◌≡◌, ℕ, zero, suc, ◌+◌, length, replicate, slice_get, true, false, cond, List, [], ◌∷◌, ◌++◌, Option, Some, None, filter, option_map, unwrap_or, ◌==◌, if◌then◌else◌, refl, sym, ap, ap₂, ◌∙◌, subst, append-nil, append_assoc}
+use Rattle.std.proofs.Common.{arith, ◌≡◌, ℕ, zero, suc, ◌+◌, length, replicate, slice_get, true, false, cond, List, [], ◌∷◌, ◌++◌, Option, Some, None}
+use Rattle.std.proofs.Common.{filter, option_map, unwrap_or, ◌==◌, if◌then◌else◌, refl, sym, ap, ap₂, ◌∙◌, subst, append-nil, append_assoc}
 use Rattle.std.proofs.lemmas.Grind.{common_steps}
 use Rattle.std.proofs.lemmas.Option.{gets, same_Some}
 use Rattle.cdb_base.specs.Event.{is_step_of}
@@ -23,7 +24,8 @@ use Rattle.cdb_rules.proofs.Numbers.{of_register, writes_of, write_counts}
 use Rattle.cdb_rules.proofs.Taken.{IsTaken, taken_from}
 
 -- what is noted depends on the counts of the registers alone
-pub noted_same : (writes others : Reg → ℕ) → ((register : Reg) → writes register ≡ others register) → (events : List Event) → as_own_events writes events ≡ as_own_events others events
+pub noted_same : (writes others : Reg → ℕ) → ((register : Reg) → writes register ≡ others register)
+    → (events : List Event) → as_own_events writes events ≡ as_own_events others events
 noted_same writes others h1 events = grind (arith, common_steps, gets)
 
 -- the steps of process p among the events, where this many writes of each register stand before them
@@ -48,7 +50,8 @@ module _ {L : Type 0} (machine : Machine L) where
 
         by_kind : (other : Kind) → kind ≡ other → writes_of to register ≡ writes_with (writes_of state) (Step p k other) register
         by_kind (Write x) is =
-            elim (same_register x register) as (λ b. same_register x register ≡ b → writes_of to register ≡ (if b then writes_of state register + 1 else writes_of state register)) [
+            elim (same_register x register) as
+            (λ b. same_register x register ≡ b → writes_of to register ≡ (if b then writes_of state register + 1 else writes_of state register)) [
               | true ↦ λ e. write_counts machine state to p k kind t register (is ∙ ap Write (same_register-true x register e))
               | false ↦ λ e. kept (ap (λ y. kind_affects p y (Read register)) is ∙ e)
             ] refl
@@ -72,21 +75,29 @@ module _ {L : Type 0} (machine : Machine L) where
     own_joins = grind (arith, common_steps, gets)
 
   -- one event more
-  one_more : (state next : RunState L) (event : Event) (events : List Event) → after machine state event ≡ Some next → (p : ℕ) → own_of next p ++ steps_behind (writes_of next) p events ≡ own_of state p ++ steps_behind (writes_of state) p (event ∷ events)
+  one_more : (state next : RunState L) (event : Event) (events : List Event) → after machine state event ≡ Some next → (p : ℕ)
+      → own_of next p ++ steps_behind (writes_of next) p events ≡ own_of state p ++ steps_behind (writes_of state) p (event ∷ events)
   one_more state next (Lost copy) events one p =
-      subst (λ (x : RunState L). own_of x p ++ steps_behind (writes_of x) p events ≡ own_of state p ++ steps_behind (writes_of state) p events) (lost_from machine state next copy one).1 refl
+      subst (λ (x : RunState L). own_of x p ++ steps_behind (writes_of x) p events ≡ own_of state p ++ steps_behind (writes_of state) p events)
+      (lost_from machine state next copy one).1 refl
   one_more state next (Step q k kind) events one p =
       let t = taken_from machine state next q k kind one in
-      let later = ap (filter (λ (own : OwnEvent). is_step_of p own.event)) (noted_same (writes_of next) (writes_with (writes_of state) (Step q k kind)) (writes_after_step state next q k kind t) events) in
-      elim (q == p) as (λ b. (q == p) ≡ b → own_of next p ++ steps_behind (writes_of next) p events ≡ own_of state p ++ cond b (stands state next q k kind t ∷ steps_behind (writes_with (writes_of state) (Step q k kind)) p events) (steps_behind (writes_with (writes_of state) (Step q k kind)) p events)) [
+      let later =
+      ap (filter (λ (own : OwnEvent). is_step_of p own.event))
+      (noted_same (writes_of next) (writes_with (writes_of state) (Step q k kind)) (writes_after_step state next q k kind t) events) in
+      elim (q == p) as (λ b. (q == p) ≡ b → own_of next p ++ steps_behind (writes_of next) p events ≡ own_of state p ++ cond b (stands state next q k kind t
+      ∷ steps_behind (writes_with (writes_of state) (Step q k kind)) p events) (steps_behind (writes_with (writes_of state) (Step q k kind)) p events)) [
         | true ↦ λ e.
-            ap₂ (λ own steps. own ++ steps) (subst (λ i. own_of next i ≡ own_of state i ++ stands state next q k kind t ∷ []) (nat_eq-is q p e) (own_joins state next q k kind t)) later
+            ap₂ (λ own steps. own ++ steps)
+            (subst (λ i. own_of next i ≡ own_of state i ++ stands state next q k kind t ∷ []) (nat_eq-is q p e) (own_joins state next q k kind t)) later
             ∙ append_assoc (own_of state p) (stands state next q k kind t ∷ []) (steps_behind (writes_with (writes_of state) (Step q k kind)) p events)
-        | false ↦ λ e. ap₂ (λ o steps. unwrap_or (option_map (λ (process : ProcessState L). process.own) o) [] ++ steps) (process_kept machine state next q k kind t p (nat_eq-ne q p e)) later
+        | false ↦ λ e. ap₂ (λ o steps. unwrap_or (option_map (λ (process : ProcessState L). process.own) o) [] ++ steps)
+            (process_kept machine state next q k kind t p (nat_eq-ne q p e)) later
       ] refl
 
   -- what the events add to the own lists
-  own_lists : (events : List Event) (state to : RunState L) → Reaches machine state events to → (p : ℕ) → own_of to p ≡ own_of state p ++ steps_behind (writes_of state) p events
+  own_lists : (events : List Event) (state to : RunState L) → Reaches machine state events to
+      → (p : ℕ) → own_of to p ≡ own_of state p ++ steps_behind (writes_of state) p events
   own_lists [] state to h p = ap (λ x. own_of x p) (sym (same_Some state to h)) ∙ sym (append-nil (own_of state p))
   own_lists (event ∷ events) state to h p =
       let s = first_step machine state to event events h in
@@ -95,7 +106,8 @@ module _ {L : Type 0} (machine : Machine L) where
   start_own : (p : ℕ) → own_of (start machine) p ≡ []
   start_own p = by_process (nth (start machine).processes p) (λ process at. ap (λ (x : ProcessState L). x.own) (sym (nth-fresh machine p process at).1))
     where
-      by_process : (o : Option (ProcessState L)) → ((process : ProcessState L) → o ≡ Some process → process.own ≡ []) → unwrap_or (option_map (λ (process : ProcessState L). process.own) o) [] ≡ []
+      by_process : (o : Option (ProcessState L)) → ((process : ProcessState L) → o ≡ Some process → process.own ≡ [])
+          → unwrap_or (option_map (λ (process : ProcessState L). process.own) o) [] ≡ []
       by_process None fresh = refl
       by_process (Some process) fresh = fresh process refl
 
@@ -106,4 +118,5 @@ module _ {L : Type 0} (machine : Machine L) where
   pub own_of_history : (history : List Event) (to : RunState L) → fold machine history ≡ Some to → (p : ℕ) → own_of to p ≡ own_steps p history
   own_of_history history to h p =
       own_lists history (start machine) to h p
-      ∙ ap₂ (λ own events. own ++ filter (λ (e : OwnEvent). is_step_of p e.event) events) (start_own p) (noted_same (writes_of (start machine)) no_writes start_writes history)
+      ∙ ap₂ (λ own events. own ++ filter (λ (e : OwnEvent). is_step_of p e.event) events)
+      (start_own p) (noted_same (writes_of (start machine)) no_writes start_writes history)

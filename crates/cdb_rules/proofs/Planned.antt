@@ -16,7 +16,8 @@ use Rattle.cdb_message.specs.Mail.{MailState, message_name, copy_name, sent_by, 
 use Rattle.cdb_process.specs.declared.Wish.{Wish}
 use Rattle.cdb_process.specs.declared.Wish.TheVariants as wished
 use Rattle.cdb_rules.specs.Mail.{mail_of}
-use Rattle.cdb_rules.specs.Refusals.{first_refusal, wished_kind, named_kind, accepts_kind, accepts_act, asks_for, names_no_leader, step_checks, named_event, unless_refused, planned}
+use Rattle.cdb_rules.specs.Refusals.{first_refusal, wished_kind, named_kind, accepts_kind, accepts_act, asks_for}
+use Rattle.cdb_rules.specs.Refusals.{names_no_leader, step_checks, named_event, unless_refused, planned}
 use Rattle.cdb_rules.specs.State.{Machine, ProcessState, RunState}
 use Rattle.cdb_rules.specs.Step.{is_among, after}
 use Rattle.cdb_rules.proofs.Granted.{IsLawful, Fits, all_pass, enabled_where_accepted}
@@ -43,7 +44,9 @@ wished_fits machine mail p sends (wished.Read register) = tt
 wished_fits machine mail p sends (wished.Write register cell) = tt
 wished_fits machine mail p sends wished.Local = tt
 
-module _ {L : Type 0} (machine : Machine L) (setup : Parts) (number : length machine.firsts ≡ setup.processes) (state : RunState L) (p : ℕ) (process : ProcessState L) (answers : (leader : ℕ) → answer_of setup p (process.progress.queries + 1) ≡ Some leader → is_among setup.processes leader ≡ true) where
+module _ {L : Type 0} (machine : Machine L) (setup : Parts)
+    (number : length machine.firsts ≡ setup.processes) (state : RunState L) (p : ℕ) (process : ProcessState L)
+    (answers : (leader : ℕ) → answer_of setup p (process.progress.queries + 1) ≡ Some leader → is_among setup.processes leader ≡ true) where
   abbrev sends : ℕ
   sends = length (sent_by (mail_of state) p)
 
@@ -93,10 +96,13 @@ module _ {L : Type 0} (machine : Machine L) (setup : Parts) (number : length mac
       (record { accepted = accepted; fits = (not_false (is_sent (mail_of state) (message_name s m)) sent, received, lost) })
 
   -- the event that is answered is the next step of the process, and enabled
-  pub planned_enabled : IsLawful machine → nth state.processes p ≡ Some process → (do_act : Act) (event : Event) → planned machine setup (mail_of state) state.registers process.progress p do_act ≡ Ok event → IsSome (after machine state event)
+  pub planned_enabled : IsLawful machine → nth state.processes p ≡ Some process → (do_act : Act) (event : Event)
+      → planned machine setup (mail_of state) state.registers process.progress p do_act ≡ Ok event → IsSome (after machine state event)
   planned_enabled lawful at do_act event h =
       let mail = mail_of state in
-      let clear = unrefused (first_refusal (step_checks machine setup mail state.registers process.progress p do_act)) (named_event machine setup mail process.progress p do_act) event h in
+      let clear =
+      unrefused (first_refusal (step_checks machine setup mail state.registers process.progress p do_act))
+      (named_event machine setup mail process.progress p do_act) event h in
       let alive = all_pass (step_checks machine setup mail state.registers process.progress p do_act) clear.0 in
       let going = alive.1 in
       let accepted = going.1 in
@@ -106,7 +112,10 @@ module _ {L : Type 0} (machine : Machine L) (setup : Parts) (number : length mac
       let limit = leader.1.1 in
       let lost = limit.1 in
       let named = mapped (Step p (process.progress.steps + 1)) (named_kind wish sends answer do_act) event clear.1 in
-      let grants = granted do_act named.0 named.1 (not_false (accepts_act machine process.progress.local sends state.registers do_act) accepted.0) sent.0 received.0 leader.0 lost.0 in
+      let grants =
+      granted do_act named.0 named.1 (not_false (accepts_act machine process.progress.local sends state.registers do_act) accepted.0)
+      sent.0 received.0 leader.0 lost.0 in
       subst (λ e. IsSome (after machine state e)) named.2
       (enabled_where_accepted machine lawful state p process at (process.progress.steps + 1) named.0
-      (not_false process.progress.alive alive.0) going.0 (is_its_own (process.progress.steps + 1)) (one_more process.progress.steps limit.0) grants.accepted grants.fits)
+      (not_false process.progress.alive alive.0) going.0 (is_its_own (process.progress.steps + 1))
+      (one_more process.progress.steps limit.0) grants.accepted grants.fits)

@@ -1,5 +1,6 @@
 -- What stands at a position of a list after a write to another position, or to that one.
-use Rattle.std.proofs.Common.{arith, map, ◌≡◌, ℕ, zero, suc, ◌+◌, ◌≤◌, ◌≢◌, ◌⊎◌, inl, List, [], ◌∷◌, ◌++◌, Some, option_map, length, slice_get, slice_set, refl, sym, ap, subst, ◌∙◌, add-one}
+use Rattle.std.proofs.Common.{arith, map, ◌≡◌, ℕ, zero, suc, ◌+◌, ◌≤◌, ◌≢◌, ◌⊎◌, inl, List, [], ◌∷◌, ◌++◌, Some}
+use Rattle.std.proofs.Common.{option_map, length, slice_get, slice_set, refl, sym, ap, subst, ◌∙◌, add-one}
 use Rattle.std.proofs.lemmas.Grind.{common_steps}
 use Rattle.std.proofs.lemmas.Option.{gets, none-some, slice_get_within}
 use Rattle.cdb_base.specs.Positions.{nth, set_nth, update, update_nth}

@@ -1,7 +1,8 @@
 -- What undo and rollback take out of a history is missing from it.
 use Rattle.std.proofs.lemmas.Grind.{common_steps}
 use Rattle.std.proofs.lemmas.Option.{gets, none-some, same_Some}
-use Rattle.std.proofs.Common.{◌≡◌, ℕ, zero, suc, ◌+◌, ◌≤◌, Bool, true, false, cond, List, [], ◌∷◌, ◌++◌, length, Option, Some, None, Result, Ok, Err, reverse, find, refl, sym, subst, arith}
+use Rattle.std.proofs.Common.{◌≡◌, ℕ, zero, suc, ◌+◌, ◌≤◌, Bool, true, false, cond, List, [], ◌∷◌, ◌++◌, length}
+use Rattle.std.proofs.Common.{Option, Some, None, Result, Ok, Err, reverse, find, refl, sym, subst, arith}
 use Rattle.std.specs.List.{AllByRecursion, position}
 use Rattle.std.proofs.lemmas.List.{length-reverse, reverse-append}
 use Rattle.cdb_base.specs.Positions.{nth}
@@ -9,7 +10,7 @@ use Rattle.cdb_base.specs.declared.event.Event.{Event}
 use Rattle.cdb_base.specs.declared.name.StepId.{StepId}
 use Rattle.cdb_base.specs.declared.refusal.Refusal.{Refusal}
 use Rattle.cdb_causal.specs.Dependence.{depends}
-use Rattle.cdb_causal.specs.Rollback.{without, rolled_back, remaining, depends_on_one, caught, uncaught}
+use Rattle.cdb_causal.specs.Rollback.{without, rolled_back, remaining, depends_on_one, dependents, independents}
 use Rattle.cdb_rules.proofs.Alls.{all-append}
 use Rattle.cdb_rules.specs.Undo.{Found, is_named, names_processes, found_at, event_named, undo_of, rollback_of, result_alone, number_removed}
 
@@ -62,23 +63,24 @@ module _ (P : Event → Type 0) where
       let rest = without-parted xs (suc i) event stands in
       record { count = omega (arith, rest.count); gone = λ all. rest.gone all.1; left = λ all. (all.0, rest.left all.1) }
 
-  one-more : (b : Bool) (x : Event) (xs taken left_taken uncaught_ left_uncaught : List Event) → Parted xs taken left_taken → Parted xs uncaught_ left_uncaught → Parted (x ∷ xs) (cond b (x ∷ taken) uncaught_) (cond b left_taken (x ∷ left_uncaught))
-  one-more true x xs taken left_taken uncaught_ left_uncaught h k =
+  one-more : (b : Bool) (x : Event) (xs taken left_taken independent_ left_independent : List Event) → Parted xs taken left_taken
+      → Parted xs independent_ left_independent → Parted (x ∷ xs) (cond b (x ∷ taken) independent_) (cond b left_taken (x ∷ left_independent))
+  one-more true x xs taken left_taken independent_ left_independent h k =
       record { count = omega (arith, h.count); gone = λ all. (all.0, h.gone all.1); left = λ all. h.left all.1 }
-  one-more false x xs taken left_taken uncaught_ left_uncaught h k =
+  one-more false x xs taken left_taken independent_ left_independent h k =
       record { count = omega (arith, k.count); gone = λ all. k.gone all.1; left = λ all. (all.0, k.left all.1) }
 
-  caught-parted : (causes events : List Event) → Parted events (caught depends causes events) (uncaught depends causes events)
-  caught-parted causes [] = record { count = refl; gone = λ all. tt; left = λ all. tt }
-  caught-parted causes (x ∷ xs) =
-      one-more (depends_on_one depends causes x) x xs _ _ _ _ (caught-parted (causes ++ x ∷ []) xs) (caught-parted causes xs)
+  dependents-parted : (causes events : List Event) → Parted events (dependents depends causes events) (independents depends causes events)
+  dependents-parted causes [] = record { count = refl; gone = λ all. tt; left = λ all. tt }
+  dependents-parted causes (x ∷ xs) =
+      one-more (depends_on_one depends causes x) x xs _ _ _ _ (dependents-parted (causes ++ x ∷ []) xs) (dependents-parted causes xs)
 
   rolled-parted : (history : List Event) (at : ℕ) → Parted history (rolled_back depends history at) (remaining depends history at)
-  rolled-parted history zero = caught-parted [] history
+  rolled-parted history zero = dependents-parted [] history
   rolled-parted [] (suc zero) = record { count = refl; gone = λ all. tt; left = λ all. tt }
   rolled-parted [] (suc (suc i)) = record { count = refl; gone = λ all. tt; left = λ all. tt }
   rolled-parted (x ∷ xs) (suc zero) =
-      let rest = caught-parted (x ∷ []) xs in
+      let rest = dependents-parted (x ∷ []) xs in
       record { count = omega (arith, rest.count); gone = λ all. (all.0, rest.gone all.1); left = λ all. rest.left all.1 }
   rolled-parted (x ∷ xs) (suc (suc i)) =
       let rest = rolled-parted xs (suc i) in
@@ -88,7 +90,8 @@ module _ (P : Event → Type 0) where
   all-reverse [] all = tt
   all-reverse (x ∷ xs) all = subst (AllByRecursion P) (sym (reverse-append (x ∷ []) xs)) (all-append P (reverse xs) (x ∷ []) (all-reverse xs all.1) (all.0, tt))
 
-  pub undone-parted : (n : ℕ) (history : List Event) (name : StepId) (undone : Event × List Event) → undo_of n history name ≡ Ok undone → Parted history (undone.0 ∷ []) undone.1
+  pub undone-parted : (n : ℕ) (history : List Event) (name : StepId) (undone : Event × List Event)
+      → undo_of n history name ≡ Ok undone → Parted history (undone.0 ∷ []) undone.1
   undone-parted n history name undone h =
       result_cases (Parted history (undone.0 ∷ []) undone.1) (event_named n history name)
       (λ found is. option_cases (Parted history (undone.0 ∷ []) undone.1) (find (depends found.event) found.later)
@@ -100,7 +103,8 @@ module _ (P : Event → Type 0) where
       (λ dependent some. let f : undo_of n history name ≡ Ok undone → Parted history (undone.0 ∷ []) undone.1 = rw (is, some) (λ k. absurd (cc)) in f h))
       (λ why is. let f : undo_of n history name ≡ Ok undone → Parted history (undone.0 ∷ []) undone.1 = rw is (λ k. absurd (cc)) in f h)
 
-  pub rolled_back-parted : (n : ℕ) (history : List Event) (name : StepId) (removed : List Event × List Event) → rollback_of n history name ≡ Ok removed → Parted history removed.0 removed.1
+  pub rolled_back-parted : (n : ℕ) (history : List Event) (name : StepId) (removed : List Event × List Event)
+      → rollback_of n history name ≡ Ok removed → Parted history removed.0 removed.1
   rolled_back-parted n history name removed h =
       result_cases (Parted history removed.0 removed.1) (event_named n history name)
       (λ found is. let f : rollback_of n history name ≡ Ok removed → Parted history removed.0 removed.1 =
@@ -118,11 +122,13 @@ module _ (P : Event → Type 0) where
           }
 
 -- a rollback removes one event at least
-pub removed-one : (n : ℕ) (history : List Event) (name : StepId) (removed : List Event × List Event) → rollback_of n history name ≡ Ok removed → 1 ≤ length removed.0
+pub removed-one : (n : ℕ) (history : List Event) (name : StepId) (removed : List Event × List Event)
+    → rollback_of n history name ≡ Ok removed → 1 ≤ length removed.0
 removed-one n history name removed h1 = grind (arith, common_steps, gets)
 
 -- no more events are removed than stood
-pub few-removed : (n : ℕ) (history : List Event) (name : StepId) (count most : ℕ) → length history ≤ most → number_removed (result_alone (rollback_of n history name)) ≡ Ok count → count ≤ most
+pub few-removed : (n : ℕ) (history : List Event) (name : StepId) (count most : ℕ) → length history ≤ most
+    → number_removed (result_alone (rollback_of n history name)) ≡ Ok count → count ≤ most
 few-removed n history name count most few counted = go (rollback_of n history name) refl counted
   where
     go : (r : Result (List Event × List Event) Refusal) → rollback_of n history name ≡ r → number_removed (result_alone r) ≡ Ok count → count ≤ most

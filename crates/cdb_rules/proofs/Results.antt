@@ -1,6 +1,7 @@
 -- What an undo is answered, by what is found.
 use Rattle.std.proofs.lemmas.Option.{none-some, same_Some}
-use Rattle.std.proofs.Common.{◌≡◌, ℕ, zero, suc, ◌+◌, ◌<◌, Bool, true, false, List, [], ◌∷◌, Some, None, Ok, Err, find, drop, ◌-◌, slice_get, refl, sym, ap, ap₂, ◌∙◌, arith, cond}
+use Rattle.std.proofs.Common.{◌≡◌, ℕ, zero, suc, ◌+◌, ◌<◌, Bool, true, false, List, [], ◌∷◌, Some, None}
+use Rattle.std.proofs.Common.{Ok, Err, find, drop, ◌-◌, slice_get, refl, sym, ap, ap₂, ◌∙◌, arith, cond}
 use Rattle.std.specs.List.{AllByRecursion}
 use Rattle.std.specs.Option.{option_map_or}
 use Rattle.cdb_base.specs.Event.{event_name}
@@ -33,7 +34,9 @@ module _ {E : Type 0} (test : E → Bool) where
 module _ (history : List Event) (at : ℕ) where
   module _ (event : Event) (stands : nth history at ≡ Some event) where
     pub found_is : found_at history at ≡ Ok (record { event = event; position = at; earlier = events_before history at; later = events_behind history at })
-    found_is = ap (λ o. option_map_or (λ e. Ok (record { event = e; position = at; earlier = events_before history at; later = events_behind history at })) o (Err refusal.NoStep)) stands
+    found_is =
+        ap (λ o. option_map_or (λ e. Ok (record { event = e; position = at; earlier = events_before history at; later = events_behind history at }))
+        o (Err refusal.NoStep)) stands
 
     none_needs : IsFree depends history at → find (depends event) (drop at history) ≡ None
     none_needs free = find_none (depends event) (drop at history) (none_behind depends history at event stands free)
@@ -61,7 +64,8 @@ module _ (history : List Event) (at : ℕ) where
         omega (arith, before, less, e)))
 
     -- one that is needed is refused, with the first that needs it
-    pub needed_result : (name : StepId) → IsFirstDependent history at name → for_standing (found_at history at) (undo_found history) ≡ Err (refusal.NeededBy name)
+    pub needed_result : (name : StepId) → IsFirstDependent history at name
+        → for_standing (found_at history at) (undo_found history) ≡ Err (refusal.NeededBy name)
     needed_result name first =
         ap (λ f. for_standing f (undo_found history)) found_is
         ∙ ap (λ o. option_map_or (λ dependent. Err (refusal.NeededBy (event_name dependent))) o (Ok (event, without history at))) (first_needs name first)

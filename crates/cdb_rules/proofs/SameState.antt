@@ -1,7 +1,8 @@
 -- Histories that reach the same state are equal up to exchange.
 use Rattle.std.proofs.lemmas.Grind.{common_steps}
 use Rattle.std.proofs.lemmas.Option.{gets, same_Some}
-use Rattle.std.proofs.Common.{◌≡◌, ℕ, Bool, true, false, ◌||◌, ◌⊎◌, inl, inr, ⊎_elim, List, [], ◌∷◌, Option, Some, nat_eq, refl, sym, ap, ap₂, ◌∙◌, subst, true≢false, lt_irrefl, arith}
+use Rattle.std.proofs.Common.{◌≡◌, ℕ, Bool, true, false, ◌||◌, ◌⊎◌, inl, inr, ⊎_elim, List, [], ◌∷◌, Option}
+use Rattle.std.proofs.Common.{Some, nat_eq, refl, sym, ap, ap₂, ◌∙◌, subst, true≢false, lt_irrefl, arith}
 use Rattle.cdb_base.specs.declared.event.Event.{Event}
 use Rattle.cdb_base.specs.declared.event.Event.TheVariants.{Step, Lost}
 use Rattle.cdb_base.specs.declared.event.Kind.{Kind}
@@ -46,7 +47,8 @@ stand_apart x y (e ∷ es) (there i) (there j) =
 
 module _ {L : Type 0} (machine : Machine L) where
   module _ (to : RunState L) where
-    pub step_loss_not_both : (p k : ℕ) (kind : Kind) (copy : CopyName) → depends (Step p k kind) (Lost copy) ≡ true → IsOrdered machine to (Lost copy) (Step p k kind) → ⊥
+    pub step_loss_not_both : (p k : ℕ) (kind : Kind) (copy : CopyName)
+        → depends (Step p k kind) (Lost copy) ≡ true → IsOrdered machine to (Lost copy) (Step p k kind) → ⊥
     step_loss_not_both p k kind copy h1 h2 = grind (arith, common_steps, gets)
 
     -- two events that depend on each other cannot stand in both orders
@@ -83,7 +85,8 @@ module _ {L : Type 0} (machine : Machine L) where
   also_ordered to other shown (Lost copy) (Step q l kind') o = o
   also_ordered to other shown (Lost copy) (Lost copy') o = o
 
-  module _ (events others : List Event) (to other : RunState L) (shown : ShowTheSame to other) (h : fold machine events ≡ Some to) (g : fold machine others ≡ Some other) where
+  module _ (events others : List Event) (to other : RunState L) (shown : ShowTheSame to other)
+      (h : fold machine events ≡ Some to) (g : fold machine others ≡ Some other) where
     also_in : (event : Event) → IsIn event events → IsIn event others
     also_in (Step p k kind) i =
         let m = member machine events (start machine) to (start_counted machine) h (Step p k kind) i in
@@ -105,7 +108,8 @@ module _ {L : Type 0} (machine : Machine L) where
         ⊎_elim (λ c. c)
         (⊎_elim
         (λ same. absurd (once events to h x (subst (λ z. IsBefore x z events) (sym same) b)))
-        (λ c. absurd (not_both_orders to x y d o (also_ordered to other shown y x (ordered machine others (start machine) other (start_counted machine) g y x c)))))
+        (λ c. absurd
+        (not_both_orders to x y d o (also_ordered to other shown y x (ordered machine others (start machine) other (start_counted machine) g y x c)))))
         (stand_apart x y others (also_in x (first_of b)) (also_in y (second_of b)))
       where
         first_of : {u v : Event} {l : List Event} → IsBefore u v l → IsIn u l
@@ -117,12 +121,14 @@ module _ {L : Type 0} (machine : Machine L) where
         second_of (there c) = there (second_of c)
 
   -- histories that reach states with the same own events and losses are equal up to exchange
-  pub shown_exchanged : (history others : List Event) (to other : RunState L) → ShowTheSame to other → fold machine history ≡ Some to → fold machine others ≡ Some other → IsExchanged depends history others
+  pub shown_exchanged : (history others : List Event) (to other : RunState L) → ShowTheSame to other
+      → fold machine history ≡ Some to → fold machine others ≡ Some other → IsExchanged depends history others
   shown_exchanged history others to other shown h g =
       exchanged_from_order depends history others (once history to h) (once others other g)
       (λ event. (also_in history others to other shown h g event, also_in others history other to (shown_turned to other shown) g h event))
       (same_order history others to other shown h g)
 
   -- histories that reach the same state are equal up to exchange
-  pub same_state_exchanged : (history other : List Event) (state : RunState L) → fold machine history ≡ Some state → fold machine other ≡ Some state → IsExchanged depends history other
+  pub same_state_exchanged : (history other : List Event) (state : RunState L)
+      → fold machine history ≡ Some state → fold machine other ≡ Some state → IsExchanged depends history other
   same_state_exchanged history other state h g = shown_exchanged history other state state (record { own = λ p k. refl; lost = λ copy. refl }) h g

@@ -1,5 +1,6 @@
 -- A step in its stages: whether it is due, what it meets, what its machine accepts, and what each part of the state is after it.
-use Rattle.std.specs.Prelude.{ℕ, ◌+◌, Bool, true, not, ◌&&◌, ◌==◌, List, [], ◌∷◌, ◌++◌, length, Option, None, is_some, option_map, option_to_list, if◌then◌else◌}
+use Rattle.std.specs.Prelude.{ℕ, ◌+◌, Bool, true, not, ◌&&◌, ◌==◌, List, [], ◌∷◌, ◌++◌, length}
+use Rattle.std.specs.Prelude.{Option, None, is_some, option_map, option_to_list, if◌then◌else◌}
 use Rattle.std.specs.FinSet as set
 use Rattle.cdb_base.specs.Positions.{set_nth}
 use Rattle.cdb_base.specs.declared.event.Event.TheVariants.{Step}
@@ -12,7 +13,7 @@ use Rattle.cdb_rules.specs.Mail.{mail_of}
 use Rattle.cdb_rules.specs.State.{Machine, OwnEvent, ProcessState, RunState}
 use Rattle.cdb_process.specs.Wishes.{wished_payload, wished_cell}
 use Rattle.cdb_rules.specs.Step.{is_among, may_step}
-use Rattle.cdb_rules.specs.Taking.{Sight, sight, input_of, taken_local, progress_after, registers_after}
+use Rattle.cdb_rules.specs.InputsTaken.{Sight, sight, input_of, taken_local, progress_after, registers_after}
 
 abbrev pub sight_in : {L : Type 0} → RunState L → ℕ → Kind → Sight
 sight_in state p kind = sight (mail_of state) state.registers p kind

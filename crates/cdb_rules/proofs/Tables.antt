@@ -14,18 +14,20 @@ use Rattle.cdb_register.specs.declared.RegisterState.{RegisterState}
 use Rattle.cdb_rules.specs.Mail.{mail_of}
 use Rattle.cdb_rules.specs.State.{Machine, ProcessState, RunState}
 use Rattle.cdb_rules.specs.Step.{may_step, after_step, after}
-use Rattle.cdb_rules.specs.Taking.{taken_local}
+use Rattle.cdb_rules.specs.InputsTaken.{taken_local}
 use Rattle.cdb_rules.proofs.Mails.{received_is}
 use Rattle.cdb_rules.proofs.Stages.{sight_in, accepted, state_after}
 
 -- where all that is asked for is there, in either form
 module _ {L T : Type 0} (next : L → Input → Option L) (local : L) (to : L → T) where
-  asked : (may due : Bool) (o : Option L) → (if may then option_map to (if due then o else None) else None) ≡ option_map to (if may && due && true then o else None)
+  asked : (may due : Bool) (o : Option L)
+      → (if may then option_map to (if due then o else None) else None) ≡ option_map to (if may && due && true then o else None)
   asked may due o = grind (arith, common_steps, gets)
 
   receives : (may received lost : Bool) (s : ℕ) (payload : Option Payload)
       → (if may then option_map to (option_and_then (λ x. next local (input.Recv s x)) (if not received && not lost then payload else None)) else None)
-      ≡ option_map to (if may && not received && is_some (if lost then None else payload) then taken_local next local (option_map (input.Recv s) (if lost then None else payload)) else None)
+      ≡ option_map to (if may && not received
+      && is_some (if lost then None else payload) then taken_local next local (option_map (input.Recv s) (if lost then None else payload)) else None)
   receives may received lost s payload = grind (arith, common_steps, gets)
 
   reads : (may : Bool) (read : Cell → Input) (o : Option RegisterState)
@@ -55,7 +57,8 @@ module _ {L : Type 0} (machine : Machine L) (state : RunState L) (p k : ℕ) whe
 
   pub step_in_stages : (kind : Kind)
       → after machine state (Step p k kind)
-      ≡ option_and_then (λ process. option_map (state_after machine state p k kind process) (accepted machine process k kind (sight_in state p kind))) (nth state.processes p)
+      ≡ option_and_then (λ process. option_map (state_after machine state p k kind process) (accepted machine process k kind (sight_in state p kind)))
+      (nth state.processes p)
   step_in_stages kind = go (nth state.processes p) refl
     where
       go : (o : Option (ProcessState L)) → nth state.processes p ≡ o

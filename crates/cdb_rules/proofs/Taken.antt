@@ -1,5 +1,6 @@
 -- A step that is taken, and what it says of its process and of what it meets.
-use Rattle.std.proofs.Common.{◌≡◌, ℕ, ◌+◌, ◌≤◌, Bool, true, false, not, ◌&&◌, ◌==◌, Option, Some, None, IsSome, option_and_then, option_map, nat_le, if◌then◌else◌, refl, sym, ◌∙◌, true≢false, arith}
+use Rattle.std.proofs.Common.{◌≡◌, ℕ, ◌+◌, ◌≤◌, Bool, true, false, not, ◌&&◌, ◌==◌, Option, Some, None, IsSome, option_and_then}
+use Rattle.std.proofs.Common.{option_map, nat_le, if◌then◌else◌, refl, sym, ◌∙◌, true≢false, arith}
 use Rattle.std.proofs.lemmas.Option.{none-some, same_Some}
 use Rattle.std.proofs.lemmas.Bool.Decides.{nat_tests}
 use Rattle.cdb_base.specs.Positions.{nth}
@@ -7,7 +8,7 @@ use Rattle.cdb_base.specs.declared.event.Event.TheVariants.{Step}
 use Rattle.cdb_base.specs.declared.event.Kind.{Kind}
 use Rattle.cdb_rules.specs.State.{Machine, ProcessState, RunState}
 use Rattle.cdb_rules.specs.Step.{may_step, after}
-use Rattle.cdb_rules.specs.Taking.{Sight, input_of, taken_local}
+use Rattle.cdb_rules.specs.InputsTaken.{Sight, input_of, taken_local}
 use Rattle.cdb_rules.proofs.Tables.{step_in_stages}
 use Rattle.cdb_rules.proofs.Stages.{sight_in, meets, is_due, accepted, state_after}
 
@@ -43,7 +44,9 @@ module _ {L : Type 0} (machine : Machine L) where
 
   pub taken_from : (state to : RunState L) (p k : ℕ) (kind : Kind) → after machine state (Step p k kind) ≡ Some to → IsTaken state p k kind to
   taken_from state to p k kind h =
-      let q = bound (λ process. option_map (state_after machine state p k kind process) (accepted machine process k kind (sight_in state p kind))) (nth state.processes p) to (sym (step_in_stages machine state p k kind) ∙ h) in
+      let q =
+      bound (λ process. option_map (state_after machine state p k kind process) (accepted machine process k kind (sight_in state p kind)))
+      (nth state.processes p) to (sym (step_in_stages machine state p k kind) ∙ h) in
       let r = mapped (state_after machine state p k kind q.0) (accepted machine q.0 k kind (sight_in state p kind)) to q.2 in
       record { process = q.0; next = r.0; at_process = q.1; accepts = r.1; leads_to = r.2 }
 
@@ -57,13 +60,16 @@ module _ {L : Type 0} (machine : Machine L) where
     pub met : meets kind around ≡ true
     pub takes : taken_local machine.next process.progress.local (input_of kind around) ≡ Some next
 
-  pub accepted_parts : (process : ProcessState L) (k : ℕ) (kind : Kind) (around : Sight) (next : L) → accepted machine process k kind around ≡ Some next → IsAccepted process k kind around next
+  pub accepted_parts : (process : ProcessState L) (k : ℕ) (kind : Kind) (around : Sight) (next : L)
+      → accepted machine process k kind around ≡ Some next → IsAccepted process k kind around next
   accepted_parts process k kind around next h =
       let may = may_step machine process.progress k in
       let alive = process.progress.alive in
       let going = not (machine.done process.progress.local) in
       let number = k == process.progress.steps + 1 in
-      let all = where_true (may && is_due machine process kind && meets kind around) (taken_local machine.next process.progress.local (input_of kind around)) next h in
+      let all =
+      where_true (may && is_due machine process kind && meets kind around)
+      (taken_local machine.next process.progress.local (input_of kind around)) next h in
       let met = both (may && is_due machine process kind) (meets kind around) all.0 in
       let due = both may (is_due machine process kind) met.0 in
       let limit = both (alive && going && number) (nat_le k 9999) due.0 in

@@ -1,5 +1,6 @@
 -- What was just taken can be undone, what is undone can be taken again, and what stands in the way of an undo.
-use Rattle.std.proofs.Common.{◌≡◌, ◌↔◌, ℕ, suc, List, [], ◌∷◌, ◌++◌, length, Result, Ok, Err, IsOk, IfOk, IsSome, option_and_then, reverse, append-nil, refl, sym, ap, ◌∙◌, subst, true≢false}
+use Rattle.std.proofs.Common.{◌≡◌, ◌↔◌, ℕ, suc, List, [], ◌∷◌, ◌++◌, length, Result, Ok, Err, IsOk, IfOk, IsSome}
+use Rattle.std.proofs.Common.{option_and_then, reverse, append-nil, refl, sym, ap, ◌∙◌, subst, true≢false}
 use Rattle.std.proofs.lemmas.List.{reverse-reverse}
 use Rattle.cdb_base.specs.Event.{event_name}
 use Rattle.cdb_base.specs.declared.event.Event.{Event}
@@ -19,9 +20,9 @@ use Rattle.cdb_rules.specs.State.{Machine, start}
 use Rattle.cdb_rules.specs.Step.{IsValid, IsEnabled, after, fold, state_of}
 use Rattle.cdb_rules.specs.Undo.{IsEventNamed, IsFreeName, undo_of, rollback_of, result_alone, left_by, with_removed}
 use Rattle.cdb_rules.proofs.WhereOk.{undone_free, undone_back, rolled_back_where_ok, rolled_back_back}
-use Rattle.cdb_rules.proofs.Finding.{has_name_is, stands_from_one}
+use Rattle.cdb_rules.proofs.NamesFound.{has_name_is, stands_from_one}
 use Rattle.cdb_rules.proofs.Histories.{reached_state}
-use Rattle.cdb_rules.proofs.Standing.{free_undone, valid_named}
+use Rattle.cdb_rules.proofs.AllStanding.{free_undone, valid_named}
 
 module _ {L : Type 0} (machine : Machine L) (n : ℕ) (number : length machine.firsts ≡ n) (history : List Event) (valid : IsValid machine history) where
   module _ (name : StepId) where
@@ -49,7 +50,8 @@ module _ {L : Type 0} (machine : Machine L) (n : ℕ) (number : length machine.f
     )
 
     led_back : (r : Result (Event × List Event) Refusal) → undo_of n history name ≡ r
-        → IfOk (result_alone r) (λ event. IsValid machine (left_by history r ++ event ∷ []) × (fold machine (left_by history r ++ event ∷ []) ≡ fold machine history))
+        → IfOk (result_alone r)
+        (λ event. IsValid machine (left_by history r ++ event ∷ []) × (fold machine (left_by history r ++ event ∷ []) ≡ fold machine history))
     led_back (Ok done) is =
         let u = undone_back machine n history name done.0 done.1 is valid in
         let led : fold machine (done.1 ++ done.0 ∷ []) ≡ fold machine history =
@@ -63,31 +65,37 @@ module _ {L : Type 0} (machine : Machine L) (n : ℕ) (number : length machine.f
     -- the event, taken again, leads from what is left back to the state before the undo
     pub undo_leads_back : (result : Result Event Refusal) → result ≡ result_alone (undo_of n history name)
         → IfOk result
-        (λ event. IsValid machine (left_by history (undo_of n history name) ++ event ∷ []) × (fold machine (left_by history (undo_of n history name) ++ event ∷ []) ≡ fold machine history))
+        (λ event. IsValid machine (left_by history (undo_of n history name) ++ event ∷ [])
+        × (fold machine (left_by history (undo_of n history name) ++ event ∷ []) ≡ fold machine history))
     undo_leads_back result is =
         subst
         (λ (r : Result Event Refusal).
         IfOk r
-        (λ event. IsValid machine (left_by history (undo_of n history name) ++ event ∷ []) × (fold machine (left_by history (undo_of n history name) ++ event ∷ []) ≡ fold machine history)))
+        (λ event. IsValid machine (left_by history (undo_of n history name) ++ event ∷ [])
+        × (fold machine (left_by history (undo_of n history name) ++ event ∷ []) ≡ fold machine history)))
         (sym is) (led_back (undo_of n history name) refl)
 
-    rolled_again : (r : Result (List Event × List Event) Refusal) → rollback_of n history name ≡ r → fold machine (left_by history r ++ reverse (with_removed [] (result_alone r))) ≡ fold machine history
+    rolled_again : (r : Result (List Event × List Event) Refusal) → rollback_of n history name ≡ r
+        → fold machine (left_by history r ++ reverse (with_removed [] (result_alone r))) ≡ fold machine history
     rolled_again (Ok done) is = (rolled_back_back machine n history name done.0 done.1 is valid).1
     rolled_again (Err why) is = ap (fold machine) (append-nil history)
 
     -- what a rollback took, taken again in order, leads back
-    pub rollback_leads_back : fold machine (left_by history (rollback_of n history name) ++ reverse (with_removed [] (result_alone (rollback_of n history name)))) ≡ fold machine history
+    pub rollback_leads_back : fold machine
+        (left_by history (rollback_of n history name) ++ reverse (with_removed [] (result_alone (rollback_of n history name)))) ≡ fold machine history
     rollback_leads_back = rolled_again (rollback_of n history name) refl
 
   -- an event that is enabled can be taken
   pub valid_push : (event : Event) → IsEnabled machine (state_of machine history) event → IsValid machine (history ++ event ∷ [])
   valid_push event enabled =
       subst IsSome
-      (sym (reached_push (after machine) (start machine) history event ∙ ap (option_and_then (λ next. after machine next event)) (reached_state machine history valid)))
+      (sym (reached_push (after machine) (start machine) history event
+      ∙ ap (option_and_then (λ next. after machine next event)) (reached_state machine history valid)))
       enabled
 
   -- and then be undone, which leaves the history before it
-  pub just_taken : (event : Event) → IsEnabled machine (state_of machine history) event → undo_of n (history ++ event ∷ []) (event_name event) ≡ Ok (event, history)
+  pub just_taken : (event : Event) → IsEnabled machine (state_of machine history) event
+      → undo_of n (history ++ event ∷ []) (event_name event) ≡ Ok (event, history)
   just_taken event enabled =
       let longer = history ++ event ∷ [] in
       let last = suc (length history) in
@@ -101,7 +109,8 @@ pub exact_rollback : (run : RunView) (name : StepId) → IsExactRollback run nam
 exact_rollback run name = go (rollback_in run name) refl
   where
     go : (r : Result (List Event × List Event) Refusal) → rollback_in run name ≡ r
-        → IfOk (result_alone r) (λ removed. (at : ℕ) × IsNamedAt run.history at name × IsRollback depends run.history at (left_by run.history r) (reverse removed))
+        → IfOk (result_alone r)
+        (λ removed. (at : ℕ) × IsNamedAt run.history at name × IsRollback depends run.history at (left_by run.history r) (reverse removed))
     go (Err why) is = tt
     go (Ok done) is =
         let u = rolled_back_where_ok run.setup.processes run.history name done.0 done.1 is in
@@ -111,5 +120,6 @@ exact_rollback run name = go (rollback_in run name) refl
           i,
           (event, u.3, has_name_is name event u.2),
           subst (λ (left : List Event). IsRollback depends run.history i left (reverse done.0)) (sym u.5)
-              (subst (λ (removed : List Event). IsRollback depends run.history i (remaining depends run.history i) removed) (sym back) (parted depends run.history i (stands_from_one run.history i event u.3))),
+              (subst (λ (removed : List Event). IsRollback depends run.history i (remaining depends run.history i) removed)
+              (sym back) (parted depends run.history i (stands_from_one run.history i event u.3))),
         )

@@ -1,5 +1,6 @@
 -- What the answer of an undo says.
-use Rattle.std.proofs.Common.{◌≡◌, inl, inr, ℕ, zero, suc, ◌+◌, ◌-◌, Bool, true, false, List, [], ◌∷◌, ◌++◌, Option, option_map, Some, None, Result, Ok, Err, cond, find, drop, reverse, slice_get, if◌then◌else◌, refl, sym, ap, ap₂, ◌∙◌, subst, true≢false, arith}
+use Rattle.std.proofs.Common.{◌≡◌, inl, inr, ℕ, zero, suc, ◌+◌, ◌-◌, Bool, true, false, List, [], ◌∷◌, ◌++◌, Option, option_map, Some, None, Result}
+use Rattle.std.proofs.Common.{Ok, Err, cond, find, drop, reverse, slice_get, if◌then◌else◌, refl, sym, ap, ap₂, ◌∙◌, subst, true≢false, arith}
 use Rattle.std.proofs.lemmas.Bool.{cases_Bool}
 use Rattle.std.proofs.lemmas.List.{reverse-reverse}
 use Rattle.std.proofs.lemmas.Option.{none-some, same_Some, get_or_from_slice_get}
@@ -45,7 +46,8 @@ module _ {A : Type 0} (history : List Event) (name : StepId) (returned : Found �
   abbrev StandsWhereOk : Type 0
   StandsWhereOk = (at : ℕ) × (event : Event) × (is_named name event ≡ true) × (nth history at ≡ Some event) × (returned (found history at event) ≡ Ok done)
 
-  by_slice : (i : ℕ) → position (is_named name) history ≡ Some i → (o : Option Event) → slice_get history i ≡ o → for_standing (option_map_or (λ event. Ok (found history (suc i) event)) o (Err refusal.NoStep)) returned ≡ Ok done → StandsWhereOk
+  by_slice : (i : ℕ) → position (is_named name) history ≡ Some i → (o : Option Event) → slice_get history i ≡ o
+      → for_standing (option_map_or (λ event. Ok (found history (suc i) event)) o (Err refusal.NoStep)) returned ≡ Ok done → StandsWhereOk
   by_slice i there None e h = not_ok refusal.NoStep done h
   by_slice i there (Some event) e h = (
     suc i,
@@ -55,11 +57,13 @@ module _ {A : Type 0} (history : List Event) (name : StepId) (returned : Found �
     h,
   )
 
-  by_position : (o : Option ℕ) → position (is_named name) history ≡ o → for_standing (option_map_or (found_at history) (option_map suc o) (Err refusal.NoStep)) returned ≡ Ok done → StandsWhereOk
+  by_position : (o : Option ℕ) → position (is_named name) history ≡ o
+      → for_standing (option_map_or (found_at history) (option_map suc o) (Err refusal.NoStep)) returned ≡ Ok done → StandsWhereOk
   by_position None there h = not_ok refusal.NoStep done h
   by_position (Some i) there h = by_slice i there (slice_get history i) refl h
 
-  by_names : (b : Bool) → for_standing (if b then option_map_or (found_at history) (position_of name history) (Err refusal.NoStep) else Err refusal.NoProcess) returned ≡ Ok done → StandsWhereOk
+  by_names : (b : Bool) → for_standing
+      (if b then option_map_or (found_at history) (position_of name history) (Err refusal.NoStep) else Err refusal.NoProcess) returned ≡ Ok done → StandsWhereOk
   by_names false h = not_ok refusal.NoProcess done h
   by_names true h = by_position (position (is_named name) history) refl h
 
@@ -71,14 +75,16 @@ module _ (history : List Event) (at : ℕ) (event : Event) (stands : nth history
   free_if none = free_behind depends history at event stands (all_fail (depends event) (drop at history) none)
 
   by_find : (done : Event × List Event) (o : Option Event) → find (depends event) (drop at history) ≡ o
-      → ◌≡◌ {A = Result (Event × List Event) Refusal} (option_map_or (λ dependent. Err (refusal.NeededBy (event_name dependent))) o (Ok (event, without history at))) (Ok done)
+      → ◌≡◌ {A = Result (Event × List Event) Refusal}
+      (option_map_or (λ dependent. Err (refusal.NeededBy (event_name dependent))) o (Ok (event, without history at))) (Ok done)
       → (nth history at ≡ Some done.0) × IsFree depends history at × (done.1 ≡ without history at)
   by_find done (Some dependent) e h = not_ok (refusal.NeededBy (event_name dependent)) done h
   by_find done None e h =
       let same : ◌≡◌ {A = Event × List Event} (event, without history at) done = same_Ok (event, without history at) done h in
       (stands ∙ ap (λ d. Some d.0) same, free_if e, sym (ap (λ d. d.1) same))
 
-pub undone_free : (n : ℕ) (history : List Event) (name : StepId) (event : Event) (left : List Event) → undo_of n history name ≡ Ok (event, left) → (at : ℕ) × (is_named name event ≡ true) × (nth history at ≡ Some event) × IsFree depends history at × (left ≡ without history at)
+pub undone_free : (n : ℕ) (history : List Event) (name : StepId) (event : Event) (left : List Event) → undo_of n history name ≡ Ok (event, left)
+    → (at : ℕ) × (is_named name event ≡ true) × (nth history at ≡ Some event) × IsFree depends history at × (left ≡ without history at)
 undone_free n history name event left returned =
     let done : Event × List Event = (event, left) in
     let s = stands_where_ok history name (undo_found history) done n returned in
@@ -86,7 +92,8 @@ undone_free n history name event left returned =
     let same = same_Some s.1 event (sym s.3 ∙ u.0) in
     (s.0, subst (λ e. is_named name e ≡ true) same s.2, u.0, u.1, u.2)
 
-pub undone_back : {L : Type 0} (machine : Machine L) (n : ℕ) (history : List Event) (name : StepId) (event : Event) (left : List Event) → undo_of n history name ≡ Ok (event, left) → IsValid machine history
+pub undone_back : {L : Type 0} (machine : Machine L) (n : ℕ) (history : List Event) (name : StepId) (event : Event) (left : List Event)
+    → undo_of n history name ≡ Ok (event, left) → IsValid machine history
     → IsValid machine left × (after machine (state_of machine left) event ≡ Some (state_of machine history))
 undone_back machine n history name event left returned valid =
     let u = undone_free n history name event left returned in
@@ -94,15 +101,19 @@ undone_back machine n history name event left returned valid =
     (undo_valid machine history u.0 event u.2 u.3 valid, undo_again machine history u.0 event u.2 u.3 valid)
 
 pub rolled_back_where_ok : (n : ℕ) (history : List Event) (name : StepId) (removed left : List Event) → rollback_of n history name ≡ Ok (removed, left)
-    → (at : ℕ) × (event : Event) × (is_named name event ≡ true) × (nth history at ≡ Some event) × (removed ≡ reverse (rolled_back depends history at)) × (left ≡ remaining depends history at)
+    → (at : ℕ) × (event : Event) × (is_named name event ≡ true) × (nth history at ≡ Some event)
+    × (removed ≡ reverse (rolled_back depends history at)) × (left ≡ remaining depends history at)
 rolled_back_where_ok n history name removed left returned =
     let done : List Event × List Event = (removed, left) in
-    let s = stands_where_ok history name (λ standing. Ok (reverse (rolled_back depends history standing.position), remaining depends history standing.position)) done n returned in
+    let s =
+    stands_where_ok history name
+    (λ standing. Ok (reverse (rolled_back depends history standing.position), remaining depends history standing.position)) done n returned in
     let same : ◌≡◌ {A = List Event × List Event} (reverse (rolled_back depends history s.0), remaining depends history s.0) done =
     same_Ok (reverse (rolled_back depends history s.0), remaining depends history s.0) done s.4 in
     (s.0, s.1, s.2, s.3, sym (ap (λ d. d.0) same), sym (ap (λ d. d.1) same))
 
-pub rolled_back_back : {L : Type 0} (machine : Machine L) (n : ℕ) (history : List Event) (name : StepId) (removed left : List Event) → rollback_of n history name ≡ Ok (removed, left) → IsValid machine history
+pub rolled_back_back : {L : Type 0} (machine : Machine L) (n : ℕ) (history : List Event) (name : StepId) (removed left : List Event)
+    → rollback_of n history name ≡ Ok (removed, left) → IsValid machine history
     → IsValid machine left × (fold machine (left ++ reverse removed) ≡ fold machine history)
 rolled_back_back machine n history name removed left returned valid =
     let u = rolled_back_where_ok n history name removed left returned in (

@@ -71,7 +71,8 @@ query = refl
 no_leader : after machine (stands (fresh_process 0) registers) (Step 1 1 (Query 3)) ≡ None
 no_leader = refl
 
-send : after machine (stands (fresh_process 0) registers) (Step 1 1 (Send 1)) ≡ Some (stands (stepped 1 true 0 (payload ∷ []) set.empty (Send 1) None) registers)
+send : after machine (stands (fresh_process 0) registers) (Step 1 1 (Send 1))
+    ≡ Some (stands (stepped 1 true 0 (payload ∷ []) set.empty (Send 1) None) registers)
 send = refl
 
 receive : after machine (stands sender registers) (Step 1 1 (Recv 1 1))
@@ -81,7 +82,8 @@ receive = simp (set.contains-empty name_cmp, set.contains-empty copy_cmp)
 unsent : after machine (stands sender registers) (Step 1 1 (Recv 1 2)) ≡ None
 unsent = simp (set.contains-empty name_cmp, set.contains-empty copy_cmp)
 
-read : after machine (stands (fresh_process 0) registers) (Step 1 1 (Read (R 2))) ≡ Some (stands (stepped 1 true 0 [] set.empty (Read (R 2)) (Some 0)) registers)
+read : after machine (stands (fresh_process 0) registers) (Step 1 1 (Read (R 2)))
+    ≡ Some (stands (stepped 1 true 0 [] set.empty (Read (R 2)) (Some 0)) registers)
 read = refl
 
 write : after machine (stands writer registers) (Step 1 1 (Write (R 1)))

@@ -50,4 +50,5 @@ first_step_by rules run p = first_step_of (rules run.setup) run.history p
 
 -- and by the table of its machine
 abbrev pub first_step_in : {L : Type 0} → Table L → RunView → ℕ → Result Event Refusal
-first_step_in table run p = first_step (by_table.result_of_step table run p) (next_pending (by_table.mail_in table run) p None)
+first_step_in table run p =
+    first_step (by_table.result_of_step table run p) (next_pending (by_table.mail_in table run) p None)

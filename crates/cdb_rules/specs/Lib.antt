@@ -20,4 +20,4 @@ pub mod Flags
 pub mod Lawful
 pub mod Agreement
 -- what the code keeps for itself: a step as it is taken
-pub mod Taking
+pub mod InputsTaken

@@ -33,4 +33,5 @@ machine_of table setup =
 
 -- how far each process has come before its first step
 abbrev pub progress_at_start : {Local : Type 0} → Table Local → Parts → List (Progress Local)
-progress_at_start table setup = map fresh_progress (first_states table.first 1 setup.processes setup.quorum setup.inputs)
+progress_at_start table setup =
+    map fresh_progress (first_states table.first 1 setup.processes setup.quorum setup.inputs)

@@ -30,7 +30,8 @@ writes_met writes event = None
 -- the events, each with the writes that it meets, where this many of each register stand before them
 abbrev pub as_own_events : (Reg → ℕ) → List Event → List OwnEvent
 as_own_events writes [] = []
-as_own_events writes (event ∷ events) = record { event = event; writes_before = writes_met writes event } ∷ as_own_events (writes_with writes event) events
+as_own_events writes (event ∷ events) =
+    record { event = event; writes_before = writes_met writes event } ∷ as_own_events (writes_with writes event) events
 
 -- the steps of process p
 abbrev pub own_steps : ℕ → List Event → List OwnEvent

@@ -1,5 +1,6 @@
 -- Why a step is refused, and the event that is taken where it is not.
-use Rattle.std.specs.Prelude.{◌≡◌, ℕ, ◌+◌, ◌≤◌, Bool, true, false, not, ◌&&◌, ◌==◌, nat_le, List, [], ◌∷◌, ◌++◌, length, Option, Some, None, is_some, is_none, option_map, Result, Ok, Err, find}
+use Rattle.std.specs.Prelude.{◌≡◌, ℕ, ◌+◌, ◌≤◌, Bool, true, false, not, ◌&&◌, ◌==◌, nat_le, List, [], ◌∷◌, ◌++◌}
+use Rattle.std.specs.Prelude.{length, Option, Some, None, is_some, is_none, option_map, Result, Ok, Err, find}
 use Rattle.std.specs.Option.{option_map_or}
 use Rattle.cdb_base.specs.Positions.{nth}
 use Rattle.cdb_base.specs.declared.act.Act.{Act}
@@ -36,7 +37,8 @@ wished_kind sends (wished.Read register) = Read register
 wished_kind sends (wished.Write register cell) = Write register
 wished_kind sends wished.Local = Local
 
--- the kind of step that an act names, where the machine wishes this, after this many sends, with that as the oracle's next answer
+-- the kind of step that an act names, where the machine wishes this, after this many sends, with that as the oracle's
+-- next answer
 abbrev pub named_kind : Option Wish → ℕ → Option ℕ → Act → Option Kind
 named_kind wish sends answer act.Go = option_map (wished_kind sends) wish
 named_kind wish sends answer act.Learn = Some Learn
@@ -59,7 +61,8 @@ accepts_kind machine local sends registers (Query leader) = machine.accepts_quer
 accepts_kind machine local sends registers (Send m) = (m == sends + 1) && is_some (machine.next local input.Send)
 accepts_kind machine local sends registers (Recv s m) = machine.accepts_receive local
 accepts_kind machine local sends registers (Read register) =
-    option_map_or (λ stands. is_some (machine.next local (input.Read register stands.cell))) (register_of registers register) false
+    option_map_or (λ stands. is_some (machine.next local (input.Read register stands.cell)))
+    (register_of registers register) false
 accepts_kind machine local sends registers (Write register) =
     is_some (register_of registers register) && is_some (machine.next local (input.Write register))
 accepts_kind machine local sends registers Local = is_some (machine.next local input.Local)
@@ -69,7 +72,8 @@ accepts_kind machine local sends registers Crash = true
 -- whether it accepts a step of the kind that an act names
 abbrev pub accepts_act : {L : Type 0} → Machine L → L → ℕ → RegisterStates → Act → Bool
 accepts_act machine local sends registers act.Go =
-    option_map_or (λ wish. accepts_kind machine local sends registers (wished_kind sends wish)) (machine.wish local) false
+    option_map_or (λ wish. accepts_kind machine local sends registers (wished_kind sends wish))
+    (machine.wish local) false
 accepts_act machine local sends registers act.Learn = accepts_kind machine local sends registers Learn
 accepts_act machine local sends registers act.Crash = accepts_kind machine local sends registers Crash
 accepts_act machine local sends registers (act.Query leader) = machine.accepts_query local
@@ -91,7 +95,8 @@ lacks_answer answer (act.Query None) = is_none answer
 lacks_answer answer _ = false
 
 -- Why a step of process p is refused: the first that holds.
-abbrev pub step_checks : {L : Type 0} → Machine L → Parts → MailState → RegisterStates → Progress L → ℕ → Act → List (Bool × Refusal)
+abbrev pub step_checks : {L : Type 0} → Machine L → Parts → MailState
+    → RegisterStates → Progress L → ℕ → Act → List (Bool × Refusal)
 step_checks machine setup mail registers progress p do_act =
     (not progress.alive, refusal.Crashed)
     ∷ (machine.done progress.local, refusal.Done)
@@ -108,7 +113,8 @@ step_checks machine setup mail registers progress p do_act =
 abbrev pub named_event : {L : Type 0} → Machine L → Parts → MailState → Progress L → ℕ → Act → Option Event
 named_event machine setup mail progress p do_act =
     option_map (Step p (progress.steps + 1))
-    (named_kind (machine.wish progress.local) (length (sent_by mail p)) (answer_of setup p (progress.queries + 1)) do_act)
+    (named_kind (machine.wish progress.local) (length (sent_by mail p))
+    (answer_of setup p (progress.queries + 1)) do_act)
 
 -- a refusal, else the event
 abbrev pub unless_refused : Option Refusal → Option Event → Result Event Refusal
@@ -118,9 +124,11 @@ unless_refused None None = Err refusal.NotNow
 
 -- what a step of process p returns, where that is the process's progress: the first refusal that holds, else
 -- the event that the act names
-abbrev pub planned : {L : Type 0} → Machine L → Parts → MailState → RegisterStates → Progress L → ℕ → Act → Result Event Refusal
+abbrev pub planned : {L : Type 0} → Machine L → Parts → MailState
+    → RegisterStates → Progress L → ℕ → Act → Result Event Refusal
 planned machine setup mail registers progress p do_act =
-    unless_refused (first_refusal (step_checks machine setup mail registers progress p do_act)) (named_event machine setup mail progress p do_act)
+    unless_refused (first_refusal (step_checks machine setup mail registers progress p do_act))
+    (named_event machine setup mail progress p do_act)
 
 abbrev pub step_result : {L : Type 0} → Machine L → Parts → RunState L → ℕ → Act → Result Event Refusal
 step_result machine setup state p do_act =
@@ -134,7 +142,8 @@ abbrev pub receives_such : (MsgName → Bool) → Kind → Bool
 receives_such test (Recv s m) = test (message_name s m)
 receives_such test _ = false
 
-abbrev pub again_checks : {L : Type 0} → Machine L → MailState → RegisterStates → Progress L → ℕ → ℕ → Kind → List (Bool × Refusal)
+abbrev pub again_checks : {L : Type 0} → Machine L → MailState
+    → RegisterStates → Progress L → ℕ → ℕ → Kind → List (Bool × Refusal)
 again_checks machine mail registers progress p k kind =
     (not (k == progress.steps + 1), refusal.Moved)
     ∷ (not progress.alive, refusal.Crashed)
@@ -156,13 +165,15 @@ lose_checks setup mail name p =
     ∷ []
 
 abbrev pub planned_loss : Parts → MailState → MsgName → ℕ → Result Event Refusal
-planned_loss setup mail name p = unless_refused (first_refusal (lose_checks setup mail name p)) (Some (Lost (copy_name name p)))
+planned_loss setup mail name p =
+    unless_refused (first_refusal (lose_checks setup mail name p)) (Some (Lost (copy_name name p)))
 
 abbrev pub loss_result : {L : Type 0} → Parts → RunState L → MsgName → ℕ → Result Event Refusal
 loss_result setup state name p = planned_loss setup (mail_of state) name p
 
 -- what taking an undone event again returns: the first refusal that holds, else the event
-abbrev pub planned_again : {L : Type 0} → Machine L → MailState → RegisterStates → Progress L → ℕ → ℕ → Kind → Result Event Refusal
+abbrev pub planned_again : {L : Type 0} → Machine L → MailState
+    → RegisterStates → Progress L → ℕ → ℕ → Kind → Result Event Refusal
 planned_again machine mail registers progress p k kind =
     unless_refused (first_refusal (again_checks machine mail registers progress p k kind)) (Some (Step p k kind))
 
@@ -177,8 +188,8 @@ abbrev pub NamesProcess : ℕ → Kind → Type 0
 NamesProcess n (Query leader) = IsWithin 1 n leader
 NamesProcess n _ = Unit {0}
 
--- a step of a process of the run, with a number that a step can have; the loss of a copy for a process of the run, where
--- copies can be lost
+-- a step of a process of the run, with a number that a step can have; the loss of a copy for a process of the run,
+-- where copies can be lost
 abbrev pub IsOfRun : Parts → Event → Type 0
 IsOfRun setup (Step p k kind) = (p ≤ setup.processes) × IsWithin 1 MAX_STEPS k × NamesProcess setup.processes kind
 IsOfRun setup (Lost copy) = (setup.version ≡ 2) × (copy.to ≤ setup.processes)

@@ -1,5 +1,6 @@
 -- What a contract says of a run: of its setup and its standing events, with the table of its machine.
-use Rattle.std.specs.Prelude.{◌≡◌, ℕ, ◌≤◌, List, [], ◌∷◌, ◌++◌, Bool, Option, option_map, Result, Ok, IfOk, OnOk, OnErr, IsOk, MatchOption, false, reverse}
+use Rattle.std.specs.Prelude.{◌≡◌, ℕ, ◌≤◌, List, [], ◌∷◌, ◌++◌, Bool, Option, option_map, Result}
+use Rattle.std.specs.Prelude.{Ok, IfOk, OnOk, OnErr, IsOk, MatchOption, false, reverse}
 use Rattle.cdb_base.specs.Event.{event_name}
 use Rattle.cdb_base.specs.Positions.{nth}
 use Rattle.cdb_base.specs.declared.act.Act.{Act}
@@ -25,7 +26,8 @@ use Rattle.cdb_rules.specs.Refusals.{step_result, loss_result, again_result, wit
 use Rattle.cdb_rules.specs.State.{Machine, ProcessState, RunState}
 use Rattle.cdb_rules.specs.Step.{fold, is_among, state_of, IsEnabled, IsValid}
 use Rattle.cdb_rules.specs.declared.progress.Progress.{Progress}
-use Rattle.cdb_rules.specs.Undo.{IsFreeName, undo_of, rollback_of, causes_of, result_alone, left_by, number_removed, with_removed}
+use Rattle.cdb_rules.specs.Undo.{IsFreeName, undo_of, rollback_of, causes_of, result_alone}
+use Rattle.cdb_rules.specs.Undo.{left_by, number_removed, with_removed}
 
 -- ---- names
 
@@ -156,11 +158,13 @@ after_undo run name = with_left run (undo_in run name)
 abbrev pub after_rollback : RunView → StepId → RunView
 after_rollback run name = with_left run (rollback_in run name)
 
--- where a rollback is granted, it removes the event of the name with exactly its consequences, and all else is left in order
+-- where a rollback is granted, it removes the event of the name with exactly its consequences, and all else is left in
+-- order
 abbrev pub IsExactRollback : RunView → StepId → RunView → Type 0
 IsExactRollback run name left =
     IfOk (result_of_rollback run name)
-    (λ removed. (at : ℕ) × IsNamedAt run.history at name × IsRollback depends run.history at left.history (reverse removed))
+    (λ removed.
+    (at : ℕ) × IsNamedAt run.history at name × IsRollback depends run.history at left.history (reverse removed))
 
 -- what it removes, the last first; nothing where it is refused
 abbrev pub removed_by_rollback : RunView → StepId → List Event
@@ -194,7 +198,8 @@ RollbackLeadsBack table run name left = AllLeadTo table left (reverse (removed_b
 
 -- A rollback that adds what it removes to the end of a list, and returns how many events that are: with a refusal
 -- nothing is removed, and out of memory run and list are as they were; a refusal needs no memory.
-pub record RollsBackOnto {E : Type 0} (run left : RunView) (name : StepId) (onto grown : List Event) (result : Result (Result ℕ Refusal) E) : Type 0 where
+pub record RollsBackOnto {E : Type 0} (run left : RunView) (name : StepId)
+    (onto grown : List Event) (result : Result (Result ℕ Refusal) E) : Type 0 where
   pub returns : IfOk result (λ count. count ≡ number_removed (result_of_rollback run name))
   pub after : OnOk result (left ≡ after_rollback run name)
   pub list : OnOk result (grown ≡ with_removed onto (result_of_rollback run name))

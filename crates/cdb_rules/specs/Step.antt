@@ -1,5 +1,7 @@
 -- What one event does to the state of a run, where it is possible.
-use Rattle.std.specs.Prelude.{ℕ, ◌+◌, Bool, false, not, ◌&&◌, ◌==◌, nat_le, List, [], ◌∷◌, ◌++◌, length, Option, Some, None, is_some, option_and_then, option_map, option_to_list, unwrap_or, IsSome, if◌then◌else◌}
+use Rattle.std.specs.Prelude.{ℕ, ◌+◌, Bool, false, not, ◌&&◌, ◌==◌, nat_le, List, [], ◌∷◌}
+use Rattle.std.specs.Prelude.{◌++◌, length, Option, Some, None, is_some, option_and_then, option_map}
+use Rattle.std.specs.Prelude.{option_to_list, unwrap_or, IsSome, if◌then◌else◌}
 use Rattle.std.specs.FinSet as set
 use Rattle.cdb_base.specs.Positions.{nth, set_nth}
 use Rattle.cdb_base.specs.declared.event.Event.{Event}
@@ -28,7 +30,8 @@ is_among n p = nat_le 1 p && nat_le p n
 
 -- the process is alive and not done, and the step is its next
 abbrev pub may_step : {L : Type 0} → Machine L → Progress L → ℕ → Bool
-may_step machine progress k = progress.alive && not (machine.done progress.local) && (k == progress.steps + 1) && nat_le k MAX_STEPS
+may_step machine progress k =
+    progress.alive && not (machine.done progress.local) && (k == progress.steps + 1) && nat_le k MAX_STEPS
 
 -- ---- a process with one thing changed
 
@@ -91,7 +94,8 @@ module _ {L : Type 0} (machine : Machine L) (state : RunState L) (p : ℕ) (proc
   goes_on (Send m) = if (m == length process.sent + 1) && is_some sending then next input.Send else None
   goes_on (Recv s m) = option_and_then (λ payload. next (input.Recv s payload)) (receivable (message_name s m))
   goes_on (Read register) = option_and_then (λ cell. next (input.Read register cell)) (cell_of state.registers register)
-  goes_on (Write register) = if is_some (register_of state.registers register) && is_some writing then next (input.Write register) else None
+  goes_on (Write register) =
+      if is_some (register_of state.registers register) && is_some writing then next (input.Write register) else None
   goes_on Local = next input.Local
   goes_on Learn = next input.Learn
   goes_on Crash = Some process.progress.local
@@ -131,8 +135,10 @@ may_lose machine mail copy =
 
 -- the state after an event, where the event is enabled
 abbrev pub after : {L : Type 0} → Machine L → RunState L → Event → Option (RunState L)
-after machine state (Step p k kind) = option_and_then (λ process. after_step machine state p process k kind) (nth state.processes p)
-after machine state (Lost copy) = if may_lose machine (mail_of state) copy then Some (record state { lost = set.insert state.lost copy }) else None
+after machine state (Step p k kind) =
+    option_and_then (λ process. after_step machine state p process k kind) (nth state.processes p)
+after machine state (Lost copy) =
+    if may_lose machine (mail_of state) copy then Some (record state { lost = set.insert state.lost copy }) else None
 
 abbrev pub IsEnabled : {L : Type 0} → Machine L → RunState L → Event → Type 0
 IsEnabled machine state event = IsSome (after machine state event)

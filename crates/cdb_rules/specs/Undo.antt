@@ -1,5 +1,6 @@
 -- What is undone, and why it is not.
-use Rattle.std.specs.Prelude.{◌≡◌, ℕ, suc, Bool, true, false, ◌&&◌, ◌==◌, List, [], ◌∷◌, ◌++◌, Option, option_map, Some, Result, Ok, Err, find, filter, map, reverse, flat_map, length, if◌then◌else◌}
+use Rattle.std.specs.Prelude.{◌≡◌, ℕ, suc, Bool, true, false, ◌&&◌, ◌==◌, List, [], ◌∷◌, ◌++◌, Option, option_map}
+use Rattle.std.specs.Prelude.{Some, Result, Ok, Err, find, filter, map, reverse, flat_map, length, if◌then◌else◌}
 use Rattle.std.specs.List.{position}
 use Rattle.std.specs.Option.{option_map_or}
 use Rattle.cdb_base.specs.Event.{event_name, is_step_of}
@@ -21,7 +22,8 @@ use Rattle.cdb_rules.specs.Step.{is_among}
 -- whether the event has the name
 abbrev pub is_named : StepId → Event → Bool
 is_named (named.Step name) (Step p k kind) = (p == name.p) && (k == name.k)
-is_named (named.Lost copy) (Lost other) = (other.msg.s == copy.msg.s) && (other.msg.m == copy.msg.m) && (other.to == copy.to)
+is_named (named.Lost copy) (Lost other) =
+    (other.msg.s == copy.msg.s) && (other.msg.m == copy.msg.m) && (other.to == copy.to)
 is_named name event = false
 
 -- the processes that the name names are among 1 to n
@@ -45,7 +47,13 @@ pub record Found : Type 0 where
 -- what stands at that position, if something does
 abbrev pub found_at : List Event → ℕ → Result Found Refusal
 found_at history position =
-    option_map_or (λ event. Ok (record { event = event; position = position; earlier = events_before history position; later = events_behind history position }))
+    option_map_or (λ event. Ok (record {
+      event = event;
+      position = position;
+      earlier =
+          events_before history position;
+      later = events_behind history position;
+    }))
     (nth history position) (Err refusal.NoStep)
 
 -- where the event of that name stands, if one does
@@ -55,7 +63,8 @@ position_of name history = option_map suc (position (is_named name) history)
 -- the standing event of that name; the checks are that its processes are there, and that it stands
 abbrev pub event_named : ℕ → List Event → StepId → Result Found Refusal
 event_named n history name =
-    if names_processes n name then option_map_or (found_at history) (position_of name history) (Err refusal.NoStep) else Err refusal.NoProcess
+    if names_processes n name then option_map_or (found_at history) (position_of name history) (Err refusal.NoStep)
+    else Err refusal.NoProcess
 
 -- the result for a standing event, or the refusal
 abbrev pub for_standing : {A : Type 0} → Result Found Refusal → (Found → Result A Refusal) → Result A Refusal
@@ -98,14 +107,17 @@ with_removed list (Err why) = list
 -- Rollback: the event and its consequences, the last first, and the history without them.
 abbrev pub rollback_of : ℕ → List Event → StepId → Result (List Event × List Event) Refusal
 rollback_of n history name =
-    for_standing (event_named n history name) (λ found. Ok (reverse (rolled_back depends history found.position), remaining depends history found.position))
+    for_standing (event_named n history name)
+    (λ found. Ok (reverse (rolled_back depends history found.position), remaining depends history found.position))
 
 -- of the events, in their order, those on which the effect depends directly
 abbrev pub direct_among : List Event → Event → List Event
 direct_among [] effect = []
-direct_among (cause ∷ between) effect = if is_direct depends cause between effect then cause ∷ direct_among between effect else direct_among between effect
+direct_among (cause ∷ between) effect =
+    if is_direct depends cause between effect then cause ∷ direct_among between effect else direct_among between effect
 
 -- Why: the names of the direct causes, in order of process. A loss causes nothing.
 abbrev pub causes_of : ℕ → List Event → StepId → Result (List StepId) Refusal
 causes_of n history name =
-    for_standing (event_named n history name) (λ found. Ok (map event_name (flat_map (λ p. filter (is_step_of p) (direct_among found.earlier found.event)) all_processes)))
+    for_standing (event_named n history name) (λ found. Ok
+    (map event_name (flat_map (λ p. filter (is_step_of p) (direct_among found.earlier found.event)) all_processes)))

@@ -1,13 +1,15 @@
 //! What is asked of a run.
 
-ghost use Rattle.std.specs.Prelude.{◌≡◌, ◌≤◌, List, [], None, IfOk, OnErr, IsOk, true, length, option_map, vec_capacity};
+ghost use Rattle.std.specs.Prelude.{◌≡◌, ◌≤◌, List, [], None, IfOk, OnErr, IsOk};
+ghost use Rattle.std.specs.Prelude.{true, length, option_map, vec_capacity};
 ghost use Rattle.std.specs.Option.{option_copied};
 ghost use Rattle.std.specs.Result.{result_err};
 ghost use Rattle.cdb_base.specs.Limits.{MAX_ENTRIES};
 ghost use Rattle.cdb_base.specs.declared.event.Event.{Event};
-ghost use Rattle.cdb_base.specs.Results.{Tells};
+ghost use Rattle.cdb_base.specs.Results.{MapsTo};
 ghost use Rattle.cdb_rules.specs.Auto.{first_step_by};
-ghost use Rattle.cdb_rules.specs.ByRules.{IsInOrder, result_of_step, result_of_again, result_of_loss, process_in, mail_in, registers_in, cell_in, decisions_in};
+ghost use Rattle.cdb_rules.specs.ByRules.{IsInOrder, result_of_step, result_of_again, result_of_loss};
+ghost use Rattle.cdb_rules.specs.ByRules.{process_in, mail_in, registers_in, cell_in, decisions_in};
 ghost use Rattle.cdb_rules.specs.RunView.{RunView};
 ghost use Rattle.cdb_rules.specs.Lawful.{AreLawful, KeepHistories};
 ghost use Rattle.cdb_rules.specs.Refusals.{IsOfRun};
@@ -140,7 +142,7 @@ pub trait Runs: Sized + Drop {
         event: EventRef,
     ) -> Result<(StepId, SmallVec<StepId, 9>), Refusal>
         ensures name { IfOk result (λ r. r.0 ≡ name_given event) }
-        ensures causes { Tells (λ r. r.1.items) result
+        ensures causes { MapsTo (λ r. r.1.items) result
             (causes_in (run self.now) (name_given event)) };
 
     /// The process of that number as it is shown, where there is one.

@@ -29,7 +29,7 @@ use Rattle.cdb_rules.proofs.Kept.{is_false}
 use Rattle.cdb_rules.proofs.ListMembers.{nothing_in, position_in, in_filter, from_filter, filter_none, any_none, get-take, get_up_to, length_up_to, in_map}
 use Rattle.cdb_rules.proofs.ListMembers.{from_map, in_flat, from_flat}
 use Rattle.cdb_rules.proofs.Mails.{not_true}
-use Rattle.cdb_rules.proofs.Naming.{in_cases, in_position, of_processes, loss_free}
+use Rattle.cdb_rules.proofs.NamedEvents.{in_cases, in_position, of_processes, loss_free}
 use Rattle.cdb_rules.proofs.Taken.{both}
 
 -- Two rows of names with the same members, both in order, are one.

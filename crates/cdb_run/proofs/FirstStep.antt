@@ -30,7 +30,8 @@ then_idle step pending why_go why_query learn none go query = by_result (step ac
 
 -- Where one of them is not.
 
-pub learns : (step : Act → Result Event Refusal) (pending : Option MsgName) (event : Event) → result_ok (step act.Learn) ≡ Some event → first_step step pending ≡ Ok event
+pub learns : (step : Act → Result Event Refusal) (pending : Option MsgName) (event : Event)
+    → result_ok (step act.Learn) ≡ Some event → first_step step pending ≡ Ok event
 learns step pending event learn = by_result (step act.Learn) refl learn
   where
     by_result : (r : Result Event Refusal) → step act.Learn ≡ r → result_ok r ≡ Some event → first_step step pending ≡ Ok event
@@ -64,5 +65,6 @@ module _ (step : Act → Result Event Refusal) (learn : result_ok (step act.Lear
   pub goes : (pending : Option MsgName) (event : Event) → receive_of step pending ≡ None → step act.Go ≡ Ok event → first_step step pending ≡ Ok event
   goes pending event none go = no_receive pending none ∙ rw (refused.1, go) go
 
-  pub asks : (pending : Option MsgName) (why : Refusal) (event : Event) → receive_of step pending ≡ None → step act.Go ≡ Err why → step (act.Query None) ≡ Ok event → first_step step pending ≡ Ok event
+  pub asks : (pending : Option MsgName) (why : Refusal) (event : Event) → receive_of step pending ≡ None
+      → step act.Go ≡ Err why → step (act.Query None) ≡ Ok event → first_step step pending ≡ Ok event
   asks pending why event none go query = no_receive pending none ∙ rw (refused.1, go, query) query

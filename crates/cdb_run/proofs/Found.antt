@@ -18,16 +18,17 @@ use Rattle.cdb_causal.specs.Rollback.{without, rolled_back, remaining}
 use Rattle.cdb_process.specs.Table.{Table}
 use Rattle.cdb_rules.specs.Machines.{machine_of}
 use Rattle.cdb_rules.specs.RunView.{RunView}
-use Rattle.cdb_rules.specs.Runs.{IsInOrder, with_left, undo_in, result_of_undo, after_undo, rollback_in, result_of_rollback, after_rollback, IsExactRollback, RollbackLeadsBack, causes_in}
+use Rattle.cdb_rules.specs.Runs.{IsInOrder, with_left, undo_in, result_of_undo, after_undo, rollback_in, result_of_rollback}
+use Rattle.cdb_rules.specs.Runs.{after_rollback, IsExactRollback, RollbackLeadsBack, causes_in}
 use Rattle.cdb_rules.specs.State.{Machine}
 use Rattle.cdb_rules.specs.Undo.{Found, IsEventNamed, for_standing, undo_found, result_alone, number_removed, with_removed, direct_among}
-use Rattle.cdb_rules.proofs.Finding.{stands_named}
+use Rattle.cdb_rules.proofs.NamesFound.{stands_named}
 use Rattle.cdb_rules.proofs.Results.{found_is}
-use Rattle.cdb_rules.proofs.Standing.{valid_named, free_undone, needed_refused, standing_rolled_back}
+use Rattle.cdb_rules.proofs.AllStanding.{valid_named, free_undone, needed_refused, standing_rolled_back}
 use Rattle.cdb_rules.proofs.TakenBack.{exact_rollback, rollback_leads_back}
 use Rattle.cdb_run.specs.Found.{IsNotFound}
 use Rattle.cdb_run.proofs.Causes.{causes_at}
-use Rattle.cdb_run.proofs.Starting.{machine_each, at_most_nine}
+use Rattle.cdb_run.proofs.AtStart.{machine_each, at_most_nine}
 use Rattle.cdb_setup.specs.Parts.{AreInRange}
 use Rattle.cdb_standing.specs.Moves.{IsTakenOut}
 
@@ -68,7 +69,8 @@ module _ {L : Type 0} (table : Table L) (run : RunView) (ranges : AreInRange run
     unrefused free = sym (ap (λ a. result_err (result_alone a)) (undone free))
 
     -- the event is taken out, and no other depends on it
-    module _ (event : Event) (left : RunView) (same : left.setup ≡ run.setup) (taken : IsTakenOut history name event left.history) (free : IsFree depends history at) where
+    module _ (event : Event) (left : RunView) (same : left.setup ≡ run.setup)
+        (taken : IsTakenOut history name event left.history) (free : IsFree depends history at) where
       leaves : undo_in run name ≡ Ok (event, left.history)
       leaves =
           let out = taken at named in

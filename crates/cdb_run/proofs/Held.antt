@@ -1,5 +1,6 @@
 -- What is held of a run, before and after an event.
-use Rattle.std.proofs.Common.{◌≡◌, ℕ, zero, suc, ◌<◌, ◌≤◌, true, false, not, ◌&&◌, if◌then◌else◌, List, [], ◌∷◌, ◌++◌, length, map, Option, Some, None, IsSome, option_and_then, option_map, unwrap_or, refl, sym, ap, ap₂, ◌∙◌, subst, true≢false, arith}
+use Rattle.std.proofs.Common.{◌≡◌, ℕ, zero, suc, ◌<◌, ◌≤◌, true, false, not, ◌&&◌, if◌then◌else◌, List, [], ◌∷◌, ◌++◌, length, map, Option, Some}
+use Rattle.std.proofs.Common.{None, IsSome, option_and_then, option_map, unwrap_or, refl, sym, ap, ap₂, ◌∙◌, subst, true≢false, arith}
 use Rattle.std.proofs.lemmas.List.{length-map}
 use Rattle.std.proofs.lemmas.Option.{same_Some}
 use Rattle.std.specs.Option.{ForSome}
@@ -17,13 +18,13 @@ use Rattle.cdb_base.specs.declared.name.CopyName.{CopyName}
 use Rattle.cdb_message.specs.Mail.{MailState, is_sent, is_received, is_lost, add_loss}
 use Rattle.cdb_standing.specs.Recorded.{events_of, nothing, recorded_of}
 use Rattle.cdb_standing.specs.declared.recorded.Recorded.{Recorded}
-use Rattle.cdb_standing.specs.declared.recorded.Left.{Left}
+use Rattle.cdb_standing.specs.declared.recorded.UndoData.{UndoData}
 use Rattle.cdb_register.specs.Registers.{RegisterStates, register_of}
 use Rattle.cdb_register.specs.declared.RegisterState.{RegisterState}
 use Rattle.cdb_run.specs.Back.{put_back, overwritten_cell}
 use Rattle.cdb_run.specs.Current.{IsCurrent}
 use Rattle.cdb_rules.specs.Mail.{mail_of}
-use Rattle.cdb_rules.specs.Taking.{mail_after, IsPostable, sight, input_of, taken_local, progress_after, registers_after}
+use Rattle.cdb_rules.specs.InputsTaken.{mail_after, IsPostable, sight, input_of, taken_local, progress_after, registers_after}
 use Rattle.cdb_run.specs.Recorded.{IsRecorded}
 use Rattle.cdb_run.specs.Registers.{IsWritable}
 use Rattle.cdb_rules.specs.State.{Machine, ProcessState, RunState, start}
@@ -37,7 +38,9 @@ use Rattle.cdb_rules.proofs.Positions.{nth-map, map-set_nth, nth-set_nth_same, n
 use Rattle.cdb_rules.proofs.Taken.{IsTaken, taken_from, parts, some_of, both, where_true}
 
 -- a write finds its register
-writable_by : {L : Type 0} (machine : Machine L) (process : ProcessState L) (mail : MailState) (registers : RegisterStates) (p : ℕ) (kind : Kind) → is_due machine process kind ≡ true → meets kind (sight mail registers p kind) ≡ true → ((register : _) (stands : RegisterState) → register_of registers register ≡ Some stands → stands.writes < 999999) → IsWritable registers kind (machine.wish process.progress.local)
+writable_by : {L : Type 0} (machine : Machine L) (process : ProcessState L) (mail : MailState) (registers : RegisterStates) (p : ℕ) (kind : Kind)
+    → is_due machine process kind ≡ true → meets kind (sight mail registers p kind) ≡ true → ((register : _) (stands : RegisterState)
+    → register_of registers register ≡ Some stands → stands.writes < 999999) → IsWritable registers kind (machine.wish process.progress.local)
 writable_by machine process mail registers p (Write register) due met few = (met, limit (register_of registers register) (few register), due)
   where
     limit : (o : Option RegisterState) → ((stands : RegisterState) → o ≡ Some stands → stands.writes < 999999) → ForSome o (λ stands. stands.writes < 999999)
@@ -67,19 +70,22 @@ is_at_most : (n p : ℕ) → is_among n p ≡ true → p ≤ n
 is_at_most n p h = grind (arith, nat_tests)
 
 -- recorded events lead where the events lead
-led_reached : {L B : Type 0} (machine : Machine L) (before : L → B → L) (state to : RunState L) (entries : List (Recorded B)) → IsPath (IsRecorded machine before) state entries to → reached (after machine) state (events_of entries) ≡ Some to
+led_reached : {L B : Type 0} (machine : Machine L) (before : L → B → L) (state to : RunState L) (entries : List (Recorded B))
+    → IsPath (IsRecorded machine before) state entries to → reached (after machine) state (events_of entries) ≡ Some to
 led_reached machine before state to [] p = ap Some p
 led_reached machine before state to (entry ∷ entries) p =
     ap (option_and_then (λ next. reached (after machine) next (events_of entries))) p.1.leads ∙ led_reached machine before p.0 to entries p.2
 
 -- a run is sound wherever recorded events lead it
-path_sound : {L B : Type 0} (machine : Machine L) (before : L → B → L) (state to : RunState L) (entries : List (Recorded B)) → IsPath (IsRecorded machine before) state entries to → IsSound machine state → IsSound machine to
+path_sound : {L B : Type 0} (machine : Machine L) (before : L → B → L) (state to : RunState L) (entries : List (Recorded B))
+    → IsPath (IsRecorded machine before) state entries to → IsSound machine state → IsSound machine to
 path_sound machine before state to [] p sound = subst (IsSound machine) p sound
 path_sound machine before state to (entry ∷ entries) p sound =
     path_sound machine before p.0 to entries p.2 (event_sound machine state p.0 entry.event p.1.leads sound)
 
 module _ {L B : Type 0} {machine : Machine L} {before : L → B → L} where
-  module _ {processes : List (Progress L)} {mail : MailState} {registers : RegisterStates} {entries : List (Recorded B)} (current : IsCurrent machine before processes mail registers entries) where
+  module _ {processes : List (Progress L)} {mail : MailState} {registers : RegisterStates}
+      {entries : List (Recorded B)} (current : IsCurrent machine before processes mail registers entries) where
     pub valid : fold machine (events_of entries) ≡ Some current.state
     valid = led_reached machine before (start machine) current.state entries current.led
 
@@ -89,9 +95,11 @@ module _ {L B : Type 0} {machine : Machine L} {before : L → B → L} where
     pub sound : IsSound machine current.state
     sound = path_sound machine before (start machine) current.state entries current.led (start_sound machine)
 
-    pub progress_at : (p : ℕ) (process : ProcessState L) (progress : Progress L) → nth current.state.processes p ≡ Some process → nth processes p ≡ Some progress → progress ≡ process.progress
+    pub progress_at : (p : ℕ) (process : ProcessState L) (progress : Progress L)
+        → nth current.state.processes p ≡ Some process → nth processes p ≡ Some progress → progress ≡ process.progress
     progress_at p process progress at held =
-        same_Some progress process.progress (sym held ∙ ap (λ l. nth l p) current.processes_are ∙ nth-map (λ (x : ProcessState L). x.progress) current.state.processes p ∙ ap (option_map (λ (x : ProcessState L). x.progress)) at)
+        same_Some progress process.progress (sym held ∙ ap (λ l. nth l p) current.processes_are
+        ∙ nth-map (λ (x : ProcessState L). x.progress) current.state.processes p ∙ ap (option_map (λ (x : ProcessState L). x.progress)) at)
 
     -- each process is there, and no other
     pub count_is : length processes ≡ length machine.firsts
@@ -115,7 +123,9 @@ module _ {L B : Type 0} {machine : Machine L} {before : L → B → L} where
       met_is = ap₂ (λ m r. sight m r p kind) current.mail_is current.registers_are
 
       held_at : nth processes p ≡ Some taken.process.progress
-      held_at = ap (λ l. nth l p) current.processes_are ∙ nth-map (λ (x : ProcessState L). x.progress) current.state.processes p ∙ ap (option_map (λ (x : ProcessState L). x.progress)) taken.at_process
+      held_at =
+          ap (λ l. nth l p) current.processes_are ∙ nth-map (λ (x : ProcessState L). x.progress) current.state.processes p
+          ∙ ap (option_map (λ (x : ProcessState L). x.progress)) taken.at_process
 
       pub within : p ≤ length processes
       within = nth_within processes p taken.process.progress held_at
@@ -157,10 +167,12 @@ module _ {L B : Type 0} {machine : Machine L} {before : L → B → L} where
             let a = parts machine current.state reached_to.0 p k kind taken in
             subst (λ r. IsWritable r kind (machine.wish progress.local)) (sym current.registers_are)
             (subst (λ (x : Progress L). IsWritable current.state.registers kind (machine.wish x.local)) (sym is)
-            (writable_by machine taken.process (mail_of current.state) current.state.registers p kind a.due a.met (writes_below machine current.state sound few)))
+            (writable_by machine taken.process (mail_of current.state) current.state.registers
+            p kind a.due a.met (writes_below machine current.state sound few)))
 
         -- what is held after the step
-        pub current_stepped : (left_progress : Progress L) (kept : Left B) {left_processes : List (Progress L)} {left_mail : MailState} {left_registers : RegisterStates} {left_entries : List (Recorded B)}
+        pub current_stepped : (left_progress : Progress L) (kept : UndoData B) {left_processes : List (Progress L)}
+            {left_mail : MailState} {left_registers : RegisterStates} {left_entries : List (Recorded B)}
             → left_processes ≡ set_nth processes p left_progress
             → taken_local machine.next progress.local (input_of kind (sight mail registers p kind)) ≡ Some left_progress.local
             → left_progress ≡ progress_after progress kind left_progress.local
@@ -170,7 +182,8 @@ module _ {L B : Type 0} {machine : Machine L} {before : L → B → L} where
             → kept.overwritten ≡ overwritten_cell registers kind
             → left_entries ≡ entries ++ recorded_of (Step p k kind) kept ∷ []
             → IsCurrent machine before left_processes left_mail left_registers left_entries
-        current_stepped left_progress kept {left_entries = left_entries} processes_left next counted mail_left_is registers_left_is back_is overwritten_is entries_left =
+        current_stepped left_progress kept {left_entries = left_entries} processes_left
+            next counted mail_left_is registers_left_is back_is overwritten_is entries_left =
             let event : Event = Step p k kind in
             let entry : Recorded B = recorded_of event kept in
             let process = taken.process in
@@ -178,7 +191,8 @@ module _ {L B : Type 0} {machine : Machine L} {before : L → B → L} where
             let to = reached_to.0 in
             let local_is : left_progress.local ≡ taken.next = same_Some left_progress.local taken.next (sym next ∙ takes) in
             let progress_left : left_progress ≡ left.progress = counted ∙ ap₂ (λ (x : Progress L) local. progress_after x kind local) is local_is in
-            let at_left : nth to.processes p ≡ Some left = ap (λ (x : RunState L). nth x.processes p) (sym taken.leads_to) ∙ nth-set_nth_same current.state.processes p left process taken.at_process in
+            let at_left : nth to.processes p ≡ Some left =
+            ap (λ (x : RunState L). nth x.processes p) (sym taken.leads_to) ∙ nth-set_nth_same current.state.processes p left process taken.at_process in
             let recorded : IsRecorded machine before current.state entry to =
             record {
               leads = reached_to.1;
@@ -192,7 +206,9 @@ module _ {L B : Type 0} {machine : Machine L} {before : L → B → L} where
             } in
             record {
               state = to;
-              led = subst (λ l. IsPath (IsRecorded machine before) (start machine) l to) (sym entries_left) (path_push (IsRecorded machine before) (start machine) current.state to entries entry current.led recorded);
+              led =
+                  subst (λ l. IsPath (IsRecorded machine before) (start machine) l to) (sym entries_left)
+                  (path_push (IsRecorded machine before) (start machine) current.state to entries entry current.led recorded);
               processes_are =
                   processes_left
                   ∙ ap₂ (λ l x. set_nth l p x) current.processes_are progress_left
@@ -214,7 +230,9 @@ module _ {L B : Type 0} {machine : Machine L} {before : L → B → L} where
       reached_by_loss = some_of (after machine current.state (Lost copy)) (subst (λ state. IsSome (after machine state (Lost copy))) state_is enabled)
 
       may_be_lost : may_lose machine mail copy ≡ true
-      may_be_lost = ap (λ m. may_lose machine m copy) current.mail_is ∙ (where_true (may_lose machine (mail_of current.state) copy) (Some (record current.state { lost = set.insert current.state.lost copy })) reached_by_loss.0 reached_by_loss.1).0
+      may_be_lost =
+          ap (λ m. may_lose machine m copy) current.mail_is ∙ (where_true (may_lose machine (mail_of current.state) copy)
+          (Some (record current.state { lost = set.insert current.state.lost copy })) reached_by_loss.0 reached_by_loss.1).0
 
       -- the copy was sent to a process of the run, and neither received nor lost
       pub record IsOnItsWay : Type 0 where
@@ -242,7 +260,9 @@ module _ {L B : Type 0} {machine : Machine L} {before : L → B → L} where
       pub receiver_within : copy.to ≤ length mail.received
       receiver_within =
           let last = is_at_most (length machine.firsts) copy.to on_its_way.among in
-          let count = ap (λ (m : MailState). length m.received) current.mail_is ∙ length-map current.state.processes (λ (x : ProcessState L). x.received) ∙ sound.count in
+          let count =
+          ap (λ (m : MailState). length m.received) current.mail_is
+          ∙ length-map current.state.processes (λ (x : ProcessState L). x.received) ∙ sound.count in
           omega (arith, last, count)
 
       -- what is held after the loss
@@ -254,10 +274,13 @@ module _ {L B : Type 0} {machine : Machine L} {before : L → B → L} where
           let entry : Recorded B = recorded_of event nothing in
           let to : RunState L = record current.state { lost = set.insert current.state.lost copy } in
           let leads : after machine current.state event ≡ Some to =
-          ap (λ b. if b then Some (record current.state { lost = set.insert current.state.lost copy }) else None) (ap (λ m. may_lose machine m copy) (sym current.mail_is) ∙ may_be_lost) in
+          ap (λ b. if b then Some (record current.state { lost = set.insert current.state.lost copy }) else None)
+          (ap (λ m. may_lose machine m copy) (sym current.mail_is) ∙ may_be_lost) in
           record {
             state = to;
-            led = subst (λ l. IsPath (IsRecorded machine before) (start machine) l to) (sym entries_left) (path_push (IsRecorded machine before) (start machine) current.state to entries entry current.led (record { leads = leads; back = refl; cell = refl }));
+            led =
+                subst (λ l. IsPath (IsRecorded machine before) (start machine) l to) (sym entries_left) (path_push (IsRecorded machine before)
+                (start machine) current.state to entries entry current.led (record { leads = leads; back = refl; cell = refl }));
             processes_are = current.processes_are;
             mail_is = mail_left ∙ ap (λ m. add_loss m copy) current.mail_is;
             registers_are = current.registers_are;

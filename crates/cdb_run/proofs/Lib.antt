@@ -1,17 +1,17 @@
 -- what is held of a run: at the start, before and after an event, and what it shows
-pub mod Starting
+pub mod AtStart
 pub mod FirstStep
-pub mod Deciding
+pub mod Decisions
 pub mod Held
-pub mod Stepping
+pub mod StepsTaken
 pub mod Planned
 pub mod Views
 -- an event is taken back by its record, whatever came later
 pub mod Records
 pub mod SentFirst
-pub mod Restoring
+pub mod RestoredStates
 -- which events may come, and which are found
-pub mod Coming
+pub mod ComingInputs
 pub mod Causes
 pub mod Found
 pub mod RollingBack

@@ -1,5 +1,6 @@
 -- The steps of a process, each with the writes that it meets, by their names.
-use Rattle.std.proofs.Common.{◌≡◌, ℕ, zero, suc, ◌+◌, ◌<◌, Bool, true, false, cond, if◌then◌else◌, List, [], ◌∷◌, length, take, map, filter, slice_get, Option, Some, None, refl, sym, ap, ap₂, ◌∙◌, eq-eqb, arith}
+use Rattle.std.proofs.Common.{◌≡◌, ℕ, zero, suc, ◌+◌, ◌<◌, Bool, true, false, cond, if◌then◌else◌, List, [], ◌∷◌, length}
+use Rattle.std.proofs.Common.{take, map, filter, slice_get, Option, Some, None, refl, sym, ap, ap₂, ◌∙◌, eq-eqb, arith}
 use Rattle.std.proofs.lemmas.List.{length-map}
 use Rattle.std.proofs.lemmas.List.Sums.{sum_by-cons}
 use Rattle.std.proofs.lemmas.Option.{none-some, same_Some}
@@ -16,7 +17,7 @@ use Rattle.cdb_causal.specs.Names.{IsNewName}
 use Rattle.cdb_rules.specs.OwnSteps.{no_writes, writes_with, writes_met, as_own_events, own_steps}
 use Rattle.cdb_rules.specs.Runs.{step_name}
 use Rattle.cdb_rules.specs.declared.own_event.OwnEvent.{OwnEvent}
-use Rattle.cdb_standing.specs.Comparing.{steps_by, AreNumbered, is_write_of, writes_before}
+use Rattle.cdb_standing.specs.Comparisons.{steps_by, AreNumbered, is_write_of, writes_before}
 
 -- a name says which step of which process it is
 name_parts : (p k q l : ℕ) → step_name p k ≡ step_name q l → (p ≡ q) × (k ≡ l)
@@ -25,7 +26,8 @@ name_parts p k q l e = let same : record { p = p; k = k } ≡ step_of q l = cc i
     step_of : ℕ → ℕ → StepName
     step_of p k = record { p = p; k = k }
 
-met_same : (writes others : Reg → ℕ) → ((register : Reg) → writes register ≡ others register) → (event : Event) → writes_met writes event ≡ writes_met others event
+met_same : (writes others : Reg → ℕ) → ((register : Reg) → writes register ≡ others register)
+    → (event : Event) → writes_met writes event ≡ writes_met others event
 met_same writes others same (Step p k (Read register)) = ap Some (same register)
 met_same writes others same (Step p k (Write register)) = ap Some (same register)
 met_same writes others same (Step p k (Query leader)) = refl
@@ -59,7 +61,8 @@ module _ (p : ℕ) where
   own_behind writes events = filter is_its (as_own_events writes events)
 
   abbrev with_writes : (Reg → ℕ) → List Event → Event → OwnEvent
-  with_writes writes before event = record { event = event; writes_before = writes_met (λ register. writes register + count_by (is_write_of register) before) event }
+  with_writes writes before event =
+      record { event = event; writes_before = writes_met (λ register. writes register + count_by (is_write_of register) before) event }
 
   -- an event of the process is on its list, with the writes that stand before it
   noted_at : (writes : Reg → ℕ) (events : List Event) (i : ℕ) (event : Event) → slice_get events i ≡ Some event → is_step_of p event ≡ true
@@ -97,7 +100,8 @@ module _ (p : ℕ) where
       own = record { event = x; writes_before = writes_met writes x }
 
       by : (b : Bool) → map (λ (own : OwnEvent). own.event) (own_behind (writes_with writes x) xs) ≡ steps_by p xs
-          → map (λ (own : OwnEvent). own.event) (cond b (own ∷ own_behind (writes_with writes x) xs) (own_behind (writes_with writes x) xs)) ≡ cond b (x ∷ steps_by p xs) (steps_by p xs)
+          → map (λ (own : OwnEvent). own.event) (cond b (own ∷ own_behind (writes_with writes x) xs) (own_behind (writes_with writes x) xs))
+          ≡ cond b (x ∷ steps_by p xs) (steps_by p xs)
       by true again = ap (λ l. x ∷ l) again
       by false again = again
 
@@ -113,14 +117,16 @@ module _ (p : ℕ) where
   stands_at [] i event at = absurd (none-some event at)
   stands_at (x ∷ xs) i event at = by (is_step_of p x) i at (stands_at xs)
     where
-      by : (b : Bool) (i : ℕ) → slice_get (cond b (x ∷ steps_by p xs) (steps_by p xs)) i ≡ Some event → ((i : ℕ) (event : Event) → slice_get (steps_by p xs) i ≡ Some event → (j : ℕ) × (slice_get xs j ≡ Some event)) → (j : ℕ) × (slice_get (x ∷ xs) j ≡ Some event)
+      by : (b : Bool) (i : ℕ) → slice_get (cond b (x ∷ steps_by p xs) (steps_by p xs)) i ≡ Some event → ((i : ℕ) (event : Event)
+          → slice_get (steps_by p xs) i ≡ Some event → (j : ℕ) × (slice_get xs j ≡ Some event)) → (j : ℕ) × (slice_get (x ∷ xs) j ≡ Some event)
       by true zero at again = (0, at)
       by true (suc i) at again = let found = again i event at in (suc found.0, found.1)
       by false i at again = let found = again i event at in (suc found.0, found.1)
 
   module _ (history : List Event) (numbered : AreNumbered p history) where
     -- the step of that name, with the writes before it
-    pub own_named : (k at : ℕ) (event : Event) → nth history at ≡ Some event → event_name event ≡ step_name p k → nth (own_steps p history) k ≡ Some (record { event = event; writes_before = writes_met (writes_before history at) event })
+    pub own_named : (k at : ℕ) (event : Event) → nth history at ≡ Some event → event_name event ≡ step_name p k
+        → nth (own_steps p history) k ≡ Some (record { event = event; writes_before = writes_met (writes_before history at) event })
     own_named k zero event there name = absurd (none-some event there)
     own_named k (suc i) event there name = by k number
       where
@@ -136,10 +142,13 @@ module _ (p : ℕ) where
 
         number : k ≡ suc index
         number =
-            let is = numbered (suc index) event (ap (λ l. slice_get l index) (sym (own_events no_writes history)) ∙ event_of (own_steps p history) index _ there_too) in
+            let is =
+            numbered (suc index) event
+            (ap (λ l. slice_get l index) (sym (own_events no_writes history)) ∙ event_of (own_steps p history) index _ there_too) in
             (name_parts p k p (suc index) (sym name ∙ is)).1
 
-        by : (k : ℕ) → k ≡ suc index → nth (own_steps p history) k ≡ Some (record { event = event; writes_before = writes_met (writes_before history (suc i)) event })
+        by : (k : ℕ) → k ≡ suc index
+            → nth (own_steps p history) k ≡ Some (record { event = event; writes_before = writes_met (writes_before history (suc i)) event })
         by k e = rw e (there_too ∙ ap (λ o. Some (record { event = event; writes_before = o })) (met_same _ _ (λ register. omega arith) event))
 
     -- and where no event has the name, there is none
@@ -159,4 +168,5 @@ pub same_lists : {A : Type 0} (xs ys : List A) → length xs ≡ length ys → (
 same_lists [] [] long same = refl
 same_lists [] (y ∷ ys) long same = absurd (omega arith)
 same_lists (x ∷ xs) [] long same = absurd (omega arith)
-same_lists (x ∷ xs) (y ∷ ys) long same = ap₂ (λ a l. a ∷ l) (same_Some x y (same 0 (omega arith))) (same_lists xs ys (omega arith) (λ i less. same (suc i) (omega arith)))
+same_lists (x ∷ xs) (y ∷ ys) long same =
+    ap₂ (λ a l. a ∷ l) (same_Some x y (same 0 (omega arith))) (same_lists xs ys (omega arith) (λ i less. same (suc i) (omega arith)))

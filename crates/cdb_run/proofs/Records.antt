@@ -11,7 +11,7 @@ use Rattle.cdb_causal.specs.Dependence.{depends}
 use Rattle.cdb_causal.specs.Effects.{kind_affects}
 use Rattle.cdb_causal.specs.Causality.{IsFree}
 use Rattle.cdb_causal.specs.Paths.{IsPath}
-use Rattle.cdb_causal.specs.Exchanging.{IsExchangeable}
+use Rattle.cdb_causal.specs.Exchanges.{IsExchangeable}
 use Rattle.cdb_causal.specs.Rollback.{without}
 use Rattle.cdb_causal.proofs.Lists.{map-without, nth_map}
 use Rattle.cdb_causal.proofs.Paths.{free_last}

@@ -8,7 +8,7 @@ use Rattle.cdb_causal.specs.Dependence.{depends}
 use Rattle.cdb_causal.specs.Rollback.{without, rolled_back, remaining}
 use Rattle.cdb_causal.proofs.Chains.{rolled_back_split}
 use Rattle.cdb_causal.proofs.Undone.{rolled_back_alone, rolled_back_last}
-use Rattle.cdb_rules.proofs.Finding.{stands_from_one}
+use Rattle.cdb_rules.proofs.NamesFound.{stands_from_one}
 
 -- the events are the one at the position and its consequences, without which the same remains as before; where there are none, that
 -- is the history

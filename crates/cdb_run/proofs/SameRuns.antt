@@ -1,5 +1,6 @@
 -- Two runs are in the same state where their histories say the same of each process and of what is lost.
-use Rattle.std.proofs.Common.{◌≡◌, ℕ, zero, suc, ◌-◌, ◌<◌, ◌≤◌, ◌↔◌, Bool, true, false, List, [], ◌∷◌, length, Option, Some, None, IsTrue, option_and_then, option_map, unwrap_or, slice_get, slice_index_or, refl, sym, ap, ◌∙◌, subst, ◌⊎◌, ⊎_elim, arith}
+use Rattle.std.proofs.Common.{◌≡◌, ℕ, zero, suc, ◌-◌, ◌<◌, ◌≤◌, ◌↔◌, Bool, true, false, List, [], ◌∷◌, length, Option, Some, None, IsTrue, option_and_then}
+use Rattle.std.proofs.Common.{option_map, unwrap_or, slice_get, slice_index_or, refl, sym, ap, ◌∙◌, subst, ◌⊎◌, ⊎_elim, arith}
 use Rattle.std.proofs.lemmas.List.{length-map}
 use Rattle.std.proofs.lemmas.Option.{same_Some}
 use Rattle.cdb_base.specs.Positions.{nth}
@@ -12,14 +13,14 @@ use Rattle.cdb_causal.specs.Exchange.{IsExchanged, IsIn, here, there}
 use Rattle.cdb_message.specs.Mail.{is_lost}
 use Rattle.cdb_rules.specs.Mail.{mail_of}
 use Rattle.cdb_rules.specs.OwnSteps.{own_steps, own_of}
-use Rattle.cdb_run.specs.Comparing.{AreAlike}
+use Rattle.cdb_run.specs.Alike.{AreAlike}
 use Rattle.cdb_standing.specs.Moves.{StandsIn}
 use Rattle.cdb_rules.specs.State.{Machine, ProcessState, RunState, fresh_process, start}
 use Rattle.cdb_rules.specs.Step.{after, fold, IsValid}
 use Rattle.cdb_rules.proofs.FoldKeeps.{reached_keeps}
 use Rattle.cdb_rules.proofs.Histories.{fold_exchanged}
 use Rattle.cdb_rules.proofs.Members.{member, lost_comes, start_counted, start_unlost}
-use Rattle.cdb_rules.proofs.Naming.{count_kept, in_position}
+use Rattle.cdb_rules.proofs.NamedEvents.{count_kept, in_position}
 use Rattle.cdb_rules.proofs.Numbers.{own_at}
 use Rattle.cdb_rules.proofs.OwnOfState.{own_of_history}
 use Rattle.cdb_rules.proofs.SameState.{ShowTheSame, shown_exchanged}
@@ -63,28 +64,34 @@ module _ {L : Type 0} (machine : Machine L) where
   own_at-own_of : (state : RunState L) (p k : ℕ) → own_at state p k ≡ nth (own_of state p) k
   own_at-own_of state p k = by_process (nth state.processes p) k
     where
-      by_process : (o : Option (ProcessState L)) (i : ℕ) → option_and_then (λ (process : ProcessState L). nth process.own i) o ≡ nth (unwrap_or (option_map (λ (process : ProcessState L). process.own) o) []) i
+      by_process : (o : Option (ProcessState L)) (i : ℕ) → option_and_then (λ (process : ProcessState L). nth process.own i) o
+          ≡ nth (unwrap_or (option_map (λ (process : ProcessState L). process.own) o) []) i
       by_process None zero = refl
       by_process None (suc i) = refl
       by_process (Some process) i = refl
 
   -- what the mail has lost was lost in the history
-  lost_in : (history : List Event) (to : RunState L) → fold machine history ≡ Some to → (copy : CopyName) → is_lost (mail_of to) copy ≡ true → IsIn (Lost copy) history
+  lost_in : (history : List Event) (to : RunState L) → fold machine history ≡ Some to
+      → (copy : CopyName) → is_lost (mail_of to) copy ≡ true → IsIn (Lost copy) history
   lost_in history to h copy is = ⊎_elim (λ old. absurd (start_unlost machine copy old)) (λ i. i) (lost_comes machine history (start machine) to h copy is)
 
   -- and what was lost there the mail has lost
-  loses : (history : List Event) (to : RunState L) → fold machine history ≡ Some to → (copy : CopyName) → IsIn (Lost copy) history → is_lost (mail_of to) copy ≡ true
+  loses : (history : List Event) (to : RunState L) → fold machine history ≡ Some to
+      → (copy : CopyName) → IsIn (Lost copy) history → is_lost (mail_of to) copy ≡ true
   loses history to h copy i = (member machine history (start machine) to (start_counted machine) h (Lost copy) i).stands
 
   count_is : (history : List Event) (to : RunState L) → fold machine history ≡ Some to → length to.processes ≡ length machine.firsts
   count_is history to h =
-      reached_keeps (after machine) (λ (state : RunState L). length state.processes ≡ length machine.firsts) (λ state event next is one. count_kept machine state next event one ∙ is) (start machine) history to
+      reached_keeps (after machine) (λ (state : RunState L). length state.processes ≡ length machine.firsts)
+      (λ state event next is one. count_kept machine state next event one ∙ is) (start machine) history to
       (length-map machine.firsts fresh_process) h
 
-  module _ (few : length machine.firsts ≤ 9) (history others : List Event) (to other : RunState L) (h : fold machine history ≡ Some to) (g : fold machine others ≡ Some other) where
+  module _ (few : length machine.firsts ≤ 9) (history others : List Event) (to other : RunState L)
+      (h : fold machine history ≡ Some to) (g : fold machine others ≡ Some other) where
     -- beyond the processes nobody has own events
     none_beyond : (state : RunState L) → length state.processes ≤ 9 → (p : ℕ) → 9 < p → own_of state p ≡ []
-    none_beyond state within p beyond = ap (λ o. unwrap_or (option_map (λ (process : ProcessState L). process.own) o) []) (nothing_at state.processes p (omega (arith, within, beyond)))
+    none_beyond state within p beyond =
+        ap (λ o. unwrap_or (option_map (λ (process : ProcessState L). process.own) o) []) (nothing_at state.processes p (omega (arith, within, beyond)))
 
     same_own : AreAlike history others → (p : ℕ) → own_of to p ≡ own_of other p
     same_own alike zero = refl
@@ -92,9 +99,11 @@ module _ {L : Type 0} (machine : Machine L) where
         ⊎_elim
         (λ within.
         own_of_history machine history to h (suc i)
-        ∙ subst (λ p. own_steps p history ≡ own_steps p others) (at_process (suc i) (omega arith) within) (alike.0 (suc i - 1) 0 (let nine = all_nine in omega (arith, within, nine)))
+        ∙ subst (λ p. own_steps p history ≡ own_steps p others) (at_process (suc i) (omega arith) within)
+        (alike.0 (suc i - 1) 0 (let nine = all_nine in omega (arith, within, nine)))
         ∙ sym (own_of_history machine others other g (suc i)))
-        (λ beyond. none_beyond to (let count = count_is history to h in omega (arith, count, few)) (suc i) beyond ∙ sym (none_beyond other (let count = count_is others other g in omega (arith, count, few)) (suc i) beyond))
+        (λ beyond. none_beyond to (let count = count_is history to h in omega (arith, count, few)) (suc i) beyond
+        ∙ sym (none_beyond other (let count = count_is others other g in omega (arith, count, few)) (suc i) beyond))
         (within_or_beyond (suc i))
 
     shown : AreAlike history others → ShowTheSame machine to other
@@ -113,7 +122,8 @@ module _ {L : Type 0} (machine : Machine L) where
     -- where the histories reach the same state, they tell the same
     told_alike : to ≡ other → AreAlike history others
     told_alike same = (
-      λ k p within. let q = slice_index_or all_processes k p in sym (own_of_history machine history to h q) ∙ ap (λ state. own_of state q) same ∙ own_of_history machine others other g q,
+      λ k p within. let q = slice_index_or all_processes k p in
+          sym (own_of_history machine history to h q) ∙ ap (λ state. own_of state q) same ∙ own_of_history machine others other g q,
       λ copy.
           let one = ap (λ (state : RunState L). is_lost (mail_of state) copy) same in (
             λ lost. stands others (Lost copy) (lost_in others other g copy (sym one ∙ loses history to h copy (is_in history (Lost copy) lost))),
@@ -131,7 +141,8 @@ module _ {L : Type 0} (machine : Machine L) where
     alike_exchanges = (alike_exchanged, λ exchanged. alike_folds.1 (fold_exchanged machine history others exchanged))
 
   -- what a call says of two valid histories
-  module _ (few : length machine.firsts ≤ 9) (history others : List Event) (valid : IsValid machine history) (other_valid : IsValid machine others) (returned : Bool) (told : IsTrue returned ↔ AreAlike history others) where
+  module _ (few : length machine.firsts ≤ 9) (history others : List Event) (valid : IsValid machine history)
+      (other_valid : IsValid machine others) (returned : Bool) (told : IsTrue returned ↔ AreAlike history others) where
     pub answered : (IsTrue returned ↔ (fold machine history ≡ fold machine others)) × (IsTrue returned ↔ IsExchanged depends history others)
     answered =
         let to = some_of (fold machine history) valid in

@@ -1,5 +1,6 @@
 -- What a run received or lost was sent.
-use Rattle.std.proofs.Common.{◌≡◌, ℕ, true, false, ◌&&◌, ⊎_elim, List, [], ◌∷◌, Option, Some, None, nat_eq, is_some, option_map, unwrap_or, refl, sym, ap, ◌∙◌, subst, true≢false, arith}
+use Rattle.std.proofs.Common.{◌≡◌, ℕ, true, false, ◌&&◌, ⊎_elim, List, [], ◌∷◌, Option, Some, None, nat_eq}
+use Rattle.std.proofs.Common.{is_some, option_map, unwrap_or, refl, sym, ap, ◌∙◌, subst, true≢false, arith}
 use Rattle.std.proofs.lemmas.Option.{same_Some}
 use Rattle.std.specs.FinSet as set
 use Rattle.cdb_base.specs.Positions.{nth}
@@ -27,7 +28,8 @@ pub record IsSentFirst {L : Type 0} (state : RunState L) : Type 0 where
 
 module _ {L : Type 0} (machine : Machine L) where
   -- what was sent stays sent
-  sent_stays : (state next : RunState L) (event : Event) (name : MsgName) → after machine state event ≡ Some next → is_sent (mail_of state) name ≡ true → is_sent (mail_of next) name ≡ true
+  sent_stays : (state next : RunState L) (event : Event) (name : MsgName) → after machine state event ≡ Some next
+      → is_sent (mail_of state) name ≡ true → is_sent (mail_of next) name ≡ true
   sent_stays state next (Step p k kind) name one sent =
       elim (sends name.s name.m p kind) as (λ b. sends name.s name.m p kind ≡ b → is_sent (mail_of next) name ≡ true) [
         | true ↦ λ e.
@@ -42,17 +44,20 @@ module _ {L : Type 0} (machine : Machine L) where
       ] refl
   sent_stays state next (Lost copy) name one sent = subst (λ (x : RunState L). is_sent (mail_of x) name ≡ true) (lost_from machine state next copy one).1 sent
 
-  received_in : (state next : RunState L) (event : Event) → after machine state event ≡ Some next → IsSentFirst state → (q : ℕ) (name : MsgName) → is_received (mail_of next) q name ≡ true → is_sent (mail_of state) name ≡ true
+  received_in : (state next : RunState L) (event : Event) → after machine state event ≡ Some next → IsSentFirst state
+      → (q : ℕ) (name : MsgName) → is_received (mail_of next) q name ≡ true → is_sent (mail_of state) name ≡ true
   received_in state next (Step p k kind) one first q name is =
       elim (nat_eq p q && receives name.s name.m kind) as (λ b. (nat_eq p q && receives name.s name.m kind) ≡ b → is_sent (mail_of state) name ≡ true) [
         | true ↦ λ e.
-            (arrived machine state next p k kind (taken_from machine state next p k kind one) name.s name.m (receives_it name.s name.m kind (both (nat_eq p q) (receives name.s name.m kind) e).1)).0
+            (arrived machine state next p k kind (taken_from machine state next p k kind one) name.s name.m
+            (receives_it name.s name.m kind (both (nat_eq p q) (receives name.s name.m kind) e).1)).0
         | false ↦ λ e. first.received q name (sym (received_kept machine state next p k kind (taken_from machine state next p k kind one) q name e) ∙ is)
       ] refl
   received_in state next (Lost copy) one first q name is =
       first.received q name (subst (λ (x : RunState L). is_received (mail_of x) q name ≡ true) (sym (lost_from machine state next copy one).1) is)
 
-  lost_in : (state next : RunState L) (event : Event) → after machine state event ≡ Some next → IsSentFirst state → (copy : CopyName) → is_lost (mail_of next) copy ≡ true → is_sent (mail_of state) copy.msg ≡ true
+  lost_in : (state next : RunState L) (event : Event) → after machine state event ≡ Some next → IsSentFirst state
+      → (copy : CopyName) → is_lost (mail_of next) copy ≡ true → is_sent (mail_of state) copy.msg ≡ true
   lost_in state next event one first copy is =
       ⊎_elim
       (λ old. first.lost copy old)
@@ -69,7 +74,8 @@ module _ {L : Type 0} (machine : Machine L) where
         lost = λ copy is. sent_stays state s.0 event copy.msg s.1 (lost_in state s.0 event s.1 first copy is);
       })
 
-  unreceived_by : (o : Option (ProcessState L)) → ((process : ProcessState L) → o ≡ Some process → process.received ≡ set.empty) → unwrap_or (option_map (λ (x : ProcessState L). x.received) o) set.empty ≡ set.empty
+  unreceived_by : (o : Option (ProcessState L)) → ((process : ProcessState L) → o ≡ Some process → process.received ≡ set.empty)
+      → unwrap_or (option_map (λ (x : ProcessState L). x.received) o) set.empty ≡ set.empty
   unreceived_by None fresh = refl
   unreceived_by (Some process) fresh = fresh process refl
 

@@ -11,7 +11,8 @@ use Rattle.cdb_standing.specs.declared.recorded.Recorded.{Recorded}
 
 -- The standing events lead, one after another and each with its record, from the start to a state, and what is held
 -- is that state.
-pub record IsCurrent {L B : Type 0} (machine : Machine L) (before : L → B → L) (processes : List (Progress L)) (mail : MailState) (registers : RegisterStates) (records : List (Recorded B)) : Type 0 where
+pub record IsCurrent {L B : Type 0} (machine : Machine L) (before : L → B → L) (processes : List (Progress L))
+    (mail : MailState) (registers : RegisterStates) (records : List (Recorded B)) : Type 0 where
   pub state : RunState L
   pub led : IsPath (IsRecorded machine before) (start machine) records state
   pub processes_are : processes ≡ map (λ process. process.progress) state.processes

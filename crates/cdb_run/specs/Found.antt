@@ -13,7 +13,8 @@ IsNotFound run name why = event_named run.setup.processes run.history name ≡ E
 
 -- the result is the name, whose processes the run has, or why no event has it
 abbrev pub IsNameGiven : RunView → StepId → Result StepId Refusal → Type 0
-IsNameGiven run name result = MatchResult result (λ it. (it ≡ name) × (names_processes run.setup.processes name ≡ true)) (IsNotFound run name)
+IsNameGiven run name result =
+    MatchResult result (λ it. (it ≡ name) × (names_processes run.setup.processes name ≡ true)) (IsNotFound run name)
 
 -- the result is the name, of which an event stands, or why none does
 abbrev pub IsFound : RunView → StepId → Result StepId Refusal → Type 0
@@ -21,4 +22,5 @@ IsFound run name result = MatchResult result (λ it. (it ≡ name) × IsStanding
 
 -- the result is the name, of an event that can be undone, or why none can
 abbrev pub IsFoundFree : RunView → StepId → Result StepId Refusal → Type 0
-IsFoundFree run name result = MatchResult result (λ it. (it ≡ name) × CanUndo run name) (λ why. undo_in run name ≡ Err why)
+IsFoundFree run name result =
+    MatchResult result (λ it. (it ≡ name) × CanUndo run name) (λ why. undo_in run name ≡ Err why)

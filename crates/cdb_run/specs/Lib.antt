@@ -5,7 +5,7 @@ pub mod Recorded
 -- and which event a name names
 pub mod Plans
 pub mod Registers
-pub mod Comparing
+pub mod Alike
 pub mod Restored
 pub mod Stepped
 pub mod Current

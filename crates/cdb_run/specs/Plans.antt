@@ -1,5 +1,6 @@
 -- What a step of one process returns and changes, by its progress, the mail and the registers as they stand.
-use Rattle.std.specs.Prelude.{ℕ, ◌+◌, not, nat_le, [], ◌∷◌, length, Option, option_and_then, Result, Ok, Err, if◌then◌else◌}
+use Rattle.std.specs.Prelude.{ℕ, ◌+◌, not, nat_le, [], ◌∷◌, length, Option, option_and_then}
+use Rattle.std.specs.Prelude.{Result, Ok, Err, if◌then◌else◌}
 use Rattle.std.specs.Result.{result_ok}
 use Rattle.cdb_base.specs.declared.act.Act.{Act}
 use Rattle.cdb_base.specs.declared.act.Act.TheVariants as act
@@ -18,19 +19,24 @@ use Rattle.cdb_process.specs.Wishes.{wished_payload, wished_cell}
 use Rattle.cdb_register.specs.Registers.{RegisterStates}
 use Rattle.cdb_rules.specs.Machines.{machine_of}
 use Rattle.cdb_rules.specs.Refusals.{first_refusal, accepts_kind, planned, planned_again, again_checks}
-use Rattle.cdb_rules.specs.Taking.{sight, input_of, taken_local}
+use Rattle.cdb_rules.specs.InputsTaken.{sight, input_of, taken_local}
 use Rattle.cdb_rules.specs.declared.progress.Progress.{Progress}
 use Rattle.cdb_setup.specs.Parts.{Parts}
 
 -- the first refusal that holds, else the event that the act names
-abbrev pub plan_at : {L : Type 0} → Table L → Parts → MailState → RegisterStates → Progress L → ℕ → Act → Result Event Refusal
-plan_at table setup mail registers progress p do_act = planned (machine_of table setup) setup mail registers progress p do_act
+abbrev pub plan_at : {L : Type 0} → Table L → Parts → MailState
+    → RegisterStates → Progress L → ℕ → Act → Result Event Refusal
+plan_at table setup mail registers progress p do_act =
+    planned (machine_of table setup) setup mail registers progress p do_act
 
 -- the same for a step that was undone
-abbrev pub plan_again_at : {L : Type 0} → Table L → Parts → MailState → RegisterStates → Progress L → ℕ → ℕ → Kind → Result Event Refusal
-plan_again_at table setup mail registers progress p k kind = planned_again (machine_of table setup) mail registers progress p k kind
+abbrev pub plan_again_at : {L : Type 0} → Table L → Parts → MailState
+    → RegisterStates → Progress L → ℕ → ℕ → Kind → Result Event Refusal
+plan_again_at table setup mail registers progress p k kind =
+    planned_again (machine_of table setup) mail registers progress p k kind
 
-abbrev pub refusal_again_at : {L : Type 0} → Table L → Parts → MailState → RegisterStates → Progress L → ℕ → ℕ → Kind → Option Refusal
+abbrev pub refusal_again_at : {L : Type 0} → Table L → Parts → MailState
+    → RegisterStates → Progress L → ℕ → ℕ → Kind → Option Refusal
 refusal_again_at table setup mail registers progress p k kind =
     first_refusal (again_checks (machine_of table setup) mail registers progress p k kind)
 
@@ -46,10 +52,12 @@ copy_refusal mail p name =
 
 -- the next step of process p, where it has fewer than it may have
 abbrev pub next_step_of : {L : Type 0} → Progress L → ℕ → Kind → Result Event Refusal
-next_step_of progress p kind = if nat_le MAX_STEPS progress.steps then Err refusal.StepLimit else Ok (Step p (progress.steps + 1) kind)
+next_step_of progress p kind =
+    if nat_le MAX_STEPS progress.steps then Err refusal.StepLimit else Ok (Step p (progress.steps + 1) kind)
 
 -- the same where the machine accepts a step of that kind
-abbrev pub step_if_accepted : {L : Type 0} → Table L → Parts → MailState → RegisterStates → Progress L → ℕ → Kind → Result Event Refusal
+abbrev pub step_if_accepted : {L : Type 0} → Table L → Parts → MailState
+    → RegisterStates → Progress L → ℕ → Kind → Result Event Refusal
 step_if_accepted table setup mail registers progress p kind =
     if accepts_kind (machine_of table setup) progress.local (length (sent_by mail p)) registers kind
     then next_step_of progress p kind
@@ -57,7 +65,8 @@ step_if_accepted table setup mail registers progress p kind =
 
 -- the local state after a step of that kind, where the machine accepts it
 abbrev pub local_after : {L : Type 0} → Table L → Progress L → MailState → RegisterStates → ℕ → Kind → Option L
-local_after table progress mail registers p kind = taken_local table.next progress.local (input_of kind (sight mail registers p kind))
+local_after table progress mail registers p kind =
+    taken_local table.next progress.local (input_of kind (sight mail registers p kind))
 
 -- the payload that the process would send, and the cell that it would write
 abbrev pub payload_due : {L : Type 0} → Table L → Progress L → Option Payload

@@ -4,12 +4,13 @@ use Rattle.std.specs.Option.{ForSome}
 use Rattle.cdb_base.specs.declared.event.Kind.{Kind}
 use Rattle.cdb_base.specs.declared.event.Kind.TheVariants.{Query, Send, Recv, Write}
 use Rattle.cdb_base.specs.declared.register.Cell.{Cell}
-use Rattle.cdb_message.specs.Mail.{MailState, message_name, copy_name, sent_by, is_received, is_lost, remove_send, remove_receive}
+use Rattle.cdb_message.specs.Mail.{MailState, message_name, copy_name, sent_by, is_received}
+use Rattle.cdb_message.specs.Mail.{is_lost, remove_send, remove_receive}
 use Rattle.cdb_register.specs.Registers.{RegisterStates, register_of, with_register, restored}
 use Rattle.cdb_run.specs.Back.{put_back}
 use Rattle.cdb_rules.specs.declared.progress.Progress.{Progress}
 use Rattle.cdb_base.specs.Positions.{nth, set_nth}
-use Rattle.cdb_standing.specs.declared.recorded.Left.{Left}
+use Rattle.cdb_standing.specs.declared.recorded.UndoData.{UndoData}
 use Rattle.cdb_run.specs.declared.state.State.{State}
 
 abbrev pub queries_before : ℕ → Kind → ℕ
@@ -47,7 +48,8 @@ IsCountable progress _ = 0 < progress.steps
 -- what p sent last was received by nobody, and no copy of it is lost; what it received is there
 abbrev pub IsUnpostable : MailState → ℕ → Kind → Type 0
 IsUnpostable mail p (Send m) =
-    (p ≤ length mail.sent) × (0 < length (sent_by mail p)) × ((q : ℕ) → is_received mail q (message_name p (length (sent_by mail p))) ≡ false)
+    (p ≤ length mail.sent) × (0 < length (sent_by mail p))
+    × ((q : ℕ) → is_received mail q (message_name p (length (sent_by mail p))) ≡ false)
     × ((q : ℕ) → is_lost mail (copy_name (message_name p (length (sent_by mail p))) q) ≡ false)
 IsUnpostable mail p (Recv s m) = (p ≤ length mail.received) × IsTrue (is_received mail p (message_name s m))
 IsUnpostable mail p _ = Unit {0}
@@ -55,7 +57,8 @@ IsUnpostable mail p _ = Unit {0}
 -- the register has a write that stands, and the cell is there
 abbrev pub IsRestorable : RegisterStates → Kind → Option Cell → Type 0
 IsRestorable registers (Write register) overwritten =
-    IsSome (register_of registers register) × ForSome (register_of registers register) (λ stands. 0 < stands.writes) × IsSome overwritten
+    IsSome (register_of registers register)
+    × ForSome (register_of registers register) (λ stands. 0 < stands.writes) × IsSome overwritten
 IsRestorable registers _ overwritten = Unit {0}
 
 -- The state of a run before its last step of a process.
@@ -67,7 +70,8 @@ pub record MayTakeBack {L : Type 0} (state : State L) (p : ℕ) (kind : Kind) (o
   pub restorable : IsRestorable state.registers kind overwritten
 
 -- it has taken it back, with what it left
-pub record HasTakenBack {L B : Type 0} (before : L → B → L) (old : State L) (p : ℕ) (kind : Kind) (left : Left B) (new : State L) : Type 0 where
+pub record HasTakenBack {L B : Type 0} (before : L → B → L) (old : State L)
+    (p : ℕ) (kind : Kind) (left : UndoData B) (new : State L) : Type 0 where
   pub progress : Progress L
   pub stood : nth old.processes.items p ≡ Some progress
   pub processes : new.processes.items ≡ set_nth old.processes.items p (progress_before before progress kind left.back)

@@ -4,8 +4,8 @@ use Rattle.cdb_base.specs.Limits.{MAX_STEPS}
 use Rattle.cdb_base.specs.Positions.{nth, set_nth}
 use Rattle.cdb_base.specs.declared.event.Kind.{Kind}
 use Rattle.cdb_process.specs.Table.{Table}
-use Rattle.cdb_standing.specs.declared.recorded.Left.{Left}
-use Rattle.cdb_rules.specs.Taking.{mail_after, IsPostable, progress_after, registers_after}
+use Rattle.cdb_standing.specs.declared.recorded.UndoData.{UndoData}
+use Rattle.cdb_rules.specs.InputsTaken.{mail_after, IsPostable, progress_after, registers_after}
 use Rattle.cdb_rules.specs.declared.progress.Progress.{Progress}
 use Rattle.cdb_run.specs.Back.{put_back, overwritten_cell}
 use Rattle.cdb_run.specs.Plans.{local_after, payload_due, cell_due}
@@ -13,7 +13,8 @@ use Rattle.cdb_run.specs.Registers.{IsWritable}
 use Rattle.cdb_run.specs.declared.state.State.{State}
 
 -- process p, which has come so far, may take a step of that kind
-pub record MayStepFrom {L : Type 0} (table : Table L) (state : State L) (p : ℕ) (kind : Kind) (progress : Progress L) : Type 0 where
+pub record MayStepFrom {L : Type 0} (table : Table L) (state : State L)
+    (p : ℕ) (kind : Kind) (progress : Progress L) : Type 0 where
   pub steps : progress.steps < MAX_STEPS
   pub queries : progress.queries ≤ progress.steps
   pub accepted : IsSome (local_after table progress state.mail state.registers p kind)
@@ -21,10 +22,12 @@ pub record MayStepFrom {L : Type 0} (table : Table L) (state : State L) (p : ℕ
   pub writable : IsWritable state.registers kind (table.wish progress.local)
 
 abbrev pub MayStep : {L : Type 0} → Table L → State L → ℕ → Kind → Type 0
-MayStep {L} table state p kind = (progress : Progress L) → nth state.processes.items p ≡ Some progress → MayStepFrom table state p kind progress
+MayStep {L} table state p kind =
+    (progress : Progress L) → nth state.processes.items p ≡ Some progress → MayStepFrom table state p kind progress
 
 -- it has taken the step and come further, and the step has left what leads back
-pub record HasStepped {L B : Type 0} (table : Table L) (before : L → B → L) (old : State L) (p : ℕ) (kind : Kind) (left : Left B) (new : State L) : Type 0 where
+pub record HasStepped {L B : Type 0} (table : Table L) (before : L → B → L)
+    (old : State L) (p : ℕ) (kind : Kind) (left : UndoData B) (new : State L) : Type 0 where
   pub progress : Progress L
   pub stood : nth old.processes.items p ≡ Some progress
   pub further : Progress L

@@ -5,7 +5,8 @@ ghost use Rattle.cdb_base.specs.Limits.{MAX_STEPS};
 ghost use Rattle.cdb_message.specs.Mail.{MailState};
 ghost use Rattle.cdb_register.specs.Registers.{RegisterStates};
 ghost use Rattle.cdb_run.specs.Back.{put_back, overwritten_cell};
-ghost use Rattle.cdb_rules.specs.Taking.{mail_after, IsPostable, sight, arriving, input_of, progress_after, registers_after};
+ghost use Rattle.cdb_rules.specs.InputsTaken.{mail_after, IsPostable, sight, arriving, input_of};
+ghost use Rattle.cdb_rules.specs.InputsTaken.{progress_after, registers_after};
 ghost use Rattle.cdb_process.specs.Wishes.{wished_payload, wished_cell};
 ghost use Rattle.cdb_run.specs.Plans.{local_after, payload_due, cell_due};
 ghost use Rattle.cdb_run.specs.Registers.{IsWritable};
@@ -16,7 +17,7 @@ use cdb_message::mail::Mail;
 use cdb_process::{Input, Process, Wish};
 use cdb_register::Registers;
 use cdb_rules::Progress;
-use cdb_standing::Left;
+use cdb_standing::UndoData;
 use std::alloc::Global;
 
 /// The payload of that message, where it was sent and its copy for process `p` is not lost.
@@ -125,7 +126,7 @@ pub(crate) fn change<P: Process>(
     registers: &mut Registers,
     p: Proc,
     kind: &Kind,
-) -> Result<Left<P::Back>, NoMemory>
+) -> Result<UndoData<P::Back>, NoMemory>
     requires steps { progress.old.steps < MAX_STEPS }
     requires queries { progress.old.queries ≤ progress.old.steps }
     requires accepted { IsSome
@@ -158,5 +159,5 @@ pub(crate) fn change<P: Process>(
     }
     count(progress, kind);
     let overwritten = write(registers, kind, &wish);
-    Ok(Left { back, overwritten })
+    Ok(UndoData { back, overwritten })
 }

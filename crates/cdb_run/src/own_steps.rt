@@ -3,7 +3,7 @@
 ghost use Rattle.std.specs.Prelude.{◌≡◌, ◌↔◌, ℕ, Some, IsTrue};
 ghost use Rattle.cdb_base.specs.Positions.{nth};
 ghost use Rattle.cdb_rules.specs.OwnSteps.{writes_met, own_steps};
-ghost use Rattle.cdb_standing.specs.Comparing.{AreNumbered, writes_before as writes_at};
+ghost use Rattle.cdb_standing.specs.Comparisons.{AreNumbered, writes_before as writes_at};
 ghost use Rattle.cdb_standing.specs.Moves.{StandsIn};
 
 use cdb_base::{Event, Kind, Proc, StepId, StepName};

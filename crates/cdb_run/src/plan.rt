@@ -2,7 +2,8 @@
 
 ghost use Rattle.std.specs.Prelude.{◌≡◌, ◌≤◌, ◌==◌, true, false, None, Some, length};
 ghost use Rattle.cdb_message.specs.Mail.{message_name};
-ghost use Rattle.cdb_run.specs.Plans.{plan_at, plan_again_at, refusal_again_at, copy_refusal, next_step_of, step_if_accepted};
+ghost use Rattle.cdb_run.specs.Plans.{plan_at, plan_again_at, refusal_again_at, copy_refusal};
+ghost use Rattle.cdb_run.specs.Plans.{next_step_of, step_if_accepted};
 ghost use Rattle.cdb_rules.specs.Machines.{machine_of};
 ghost use Rattle.cdb_rules.specs.Refusals.{wished_kind, accepts_kind, planned_loss};
 

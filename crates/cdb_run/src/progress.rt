@@ -5,7 +5,7 @@ ghost use Rattle.std.specs.Option.{ForSome};
 ghost use Rattle.cdb_base.specs.Limits.{MAX_PROCESSES, MAX_STEPS};
 ghost use Rattle.cdb_rules.specs.Decisions.{decided_from};
 ghost use Rattle.cdb_run.specs.Back.{put_back};
-ghost use Rattle.cdb_rules.specs.Taking.{taken_local, progress_after};
+ghost use Rattle.cdb_rules.specs.InputsTaken.{taken_local, progress_after};
 
 use cdb_base::{Kind, NoMemory, Proc, Val};
 use cdb_process::{Input, Process};

@@ -1,7 +1,8 @@
 //! What restores the state before one step: its process, the mail and the registers.
 
 ghost use Rattle.std.specs.Prelude.{◌≡◌, ◌<◌};
-ghost use Rattle.cdb_run.specs.Restored.{progress_before, mail_before, registers_before, IsCountable, IsUnpostable, IsRestorable};
+ghost use Rattle.cdb_run.specs.Restored.{progress_before, mail_before, registers_before};
+ghost use Rattle.cdb_run.specs.Restored.{IsCountable, IsUnpostable, IsRestorable};
 
 use crate::progress::give_back;
 use cdb_base::{Cell, Kind, MsgName, Proc};
@@ -9,7 +10,7 @@ use cdb_message::mail::Mail;
 use cdb_process::Process;
 use cdb_register::Registers;
 use cdb_rules::Progress;
-use cdb_standing::Left;
+use cdb_standing::UndoData;
 
 /// Takes a step of that kind out of the counts of its process, and gives back what its input left.
 fn count_back<P: Process>(progress: &mut Progress<P>, kind: &Kind, back: Option<P::Back>)
@@ -55,7 +56,7 @@ pub(crate) fn restore_change<P: Process>(
     registers: &mut Registers,
     p: Proc,
     kind: &Kind,
-    left: Left<P::Back>,
+    left: UndoData<P::Back>,
 )
     requires countable { IsCountable progress.old kind.now }
     requires unpostable { IsUnpostable mail.old p kind.now }

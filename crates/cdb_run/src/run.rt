@@ -1,6 +1,7 @@
 //! A run, with one current state and a record of each standing event.
 
-ghost use Rattle.std.specs.Prelude.{◌≡◌, ◌≤◌, ◌↔◌, [], length, true, None, Some, is_some, IsSome, IfSome, IsOk, IfOk, OnOk, OnErr, IfNone};
+ghost use Rattle.std.specs.Prelude.{◌≡◌, ◌≤◌, ◌↔◌, [], length, true, None, Some, is_some};
+ghost use Rattle.std.specs.Prelude.{IsSome, IfSome, IsOk, IfOk, OnOk, OnErr, IfNone};
 ghost use Rattle.std.specs.Option.{option_copied};
 ghost use Rattle.std.specs.Result.{result_err, result_ok};
 ghost use Rattle.cdb_message.specs.Mail.{next_pending, payload_of, is_lost};
@@ -8,7 +9,10 @@ ghost use Rattle.cdb_rules.specs.Auto.{first_step_in};
 ghost use Rattle.cdb_run.specs.Plans.{receive_of};
 ghost use Rattle.cdb_rules.specs.Refusals.{IsOfRun};
 ghost use Rattle.cdb_rules.specs.Step.{is_among};
-ghost use Rattle.cdb_rules.specs.Runs.{IsNumberAmong, IsNext, IsInOrder, process_in, progress_in, alive_in, steps_in, queries_in, local_in, mail_in, registers_in, register_in, cell_in, writes_in, decisions_in, result_of_step, result_of_again, result_of_loss, with_event, with_result, IsJustTaken};
+ghost use Rattle.cdb_rules.specs.Runs.{IsNumberAmong, IsNext, IsInOrder, process_in, progress_in, alive_in};
+ghost use Rattle.cdb_rules.specs.Runs.{steps_in, queries_in, local_in, mail_in, registers_in, register_in};
+ghost use Rattle.cdb_rules.specs.Runs.{cell_in, writes_in, decisions_in, result_of_step, result_of_again};
+ghost use Rattle.cdb_rules.specs.Runs.{result_of_loss, with_event, with_result, IsJustTaken};
 
 use crate::among::process_among;
 use crate::plan::{plan, plan_again, plan_loss, plan_loss_again};

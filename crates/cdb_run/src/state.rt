@@ -9,7 +9,7 @@ use cdb_process::Process;
 use cdb_register::Registers;
 use cdb_rules::Progress;
 use cdb_setup::Setup;
-use cdb_standing::Left;
+use cdb_standing::UndoData;
 use std::alloc::Global;
 
 /// The state of a run.
@@ -53,7 +53,7 @@ impl<P: Process> State<P> {
         alloc: Global,
         p: Proc,
         kind: &Kind,
-    ) -> Result<Left<P::Back>, NoMemory>
+    ) -> Result<UndoData<P::Back>, NoMemory>
         requires process { p ≤ length self.old.processes.items }
         requires may_step { MayStep P.table self.old p kind.now }
         ensures ok { IfOk result
@@ -73,7 +73,7 @@ impl<P: Process> State<P> {
     }
 
     /// Takes back the last step of process `p`, with all that it changed. It takes no memory.
-    pub(crate) fn take_back(&mut self, p: Proc, kind: &Kind, left: Left<P::Back>)
+    pub(crate) fn take_back(&mut self, p: Proc, kind: &Kind, left: UndoData<P::Back>)
         requires process { p ≤ length self.old.processes.items }
         requires may_take_back { MayTakeBack self.old p kind.now left.overwritten }
         ensures { HasTakenBack P.before self.old p kind.now left self.new }

@@ -5,9 +5,9 @@ use Rattle.cdb_base.specs.Event.{event_name}
 use Rattle.cdb_base.specs.Positions.{nth}
 use Rattle.cdb_base.specs.declared.event.Event.{Event}
 use Rattle.cdb_causal.specs.Exchange.{here, there, IsBefore, IsEachOnce}
-use Rattle.cdb_causal.specs.Standing.{IsStanding}
+use Rattle.cdb_causal.specs.StandingEvents.{IsStanding}
 use Rattle.cdb_rules.proofs.ListMembers.{position_in}
-use Rattle.cdb_rules.proofs.Naming.{in_position}
+use Rattle.cdb_rules.proofs.NamedEvents.{in_position}
 
 module _ {E : Type 0} where
   pub before_at : (xs : List E) (i j : ℕ) (a b : E) → i < j → nth xs i ≡ Some a → nth xs j ≡ Some b → IsBefore a b xs
@@ -34,7 +34,13 @@ module _ {E : Type 0} where
   apart {a = a} {b = b} (there {other = x} {rest = rest} before) = later (apart before)
     where
       later : StandApart rest a b → StandApart (x ∷ rest) a b
-      later found = record { one = suc found.one; other = suc found.other; order = (let o = found.order in omega (arith, o)); at_one = front found.one found.at_one; at_other = front found.other found.at_other }
+      later found = record {
+        one = suc found.one;
+        other = suc found.other;
+        order = (let o = found.order in omega (arith, o));
+        at_one = front found.one found.at_one;
+        at_other = front found.other found.at_other;
+      }
         where
           front : {e : E} (k : ℕ) → nth rest k ≡ Some e → nth (x ∷ rest) (suc k) ≡ Some e
           front {e} zero at = absurd (none-some e at)

@@ -9,7 +9,7 @@ use Rattle.cdb_base.specs.declared.event.Kind.{Kind}
 use Rattle.cdb_standing.specs.Cuts.{cut_of as count_of}
 use Rattle.cdb_same.proofs.Ranks.{from_one, in_order}
 use Rattle.cdb_same.specs.Come.{AreCounts}
-use Rattle.cdb_same.specs.Comparing.{AreNumberedUpTo, IsComparable}
+use Rattle.cdb_same.specs.Comparisons.{AreNumberedUpTo, IsComparable}
 
 -- the process of a step, and 0 for a loss
 abbrev process_of : Event → ℕ
@@ -43,7 +43,8 @@ module _ (history : List Event) (comparable : IsComparable history) (numbered : 
       let low = from_one history q (numbered q within.0 within.1) at l kind stands in
       let none = none_counted n q in (
         (λ few. absurd (omega (arith, few, none, low))),
-        (λ first. absurd (none-some (Step q l kind) (subst (λ (i : ℕ). nth history i ≡ Some (Step q l kind)) (let zero_is : at ≡ 0 = omega (arith, first) in zero_is) stands))),
+        (λ first. absurd (none-some (Step q l kind)
+            (subst (λ (i : ℕ). nth history i ≡ Some (Step q l kind)) (let zero_is : at ≡ 0 = omega (arith, first) in zero_is) stands))),
       )
 
   module _ (end : ℕ) (event : Event) (stands : nth history (suc end) ≡ Some event) (counts : List ℕ) (so_far : AreCounts history end counts) where

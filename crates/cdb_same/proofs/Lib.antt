@@ -1,7 +1,7 @@
 -- which events have come, and which stand before which
 pub mod Ranks
 pub mod Counted
-pub mod Standing
+pub mod StandingSteps
 pub mod Before
 pub mod Behind
 pub mod Apart

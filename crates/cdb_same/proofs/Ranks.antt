@@ -1,5 +1,6 @@
 -- The number of a step is its rank among the steps of its process, and the steps that have come are counted by these.
-use Rattle.std.proofs.Common.{◌≡◌, ℕ, zero, suc, ◌<◌, ◌≤◌, ◌↔◌, inl, inr, ⊎_elim, Bool, true, List, [], ◌∷◌, length, take, filter, Some, refl, ap, ◌∙◌, eq-eqb, arith}
+use Rattle.std.proofs.Common.{◌≡◌, ℕ, zero, suc, ◌<◌, ◌≤◌, ◌↔◌, inl, inr, ⊎_elim, Bool, true, List}
+use Rattle.std.proofs.Common.{[], ◌∷◌, length, take, filter, Some, refl, ap, ◌∙◌, eq-eqb, arith}
 use Rattle.std.proofs.lemmas.Bool.{cases_Bool, cases_lt}
 use Rattle.std.proofs.lemmas.Option.{none-some, same_Some}
 use Rattle.cdb_base.specs.Event.{is_step_of}
@@ -9,7 +10,7 @@ use Rattle.cdb_base.specs.declared.event.Event.TheVariants.{Step}
 use Rattle.cdb_base.specs.declared.event.Kind.{Kind}
 use Rattle.cdb_base.specs.declared.name.StepId.{StepId}
 use Rattle.cdb_base.specs.declared.name.StepId.TheVariants as named
-use Rattle.cdb_standing.specs.Comparing.{AreNumbered}
+use Rattle.cdb_standing.specs.Comparisons.{AreNumbered}
 
 module _ {E : Type 0} (test : E → Bool) where
   -- how many of those up to a position pass
@@ -84,6 +85,7 @@ module _ (history : List Event) (q : ℕ) (numbered : AreNumbered q history) whe
   in_order at other l k kind its stands others =
       let one = number_is at l kind stands in
       let two = number_is other k its others in (
-        (λ less. ⊎_elim (λ behind. let more = higher (is_step_of q) history other at (Step q l kind) behind stands (its_own q l kind) in absurd (omega (arith, more, one, two, less))) (λ fits. fits) (cases_lt other at)),
+        (λ less. ⊎_elim (λ behind. let more = higher (is_step_of q) history other at (Step q l kind) behind stands (its_own q l kind) in
+            absurd (omega (arith, more, one, two, less))) (λ fits. fits) (cases_lt other at)),
         (λ less. let more = no_lower (is_step_of q) history at other less in omega (arith, more, one, two)),
       )

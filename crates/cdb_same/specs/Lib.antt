@@ -1,5 +1,5 @@
 -- what a reader of the contracts believes
-pub mod Comparing
+pub mod Comparisons
 pub mod Texts
 pub mod Same
 -- what the code keeps for itself

@@ -4,7 +4,7 @@ use Rattle.cdb_base.specs.declared.event.Event.{Event}
 use Rattle.cdb_causal.specs.Dependence.{depends}
 use Rattle.cdb_causal.specs.Exchange.{IsExchanged}
 use Rattle.cdb_commands.specs.declared.command.Command.{Command}
-use Rattle.cdb_explain.specs.Left.{IsRunLeft}
+use Rattle.cdb_explain.specs.RunLeft.{IsRunLeft}
 use Rattle.cdb_rules.specs.RunView.{RunView}
 use Rattle.cdb_rules.specs.Rules.{Rules}
 use Rattle.cdb_setup.specs.Format.{longest}
@@ -18,7 +18,7 @@ use Rattle.cdb_streams.specs.declared.fault.PlayFault.{PlayFault}
 use Rattle.cdb_streams.specs.declared.fault.PlayFault.TheVariants.{Setup, Line, ScriptTooLong, Read, Write, NoMemory}
 use Rattle.cdb_streams.specs.declared.script.ScriptFault.{ScriptFault}
 use Rattle.cdb_streams.specs.declared.script.ScriptFault.TheVariants as script
-use Rattle.cdb_same.specs.Comparing.{IsComparison}
+use Rattle.cdb_same.specs.Comparisons.{IsComparison}
 use Rattle.cdb_same.specs.Texts.{comparison_text}
 use Rattle.cdb_same.specs.declared.compare.Comparison.{Comparison}
 

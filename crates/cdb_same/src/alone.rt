@@ -2,7 +2,7 @@
 
 ghost use Rattle.std.specs.Prelude.{◌↔◌, IsTrue, MatchOption};
 ghost use Rattle.cdb_causal.specs.Exchange.{IsIn};
-ghost use Rattle.cdb_same.specs.Comparing.{IsAlone};
+ghost use Rattle.cdb_same.specs.Comparisons.{IsAlone};
 ghost use Rattle.cdb_same.specs.Come.{StandWithin};
 
 use cdb_base::Event;

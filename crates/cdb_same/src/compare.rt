@@ -1,7 +1,7 @@
 //! How two histories compare.
 
 ghost use Rattle.std.specs.Prelude.{IfOk};
-ghost use Rattle.cdb_same.specs.Comparing.{IsComparable, IsComparison};
+ghost use Rattle.cdb_same.specs.Comparisons.{IsComparable, IsComparison};
 
 use crate::alone::alone;
 use crate::order::other_order;

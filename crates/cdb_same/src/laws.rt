@@ -4,8 +4,8 @@ ghost use Rattle.std.specs.Prelude.{◌≡◌, ◌↔◌, List};
 ghost use Rattle.cdb_base.specs.declared.event.Event.{Event};
 ghost use Rattle.cdb_causal.specs.Dependence.{depends};
 ghost use Rattle.cdb_causal.specs.Exchange.{IsExchanged};
-ghost use Rattle.cdb_causal.specs.Standing.{IsStanding};
-ghost use Rattle.cdb_same.specs.Comparing.{IsComparison};
+ghost use Rattle.cdb_causal.specs.StandingEvents.{IsStanding};
+ghost use Rattle.cdb_same.specs.Comparisons.{IsComparison};
 ghost use Rattle.cdb_same.specs.declared.compare.Comparison.{Comparison};
 ghost use Rattle.cdb_same.specs.declared.compare.Comparison.TheVariants.{Same};
 

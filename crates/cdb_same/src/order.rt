@@ -7,8 +7,9 @@ ghost use Rattle.cdb_base.specs.Event.{event_name};
 ghost use Rattle.cdb_base.specs.Positions.{nth};
 ghost use Rattle.cdb_causal.specs.Dependence.{depends as depends_of};
 ghost use Rattle.cdb_causal.specs.Exchange.{KeepsOrder};
-ghost use Rattle.cdb_same.specs.Come.{AreCounts, CausesHaveCome, HasCome, HaveCome, IsCauseToCome, IsNotCome, StandWithin};
-ghost use Rattle.cdb_same.specs.Comparing.{AreNumberedUpTo, AreTurned, IsComparable};
+ghost use Rattle.cdb_same.specs.Come.{AreCounts, CausesHaveCome, HasCome, HaveCome};
+ghost use Rattle.cdb_same.specs.Come.{IsCauseToCome, IsNotCome, StandWithin};
+ghost use Rattle.cdb_same.specs.Comparisons.{AreNumberedUpTo, AreTurned, IsComparable};
 ghost use Rattle.cdb_standing.specs.Moves.{IsStandingName};
 
 use cdb_base::{Event, Proc, StepId};

@@ -4,7 +4,7 @@ ghost use Rattle.std.specs.Prelude.{◌≡◌, ◌↔◌, IfOk};
 ghost use Rattle.cdb_causal.specs.Dependence.{depends};
 ghost use Rattle.cdb_causal.specs.Exchange.{IsExchanged};
 ghost use Rattle.cdb_rules.specs.ByRules.{IsInOrder};
-ghost use Rattle.cdb_same.specs.Comparing.{IsComparable, IsComparison};
+ghost use Rattle.cdb_same.specs.Comparisons.{IsComparable, IsComparison};
 
 use crate::compare::{Comparison, compare};
 use cdb_base::NoMemory;

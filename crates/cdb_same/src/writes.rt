@@ -3,9 +3,10 @@
 ghost use Rattle.std.specs.Prelude.{◌≡◌, ◌↔◌, IfErr, IfOk, IsTrue};
 ghost use Rattle.cdb_causal.specs.Dependence.{depends};
 ghost use Rattle.cdb_causal.specs.Exchange.{IsExchanged};
-ghost use Rattle.cdb_explain.specs.Left.{IsRunLeft};
+ghost use Rattle.cdb_explain.specs.RunLeft.{IsRunLeft};
 ghost use Rattle.cdb_rules.specs.ByRules.{IsInOrder};
-ghost use Rattle.cdb_same.specs.Same.{as_second, same_ending, ComparesText, IsFaultOfOutput, IsFaultOfRun, IsFaultOfSame, IsTextOfTwo, TellsSame};
+ghost use Rattle.cdb_same.specs.Same.{as_second, same_ending, ComparesText, IsFaultOfOutput};
+ghost use Rattle.cdb_same.specs.Same.{IsFaultOfRun, IsFaultOfSame, IsTextOfTwo, TellsSame};
 ghost use Rattle.cdb_streams.specs.Written.{IsWritten};
 
 use crate::compare::Comparison;

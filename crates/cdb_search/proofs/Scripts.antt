@@ -5,7 +5,6 @@ use Rattle.cdb_goal.specs.Holds.{Holds}
 use Rattle.cdb_goal.specs.declared.goal.Goal.{Goal}
 use Rattle.cdb_rules.specs.RunView.{RunView}
 use Rattle.cdb_rules.specs.Rules.{Rules}
-use Rattle.cdb_search.specs.Passes.{IsFaultOfSmall}
 use Rattle.cdb_search.specs.Shrunk.{HoldsAfter}
 use Rattle.cdb_search.specs.Found.{IsFaultOfSearch, IsFound, IsScriptTo, after_writing, search_ending}
 use Rattle.cdb_setup.specs.Format.{Encodes}
@@ -27,7 +26,8 @@ same_ending (Ok done) = refl
 same_ending (Err output.Write) = refl
 same_ending (Err (output.NoMemory refused)) = refl
 
-pub fault_of_writing : (wrote : Result (Unit {0}) OutputFault) (json : List ℕ) (walks : ℕ) → IsSetup json → IfErr (after_writing wrote) (IsFaultOfSearch json walks)
+pub fault_of_writing : (wrote : Result (Unit {0}) OutputFault) (json : List ℕ) (walks : ℕ)
+    → IsSetup json → IfErr (after_writing wrote) (IsFaultOfSearch json walks)
 fault_of_writing (Ok done) json walks setup = tt
 fault_of_writing (Err output.Write) json walks setup = setup
 fault_of_writing (Err (output.NoMemory refused)) json walks setup = setup.1.0
@@ -43,7 +43,3 @@ pub same_left : (rules : Rules) (setup : Parts) (goal : Goal) (history : List Ev
     → HoldsAfter rules setup goal (map command_for history) ↔ Holds rules history goal
 same_left rules setup goal history plays =
     (λ holds. subst (λ (h : List Event). Holds rules h goal) plays.left holds, λ holds. subst (λ (h : List Event). Holds rules h goal) (sym plays.left) holds)
-
-pub fault_of_small : (wrote : Result (Unit {0}) OutputFault) (rules : Parts → Rules) (run : RunView) (goal : Goal) → IfErr (after_writing wrote) (IsFaultOfSmall rules run goal)
-fault_of_small (Ok done) rules run goal = tt
-fault_of_small (Err why) rules run goal = (why, refl)

@@ -20,8 +20,8 @@ use Rattle.cdb_streams.specs.declared.fault.PlayFault.TheVariants as play
 abbrev pub IsReached : (Parts → Rules) → Parts → Goal → RunView → Type 0
 IsReached rules setup goal run = (run.setup ≡ setup) × Holds (rules run.setup) run.history goal
 
--- The text is a script of events; played from the start each line is answered with its event, and in the end just these events
--- stand, of which the goal holds.
+-- The text is a script of events; played from the start each line is answered with its event, and in the end just these
+-- events stand, of which the goal holds.
 abbrev pub IsScriptTo : Rules → Parts → Goal → List ℕ → Type 0
 IsScriptTo rules setup goal text =
     (events : List Event) × (text ≡ script_text events) × PlaysBack rules setup events × Holds rules events goal

@@ -6,7 +6,7 @@ use Rattle.cdb_causal.specs.Rollback.{without}
 use Rattle.cdb_commands.specs.declared.command.Command.{Command}
 use Rattle.cdb_control.specs.Journal.{replay}
 use Rattle.cdb_control.specs.OneSeat.{journal_of}
-use Rattle.cdb_explain.specs.Left.{Leaves}
+use Rattle.cdb_explain.specs.RunLeft.{Leaves}
 use Rattle.cdb_goal.specs.Holds.{Holds}
 use Rattle.cdb_goal.specs.declared.goal.Goal.{Goal}
 use Rattle.cdb_rules.specs.RunView.{RunView}
@@ -33,7 +33,8 @@ pub data IsSublist {A : Type 0} : List A → List A → Type 0 where
   kept : {x : A} {some all : List A} → IsSublist some all → IsSublist (x ∷ some) (x ∷ all)
   left_out : {x : A} {some all : List A} → IsSublist some all → IsSublist some (x ∷ all)
 
--- The goal holds of the run that the commands leave: played from the start, where those that are refused change nothing.
+-- The goal holds of the run that the commands leave: played from the start, where those that are refused change
+-- nothing.
 abbrev pub HoldsAfter : Rules → Parts → Goal → List Command → Type 0
 HoldsAfter rules setup goal commands = Holds rules (replay rules setup 1 (journal_of commands)).history goal
 
@@ -51,11 +52,13 @@ pub record IsShrunk (rules : Rules) (setup : Parts) (goal : Goal) (commands line
 -- the text has such lines of a script of what stands in the run
 abbrev pub IsShrunkText : (Parts → Rules) → RunView → Goal → List ℕ → Type 0
 IsShrunkText rules run goal text =
-    (lines : List Command) × IsShrunk (rules run.setup) run.setup goal (map command_for run.history) lines × (text ≡ lines_text lines)
+    (lines : List Command) × IsShrunk (rules run.setup) run.setup goal (map command_for run.history) lines
+    × (text ≡ lines_text lines)
 
 -- of the run that the script leaves
 abbrev pub WritesShrunk : (Parts → Rules) → List ℕ → Goal → Stream → Stream → List ℕ → Type 0
-WritesShrunk rules json goal old new text = (run : RunView) × Leaves rules json old new run × IsShrunkText rules run goal text
+WritesShrunk rules json goal old new text =
+    (run : RunView) × Leaves rules json old new run × IsShrunkText rules run goal text
 
 -- the goal doesn't hold of that run; else as a fault of a play
 abbrev pub IsFaultOfShrink : (Parts → Rules) → List ℕ → Goal → Stream → Stream → SearchFault → Type 0

@@ -48,15 +48,17 @@ pub(crate) fn after_writing(wrote: Result<(), OutputFault>) -> Result<(), Search
     }
 }
 
-/// Walks at random on a setup, at most so many times, until a goal holds, and writes a script that plays the run in which it does:
-/// each line is answered with its event, and in the end just these events stand, of which the goal holds. A walk tries at most
-/// 400 steps. Everything that can happen can come in it; what it prefers is not said, nor that it finds anything.
+/// Walks at random on a setup, at most so many times, until a goal holds, and writes a script that plays the run in
+/// which it does: each line is answered with its event, and in the end just these events stand, of which the goal
+/// holds. A walk tries at most 400 steps. Everything that can happen can come in it; what it prefers is not said, nor
+/// that it finds anything.
 ///
-/// The seed is all that the walks depend on, so that the same one finds the same run. The watch is told of each walk that came to
-/// nothing.
+/// The seed is all that the walks depend on, so that the same one finds the same run. The watch is told of each walk
+/// that came to nothing.
 ///
-/// Promise: Of the script that a search writes each line, played from the start, is answered with its event, and in the end the goal
-/// holds. Nothing is written after a fault, but after a failed write a beginning. `NotFound` says nothing of other runs.
+/// Promise: Of the script that a search writes each line, played from the start, is answered with its event, and in the
+/// end the goal holds. Nothing is written after a fault, but after a failed write a beginning. `NotFound` says nothing
+/// of other runs.
 pub fn search<T: Runs, P: Watch, W: Sink>(
     alloc: Global,
     setup: &[u8],

@@ -23,8 +23,8 @@ use cdb_slice::laws::valid_histories_play_back;
 use cdb_streams::{Sink, Source, write_text};
 use std::alloc::Global;
 
-/// Writes the lines of a script of this run that can't be left out; it is whole before any of it is written. `DoesNotHold` where
-/// the goal doesn't hold of the run.
+/// Writes the lines of a script of this run that can't be left out; it is whole before any of it is written.
+/// `DoesNotHold` where the goal doesn't hold of the run.
 fn write_small<T: Runs, W: Sink>(
     alloc: Global,
     run: &Trace,
@@ -50,18 +50,18 @@ fn write_small<T: Runs, W: Sink>(
     after_writing(write_text(alloc, text.as_slice(), out))
 }
 
-/// Writes a small script after which a goal holds: lines of a script of what stands in the run that a script leaves, in their order. A
-/// line is a command, and lines that are refused change nothing. Leaving out any one of them, and what is refused then, loses the
-/// goal; of several such scripts it is not the shortest.
+/// Writes a small script after which a goal holds: lines of a script of what stands in the run that a script leaves, in
+/// their order. A line is a command, and lines that are refused change nothing. Leaving out any one of them, and what
+/// is refused then, loses the goal; of several such scripts it is not the shortest.
 ///
 /// The setup is read first, then the whole script, then all its lines; the text is whole before any of it is
 /// written. So after `Write` what was written is a beginning of the text, and after any other fault nothing was
-/// written. `DoesNotHold` comes where the goal doesn't hold of the run that the script leaves. After `Setup` the script is not read;
-/// `Read` comes only where the reader failed in this call, and `Write` only where the writer did.
+/// written. `DoesNotHold` comes where the goal doesn't hold of the run that the script leaves. After `Setup` the script
+/// is not read; `Read` comes only where the reader failed in this call, and `Write` only where the writer did.
 ///
-/// Promise: What a shrink writes are lines of the slice of the run that the script leaves, in their order. Played from the start the
-/// goal holds in the end, and without any one of them it doesn't. `DoesNotHold` comes only where the goal doesn't hold of that run.
-/// After a fault nothing was written, but after a failed write a beginning.
+/// Promise: What a shrink writes are lines of the slice of the run that the script leaves, in their order. Played from
+/// the start the goal holds in the end, and without any one of them it doesn't. `DoesNotHold` comes only where the goal
+/// doesn't hold of that run. After a fault nothing was written, but after a failed write a beginning.
 pub fn shrink<T: Runs, R: Source, W: Sink>(
     alloc: Global,
     setup: &[u8],

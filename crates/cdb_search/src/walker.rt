@@ -28,7 +28,8 @@ const ONE_FROM_FILE: usize = 16;
 /// Of so many further queries one asks for any process.
 const ONE_OF_ANY: usize = 12;
 
-/// How many processes are drawn to lead their halves, the last of each half to stay: so many that each half has most likely one.
+/// How many processes are drawn to lead their halves, the last of each half to stay: so many that each half has most
+/// likely one.
 const DRAWS: u32 = 32;
 
 /// One of the two halves of the processes.
@@ -38,8 +39,8 @@ enum Half {
     Second,
 }
 
-/// What a walk prefers: two halves of the processes, of which one may be empty, between which few messages pass, and in each a
-/// leader for which it mostly asks; and the copies that wait, as far as the walk has seen.
+/// What a walk prefers: two halves of the processes, of which one may be empty, between which few messages pass, and in
+/// each a leader for which it mostly asks; and the copies that wait, as far as the walk has seen.
 #[derive(Drop)]
 pub(crate) struct Walker {
     processes: u8,

@@ -1,5 +1,6 @@
 -- What lines ask for.
-use Rattle.std.proofs.Common.{◌≡◌, ◌≢◌, inl, inr, ℕ, ◌+◌, ◌<◌, nat_lt, rules, Bool, true, false, List, [], ◌∷◌, ◌++◌, length, get_or, refl, sym, ap, subst, ◌∙◌, arith}
+use Rattle.std.proofs.Common.{◌≡◌, ◌≢◌, inl, inr, ℕ, ◌+◌, ◌<◌, nat_lt, rules, Bool, true, false, List}
+use Rattle.std.proofs.Common.{[], ◌∷◌, ◌++◌, length, get_or, refl, sym, ap, subst, ◌∙◌, arith}
 use Rattle.std.specs.Prelude.{None, Some, if◌then◌else◌}
 use Rattle.std.specs.List.{AllZip, AllByRecursion}
 use Rattle.std.specs.Str.{bytes_eq}
@@ -57,7 +58,8 @@ is_not_quit exchange line asks other = not_quit exchange.0 (line_meant line) ask
 abbrev pub AreOthers : List (List ℕ) → Type 0
 AreOthers lines = AllByRecursion (λ line. ¬ IsQuit line) lines
 
-pub AllZip-more : (exchanges : List Exchange) (lines : List (List ℕ)) (exchange : Exchange) (line : List ℕ) → AllZip Asks exchanges lines → Asks exchange line → AllZip Asks (exchanges ++ exchange ∷ []) (lines ++ line ∷ [])
+pub AllZip-more : (exchanges : List Exchange) (lines : List (List ℕ)) (exchange : Exchange) (line : List ℕ)
+    → AllZip Asks exchanges lines → Asks exchange line → AllZip Asks (exchanges ++ exchange ∷ []) (lines ++ line ∷ [])
 AllZip-more [] [] exchange line are is = (is, tt)
 AllZip-more [] (other ∷ lines) exchange line are is = absurd are
 AllZip-more (other ∷ exchanges) [] exchange line are is = absurd are
@@ -89,7 +91,8 @@ up_to_quit-quit line others is =
 -- one line alone, whatever it is
 pub up_to_quit-one : (line : List ℕ) → up_to_quit (line ∷ []) ≡ line ∷ []
 up_to_quit-one line =
-    elim (bytes_eq (line_meant line) quit_line) as (λ b. let cut : List (List ℕ) = if b then (line ∷ []) else (line ∷ []) in cut ≡ line ∷ []) [ true ↦ refl | false ↦ refl ]
+    elim (bytes_eq (line_meant line) quit_line) as
+    (λ b. let cut : List (List ℕ) = if b then (line ∷ []) else (line ∷ []) in cut ≡ line ∷ []) [ true ↦ refl | false ↦ refl ]
 
 pub have_none : (lines : List (List ℕ)) → AreOthers lines → ¬ HaveQuit lines
 have_none [] are ([], others, quit, e, is) = absurd (omega (arith, ap length e))

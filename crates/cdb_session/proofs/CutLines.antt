@@ -1,5 +1,6 @@
 -- The lines of bytes that are known as lines and a rest.
-use Rattle.std.proofs.Common.{◌≡◌, ℕ, ◌-◌, ◌+◌, ◌<◌, Bool, List, [], ◌∷◌, ◌++◌, length, take, nat_eq, refl, sym, ap, ◌∙◌, append_assoc, append-nil, arith, length-append}
+use Rattle.std.proofs.Common.{◌≡◌, ℕ, ◌-◌, ◌+◌, ◌<◌, Bool, List, [], ◌∷◌, ◌++◌, length, take, nat_eq}
+use Rattle.std.proofs.Common.{refl, sym, ap, ◌∙◌, append_assoc, append-nil, arith, length-append}
 use Rattle.std.specs.List.{AllByRecursion, slice_split}
 use Rattle.std.proofs.lemmas.List.Splits.{slice_split_none, slice_split_at, length-slice_split}
 use Rattle.std.proofs.Math.Seq.{take-append_seam, take-append-add}
@@ -12,7 +13,8 @@ abbrev pub ends_line : ℕ → Bool
 ends_line byte = nat_eq byte 10
 
 -- the lines are cut off one after the other
-pub cut_joined : (lines : List (List ℕ)) (rest : List ℕ) → AllByRecursion HasNoEnd lines → slice_split ends_line (with_ends lines ++ rest) ≡ lines ++ slice_split ends_line rest
+pub cut_joined : (lines : List (List ℕ)) (rest : List ℕ) → AllByRecursion HasNoEnd lines
+    → slice_split ends_line (with_ends lines ++ rest) ≡ lines ++ slice_split ends_line rest
 cut_joined [] rest none = refl
 cut_joined (line ∷ lines) rest none =
     ap (slice_split ends_line) (append_assoc (line ++ 10 ∷ []) (with_ends lines) rest ∙ append_assoc line (10 ∷ []) (with_ends lines ++ rest))
@@ -60,7 +62,8 @@ one_unended (byte ∷ line) some none = ap without_empty_end (slice_split_none e
 
 pub with_ends-append : (lines : List (List ℕ)) (line : List ℕ) → with_ends (lines ++ line ∷ []) ≡ with_ends lines ++ (line ++ 10 ∷ [])
 with_ends-append [] line = append-nil (line ++ 10 ∷ [])
-with_ends-append (first ∷ lines) line = ap (λ bytes. (first ++ 10 ∷ []) ++ bytes) (with_ends-append lines line) ∙ sym (append_assoc (first ++ 10 ∷ []) (with_ends lines) (line ++ 10 ∷ []))
+with_ends-append (first ∷ lines) line =
+    ap (λ bytes. (first ++ 10 ∷ []) ++ bytes) (with_ends-append lines line) ∙ sym (append_assoc (first ++ 10 ∷ []) (with_ends lines) (line ++ 10 ∷ []))
 
 pub lines_of_none : lines_of [] ≡ []
 unfolding lines_of

@@ -7,7 +7,8 @@ use Rattle.cdb_session.specs.Due.{first_amiss, may_stand, nothing, ends, stands}
 use Rattle.cdb_session.specs.declared.due.Due.{Due}
 use Rattle.cdb_session.specs.declared.due.Due.TheVariants.{Command, Nothing}
 
-pub any_of_texts : (p : List ℕ → Bool) (its : List (Bor (List ℕ))) → list_any (λ (it : Bor (List ℕ)). p it.now) its ≡ list_any p (map (λ (it : Bor (List ℕ)). it.now) its)
+pub any_of_texts : (p : List ℕ → Bool) (its : List (Bor (List ℕ)))
+    → list_any (λ (it : Bor (List ℕ)). p it.now) its ≡ list_any p (map (λ (it : Bor (List ℕ)). it.now) its)
 any_of_texts p [] = refl
 any_of_texts p (it ∷ its) = ap (λ b. p it.now || b) (any_of_texts p its)
 
@@ -24,7 +25,8 @@ first its = (get_or its 0 (record { ref_ptr = (0, 0); now = [] })).now
 
 module _ (chooses : Bool) (dues : List Due) (i : ℕ) where
   -- the words have ended
-  pub ends_there : (left : List (Bor (List ℕ))) → i < length dues → length left < 1 → first_amiss chooses (drop i dues) (texts left) ≡ ends (get_or dues i Command)
+  pub ends_there : (left : List (Bor (List ℕ))) → i < length dues → length left < 1
+      → first_amiss chooses (drop i dues) (texts left) ≡ ends (get_or dues i Command)
   ends_there [] within few = at_place chooses dues i Command [] within
   ends_there (it ∷ its) within few = absurd (omega arith)
 
@@ -38,6 +40,7 @@ module _ (chooses : Bool) (dues : List Due) (i : ℕ) where
   all_there [] behind few = rw (drop_all i dues behind) refl
   all_there (it ∷ its) behind few = absurd (omega arith)
 
-  pub stands_behind : (left : List (Bor (List ℕ))) → length dues ≤ i → 1 ≤ length left → first_amiss chooses (drop i dues) (texts left) ≡ stands Nothing (first left)
+  pub stands_behind : (left : List (Bor (List ℕ))) → length dues ≤ i → 1 ≤ length left
+      → first_amiss chooses (drop i dues) (texts left) ≡ stands Nothing (first left)
   stands_behind [] behind some = absurd (omega arith)
   stands_behind (it ∷ its) behind some = rw (drop_all i dues behind) refl

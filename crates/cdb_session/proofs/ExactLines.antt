@@ -1,5 +1,6 @@
 -- A line that is exact stands for itself.
-use Rattle.std.proofs.Common.{◌≡◌, inl, inr, ℕ, suc, ◌==◌, ◌<◌, ◌≤◌, ◌^◌, Bool, true, false, cond, not, ◌||◌, nat_eq, nat_lt, List, [], ◌∷◌, ◌++◌, length, map, fold, get_or, decimal, append_assoc, append-nil, refl, sym, ap, subst, ◌∙◌, arith}
+use Rattle.std.proofs.Common.{◌≡◌, inl, inr, ℕ, suc, ◌==◌, ◌<◌, ◌≤◌, ◌^◌, Bool, true, false, cond, not, ◌||◌, nat_eq, nat_lt, List, [], ◌∷◌}
+use Rattle.std.proofs.Common.{◌++◌, length, map, fold, get_or, decimal, append_assoc, append-nil, refl, sym, ap, subst, ◌∙◌, arith}
 use Rattle.std.specs.Prelude.{codes, Option, Some, None}
 use Rattle.std.specs.Char.{digit_value}
 use Rattle.std.specs.List.{AllByRecursion, list_all, filter, starts_with, slice_split, onto_first, join_with_byte, position_or_len}
@@ -13,7 +14,8 @@ use Rattle.cdb_base.specs.declared.act.Act.TheVariants as act
 use Rattle.cdb_base.specs.declared.register.Reg.{Reg}
 use Rattle.cdb_base.specs.declared.register.Reg.TheVariants.{R, Dec}
 use Rattle.cdb_commands.specs.declared.command.Command.{Command}
-use Rattle.cdb_commands.specs.declared.command.Command.TheVariants.{Step, Auto, Lose, Undo, UndoLost, Redo, Forget, Rollback, RollbackLost, Why, WhyLost, Break, Unbreak, Resume, Show, Decisions}
+use Rattle.cdb_commands.specs.declared.command.Command.TheVariants.{Step, Auto, Lose, Undo, UndoLost, Redo, Forget, Rollback, RollbackLost}
+use Rattle.cdb_commands.specs.declared.command.Command.TheVariants.{Why, WhyLost, Break, Unbreak, Resume, Show, Decisions}
 use Rattle.cdb_commands.specs.declared.command.Stop.TheVariants as stop
 use Rattle.cdb_commands.specs.declared.command.View.TheVariants as view
 use Rattle.cdb_text.specs.Commands.{number, register, command_parts}
@@ -87,7 +89,8 @@ all_stand before (word ∷ words) all =
     let its = all.0 in
     let goes_on = no_comment word its.plain in
     let one : with_piece before word ≡ before ++ word ∷ [] = rw (one_part word its.plain, its.word_is, its.whole) refl in
-    ap (λ b. fold with_piece before (cond b [] (word ∷ up_to_comment words))) goes_on ∙ ap (λ (ws : List (List ℕ)). fold with_piece ws (up_to_comment words)) one
+    ap (λ b. fold with_piece before (cond b [] (word ∷ up_to_comment words))) goes_on
+    ∙ ap (λ (ws : List (List ℕ)). fold with_piece ws (up_to_comment words)) one
     ∙ all_stand (before ++ word ∷ []) words all.1 ∙ append_assoc before (word ∷ []) words
 
 -- ---- such a line
@@ -115,7 +118,8 @@ exact : (line : List ℕ) (words : List (List ℕ)) → words_of line ≡ words 
 unfolding line_meant words_meant
 exact line words are all =
     let plain = subst (AllByRecursion IsPlain) (sym are) (are_plain [] words all) in
-    let meant : words_meant line ≡ words = ap (λ (pieces : List (List ℕ)). fold with_piece [] (up_to_comment pieces)) (split_alike line plain ∙ are) ∙ all_stand [] words all in
+    let meant : words_meant line ≡ words =
+    ap (λ (pieces : List (List ℕ)). fold with_piece [] (up_to_comment pieces)) (split_alike line plain ∙ are) ∙ all_stand [] words all in
     elim (cases_Bool (nat_lt longest (length line))) [
       | inl e ↦ rw e refl
       | inr e ↦ rw e (ap (join_with_byte 32) (meant ∙ sym are) ∙ join_with_byte-slice_split 32 line)
@@ -134,7 +138,8 @@ another byte letter low high = grind (arith, nat_tests)
 abbrev is_lettered : List ℕ → Bool
 is_lettered option = nat_lt 57 (get_or option 0 0)
 
-begins_none : (options : List (List ℕ)) (byte : ℕ) (word : List ℕ) → byte ≤ 57 → list_all is_lettered options ≡ true → filter (λ option. starts_with nat_eq option (byte ∷ word)) options ≡ []
+begins_none : (options : List (List ℕ)) (byte : ℕ) (word : List ℕ) → byte ≤ 57
+    → list_all is_lettered options ≡ true → filter (λ option. starts_with nat_eq option (byte ∷ word)) options ≡ []
 begins_none [] byte word low all = refl
 begins_none ([] ∷ options) byte word low all = cc
 begins_none ((letter ∷ letters) ∷ options) byte word low all =
@@ -182,7 +187,8 @@ parts_stand (Step p act.Go) r = (fixed _ _ refl refl refl, (a_number _ p r.1.0 r
 parts_stand (Step p act.Learn) r = (fixed _ _ refl refl refl, (a_number _ p r.1.0 refl, (fixed _ _ refl refl refl, tt)))
 parts_stand (Step p act.Crash) r = (fixed _ _ refl refl refl, (a_number _ p r.1.0 refl, (fixed _ _ refl refl refl, tt)))
 parts_stand (Step p (act.Query None)) r = (fixed _ _ refl refl refl, (a_number _ p r.1.0 refl, (fixed _ _ refl refl refl, tt)))
-parts_stand (Step p (act.Query (Some l))) r = (fixed _ _ refl refl refl, (a_number _ p r.1.0 refl, (fixed _ _ refl refl refl, (a_number _ l r.1.1.1.0 refl, tt))))
+parts_stand (Step p (act.Query (Some l))) r =
+    (fixed _ _ refl refl refl, (a_number _ p r.1.0 refl, (fixed _ _ refl refl refl, (a_number _ l r.1.1.1.0 refl, tt))))
 parts_stand (Step p (act.Recv s m)) r =
     (fixed _ _ refl refl refl, (a_number _ p r.1.0 refl, (fixed _ _ refl refl refl, (a_number _ s r.1.1.1.0 refl, (a_number _ m r.1.1.1.1.0 refl, tt)))))
 parts_stand (Auto p) r = (fixed _ _ refl refl refl, (a_number _ p r.1.0 refl, tt))
@@ -212,23 +218,28 @@ parts_stand Decisions r = (fixed _ _ refl refl refl, tt)
 
 -- ---- the words of what is asked of the run
 
-step_stands : (before : List (List ℕ)) (p : ℕ) (k : Option ℕ) → list_all is_lettered (due before) ≡ true → list_all is_lettered (due (before ++ decimal p ∷ [])) ≡ true → AllByRecursion IsInRange (numbers_of p k) → AllStand before (map part_text (numbers_of p k))
+step_stands : (before : List (List ℕ)) (p : ℕ) (k : Option ℕ) → list_all is_lettered (due before) ≡ true → list_all is_lettered (due (before ++ decimal p ∷ []))
+    ≡ true → AllByRecursion IsInRange (numbers_of p k) → AllStand before (map part_text (numbers_of p k))
 step_stands before p None lettered after r = (a_number before p r.0 lettered, tt)
 step_stands before p (Some k) lettered after r = (a_number before p r.0 lettered, (a_number (before ++ decimal p ∷ []) k r.1.0 after, tt))
 
 inquiry_stands : (inquiry : Inquiry) (others : List (List ℕ)) → AreStepWords (step_asked inquiry) others → AllStand [] (inquiry_word inquiry ∷ others)
-inquiry_stands (Explain step) others is = (fixed _ _ refl refl refl, subst (AllStand (codes "explain" ∷ [])) (sym is.are) (step_stands (codes "explain" ∷ []) step.p step.k refl refl is.in_range))
-inquiry_stands (Trail step) others is = (fixed _ _ refl refl refl, subst (AllStand (codes "trail" ∷ [])) (sym is.are) (step_stands (codes "trail" ∷ []) step.p step.k refl refl is.in_range))
+inquiry_stands (Explain step) others is =
+    (fixed _ _ refl refl refl, subst (AllStand (codes "explain" ∷ [])) (sym is.are) (step_stands (codes "explain" ∷ []) step.p step.k refl refl is.in_range))
+inquiry_stands (Trail step) others is =
+    (fixed _ _ refl refl refl, subst (AllStand (codes "trail" ∷ [])) (sym is.are) (step_stands (codes "trail" ∷ []) step.p step.k refl refl is.in_range))
 
 -- ---- all such lines
 
 seat_words : (seat : ℕ) → IsWithin 1 most_seats seat → words_of (seat_line seat) ≡ codes "seat" ∷ decimal seat ∷ []
 seat_words seat within =
     slice_split_at is_space (codes "seat") 32 (decimal seat) (none_is_space (codes "seat") (refl, (refl, (refl, (refl, tt))))) refl
-    ∙ ap (λ (words : List (List ℕ)). codes "seat" ∷ words) (slice_split_none is_space (decimal seat) (none_is_space (decimal seat) (number_is_spaceless seat (omega (arith, within.1)))))
+    ∙ ap (λ (words : List (List ℕ)). codes "seat" ∷ words)
+    (slice_split_none is_space (decimal seat) (none_is_space (decimal seat) (number_is_spaceless seat (omega (arith, within.1)))))
 
 pub exact_lines_stand : ExactLinesStand
-exact_lines_stand line (inl (inl (None, is))) = subst (λ (l : List ℕ). line_meant l ≡ l) (sym is) (exact (help_line None) (codes "help" ∷ []) refl (fixed _ _ refl refl refl, tt))
+exact_lines_stand line (inl (inl (None, is))) =
+    subst (λ (l : List ℕ). line_meant l ≡ l) (sym is) (exact (help_line None) (codes "help" ∷ []) refl (fixed _ _ refl refl refl, tt))
 exact_lines_stand line (inl (inl (Some word, is))) =
     subst (λ (l : List ℕ). line_meant l ≡ l) (sym is)
     (elim word as (λ (t : Topic). line_meant (help_line (Some t)) ≡ help_line (Some t)) [
@@ -237,25 +248,33 @@ exact_lines_stand line (inl (inl (Some word, is))) =
       | topic.Lose ↦ exact (help_line (Some topic.Lose)) (codes "help" ∷ codes "lose" ∷ []) refl (fixed _ _ refl refl refl, (fixed _ _ refl refl refl, tt))
       | topic.Undo ↦ exact (help_line (Some topic.Undo)) (codes "help" ∷ codes "undo" ∷ []) refl (fixed _ _ refl refl refl, (fixed _ _ refl refl refl, tt))
       | topic.Redo ↦ exact (help_line (Some topic.Redo)) (codes "help" ∷ codes "redo" ∷ []) refl (fixed _ _ refl refl refl, (fixed _ _ refl refl refl, tt))
-      | topic.Forget ↦ exact (help_line (Some topic.Forget)) (codes "help" ∷ codes "forget" ∷ []) refl (fixed _ _ refl refl refl, (fixed _ _ refl refl refl, tt))
-      | topic.Rollback ↦ exact (help_line (Some topic.Rollback)) (codes "help" ∷ codes "rollback" ∷ []) refl (fixed _ _ refl refl refl, (fixed _ _ refl refl refl, tt))
+      | topic.Forget ↦
+          exact (help_line (Some topic.Forget)) (codes "help" ∷ codes "forget" ∷ []) refl (fixed _ _ refl refl refl, (fixed _ _ refl refl refl, tt))
+      | topic.Rollback ↦
+          exact (help_line (Some topic.Rollback)) (codes "help" ∷ codes "rollback" ∷ []) refl (fixed _ _ refl refl refl, (fixed _ _ refl refl refl, tt))
       | topic.Why ↦ exact (help_line (Some topic.Why)) (codes "help" ∷ codes "why" ∷ []) refl (fixed _ _ refl refl refl, (fixed _ _ refl refl refl, tt))
       | topic.Break ↦ exact (help_line (Some topic.Break)) (codes "help" ∷ codes "break" ∷ []) refl (fixed _ _ refl refl refl, (fixed _ _ refl refl refl, tt))
-      | topic.Unbreak ↦ exact (help_line (Some topic.Unbreak)) (codes "help" ∷ codes "unbreak" ∷ []) refl (fixed _ _ refl refl refl, (fixed _ _ refl refl refl, tt))
-      | topic.Resume ↦ exact (help_line (Some topic.Resume)) (codes "help" ∷ codes "resume" ∷ []) refl (fixed _ _ refl refl refl, (fixed _ _ refl refl refl, tt))
+      | topic.Unbreak ↦
+          exact (help_line (Some topic.Unbreak)) (codes "help" ∷ codes "unbreak" ∷ []) refl (fixed _ _ refl refl refl, (fixed _ _ refl refl refl, tt))
+      | topic.Resume ↦
+          exact (help_line (Some topic.Resume)) (codes "help" ∷ codes "resume" ∷ []) refl (fixed _ _ refl refl refl, (fixed _ _ refl refl refl, tt))
       | topic.Show ↦ exact (help_line (Some topic.Show)) (codes "help" ∷ codes "show" ∷ []) refl (fixed _ _ refl refl refl, (fixed _ _ refl refl refl, tt))
-      | topic.Decisions ↦ exact (help_line (Some topic.Decisions)) (codes "help" ∷ codes "decisions" ∷ []) refl (fixed _ _ refl refl refl, (fixed _ _ refl refl refl, tt))
-      | topic.Explain ↦ exact (help_line (Some topic.Explain)) (codes "help" ∷ codes "explain" ∷ []) refl (fixed _ _ refl refl refl, (fixed _ _ refl refl refl, tt))
+      | topic.Decisions ↦
+          exact (help_line (Some topic.Decisions)) (codes "help" ∷ codes "decisions" ∷ []) refl (fixed _ _ refl refl refl, (fixed _ _ refl refl refl, tt))
+      | topic.Explain ↦
+          exact (help_line (Some topic.Explain)) (codes "help" ∷ codes "explain" ∷ []) refl (fixed _ _ refl refl refl, (fixed _ _ refl refl refl, tt))
       | topic.Trail ↦ exact (help_line (Some topic.Trail)) (codes "help" ∷ codes "trail" ∷ []) refl (fixed _ _ refl refl refl, (fixed _ _ refl refl refl, tt))
       | topic.Help ↦ exact (help_line (Some topic.Help)) (codes "help" ∷ codes "help" ∷ []) refl (fixed _ _ refl refl refl, (fixed _ _ refl refl refl, tt))
       | topic.Quit ↦ exact (help_line (Some topic.Quit)) (codes "help" ∷ codes "quit" ∷ []) refl (fixed _ _ refl refl refl, (fixed _ _ refl refl refl, tt))
       | topic.Seat ↦ exact (help_line (Some topic.Seat)) (codes "help" ∷ codes "seat" ∷ []) refl (fixed _ _ refl refl refl, (fixed _ _ refl refl refl, tt))
     ])
-exact_lines_stand line (inl (inr (inl is))) = subst (λ (l : List ℕ). line_meant l ≡ l) (sym is) (exact quit_line (codes "quit" ∷ []) refl (fixed _ _ refl refl refl, tt))
+exact_lines_stand line (inl (inr (inl is))) =
+    subst (λ (l : List ℕ). line_meant l ≡ l) (sym is) (exact quit_line (codes "quit" ∷ []) refl (fixed _ _ refl refl refl, tt))
 exact_lines_stand line (inl (inr (inr (inl (seat, within, is))))) =
     let range : IsInRange (number seat) = (within.0, omega (arith, within.1)) in
     subst (λ (l : List ℕ). line_meant l ≡ l) (sym is)
     (exact (seat_line seat) (codes "seat" ∷ decimal seat ∷ []) (seat_words seat within) (fixed _ _ refl refl refl, (a_number _ seat range refl, tt)))
-exact_lines_stand line (inl (inr (inr (inr (inr (p, times, is)))))) = exact line (map part_text (repeat_parts p times)) is.0 (fixed _ _ refl refl refl, step_stands (codes "auto" ∷ []) p (Some times) refl refl is.1.1)
+exact_lines_stand line (inl (inr (inr (inr (inr (p, times, is)))))) =
+    exact line (map part_text (repeat_parts p times)) is.0 (fixed _ _ refl refl refl, step_stands (codes "auto" ∷ []) p (Some times) refl refl is.1.1)
 exact_lines_stand line (inl (inr (inr (inr (inl (inquiry, is)))))) = exact line (inquiry_word inquiry ∷ is.0) is.1 (inquiry_stands inquiry is.0 is.2)
 exact_lines_stand line (inr (command, is)) = exact line (map part_text (command_parts command)) is.0 (parts_stand command is.1)

@@ -1,8 +1,9 @@
 -- A session looks at the bytes that it was given, whatever replies will follow.
-use Rattle.std.proofs.Common.{◌⊎◌, inl, inr, ◌≡◌, ◌≢◌, rules, ℕ, ◌+◌, ◌<◌, Bool, true, false, List, [], ◌∷◌, ◌++◌, drop, length, take, refl, sym, ap, subst, ◌∙◌, append_assoc, append-nil}
+use Rattle.std.proofs.Common.{◌⊎◌, inl, inr, ◌≡◌, ◌≢◌, rules, ℕ, ◌+◌, ◌<◌, Bool, true, false, List, [], ◌∷◌}
+use Rattle.std.proofs.Common.{◌++◌, drop, length, take, refl, sym, ap, subst, ◌∙◌, append_assoc, append-nil}
 use Rattle.std.specs.Prelude.{Result, Ok, Err, IsTrue}
 use Rattle.cdb_base.specs.Memory.{no_memory as refused}
-use Rattle.cdb_commands.specs.ToldReply.{ToldReply}
+use Rattle.cdb_commands.specs.ReplyView.{ReplyView}
 use Rattle.cdb_streams.specs.declared.buffer.OutputFault.{OutputFault}
 use Rattle.cdb_streams.specs.declared.buffer.OutputFault.TheVariants as output
 use Rattle.cdb_streams.specs.declared.fault.PlayFault.{PlayFault}
@@ -25,7 +26,8 @@ use Rattle.cdb_session.specs.Unfinished.{IsAt, MoreMayFollow, StaysAt, IsLineDon
 use Rattle.cdb_session.specs.Lines.{SessionView, HasGot, at_line}
 use Rattle.cdb_session.specs.Served.{IsSession}
 use Rattle.cdb_session.proofs.GotReplies.{may_follow, same_replies, same_line, commands_done, commands_lost}
-use Rattle.cdb_session.proofs.NextState.{more_unfinished, lost_before, line_lost, line_broken, line_responded, line_quit, last_lost, last_broken, last_responded, no_last_line}
+use Rattle.cdb_session.proofs.NextState.{more_unfinished, lost_before, line_lost, line_broken, line_responded}
+use Rattle.cdb_session.proofs.NextState.{line_quit, last_lost, last_broken, last_responded, no_last_line}
 
 false_is_not_true : (b : Bool) → b ≡ false → IsTrue b → ⊥
 false_is_not_true b is holds = search rules
@@ -41,47 +43,63 @@ no_more part full = refl
 
 module _ (Answers : RunView → Inquiry → List ℕ → Type 0) (style : StyleView) where
   -- the seat of a session is that which its lines chose last
-  sits : {replies : List ToldReply} {moves : List Move} {part : Part} {along : Along} {unfinished left : List ℕ} (at : IsAt Answers style replies moves part along unfinished left) → along.seat ≡ seat_behind style.chooses style.first at.exchanges
+  sits : {replies : List ReplyView} {moves : List Move} {part : Part} {along : Along} {unfinished left : List ℕ}
+      (at : IsAt Answers style replies moves part along unfinished left) → along.seat ≡ seat_behind style.chooses style.first at.exchanges
   sits {replies} at = ap (λ (s : Along). s.seat) at.along_is ∙ seat_along style (begun_along style replies) at.exchanges
 
   -- the replies that are left follow those to the commands so far
-  behind : {replies : List ToldReply} {moves : List Move} {part : Part} {along : Along} {unfinished left : List ℕ} (at : IsAt Answers style replies moves part along unfinished left) → drop (commands_among at.exchanges) replies ≡ along.replies
+  behind : {replies : List ReplyView} {moves : List Move} {part : Part} {along : Along} {unfinished left : List ℕ}
+      (at : IsAt Answers style replies moves part along unfinished left) → drop (commands_among at.exchanges) replies ≡ along.replies
   behind {replies} at = sym (ap (λ (s : Along). s.replies) at.along_is ∙ replies_along style (begun_along style replies) at.exchanges)
 
   -- where no reply follows, the replies are those of the seat
-  finish : (returned : Result (Unit {0}) PlayFault) (moves : List Move) (session : SessionView) → IsSession Answers style (part_with (session.part.replies ++ []) session.part) returned moves → HasEndedAs Answers style returned moves session
-  finish returned moves session s = subst (λ (r : List ToldReply). IsSession Answers style (part_with r session.part) returned moves) (append-nil session.part.replies) s
+  finish : (returned : Result (Unit {0}) PlayFault) (moves : List Move) (session : SessionView)
+      → IsSession Answers style (part_with (session.part.replies ++ []) session.part) returned moves → HasEndedAs Answers style returned moves session
+  finish returned moves session s =
+      subst (λ (r : List ReplyView). IsSession Answers style (part_with r session.part) returned moves) (append-nil session.part.replies) s
 
   module _ (moves : List Move) (old : SessionView) (unfinished left : List ℕ) (at : StaysAt Answers style moves old unfinished left) where
     pub as_seen : IsAt Answers style old.part.replies moves old.part (at_line old []) unfinished left
-    as_seen = subst (λ (r : List ToldReply). IsAt Answers style r moves old.part (at_line old []) unfinished left) (append-nil old.part.replies) (at [] (no_more old.part))
+    as_seen =
+        subst (λ (r : List ReplyView). IsAt Answers style r moves old.part (at_line old []) unfinished left)
+        (append-nil old.part.replies) (at [] (no_more old.part))
 
     -- memory is out before a line is looked at
     pub out_of_memory : HasEndedAs Answers style (ended_by (output.NoMemory refused)) moves old
     out_of_memory = lost_before Answers style old.part.replies moves old.part (at_line old []) unfinished left as_seen old.part as_seen.commands
 
     -- the replies that a line gets come first
-    before_line : (new : Part) (request : Request) (got : List ToldReply) → HasGot old.seat old.part request got new → (more : List ToldReply) → MoreMayFollow more new → IsAt Answers style (new.replies ++ more) moves old.part (at_line old (got ++ more)) unfinished left
+    before_line : (new : Part) (request : Request) (got : List ReplyView) → HasGot old.seat old.part request got new → (more : List ReplyView)
+        → MoreMayFollow more new → IsAt Answers style (new.replies ++ more) moves old.part (at_line old (got ++ more)) unfinished left
     before_line new request got calls more may =
-        subst (λ (r : List ToldReply). IsAt Answers style r moves old.part (at_line old (got ++ more)) unfinished left) (same_replies old.seat old.part request got new calls more)
+        subst (λ (r : List ReplyView). IsAt Answers style r moves old.part (at_line old (got ++ more)) unfinished left)
+        (same_replies old.seat old.part request got new calls more)
         (at (got ++ more) (may_follow old.seat old.part request got new calls more may))
 
   -- the same of a line that was held, and of a last line
-  module _ (moves : List Move) (old : SessionView) (unfinished left : List ℕ) (at : StaysAt Answers style moves old unfinished (10 ∷ left)) (new : SessionView) where
-    line_done : (kept : List ℕ) (was_quit : Bool) (made : List Move) → IsLineDone Answers style old new unfinished kept was_quit made → was_quit ≡ false → StaysAt Answers style (moves ++ made) new kept left
+  module _ (moves : List Move) (old : SessionView) (unfinished left : List ℕ)
+      (at : StaysAt Answers style moves old unfinished (10 ∷ left)) (new : SessionView) where
+    line_done : (kept : List ℕ) (was_quit : Bool) (made : List Move) → IsLineDone Answers style old new unfinished kept was_quit made
+        → was_quit ≡ false → StaysAt Answers style (moves ++ made) new kept left
     line_done kept was_quit made d goes_on more may =
         let now = before_line moves old unfinished (10 ∷ left) at new.part d.exchange.0 d.got d.done.calls more may in
         let same = same_line Answers style old.seat old.part d.exchange d.got new.part d.done more may old.lines in
         let other : d.exchange.0 ≢ Quit = λ is. (let yes : IsTrue was_quit = d.quit_exactly.1 is in absurd (false_is_not_true was_quit goes_on yes)) in
-        line_responded Answers style (new.part.replies ++ more) moves old.part (at_line old (d.got ++ more)) unfinished left now d.exchange d.asks new.part (commands_done Answers style old.seat now.exchanges (sits now) (new.part.replies ++ more) old.part new.part more may d.exchange d.got (behind now) d.done now.commands) made d.writes
-        (at_line new more) kept (d.written ∙ same.0) ((λ i. let s : Along = record { seat = d.seat i; replies = more; lines = d.lines i } in s) ∙ sym same.1) d.lines d.emptied other
+        line_responded Answers style (new.part.replies ++ more) moves old.part (at_line old (d.got ++ more))
+        unfinished left now d.exchange d.asks new.part (commands_done Answers style old.seat now.exchanges (sits now)
+        (new.part.replies ++ more) old.part new.part more may d.exchange d.got (behind now) d.done now.commands) made d.writes
+        (at_line new more) kept (d.written ∙ same.0)
+        ((λ i. let s : Along = record { seat = d.seat i; replies = more; lines = d.lines i } in s) ∙ sym same.1) d.lines d.emptied other
 
-    line_quits : (kept : List ℕ) (was_quit : Bool) (made : List Move) → IsLineDone Answers style old new unfinished kept was_quit made → was_quit ≡ true → HasEndedAs Answers style ended_well (moves ++ made) new
+    line_quits : (kept : List ℕ) (was_quit : Bool) (made : List Move) → IsLineDone Answers style old new unfinished kept was_quit made
+        → was_quit ≡ true → HasEndedAs Answers style ended_well (moves ++ made) new
     line_quits kept was_quit made d quit_exactly =
         let now = before_line moves old unfinished (10 ∷ left) at new.part d.exchange.0 d.got d.done.calls [] (no_more new.part) in
         let same = same_line Answers style old.seat old.part d.exchange d.got new.part d.done [] (no_more new.part) old.lines in
         finish ended_well (moves ++ made) new
-        (line_quit Answers style (new.part.replies ++ []) moves old.part (at_line old (d.got ++ [])) unfinished left now d.exchange d.asks new.part (commands_done Answers style old.seat now.exchanges (sits now) (new.part.replies ++ []) old.part new.part [] (no_more new.part) d.exchange d.got (behind now) d.done now.commands) made d.writes
+        (line_quit Answers style (new.part.replies ++ []) moves old.part (at_line old (d.got ++ [])) unfinished left now
+        d.exchange d.asks new.part (commands_done Answers style old.seat now.exchanges (sits now) (new.part.replies ++ [])
+        old.part new.part [] (no_more new.part) d.exchange d.got (behind now) d.done now.commands) made d.writes
         (d.written ∙ same.0) (d.quit_exactly.0 (true_is_true was_quit quit_exactly)))
 
     line_breaks : (made : List Move) → IsLineBroken Answers style old new unfinished made → HasEndedAs Answers style (ended_by output.Write) (moves ++ made) new
@@ -89,35 +107,46 @@ module _ (Answers : RunView → Inquiry → List ℕ → Type 0) (style : StyleV
         let now = before_line moves old unfinished (10 ∷ left) at new.part d.exchange.0 d.got d.done.calls [] (no_more new.part) in
         let same = same_line Answers style old.seat old.part d.exchange d.got new.part d.done [] (no_more new.part) old.lines in
         finish (ended_by output.Write) (moves ++ made) new
-        (line_broken Answers style (new.part.replies ++ []) moves old.part (at_line old (d.got ++ [])) unfinished left now d.exchange d.asks new.part (commands_done Answers style old.seat now.exchanges (sits now) (new.part.replies ++ []) old.part new.part [] (no_more new.part) d.exchange d.got (behind now) d.done now.commands) made d.writes
+        (line_broken Answers style (new.part.replies ++ []) moves old.part (at_line old (d.got ++ [])) unfinished left now
+        d.exchange d.asks new.part (commands_done Answers style old.seat now.exchanges (sits now) (new.part.replies ++ [])
+        old.part new.part [] (no_more new.part) d.exchange d.got (behind now) d.done now.commands) made d.writes
         d.missing (sym same.0 ∙ d.written) d.fails)
 
     line_loses : (new ≡ old) ⊎ IsRequestLost Answers style old new unfinished → HasEndedAs Answers style (ended_by (output.NoMemory refused)) moves new
-    line_loses (inl same) = subst (HasEndedAs Answers style (ended_by (output.NoMemory refused)) moves) (sym same) (out_of_memory moves old unfinished (10 ∷ left) at)
+    line_loses (inl same) =
+        subst (HasEndedAs Answers style (ended_by (output.NoMemory refused)) moves) (sym same) (out_of_memory moves old unfinished (10 ∷ left) at)
     line_loses (inr d) =
         let now = before_line moves old unfinished (10 ∷ left) at new.part d.request d.begun.got d.begun.calls [] (no_more new.part) in
         finish (ended_by (output.NoMemory refused)) moves new
-        (line_lost Answers style (new.part.replies ++ []) moves old.part (at_line old (d.begun.got ++ [])) unfinished left now (d.request, nothing) d.asks new.part (commands_lost Answers style old.seat now.exchanges (sits now) (new.part.replies ++ []) old.part new.part d.request d.begun (behind now) now.commands))
+        (line_lost Answers style (new.part.replies ++ []) moves old.part (at_line old (d.begun.got ++ []))
+        unfinished left now (d.request, nothing) d.asks new.part (commands_lost Answers style old.seat now.exchanges
+        (sits now) (new.part.replies ++ []) old.part new.part d.request d.begun (behind now) now.commands))
 
   module _ (moves : List Move) (old : SessionView) (unfinished : List ℕ) (at : StaysAt Answers style moves old unfinished []) (over : IsOver moves) where
     pub last_is_none : length unfinished ≡ 0 → HasEndedAs Answers style ended_well moves old
     last_is_none none = no_last_line Answers style old.part.replies moves old.part (at_line old []) unfinished (as_seen moves old unfinished [] at) over none
 
     module _ (some : 0 < length unfinished) (new : SessionView) where
-      pub last_is_done : (kept : List ℕ) (was_quit : Bool) (made : List Move) → IsLineDone Answers style old new unfinished kept was_quit made → HasEndedAs Answers style ended_well (moves ++ made) new
+      pub last_is_done : (kept : List ℕ) (was_quit : Bool) (made : List Move)
+          → IsLineDone Answers style old new unfinished kept was_quit made → HasEndedAs Answers style ended_well (moves ++ made) new
       last_is_done kept was_quit made d =
           let now = before_line moves old unfinished [] at new.part d.exchange.0 d.got d.done.calls [] (no_more new.part) in
           let same = same_line Answers style old.seat old.part d.exchange d.got new.part d.done [] (no_more new.part) old.lines in
           finish ended_well (moves ++ made) new
-          (last_responded Answers style (new.part.replies ++ []) moves old.part (at_line old (d.got ++ [])) unfinished now over some d.exchange d.asks new.part (commands_done Answers style old.seat now.exchanges (sits now) (new.part.replies ++ []) old.part new.part [] (no_more new.part) d.exchange d.got (behind now) d.done now.commands) made d.writes
+          (last_responded Answers style (new.part.replies ++ []) moves old.part (at_line old (d.got ++ [])) unfinished now over
+          some d.exchange d.asks new.part (commands_done Answers style old.seat now.exchanges (sits now) (new.part.replies ++ [])
+          old.part new.part [] (no_more new.part) d.exchange d.got (behind now) d.done now.commands) made d.writes
           (d.written ∙ same.0))
 
-      pub last_breaks : (made : List Move) → IsLineBroken Answers style old new unfinished made → HasEndedAs Answers style (ended_by output.Write) (moves ++ made) new
+      pub last_breaks : (made : List Move) → IsLineBroken Answers style old new unfinished made
+          → HasEndedAs Answers style (ended_by output.Write) (moves ++ made) new
       last_breaks made d =
           let now = before_line moves old unfinished [] at new.part d.exchange.0 d.got d.done.calls [] (no_more new.part) in
           let same = same_line Answers style old.seat old.part d.exchange d.got new.part d.done [] (no_more new.part) old.lines in
           finish (ended_by output.Write) (moves ++ made) new
-          (last_broken Answers style (new.part.replies ++ []) moves old.part (at_line old (d.got ++ [])) unfinished now over some d.exchange d.asks new.part (commands_done Answers style old.seat now.exchanges (sits now) (new.part.replies ++ []) old.part new.part [] (no_more new.part) d.exchange d.got (behind now) d.done now.commands) made d.writes
+          (last_broken Answers style (new.part.replies ++ []) moves old.part (at_line old (d.got ++ [])) unfinished now over some
+          d.exchange d.asks new.part (commands_done Answers style old.seat now.exchanges (sits now) (new.part.replies ++ [])
+          old.part new.part [] (no_more new.part) d.exchange d.got (behind now) d.done now.commands) made d.writes
           d.missing (sym same.0 ∙ d.written) d.fails)
 
       pub last_loses : (new ≡ old) ⊎ IsRequestLost Answers style old new unfinished → HasEndedAs Answers style (ended_by (output.NoMemory refused)) moves new
@@ -125,7 +154,9 @@ module _ (Answers : RunView → Inquiry → List ℕ → Type 0) (style : StyleV
       last_loses (inr d) =
           let now = before_line moves old unfinished [] at new.part d.request d.begun.got d.begun.calls [] (no_more new.part) in
           finish (ended_by (output.NoMemory refused)) moves new
-          (last_lost Answers style (new.part.replies ++ []) moves old.part (at_line old (d.begun.got ++ [])) unfinished now over some (d.request, nothing) d.asks new.part (commands_lost Answers style old.seat now.exchanges (sits now) (new.part.replies ++ []) old.part new.part d.request d.begun (behind now) now.commands))
+          (last_lost Answers style (new.part.replies ++ []) moves old.part (at_line old (d.begun.got ++ [])) unfinished
+          now over some (d.request, nothing) d.asks new.part (commands_lost Answers style old.seat now.exchanges
+          (sits now) (new.part.replies ++ []) old.part new.part d.request d.begun (behind now) now.commands))
 
   -- from the first of the bytes on, up to those that are left
   abbrev pub Goes : Known → SessionView → List ℕ → List ℕ → Known → SessionView → List ℕ → List ℕ → Type 0
@@ -134,9 +165,11 @@ module _ (Answers : RunView → Inquiry → List ℕ → Type 0) (style : StyleV
       → (made : List Move) × Makes before now made × AreWrites made × StaysAt Answers style (moves ++ made) session kept left
 
   pub starts : (before : Known) (old : SessionView) (unfinished bytes : List ℕ) → Goes before old unfinished bytes before old unfinished bytes
-  starts before old unfinished bytes moves at = ([], Makes-nothing before, tt, subst (λ all. StaysAt Answers style all old unfinished bytes) (sym (append-nil moves)) at)
+  starts before old unfinished bytes moves at =
+      ([], Makes-nothing before, tt, subst (λ all. StaysAt Answers style all old unfinished bytes) (sym (append-nil moves)) at)
 
-  module _ (before : Known) (old : SessionView) (unfinished bytes : List ℕ) (now : Known) (session : SessionView) (kept left : List ℕ) (so : Goes before old unfinished bytes now session kept left) where
+  module _ (before : Known) (old : SessionView) (unfinished bytes : List ℕ) (now : Known) (session : SessionView)
+      (kept left : List ℕ) (so : Goes before old unfinished bytes now session kept left) where
     -- memory is out
     pub no_memory : (all : List ℕ) → Feeds Answers style (Err (output.NoMemory refused)) before now old session unfinished all bytes
     no_memory all moves at =
@@ -144,38 +177,51 @@ module _ (Answers : RunView → Inquiry → List ℕ → Type 0) (style : StyleV
         (s.0, s.1, s.2, out_of_memory (moves ++ s.0) session kept left s.3)
 
     -- the bytes up to some are held
-    pub holds : (more behind all : List ℕ) → left ≡ more ++ behind → HasNoEnd more → all ≡ take (longest + 1) (kept ++ more) → Goes before old unfinished bytes now session all behind
+    pub holds : (more behind all : List ℕ) → left ≡ more ++ behind → HasNoEnd more
+        → all ≡ take (longest + 1) (kept ++ more) → Goes before old unfinished bytes now session all behind
     holds more behind all cut none is moves at =
-        let s = so moves at in
-        (s.0, s.1, s.2, λ follow may. more_unfinished Answers style (session.part.replies ++ follow) (moves ++ s.0) session.part (at_line session follow) kept left (s.3 follow may) more behind all cut none is)
+        let s = so moves at in (
+          s.0,
+          s.1,
+          s.2,
+          λ follow may. more_unfinished Answers style (session.part.replies ++ follow) (moves ++ s.0)
+              session.part (at_line session follow) kept left (s.3 follow may) more behind all cut none is,
+        )
 
   -- a line has ended
-  module _ (before : Known) (old : SessionView) (unfinished bytes : List ℕ) (now : Known) (session : SessionView) (kept left : List ℕ) (so : Goes before old unfinished bytes now session kept (10 ∷ left)) (behind : Known) (new : SessionView) (all : List ℕ) where
-    pub responds : (was_quit : Bool) → RespondsToLine Answers style (Ok was_quit) now behind session new kept all → was_quit ≡ false → Goes before old unfinished bytes behind new all left
+  module _ (before : Known) (old : SessionView) (unfinished bytes : List ℕ) (now : Known) (session : SessionView) (kept left : List ℕ)
+      (so : Goes before old unfinished bytes now session kept (10 ∷ left)) (behind : Known) (new : SessionView) (all : List ℕ) where
+    pub responds : (was_quit : Bool) → RespondsToLine Answers style (Ok was_quit) now behind session new kept all
+        → was_quit ≡ false → Goes before old unfinished bytes behind new all left
     responds was_quit a goes_on moves at =
         let s = so moves at in (
           s.0 ++ a.0,
           Makes-more before now behind s.0 a.0 s.1 a.1,
           AreWrites-append s.0 a.0 s.2 a.2.writes,
-          subst (λ made. StaysAt Answers style made new all left) (append_assoc moves s.0 a.0) (line_done (moves ++ s.0) session kept left s.3 new all was_quit a.0 a.2 goes_on),
+          subst (λ made. StaysAt Answers style made new all left) (append_assoc moves s.0 a.0)
+              (line_done (moves ++ s.0) session kept left s.3 new all was_quit a.0 a.2 goes_on),
         )
 
-    pub quits : (was_quit : Bool) → RespondsToLine Answers style (Ok was_quit) now behind session new kept all → was_quit ≡ true → Feeds Answers style (Ok true) before behind old new unfinished all bytes
+    pub quits : (was_quit : Bool) → RespondsToLine Answers style (Ok was_quit) now behind session new kept all
+        → was_quit ≡ true → Feeds Answers style (Ok true) before behind old new unfinished all bytes
     quits was_quit a quit_exactly moves at =
         let s = so moves at in (
           s.0 ++ a.0,
           Makes-more before now behind s.0 a.0 s.1 a.1,
           AreWrites-append s.0 a.0 s.2 a.2.writes,
-          subst (λ made. HasEndedAs Answers style ended_well made new) (append_assoc moves s.0 a.0) (line_quits (moves ++ s.0) session kept left s.3 new all was_quit a.0 a.2 quit_exactly),
+          subst (λ made. HasEndedAs Answers style ended_well made new) (append_assoc moves s.0 a.0)
+              (line_quits (moves ++ s.0) session kept left s.3 new all was_quit a.0 a.2 quit_exactly),
         )
 
-    pub fails : (fault : OutputFault) → RespondsToLine Answers style (Err fault) now behind session new kept all → Feeds Answers style (Err fault) before behind old new unfinished all bytes
+    pub fails : (fault : OutputFault) → RespondsToLine Answers style (Err fault) now behind session new kept all
+        → Feeds Answers style (Err fault) before behind old new unfinished all bytes
     fails output.Write a moves at =
         let s = so moves at in (
           s.0 ++ a.0,
           Makes-more before now behind s.0 a.0 s.1 a.1,
           AreWrites-append s.0 a.0 s.2 a.2.writes,
-          subst (λ made. HasEndedAs Answers style (ended_by output.Write) made new) (append_assoc moves s.0 a.0) (line_breaks (moves ++ s.0) session kept left s.3 new a.0 a.2),
+          subst (λ made. HasEndedAs Answers style (ended_by output.Write) made new)
+              (append_assoc moves s.0 a.0) (line_breaks (moves ++ s.0) session kept left s.3 new a.0 a.2),
         )
     fails (output.NoMemory why) a moves at =
         let s = so moves at in
@@ -183,5 +229,6 @@ module _ (Answers : RunView → Inquiry → List ℕ → Type 0) (style : StyleV
           s.0 ++ a.0,
           Makes-more before now behind s.0 a.0 s.1 a.1,
           subst AreWrites (sym made) s.2,
-          subst (λ more. HasEndedAs Answers style (ended_by (output.NoMemory refused)) (moves ++ more) new) (sym made) (line_loses (moves ++ s.0) session kept left s.3 new a.2.lost),
+          subst (λ more. HasEndedAs Answers style (ended_by (output.NoMemory refused)) (moves ++ more) new)
+              (sym made) (line_loses (moves ++ s.0) session kept left s.3 new a.2.lost),
         )

@@ -6,7 +6,7 @@ use Rattle.cdb_base.specs.Limits.{MAX_ENTRIES, MAX_SEATS}
 use Rattle.cdb_control.specs.Journal.{Journaled, Begins}
 use Rattle.cdb_control.specs.declared.control.Entry.{Entry}
 use Rattle.cdb_journal.specs.OpenedFrom.{IsFaultOfOpening, IsOpenedFrom, opened_from}
-use Rattle.cdb_journal.proofs.Telling.{read_few}
+use Rattle.cdb_journal.proofs.RepliesToSeats.{read_few}
 use Rattle.cdb_rules.specs.RunView.{RunView}
 use Rattle.cdb_rules.specs.Rules.{Rules}
 use Rattle.cdb_session.specs.declared.inquiry.Inquiry.{Inquiry}
@@ -38,31 +38,58 @@ use Rattle.cdb_session.proofs.OwnControl.{later_control}
 
 -- ---- by its journal, and by the table
 
-module _ (rules : Parts → Rules) (Answers : RunView → Inquiry → List ℕ → Type 0) (greeting prompt : List ℕ) (given : Parts) (before : List Entry) (c : Journaled) (of : c.setup ≡ given) (seats : c.seats ≡ MAX_SEATS) (begins : Begins before c.journal) (few : length c.journal ≤ MAX_ENTRIES) where
-  answered : (lines : List (List ℕ)) (text : List ℕ) → IsAnswered Answers (nine greeting prompt) (came rules c before) lines text → IsDialogue Answers greeting prompt (begun rules given before) lines text
+module _ (rules : Parts → Rules) (Answers : RunView → Inquiry → List ℕ → Type 0) (greeting prompt : List ℕ) (given : Parts) (before : List Entry)
+    (c : Journaled) (of : c.setup ≡ given) (seats : c.seats ≡ MAX_SEATS) (begins : Begins before c.journal) (few : length c.journal ≤ MAX_ENTRIES) where
+  answered : (lines : List (List ℕ)) (text : List ℕ) → IsAnswered Answers (nine greeting prompt) (came rules c before) lines text
+      → IsDialogue Answers greeting prompt (begun rules given before) lines text
   answered lines text (exchanges, others, asked, is, has) =
-      subst (λ (parts : Parts). IsDialogue Answers greeting prompt (begun rules parts before) lines text) of
-      (exchanges, asked, all_answered Answers greeting prompt rules c before exchanges others seats begins few has, is ∙ nothing_lost Answers greeting prompt rules c before exchanges others seats begins few has.0)
+      subst (λ (parts : Parts). IsDialogue Answers greeting prompt (begun rules parts before) lines text) of (
+        exchanges,
+        asked,
+        all_answered Answers greeting prompt rules c before exchanges others seats begins few has,
+        is
+            ∙ nothing_lost Answers greeting prompt rules c before exchanges others seats begins few has.0,
+      )
 
-  served : (lines : List (List ℕ)) (text : List ℕ) → IsServed Answers (nine greeting prompt) (came rules c before) lines text → IsDialogue Answers greeting prompt (begun rules given before) lines text
+  served : (lines : List (List ℕ)) (text : List ℕ) → IsServed Answers (nine greeting prompt) (came rules c before) lines text
+      → IsDialogue Answers greeting prompt (begun rules given before) lines text
   served lines text (exchanges, asked, is, has) =
       answered lines text (exchanges, [], asked, is, subst (HasExchanges Answers (nine greeting prompt) (came rules c before)) (sym (append-nil exchanges)) has)
 
-  ends : (returned : Result (Unit {0}) PlayFault) (moves : List Move) → EndsAs (IsAnswered Answers (nine greeting prompt) (came rules c before)) (IsServed Answers (nine greeting prompt) (came rules c before)) (IsCutShort Answers (nine greeting prompt) (came rules c before)) returned moves
-      → EndsAs (IsDialogue Answers greeting prompt (begun rules given before)) (IsDialogue Answers greeting prompt (begun rules given before)) (table.IsCutShort Answers greeting prompt (begun rules given before)) returned moves
+  ends : (returned : Result (Unit {0}) PlayFault) (moves : List Move) → EndsAs (IsAnswered Answers (nine greeting prompt) (came rules c before))
+      (IsServed Answers (nine greeting prompt) (came rules c before)) (IsCutShort Answers (nine greeting prompt) (came rules c before)) returned moves
+      → EndsAs (IsDialogue Answers greeting prompt (begun rules given before)) (IsDialogue Answers greeting prompt (begun rules given before))
+      (table.IsCutShort Answers greeting prompt (begun rules given before)) returned moves
   ends (Ok done) moves e = record { responded = served (lines_of (read_in moves)) (written_in moves) e.responded; ended = e.ended }
-  ends (Err fault.Read) moves e = (record { responded = served (ended_lines (read_in moves)) (written_in moves) e.0.responded; goes_on = e.0.goes_on; more = e.0.more }, e.1)
+  ends (Err fault.Read) moves e =
+      (record { responded = served (ended_lines (read_in moves)) (written_in moves) e.0.responded; goes_on = e.0.goes_on; more = e.0.more }, e.1)
   ends (Err fault.Write) moves e = (
-    record { lines = e.0.lines; others = e.0.others; text = e.0.text; missing = e.0.missing; begins = e.0.begins; responded = served e.0.lines e.0.text e.0.responded; written = e.0.written },
+    record {
+      lines = e.0.lines;
+      others = e.0.others;
+      text = e.0.text;
+      missing = e.0.missing;
+      begins =
+          e.0.begins;
+      responded = served e.0.lines e.0.text e.0.responded;
+      written = e.0.written;
+    },
     e.1,
   )
   ends (Err (fault.NoMemory refused)) moves e =
-      record { lines = e.lines; others = e.next ++ e.others; begins = e.begins ∙ append_assoc e.lines e.next e.others; responded = answered e.lines (written_in moves) e.responded }
+      record {
+        lines = e.lines;
+        others = e.next ++ e.others;
+        begins =
+            e.begins ∙ append_assoc e.lines e.next e.others;
+        responded = answered e.lines (written_in moves) e.responded;
+      }
   ends (Err (fault.Setup why)) moves e = e
   ends (Err (fault.Line script line why)) moves e = e
   ends (Err (fault.ScriptTooLong script)) moves e = e
 
-  by_table : (returned : Result (Unit {0}) PlayFault) (moves : List Move) → IsSession Answers (nine greeting prompt) (came rules c before) returned moves → table.IsSession Answers greeting prompt (begun rules given before) returned moves
+  by_table : (returned : Result (Unit {0}) PlayFault) (moves : List Move) → IsSession Answers (nine greeting prompt) (came rules c before) returned moves
+      → table.IsSession Answers greeting prompt (begun rules given before) returned moves
   by_table returned moves s = record {
     in_time = λ before ask later is asks.
         let r = s.in_time before ask later is asks in
@@ -80,7 +107,8 @@ fits : (json : List ℕ) (refused : NoMemory) → (longest < length json → set
 fits json refused long = at_most (length json) longest (λ more. cc (long more))
 
 -- the fault of a setup comes before those of the journal
-pub setup_failed : (json journal : List ℕ) (seats : ℕ) (why : SetupFault) → (let read : Result (Unit {0}) SetupFault = Err why in IfFault read (λ first. IsFirstFault first json)) → (longest < length json → why ≡ setup.TooLong)
+pub setup_failed : (json journal : List ℕ) (seats : ℕ) (why : SetupFault)
+    → (let read : Result (Unit {0}) SetupFault = Err why in IfFault read (λ first. IsFirstFault first json)) → (longest < length json → why ≡ setup.TooLong)
     → table.IsFaultOfBeginning json journal seats (of_setup why)
 setup_failed json journal seats setup.NotJson is long = is (λ e. cc)
 setup_failed json journal seats setup.NotObject is long = is (λ e. cc)
@@ -96,14 +124,17 @@ setup_failed json journal seats setup.BadVersion is long = is (λ e. cc)
 setup_failed json journal seats (setup.NoMemory refused) is long = fits json refused long
 
 -- and those of the journal come before the session
-pub journal_failed : (json journal : List ℕ) (seats : ℕ) (given : Parts) → Encodes json given → (why : ScriptFault) → IsFaultOfOpening seats journal why → table.IsFaultOfBeginning json journal seats (of_script why)
+pub journal_failed : (json journal : List ℕ) (seats : ℕ) (given : Parts) → Encodes json given → (why : ScriptFault)
+    → IsFaultOfOpening seats journal why → table.IsFaultOfBeginning json journal seats (of_script why)
 journal_failed json journal seats given encodes (bad.Line line why) is = ((given, encodes), refl, is)
 journal_failed json journal seats given encodes bad.TooLong is = ((given, encodes), refl, is)
 journal_failed json journal seats given encodes (bad.NoMemory refused) is = encodes.0
 
 -- from a control that goes on from a journal to one that the session has left
-pub debugged : (rules : Parts → Rules) (Answers : RunView → Inquiry → List ℕ → Type 0) (prompt json journal : List ℕ) (old new : Known) (given : Parts) → Encodes json given → (first last : Journaled) → IsOpenedFrom given MAX_SEATS journal first → Onward IsLaterControl first last
-    → (returned : Result (Unit {0}) PlayFault) → HoldsSession Answers (nine (greeting_at prompt (greeting_text given)) prompt) (since (whole_part rules first) (whole_part rules last)) returned old new → table.Debugs rules Answers prompt json journal returned old new
+pub debugged : (rules : Parts → Rules) (Answers : RunView → Inquiry → List ℕ → Type 0) (prompt json journal : List ℕ) (old new : Known) (given : Parts)
+    → Encodes json given → (first last : Journaled) → IsOpenedFrom given MAX_SEATS journal first → Onward IsLaterControl first last
+    → (returned : Result (Unit {0}) PlayFault) → HoldsSession Answers (nine (greeting_at prompt (greeting_text given)) prompt)
+    (since (whole_part rules first) (whole_part rules last)) returned old new → table.Debugs rules Answers prompt json journal returned old new
 debugged rules Answers prompt json journal old new given encodes first last (before, lines, is) later returned (made, makes, s) =
     let few = read_few before journal lines.0 in
     let its = later_control first last (omega (arith, ap (λ (c : Journaled). length c.journal) is, few)) later in
@@ -112,5 +143,6 @@ debugged rules Answers prompt json journal old new given encodes first last (bef
     let begins : Begins before last.journal = subst (λ (es : List Entry). Begins es last.journal) (ap (λ (c : Journaled). c.journal) is) its.begins in
     let first_is : first ≡ opened_from last.setup MAX_SEATS before = is ∙ ap (λ (p : Parts). opened_from p MAX_SEATS before) (sym of) in
     let greeting = greeting_at prompt (greeting_text given) in
-    let held = subst (λ (c : Journaled). IsSession Answers (nine greeting prompt) (since (whole_part rules c) (whole_part rules last)) returned made) first_is s in
+    let held =
+    subst (λ (c : Journaled). IsSession Answers (nine greeting prompt) (since (whole_part rules c) (whole_part rules last)) returned made) first_is s in
     (made, makes, inr (given, before, encodes, lines, by_table rules Answers greeting prompt given before last of seats begins its.few returned made held))

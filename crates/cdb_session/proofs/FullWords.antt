@@ -66,7 +66,8 @@ module _ (options : List (Bor (List ℕ))) (word : List ℕ) where
     abbrev others : List (Bor (List ℕ))
     others = after_first (begins word) options
 
-    first : full (map (λ it. it.now) options) word ≡ only (map (λ it. it.now) (get_or options (position_or_len (begins word) options) none ∷ filter (begins word) others)) word
+    first : full (map (λ it. it.now) options) word
+        ≡ only (map (λ it. it.now) (get_or options (position_or_len (begins word) options) none ∷ filter (begins word) others)) word
     first = found ∙ ap (λ (some : List (Bor (List ℕ))). only (map (λ it. it.now) some) word) (filter_first (begins word) options none h)
 
     pub full_of_more : list_any (begins word) others ≡ true → full (map (λ it. it.now) options) word ≡ word
@@ -74,7 +75,8 @@ module _ (options : List (Bor (List ℕ))) (word : List ℕ) where
         let two = filter_some (begins word) others more in
         first ∙ ap (λ (some : List (Bor (List ℕ))). only (map (λ it. it.now) (get_or options (position_or_len (begins word) options) none ∷ some)) word) two.2
 
-    pub full_of_one : list_any (begins word) others ≡ false → full (map (λ it. it.now) options) word ≡ (get_or options (position_or_len (begins word) options) none).now
+    pub full_of_one : list_any (begins word) others ≡ false
+        → full (map (λ it. it.now) options) word ≡ (get_or options (position_or_len (begins word) options) none).now
     full_of_one no_more =
         first ∙ ap (λ (some : List (Bor (List ℕ))). only (map (λ it. it.now) (get_or options (position_or_len (begins word) options) none ∷ some)) word)
         (filter_none (begins word) others no_more)

@@ -1,9 +1,10 @@
 -- What one line does to a session, and to what the journal has of it.
-use Rattle.std.proofs.Common.{◌≡◌, ◌≢◌, ◌⊎◌, inl, inr, ℕ, zero, suc, ◌+◌, ◌-◌, ◌<◌, ◌≤◌, Bool, true, false, List, [], ◌∷◌, ◌++◌, drop, length, refl, sym, ap, subst, ◌∙◌, append_assoc, append-nil, arith, length-append, min}
+use Rattle.std.proofs.Common.{◌≡◌, ◌≢◌, ◌⊎◌, inl, inr, ℕ, zero, suc, ◌+◌, ◌-◌, ◌<◌, ◌≤◌, Bool, true, false, List, [], ◌∷◌, ◌++◌}
+use Rattle.std.proofs.Common.{drop, length, refl, sym, ap, subst, ◌∙◌, append_assoc, append-nil, arith, length-append, min}
 use Rattle.std.specs.Prelude.{if◌then◌else◌, replicate}
 use Rattle.std.proofs.lemmas.Bool.{cases_lt}
 use Rattle.std.proofs.lemmas.List.{length-replicate, replicate-append-replicate, nil_from_length}
-use Rattle.cdb_commands.specs.ToldReply.{ToldReply, is_refused}
+use Rattle.cdb_commands.specs.ReplyView.{ReplyView, is_refused}
 use Rattle.cdb_commands.specs.declared.command.Command.{Command}
 use Rattle.cdb_control.specs.Journal.{entry}
 use Rattle.cdb_control.specs.declared.control.Entry.{Entry}
@@ -42,7 +43,13 @@ MakesNone-refl part = record { goes_on = GoesOn-refl part; calls = refl; replies
 
 pub none_called : (old new : Part) → MakesNone old new → AreCalled old [] [] new
 none_called old new same =
-    record { goes_on = same.goes_on; calls = same.calls ∙ sym (append-nil old.calls); replies = same.replies ∙ sym (append-nil old.replies); full = λ full. (refl, same.full full) }
+    record {
+      goes_on = same.goes_on;
+      calls = same.calls ∙ sym (append-nil old.calls);
+      replies =
+          same.replies ∙ sym (append-nil old.replies);
+      full = λ full. (refl, same.full full);
+    }
 
 -- no entry stands for a command that was not given
 pub no_entry : (seat : ℕ) (request : Request) → entries_of seat request 0 ≡ []
@@ -57,7 +64,7 @@ no_entry seat TooLong = refl
 pub none_got : (seat : ℕ) (request : Request) (old new : Part) → MakesNone old new → HasGot seat old request [] new
 none_got seat request old new same = subst (λ (made : List Entry). AreCalled old made [] new) (sym (no_entry seat request)) (none_called old new same)
 
-pub none : (got : List ToldReply) → length got ≤ 0 → got ≡ []
+pub none : (got : List ReplyView) → length got ≤ 0 → got ≡ []
 none got few = nil_from_length got (omega (arith, few))
 
 -- ---- a line that asks for no command and nothing of the run
@@ -80,7 +87,9 @@ given_not Quit outcome other = refl
 given_not (Fault fault) outcome other = refl
 given_not TooLong outcome other = refl
 
-pub none_done : (Answers : RunView → Inquiry → List ℕ → Type 0) (seat : ℕ) (old new : Part) (request : Request) (outcome : Outcome) → MakesNone old new → ((command : Command) (times : ℕ) → request ≢ Call command times) → ((inquiry : Inquiry) → request ≡ Ask inquiry → AnswersNow Answers new inquiry outcome.answer)
+pub none_done : (Answers : RunView → Inquiry → List ℕ → Type 0) (seat : ℕ) (old new : Part) (request : Request) (outcome : Outcome)
+    → MakesNone old new → ((command : Command) (times : ℕ) → request ≢ Call command times)
+    → ((inquiry : Inquiry) → request ≡ Ask inquiry → AnswersNow Answers new inquiry outcome.answer)
     → HasDone Answers seat old (request, outcome) [] new
 none_done Answers seat old new request outcome same other answers =
     record {
@@ -93,7 +102,7 @@ none_done Answers seat old new request outcome same other answers =
 
 -- ---- from the replies that follow a line to those that follow the line before
 
-module _ (seat : ℕ) (old : Part) (request : Request) (got : List ToldReply) (new : Part) (is : HasGot seat old request got new) (more : List ToldReply) where
+module _ (seat : ℕ) (old : Part) (request : Request) (got : List ReplyView) (new : Part) (is : HasGot seat old request got new) (more : List ReplyView) where
   pub may_follow : MoreMayFollow more new → MoreMayFollow (got ++ more) old
   may_follow may full = let its = is.full full in λ i. its.0 i ++ may its.1 i
 
@@ -102,12 +111,14 @@ module _ (seat : ℕ) (old : Part) (request : Request) (got : List ToldReply) (n
 
 -- ---- the answer is that of the replies that were got
 
-texts_same : (count : ℕ) (got more : List ToldReply) → length got ≤ count → (length got < count → more ≡ []) → replies_text count got ≡ replies_text count (got ++ more)
+texts_same : (count : ℕ) (got more : List ReplyView) → length got ≤ count
+    → (length got < count → more ≡ []) → replies_text count got ≡ replies_text count (got ++ more)
 texts_same zero got more fits last = refl
 texts_same (suc count) [] more fits last = ap (replies_text (suc count)) (sym (last (omega arith)))
-texts_same (suc count) (reply ∷ got) more fits last = ap (λ text. text_of reply ++ text) (texts_same count got more (omega (arith, fits)) (λ low. last (omega (arith, low))))
+texts_same (suc count) (reply ∷ got) more fits last =
+    ap (λ text. text_of reply ++ text) (texts_same count got more (omega (arith, fits)) (λ low. last (omega (arith, low))))
 
-left_same : (count : ℕ) (got more : List ToldReply) → length got ≤ count → (length got < count → more ≡ []) → drop count (got ++ more) ≡ more
+left_same : (count : ℕ) (got more : List ReplyView) → length got ≤ count → (length got < count → more ≡ []) → drop count (got ++ more) ≡ more
 left_same zero [] more fits last = refl
 left_same zero (reply ∷ got) more fits last = absurd (omega (arith, fits))
 left_same (suc count) [] more fits last = ap (drop (suc count)) (last (omega arith)) ∙ sym (last (omega arith))
@@ -117,44 +128,54 @@ left_same (suc count) (reply ∷ got) more fits last = left_same count got more 
 abbrev first_and : Bool → ℕ → ℕ
 first_and refused count = if refused then 1 else (1 + count)
 
-by_reply : (there here n : ℕ) (more : List ToldReply) (refused : Bool) → (n ≤ here → (n < here → more ≡ []) → there ≡ here) → suc n ≤ first_and refused here → (suc n < first_and refused here → more ≡ []) → first_and refused there ≡ first_and refused here
+by_reply : (there here n : ℕ) (more : List ReplyView) (refused : Bool) → (n ≤ here → (n < here → more ≡ []) → there ≡ here)
+    → suc n ≤ first_and refused here → (suc n < first_and refused here → more ≡ []) → first_and refused there ≡ first_and refused here
 by_reply there here n more true rest fits last = refl
 by_reply there here n more false rest fits last = let e = rest (omega (arith, fits)) (λ low. last (omega (arith, low))) in omega (arith, e)
 
-given_same : (times : ℕ) (got more : List ToldReply) → length got ≤ times_given times got → (length got < times_given times got → more ≡ []) → times_given times (got ++ more) ≡ times_given times got
+given_same : (times : ℕ) (got more : List ReplyView) → length got ≤ times_given times got
+    → (length got < times_given times got → more ≡ []) → times_given times (got ++ more) ≡ times_given times got
 given_same zero got more fits last = refl
 given_same (suc times) [] more fits last = ap (times_given (suc times)) (last (omega arith))
 given_same (suc times) (reply ∷ got) more fits last =
     by_reply (times_given times (got ++ more)) (times_given times got) (length got) more (is_refused reply) (given_same times got more) fits last
 
 module _ (Answers : RunView → Inquiry → List ℕ → Type 0) (style : StyleView) where
-  abbrev with_replies : ℕ → ℕ → List ToldReply → Along
+  abbrev with_replies : ℕ → ℕ → List ReplyView → Along
   with_replies seat lines replies = record { seat = seat; replies = replies; lines = lines }
 
   -- a line by its replies, and by those and others that follow
-  abbrev SameLine : ℕ → Exchange → List ToldReply → List ToldReply → ℕ → Type 0
+  abbrev SameLine : ℕ → Exchange → List ReplyView → List ReplyView → ℕ → Type 0
   SameLine seat exchange got more lines =
       (shown style (with_replies seat lines got) exchange ≡ shown style (with_replies seat lines (got ++ more)) exchange)
       × (next_along style (with_replies seat lines (got ++ more)) exchange ≡ with_replies (seat_next style.chooses seat exchange.0) (lines + 1) more)
 
   -- what is shown and what is left does not depend on what follows
-  pub same_line : (seat : ℕ) (old : Part) (exchange : Exchange) (got : List ToldReply) (new : Part) → HasDone Answers seat old exchange got new → (more : List ToldReply) → MoreMayFollow more new → (lines : ℕ) → SameLine seat exchange got more lines
+  pub same_line : (seat : ℕ) (old : Part) (exchange : Exchange) (got : List ReplyView) (new : Part) → HasDone Answers seat old exchange got new
+      → (more : List ReplyView) → MoreMayFollow more new → (lines : ℕ) → SameLine seat exchange got more lines
   same_line seat old (Call command times, outcome) got new done more may lines = (
     ap (λ text. text ++ style.prompt) (texts_same outcome.given got more done.fits (λ low. may (done.full low))),
-    ap (λ (left : List ToldReply). with_replies seat (lines + 1) left) (left_same outcome.given got more done.fits (λ low. may (done.full low))),
+    ap (λ (left : List ReplyView). with_replies seat (lines + 1) left) (left_same outcome.given got more done.fits (λ low. may (done.full low))),
   )
-  same_line seat old (Ask inquiry, outcome) got new done more may lines = (refl, ap (λ (front : List ToldReply). with_replies seat (lines + 1) (front ++ more)) (none got done.fits))
-  same_line seat old (Seat chosen, outcome) got new done more may lines = (refl, ap (λ (front : List ToldReply). with_replies (seat_next style.chooses seat (Seat chosen)) (lines + 1) (front ++ more)) (none got done.fits))
-  same_line seat old (Help about, outcome) got new done more may lines = (refl, ap (λ (front : List ToldReply). with_replies seat (lines + 1) (front ++ more)) (none got done.fits))
-  same_line seat old (Quit, outcome) got new done more may lines = (refl, ap (λ (front : List ToldReply). with_replies seat (lines + 1) (front ++ more)) (none got done.fits))
-  same_line seat old (Fault fault, outcome) got new done more may lines = (refl, ap (λ (front : List ToldReply). with_replies seat (lines + 1) (front ++ more)) (none got done.fits))
-  same_line seat old (TooLong, outcome) got new done more may lines = (refl, ap (λ (front : List ToldReply). with_replies seat (lines + 1) (front ++ more)) (none got done.fits))
+  same_line seat old (Ask inquiry, outcome) got new done more may lines =
+      (refl, ap (λ (front : List ReplyView). with_replies seat (lines + 1) (front ++ more)) (none got done.fits))
+  same_line seat old (Seat chosen, outcome) got new done more may lines =
+      (refl, ap (λ (front : List ReplyView). with_replies (seat_next style.chooses seat (Seat chosen)) (lines + 1) (front ++ more)) (none got done.fits))
+  same_line seat old (Help about, outcome) got new done more may lines =
+      (refl, ap (λ (front : List ReplyView). with_replies seat (lines + 1) (front ++ more)) (none got done.fits))
+  same_line seat old (Quit, outcome) got new done more may lines =
+      (refl, ap (λ (front : List ReplyView). with_replies seat (lines + 1) (front ++ more)) (none got done.fits))
+  same_line seat old (Fault fault, outcome) got new done more may lines =
+      (refl, ap (λ (front : List ReplyView). with_replies seat (lines + 1) (front ++ more)) (none got done.fits))
+  same_line seat old (TooLong, outcome) got new done more may lines =
+      (refl, ap (λ (front : List ReplyView). with_replies seat (lines + 1) (front ++ more)) (none got done.fits))
 
   -- ---- the session's entries, at a line of the seat that the lines before chose
 
   -- the entries that a line asks for begin with those that were made, and are these where all were made
   abbrev AskedBehind : ℕ → Exchange → ℕ → Type 0
-  AskedBehind seat exchange count = (rest : List Entry) × (asked_of seat exchange ≡ entries_of seat exchange.0 count ++ rest) × (given_at exchange ≤ count → rest ≡ [])
+  AskedBehind seat exchange count =
+      (rest : List Entry) × (asked_of seat exchange ≡ entries_of seat exchange.0 count ++ rest) × (given_at exchange ≤ count → rest ≡ [])
 
   asked_behind : (seat : ℕ) (exchange : Exchange) (count : ℕ) → count ≤ given_at exchange → AskedBehind seat exchange count
   asked_behind seat (Call command times, outcome) count fits =
@@ -184,18 +205,26 @@ module _ (Answers : RunView → Inquiry → List ℕ → Type 0) (style : StyleV
   as_many_asked : (chooses : Bool) (at : ℕ) (its : List Exchange) → length (all_asked chooses at its) ≡ commands_among its
   as_many_asked chooses at [] = refl
   as_many_asked chooses at (exchange ∷ its) =
-      omega (arith, length-append (asked_of at exchange) (all_asked chooses (seat_next chooses at exchange.0) its), as_many_at at exchange, as_many_asked chooses (seat_next chooses at exchange.0) its)
+      omega (
+        arith,
+        length-append (asked_of at exchange) (all_asked chooses (seat_next chooses at exchange.0) its),
+        as_many_at at exchange,
+        as_many_asked chooses (seat_next chooses at exchange.0) its,
+      )
 
   -- one line more
-  one_told : (Told : ℕ → Exchange → Type 0) (count : ℕ) (its : List Exchange) (exchange : Exchange) → AreTold Told count its → Told (count + commands_among its) exchange → AreTold Told count (its ++ exchange ∷ [])
+  one_told : (Told : ℕ → Exchange → Type 0) (count : ℕ) (its : List Exchange) (exchange : Exchange)
+      → AreTold Told count its → Told (count + commands_among its) exchange → AreTold Told count (its ++ exchange ∷ [])
   one_told Told count [] exchange told is = (subst (λ n. Told n exchange) (omega arith) is, tt)
-  one_told Told count (first ∷ its) exchange told is = (told.0, one_told Told (count + given_at first) its exchange told.1 (subst (λ n. Told n exchange) (omega arith) is))
+  one_told Told count (first ∷ its) exchange told is =
+      (told.0, one_told Told (count + given_at first) its exchange told.1 (subst (λ n. Told n exchange) (omega arith) is))
 
   -- out of memory nothing was done of a line, or its command was given, once or more often
-  abbrev pub HasPart : List Exchange → List ToldReply → Part → Request → Type 0
+  abbrev pub HasPart : List Exchange → List ReplyView → Part → Request → Type 0
   HasPart exchanges replies new request =
       HasExchanges Answers style (part_with replies new) exchanges
-      ⊎ ((begun : Exchange) × HasExchanges Answers style (part_with replies new) (exchanges ++ begun ∷ []) × ((line : List ℕ) → AsksFor request (line_meant line) → AsksForNoLess begun line))
+      ⊎ ((begun : Exchange) × HasExchanges Answers style (part_with replies new) (exchanges ++ begun ∷ [])
+      × ((line : List ℕ) → AsksFor request (line_meant line) → AsksForNoLess begun line))
 
   module _ (seat : ℕ) (exchanges : List Exchange) (is_seat : seat ≡ seat_behind style.chooses style.first exchanges) where
     all_of-more : (exchange : Exchange) → all_of style (exchanges ++ exchange ∷ []) ≡ all_of style exchanges ++ asked_of seat exchange
@@ -204,18 +233,22 @@ module _ (Answers : RunView → Inquiry → List ℕ → Type 0) (style : StyleV
 
     -- ---- a line that gives a command
 
-    has_more : (old new : Part) (exchange : Exchange) (got : List ToldReply) → HasGot seat old exchange.0 got new → length got ≤ given_at exchange → (length got < given_at exchange → IsFull new) → HasCommands style old exchanges → HasCommands style new (exchanges ++ exchange ∷ [])
+    has_more : (old new : Part) (exchange : Exchange) (got : List ReplyView) → HasGot seat old exchange.0 got new → length got ≤ given_at exchange
+        → (length got < given_at exchange → IsFull new) → HasCommands style old exchanges → HasCommands style new (exchanges ++ exchange ∷ [])
     has_more old new exchange got calls fits full (inl all) =
         let behind = asked_behind seat exchange (length got) fits in
         let whole : all_of style (exchanges ++ exchange ∷ []) ≡ new.calls ++ behind.0 =
-        all_of-more exchange ∙ (λ i. sym all i ++ behind.1 i) ∙ sym (append_assoc old.calls (entries_of seat exchange.0 (length got)) behind.0) ∙ ap (λ (front : List Entry). front ++ behind.0) (sym calls.calls) in
+        all_of-more exchange ∙ (λ i. sym all i ++ behind.1 i) ∙ sym (append_assoc old.calls (entries_of seat exchange.0 (length got)) behind.0)
+        ∙ ap (λ (front : List Entry). front ++ behind.0) (sym calls.calls) in
         elim (cases_lt (length got) (given_at exchange)) [
           | inl short ↦ inr (full short, behind.0, whole)
           | inr most ↦ inl (sym (append-nil new.calls) ∙ ap (λ (rest : List Entry). new.calls ++ rest) (sym (behind.2 most)) ∙ sym whole)
         ]
     has_more old new exchange got calls fits full (inr some) =
         let its = calls.full some.0 in
-        let same : new.calls ≡ old.calls = calls.calls ∙ ap (λ (g : List ToldReply). old.calls ++ entries_of seat exchange.0 (length g)) its.0 ∙ ap (λ (made : List Entry). old.calls ++ made) (no_entry seat exchange.0) ∙ append-nil old.calls in
+        let same : new.calls ≡ old.calls =
+        calls.calls ∙ ap (λ (g : List ReplyView). old.calls ++ entries_of seat exchange.0 (length g)) its.0
+        ∙ ap (λ (made : List Entry). old.calls ++ made) (no_entry seat exchange.0) ∙ append-nil old.calls in
         inr (
           its.1,
           some.1 ++ asked_of seat exchange,
@@ -224,38 +257,55 @@ module _ (Answers : RunView → Inquiry → List ℕ → Type 0) (style : StyleV
         )
 
     -- the journal has all the commands before
-    as_many_later : (old new : Part) (request : Request) (got : List ToldReply) → HasGot seat old request got new → HasCommands style old exchanges → AsManyLater old new (0 + commands_among exchanges)
+    as_many_later : (old new : Part) (request : Request) (got : List ReplyView) → HasGot seat old request got new
+        → HasCommands style old exchanges → AsManyLater old new (0 + commands_among exchanges)
     as_many_later old new request got calls (inl all) n low =
-        omega (arith, low, ap length calls.calls, length-append old.calls (entries_of seat request (length got)), ap length all, as_many_asked style.chooses style.first exchanges)
+        omega (
+          arith,
+          low,
+          ap length calls.calls,
+          length-append old.calls (entries_of seat request (length got)),
+          ap length all,
+          as_many_asked style.chooses style.first exchanges,
+        )
     as_many_later old new request got calls (inr some) n low =
         let its = calls.full some.0 in
-        let same : new.calls ≡ old.calls = calls.calls ∙ ap (λ (g : List ToldReply). old.calls ++ entries_of seat request (length g)) its.0 ∙ ap (λ (made : List Entry). old.calls ++ made) (no_entry seat request) ∙ append-nil old.calls in
+        let same : new.calls ≡ old.calls =
+        calls.calls ∙ ap (λ (g : List ReplyView). old.calls ++ entries_of seat request (length g)) its.0
+        ∙ ap (λ (made : List Entry). old.calls ++ made) (no_entry seat request) ∙ append-nil old.calls in
         ap (λ (made : List Entry). min n (length made)) same
 
     no_more_than : (part : Part) → HasCommands style part exchanges → length part.calls ≤ commands_among exchanges
     no_more_than part (inl all) = omega (arith, ap length all, as_many_asked style.chooses style.first exchanges)
     no_more_than part (inr some) = omega (arith, ap length some.2, length-append part.calls some.1, as_many_asked style.chooses style.first exchanges)
 
-    module _ (replies : List ToldReply) (old new : Part) where
-      told_later : (request : Request) (got : List ToldReply) → HasGot seat old request got new → HasExchanges Answers style (part_with replies old) exchanges → AreTold (IsDoneAfter Answers (part_with replies new)) 0 exchanges
-      told_later request got calls has = all_told_on Answers (part_with replies old) (part_with replies new) (on calls.goes_on) refl 0 exchanges (as_many_later old new request got calls has.0) has.1
+    module _ (replies : List ReplyView) (old new : Part) where
+      told_later : (request : Request) (got : List ReplyView) → HasGot seat old request got new
+          → HasExchanges Answers style (part_with replies old) exchanges → AreTold (IsDoneAfter Answers (part_with replies new)) 0 exchanges
+      told_later request got calls has =
+          all_told_on Answers (part_with replies old) (part_with replies new) (on calls.goes_on)
+          refl 0 exchanges (as_many_later old new request got calls has.0) has.1
         where
           on : GoesOn old new → GoesOn (part_with replies old) (part_with replies new)
           on k = record { before = k.before; longer = k.longer; calls_in = k.calls_in; left_by = k.left_by }
 
       -- the answer of the run as it stands, after all commands so far
-      told_at : (exchange : Exchange) → ((inquiry : Inquiry) → exchange.0 ≡ Ask inquiry → AnswersNow Answers new inquiry exchange.1.answer) → (given_at exchange ≡ 0 → length new.calls ≤ commands_among exchanges) → IsAnsweredAfter Answers (part_with replies new) (0 + commands_among exchanges) exchange
+      told_at : (exchange : Exchange) → ((inquiry : Inquiry) → exchange.0 ≡ Ask inquiry → AnswersNow Answers new inquiry exchange.1.answer) → (given_at exchange
+          ≡ 0 → length new.calls ≤ commands_among exchanges) → IsAnsweredAfter Answers (part_with replies new) (0 + commands_among exchanges) exchange
       told_at (Call command times, outcome) answer few = tt
-      told_at (Ask inquiry, outcome) answer few = let now = answer inquiry refl in (new.entries, now.since, omega arith, omega (arith, now.all, few refl), now.answers)
+      told_at (Ask inquiry, outcome) answer few = let now = answer inquiry refl in
+          (new.entries, now.since, omega arith, omega (arith, now.all, few refl), now.answers)
       told_at (Seat chosen, outcome) answer few = tt
       told_at (Help about, outcome) answer few = tt
       told_at (Quit, outcome) answer few = tt
       told_at (Fault fault, outcome) answer few = tt
       told_at (TooLong, outcome) answer few = tt
 
-      given_behind : (exchange : Exchange) (got more : List ToldReply) → IsGiven exchange got → length got ≤ given_at exchange → (length got < given_at exchange → more ≡ []) → drop (commands_among exchanges) replies ≡ got ++ more → IsGiven exchange (drop (0 + commands_among exchanges) replies)
+      given_behind : (exchange : Exchange) (got more : List ReplyView) → IsGiven exchange got → length got ≤ given_at exchange → (length got < given_at exchange
+          → more ≡ []) → drop (commands_among exchanges) replies ≡ got ++ more → IsGiven exchange (drop (0 + commands_among exchanges) replies)
       given_behind (Call command times, outcome) got more given fits last left =
-          given ∙ sym (given_same times got more (omega (arith, fits, given)) (λ low. last (omega (arith, low, given)))) ∙ ap (times_given times) (sym left ∙ ap (λ (n : ℕ). drop n replies) (let e : commands_among exchanges ≡ 0 + commands_among exchanges = omega arith in e))
+          given ∙ sym (given_same times got more (omega (arith, fits, given)) (λ low. last (omega (arith, low, given)))) ∙ ap (times_given times)
+          (sym left ∙ ap (λ (n : ℕ). drop n replies) (let e : commands_among exchanges ≡ 0 + commands_among exchanges = omega arith in e))
       given_behind (Ask inquiry, outcome) got more given fits last left = tt
       given_behind (Seat chosen, outcome) got more given fits last left = tt
       given_behind (Help about, outcome) got more given fits last left = tt
@@ -265,21 +315,28 @@ module _ (Answers : RunView → Inquiry → List ℕ → Type 0) (style : StyleV
 
       -- ---- a line was done
 
-      module _ (more : List ToldReply) (may : MoreMayFollow more new) where
-        pub commands_done : (exchange : Exchange) (got : List ToldReply) → drop (commands_among exchanges) replies ≡ got ++ more → HasDone Answers seat old exchange got new → HasExchanges Answers style (part_with replies old) exchanges → HasExchanges Answers style (part_with replies new) (exchanges ++ exchange ∷ [])
+      module _ (more : List ReplyView) (may : MoreMayFollow more new) where
+        pub commands_done : (exchange : Exchange) (got : List ReplyView) → drop (commands_among exchanges) replies ≡ got ++ more
+            → HasDone Answers seat old exchange got new → HasExchanges Answers style (part_with replies old) exchanges
+            → HasExchanges Answers style (part_with replies new) (exchanges ++ exchange ∷ [])
         commands_done exchange got left done has =
             let few : given_at exchange ≡ 0 → length new.calls ≤ commands_among exchanges = (λ nothing.
             let short = none got (omega (arith, done.fits, nothing)) in
-            let same : new.calls ≡ old.calls = done.calls.calls ∙ ap (λ (g : List ToldReply). old.calls ++ entries_of seat exchange.0 (length g)) short ∙ ap (λ (made : List Entry). old.calls ++ made) (no_entry seat exchange.0) ∙ append-nil old.calls in
+            let same : new.calls ≡ old.calls =
+            done.calls.calls ∙ ap (λ (g : List ReplyView). old.calls ++ entries_of seat exchange.0 (length g)) short
+            ∙ ap (λ (made : List Entry). old.calls ++ made) (no_entry seat exchange.0) ∙ append-nil old.calls in
             omega (arith, ap length same, no_more_than old has.0)) in (
               has_more old new exchange got done.calls done.fits done.full has.0,
               one_told (IsDoneAfter Answers (part_with replies new)) 0 exchanges exchange (told_later exchange.0 got done.calls has)
                   (told_at exchange done.answer few, given_behind exchange got more done.given done.fits (λ low. may (done.full low)) left),
             )
 
-      nothing_lost : (request : Request) (got : List ToldReply) → HasGot seat old request got new → got ≡ [] → HasExchanges Answers style (part_with replies old) exchanges → HasExchanges Answers style (part_with replies new) exchanges
+      nothing_lost : (request : Request) (got : List ReplyView) → HasGot seat old request got new → got ≡ []
+          → HasExchanges Answers style (part_with replies old) exchanges → HasExchanges Answers style (part_with replies new) exchanges
       nothing_lost request got calls nothing has =
-          let same : new.calls ≡ old.calls = calls.calls ∙ ap (λ (g : List ToldReply). old.calls ++ entries_of seat request (length g)) nothing ∙ ap (λ (made : List Entry). old.calls ++ made) (no_entry seat request) ∙ append-nil old.calls in (
+          let same : new.calls ≡ old.calls =
+          calls.calls ∙ ap (λ (g : List ReplyView). old.calls ++ entries_of seat request (length g)) nothing
+          ∙ ap (λ (made : List Entry). old.calls ++ made) (no_entry seat request) ∙ append-nil old.calls in (
             elim has.0 [
               | inl all ↦ inl (same ∙ all)
               | inr some ↦ inr ((calls.full some.0).1, some.1, some.2 ∙ ap (λ (front : List Entry). front ++ some.1) (sym same))
@@ -287,11 +344,20 @@ module _ (Answers : RunView → Inquiry → List ℕ → Type 0) (style : StyleV
             told_later request got calls has,
           )
 
-      pub commands_lost : (request : Request) (begun : HasBegun seat old request new) → drop (commands_among exchanges) replies ≡ begun.got ++ [] → HasExchanges Answers style (part_with replies old) exchanges → HasPart exchanges replies new request
+      pub commands_lost : (request : Request) (begun : HasBegun seat old request new) → drop (commands_among exchanges) replies ≡ begun.got ++ []
+          → HasExchanges Answers style (part_with replies old) exchanges → HasPart exchanges replies new request
       commands_lost (Call command times) begun left has =
           let got = begun.got in
           let exchange : Exchange = (Call command (length got), record { given = length got; answer = [] }) in
-          let done : HasDone Answers seat old exchange got new = record { calls = begun.calls; given = sym begun.due.1; fits = omega arith; full = λ low. absurd (omega (arith, low)); answer = λ inquiry asks. absurd cc } in
+          let done : HasDone Answers seat old exchange got new =
+          record {
+            calls = begun.calls;
+            given = sym begun.due.1;
+            fits = omega arith;
+            full =
+                λ low. absurd (omega (arith, low));
+            answer = λ inquiry asks. absurd cc;
+          } in
           inr (exchange, commands_done [] (λ full. refl) exchange got left done has, λ line asks. (times, begun.due.0, asks))
       commands_lost (Ask inquiry) begun left has = inl (nothing_lost (Ask inquiry) begun.got begun.calls begun.due has)
       commands_lost (Seat chosen) begun left has = inl (nothing_lost (Seat chosen) begun.got begun.calls begun.due has)
@@ -302,7 +368,7 @@ module _ (Answers : RunView → Inquiry → List ℕ → Type 0) (style : StyleV
 
 -- ---- what was done was begun
 
-no_more_given : (times : ℕ) (replies : List ToldReply) → times_given times replies ≤ times
+no_more_given : (times : ℕ) (replies : List ReplyView) → times_given times replies ≤ times
 no_more_given zero replies = omega arith
 no_more_given (suc times) [] = omega arith
 no_more_given (suc times) (reply ∷ replies) = at_most (is_refused reply) (times_given times replies) times (no_more_given times replies)
@@ -311,16 +377,18 @@ no_more_given (suc times) (reply ∷ replies) = at_most (is_refused reply) (time
     at_most true count most few = omega arith
     at_most false count most few = omega (arith, few)
 
-all_given : (times : ℕ) (got : List ToldReply) → length got ≤ times_given times got → times_given (length got) got ≡ length got
+all_given : (times : ℕ) (got : List ReplyView) → length got ≤ times_given times got → times_given (length got) got ≡ length got
 all_given times [] fits = refl
 all_given zero (reply ∷ got) fits = absurd (omega (arith, fits))
 all_given (suc times) (reply ∷ got) fits = whole (is_refused reply) got (times_given times got) (all_given times got) fits
   where
-    whole : (refused : Bool) (got : List ToldReply) (here : ℕ) → (length got ≤ here → times_given (length got) got ≡ length got) → suc (length got) ≤ first_and refused here → first_and refused (times_given (length got) got) ≡ suc (length got)
+    whole : (refused : Bool) (got : List ReplyView) (here : ℕ) → (length got ≤ here → times_given (length got) got ≡ length got)
+        → suc (length got) ≤ first_and refused here → first_and refused (times_given (length got) got) ≡ suc (length got)
     whole true got here rest fits = let few : length got ≡ 0 = omega (arith, fits) in omega (arith, few)
     whole false got here rest fits = let e = rest (omega (arith, fits)) in omega (arith, e)
 
-pub begun_where_done : (Answers : RunView → Inquiry → List ℕ → Type 0) (seat : ℕ) (old new : Part) (request : Request) (outcome : Outcome) (got : List ToldReply) → HasDone Answers seat old (request, outcome) got new → HasBegun seat old request new
+pub begun_where_done : (Answers : RunView → Inquiry → List ℕ → Type 0) (seat : ℕ) (old new : Part) (request : Request)
+    (outcome : Outcome) (got : List ReplyView) → HasDone Answers seat old (request, outcome) got new → HasBegun seat old request new
 begun_where_done Answers seat old new (Call command times) outcome got done =
     let fits : length got ≤ times_given times got = omega (arith, done.fits, done.given) in
     record { got = got; calls = done.calls; due = (let few = no_more_given times got in omega (arith, fits, few), all_given times got fits) }

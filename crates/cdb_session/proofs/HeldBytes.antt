@@ -16,7 +16,8 @@ take_min n xs =
     ]
 
 -- as much more as there is room for is the beginning of all
-pub fill : (most count : ℕ) (unfinished bytes : List ℕ) → length unfinished ≤ most → count ≡ min (length bytes) (most - length unfinished) → unfinished ++ take count bytes ≡ take most (unfinished ++ bytes)
+pub fill : (most count : ℕ) (unfinished bytes : List ℕ) → length unfinished ≤ most
+    → count ≡ min (length bytes) (most - length unfinished) → unfinished ++ take count bytes ≡ take most (unfinished ++ bytes)
 fill most count unfinished bytes room is =
     let whole : length unfinished + (most - length unfinished) ≡ most = omega (arith, room) in
     ap (λ n. unfinished ++ take n bytes) is ∙ ap (λ more. unfinished ++ more) (take_min (most - length unfinished) bytes)

@@ -1,5 +1,6 @@
 -- The lines that ask for the help, and what it says about a word.
-use Rattle.std.proofs.Common.{◌≡◌, inl, inr, ℕ, ◌+◌, ◌<◌, ◌≤◌, Bool, true, List, [], ◌∷◌, ◌++◌, length, take, drop, map, get_or, Bor, refl, sym, ap, subst, ◌∙◌, append_assoc, append-nil, take-append-drop, arith}
+use Rattle.std.proofs.Common.{◌≡◌, inl, inr, ℕ, ◌+◌, ◌<◌, ◌≤◌, Bool, true, List, [], ◌∷◌, ◌++◌, length, take, drop, map}
+use Rattle.std.proofs.Common.{get_or, Bor, refl, sym, ap, subst, ◌∙◌, append_assoc, append-nil, take-append-drop, arith}
 use Rattle.std.specs.Prelude.{codes, find, Option, None, Some}
 use Rattle.std.specs.List.{flat_map}
 use Rattle.std.proofs.lemmas.Bool.{cases_Bool}
@@ -64,7 +65,8 @@ unfolding topic_of
 topic_says word t e = (bytes_eq-Decides word (topic_word t)).0 (found_is (λ its. bytes_eq word (topic_word its)) topics t e)
 
 pub is_help : (line : List ℕ) (t : Topic) → take 5 line ≡ codes "help " → topic_of (drop 5 line) ≡ Some t → line ≡ help_line (Some t)
-is_help line t front said = sym (take-append-drop 5 line) ∙ ap (λ text. text ++ drop 5 line) front ∙ ap (λ text. codes "help " ++ text) (topic_says (drop 5 line) t said)
+is_help line t front said =
+    sym (take-append-drop 5 line) ∙ ap (λ text. text ++ drop 5 line) front ∙ ap (λ text. codes "help " ++ text) (topic_says (drop 5 line) t said)
 
 pub is_no_help : (line : List ℕ) → 5 ≤ length line → topic_of (drop 5 line) ≡ None → (about : Option Topic) → line ≡ help_line about → ⊥
 is_no_help line long none None is = omega (arith, long, ap length is)

@@ -9,7 +9,7 @@ use Rattle.std.proofs.lemmas.Slice.Eq.{bytes_eq-Decides}
 use Rattle.cdb_base.specs.declared.question.StepAsked.{StepAsked}
 use Rattle.cdb_text.specs.Commands.{number}
 use Rattle.cdb_text.specs.Grammar.{IsInRange, part_text, words_of}
-use Rattle.cdb_text.specs.Reading.{number_of}
+use Rattle.cdb_text.specs.Readers.{number_of}
 use Rattle.cdb_text.proofs.Cut.{some_word}
 use Rattle.cdb_text.proofs.Numbers.{number_again, number_says}
 use Rattle.cdb_session.specs.Inquiries.{AreStepWords, IsInquiryLine, inquiry_word, numbers_of, step_asked}
@@ -30,13 +30,16 @@ first_of_words (byte ∷ word) (other ∷ others) some = refl
 
 first_byte : (line : List ℕ) (inquiry : Inquiry) → IsInquiryLine inquiry line → get_or line 0 0 ≡ get_or (inquiry_word inquiry) 0 0
 first_byte line (Explain step) (others, is, words) =
-    ap (λ bytes. get_or bytes 0 0) (sym (join_with_byte-slice_split 32 line) ∙ ap (join_with_byte 32) is) ∙ first_of_words (codes "explain") others (omega arith)
+    ap (λ bytes. get_or bytes 0 0) (sym (join_with_byte-slice_split 32 line) ∙ ap (join_with_byte 32) is)
+    ∙ first_of_words (codes "explain") others (omega arith)
 first_byte line (Trail step) (others, is, words) =
     ap (λ bytes. get_or bytes 0 0) (sym (join_with_byte-slice_split 32 line) ∙ ap (join_with_byte 32) is) ∙ first_of_words (codes "trail") others (omega arith)
 
 -- no line of another kind begins with that byte
-begins_so : (line other : List ℕ) (byte : ℕ) (inquiry : Inquiry) → IsInquiryLine inquiry line → line ≡ other → get_or other 0 0 ≡ byte → byte ≢ 101 → byte ≢ 116 → ⊥
-begins_so line other byte (Explain step) is same first no_e no_t = no_e (sym first ∙ ap (λ bytes. get_or bytes 0 0) (sym same) ∙ first_byte line (Explain step) is)
+begins_so : (line other : List ℕ) (byte : ℕ) (inquiry : Inquiry) → IsInquiryLine inquiry line
+    → line ≡ other → get_or other 0 0 ≡ byte → byte ≢ 101 → byte ≢ 116 → ⊥
+begins_so line other byte (Explain step) is same first no_e no_t =
+    no_e (sym first ∙ ap (λ bytes. get_or bytes 0 0) (sym same) ∙ first_byte line (Explain step) is)
 begins_so line other byte (Trail step) is same first no_e no_t = no_t (sym first ∙ ap (λ bytes. get_or bytes 0 0) (sym same) ∙ first_byte line (Trail step) is)
 
 pub no_help : (line : List ℕ) (inquiry : Inquiry) → IsInquiryLine inquiry line → (about : Option Topic) → line ≡ help_line about → ⊥
@@ -68,14 +71,16 @@ words_say first (Some p) step reads e =
     let same : step_with p None ≡ step = cc in
     subst (λ (s : StepAsked). AreStepWords s (first ∷ [])) same (record { are = ap (λ (word : List ℕ). word ∷ []) says.0; in_range = ((says.1, says.2), tt) })
 
-both_say : (first second : List ℕ) (found other : Option ℕ) (step : StepAsked) → number_of first ≡ found → number_of second ≡ other → numbered_step found other ≡ Some step → AreStepWords step (first ∷ second ∷ [])
+both_say : (first second : List ℕ) (found other : Option ℕ) (step : StepAsked) → number_of first ≡ found
+    → number_of second ≡ other → numbered_step found other ≡ Some step → AreStepWords step (first ∷ second ∷ [])
 both_say first second None other step reads and_reads e = cc
 both_say first second (Some p) None step reads and_reads e = cc
 both_say first second (Some p) (Some k) step reads and_reads e =
     let says = number_says first p reads in
     let and_says = number_says second k and_reads in
     let same : step_with p (Some k) ≡ step = cc in
-    subst (λ (s : StepAsked). AreStepWords s (first ∷ second ∷ [])) same (record { are = (λ i. says.0 i ∷ and_says.0 i ∷ []); in_range = ((says.1, says.2), ((and_says.1, and_says.2), tt)) })
+    subst (λ (s : StepAsked). AreStepWords s (first ∷ second ∷ [])) same
+    (record { are = (λ i. says.0 i ∷ and_says.0 i ∷ []); in_range = ((says.1, says.2), ((and_says.1, and_says.2), tt)) })
 
 step_says : (words : List (List ℕ)) (step : StepAsked) → step_in words ≡ Some step → AreStepWords step words
 unfolding step_in
@@ -94,19 +99,22 @@ inquiry_again line (Trail step) (others, is, words) = ap inquiry_in is ∙ ap (o
 pub one_inquiry : (line : List ℕ) (one other : Inquiry) → IsInquiryLine one line → IsInquiryLine other line → one ≡ other
 one_inquiry line one other is is_other = let e = sym (inquiry_again line one is) ∙ inquiry_again line other is_other in cc
 
-explains : (others : List (List ℕ)) (found : Option StepAsked) (inquiry : Inquiry) → step_in others ≡ found → option_map Explain found ≡ Some inquiry → (inquiry_word inquiry ≡ codes "explain") × AreStepWords (step_asked inquiry) others
+explains : (others : List (List ℕ)) (found : Option StepAsked) (inquiry : Inquiry) → step_in others ≡ found
+    → option_map Explain found ≡ Some inquiry → (inquiry_word inquiry ≡ codes "explain") × AreStepWords (step_asked inquiry) others
 explains others None inquiry reads e = cc
 explains others (Some step) inquiry reads e =
     let same : Explain step ≡ inquiry = cc in
     subst (λ (i : Inquiry). (inquiry_word i ≡ codes "explain") × AreStepWords (step_asked i) others) same (refl, step_says others step reads)
 
-trails : (others : List (List ℕ)) (found : Option StepAsked) (inquiry : Inquiry) → step_in others ≡ found → option_map Trail found ≡ Some inquiry → (inquiry_word inquiry ≡ codes "trail") × AreStepWords (step_asked inquiry) others
+trails : (others : List (List ℕ)) (found : Option StepAsked) (inquiry : Inquiry) → step_in others ≡ found
+    → option_map Trail found ≡ Some inquiry → (inquiry_word inquiry ≡ codes "trail") × AreStepWords (step_asked inquiry) others
 trails others None inquiry reads e = cc
 trails others (Some step) inquiry reads e =
     let same : Trail step ≡ inquiry = cc in
     subst (λ (i : Inquiry). (inquiry_word i ≡ codes "trail") × AreStepWords (step_asked i) others) same (refl, step_says others step reads)
 
-words_ask : (words : List (List ℕ)) (inquiry : Inquiry) → inquiry_in words ≡ Some inquiry → (others : List (List ℕ)) × (words ≡ inquiry_word inquiry ∷ others) × AreStepWords (step_asked inquiry) others
+words_ask : (words : List (List ℕ)) (inquiry : Inquiry) → inquiry_in words ≡ Some inquiry
+    → (others : List (List ℕ)) × (words ≡ inquiry_word inquiry ∷ others) × AreStepWords (step_asked inquiry) others
 unfolding inquiry_in
 words_ask [] inquiry e = cc
 words_ask (word ∷ others) inquiry e =
@@ -142,15 +150,18 @@ too_many words first second rest is = sym (ap step_in is ∙ no_third first seco
 
 first_of_repeat : (line : List ℕ) (p times : ℕ) → IsRepeatLine p times line → get_or line 0 0 ≡ 97
 first_of_repeat line p times is =
-    ap (λ bytes. get_or bytes 0 0) (sym (join_with_byte-slice_split 32 line) ∙ ap (join_with_byte 32) is.0) ∙ first_of_words (codes "auto") (map part_text (number p ∷ number times ∷ [])) (omega arith)
+    ap (λ bytes. get_or bytes 0 0) (sym (join_with_byte-slice_split 32 line) ∙ ap (join_with_byte 32) is.0)
+    ∙ first_of_words (codes "auto") (map part_text (number p ∷ number times ∷ [])) (omega arith)
 
 -- such a line is none of the others
 pub repeats_no_other : (line other : List ℕ) (byte p times : ℕ) → IsRepeatLine p times line → line ≡ other → get_or other 0 0 ≡ byte → byte ≢ 97 → ⊥
 repeats_no_other line other byte p times is same first no_a = no_a (sym first ∙ ap (λ bytes. get_or bytes 0 0) (sym same) ∙ first_of_repeat line p times is)
 
 pub repeats_no_inquiry : (line : List ℕ) (inquiry : Inquiry) (p times : ℕ) → IsInquiryLine inquiry line → IsRepeatLine p times line → ⊥
-repeats_no_inquiry line (Explain step) p times is repeats = let e : 101 ≡ 97 = sym (first_byte line (Explain step) is) ∙ first_of_repeat line p times repeats in omega (arith, e)
-repeats_no_inquiry line (Trail step) p times is repeats = let e : 116 ≡ 97 = sym (first_byte line (Trail step) is) ∙ first_of_repeat line p times repeats in omega (arith, e)
+repeats_no_inquiry line (Explain step) p times is repeats = let e : 101 ≡ 97 = sym (first_byte line (Explain step) is) ∙ first_of_repeat line p times repeats in
+    omega (arith, e)
+repeats_no_inquiry line (Trail step) p times is repeats = let e : 116 ≡ 97 = sym (first_byte line (Trail step) is) ∙ first_of_repeat line p times repeats in
+    omega (arith, e)
 
 pub repeat_again : (line : List ℕ) (p times : ℕ) → IsRepeatLine p times line → repeat_in (words_of line) ≡ Some (p, times)
 unfolding repeat_in
@@ -163,17 +174,20 @@ pub one_repeat : (line : List ℕ) (p times q count : ℕ) → IsRepeatLine p ti
 one_repeat line p times q count is other =
     same_pair (p, times) (q, count) (sym (repeat_again line p times is) ∙ repeat_again line q count other)
 
-counted_in : (others : List (List ℕ)) (q : ℕ) (k : Option ℕ) (p times : ℕ) → step_in others ≡ Some (step_with q k) → with_count (Some (step_with q k)) ≡ Some (p, times) → AreStepWords (step_with p (Some times)) others
+counted_in : (others : List (List ℕ)) (q : ℕ) (k : Option ℕ) (p times : ℕ) → step_in others ≡ Some (step_with q k)
+    → with_count (Some (step_with q k)) ≡ Some (p, times) → AreStepWords (step_with p (Some times)) others
 counted_in others q None p times reads e = cc
 counted_in others q (Some n) p times reads e =
     let same : ◌≡◌ {A = ℕ × ℕ} (q, n) (p, times) = cc in
     step_says others (step_with p (Some times)) (reads ∙ (λ i. Some (step_with (same i).0 (Some (same i).1))))
 
-counted : (others : List (List ℕ)) (found : Option StepAsked) (p times : ℕ) → step_in others ≡ found → with_count found ≡ Some (p, times) → AreStepWords (step_with p (Some times)) others
+counted : (others : List (List ℕ)) (found : Option StepAsked) (p times : ℕ) → step_in others ≡ found
+    → with_count found ≡ Some (p, times) → AreStepWords (step_with p (Some times)) others
 counted others None p times reads e = cc
 counted others (Some step) p times reads e = counted_in others step.p step.k p times reads e
 
-words_repeat : (words : List (List ℕ)) (p times : ℕ) → repeat_in words ≡ Some (p, times) → (words ≡ map part_text (repeat_parts p times)) × AllByRecursion IsInRange (repeat_parts p times)
+words_repeat : (words : List (List ℕ)) (p times : ℕ) → repeat_in words ≡ Some (p, times)
+    → (words ≡ map part_text (repeat_parts p times)) × AllByRecursion IsInRange (repeat_parts p times)
 unfolding repeat_in
 words_repeat [] p times e = cc
 words_repeat (word ∷ others) p times e =

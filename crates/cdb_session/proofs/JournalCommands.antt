@@ -1,5 +1,6 @@
 -- The journal of a session grows by its commands.
-use Rattle.std.proofs.Common.{◌≡◌, ℕ, zero, suc, ◌<◌, ◌≤◌, ◌==◌, Bool, true, false, List, [], ◌∷◌, ◌++◌, length, take, refl, sym, ap, ◌∙◌, append_assoc, append-nil, arith, length-append}
+use Rattle.std.proofs.Common.{◌≡◌, ℕ, zero, suc, ◌<◌, ◌≤◌, ◌==◌, Bool, true, false, List, [], ◌∷◌, ◌++◌, length}
+use Rattle.std.proofs.Common.{take, refl, sym, ap, ◌∙◌, append_assoc, append-nil, arith, length-append}
 use Rattle.std.specs.Prelude.{replicate, if◌then◌else◌}
 use Rattle.std.proofs.lemmas.Bool.Decides.{Decides-eqb}
 use Rattle.std.proofs.lemmas.List.{take_all, take-append-le}
@@ -22,7 +23,8 @@ pick most true c d one others full is =
     take-append-le most c.journal others (full refl) ∙ sym (take-append-le most c.journal (one ∷ others) (full refl))
 pick most false c d one others full is = ap (λ front. take most (front ++ others)) is ∙ ap (take most) (append_assoc c.journal (one ∷ []) others)
 
-fits : (most : ℕ) (b : Bool) (c d : Journaled) (one : Entry) → (b ≡ false → length c.journal < most) → length c.journal ≤ most → d.journal ≡ c.journal ++ one ∷ []
+fits : (most : ℕ) (b : Bool) (c d : Journaled) (one : Entry) → (b ≡ false → length c.journal < most)
+    → length c.journal ≤ most → d.journal ≡ c.journal ++ one ∷ []
     → let now : Journaled = if b then c else d in length now.journal ≤ most
 fits most true c d one room few is = few
 fits most false c d one room few is = omega (arith, room refl, ap length is, length-append c.journal (one ∷ []))
@@ -31,21 +33,29 @@ not_full : (n most : ℕ) → n ≤ most → (n == most) ≡ false → n < most
 not_full n most few other = grind arith
 
 -- a command that is given several times
-pub fits_one : (rules : Parts → Rules) (seat : ℕ) (command : Command) (c : Journaled) → length c.journal ≤ MAX_ENTRIES → length (control_behind rules seat command c).journal ≤ MAX_ENTRIES
-fits_one rules seat command c few = fits MAX_ENTRIES (length c.journal == MAX_ENTRIES) c (extended rules c seat command) (entry seat command) (λ no. not_full (length c.journal) MAX_ENTRIES few no) few refl
+pub fits_one : (rules : Parts → Rules) (seat : ℕ) (command : Command) (c : Journaled)
+    → length c.journal ≤ MAX_ENTRIES → length (control_behind rules seat command c).journal ≤ MAX_ENTRIES
+fits_one rules seat command c few =
+    fits MAX_ENTRIES (length c.journal == MAX_ENTRIES) c (extended rules c seat command)
+    (entry seat command) (λ no. not_full (length c.journal) MAX_ENTRIES few no) few refl
 
-grown_one : (rules : Parts → Rules) (seat : ℕ) (command : Command) (c : Journaled) (others : List Entry) → take MAX_ENTRIES ((control_behind rules seat command c).journal ++ others) ≡ take MAX_ENTRIES (c.journal ++ entry seat command ∷ others)
+grown_one : (rules : Parts → Rules) (seat : ℕ) (command : Command) (c : Journaled) (others : List Entry)
+    → take MAX_ENTRIES ((control_behind rules seat command c).journal ++ others) ≡ take MAX_ENTRIES (c.journal ++ entry seat command ∷ others)
 grown_one rules seat command c others =
-    pick MAX_ENTRIES (length c.journal == MAX_ENTRIES) c (extended rules c seat command) (entry seat command) others (λ yes. let e = (Decides-eqb (length c.journal) MAX_ENTRIES).0 yes in omega (arith, e)) refl
+    pick MAX_ENTRIES (length c.journal == MAX_ENTRIES) c (extended rules c seat command) (entry seat command)
+    others (λ yes. let e = (Decides-eqb (length c.journal) MAX_ENTRIES).0 yes in omega (arith, e)) refl
 
-pub grown_all : (rules : Parts → Rules) (seat : ℕ) (command : Command) (c : Journaled) (count : ℕ) (others : List Entry) → length c.journal ≤ MAX_ENTRIES → let now = control_behind_all rules seat command c count in
-    (take MAX_ENTRIES (now.journal ++ others) ≡ take MAX_ENTRIES (c.journal ++ (replicate count (entry seat command) ++ others))) × (length now.journal ≤ MAX_ENTRIES)
+pub grown_all : (rules : Parts → Rules) (seat : ℕ) (command : Command) (c : Journaled) (count : ℕ) (others : List Entry)
+    → length c.journal ≤ MAX_ENTRIES → let now = control_behind_all rules seat command c count in
+    (take MAX_ENTRIES (now.journal ++ others) ≡ take MAX_ENTRIES (c.journal ++ (replicate count (entry seat command) ++ others)))
+    × (length now.journal ≤ MAX_ENTRIES)
 grown_all rules seat command c zero others few = (refl, few)
 grown_all rules seat command c (suc count) others few =
     let more = grown_all rules seat command (control_behind rules seat command c) count others (fits_one rules seat command c few) in
     (more.0 ∙ grown_one rules seat command c (replicate count (entry seat command) ++ others), more.1)
 
-pub grown : (s : Session) (exchanges : List Exchange) → length s.control.journal ≤ MAX_ENTRIES → (session_after s exchanges).control.journal ≡ take MAX_ENTRIES (s.control.journal ++ all_asked true s.seat exchanges)
+pub grown : (s : Session) (exchanges : List Exchange) → length s.control.journal ≤ MAX_ENTRIES
+    → (session_after s exchanges).control.journal ≡ take MAX_ENTRIES (s.control.journal ++ all_asked true s.seat exchanges)
 grown s [] few = sym (ap (take MAX_ENTRIES) (append-nil s.control.journal) ∙ take_all MAX_ENTRIES s.control.journal few)
 grown s ((Call command times, outcome) ∷ exchanges) few =
     let more = grown_all s.rules s.seat command s.control outcome.given (all_asked true s.seat exchanges) few in

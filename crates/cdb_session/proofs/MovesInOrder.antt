@@ -1,10 +1,12 @@
 -- Moves one after the other.
-use Rattle.std.proofs.Common.{◌≡◌, ℕ, ◌⊎◌, inl, inr, Bool, List, [], ◌∷◌, ◌++◌, length, refl, sym, ap, subst, ◌∙◌, append_assoc, append-nil, arith, length-append, Option, Some, None}
+use Rattle.std.proofs.Common.{◌≡◌, ℕ, ◌⊎◌, inl, inr, Bool, List, [], ◌∷◌, ◌++◌, length, refl, sym, ap, subst}
+use Rattle.std.proofs.Common.{◌∙◌, append_assoc, append-nil, arith, length-append, Option, Some, None}
 use Rattle.std.specs.Io.KnownBytes.{Appends, Consumes}
 use Rattle.std.proofs.KnownBytes.{Appends-nil, Appends-trans, Consumes-nil, Consumes-trans}
 use Rattle.std.proofs.lemmas.Grind.{flat_map-append, fold-append}
 use Rattle.cdb_streams.specs.Streams.{counted}
-use Rattle.cdb_session.specs.Moves.{Known, Move, Read, ReadFailed, Wrote, WriteFailed, given_by, written_by, read_in, written_in, AsksForInput, AreWrites, EndsWith, FindsTheEnd, Continues, AreAllOf, Makes, count_on, is_failed_read, is_failed_write}
+use Rattle.cdb_session.specs.Moves.{Known, Move, Read, ReadFailed, Wrote, WriteFailed, given_by, written_by, read_in, written_in, AsksForInput}
+use Rattle.cdb_session.specs.Moves.{AreWrites, EndsWith, FindsTheEnd, Continues, AreAllOf, Makes, count_on, is_failed_read, is_failed_write}
 
 -- such a property holds at each move that asks, of those before it
 abbrev pub AtEachAsk : (List Move → Type 0) → List Move → Type 0
@@ -71,7 +73,8 @@ Continues-more (Some old) (Some now) None made more e f = absurd f
 Continues-more (Some old) (Some now) (Some new) made more e f = f ∙ ap (λ moves. moves ++ more) e ∙ append_assoc old made more
 
 -- the count of such moves goes on
-count_more : (is_such : Move → Bool) (old now new : ℕ) (made more : List Move) → now ≡ count_on is_such old made → new ≡ count_on is_such now more → new ≡ count_on is_such old (made ++ more)
+count_more : (is_such : Move → Bool) (old now new : ℕ) (made more : List Move)
+    → now ≡ count_on is_such old made → new ≡ count_on is_such now more → new ≡ count_on is_such old (made ++ more)
 count_more is_such old now new made more e f =
     f ∙ ap (λ count. count_on is_such count more) e ∙ sym (fold-append (λ count move. counted (is_such move) count) old made more)
 
@@ -140,9 +143,12 @@ Makes-nothing known = record {
 pub Makes-more : (old now new : Known) (made more : List Move) → Makes old now made → Makes now new more → Makes old new (made ++ more)
 Makes-more old now new made more e f = record {
   moves = Continues-more old.moves now.moves new.moves made more e.moves f.moves;
-  left = subst (Consumes old.left new.left) (sym (read-append made more)) (Consumes-trans old.left now.left new.left (read_in made) (read_in more) e.left f.left);
+  left =
+      subst (Consumes old.left new.left) (sym (read-append made more)) (Consumes-trans old.left now.left new.left (read_in made) (read_in more) e.left f.left);
   all = all_read old.left now.left made more e.left e.all f.all;
-  held = subst (Appends old.held new.held) (sym (written-append made more)) (Appends-trans old.held now.held new.held (written_in made) (written_in more) e.held f.held);
+  held =
+      subst (Appends old.held new.held) (sym (written-append made more))
+      (Appends-trans old.held now.held new.held (written_in made) (written_in more) e.held f.held);
   failed_reads = count_more is_failed_read old.failed_reads now.failed_reads new.failed_reads made more e.failed_reads f.failed_reads;
   failed_writes = count_more is_failed_write old.failed_writes now.failed_writes new.failed_writes made more e.failed_writes f.failed_writes;
 }

@@ -24,7 +24,8 @@ first : (line one other : List ℕ) → line ≡ one → line ≡ other → get_
 first line one other is is_other = ap (λ bytes. get_or bytes 0 0) (sym is ∙ is_other)
 
 -- a line of a session's own that asks for a command repeats it
-pub repeats : (line : List ℕ) (command : Command) (times : ℕ) → Means (Call command times) line → IsOwn line → (p : ℕ) × (command ≡ Auto p) × IsRepeatLine p times line
+pub repeats : (line : List ℕ) (command : Command) (times : ℕ) → Means (Call command times) line
+    → IsOwn line → (p : ℕ) × (command ≡ Auto p) × IsRepeatLine p times line
 repeats line command times (inl once) own = absurd (once.0 own)
 repeats line command times (inr repeat) own = repeat
 
@@ -40,35 +41,33 @@ module _ (line : List ℕ) where
 
   module _ (few : length line ≤ longest) where
     pub only_help : (about : Option Topic) → line ≡ help_line about → (other : Request) → AsksFor other line → other ≡ Help about
-    only_help about is (Call command times) asks = absurd (let r = repeats line command times asks.1 (inl (about, is)) in repeats_no_other line (help_line about) 104 r.0 times r.2 is (begins_with_h about) (λ e. omega (arith, e)))
+    only_help about is (Call command times) asks =
+        absurd (let r = repeats line command times asks.1 (inl (about, is)) in
+        repeats_no_other line (help_line about) 104 r.0 times r.2 is (begins_with_h about) (λ e. omega (arith, e)))
     only_help about is (Ask inquiry) asks = absurd (no_help line inquiry asks.1 about is)
-    only_help about is (Seat seat) asks = absurd (let e : 104 ≡ 115 = sym (begins_with_h about) ∙ first line (help_line about) (seat_line seat) is asks.1.1 in omega (arith, e))
+    only_help about is (Seat seat) asks =
+        absurd (let e : 104 ≡ 115 = sym (begins_with_h about) ∙ first line (help_line about) (seat_line seat) is asks.1.1 in omega (arith, e))
     only_help about is (Help another) asks = ap (λ (o : Option Topic). Help o) (same_topic another about (sym asks.1 ∙ is))
     only_help about is Quit asks = absurd (let e : 104 ≡ 113 = sym (begins_with_h about) ∙ first line (help_line about) quit_line is asks.1 in omega (arith, e))
     only_help about is (Fault fault) asks = absurd (asks.1.0 (inl (about, is)))
     only_help about is TooLong asks = absurd (omega (arith, few, asks))
 
-    pub only_quit : line ≡ quit_line → (other : Request) → AsksFor other line → other ≡ Quit
-    only_quit is (Call command times) asks = absurd (let r = repeats line command times asks.1 (inr (inl is)) in repeats_no_other line quit_line 113 r.0 times r.2 is refl (λ e. omega (arith, e)))
-    only_quit is (Ask inquiry) asks = absurd (no_quit line inquiry asks.1 is)
-    only_quit is (Seat seat) asks = absurd (let e : 113 ≡ 115 = first line quit_line (seat_line seat) is asks.1.1 in omega (arith, e))
-    only_quit is (Help about) asks = absurd (let e : 113 ≡ 104 = first line quit_line (help_line about) is asks.1 ∙ begins_with_h about in omega (arith, e))
-    only_quit is Quit asks = refl
-    only_quit is (Fault fault) asks = absurd (asks.1.0 (inr (inl is)))
-    only_quit is TooLong asks = absurd (omega (arith, few, asks))
-
     pub only_seat : (seat : ℕ) → IsWithin 1 most_seats seat → line ≡ seat_line seat → (other : Request) → AsksFor other line → other ≡ Seat seat
-    only_seat seat within is (Call command times) asks = absurd (let r = repeats line command times asks.1 (inr (inr (inl (seat, within, is)))) in repeats_no_other line (seat_line seat) 115 r.0 times r.2 is refl (λ e. omega (arith, e)))
+    only_seat seat within is (Call command times) asks =
+        absurd (let r = repeats line command times asks.1 (inr (inr (inl (seat, within, is)))) in
+        repeats_no_other line (seat_line seat) 115 r.0 times r.2 is refl (λ e. omega (arith, e)))
     only_seat seat within is (Ask inquiry) asks = absurd (no_seat line inquiry asks.1 seat is)
     only_seat seat within is (Seat another) asks =
         let same : another ≡ seat = omega (arith, digit line seat within is, digit line another asks.1.0 asks.1.1) in ap (λ n. Seat n) same
-    only_seat seat within is (Help about) asks = absurd (let e : 115 ≡ 104 = first line (seat_line seat) (help_line about) is asks.1 ∙ begins_with_h about in omega (arith, e))
+    only_seat seat within is (Help about) asks =
+        absurd (let e : 115 ≡ 104 = first line (seat_line seat) (help_line about) is asks.1 ∙ begins_with_h about in omega (arith, e))
     only_seat seat within is Quit asks = absurd (let e : 115 ≡ 113 = first line (seat_line seat) quit_line is asks.1 in omega (arith, e))
     only_seat seat within is (Fault fault) asks = absurd (asks.1.0 (inr (inr (inl (seat, within, is)))))
     only_seat seat within is TooLong asks = absurd (omega (arith, few, asks))
 
     pub only_inquiry : (inquiry : Inquiry) → IsInquiryLine inquiry line → (other : Request) → AsksFor other line → other ≡ Ask inquiry
-    only_inquiry inquiry is (Call command times) asks = absurd (let r = repeats line command times asks.1 (inr (inr (inr (inl (inquiry, is))))) in repeats_no_inquiry line inquiry r.0 times is r.2)
+    only_inquiry inquiry is (Call command times) asks =
+        absurd (let r = repeats line command times asks.1 (inr (inr (inr (inl (inquiry, is))))) in repeats_no_inquiry line inquiry r.0 times is r.2)
     only_inquiry inquiry is (Ask another) asks = ap (λ (i : Inquiry). Ask i) (one_inquiry line another inquiry asks.1 is)
     only_inquiry inquiry is (Seat seat) asks = absurd (no_seat line inquiry is seat asks.1.1)
     only_inquiry inquiry is (Help about) asks = absurd (no_help line inquiry is about asks.1)
@@ -83,12 +82,14 @@ module _ (line : List ℕ) where
         (λ i. Call (r.1 i) (same.1 i)) ∙ ap (λ (q : ℕ). Call (Auto q) times) same.0
     only_repeat p times is (Ask inquiry) asks = absurd (repeats_no_inquiry line inquiry p times asks.1 is)
     only_repeat p times is (Seat seat) asks = absurd (repeats_no_other line (seat_line seat) 115 p times is asks.1.1 refl (λ e. omega (arith, e)))
-    only_repeat p times is (Help about) asks = absurd (repeats_no_other line (help_line about) 104 p times is asks.1 (begins_with_h about) (λ e. omega (arith, e)))
+    only_repeat p times is (Help about) asks =
+        absurd (repeats_no_other line (help_line about) 104 p times is asks.1 (begins_with_h about) (λ e. omega (arith, e)))
     only_repeat p times is Quit asks = absurd (repeats_no_other line quit_line 113 p times is asks.1 refl (λ e. omega (arith, e)))
     only_repeat p times is (Fault fault) asks = absurd (asks.1.0 (inr (inr (inr (inr (p, times, is))))))
     only_repeat p times is TooLong asks = absurd (omega (arith, few, asks))
 
-    module _ (other_line : ¬ IsOwn line) (read : Result Command LineFault) (command_is : (c : Command) → IsLineOf c line → read ≡ Ok c) (fault_is : (f : LineFault) → IsFaultOf f line → read ≡ Err f) where
+    module _ (other_line : ¬ IsOwn line) (read : Result Command LineFault)
+        (command_is : (c : Command) → IsLineOf c line → read ≡ Ok c) (fault_is : (f : LineFault) → IsFaultOf f line → read ≡ Err f) where
       once : (another : Command) (times : ℕ) → Means (Call another times) line → (read ≡ Ok another) × (times ≡ 1)
       once another times (inl one) = (command_is another one.1, one.2)
       once another times (inr (p, is, repeat)) = absurd (other_line (inr (inr (inr (inr (p, times, repeat))))))
@@ -113,5 +114,6 @@ module _ (line : List ℕ) where
       only_fault fault is Quit asks = absurd (other_line (inr (inl asks.1)))
       only_fault fault is (Fault another) asks =
           let same : another.fault ≡ fault = (let e = fault_is another.fault asks.1.1 in cc) in
-          ap (λ (line : List ℕ). Fault (record { line = line; fault = another.fault })) asks.1.2 ∙ ap (λ (fault : LineFault). Fault (record { line = line; fault = fault })) same
+          ap (λ (line : List ℕ). Fault (record { line = line; fault = another.fault })) asks.1.2
+          ∙ ap (λ (fault : LineFault). Fault (record { line = line; fault = fault })) same
       only_fault fault is TooLong asks = absurd (omega (arith, few, asks))

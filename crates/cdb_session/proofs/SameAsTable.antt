@@ -1,5 +1,6 @@
 -- With a control of its own, a session shows what the table of exchanges says.
-use Rattle.std.proofs.Common.{◌≡◌, inl, inr, ℕ, zero, suc, ◌+◌, ◌-◌, ◌<◌, ◌≤◌, ◌==◌, Bool, true, false, List, [], ◌∷◌, ◌++◌, length, take, drop, min, refl, sym, ap, subst, ◌∙◌, append_assoc, append-nil, arith, length-append}
+use Rattle.std.proofs.Common.{◌≡◌, inl, inr, ℕ, zero, suc, ◌+◌, ◌-◌, ◌<◌, ◌≤◌, ◌==◌, Bool, true, false, List, [], ◌∷◌, ◌++◌, length}
+use Rattle.std.proofs.Common.{take, drop, min, refl, sym, ap, subst, ◌∙◌, append_assoc, append-nil, arith, length-append}
 use Rattle.std.specs.Prelude.{if◌then◌else◌, replicate}
 use Rattle.std.proofs.lemmas.Bool.Decides.{Decides-eqb}
 use Rattle.std.proofs.lemmas.Grind.{fold-append}
@@ -7,7 +8,7 @@ use Rattle.std.proofs.Math.Seq.{drop-append_seam, take-append_seam, take-append-
 use Rattle.std.proofs.lemmas.Bool.{cases_Bool, cases_lt}
 use Rattle.std.proofs.lemmas.List.{drop-drop, length-drop, length-replicate, length-take, take_all, take_min, take-append-le}
 use Rattle.cdb_base.specs.Limits.{MAX_ENTRIES, MAX_SEATS}
-use Rattle.cdb_commands.specs.ToldReply.{ToldReply, is_refused}
+use Rattle.cdb_commands.specs.ReplyView.{ReplyView, is_refused}
 use Rattle.cdb_commands.specs.declared.command.Command.{Command}
 use Rattle.cdb_control.specs.Commands.{obey}
 use Rattle.cdb_control.specs.Journal.{Journaled, Begins, entry, extended, reply_in, control_state, replay, replay_from}
@@ -56,19 +57,22 @@ came rules c before = since (whole_part rules (opened_from c.setup MAX_SEATS bef
 -- ---- a command that is given once or several times
 
 -- the replies to what these entries ask for, as many as the journal has room for
-abbrev replies_at : (Parts → Rules) → Journaled → List Entry → List ToldReply
+abbrev replies_at : (Parts → Rules) → Journaled → List Entry → List ReplyView
 replies_at rules c asked = all_replies_from (rules c.setup) (control_state rules c) (take (MAX_ENTRIES - length c.journal) asked)
 
 -- the control state after one entry more
-state_more : (rules : Parts → Rules) (c : Journaled) (seat : ℕ) (command : Command) → control_state rules (extended rules c seat command) ≡ obey (rules c.setup) (control_state rules c) seat command
+state_more : (rules : Parts → Rules) (c : Journaled) (seat : ℕ) (command : Command)
+    → control_state rules (extended rules c seat command) ≡ obey (rules c.setup) (control_state rules c) seat command
 unfolding replay
-state_more rules c seat command = fold-append (λ (t : State) (e : Entry). obey (rules c.setup) t e.seat e.command) (first_control_state c.setup c.seats) c.journal (entry seat command ∷ [])
+state_more rules c seat command =
+    fold-append (λ (t : State) (e : Entry). obey (rules c.setup) t e.seat e.command) (first_control_state c.setup c.seats) c.journal (entry seat command ∷ [])
 
 none_at : (rules : Parts → Rules) (c : Journaled) (asked : List Entry) → (length c.journal == MAX_ENTRIES) ≡ true → replies_at rules c asked ≡ []
 none_at rules c asked is =
-    ap (λ (n : ℕ). all_replies_from (rules c.setup) (control_state rules c) (take n asked)) (none_left (length c.journal) MAX_ENTRIES ((Decides-eqb (length c.journal) MAX_ENTRIES).0 is))
+    ap (λ (n : ℕ). all_replies_from (rules c.setup) (control_state rules c) (take n asked))
+    (none_left (length c.journal) MAX_ENTRIES ((Decides-eqb (length c.journal) MAX_ENTRIES).0 is))
 
-drop_next : (n : ℕ) (replies : List ToldReply) → drop (suc n) replies ≡ drop n (next_replies replies)
+drop_next : (n : ℕ) (replies : List ReplyView) → drop (suc n) replies ≡ drop n (next_replies replies)
 drop_next zero [] = refl
 drop_next (suc n) [] = refl
 drop_next n (reply ∷ replies) = refl
@@ -77,19 +81,21 @@ module _ (rules : Parts → Rules) (seat : ℕ) (command : Command) where
   abbrev one : Entry
   one = entry seat command
 
-  some_at : (c : Journaled) (rest : List Entry) → (length c.journal == MAX_ENTRIES) ≡ false → length c.journal ≤ MAX_ENTRIES → replies_at rules c (one ∷ rest) ≡ reply_in rules c seat command ∷ replies_at rules (extended rules c seat command) rest
+  some_at : (c : Journaled) (rest : List Entry) → (length c.journal == MAX_ENTRIES) ≡ false → length c.journal ≤ MAX_ENTRIES
+      → replies_at rules c (one ∷ rest) ≡ reply_in rules c seat command ∷ replies_at rules (extended rules c seat command) rest
   some_at c rest is few =
       let low : length c.journal < MAX_ENTRIES = not_full (length c.journal) MAX_ENTRIES few is in
       let less : MAX_ENTRIES - length c.journal ≡ suc (MAX_ENTRIES - (length c.journal + 1)) = one_less (length c.journal) MAX_ENTRIES low in
       let more : length (c.journal ++ one ∷ []) ≡ length c.journal + 1 = length-append c.journal (one ∷ []) in
       ap (λ (n : ℕ). all_replies_from (rules c.setup) (control_state rules c) (take n (one ∷ rest))) less
-      ∙ ap (λ (others : List ToldReply). reply_in rules c seat command ∷ others)
+      ∙ ap (λ (others : List ReplyView). reply_in rules c seat command ∷ others)
       (λ i. all_replies_from (rules c.setup) (sym (state_more rules c seat command) i) (take (MAX_ENTRIES - sym more i) rest))
 
   -- given once
   abbrev IsStep : Journaled → List Entry → Type 0
   IsStep c rest =
-      (reply_text (replies_at rules c (one ∷ rest)) ≡ table.text_at rules seat command c) × (next_replies (replies_at rules c (one ∷ rest)) ≡ replies_at rules (table.control_behind rules seat command c) rest)
+      (reply_text (replies_at rules c (one ∷ rest)) ≡ table.text_at rules seat command c)
+      × (next_replies (replies_at rules c (one ∷ rest)) ≡ replies_at rules (table.control_behind rules seat command c) rest)
 
   step : (c : Journaled) (rest : List Entry) → length c.journal ≤ MAX_ENTRIES → IsStep c rest
   step c rest few =
@@ -100,7 +106,8 @@ module _ (rules : Parts → Rules) (seat : ℕ) (command : Command) where
 
   -- given several times
   steps : (count : ℕ) (c : Journaled) (rest : List Entry) → length c.journal ≤ MAX_ENTRIES → let its = replies_at rules c (replicate count one ++ rest) in
-      (replies_text count its ≡ table.texts_at rules seat command c count) × (drop count its ≡ replies_at rules (table.control_behind_all rules seat command c count) rest)
+      (replies_text count its ≡ table.texts_at rules seat command c count)
+      × (drop count its ≡ replies_at rules (table.control_behind_all rules seat command c count) rest)
   steps zero c rest few = (refl, refl)
   steps (suc count) c rest few =
       let others : List Entry = replicate count one ++ rest in
@@ -111,11 +118,12 @@ module _ (rules : Parts → Rules) (seat : ℕ) (command : Command) where
       )
 
   -- as often as it can be
-  some_given : (times : ℕ) (replies : List ToldReply) → 1 ≤ times_given (suc times) replies
+  some_given : (times : ℕ) (replies : List ReplyView) → 1 ≤ times_given (suc times) replies
   some_given times [] = omega arith
   some_given times (reply ∷ replies) = elim (cases_Bool (is_refused reply)) [ inl is ↦ rw is (omega arith) | inr is ↦ rw is (omega arith) ]
 
-  given_there : (times count : ℕ) (c : Journaled) (rest : List Entry) → length c.journal ≤ MAX_ENTRIES → count ≡ times_given times (replies_at rules c (replicate count one ++ rest)) → count ≡ table.given_to rules seat command c times
+  given_there : (times count : ℕ) (c : Journaled) (rest : List Entry) → length c.journal ≤ MAX_ENTRIES
+      → count ≡ times_given times (replies_at rules c (replicate count one ++ rest)) → count ≡ table.given_to rules seat command c times
   given_there zero count c rest few is = is
   given_there (suc times) zero c rest few is = let some = some_given times (replies_at rules c rest) in absurd (omega (arith, is, some))
   given_there (suc times) (suc count) c rest few is =
@@ -128,7 +136,8 @@ module _ (rules : Parts → Rules) (seat : ℕ) (command : Command) where
               | inl refused ↦ let last : suc count ≡ 1 = rw refused at all in rw (room, refused) last
               | inr taken ↦
                   let more : suc count ≡ 1 + times_given times (replies_at rules (extended rules c seat command) others) = rw taken at all in
-                  let fits : length (extended rules c seat command).journal ≤ MAX_ENTRIES = omega (arith, not_full (length c.journal) MAX_ENTRIES few room, length-append c.journal (one ∷ [])) in
+                  let fits : length (extended rules c seat command).journal ≤ MAX_ENTRIES =
+                  omega (arith, not_full (length c.journal) MAX_ENTRIES few room, length-append c.journal (one ∷ [])) in
                   let rest_given = given_there times count (extended rules c seat command) rest fits (omega (arith, more)) in
                   rw (room, taken) (omega (arith, rest_given))
             ]
@@ -139,23 +148,33 @@ module _ (Answers : RunView → Inquiry → List ℕ → Type 0) (greeting promp
   abbrev along_of : table.Session → List Exchange → Along
   along_of s exchanges = record { seat = s.seat; replies = replies_at s.rules s.control (all_asked true s.seat exchanges); lines = s.lines }
 
-  same : (s : table.Session) (exchanges others : List Exchange) → length s.control.journal ≤ MAX_ENTRIES → shown_from (nine greeting prompt) (along_of s (exchanges ++ others)) exchanges ≡ table_shown prompt s exchanges
+  same : (s : table.Session) (exchanges others : List Exchange) → length s.control.journal ≤ MAX_ENTRIES
+      → shown_from (nine greeting prompt) (along_of s (exchanges ++ others)) exchanges ≡ table_shown prompt s exchanges
   same s [] others few = refl
   same s ((Call command times, outcome) ∷ exchanges) others few =
       let asked = all_asked true s.seat (exchanges ++ others) in
       let its = steps s.rules s.seat command outcome.given s.control asked few in
       let more = grown_all s.rules s.seat command s.control outcome.given [] few in
-      (λ i. let a : Along = record { seat = s.seat; replies = its.1 i; lines = s.lines + 1 } in (its.0 i ++ prompt) ++ shown_from (nine greeting prompt) a exchanges)
-      ∙ ap (λ text. (table.texts_at s.rules s.seat command s.control outcome.given ++ prompt) ++ text) (same (table.after_line s (Call command times, outcome)) exchanges others more.1)
-  same s ((Ask inquiry, outcome) ∷ exchanges) others few = ap (λ text. table_one prompt s (Ask inquiry, outcome) ++ text) (same (table.after_line s (Ask inquiry, outcome)) exchanges others few)
-  same s ((Seat chosen, outcome) ∷ exchanges) others few = ap (λ text. table_one prompt s (Seat chosen, outcome) ++ text) (same (table.after_line s (Seat chosen, outcome)) exchanges others few)
-  same s ((Help about, outcome) ∷ exchanges) others few = ap (λ text. table_one prompt s (Help about, outcome) ++ text) (same (table.after_line s (Help about, outcome)) exchanges others few)
-  same s ((Quit, outcome) ∷ exchanges) others few = ap (λ text. table_one prompt s (Quit, outcome) ++ text) (same (table.after_line s (Quit, outcome)) exchanges others few)
-  same s ((Fault fault, outcome) ∷ exchanges) others few = ap (λ text. table_one prompt s (Fault fault, outcome) ++ text) (same (table.after_line s (Fault fault, outcome)) exchanges others few)
-  same s ((TooLong, outcome) ∷ exchanges) others few = ap (λ text. table_one prompt s (TooLong, outcome) ++ text) (same (table.after_line s (TooLong, outcome)) exchanges others few)
+      (λ i. let a : Along = record { seat = s.seat; replies = its.1 i; lines = s.lines + 1 } in
+      (its.0 i ++ prompt) ++ shown_from (nine greeting prompt) a exchanges)
+      ∙ ap (λ text. (table.texts_at s.rules s.seat command s.control outcome.given ++ prompt) ++ text)
+      (same (table.after_line s (Call command times, outcome)) exchanges others more.1)
+  same s ((Ask inquiry, outcome) ∷ exchanges) others few =
+      ap (λ text. table_one prompt s (Ask inquiry, outcome) ++ text) (same (table.after_line s (Ask inquiry, outcome)) exchanges others few)
+  same s ((Seat chosen, outcome) ∷ exchanges) others few =
+      ap (λ text. table_one prompt s (Seat chosen, outcome) ++ text) (same (table.after_line s (Seat chosen, outcome)) exchanges others few)
+  same s ((Help about, outcome) ∷ exchanges) others few =
+      ap (λ text. table_one prompt s (Help about, outcome) ++ text) (same (table.after_line s (Help about, outcome)) exchanges others few)
+  same s ((Quit, outcome) ∷ exchanges) others few =
+      ap (λ text. table_one prompt s (Quit, outcome) ++ text) (same (table.after_line s (Quit, outcome)) exchanges others few)
+  same s ((Fault fault, outcome) ∷ exchanges) others few =
+      ap (λ text. table_one prompt s (Fault fault, outcome) ++ text) (same (table.after_line s (Fault fault, outcome)) exchanges others few)
+  same s ((TooLong, outcome) ∷ exchanges) others few =
+      ap (λ text. table_one prompt s (TooLong, outcome) ++ text) (same (table.after_line s (TooLong, outcome)) exchanges others few)
 
   -- the journal has as many of the entries as it has room for behind those that it went on from
-  as_many : (before its : List Entry) (part : Part) (exchanges : List Exchange) → part.calls ≡ its → part.entries ≡ length before + length its → length before + length its ≤ MAX_ENTRIES → HasCommands (nine greeting prompt) part exchanges
+  as_many : (before its : List Entry) (part : Part) (exchanges : List Exchange) → part.calls ≡ its
+      → part.entries ≡ length before + length its → length before + length its ≤ MAX_ENTRIES → HasCommands (nine greeting prompt) part exchanges
       → its ≡ take (MAX_ENTRIES - length before) (all_of (nine greeting prompt) exchanges)
   as_many before its part exchanges are many few (inl all) =
       sym (take_all (MAX_ENTRIES - length before) its (omega (arith, few))) ∙ ap (take (MAX_ENTRIES - length before)) (sym are ∙ all)
@@ -165,8 +184,10 @@ module _ (Answers : RunView → Inquiry → List ℕ → Type 0) (greeting promp
       ∙ ap (take (MAX_ENTRIES - length before)) (ap (λ (calls : List Entry). calls ++ some.1) (sym are) ∙ sym some.2)
 
   -- what a session shows by its journal is what the table says of its exchanges alone
-  came_replies : (rules : Parts → Rules) (c : Journaled) (before : List Entry) (exchanges : List Exchange) → c.seats ≡ MAX_SEATS → Begins before c.journal → length c.journal ≤ MAX_ENTRIES
-      → HasCommands (nine greeting prompt) (came rules c before) exchanges → (came rules c before).replies ≡ replies_at rules (opened_from c.setup MAX_SEATS before) (all_of (nine greeting prompt) exchanges)
+  came_replies : (rules : Parts → Rules) (c : Journaled) (before : List Entry) (exchanges : List Exchange)
+      → c.seats ≡ MAX_SEATS → Begins before c.journal → length c.journal ≤ MAX_ENTRIES
+      → HasCommands (nine greeting prompt) (came rules c before) exchanges
+      → (came rules c before).replies ≡ replies_at rules (opened_from c.setup MAX_SEATS before) (all_of (nine greeting prompt) exchanges)
   unfolding replay
   came_replies rules c before exchanges seats (its, is) few has =
       let t = first_control_state c.setup MAX_SEATS in
@@ -179,18 +200,22 @@ module _ (Answers : RunView → Inquiry → List ℕ → Type 0) (greeting promp
       ∙ ap (drop (length front)) (all_replies-append of t before its) ∙ drop-append_seam front (all_replies_from of (replay_from of t before) its) in
       shown ∙ ap (all_replies_from of (replay_from of t before)) (as_many before its (came rules c before) exchanges calls many (omega (arith, few, many)) has)
 
-  pub nothing_lost : (rules : Parts → Rules) (c : Journaled) (before : List Entry) (exchanges others : List Exchange) → c.seats ≡ MAX_SEATS → Begins before c.journal → length c.journal ≤ MAX_ENTRIES
+  pub nothing_lost : (rules : Parts → Rules) (c : Journaled) (before : List Entry) (exchanges others : List Exchange)
+      → c.seats ≡ MAX_SEATS → Begins before c.journal → length c.journal ≤ MAX_ENTRIES
       → HasCommands (nine greeting prompt) (came rules c before) (exchanges ++ others)
-      → dialogue (nine greeting prompt) (came rules c before).replies exchanges ≡ table.dialogue Answers greeting prompt (table.begun rules c.setup before) exchanges
+      → dialogue (nine greeting prompt) (came rules c before).replies exchanges
+      ≡ table.dialogue Answers greeting prompt (table.begun rules c.setup before) exchanges
   nothing_lost rules c before exchanges others seats begins few has =
-      ap (λ (replies : List ToldReply). dialogue (nine greeting prompt) replies exchanges) (came_replies rules c before (exchanges ++ others) seats begins few has)
+      ap (λ (replies : List ReplyView). dialogue (nine greeting prompt) replies exchanges)
+      (came_replies rules c before (exchanges ++ others) seats begins few has)
       ∙ ap (λ text. (greeting ++ prompt) ++ text)
       (same (table.begun rules c.setup before) exchanges others (omega (arith, few, ap length begins.1, length-append before begins.0)))
 
   -- ---- what the run was asked
 
   -- the first of the lines
-  told_first : (Told : ℕ → Exchange → Type 0) (count : ℕ) (exchanges others : List Exchange) → AreTold Told count (exchanges ++ others) → AreTold Told count exchanges
+  told_first : (Told : ℕ → Exchange → Type 0) (count : ℕ) (exchanges others : List Exchange)
+      → AreTold Told count (exchanges ++ others) → AreTold Told count exchanges
   told_first Told count [] others told = tt
   told_first Told count (exchange ∷ exchanges) others told = (told.0, told_first Told (count + given_at exchange) exchanges others told.1)
 
@@ -224,7 +249,8 @@ module _ (Answers : RunView → Inquiry → List ℕ → Type 0) (greeting promp
     abbrev AreToldOf : ℕ → List Exchange → Type 0
     AreToldOf count exchanges = AreTold (IsDoneAfter Answers (came rules c before)) count exchanges
 
-    answered_there : (s : table.Session) (asked : List Entry) (exchanges : List Exchange) (count : ℕ) (inquiry : Inquiry) (text : List ℕ) → IsThere s asked exchanges count
+    answered_there : (s : table.Session) (asked : List Entry) (exchanges : List Exchange) (count : ℕ) (inquiry : Inquiry) (text : List ℕ)
+        → IsThere s asked exchanges count
         → IsTold Answers (came rules c before) count inquiry text → Answers (table.run_in s) inquiry text
     answered_there s asked exchanges count inquiry text at (first, low, few, is, answers) =
         let whole : first ≡ min (length before + count) (length c.journal) = omega (arith, low, few, is, longer, length-drop (length before) c.journal) in
@@ -236,18 +262,23 @@ module _ (Answers : RunView → Inquiry → List ℕ → Type 0) (greeting promp
         subst (λ (r : RunView). Answers r inquiry text) run answers
 
     -- after a command
-    same_setup : (full : Bool) (kept other : Journaled) → other.setup ≡ kept.setup → other.seats ≡ kept.seats → let now : Journaled = if full then kept else other in (now.setup ≡ kept.setup) × (now.seats ≡ kept.seats)
+    same_setup : (full : Bool) (kept other : Journaled) → other.setup ≡ kept.setup
+        → other.seats ≡ kept.seats → let now : Journaled = if full then kept else other in
+        (now.setup ≡ kept.setup) × (now.seats ≡ kept.seats)
     same_setup true kept other setup seats = (refl, refl)
     same_setup false kept other setup seats = (setup, seats)
 
-    same_setup_all : (its : Parts → Rules) (seat : ℕ) (command : Command) (control : Journaled) (count : ℕ) → let now = table.control_behind_all its seat command control count in (now.setup ≡ control.setup) × (now.seats ≡ control.seats)
+    same_setup_all : (its : Parts → Rules) (seat : ℕ) (command : Command) (control : Journaled) (count : ℕ)
+        → let now = table.control_behind_all its seat command control count in
+        (now.setup ≡ control.setup) × (now.seats ≡ control.seats)
     same_setup_all its seat command control zero = (refl, refl)
     same_setup_all its seat command control (suc count) =
         let first = same_setup (length control.journal == MAX_ENTRIES) control (extended its control seat command) refl refl in
         let others = same_setup_all its seat command (table.control_behind its seat command control) count in
         (others.0 ∙ first.0, others.1 ∙ first.1)
 
-    then_there : (s : table.Session) (asked : List Entry) (command : Command) (times : ℕ) (outcome : Outcome) (exchanges : List Exchange) (count : ℕ) → IsThere s asked ((Call command times, outcome) ∷ exchanges) count
+    then_there : (s : table.Session) (asked : List Entry) (command : Command) (times : ℕ) (outcome : Outcome) (exchanges : List Exchange) (count : ℕ)
+        → IsThere s asked ((Call command times, outcome) ∷ exchanges) count
         → IsThere (table.after_line s (Call command times, outcome)) (asked ++ replicate outcome.given (entry s.seat command)) exchanges (count + outcome.given)
     then_there s asked command times outcome exchanges count at =
         let made : List Entry = replicate outcome.given (entry s.seat command) in
@@ -255,7 +286,8 @@ module _ (Answers : RunView → Inquiry → List ℕ → Type 0) (greeting promp
         let more = grown_all s.rules s.seat command s.control outcome.given [] at.few in
         let now = table.control_behind_all s.rules s.seat command s.control outcome.given in
         let come : now.journal ≡ take MAX_ENTRIES (asked ++ made) =
-        sym (take_all MAX_ENTRIES now.journal more.1) ∙ ap (take MAX_ENTRIES) (sym (append-nil now.journal)) ∙ more.0 ∙ ap (λ (its : List Entry). take MAX_ENTRIES (s.control.journal ++ its)) (append-nil made)
+        sym (take_all MAX_ENTRIES now.journal more.1) ∙ ap (take MAX_ENTRIES) (sym (append-nil now.journal))
+        ∙ more.0 ∙ ap (λ (its : List Entry). take MAX_ENTRIES (s.control.journal ++ its)) (append-nil made)
         ∙ ap (λ (front : List Entry). take MAX_ENTRIES (front ++ made)) at.come_to ∙ take-take_append MAX_ENTRIES asked made in
         record {
           rules_are = at.rules_are;
@@ -265,12 +297,16 @@ module _ (Answers : RunView → Inquiry → List ℕ → Type 0) (greeting promp
           come_to = come;
           counted = omega (arith, length-append asked made, length-replicate outcome.given (entry s.seat command), at.counted);
           all = at.all ∙ ap (take MAX_ENTRIES) (sym (append_assoc asked made (all_asked true s.seat exchanges)));
-          left = sym (drop-drop outcome.given count (came rules c before).replies) ∙ ap (drop outcome.given) at.left ∙ (steps s.rules s.seat command outcome.given s.control (all_asked true s.seat exchanges) at.few).1;
+          left =
+              sym (drop-drop outcome.given count (came rules c before).replies) ∙ ap (drop outcome.given) at.left
+              ∙ (steps s.rules s.seat command outcome.given s.control (all_asked true s.seat exchanges) at.few).1;
         }
 
     -- after a line that asks for no command
-    unmoved : (s : table.Session) (asked : List Entry) (request : Request) (outcome : Outcome) (exchanges : List Exchange) (count : ℕ) → IsThere s asked ((request, outcome) ∷ exchanges) count
-        → table.control_after s (request, outcome) ≡ s.control → asked_of s.seat (request, outcome) ≡ [] → IsThere (table.after_line s (request, outcome)) asked exchanges (count + 0)
+    unmoved : (s : table.Session) (asked : List Entry) (request : Request) (outcome : Outcome) (exchanges : List Exchange) (count : ℕ)
+        → IsThere s asked ((request, outcome) ∷ exchanges) count
+        → table.control_after s (request, outcome) ≡ s.control → asked_of s.seat (request, outcome) ≡ []
+        → IsThere (table.after_line s (request, outcome)) asked exchanges (count + 0)
     unmoved s asked request outcome exchanges count at same none =
         let others = all_asked true (seat_next true s.seat request) exchanges in
         record {
@@ -286,29 +322,50 @@ module _ (Answers : RunView → Inquiry → List ℕ → Type 0) (greeting promp
               ∙ (λ i. replies_at s.rules (sym same i) (none i ++ others));
         }
 
-    answered_from : (s : table.Session) (asked : List Entry) (exchanges others : List Exchange) (count : ℕ) → IsThere s asked (exchanges ++ others) count → AreToldOf count exchanges → table.AreAnswered Answers s exchanges
+    answered_from : (s : table.Session) (asked : List Entry) (exchanges others : List Exchange) (count : ℕ)
+        → IsThere s asked (exchanges ++ others) count → AreToldOf count exchanges → table.AreAnswered Answers s exchanges
     answered_from s asked [] others count at told = tt
     answered_from s asked ((Call command times, outcome) ∷ exchanges) others count at told = (
-      given_there s.rules s.seat command times outcome.given s.control (all_asked true s.seat (exchanges ++ others)) at.few (told.0.1 ∙ ap (times_given times) at.left),
-      answered_from (table.after_line s (Call command times, outcome)) (asked ++ replicate outcome.given (entry s.seat command)) exchanges others (count + outcome.given) (then_there s asked command times outcome (exchanges ++ others) count at) told.1,
+      given_there s.rules s.seat command times outcome.given s.control
+          (all_asked true s.seat (exchanges ++ others)) at.few (told.0.1 ∙ ap (times_given times) at.left),
+      answered_from (table.after_line s (Call command times, outcome)) (asked ++ replicate outcome.given (entry s.seat command))
+          exchanges others (count + outcome.given) (then_there s asked command times outcome (exchanges ++ others) count at) told.1,
     )
     answered_from s asked ((Ask inquiry, outcome) ∷ exchanges) others count at told = (
       answered_there s asked ((Ask inquiry, outcome) ∷ (exchanges ++ others)) count inquiry outcome.answer at told.0.0,
-      answered_from (table.after_line s (Ask inquiry, outcome)) asked exchanges others (count + 0) (unmoved s asked (Ask inquiry) outcome (exchanges ++ others) count at refl refl) told.1,
+      answered_from (table.after_line s (Ask inquiry, outcome)) asked exchanges others (count + 0)
+          (unmoved s asked (Ask inquiry) outcome (exchanges ++ others) count at refl refl) told.1,
     )
-    answered_from s asked ((Seat chosen, outcome) ∷ exchanges) others count at told =
-        (tt, answered_from (table.after_line s (Seat chosen, outcome)) asked exchanges others (count + 0) (unmoved s asked (Seat chosen) outcome (exchanges ++ others) count at refl refl) told.1)
-    answered_from s asked ((Help about, outcome) ∷ exchanges) others count at told =
-        (tt, answered_from (table.after_line s (Help about, outcome)) asked exchanges others (count + 0) (unmoved s asked (Help about) outcome (exchanges ++ others) count at refl refl) told.1)
-    answered_from s asked ((Quit, outcome) ∷ exchanges) others count at told =
-        (tt, answered_from (table.after_line s (Quit, outcome)) asked exchanges others (count + 0) (unmoved s asked Quit outcome (exchanges ++ others) count at refl refl) told.1)
-    answered_from s asked ((Fault fault, outcome) ∷ exchanges) others count at told =
-        (tt, answered_from (table.after_line s (Fault fault, outcome)) asked exchanges others (count + 0) (unmoved s asked (Fault fault) outcome (exchanges ++ others) count at refl refl) told.1)
-    answered_from s asked ((TooLong, outcome) ∷ exchanges) others count at told =
-        (tt, answered_from (table.after_line s (TooLong, outcome)) asked exchanges others (count + 0) (unmoved s asked TooLong outcome (exchanges ++ others) count at refl refl) told.1)
+    answered_from s asked ((Seat chosen, outcome) ∷ exchanges) others count at told = (
+      tt,
+      answered_from (table.after_line s (Seat chosen, outcome)) asked exchanges others (count + 0)
+          (unmoved s asked (Seat chosen) outcome (exchanges ++ others) count at refl refl) told.1,
+    )
+    answered_from s asked ((Help about, outcome) ∷ exchanges) others count at told = (
+      tt,
+      answered_from (table.after_line s (Help about, outcome)) asked exchanges others (count + 0)
+          (unmoved s asked (Help about) outcome (exchanges ++ others) count at refl refl) told.1,
+    )
+    answered_from s asked ((Quit, outcome) ∷ exchanges) others count at told = (
+      tt,
+      answered_from (table.after_line s (Quit, outcome)) asked exchanges others (count + 0)
+          (unmoved s asked Quit outcome (exchanges ++ others) count at refl refl) told.1,
+    )
+    answered_from s asked ((Fault fault, outcome) ∷ exchanges) others count at told = (
+      tt,
+      answered_from (table.after_line s (Fault fault, outcome)) asked exchanges others (count + 0)
+          (unmoved s asked (Fault fault) outcome (exchanges ++ others) count at refl refl) told.1,
+    )
+    answered_from s asked ((TooLong, outcome) ∷ exchanges) others count at told = (
+      tt,
+      answered_from (table.after_line s (TooLong, outcome)) asked exchanges others (count + 0)
+          (unmoved s asked TooLong outcome (exchanges ++ others) count at refl refl) told.1,
+    )
 
-  pub all_answered : (rules : Parts → Rules) (c : Journaled) (before : List Entry) (exchanges others : List Exchange) → c.seats ≡ MAX_SEATS → Begins before c.journal → length c.journal ≤ MAX_ENTRIES
-      → HasExchanges Answers (nine greeting prompt) (came rules c before) (exchanges ++ others) → table.AreAnswered Answers (table.begun rules c.setup before) exchanges
+  pub all_answered : (rules : Parts → Rules) (c : Journaled) (before : List Entry) (exchanges others : List Exchange)
+      → c.seats ≡ MAX_SEATS → Begins before c.journal → length c.journal ≤ MAX_ENTRIES
+      → HasExchanges Answers (nine greeting prompt) (came rules c before) (exchanges ++ others)
+      → table.AreAnswered Answers (table.begun rules c.setup before) exchanges
   all_answered rules c before exchanges others seats (its, is) few has =
       let many : length c.journal ≡ length before + length its = ap length is ∙ length-append before its in
       let calls : drop (length before) c.journal ≡ its = ap (drop (length before)) is ∙ drop-append_seam before its in
@@ -316,8 +373,18 @@ module _ (Answers : RunView → Inquiry → List ℕ → Type 0) (greeting promp
       let room : MAX_ENTRIES ≡ length before + n = omega (arith, few, many) in
       let many_are = as_many before its (came rules c before) (exchanges ++ others) calls many (omega (arith, few, many)) has.0 in
       let all : c.journal ≡ take MAX_ENTRIES (before ++ all_of (nine greeting prompt) (exchanges ++ others)) =
-      is ∙ ap (λ (more : List Entry). before ++ more) many_are ∙ sym (ap (λ m. take m (before ++ all_of (nine greeting prompt) (exchanges ++ others))) room ∙ take-append-add before (all_of (nine greeting prompt) (exchanges ++ others)) n) in
+      is ∙ ap (λ (more : List Entry). before ++ more) many_are ∙ sym (ap (λ m. take m (before ++ all_of (nine greeting prompt) (exchanges ++ others))) room
+      ∙ take-append-add before (all_of (nine greeting prompt) (exchanges ++ others)) n) in
       let fits_before : length before ≤ MAX_ENTRIES = omega (arith, few, many) in
       answered_from rules c before seats (omega (arith, many)) (table.begun rules c.setup before) before exchanges others 0
-      (record { rules_are = refl; setup_is = refl; seats_are = refl; few = fits_before; come_to = sym (take_all MAX_ENTRIES before fits_before); counted = omega arith; all = all; left = came_replies rules c before (exchanges ++ others) seats (its, is) few has.0 })
+      (record {
+        rules_are = refl;
+        setup_is = refl;
+        seats_are = refl;
+        few = fits_before;
+        come_to = sym (take_all MAX_ENTRIES before fits_before);
+        counted = omega arith;
+        all = all;
+        left = came_replies rules c before (exchanges ++ others) seats (its, is) few has.0;
+      })
       (told_first (IsDoneAfter Answers (came rules c before)) 0 exchanges others has.1)

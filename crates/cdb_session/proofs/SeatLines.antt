@@ -1,5 +1,6 @@
 -- The lines that choose a seat.
-use Rattle.std.proofs.Common.{◌≡◌, ◌≢◌, inl, inr, ℕ, ◌+◌, ◌-◌, ◌<◌, ◌≤◌, List, [], ◌∷◌, ◌++◌, length, take, drop, get_or, sym, ap, ◌∙◌, arith, drop-cons, take-append-drop}
+use Rattle.std.proofs.Common.{◌≡◌, ◌≢◌, inl, inr, ℕ, ◌+◌, ◌-◌, ◌<◌, ◌≤◌, List, [], ◌∷◌, ◌++◌, length}
+use Rattle.std.proofs.Common.{take, drop, get_or, sym, ap, ◌∙◌, arith, drop-cons, take-append-drop}
 use Rattle.std.specs.Prelude.{codes, Option}
 use Rattle.std.proofs.lemmas.Fmt.{decimal_digit}
 use Rattle.std.proofs.lemmas.List.{length-drop, nil_from_length}
@@ -24,8 +25,11 @@ pub is_seat : (line : List ℕ) (digit : ℕ) → length line ≡ 6 → take 5 l
     → IsWithin 1 most_seats (digit - 48) × (line ≡ seat_line (digit - 48))
 is_seat line digit long word is low high =
     let within : IsWithin 1 most_seats (digit - 48) = (omega (arith, low), omega (arith, high)) in
-    let back : 48 + (digit - 48) ≡ digit = omega (arith, low) in
-    (within, sixth line long ∙ ap (λ front. front ++ get_or line 5 0 ∷ []) word ∙ ap (λ last. codes "seat " ++ last ∷ []) (sym is ∙ sym back) ∙ sym (one_digit (digit - 48) within))
+    let back : 48 + (digit - 48) ≡ digit = omega (arith, low) in (
+      within,
+      sixth line long ∙ ap (λ front. front ++ get_or line 5 0 ∷ []) word
+          ∙ ap (λ last. codes "seat " ++ last ∷ []) (sym is ∙ sym back) ∙ sym (one_digit (digit - 48) within),
+    )
 
 module _ (line : List ℕ) (seat : ℕ) (within : IsWithin 1 most_seats seat) (is : line ≡ seat_line seat) where
   whole : line ≡ codes "seat " ++ (48 + seat) ∷ []
@@ -41,7 +45,8 @@ module _ (line : List ℕ) (seat : ℕ) (within : IsWithin 1 most_seats seat) (i
   digit = ap (λ bytes. get_or bytes 5 0) whole
 
 -- a line that is none of these is not one of the session's own
-pub not_own : (line : List ℕ) → ((about : Option Topic) → ¬ (line ≡ help_line about)) → line ≢ quit_line → ((seat : ℕ) → IsWithin 1 most_seats seat → ¬ (line ≡ seat_line seat)) → ((inquiry : Inquiry) → ¬ IsInquiryLine inquiry line)
+pub not_own : (line : List ℕ) → ((about : Option Topic) → ¬ (line ≡ help_line about)) → line ≢ quit_line
+    → ((seat : ℕ) → IsWithin 1 most_seats seat → ¬ (line ≡ seat_line seat)) → ((inquiry : Inquiry) → ¬ IsInquiryLine inquiry line)
     → ((p times : ℕ) → ¬ IsRepeatLine p times line) → ¬ IsOwn line
 not_own line help quit seat inquiry repeat (inl is) = help is.0 is.1
 not_own line help quit seat inquiry repeat (inr (inl is)) = quit is

@@ -19,15 +19,16 @@ use Rattle.cdb_commands.specs.declared.command.View.TheVariants as view
 use Rattle.cdb_setup.specs.Parts.{IsWithin}
 use Rattle.cdb_text.specs.Commands.{number, register}
 use Rattle.cdb_text.specs.Grammar.{AreWordsOf, IsInRange, part_text, words_of}
-use Rattle.cdb_text.specs.Reading.{number_of}
-use Rattle.cdb_text.specs.Reading as reading
+use Rattle.cdb_text.specs.Readers.{number_of}
+use Rattle.cdb_text.specs.Readers as reading
 use Rattle.cdb_text.proofs.Numbers.{number_says}
 use Rattle.cdb_base.specs.declared.question.StepAsked.{StepAsked}
 use Rattle.cdb_session.specs.Inquiries.{AreStepWords, inquiry_word, step_asked}
 use Rattle.cdb_session.specs.InquiryWords.{step_with}
 use Rattle.cdb_session.specs.declared.inquiry.Inquiry.{Inquiry}
 use Rattle.cdb_session.specs.declared.inquiry.Inquiry.TheVariants.{Explain, Trail}
-use Rattle.cdb_session.specs.Due.{amiss_in, with_process, behind, behind_act, behind_first, behind_stop, copy, dues_of, event, first_amiss, is_number, may_stand, nothing, registers, seats}
+use Rattle.cdb_session.specs.Due.{amiss_in, with_process, behind, behind_act, behind_first, behind_stop, copy, dues_of}
+use Rattle.cdb_session.specs.Due.{event, first_amiss, is_number, may_stand, nothing, registers, seats}
 use Rattle.cdb_session.specs.Laws.{SoundLinesAreTaken}
 use Rattle.cdb_session.specs.Repeats.{repeat_parts}
 use Rattle.cdb_session.specs.Requests.{IsOwn, most_seats}
@@ -94,7 +95,8 @@ begins p (t ∷ all) is =
 abbrev IsSound : List Due → List (List ℕ) → Type 0
 IsSound dues words = first_amiss true dues words ≡ nothing
 
-next : (its : Due) (dues : List Due) (word : List ℕ) (words : List (List ℕ)) → IsSound (its ∷ dues) (word ∷ words) → (may_stand true its word ≡ true) × IsSound dues words
+next : (its : Due) (dues : List Due) (word : List ℕ) (words : List (List ℕ))
+    → IsSound (its ∷ dues) (word ∷ words) → (may_stand true its word ≡ true) × IsSound dues words
 next its dues word words is =
     elim (cases_Bool (may_stand true its word)) [
       | inl h ↦ (h, rw h at is)
@@ -156,27 +158,33 @@ taken_alike : (one other : List (List ℕ)) → one ≡ other → IsTaken other 
 taken_alike one other is taken = subst IsTaken (sym is) taken
 
 -- `S M P` behind other words
-copy_taken : (first : List (List ℕ)) (words : List (List ℕ)) → ((s m p : ℕ) → IsInRange (number s) → IsInRange (number m) → IsInRange (number p) → IsTaken (first ++ decimal s ∷ decimal m ∷ decimal p ∷ []))
+copy_taken : (first : List (List ℕ)) (words : List (List ℕ))
+    → ((s m p : ℕ) → IsInRange (number s) → IsInRange (number m) → IsInRange (number p) → IsTaken (first ++ decimal s ∷ decimal m ∷ decimal p ∷ []))
     → IsSound copy words → IsTaken (first ++ words)
 copy_taken first words then is =
     let s = numbers copy (process, (message, (process, tt))) words is in
     let m = s.4 in
     let p = m.4 in
-    taken_alike (first ++ words) (first ++ decimal s.0 ∷ decimal m.0 ∷ decimal p.0 ∷ []) (ap (λ (w : List (List ℕ)). first ++ w) (s.3 ∙ ap (λ (w : List (List ℕ)). decimal s.0 ∷ w) (m.3 ∙ ap (λ (w : List (List ℕ)). decimal m.0 ∷ w) (p.3 ∙ ap (λ (w : List (List ℕ)). decimal p.0 ∷ w) p.4))))
+    taken_alike (first ++ words) (first ++ decimal s.0 ∷ decimal m.0 ∷ decimal p.0 ∷ []) (ap (λ (w : List (List ℕ)). first ++ w) (s.3 ∙ ap
+    (λ (w : List (List ℕ)). decimal s.0 ∷ w) (m.3 ∙ ap (λ (w : List (List ℕ)). decimal m.0 ∷ w) (p.3 ∙ ap (λ (w : List (List ℕ)). decimal p.0 ∷ w) p.4))))
     (then s.0 m.0 p.0 s.1 m.1 p.1)
 
 -- a number behind other words
-one_taken : (first : List (List ℕ)) (its : Due) → TakesNumbers its → (words : List (List ℕ)) → ((n : ℕ) → IsInRange (number n) → IsTaken (first ++ decimal n ∷ [])) → IsSound (its ∷ []) words → IsTaken (first ++ words)
+one_taken : (first : List (List ℕ)) (its : Due) → TakesNumbers its → (words : List (List ℕ))
+    → ((n : ℕ) → IsInRange (number n) → IsTaken (first ++ decimal n ∷ [])) → IsSound (its ∷ []) words → IsTaken (first ++ words)
 one_taken first its takes words then is =
     let n = numbers (its ∷ []) (takes, tt) words is in
-    taken_alike (first ++ words) (first ++ decimal n.0 ∷ []) (ap (λ (w : List (List ℕ)). first ++ w) (n.3 ∙ ap (λ (w : List (List ℕ)). decimal n.0 ∷ w) n.4)) (then n.0 n.1)
+    taken_alike (first ++ words) (first ++ decimal n.0 ∷ [])
+    (ap (λ (w : List (List ℕ)). first ++ w) (n.3 ∙ ap (λ (w : List (List ℕ)). decimal n.0 ∷ w) n.4)) (then n.0 n.1)
 
-two_taken : (first : List (List ℕ)) (its other : Due) → TakesNumbers its → TakesNumbers other → (words : List (List ℕ)) → ((n k : ℕ) → IsInRange (number n) → IsInRange (number k) → IsTaken (first ++ decimal n ∷ decimal k ∷ []))
+two_taken : (first : List (List ℕ)) (its other : Due) → TakesNumbers its → TakesNumbers other → (words : List (List ℕ))
+    → ((n k : ℕ) → IsInRange (number n) → IsInRange (number k) → IsTaken (first ++ decimal n ∷ decimal k ∷ []))
     → IsSound (its ∷ other ∷ []) words → IsTaken (first ++ words)
 two_taken first its other takes too words then is =
     let n = numbers (its ∷ other ∷ []) (takes, (too, tt)) words is in
     let k = n.4 in
-    taken_alike (first ++ words) (first ++ decimal n.0 ∷ decimal k.0 ∷ []) (ap (λ (w : List (List ℕ)). first ++ w) (n.3 ∙ ap (λ (w : List (List ℕ)). decimal n.0 ∷ w) (k.3 ∙ ap (λ (w : List (List ℕ)). decimal k.0 ∷ w) k.4)))
+    taken_alike (first ++ words) (first ++ decimal n.0 ∷ decimal k.0 ∷ [])
+    (ap (λ (w : List (List ℕ)). first ++ w) (n.3 ∙ ap (λ (w : List (List ℕ)). decimal n.0 ∷ w) (k.3 ∙ ap (λ (w : List (List ℕ)). decimal k.0 ∷ w) k.4)))
     (then n.0 k.0 n.1 k.1)
 
 none_taken : (first : List (List ℕ)) (words : List (List ℕ)) → IsTaken (first ++ []) → IsSound [] words → IsTaken (first ++ words)
@@ -184,7 +192,8 @@ none_taken first words then is = taken_alike (first ++ words) (first ++ []) (ap 
 
 -- `P K` or `lost S M P` behind a word
 event_taken : (first : List ℕ) → ((p k : ℕ) → IsInRange (number p) → IsInRange (number k) → IsTaken (first ∷ decimal p ∷ decimal k ∷ []))
-    → ((s m p : ℕ) → IsInRange (number s) → IsInRange (number m) → IsInRange (number p) → IsTaken (first ∷ codes "lost" ∷ decimal s ∷ decimal m ∷ decimal p ∷ []))
+    → ((s m p : ℕ) → IsInRange (number s) → IsInRange (number m) → IsInRange (number p)
+    → IsTaken (first ∷ codes "lost" ∷ decimal s ∷ decimal m ∷ decimal p ∷ []))
     → (words : List (List ℕ)) → IsSound (event words) words → IsTaken (first ∷ words)
 event_taken first of_step of_loss [] is = absurd cc
 event_taken first of_step of_loss (word ∷ words) is =
@@ -193,7 +202,8 @@ event_taken first of_step of_loss (word ∷ words) is =
       | inl h ↦
           let lost : word ≡ codes "lost" = (bytes_eq-Decides word (codes "lost")).0 h in
           let others : IsSound copy words = subst (λ b. IsSound (cond b copy (due.Step ∷ [])) words) h here.1 in
-          taken_alike (first ∷ word ∷ words) (first ∷ codes "lost" ∷ words) (ap (λ (w : List ℕ). first ∷ w ∷ words) lost) (copy_taken (first ∷ codes "lost" ∷ []) words of_loss others)
+          taken_alike (first ∷ word ∷ words) (first ∷ codes "lost" ∷ words)
+          (ap (λ (w : List ℕ). first ∷ w ∷ words) lost) (copy_taken (first ∷ codes "lost" ∷ []) words of_loss others)
       | inr h ↦
           let p = a_number word (alone (is_number word) (rw h at here.0)) in
           let others : IsSound (due.Step ∷ []) words = subst (λ b. IsSound (cond b copy (due.Step ∷ [])) words) h here.1 in
@@ -202,7 +212,8 @@ event_taken first of_step of_loss (word ∷ words) is =
     ]
 
 -- `step P ACT`
-act_taken : (p : ℕ) → IsInRange (number p) → (word : List ℕ) → IsAmong word acts → (words : List (List ℕ)) → IsSound (behind_act word words) words → IsTaken (codes "step" ∷ decimal p ∷ word ∷ words)
+act_taken : (p : ℕ) → IsInRange (number p) → (word : List ℕ) → IsAmong word acts → (words : List (List ℕ))
+    → IsSound (behind_act word words) words → IsTaken (codes "step" ∷ decimal p ∷ word ∷ words)
 act_taken p range word (inl is) words sound =
     let others : IsSound [] words = subst (λ (w : List ℕ). IsSound (behind_act w words) words) is sound in
     subst (λ (w : List ℕ). IsTaken (codes "step" ∷ decimal p ∷ w ∷ words)) (sym is)
@@ -220,7 +231,8 @@ act_taken p range word (inr (inr (inr (inl is)))) [] sound =
 act_taken p range word (inr (inr (inr (inl is)))) (leader ∷ words) sound =
     let others : IsSound (due.Process ∷ []) (leader ∷ words) = subst (λ (w : List ℕ). IsSound (behind_act w (leader ∷ words)) (leader ∷ words)) is sound in
     subst (λ (w : List ℕ). IsTaken (codes "step" ∷ decimal p ∷ w ∷ leader ∷ words)) (sym is)
-    (one_taken (codes "step" ∷ decimal p ∷ codes "query" ∷ []) due.Process process (leader ∷ words) (λ l its. inr (command.Step p (act.Query (Some l)), (refl, (tt, (range, (tt, (its, tt))))))) others)
+    (one_taken (codes "step" ∷ decimal p ∷ codes "query" ∷ []) due.Process process (leader ∷ words)
+    (λ l its. inr (command.Step p (act.Query (Some l)), (refl, (tt, (range, (tt, (its, tt))))))) others)
 act_taken p range word (inr (inr (inr (inr (inl is))))) words sound =
     let others : IsSound (due.Process ∷ due.Message ∷ []) words = subst (λ (w : List ℕ). IsSound (behind_act w words) words) is sound in
     subst (λ (w : List ℕ). IsTaken (codes "step" ∷ decimal p ∷ w ∷ words)) (sym is)
@@ -238,20 +250,25 @@ step_taken (word ∷ act ∷ words) is =
     subst (λ (w : List ℕ). IsTaken (codes "step" ∷ w ∷ act ∷ words)) (sym p.2) (act_taken p.0 p.1 act (among act acts (and_parts _ _ there.0).0) words there.1)
 
 -- `break STOP`
-stop_taken : (word : List ℕ) → IsAmong word (second_words (codes "break")) → (words : List (List ℕ)) → IsSound (behind_stop word) words → IsTaken (codes "break" ∷ word ∷ words)
+stop_taken : (word : List ℕ) → IsAmong word (second_words (codes "break")) → (words : List (List ℕ))
+    → IsSound (behind_stop word) words → IsTaken (codes "break" ∷ word ∷ words)
 stop_taken word (inl is) words sound =
     let others : IsSound (due.Process ∷ []) words = subst (λ (w : List ℕ). IsSound (behind_stop w) words) is sound in
     subst (λ (w : List ℕ). IsTaken (codes "break" ∷ w ∷ words)) (sym is)
-    (one_taken (codes "break" ∷ codes "decide" ∷ []) due.Process process words (λ p range. inr (command.Break (stop.Decide p), (refl, (tt, (tt, (range, tt)))))) others)
+    (one_taken (codes "break" ∷ codes "decide" ∷ []) due.Process process words
+    (λ p range. inr (command.Break (stop.Decide p), (refl, (tt, (tt, (range, tt)))))) others)
 stop_taken word (inr (inl is)) words sound =
     let others : IsSound (due.Process ∷ due.Round ∷ []) words = subst (λ (w : List ℕ). IsSound (behind_stop w) words) is sound in
     subst (λ (w : List ℕ). IsTaken (codes "break" ∷ w ∷ words)) (sym is)
-    (two_taken (codes "break" ∷ codes "round" ∷ []) due.Process due.Round process round words (λ p r of_p of_r. inr (command.Break (stop.Round p r), (refl, (tt, (tt, (of_p, (of_r, tt))))))) others)
+    (two_taken (codes "break" ∷ codes "round" ∷ []) due.Process due.Round process round words
+    (λ p r of_p of_r. inr (command.Break (stop.Round p r), (refl, (tt, (tt, (of_p, (of_r, tt))))))) others)
 stop_taken word (inr (inr (inl is))) words sound =
     let others : IsSound (due.Process ∷ []) words = subst (λ (w : List ℕ). IsSound (behind_stop w) words) is sound in
     subst (λ (w : List ℕ). IsTaken (codes "break" ∷ w ∷ words)) (sym is)
-    (one_taken (codes "break" ∷ codes "recv" ∷ []) due.Process process words (λ p range. inr (command.Break (stop.Recv p), (refl, (tt, (tt, (range, tt)))))) others)
-stop_taken word (inr (inr (inr (inl is)))) [] sound = absurd (let others : IsSound (due.Register ∷ []) [] = subst (λ (w : List ℕ). IsSound (behind_stop w) []) is sound in cc)
+    (one_taken (codes "break" ∷ codes "recv" ∷ []) due.Process process words
+    (λ p range. inr (command.Break (stop.Recv p), (refl, (tt, (tt, (range, tt)))))) others)
+stop_taken word (inr (inr (inr (inl is)))) [] sound =
+    absurd (let others : IsSound (due.Register ∷ []) [] = subst (λ (w : List ℕ). IsSound (behind_stop w) []) is sound in cc)
 stop_taken word (inr (inr (inr (inl is)))) (x ∷ words) sound =
     let others : IsSound (due.Register ∷ []) (x ∷ words) = subst (λ (w : List ℕ). IsSound (behind_stop w) (x ∷ words)) is sound in
     let here = next due.Register [] x words others in
@@ -291,7 +308,9 @@ show_taken (word ∷ words) is =
     let here = next due.ProcessOrView [] word words is in
     none_taken (codes "show" ∷ word ∷ []) words
     (elim (either (is_number word) _ here.0) [
-      | inl is ↦ let p = a_number word is in taken_alike (codes "show" ∷ word ∷ []) (codes "show" ∷ decimal p.0 ∷ []) (ap (λ (w : List ℕ). codes "show" ∷ w ∷ []) p.2) (inr (command.Show (view.Proc p.0), (refl, (tt, (p.1, tt)))))
+      | inl is ↦ let p = a_number word is in
+          taken_alike (codes "show" ∷ word ∷ []) (codes "show" ∷ decimal p.0 ∷ [])
+          (ap (λ (w : List ℕ). codes "show" ∷ w ∷ []) p.2) (inr (command.Show (view.Proc p.0), (refl, (tt, (p.1, tt)))))
       | inr is ↦ viewed word (among word (second_words (codes "show")) (and_parts _ _ is).0)
     ]) here.1
   where
@@ -331,10 +350,12 @@ help_taken [] is = inl (inl (inl (None, refl)))
 help_taken (word ∷ words) is =
     let here = next due.Command [] word words is in
     let found = begins (bytes_eq word) topics (and_parts _ _ here.0).0 in
-    none_taken (codes "help" ∷ word ∷ []) words (inl (inl (inl (Some found.0, ap (λ (w : List ℕ). codes "help " ++ w) (topic_says word found.0 found.1))))) here.1
+    none_taken (codes "help" ∷ word ∷ []) words
+    (inl (inl (inl (Some found.0, ap (λ (w : List ℕ). codes "help " ++ w) (topic_says word found.0 found.1))))) here.1
 
 -- `explain P [K]`, or `trail P [K]`
-asked_taken : (first : List ℕ) (make : StepAsked → Inquiry) → ((s : StepAsked) → first ≡ inquiry_word (make s)) → ((s : StepAsked) → s ≡ step_asked (make s)) → (words : List (List ℕ)) → IsSound (with_process due.Step words) words → IsTaken (first ∷ words)
+asked_taken : (first : List ℕ) (make : StepAsked → Inquiry) → ((s : StepAsked) → first ≡ inquiry_word (make s))
+    → ((s : StepAsked) → s ≡ step_asked (make s)) → (words : List (List ℕ)) → IsSound (with_process due.Step words) words → IsTaken (first ∷ words)
 asked_taken first make word_is step_is [] is = absurd cc
 asked_taken first make word_is step_is (word ∷ []) is =
     let here = next due.Process [] word [] is in
@@ -350,14 +371,20 @@ asked_taken first make word_is step_is (word ∷ second ∷ words) is =
     let s = step_with p.0 (Some k.0) in
     let its : AreStepWords s (word ∷ second ∷ []) = record { are = (λ i. p.2 i ∷ k.2 i ∷ []); in_range = (p.1, (k.1, tt)) } in
     none_taken (first ∷ word ∷ second ∷ []) words
-    (inl (inr (inl (make s, word ∷ second ∷ [], ap (λ (w : List ℕ). w ∷ word ∷ second ∷ []) (word_is s), subst (λ (t : StepAsked). AreStepWords t (word ∷ second ∷ [])) (step_is s) its)))) there.1
+    (inl (inr (inl (
+      make s,
+      word ∷ second ∷ [],
+      ap (λ (w : List ℕ). w ∷ word ∷ second ∷ []) (word_is s),
+      subst (λ (t : StepAsked). AreStepWords t (word ∷ second ∷ [])) (step_is s) its,
+    )))) there.1
 
 -- `auto P`, or `auto P N`
 auto_taken : (words : List (List ℕ)) → IsSound (with_process due.Count words) words → IsTaken (codes "auto" ∷ words)
 auto_taken [] is = absurd cc
 auto_taken (word ∷ []) is = one_taken (codes "auto" ∷ []) due.Process process (word ∷ []) (λ p range. inr (command.Auto p, (refl, (tt, (range, tt))))) is
 auto_taken (word ∷ second ∷ words) is =
-    two_taken (codes "auto" ∷ []) due.Process due.Count process count (word ∷ second ∷ words) (λ p times of_p of_times. inl (inr (inr (p, times, refl, (tt, (of_p, (of_times, tt))))))) is
+    two_taken (codes "auto" ∷ []) due.Process due.Count process count (word ∷ second ∷ words)
+    (λ p times of_p of_times. inl (inr (inr (p, times, refl, (tt, (of_p, (of_times, tt))))))) is
 
 by_topic : (first : Topic) (words : List (List ℕ)) → IsSound (behind first words) words → IsTaken (topic_word first ∷ words)
 by_topic topic.Step words is = step_taken words is
@@ -376,7 +403,8 @@ by_topic topic.Why words is =
     event_taken (codes "why") (λ p k of_p of_k. inr (command.Why p k, (refl, (tt, (of_p, (of_k, tt))))))
     (λ s m p of_s of_m of_p. inr (command.WhyLost s m p, (refl, (tt, (tt, (of_s, (of_m, (of_p, tt)))))))) words is
 by_topic topic.Break words is = break_taken words is
-by_topic topic.Unbreak words is = one_taken (codes "unbreak" ∷ []) due.Breakpoint breakpoint words (λ b range. inr (command.Unbreak b, (refl, (tt, (range, tt))))) is
+by_topic topic.Unbreak words is =
+    one_taken (codes "unbreak" ∷ []) due.Breakpoint breakpoint words (λ b range. inr (command.Unbreak b, (refl, (tt, (range, tt))))) is
 by_topic topic.Resume words is = none_taken (codes "resume" ∷ []) words (inr (command.Resume, (refl, (tt, tt)))) is
 by_topic topic.Show words is = show_taken words is
 by_topic topic.Decisions words is = none_taken (codes "decisions" ∷ []) words (inr (command.Decisions, (refl, (tt, tt)))) is
@@ -386,10 +414,12 @@ by_topic topic.Help words is = help_taken words is
 by_topic topic.Quit words is = none_taken (codes "quit" ∷ []) words (inl (inl (inr (inl refl)))) is
 by_topic topic.Seat words is = seat_taken words is
 
-by_first : (word : List ℕ) (words : List (List ℕ)) (found : Option Topic) → topic_of word ≡ found → IsSound (due.Command ∷ behind_first found words) (word ∷ words) → IsTaken (word ∷ words)
+by_first : (word : List ℕ) (words : List (List ℕ)) (found : Option Topic) → topic_of word ≡ found
+    → IsSound (due.Command ∷ behind_first found words) (word ∷ words) → IsTaken (word ∷ words)
 unfolding topic_of
 by_first word words (Some first) is sound =
-    subst (λ (w : List ℕ). IsTaken (w ∷ words)) (sym (topic_says word first is)) (by_topic first words (next due.Command (behind first words) word words sound).1)
+    subst (λ (w : List ℕ). IsTaken (w ∷ words)) (sym (topic_says word first is))
+    (by_topic first words (next due.Command (behind first words) word words sound).1)
 by_first word words None is sound =
     let here = next due.Command [] word words sound in
     let found = begins (bytes_eq word) topics (and_parts _ _ here.0).0 in

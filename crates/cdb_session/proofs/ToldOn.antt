@@ -1,6 +1,6 @@
 -- What was told of a journal is told of a longer one.
 use Rattle.std.proofs.Common.{◌≡◌, ℕ, ◌+◌, ◌≤◌, List, [], ◌∷◌, drop, length, subst, sym, ◌∙◌, arith, min}
-use Rattle.cdb_commands.specs.ToldReply.{ToldReply}
+use Rattle.cdb_commands.specs.ReplyView.{ReplyView}
 use Rattle.cdb_session.specs.Parts.{IsGiven}
 use Rattle.cdb_rules.specs.RunView.{RunView}
 use Rattle.cdb_session.specs.Answers.{AreTold, IsTold, IsAnsweredAfter, IsDoneAfter}
@@ -15,12 +15,14 @@ AsManyLater old new most = (n : ℕ) → n ≤ most → min n (length new.calls)
 
 module _ (Answers : RunView → Inquiry → List ℕ → Type 0) where
   -- what was told of the journal so far is told of it later
-  told_on : (old new : Part) → GoesOn old new → (count : ℕ) (inquiry : Inquiry) (text : List ℕ) → min count (length new.calls) ≡ min count (length old.calls) → IsTold Answers old count inquiry text → IsTold Answers new count inquiry text
+  told_on : (old new : Part) → GoesOn old new → (count : ℕ) (inquiry : Inquiry) (text : List ℕ)
+      → min count (length new.calls) ≡ min count (length old.calls) → IsTold Answers old count inquiry text → IsTold Answers new count inquiry text
   told_on old new on count inquiry text many (first, low, few, which, answers) =
       let run = on.left_by first few in
       (first, omega (arith, low, on.before), omega (arith, few, on.longer), on.calls_in first few ∙ which ∙ sym many, rw run answers)
 
-  answered_on : (old new : Part) → GoesOn old new → (count : ℕ) → min count (length new.calls) ≡ min count (length old.calls) → (exchange : Exchange) → IsAnsweredAfter Answers old count exchange → IsAnsweredAfter Answers new count exchange
+  answered_on : (old new : Part) → GoesOn old new → (count : ℕ) → min count (length new.calls) ≡ min count (length old.calls)
+      → (exchange : Exchange) → IsAnsweredAfter Answers old count exchange → IsAnsweredAfter Answers new count exchange
   answered_on old new on count many (Call command times, outcome) is = tt
   answered_on old new on count many (Ask inquiry, outcome) is = told_on old new on count inquiry outcome.answer many is
   answered_on old new on count many (Seat chosen, outcome) is = tt
@@ -29,9 +31,13 @@ module _ (Answers : RunView → Inquiry → List ℕ → Type 0) where
   answered_on old new on count many (Fault fault, outcome) is = tt
   answered_on old new on count many (TooLong, outcome) is = tt
 
-  pub all_told_on : (old new : Part) → GoesOn old new → new.replies ≡ old.replies → (count : ℕ) (its : List Exchange) → AsManyLater old new (count + commands_among its) → AreTold (IsDoneAfter Answers old) count its → AreTold (IsDoneAfter Answers new) count its
+  pub all_told_on : (old new : Part) → GoesOn old new → new.replies ≡ old.replies → (count : ℕ) (its : List Exchange)
+      → AsManyLater old new (count + commands_among its) → AreTold (IsDoneAfter Answers old) count its → AreTold (IsDoneAfter Answers new) count its
   all_told_on old new on same count [] many told = tt
   all_told_on old new on same count (exchange ∷ its) many told = (
-    (answered_on old new on count (many count (omega arith)) exchange told.0.0, subst (λ (replies : List ToldReply). IsGiven exchange (drop count replies)) (sym same) told.0.1),
+    (
+      answered_on old new on count (many count (omega arith)) exchange told.0.0,
+      subst (λ (replies : List ReplyView). IsGiven exchange (drop count replies)) (sym same) told.0.1,
+    ),
     all_told_on old new on same (count + given_at exchange) its (λ n low. many n (omega (arith, low))) told.1,
   )

@@ -3,13 +3,15 @@ use Rattle.std.proofs.Common.{◌≡◌, ℕ, suc, ◌+◌, ◌<◌, List, [], �
 use Rattle.std.specs.List.{join_with_byte}
 use Rattle.std.proofs.lemmas.List.{map_more}
 
-join_push : (c : ℕ) (first : List ℕ) (words : List (List ℕ)) (word : List ℕ) → join_with_byte c (first ∷ words ++ word ∷ []) ≡ join_with_byte c (first ∷ words) ++ c ∷ word
+join_push : (c : ℕ) (first : List ℕ) (words : List (List ℕ)) (word : List ℕ)
+    → join_with_byte c (first ∷ words ++ word ∷ []) ≡ join_with_byte c (first ∷ words) ++ c ∷ word
 join_push c first [] word = refl
 join_push c first (second ∷ words) word =
     ap (λ rest. first ++ c ∷ rest) (join_push c second words word) ∙ sym (append_assoc first (c ∷ join_with_byte c (second ∷ words)) (c ∷ word))
 
 -- one word more, behind the first
-pub join_more : (c : ℕ) (words : List (Bor (List ℕ))) (i : ℕ) (none : Bor (List ℕ)) → i + 1 < length words → join_with_byte c (map (λ it. it.now) (take (i + 1 + 1) words)) ≡ join_with_byte c (map (λ it. it.now) (take (i + 1) words)) ++ c ∷ (get_or (drop 1 words) i none).now
+pub join_more : (c : ℕ) (words : List (Bor (List ℕ))) (i : ℕ) (none : Bor (List ℕ)) → i + 1 < length words → join_with_byte c
+    (map (λ it. it.now) (take (i + 1 + 1) words)) ≡ join_with_byte c (map (λ it. it.now) (take (i + 1) words)) ++ c ∷ (get_or (drop 1 words) i none).now
 join_more c [] i none within = absurd (omega (arith, within))
 join_more c (first ∷ words) i none within =
     let one : i + 1 ≡ suc i = omega arith in

@@ -1,7 +1,7 @@
 -- A text that is handed over piece by piece.
-use Rattle.std.proofs.Common.{◌≡◌, ℕ, ◌+◌, ◌-◌, ◌≤◌, List, [], ◌∷◌, ◌++◌, length, take, drop, refl, sym, ap, ◌∙◌, append-nil, append_assoc, take-append-drop}
+use Rattle.std.proofs.Common.{◌≡◌, ℕ, ◌+◌, ◌-◌, List, [], ◌∷◌, ◌++◌, length, take, drop, refl, sym, ap, ◌∙◌, append-nil, append_assoc, take-append-drop}
 use Rattle.std.specs.Prelude.{Result, Ok, Err}
-use Rattle.std.proofs.lemmas.List.{take_rest, take_all}
+use Rattle.std.proofs.lemmas.List.{take_rest}
 use Rattle.std.proofs.Math.Seq.{take-add}
 use Rattle.cdb_session.specs.Moves.{WritesAll, Known, Move, Wrote, written_in, written_by, AsksForInput, AreWrites, FailsToWrite, Makes}
 use Rattle.cdb_session.proofs.MovesInOrder.{Makes-nothing, Makes-more, EndsWith-more, written-append}
@@ -36,7 +36,8 @@ module _ (old now new : Known) (text : List ℕ) (done : ℕ) (so : HasWritten o
       }
 
   -- the writing failed
-  pub cut_off : (A E : Type 0) (e : E) (move : Move) → FailsToWrite move → (AsksForInput move → ⊥) → written_by move ≡ [] → Makes now new (move ∷ []) → WritesAll {A = A} (Err e) old new text
+  pub cut_off : (A E : Type 0) (e : E) (move : Move) → FailsToWrite move → (AsksForInput move → ⊥)
+      → written_by move ≡ [] → Makes now new (move ∷ []) → WritesAll {A = A} (Err e) old new text
   cut_off A E e move fails no_ask none more = (
     so.made ++ move ∷ [],
     Makes-more old now new so.made (move ∷ []) so.makes more,
@@ -45,18 +46,16 @@ module _ (old now new : Known) (text : List ℕ) (done : ℕ) (so : HasWritten o
       drop done text,
       sym (take-append-drop done text)
           ∙ ap (λ bytes. bytes ++ drop done text)
-          (sym so.written ∙ sym (append-nil (written_in so.made)) ∙ ap (λ bytes. written_in so.made ++ bytes) (sym (append-nil (written_by move) ∙ none)) ∙ sym (written-append so.made (move ∷ []))),
+          (sym so.written ∙ sym (append-nil (written_in so.made))
+          ∙ ap (λ bytes. written_in so.made ++ bytes) (sym (append-nil (written_by move) ∙ none)) ∙ sym (written-append so.made (move ∷ []))),
       (so.made, move, refl, fails),
     ),
   )
 
--- all of it was taken
-pub all_said : (A E : Type 0) (a : A) (old now : Known) (text : List ℕ) (done : ℕ) → HasWritten old now text done → length text ≤ done → WritesAll {E = E} (Ok a) old now text
-all_said A E a old now text done so all = (so.made, so.makes, so.writes, so.written ∙ take_all done text all)
-
 -- one text after the other
 module _ (A E : Type 0) (old now new : Known) (one other : List ℕ) where
-  pub both_said : (B F : Type 0) (r : Result B F) (a : A) → WritesAll {E = E} (Ok a) old now one → WritesAll r now new other → WritesAll r old new (one ++ other)
+  pub both_said : (B F : Type 0) (r : Result B F) (a : A) → WritesAll {E = E} (Ok a) old now one
+      → WritesAll r now new other → WritesAll r old new (one ++ other)
   both_said B F (Ok b) a (made, makes, writes, is) (more, makes_more, writes_more, is_more) = (
     made ++ more,
     Makes-more old now new made more makes makes_more,

@@ -1,7 +1,7 @@
 -- What the code keeps for itself: a session over a control of its own.
 use Rattle.std.specs.Prelude.{◌≡◌, ◌≤◌, ℕ, true, List, [], ◌∷◌, length, take}
 use Rattle.cdb_base.specs.Limits.{MAX_ENTRIES}
-use Rattle.cdb_commands.specs.ToldReply.{ToldReply}
+use Rattle.cdb_commands.specs.ReplyView.{ReplyView}
 use Rattle.cdb_control.specs.Commands.{reply_of, obey}
 use Rattle.cdb_control.specs.Journal.{Journaled, Begins}
 use Rattle.cdb_control.specs.State.{State, first_control_state}
@@ -12,7 +12,7 @@ use Rattle.cdb_session.specs.Answers.{run_left}
 use Rattle.cdb_session.specs.Styles.{StyleView, Part, Seats}
 
 -- the replies to all entries, along the journal
-abbrev pub all_replies_from : Rules → State → List Entry → List ToldReply
+abbrev pub all_replies_from : Rules → State → List Entry → List ReplyView
 all_replies_from rules t [] = []
 all_replies_from rules t (e ∷ es) =
     reply_of rules t e.seat e.command ∷ all_replies_from rules (obey rules t e.seat e.command) es

@@ -13,7 +13,8 @@ use Rattle.cdb_session.specs.declared.request.Request.TheVariants.{Ask}
 
 -- the run that a journal leaves, of a control with this setup and this number of seats
 abbrev pub run_left : (Parts → Rules) → Parts → ℕ → List Entry → RunView
-run_left rules setup seats journal = record { setup = setup; history = (replay (rules setup) setup seats journal).history }
+run_left rules setup seats journal =
+    record { setup = setup; history = (replay (rules setup) setup seats journal).history }
 
 -- of each of these lines, before which so many commands were given, this holds
 abbrev pub AreTold : (ℕ → Exchange → Type 0) → ℕ → List Exchange → Type 0
@@ -22,11 +23,12 @@ AreTold Told count (exchange ∷ exchanges) = Told count exchange × AreTold Tol
 
 -- of a run, what is asked of it and a text, whether the text is the answer
 module _ (Answers : RunView → Inquiry → List ℕ → Type 0) where
-  -- The text answers what is asked of the run that some first entries of the journal leave: those before the session, and among the others
-  -- just the first count of its commands; all of them, where the journal had no room for so many.
+  -- The text answers what is asked of the run that some first entries of the journal leave: those before the session,
+  -- and among the others just the first count of its commands; all of them, where the journal had no room for so many.
   abbrev pub IsTold : Part → ℕ → Inquiry → List ℕ → Type 0
   IsTold part count inquiry text =
-      (first : ℕ) × (part.before ≤ first) × (first ≤ part.entries) × (part.calls_in first ≡ min count (length part.calls)) × Answers (part.left_by first) inquiry text
+      (first : ℕ) × (part.before ≤ first) × (first ≤ part.entries)
+      × (part.calls_in first ≡ min count (length part.calls)) × Answers (part.left_by first) inquiry text
 
   -- what a line asks of the run is answered so
   abbrev pub IsAnsweredAfter : Part → ℕ → Exchange → Type 0

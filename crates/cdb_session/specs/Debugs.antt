@@ -20,13 +20,14 @@ use Rattle.cdb_session.specs.Moves.{Known, Move, read_in, written_in, Makes}
 use Rattle.cdb_session.specs.Sessions.{IsSessionBy}
 use Rattle.cdb_session.specs.Table.{Session, begun, IsDialogue}
 
--- the control is of the setup that the text of JSON encodes, it goes on from this journal, and this is the setup in words
+-- the control is of the setup that the text of JSON encodes, it goes on from this journal, and this is the setup in
+-- words
 abbrev pub IsBegun : List ℕ → List ℕ → ℕ → Journaled → List ℕ → Type 0
 IsBegun json from seats control greeting =
     (setup : Parts) × Encodes json setup × IsOpenedFrom setup seats from control × (greeting ≡ greeting_text setup)
 
--- Why there is no control: the setup's first fault, else that of the journal; or memory is out, but not in place of a setup
--- that is too long
+-- Why there is no control: the setup's first fault, else that of the journal; or memory is out, but not in place of a
+-- setup that is too long
 abbrev pub IsFaultOfBeginning : List ℕ → List ℕ → ℕ → PlayFault → Type 0
 IsFaultOfBeginning json from seats (fault.Setup why) = IsFirstFault why json
 IsFaultOfBeginning json from seats (fault.Line number line why) =
@@ -46,7 +47,9 @@ module _ (Answers : RunView → Inquiry → List ℕ → Type 0) (greeting promp
 
   -- a session that has made these moves, and returned this
   abbrev pub IsSession : {A : Type 0} → Result A PlayFault → List Move → Type 0
-  IsSession returned moves = IsSessionBy (IsDialogue Answers greeting prompt start) (IsDialogue Answers greeting prompt start) IsCutShort returned moves
+  IsSession returned moves =
+      IsSessionBy (IsDialogue Answers greeting prompt start)
+      (IsDialogue Answers greeting prompt start) IsCutShort returned moves
 
 module _ (rules : Parts → Rules) (Answers : RunView → Inquiry → List ℕ → Type 0) (prompt json from : List ℕ) where
   -- such a session on the setup that the text of JSON encodes, which goes on from the journal

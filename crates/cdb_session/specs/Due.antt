@@ -1,5 +1,6 @@
 -- What is due in a line, and what is said where something else stands there.
-use Rattle.std.specs.Prelude.{ℕ, ◌==◌, ◌||◌, ◌&&◌, Bool, true, false, not, nat_le, List, [], ◌∷◌, ◌++◌, length, take, map, codes, slice_index, if◌then◌else◌, Option, None, Some}
+use Rattle.std.specs.Prelude.{ℕ, ◌==◌, ◌||◌, ◌&&◌, Bool, true, false, not, nat_le, List, [], ◌∷◌, ◌++◌}
+use Rattle.std.specs.Prelude.{length, take, map, codes, slice_index, if◌then◌else◌, Option, None, Some}
 use Rattle.std.specs.List.{list_any}
 use Rattle.std.specs.Char.{is_ascii_graphic}
 use Rattle.std.specs.Str.{bytes_eq}
@@ -7,7 +8,9 @@ use Rattle.cdb_text.specs.Grammar.{words_of}
 use Rattle.cdb_session.specs.Topics.{topic_of}
 use Rattle.cdb_session.specs.Typed.{acts, first_words, is_digits, second_words}
 use Rattle.cdb_session.specs.declared.due.Due.{Due}
-use Rattle.cdb_session.specs.declared.due.Due.TheVariants.{Command, Process, ProcessOrLost, ProcessOrView, Act, Stop, Message, Step, Round, Breakpoint, Register, Seat, Count, Nothing}
+use Rattle.cdb_session.specs.declared.due.Due.TheVariants.{Command, Process, ProcessOrLost, ProcessOrView}
+use Rattle.cdb_session.specs.declared.due.Due.TheVariants.{Act, Stop, Message, Step, Round, Breakpoint}
+use Rattle.cdb_session.specs.declared.due.Due.TheVariants.{Register, Seat, Count, Nothing}
 use Rattle.cdb_session.specs.declared.topic.Topic.{Topic}
 use Rattle.cdb_session.specs.declared.topic.Topic.TheVariants as topic
 

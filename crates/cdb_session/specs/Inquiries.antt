@@ -29,4 +29,5 @@ step_asked (Trail step) = step
 -- the line asks that
 abbrev pub IsInquiryLine : Inquiry → List ℕ → Type 0
 IsInquiryLine inquiry line =
-    (others : List (List ℕ)) × (words_of line ≡ inquiry_word inquiry ∷ others) × AreStepWords (step_asked inquiry) others
+    (others : List (List ℕ)) × (words_of line ≡ inquiry_word inquiry ∷ others)
+    × AreStepWords (step_asked inquiry) others

@@ -13,12 +13,14 @@ use Rattle.cdb_session.specs.Requests.{IsOwn}
 use Rattle.cdb_session.specs.Table.{begun, session_after}
 use Rattle.cdb_session.specs.Typed.{line_meant}
 
--- behind the entries that the session goes on from the journal has the commands, in order and each as often as it was given,
--- as many as it has room for
+-- behind the entries that the session goes on from the journal has the commands, in order and each as often as it was
+-- given, as many as it has room for
 abbrev pub JournalHasTheCommands : Type 0
 JournalHasTheCommands =
-    (rules : Parts → Rules) (setup : Parts) (entries : List Entry) (exchanges : List Exchange) → length entries ≤ MAX_ENTRIES
-    → (session_after (begun rules setup entries) exchanges).control.journal ≡ take MAX_ENTRIES (entries ++ all_asked true 1 exchanges)
+    (rules : Parts → Rules) (setup : Parts) (entries : List Entry) (exchanges : List Exchange)
+    → length entries ≤ MAX_ENTRIES
+    → (session_after (begun rules setup entries) exchanges).control.journal
+    ≡ take MAX_ENTRIES (entries ++ all_asked true 1 exchanges)
 
 -- a line of a command, and each that a session takes beside commands, stands for itself
 abbrev pub ExactLinesStand : Type 0

@@ -1,7 +1,7 @@
 -- What one line does.
 use Rattle.std.specs.Prelude.{◌≡◌, ◌⊎◌, ℕ, ◌<◌, ◌≤◌, Bool, true, List, [], ◌++◌, length, Result, Ok, Err, Vec}
 use Rattle.std.specs.Global.{Global}
-use Rattle.cdb_commands.specs.ToldReply.{ToldReply, is_refused}
+use Rattle.cdb_commands.specs.ReplyView.{ReplyView, is_refused}
 use Rattle.cdb_control.specs.declared.control.Entry.{Entry}
 use Rattle.cdb_rules.specs.RunView.{RunView}
 use Rattle.cdb_session.specs.Answers.{AnswersNow}
@@ -28,31 +28,31 @@ abbrev pub seen_by : {C : Type 0} → (C → Part) → Session C → SessionView
 seen_by part s = record { part = part s.caller; seat = s.seat; lines = s.lines }
 
 -- a session that got these replies at its next line
-abbrev pub at_line : SessionView → List ToldReply → Along
+abbrev pub at_line : SessionView → List ReplyView → Along
 at_line session got = record { seat = session.seat; replies = got; lines = session.lines }
 
 -- the session has given the command that the line asks for, if it asks for one, and got each time one of these replies
-abbrev pub HasGot : ℕ → Part → Request → List ToldReply → Part → Type 0
+abbrev pub HasGot : ℕ → Part → Request → List ReplyView → Part → Type 0
 HasGot seat old request got new = AreCalled old (entries_of seat request (length got)) got new
 
 -- what was given of it was to be given
-abbrev pub IsToBeGiven : Request → List ToldReply → Type 0
+abbrev pub IsToBeGiven : Request → List ReplyView → Type 0
 IsToBeGiven (Call command times) got = (length got ≤ times) × (times_given (length got) got ≡ length got)
 IsToBeGiven other got = got ≡ []
 
 -- what the line asks for was begun
 pub record HasBegun (seat : ℕ) (old : Part) (request : Request) (new : Part) : Type 0 where
-  pub got : List ToldReply
+  pub got : List ReplyView
   pub calls : HasGot seat old request got new
   pub due : IsToBeGiven request got
 
--- The command was given once more, and the text of the reply added, or that the journal is full. Where this is true it was
--- the last time.
+-- The command was given once more, and the text of the reply added, or that the journal is full. Where this is true it
+-- was the last time.
 abbrev pub GivesOnce : {E : Type 0} → Result Bool E → Part → Entry → List ℕ → List ℕ → Part → Type 0
 GivesOnce (Ok last) old one before text new =
-    ((reply : ToldReply) × IsCalled old one reply new × (last ≡ is_refused reply) × (text ≡ before ++ text_of reply))
+    ((reply : ReplyView) × IsCalled old one reply new × (last ≡ is_refused reply) × (text ≡ before ++ text_of reply))
     ⊎ (MakesNone old new × IsFull new × (last ≡ true) × (text ≡ before ++ full_text))
-GivesOnce (Err fault) old one before text new = MakesNone old new ⊎ ((reply : ToldReply) × IsCalled old one reply new)
+GivesOnce (Err fault) old one before text new = MakesNone old new ⊎ ((reply : ReplyView) × IsCalled old one reply new)
 
 module _ (Answers : RunView → Inquiry → List ℕ → Type 0) where
   -- where the line asks something of the run, this answers it
@@ -60,9 +60,9 @@ module _ (Answers : RunView → Inquiry → List ℕ → Type 0) where
   IsAnsweredAt exchange part =
       (inquiry : Inquiry) → exchange.0 ≡ Ask inquiry → AnswersNow Answers part inquiry exchange.1.answer
 
-  -- What a line asks for was done, by this seat, with these replies. Where its command was given more often, the journal is
-  -- full.
-  pub record HasDone (seat : ℕ) (old : Part) (exchange : Exchange) (got : List ToldReply) (new : Part) : Type 0 where
+  -- What a line asks for was done, by this seat, with these replies. Where its command was given more often, the
+  -- journal is full.
+  pub record HasDone (seat : ℕ) (old : Part) (exchange : Exchange) (got : List ReplyView) (new : Part) : Type 0 where
     pub calls : HasGot seat old exchange.0 got new
     pub given : IsGiven exchange got
     pub fits : length got ≤ given_at exchange
@@ -73,13 +73,13 @@ module _ (Answers : RunView → Inquiry → List ℕ → Type 0) where
     -- The response to a line that asks for this. Out of memory it may have been begun.
     abbrev pub Responds : {E : Type 0} → Result (Vec ℕ Global) E → SessionView → Request → SessionView → Type 0
     Responds (Ok text) old request new =
-        (outcome : Outcome) × (got : List ToldReply) × HasDone old.seat old.part (request, outcome) got new.part
+        (outcome : Outcome) × (got : List ReplyView) × HasDone old.seat old.part (request, outcome) got new.part
         × (text.items ≡ response style (at_line old got) (request, outcome))
     Responds (Err fault) old request new = HasBegun old.seat old.part request new.part
 
     -- what is shown then
     abbrev pub Shows : {E : Type 0} → Result (Vec ℕ Global) E → SessionView → Request → SessionView → Type 0
     Shows (Ok text) old request new =
-        (outcome : Outcome) × (got : List ToldReply) × HasDone old.seat old.part (request, outcome) got new.part
+        (outcome : Outcome) × (got : List ReplyView) × HasDone old.seat old.part (request, outcome) got new.part
         × (text.items ≡ shown style (at_line old got) (request, outcome))
     Shows (Err fault) old request new = HasBegun old.seat old.part request new.part

@@ -1,6 +1,6 @@
 -- The entries that the lines of a session ask for.
 use Rattle.std.specs.Prelude.{◌≡◌, ◌⊎◌, ℕ, Bool, List, [], ◌∷◌, ◌++◌, fold, replicate, if◌then◌else◌}
-use Rattle.cdb_commands.specs.ToldReply.{ToldReply}
+use Rattle.cdb_commands.specs.ReplyView.{ReplyView}
 use Rattle.cdb_control.specs.Journal.{entry}
 use Rattle.cdb_control.specs.declared.control.Entry.{Entry}
 use Rattle.cdb_session.specs.Exchanges.{Exchange}
@@ -10,7 +10,7 @@ use Rattle.cdb_session.specs.declared.request.Request.TheVariants.{Call, Ask, Se
 use Rattle.cdb_session.specs.Styles.{StyleView, Part, IsFull}
 
 -- a command was given as often as it is by the replies that follow
-abbrev pub IsGiven : Exchange → List ToldReply → Type 0
+abbrev pub IsGiven : Exchange → List ReplyView → Type 0
 IsGiven (Call command times, outcome) replies = outcome.given ≡ times_given times replies
 IsGiven other replies = Unit {0}
 

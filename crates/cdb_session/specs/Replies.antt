@@ -1,9 +1,10 @@
 -- The responses of a session by the replies to its commands, whatever else its journal has.
 use Rattle.std.specs.Prelude.{ℕ, zero, suc, ◌+◌, List, [], ◌∷◌, ◌++◌, codes, drop, fold, if◌then◌else◌}
-use Rattle.cdb_commands.specs.ToldReply.{ToldReply}
+use Rattle.cdb_commands.specs.ReplyView.{ReplyView}
 use Rattle.cdb_text.specs.Texts.{text_of}
 use Rattle.cdb_text.specs.declared.fault.LineFault.TheVariants.{Word}
-use Rattle.cdb_session.specs.Dialogues.{full_text, faulty_line_text, fault_response, long_line_text, help_response, shown_by, shown_from_by}
+use Rattle.cdb_session.specs.Dialogues.{full_text, faulty_line_text, fault_response, long_line_text}
+use Rattle.cdb_session.specs.Dialogues.{help_response, shown_by, shown_from_by}
 use Rattle.cdb_session.specs.Dialogues.{dialogue_by}
 use Rattle.cdb_session.specs.Due.{stands}
 use Rattle.cdb_session.specs.Exchanges.{Exchange, given_at}
@@ -19,27 +20,27 @@ use Rattle.cdb_session.specs.declared.topic.Topic.TheVariants as topic
 -- A session between two lines: its seat, the replies to the commands that follow, and how many lines there were.
 pub record Along : Type 0 where
   pub seat : ℕ
-  pub replies : List ToldReply
+  pub replies : List ReplyView
   pub lines : ℕ
 
 -- A command has the text of its reply. Where the replies have ended, the journal is full.
-abbrev pub reply_text : List ToldReply → List ℕ
+abbrev pub reply_text : List ReplyView → List ℕ
 reply_text [] = full_text
 reply_text (reply ∷ replies) = text_of reply
 
 -- the replies to the commands after it
-abbrev pub next_replies : List ToldReply → List ToldReply
+abbrev pub next_replies : List ReplyView → List ReplyView
 next_replies [] = []
 next_replies (reply ∷ replies) = replies
 
 -- so one that is given several times
-abbrev pub replies_text : ℕ → List ToldReply → List ℕ
+abbrev pub replies_text : ℕ → List ReplyView → List ℕ
 replies_text zero replies = []
 replies_text (suc count) replies = reply_text replies ++ replies_text count (next_replies replies)
 
 module _ (style : StyleView) where
   -- before the first line of a session whose commands get these replies
-  abbrev pub begun_along : List ToldReply → Along
+  abbrev pub begun_along : List ReplyView → Along
   begun_along replies = record { seat = style.first; replies = replies; lines = 0 }
 
   -- the response to a line that asks for no command and nothing of the run, after this many lines
@@ -83,8 +84,9 @@ module _ (style : StyleView) where
   shown_from s exchanges = shown_from_by response next_along style.prompt s exchanges
 
   -- all that is shown in a session whose commands get these replies, at these lines
-  abbrev pub dialogue : List ToldReply → List Exchange → List ℕ
-  dialogue replies exchanges = dialogue_by response next_along style.prompt style.greeting (begun_along replies) exchanges
+  abbrev pub dialogue : List ReplyView → List Exchange → List ℕ
+  dialogue replies exchanges =
+      dialogue_by response next_along style.prompt style.greeting (begun_along replies) exchanges
 
   -- the session after these lines
   abbrev pub along_after : Along → List Exchange → Along

@@ -1,7 +1,7 @@
 -- What a session shows beside its responses, and what calls do to the part of a journal that is its own.
 use Rattle.std.specs.Prelude.{◌≡◌, ℕ, ◌≤◌, Bool, true, List, [], ◌∷◌, ◌++◌, decimal, Result, Ok, Err, if◌then◌else◌}
 use Rattle.cdb_base.specs.Limits.{MAX_ENTRIES}
-use Rattle.cdb_commands.specs.ToldReply.{ToldReply, told}
+use Rattle.cdb_commands.specs.ReplyView.{ReplyView, reply_view}
 use Rattle.cdb_commands.specs.declared.reply.Reply.{Reply}
 use Rattle.cdb_control.specs.declared.control.CallFault.{CallFault}
 use Rattle.cdb_control.specs.declared.control.CallFault.TheVariants.{JournalFull, NoMemory}
@@ -10,7 +10,8 @@ use Rattle.cdb_rules.specs.RunView.{RunView}
 use Rattle.cdb_session.specs.Requests.{most_seats}
 use Rattle.cdb_setup.specs.Parts.{IsWithin}
 
--- What is shown before the first prompt and before each line, the seat of the first lines, and whether a line may choose another.
+-- What is shown before the first prompt and before each line, the seat of the first lines, and whether a line may
+-- choose another.
 pub record StyleView : Type 0 where
   pub greeting : List ℕ
   pub prompt : List ℕ
@@ -22,11 +23,11 @@ abbrev pub prompt_at : Bool → ℕ → List ℕ → List ℕ
 prompt_at numbered seat prompt = if numbered then (decimal seat ++ prompt) else prompt
 
 -- What a journal has of a session: its entries, in order; the replies to them, each at its position in the journal; how
--- many entries the journal had before the session, and how many it has in all; and of so many of its first entries how many
--- are of the session, and the run that they leave.
+-- many entries the journal had before the session, and how many it has in all; and of so many of its first entries how
+-- many are of the session, and the run that they leave.
 pub record Part : Type 0 where
   pub calls : List Entry
-  pub replies : List ToldReply
+  pub replies : List ReplyView
   pub before : ℕ
   pub entries : ℕ
   pub calls_in : ℕ → ℕ
@@ -43,7 +44,7 @@ pub record GoesOn (old new : Part) : Type 0 where
   pub left_by : (first : ℕ) → first ≤ old.entries → new.left_by first ≡ old.left_by first
 
 -- the session made this entry, and got this reply
-pub record IsCalled (old : Part) (one : Entry) (reply : ToldReply) (new : Part) : Type 0 where
+pub record IsCalled (old : Part) (one : Entry) (reply : ReplyView) (new : Part) : Type 0 where
   pub goes_on : GoesOn old new
   pub calls : new.calls ≡ old.calls ++ one ∷ []
   pub replies : new.replies ≡ old.replies ++ reply ∷ []
@@ -57,7 +58,7 @@ pub record MakesNone (old new : Part) : Type 0 where
   pub full : IsFull old → IsFull new
 
 -- the session made these entries, and got these replies, of which there are none where the journal was full
-pub record AreCalled (old : Part) (made : List Entry) (got : List ToldReply) (new : Part) : Type 0 where
+pub record AreCalled (old : Part) (made : List Entry) (got : List ReplyView) (new : Part) : Type 0 where
   pub goes_on : GoesOn old new
   pub calls : new.calls ≡ old.calls ++ made
   pub replies : new.replies ≡ old.replies ++ got
@@ -65,7 +66,7 @@ pub record AreCalled (old : Part) (made : List Entry) (got : List ToldReply) (ne
 
 -- a call, by what it returned
 abbrev pub Calls : Part → Entry → Result Reply CallFault → Part → Type 0
-Calls old one (Ok reply) new = IsCalled old one (told reply) new
+Calls old one (Ok reply) new = IsCalled old one (reply_view reply) new
 Calls old one (Err JournalFull) new = MakesNone old new × IsFull new
 Calls old one (Err (NoMemory refused)) new = MakesNone old new
 

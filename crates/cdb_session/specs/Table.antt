@@ -1,7 +1,9 @@
--- The table of a session whose lines choose one of nine seats: the response to each line, by the control that the lines before have led to.
-use Rattle.std.specs.Prelude.{◌≡◌, ℕ, zero, suc, ◌+◌, ◌==◌, ◌||◌, Bool, true, List, [], ◌∷◌, ◌++◌, length, fold, codes, if◌then◌else◌}
+-- The table of a session whose lines choose one of nine seats: the response to each line, by the control that the lines
+-- before have led to.
+use Rattle.std.specs.Prelude.{◌≡◌, ℕ, zero, suc, ◌+◌, ◌==◌, ◌||◌, Bool, true, List}
+use Rattle.std.specs.Prelude.{[], ◌∷◌, ◌++◌, length, fold, codes, if◌then◌else◌}
 use Rattle.cdb_base.specs.Limits.{MAX_ENTRIES, MAX_SEATS}
-use Rattle.cdb_commands.specs.ToldReply.{is_refused}
+use Rattle.cdb_commands.specs.ReplyView.{is_refused}
 use Rattle.cdb_commands.specs.declared.command.Command.{Command}
 use Rattle.cdb_control.specs.Journal.{Journaled, extended, reply_in}
 use Rattle.cdb_control.specs.declared.control.Entry.{Entry}
@@ -104,7 +106,8 @@ run_in s = run_left s.rules s.control.setup s.control.seats s.control.journal
 
 -- of a run, what is asked of it and a text, whether the text is the answer
 module _ (Answers : RunView → Inquiry → List ℕ → Type 0) where
-  -- A command is given as often as it can be. What a line asks of the run is answered by the one that the control has come to.
+  -- A command is given as often as it can be. What a line asks of the run is answered by the one that the control has
+  -- come to.
   abbrev pub IsAnsweredIn : Session → Exchange → Type 0
   IsAnsweredIn s (Call command times, outcome) = outcome.given ≡ given_to s.rules s.seat command s.control times
   IsAnsweredIn s (Ask inquiry, outcome) = Answers (run_in s) inquiry outcome.answer
@@ -122,4 +125,5 @@ module _ (Answers : RunView → Inquiry → List ℕ → Type 0) where
     -- the text is that of a session from this start with these lines, of which it responds to those up to `quit`
     abbrev pub IsDialogue : Session → List (List ℕ) → List ℕ → Type 0
     IsDialogue start lines text =
-        (exchanges : List Exchange) × AreAsked exchanges lines × AreAnswered start exchanges × (text ≡ dialogue start exchanges)
+        (exchanges : List Exchange) × AreAsked exchanges lines
+        × AreAnswered start exchanges × (text ≡ dialogue start exchanges)

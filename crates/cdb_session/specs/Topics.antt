@@ -2,7 +2,9 @@
 use Rattle.std.specs.Prelude.{ℕ, List, [], ◌∷◌, codes, find, Option}
 use Rattle.std.specs.Str.{bytes_eq}
 use Rattle.cdb_session.specs.declared.topic.Topic.{Topic}
-use Rattle.cdb_session.specs.declared.topic.Topic.TheVariants.{Step, Auto, Lose, Undo, Redo, Forget, Rollback, Why, Break, Unbreak, Resume, Show, Decisions, Explain, Trail, Help, Quit, Seat}
+use Rattle.cdb_session.specs.declared.topic.Topic.TheVariants.{Step, Auto, Lose, Undo, Redo, Forget, Rollback}
+use Rattle.cdb_session.specs.declared.topic.Topic.TheVariants.{Why, Break, Unbreak, Resume, Show, Decisions}
+use Rattle.cdb_session.specs.declared.topic.Topic.TheVariants.{Explain, Trail, Help, Quit, Seat}
 
 abbrev pub topic_word : Topic → List ℕ
 topic_word Step = codes "step"

@@ -1,5 +1,6 @@
 -- Which line a line stands for, as it is typed.
-use Rattle.std.specs.Prelude.{ℕ, ◌==◌, ◌||◌, ◌&&◌, Bool, false, not, nat_eq, nat_lt, List, [], ◌∷◌, ◌++◌, length, codes, filter, fold, map, if◌then◌else◌}
+use Rattle.std.specs.Prelude.{ℕ, ◌==◌, ◌||◌, ◌&&◌, Bool, false, not, nat_eq, nat_lt, List, []}
+use Rattle.std.specs.Prelude.{◌∷◌, ◌++◌, length, codes, filter, fold, map, if◌then◌else◌}
 use Rattle.std.specs.List.{list_all, slice_split, join_with_byte, starts_with, before_first, after_first}
 use Rattle.std.specs.Str.{bytes_eq}
 use Rattle.std.specs.Char.{is_ascii_digit}

@@ -2,7 +2,7 @@
 use Rattle.std.specs.Prelude.{◌≡◌, ◌⊎◌, ℕ, ◌+◌, ◌≤◌, Bool, true, false, List, [], ◌∷◌, ◌++◌, length, take, Result, Ok}
 use Rattle.std.specs.Prelude.{Err, IsTrue, ◌↔◌}
 use Rattle.std.specs.List.{AllZip, AllByRecursion, flat_map}
-use Rattle.cdb_commands.specs.ToldReply.{ToldReply}
+use Rattle.cdb_commands.specs.ReplyView.{ReplyView}
 use Rattle.cdb_session.specs.Requests.{HasNoEnd, Asks, AsksFor, IsQuit}
 use Rattle.cdb_session.specs.Typed.{line_meant}
 use Rattle.cdb_session.specs.Moves.{Known, Move, read_in, written_in, AreWrites, FailsToWrite, EndsWith, FindsTheEnd}
@@ -45,16 +45,16 @@ abbrev pub IsOver : List Move → Type 0
 IsOver moves = FindsTheEnd moves ⊎ (most_input ≤ length (read_in moves))
 
 -- a part with these replies
-abbrev pub part_with : List ToldReply → Part → Part
+abbrev pub part_with : List ReplyView → Part → Part
 part_with replies part = record part { replies = replies }
 
 -- more replies may follow, unless the journal is full
-abbrev pub MoreMayFollow : List ToldReply → Part → Type 0
+abbrev pub MoreMayFollow : List ReplyView → Part → Type 0
 MoreMayFollow more part = IsFull part → more ≡ []
 
 module _ (Answers : RunView → Inquiry → List ℕ → Type 0) (style : StyleView) where
   -- so far the session has responded in time, whatever its journal will have of it beside these commands
-  abbrev pub RespondsOnTime : List ToldReply → List Exchange → List Move → Type 0
+  abbrev pub RespondsOnTime : List ReplyView → List Exchange → List Move → Type 0
   RespondsOnTime replies exchanges moves =
       (final : Part) (others : List Exchange)
       → HasExchanges Answers style (part_with replies final) (exchanges ++ others)
@@ -62,7 +62,7 @@ module _ (Answers : RunView → Inquiry → List ℕ → Type 0) (style : StyleV
 
   -- After these moves the lines that have ended have their responses, with these of the replies. Of the next line this
   -- much is held, and these bytes that were read are not yet looked at.
-  pub record IsAt (replies : List ToldReply) (moves : List Move) (part : Part) (along : Along)
+  pub record IsAt (replies : List ReplyView) (moves : List Move) (part : Part) (along : Along)
       (unfinished left : List ℕ) : Type 0 where
     pub lines : List (List ℕ)
     pub line : List ℕ
@@ -82,7 +82,7 @@ module _ (Answers : RunView → Inquiry → List ℕ → Type 0) (style : StyleV
   -- so it is whatever replies will follow
   abbrev pub StaysAt : List Move → SessionView → List ℕ → List ℕ → Type 0
   StaysAt moves session unfinished left =
-      (more : List ToldReply) → MoreMayFollow more session.part
+      (more : List ReplyView) → MoreMayFollow more session.part
       → IsAt (session.part.replies ++ more) moves session.part (at_line session more) unfinished left
 
   -- what a line asks for was done, with the response to it; it was `quit` where this is true
@@ -91,7 +91,7 @@ module _ (Answers : RunView → Inquiry → List ℕ → Type 0) (style : StyleV
     pub exchange : Exchange
     pub asks : Asks exchange unfinished
     pub writes : AreWrites made
-    pub got : List ToldReply
+    pub got : List ReplyView
     pub done : HasDone Answers old.seat old.part exchange got new.part
     pub written : written_in made ≡ shown style (at_line old got) exchange
     pub lines : new.lines ≡ old.lines + 1
@@ -104,7 +104,7 @@ module _ (Answers : RunView → Inquiry → List ℕ → Type 0) (style : StyleV
     pub exchange : Exchange
     pub asks : Asks exchange unfinished
     pub writes : AreWrites made
-    pub got : List ToldReply
+    pub got : List ReplyView
     pub done : HasDone Answers old.seat old.part exchange got new.part
     pub missing : List ℕ
     pub written : shown style (at_line old got) exchange ≡ written_in made ++ missing

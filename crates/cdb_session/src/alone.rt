@@ -59,8 +59,8 @@ impl<R: Runs, A: Answers<R>> Caller for OwnControl<R, A> {
 /// A control of the setup of this text with 1 to 64 seats, which goes on from a journal, and the setup in words.
 ///
 /// # Errors
-/// `Setup` with the setup's first fault; else `Line` and `ScriptTooLong`, as of script 1, where the journal is none, and `Line`
-/// with the fault Number for its first line of a seat beyond the last. `NoMemory` where an allocation fails.
+/// `Setup` with the setup's first fault; else `Line` and `ScriptTooLong`, as of script 1, where the journal is none,
+/// and `Line` with the fault Number for its first line of a seat beyond the last. `NoMemory` where an allocation fails.
 pub fn begin<R: Runs>(
     alloc: Global,
     setup: &[u8],

@@ -5,7 +5,8 @@ ghost use Rattle.std.specs.List.{list_any};
 ghost use Rattle.std.specs.Str.{bytes_eq};
 ghost use Rattle.cdb_text.specs.Grammar.{words_of};
 ghost use Rattle.cdb_text.specs.Pushes.{Pushes};
-ghost use Rattle.cdb_session.specs.Due.{due_text, takes_number, words_at, is_number, may_stand, event, with_process, behind, dues_of};
+ghost use Rattle.cdb_session.specs.Due.{due_text, takes_number, words_at, is_number, may_stand};
+ghost use Rattle.cdb_session.specs.Due.{event, with_process, behind, dues_of};
 ghost use Rattle.cdb_session.specs.Due.{ends, stands, first_amiss, amiss_in, shown_byte, shown_word, amiss_text};
 
 use crate::topic::Topic;

@@ -2,7 +2,8 @@
 
 ghost use Rattle.std.specs.Prelude.{◌≡◌, IfOk, map};
 ghost use Rattle.std.specs.Str.Lines.{lines};
-ghost use Rattle.cdb_session.specs.Dialogues.{first_word, help_text, line_about, lines_about, or_word_fault, seats_help};
+ghost use Rattle.cdb_session.specs.Dialogues.{first_word, help_text, line_about, lines_about};
+ghost use Rattle.cdb_session.specs.Dialogues.{or_word_fault, seats_help};
 ghost use Rattle.cdb_text.specs.Pushes.{Pushes};
 
 use crate::response::push_no_command;

@@ -3,7 +3,7 @@
 ghost use Rattle.std.specs.Prelude.{◌≡◌, ◌≤◌, ◌∷◌, MatchOption, length};
 ghost use Rattle.std.specs.Str.Parse.{AllDigits, digits_value};
 ghost use Rattle.cdb_text.specs.Grammar.{words_of};
-ghost use Rattle.cdb_text.specs.Reading.{number_of};
+ghost use Rattle.cdb_text.specs.Readers.{number_of};
 ghost use Rattle.cdb_text.specs.Words.{words_left};
 ghost use Rattle.cdb_session.specs.InquiryWords.{inquiry_in, repeat_in, step_in};
 

@@ -1,6 +1,6 @@
 //! Sessions at a prompt or behind a pipe: each line has its response before the next is read. A session goes on over
-//! whatever carries its commands out, a control of its own or one that is shared, and answers what a line asks of the run
-//! by whoever knows such a run.
+//! whatever carries its commands out, a control of its own or one that is shared, and answers what a line asks of the
+//! run by whoever knows such a run.
 //!
 //! ```text
 //! let mut console = Streams::new(Input::new(rt.reader()), Output::new(io::writer(rt)));

@@ -45,11 +45,11 @@ fn respond_to_last<C: Caller, T: Console>(
     Ok(())
 }
 
-/// Answers the lines one after the other, from the first one on, up to `quit` or the end of the input, and hands the caller
-/// back. Of what the caller's journal has, the session is what comes to it. The greeting is shown first, and the prompt before
-/// each line. The end of the input ends the session too, and so do 2^63 bytes. After `Read` each line that has ended has its
-/// response, after `Write` what was written is a beginning of the responses, and after `NoMemory` it is the responses to a
-/// beginning of the lines.
+/// Answers the lines one after the other, from the first one on, up to `quit` or the end of the input, and hands the
+/// caller back. Of what the caller's journal has, the session is what comes to it. The greeting is shown first, and the
+/// prompt before each line. The end of the input ends the session too, and so do 2^63 bytes. After `Read` each line
+/// that has ended has its response, after `Write` what was written is a beginning of the responses, and after
+/// `NoMemory` it is the responses to a beginning of the lines.
 pub fn run<C: Caller, T: Console>(
     alloc: Global,
     style: &Style<'_>,

@@ -1,7 +1,7 @@
 //! A session: what its lines have led to.
 
 ghost use Rattle.std.specs.Prelude.{◌≡◌, ◌+◌, ◌-◌, ◌<◌, ◌≤◌, ◌^◌, ◌++◌, ℕ, codes, true, IfOk, OnOk};
-ghost use Rattle.cdb_commands.specs.ToldReply.{is_refused, told};
+ghost use Rattle.cdb_commands.specs.ReplyView.{is_refused, reply_view};
 ghost use Rattle.cdb_text.specs.Pushes.{Pushes};
 ghost use Rattle.cdb_text.specs.Texts.{text_of};
 ghost use Rattle.cdb_session.specs.Dialogues.{full_text, help_response, prompt_after};
@@ -172,8 +172,8 @@ fn push_full(text: &mut Vec<u8>) -> Result<bool, NoMemory>
 
 /// Adds the text of a reply, which is given up. Returns whether it is a refusal.
 fn push_reply(alloc: Global, text: &mut Vec<u8>, reply: Reply) -> Result<bool, NoMemory>
-    ensures { IfOk result (λ last. (last ≡ is_refused (told reply))
-        × (text.new.items ≡ text.old.items ++ text_of (told reply))) }
+    ensures { IfOk result (λ last. (last ≡ is_refused (reply_view reply))
+        × (text.new.items ≡ text.old.items ++ text_of (reply_view reply))) }
 {
     let refused = matches!(reply, Reply::Refused(_));
     let added = reply_text(alloc, &reply);

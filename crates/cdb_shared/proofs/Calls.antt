@@ -12,7 +12,7 @@ use Rattle.cdb_commands.specs.declared.reply.Reply.{Reply}
 use Rattle.cdb_control.specs.declared.control.CallFault.{CallFault}
 use Rattle.cdb_control.specs.declared.control.CallFault.TheVariants.{JournalFull}
 use Rattle.cdb_base.specs.Limits.{MAX_ENTRIES}
-use Rattle.cdb_commands.specs.ToldReply.{ToldReply, told}
+use Rattle.cdb_commands.specs.ReplyView.{ReplyView, reply_view}
 use Rattle.cdb_control.specs.Commands.{reply_of}
 use Rattle.cdb_control.specs.Headline.{Headline}
 use Rattle.cdb_control.specs.Journal.{Journaled, Begins, entry, extended, replay, reply_in}
@@ -256,7 +256,7 @@ met_begins home u v {y} {z} c one two other_one other_two is known first second 
     )
 
 call_at : (rules : Parts → Rules) (number : ℕ) (home home' : TableId) (v w x : Knowledge) (c after : Journaled)
-    (command : Command) (reply : ToldReply) (one : IsOfOneSeat v) (other : IsOfOneSeat x) → HasNumber number (known_seat_of v one)
+    (command : Command) (reply : ReplyView) (one : IsOfOneSeat v) (other : IsOfOneSeat x) → HasNumber number (known_seat_of v one)
     → TurnTaken v c w → TurnGiven w after x
     → reply ≡ reply_in rules c number command → after ≡ extended rules c number command
     → IsCall rules (seat_of_pass home v one) command reply (seat_of_pass home' x other)
@@ -277,11 +277,11 @@ call_at rules number home home' v w x c after command reply one other its taken 
 pub is_call : (rules : Parts → Rules) (number : ℕ) (home home' : TableId) (v w x : Knowledge) (c after : Journaled)
     (command : Command) (r : Result Reply CallFault) (old : SeatView) (one : IsOfOneSeat v) (other : IsOfOneSeat x)
     → seat_of_pass home v one ≡ old → HasNumber number (known_seat_of v one) → TurnTaken v c w → TurnGiven w after x
-    → IfOk r (λ reply. told reply ≡ reply_in rules c number command) → IfOk r (λ _. after ≡ extended rules c number command)
-    → IfOk r (λ reply. IsCall rules old command (told reply) (seat_of_pass home' x other))
+    → IfOk r (λ reply. reply_view reply ≡ reply_in rules c number command) → IfOk r (λ _. after ≡ extended rules c number command)
+    → IfOk r (λ reply. IsCall rules old command (reply_view reply) (seat_of_pass home' x other))
 is_call rules number home home' v w x c after command (Ok reply) old one other is its taken given replied extends =
-    subst (λ (s : SeatView). IsCall rules s command (told reply) (seat_of_pass home' x other)) is
-    (call_at rules number home home' v w x c after command (told reply) one other its taken given replied extends)
+    subst (λ (s : SeatView). IsCall rules s command (reply_view reply) (seat_of_pass home' x other)) is
+    (call_at rules number home home' v w x c after command (reply_view reply) one other its taken given replied extends)
 is_call rules number home home' v w x c after command (Err fault) old one other is its taken given replied extends = tt
 
 -- where the control that was given back is the one that was taken, the seat has made no call

@@ -18,7 +18,8 @@ use Rattle.cdb_shared.specs.declared.knowledge.KnownSeat.{KnownSeat}
 use Rattle.cdb_shared.specs.declared.knowledge.Story.{Story}
 use Rattle.cdb_shared.specs.declared.knowledge.Knowledge.{Knowledge}
 use Rattle.cdb_shared.specs.Turn.{story, longer, opening, spent, resting, holding, Knows, AllKnow, Whereabouts, InQueue, HeldBy, FitsAt, queued, IsHeld}
-use Rattle.cdb_shared.specs.Turn.{seat_count, total_of, Turns, IsRuled, known_seats_from, watch_and_seats, seen_at, seen_by, TurnTaken, TurnGiven, MayGrow, MayFollow, MayGive}
+use Rattle.cdb_shared.specs.Turn.{seat_count, total_of, Turns, IsRuled, known_seats_from, watch_and_seats}
+use Rattle.cdb_shared.specs.Turn.{seen_at, seen_by, TurnTaken, TurnGiven, MayGrow, MayFollow, MayGive}
 use Rattle.cdb_shared.specs.Turn.{seats_after, NoneWaits, without_first, first_alone, joined_pass}
 
 -- at the start there is one pass, and nothing in the queue
@@ -41,14 +42,16 @@ total_set : (n : ℕ) (views : List Knowledge) (pass : ℕ) (v w : Knowledge) �
     → total_of n (set views pass w) + seat_count n v.known_seats ≡ total_of n views + seat_count n w.known_seats
 total_set n [] pass v w e = absurd (some-ne-none v (sym e))
 total_set n (x ∷ xs) zero v w e =
-    let same : seat_count n x.known_seats ≡ seat_count n v.known_seats = ap (λ (u : Knowledge). seat_count n u.known_seats) (some-injective x v e) in omega arith
+    let same : seat_count n x.known_seats ≡ seat_count n v.known_seats = ap (λ (u : Knowledge). seat_count n u.known_seats) (some-injective x v e) in
+    omega arith
 total_set n (x ∷ xs) (suc i) v w e = let rest = total_set n xs i v w e in omega arith
 
 -- the seats of one pass
 total_has : (n : ℕ) (views : List Knowledge) (pass : ℕ) (v : Knowledge) → get_elem? views pass ≡ some v → seat_count n v.known_seats ≤ total_of n views
 total_has n [] pass v e = absurd (some-ne-none v (sym e))
 total_has n (x ∷ xs) zero v e =
-    let same : seat_count n x.known_seats ≡ seat_count n v.known_seats = ap (λ (u : Knowledge). seat_count n u.known_seats) (some-injective x v e) in omega arith
+    let same : seat_count n x.known_seats ≡ seat_count n v.known_seats = ap (λ (u : Knowledge). seat_count n u.known_seats) (some-injective x v e) in
+    omega arith
 total_has n (x ∷ xs) (suc i) v e = let rest = total_has n xs i v e in omega arith
 
 -- the seats of two passes
@@ -338,7 +341,8 @@ merges {pass} {v} {other} {u} rests rests' items views (inr t) at apart at' =
       turn = t.turn;
       waits = t.waits;
       held =
-          held_set t.turn (set views pass both) other u spent at' (resting_holds u rests') (held_set t.turn views pass v both at (resting_holds v rests) t.held);
+          held_set t.turn (set views pass both) other u spent at' (resting_holds u rests')
+          (held_set t.turn views pass v both at (resting_holds v rests) t.held);
       each = each_set F (set views pass both) other spent tt (λ j y _ e. was j y e);
       once = λ k.
           let total = total_set k views pass v both at in

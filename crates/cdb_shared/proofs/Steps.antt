@@ -6,7 +6,7 @@ use Rattle.std.proofs.Common.{replicate, refl, sym, ap, ◌∙◌, subst, arith,
 use Rattle.std.proofs.lemmas.List.{replicate-append-replicate, take_more}
 use Rattle.cdb_commands.specs.declared.command.Command.{Command}
 use Rattle.cdb_base.specs.declared.refusal.Refusal.TheVariants as refusal
-use Rattle.cdb_commands.specs.ToldReply.{ToldReply, Refused}
+use Rattle.cdb_commands.specs.ReplyView.{ReplyView, Refused}
 use Rattle.cdb_control.specs.declared.control.Entry.{Entry}
 use Rattle.cdb_control.specs.declared.control.CallFault.{CallFault}
 use Rattle.cdb_control.specs.declared.control.CallFault.TheVariants.{JournalFull, NoMemory}
@@ -30,7 +30,7 @@ IsLater-trans a b c x y = record {
 }
 
 -- a call is one more of the seat's own
-pub calls_of-call : (rules : Parts → Rules) (old new : SeatView) (command : Command) (reply : ToldReply) → IsLater old new
+pub calls_of-call : (rules : Parts → Rules) (old new : SeatView) (command : Command) (reply : ReplyView) → IsLater old new
     → IsCall rules old command reply new → calls_of new ≡ calls_of old ++ command ∷ []
 calls_of-call rules old new command reply later call =
     (λ i. own (later.number i) (call.entry i)) ∙ own-push old.number call.journal command ∙ ap (λ l. l ++ command ∷ []) call.calls
@@ -40,7 +40,7 @@ same_replies : (rules : Parts → Rules) (old new : SeatView) → IsLater old ne
 same_replies rules old new later journal is = λ i. replies_of (rules (later.setup i)) (later.setup i) (later.seats i) (later.number i) (is i)
 
 -- and its reply is one more of the seat's replies
-pub replies_to-call : (rules : Parts → Rules) (old new : SeatView) (command : Command) (reply : ToldReply) → IsLater old new
+pub replies_to-call : (rules : Parts → Rules) (old new : SeatView) (command : Command) (reply : ReplyView) → IsLater old new
     → IsCall rules old command reply new → replies_to rules new ≡ replies_to rules old ++ reply ∷ []
 replies_to-call rules old new command reply later call =
     same_replies rules old new later (call.journal ++ entry old.number command ∷ []) call.entry
@@ -63,7 +63,7 @@ pub length-own : (seat : ℕ) (es : List Entry) → length (own seat es) ≤ len
 length-own seat [] = omega arith
 length-own seat (e ∷ es) = shorter_if (e.seat == seat) e.command (own seat es) (length es) (length-own seat es)
 
-pub NoneDone-push : (rs : List ToldReply) (r : ToldReply) → NoneDone rs → r ≢ Refused refusal.Done → NoneDone (rs ++ r ∷ [])
+pub NoneDone-push : (rs : List ReplyView) (r : ReplyView) → NoneDone rs → r ≢ Refused refusal.Done → NoneDone (rs ++ r ∷ [])
 NoneDone-push [] r none apart = (apart, tt)
 NoneDone-push (x ∷ rs) r none apart = (none.0, NoneDone-push rs r none.1 apart)
 
@@ -71,7 +71,7 @@ NoneDone-push (x ∷ rs) r none apart = (none.0, NoneDone-push rs r none.1 apart
 pub ends_at_fault : (fault : CallFault) {end : End} → end ≡ end_at fault → (end ≢ All) × (end ≢ Done) × (end ≢ Stopped)
 ends_at_fault fault h1 = grind (arith, common_steps, gets)
 
-pub driven_fault : (fault : CallFault) {end : End} {count turns : ℕ} (replies : List ToldReply) → end ≡ end_at fault
+pub driven_fault : (fault : CallFault) {end : End} {count turns : ℕ} (replies : List ReplyView) → end ≡ end_at fault
     → count < turns → NoneDone replies → IsDriven end count turns replies
 driven_fault fault {count} {turns} replies is low none = subst (λ (e : End). IsDriven e count turns replies) (sym is) (by_fault fault)
   where

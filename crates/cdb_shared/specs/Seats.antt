@@ -6,7 +6,7 @@ use Rattle.cdb_base.specs.declared.event.Event.{Event}
 use Rattle.cdb_base.specs.Limits.{MAX_ENTRIES}
 use Rattle.cdb_commands.specs.declared.command.Command.{Command}
 use Rattle.cdb_control.specs.declared.control.Entry.{Entry}
-use Rattle.cdb_commands.specs.ToldReply.{ToldReply}
+use Rattle.cdb_commands.specs.ReplyView.{ReplyView}
 use Rattle.cdb_control.specs.Commands.{reply_of}
 use Rattle.cdb_control.specs.Headline.{Headline}
 use Rattle.cdb_control.specs.Journal.{Journaled, Begins, entry as entry_of, opened, own, replay}
@@ -56,13 +56,13 @@ abbrev pub SameCalls : SeatView → List Entry → Type 0
 SameCalls seat journal = own seat.number journal ≡ own seat.number seat.seen
 
 -- the reply to a command of the seat at a journal
-abbrev pub reply_at : (Parts → Rules) → SeatView → List Entry → Command → ToldReply
+abbrev pub reply_at : (Parts → Rules) → SeatView → List Entry → Command → ReplyView
 reply_at rules seat journal command =
     let rules_of = rules seat.setup in
     reply_of rules_of (replay rules_of seat.setup seat.seats journal) seat.number command
 
 -- one call: before it the others had made the journal what it was, and the reply is the one there
-pub record IsCall (rules : Parts → Rules) (old : SeatView) (command : Command) (replied : ToldReply)
+pub record IsCall (rules : Parts → Rules) (old : SeatView) (command : Command) (replied : ReplyView)
     (new : SeatView) : Type 0 where
   pub journal : List Entry
   pub begins : Begins old.seen journal

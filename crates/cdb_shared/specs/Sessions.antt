@@ -3,7 +3,7 @@ use Rattle.std.specs.Prelude.{◌≡◌, ◌≢◌, ℕ, ◌<◌, List, [], ◌�
 use Rattle.std.specs.List.{AllByRecursion}
 use Rattle.cdb_base.specs.declared.refusal.Refusal.TheVariants as refusal
 use Rattle.cdb_commands.specs.declared.command.Command.{Command}
-use Rattle.cdb_commands.specs.ToldReply.{ToldReply, Refused}
+use Rattle.cdb_commands.specs.ReplyView.{ReplyView, Refused}
 use Rattle.cdb_control.specs.declared.control.CallFault.{CallFault}
 use Rattle.cdb_control.specs.declared.control.CallFault.TheVariants.{JournalFull, NoMemory}
 use Rattle.cdb_control.specs.Journal.{own, replies_of}
@@ -19,7 +19,7 @@ abbrev pub calls_of : SeatView → List Command
 calls_of seat = own seat.number seat.seen
 
 -- the replies to them
-abbrev pub replies_to : (Parts → Rules) → SeatView → List ToldReply
+abbrev pub replies_to : (Parts → Rules) → SeatView → List ReplyView
 replies_to rules seat = replies_of (rules seat.setup) seat.setup seat.seats seat.number seat.seen
 
 -- how a session ends at a fault
@@ -28,13 +28,13 @@ end_at JournalFull = Full
 end_at (NoMemory refused) = Short refused
 
 -- none of these is the refusal of a process that is done
-abbrev pub NoneDone : List ToldReply → Type 0
+abbrev pub NoneDone : List ReplyView → Type 0
 NoneDone replies = AllByRecursion (λ r. r ≢ Refused refusal.Done) replies
 
 -- how a driven seat ended, after this many turns of those allowed, by its replies
-abbrev pub IsDriven : End → ℕ → ℕ → List ToldReply → Type 0
+abbrev pub IsDriven : End → ℕ → ℕ → List ReplyView → Type 0
 IsDriven Done count turns replies =
-    (front : List ToldReply) × (replies ≡ front ++ Refused refusal.Done ∷ []) × NoneDone front
+    (front : List ReplyView) × (replies ≡ front ++ Refused refusal.Done ∷ []) × NoneDone front
 IsDriven All count turns replies = (count ≡ turns) × NoneDone replies
 IsDriven Stopped count turns replies = (count < turns) × NoneDone replies
 IsDriven (Short refused) count turns replies = (count < turns) × NoneDone replies
@@ -43,5 +43,5 @@ IsDriven Full count turns replies = (count < turns) × NoneDone replies
 -- the replies that led one seat to the other are those of a driven seat
 abbrev pub IsDrivenFrom : (Parts → Rules) → SeatView → SeatView → End → ℕ → ℕ → Type 0
 IsDrivenFrom rules before after end count turns =
-    (replies : List ToldReply) × (replies_to rules after ≡ replies_to rules before ++ replies)
+    (replies : List ReplyView) × (replies_to rules after ≡ replies_to rules before ++ replies)
     × IsDriven end count turns replies

@@ -130,8 +130,8 @@ MayGive v c = (v.stage ≡ Holding) × MayFollow v.held v.known_seats (story c)
 abbrev pub watch_and_seats : Story → List KnownSeat
 watch_and_seats c = known_seat_at c 0 ∷ known_seats_from c 1 c.seats
 
--- the seats of a pass that has given back, which have seen the journal; of the first pass the watch and all seats of the
--- control
+-- the seats of a pass that has given back, which have seen the journal; of the first pass the watch and all seats of
+-- the control
 abbrev pub seats_after : Option Story → List KnownSeat → Story → List KnownSeat
 seats_after None known_seats c = watch_and_seats c
 seats_after (Some before) known_seats c = seen_by c known_seats

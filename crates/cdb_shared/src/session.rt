@@ -2,7 +2,7 @@
 ghost use Rattle.std.specs.Prelude.{◌≡◌, ◌≢◌, ◌++◌, ◌≤◌, ◌↔◌, length, map, take, replicate, vec_len, List, Bool, true};
 ghost use Rattle.std.specs.Prelude.{false, Option, None, IsTrue};
 ghost use Rattle.cdb_base.specs.Memory.{no_memory};
-ghost use Rattle.cdb_commands.specs.ToldReply.{Refused, told};
+ghost use Rattle.cdb_commands.specs.ReplyView.{Refused, reply_view};
 ghost use Rattle.cdb_shared.specs.Gates.{Heard, HearsAsked, HearsTold, Hears};
 ghost use Rattle.cdb_shared.specs.Seats.{RestsAt, IsLater, SeesFull, SeesRoom};
 ghost use Rattle.cdb_shared.specs.Sessions.{calls_of, replies_to, end_at, IsDrivenFrom};
@@ -62,7 +62,7 @@ fn ended_by(fault: CallFault) -> End
 
 /// Whether the process was done.
 fn is_done(reply: &Reply) -> bool
-    ensures { IsTrue result ↔ (told reply.now ≡ Refused Refusal.Done) }
+    ensures { IsTrue result ↔ (reply_view reply.now ≡ Refused Refusal.Done) }
 {
     matches!(reply, Reply::Refused(Refusal::Done))
 }
@@ -86,7 +86,7 @@ pub fn serve<T: Runs, G: Gate + Drop, R: Wait>(
     ensures seat { IsLater seat result.0 }
     ensures calls { calls_of result.0 ≡ calls_of seat ++ take (vec_len result.1) commands.now }
     ensures replies { replies_to T.rules result.0
-        ≡ replies_to T.rules seat ++ map told result.1.items }
+        ≡ replies_to T.rules seat ++ map reply_view result.1.items }
     ensures fewer { vec_len result.1 ≤ length commands.now }
     ensures all { (result.2 ≡ End.All) ↔ (vec_len result.1 ≡ length commands.now) }
     ensures done { result.2 ≢ End.Done }

@@ -1,8 +1,10 @@
 //! The shared control: opening it, calling it, meeting and finishing.
-ghost use Rattle.std.specs.Prelude.{◌≡◌, ◌<◌, ◌≤◌, ◌↔◌, [], drop, length, vec_len, vec_capacity, All, IfOk, IfErr, OnErr};
-ghost use Rattle.cdb_commands.specs.ToldReply.{told};
+ghost use Rattle.std.specs.Prelude.{◌≡◌, ◌<◌, ◌≤◌, ◌↔◌, [], drop, length, vec_len};
+ghost use Rattle.std.specs.Prelude.{vec_capacity, All, IfOk, IfErr, OnErr};
+ghost use Rattle.cdb_commands.specs.ReplyView.{reply_view};
 ghost use Rattle.cdb_control.specs.Journal.{AreOfSeats, Journaled, Begins};
-ghost use Rattle.cdb_shared.specs.Seats.{RestsAt, fresh_seat, fresh_seats, IsLater, IsCall, IsKnownBy, SameCalls, SeesFull};
+ghost use Rattle.cdb_shared.specs.Seats.{RestsAt, fresh_seat, fresh_seats, IsLater};
+ghost use Rattle.cdb_shared.specs.Seats.{IsCall, IsKnownBy, SameCalls, SeesFull};
 ghost use Rattle.cdb_shared.specs.Seats.{SeesHeadline, HasHeadline};
 ghost use Rattle.cdb_shared.specs.Turn.{story, resting, known_seats_from, AllKnow};
 ghost use Rattle.crossbeam_queue.specs.Passes.{view, IsPassOf, ruled_capacity};
@@ -58,7 +60,7 @@ impl<T: Runs> Shared<T> {
         requires { RestsAt self.now seat.old }
         ensures seat { IsLater seat.old seat.new }
         ensures call { IfOk result
-            (λ reply. IsCall T.rules seat.old command (told reply) seat.new) }
+            (λ reply. IsCall T.rules seat.old command (reply_view reply) seat.new) }
         ensures fault { OnErr result (SameCalls seat.old seat.new.seen) }
         ensures full { IfErr result (λ f. (f ≡ CallFault.JournalFull) ↔ SeesFull seat.new) }
         ensures limit { length seat.new.seen ≤ MAX_ENTRIES }

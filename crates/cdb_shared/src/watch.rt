@@ -6,8 +6,8 @@ use crate::turn::TurnPass;
 use cdb_rules::Runs;
 use std::marker::Model;
 
-/// What sees the journal of a shared control, and gives no command. A contract sees it as a seat with the number 0, which
-/// no seat has.
+/// What sees the journal of a shared control, and gives no command. A contract sees it as a seat with the number 0,
+/// which no seat has.
 #[derive(Drop)]
 pub struct Watch<T: Runs> {
     pub(crate) pass: TurnPass<T>,

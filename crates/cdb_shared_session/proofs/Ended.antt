@@ -13,7 +13,9 @@ use Rattle.cdb_shared_session.specs.Openings.{SeatSeen}
 use Rattle.cdb_shared_session.specs.SharedSessions.{HasEnded}
 
 -- where all that it can give is of this kind
-pub ended_by : (rules : Parts → Rules) (Answers : RunView → Inquiry → List ℕ → Type 0) (begun c : Journaled) (seat : ℕ) (Opens Others : Result SeatSeen ReadFault → Type 0) → ((opened : Result SeatSeen ReadFault) → Opens opened → Others opened)
-    → (ended : Option Known) (outcome : Result (Unit {0}) PlayFault) → HasEnded rules Answers begun c seat Opens ended outcome → HasEnded rules Answers begun c seat Others ended outcome
+pub ended_by : (rules : Parts → Rules) (Answers : RunView → Inquiry → List ℕ → Type 0) (begun c : Journaled) (seat : ℕ)
+    (Opens Others : Result SeatSeen ReadFault → Type 0) → ((opened : Result SeatSeen ReadFault) → Opens opened → Others opened)
+    → (ended : Option Known) (outcome : Result (Unit {0}) PlayFault)
+    → HasEnded rules Answers begun c seat Opens ended outcome → HasEnded rules Answers begun c seat Others ended outcome
 ended_by rules Answers begun c seat Opens Others of (Some ended) outcome (opened, opens, held) = (opened, of (Ok opened) opens, held)
 ended_by rules Answers begun c seat Opens Others of None outcome (fault, opens, unopened) = (fault, of (Err fault) opens, unopened)

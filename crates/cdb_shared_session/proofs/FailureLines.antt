@@ -1,5 +1,6 @@
 -- What is reported of the seats, one after the other.
-use Rattle.std.proofs.Common.{◌≡◌, ℕ, suc, ◌+◌, ◌<◌, List, [], ◌∷◌, ◌++◌, length, take, drop, get_or, take-append-drop, sym, ap, ◌∙◌, append_assoc, append-nil, arith, length-take}
+use Rattle.std.proofs.Common.{◌≡◌, ℕ, suc, ◌+◌, ◌<◌, List, [], ◌∷◌, ◌++◌, length, take, drop, get_or, take-append-drop}
+use Rattle.std.proofs.Common.{sym, ap, ◌∙◌, append_assoc, append-nil, arith, length-take}
 use Rattle.std.specs.Prelude.{Result, Ok, Err}
 use Rattle.std.proofs.Math.Seq.{drop-cons}
 use Rattle.std.proofs.lemmas.List.{length-map, map-append}
@@ -9,11 +10,13 @@ use Rattle.cdb_shared.proofs.Steps.{take_one_more}
 use Rattle.cdb_shared_session.specs.Reports.{outcomes, failed_seat_line, failed_seat_lines, seats_status}
 use Rattle.cdb_shared_session.specs.declared.endpoint.Finished.{Finished}
 
-failed_seat_lines-append : (first : ℕ) (before after : List (Result (Unit {0}) PlayFault)) → failed_seat_lines first (before ++ after) ≡ failed_seat_lines first before ++ failed_seat_lines (first + length before) after
+failed_seat_lines-append : (first : ℕ) (before after : List (Result (Unit {0}) PlayFault))
+    → failed_seat_lines first (before ++ after) ≡ failed_seat_lines first before ++ failed_seat_lines (first + length before) after
 failed_seat_lines-append first [] after = let same : first ≡ first + 0 = omega arith in ap (λ n. failed_seat_lines n after) same
 failed_seat_lines-append first (other ∷ before) after =
     let same : first + 1 + length before ≡ first + suc (length before) = omega arith in
-    ap (λ more. failed_seat_line first other ++ more) (failed_seat_lines-append (first + 1) before after ∙ ap (λ n. failed_seat_lines (first + 1) before ++ failed_seat_lines n after) same)
+    ap (λ more. failed_seat_line first other ++ more)
+    (failed_seat_lines-append (first + 1) before after ∙ ap (λ n. failed_seat_lines (first + 1) before ++ failed_seat_lines n after) same)
     ∙ sym (append_assoc (failed_seat_line first other) (failed_seat_lines (first + 1) before) (failed_seat_lines (first + suc (length before)) after))
 
 module _ {T : Type 0} (finished : List (Finished T)) (i : ℕ) (its : Finished T) (low : i < length finished) (is : its ≡ get_or finished i its) where
@@ -29,7 +32,8 @@ module _ {T : Type 0} (finished : List (Finished T)) (i : ℕ) (its : Finished T
 
   -- the lines of the seats before one, its own, and those of the seats after it
   pub lines_cut : (seat : ℕ) → seat ≡ i + 1
-      → failed_seat_lines 1 (outcomes finished) ≡ failed_seat_lines 1 (outcomes (take i finished)) ++ (failed_seat_line seat its.outcome ++ failed_seat_lines (seat + 1) (outcomes (drop (i + 1) finished)))
+      → failed_seat_lines 1 (outcomes finished) ≡ failed_seat_lines 1 (outcomes (take i finished))
+      ++ (failed_seat_line seat its.outcome ++ failed_seat_lines (seat + 1) (outcomes (drop (i + 1) finished)))
   lines_cut seat number =
       let before = outcomes (take i finished) in
       let at : 1 + length before ≡ seat = omega (arith, number, low, length-map (take i finished) (λ (a : Finished T). a.outcome), length-take i finished) in
@@ -37,7 +41,8 @@ module _ {T : Type 0} (finished : List (Finished T)) (i : ℕ) (its : Finished T
       ∙ ap (λ n. failed_seat_lines 1 before ++ failed_seat_lines n (its.outcome ∷ outcomes (drop (i + 1) finished))) at
 
   -- one seat more
-  pub one_line_more : (seat : ℕ) → seat ≡ i + 1 → failed_seat_lines 1 (outcomes (take (i + 1) finished)) ≡ failed_seat_lines 1 (outcomes (take i finished)) ++ failed_seat_line seat its.outcome
+  pub one_line_more : (seat : ℕ) → seat ≡ i + 1
+      → failed_seat_lines 1 (outcomes (take (i + 1) finished)) ≡ failed_seat_lines 1 (outcomes (take i finished)) ++ failed_seat_line seat its.outcome
   one_line_more seat number =
       let before = outcomes (take i finished) in
       let at : 1 + length before ≡ seat = omega (arith, number, low, length-map (take i finished) (λ (a : Finished T). a.outcome), length-take i finished) in

@@ -3,7 +3,7 @@ use Rattle.std.proofs.Common.{◌≡◌, inl, inr, ℕ, ◌-◌, ◌≤◌, List
 use Rattle.std.proofs.lemmas.List.{take-append-le}
 use Rattle.std.specs.Prelude.{Result, Ok, Err}
 use Rattle.cdb_base.specs.Limits.{MAX_ENTRIES}
-use Rattle.cdb_commands.specs.ToldReply.{ToldReply}
+use Rattle.cdb_commands.specs.ReplyView.{ReplyView}
 use Rattle.cdb_control.proofs.Own.{replies_of-same}
 use Rattle.cdb_control.specs.Journal.{Journaled, entry, own, replies_of}
 use Rattle.cdb_control.specs.declared.control.Entry.{Entry}
@@ -29,7 +29,8 @@ use Rattle.cdb_streams.specs.declared.fault.PlayFault.{PlayFault}
 use Rattle.cdb_streams.specs.declared.fault.PlayFault.TheVariants as fault
 use Rattle.cdb_shared_session.specs.SeatParts.{part_in, part_seen}
 
-module _ (rules : Parts → Rules) (Answers : RunView → Inquiry → List ℕ → Type 0) (style : StyleView) (first : Part) (c : Journaled) (seat : SeatView) (n : ℕ) (is : seat.number ≡ n) (known : IsKnownBy c seat) (few : length c.journal ≤ MAX_ENTRIES) where
+module _ (rules : Parts → Rules) (Answers : RunView → Inquiry → List ℕ → Type 0) (style : StyleView) (first : Part) (c : Journaled)
+    (seat : SeatView) (n : ℕ) (is : seat.number ≡ n) (known : IsKnownBy c seat) (few : length c.journal ≤ MAX_ENTRIES) where
   calls_known : map (entry seat.number) (calls_of seat) ≡ map (entry n) (own n c.journal)
   calls_known = ap (map (entry seat.number)) (sym known.calls) ∙ ap (λ m. map (entry m) (own m c.journal)) is
 
@@ -69,14 +70,16 @@ module _ (rules : Parts → Rules) (Answers : RunView → Inquiry → List ℕ �
   has_known : (exchanges : List Exchange) → HasExchanges Answers style by_seat exchanges → HasExchanges Answers style by_journal exchanges
   has_known exchanges has = (
     commands_known exchanges has.0,
-    all_told_on Answers by_seat by_journal goes_on (ap (drop (length first.replies)) (sym replies_known)) 0 exchanges (λ m low. ap (λ (calls : List Entry). min m (length calls)) (sym came_known)) has.1,
+    all_told_on Answers by_seat by_journal goes_on (ap (drop (length first.replies)) (sym replies_known))
+        0 exchanges (λ m low. ap (λ (calls : List Entry). min m (length calls)) (sym came_known)) has.1,
   )
 
   same_text : (exchanges : List Exchange) (text : List ℕ) → text ≡ dialogue style by_seat.replies exchanges → text ≡ dialogue style by_journal.replies exchanges
-  same_text exchanges text shown = shown ∙ ap (λ (r : List ToldReply). dialogue style (drop (length first.replies) r) exchanges) replies_known
+  same_text exchanges text shown = shown ∙ ap (λ (r : List ReplyView). dialogue style (drop (length first.replies) r) exchanges) replies_known
 
   answered_known : (lines : List (List ℕ)) (text : List ℕ) → IsAnswered Answers style by_seat lines text → IsAnswered Answers style by_journal lines text
-  answered_known lines text (exchanges, others, asked, shown, has) = (exchanges, others, asked, same_text exchanges text shown, has_known (exchanges ++ others) has)
+  answered_known lines text (exchanges, others, asked, shown, has) =
+      (exchanges, others, asked, same_text exchanges text shown, has_known (exchanges ++ others) has)
 
   served_known : (lines : List (List ℕ)) (text : List ℕ) → IsServed Answers style by_seat lines text → IsServed Answers style by_journal lines text
   served_known lines text (exchanges, asked, shown, has) = (exchanges, asked, same_text exchanges text shown, has_known exchanges has)
@@ -85,9 +88,19 @@ module _ (rules : Parts → Rules) (Answers : RunView → Inquiry → List ℕ �
       → EndsAs (IsAnswered Answers style by_seat) (IsServed Answers style by_seat) (IsCutShort Answers style by_seat) returned moves
       → EndsAs (IsAnswered Answers style by_journal) (IsServed Answers style by_journal) (IsCutShort Answers style by_journal) returned moves
   ends_known (Ok done) moves e = record { responded = served_known (lines_of (read_in moves)) (written_in moves) e.responded; ended = e.ended }
-  ends_known (Err fault.Read) moves e = (record { responded = served_known (ended_lines (read_in moves)) (written_in moves) e.0.responded; goes_on = e.0.goes_on; more = e.0.more }, e.1)
+  ends_known (Err fault.Read) moves e =
+      (record { responded = served_known (ended_lines (read_in moves)) (written_in moves) e.0.responded; goes_on = e.0.goes_on; more = e.0.more }, e.1)
   ends_known (Err fault.Write) moves e = (
-    record { lines = e.0.lines; others = e.0.others; text = e.0.text; missing = e.0.missing; begins = e.0.begins; responded = served_known e.0.lines e.0.text e.0.responded; written = e.0.written },
+    record {
+      lines = e.0.lines;
+      others = e.0.others;
+      text = e.0.text;
+      missing = e.0.missing;
+      begins =
+          e.0.begins;
+      responded = served_known e.0.lines e.0.text e.0.responded;
+      written = e.0.written;
+    },
     e.1,
   )
   ends_known (Err (fault.NoMemory refused)) moves e = record {
@@ -110,7 +123,8 @@ module _ (rules : Parts → Rules) (Answers : RunView → Inquiry → List ℕ �
   ends_known (Err (fault.ScriptTooLong script)) moves e = e
 
   -- a session by what the seat has seen is one by the final journal
-  pub session_known : (returned : Result (Unit {0}) PlayFault) (moves : List Move) → IsSession Answers style by_seat returned moves → IsSession Answers style by_journal returned moves
+  pub session_known : (returned : Result (Unit {0}) PlayFault) (moves : List Move)
+      → IsSession Answers style by_seat returned moves → IsSession Answers style by_journal returned moves
   session_known returned moves s = record {
     in_time = λ before ask later cut asks.
         let r = s.in_time before ask later cut asks in

@@ -8,7 +8,7 @@ use Rattle.cdb_rules.specs.Rules.{Rules}
 use Rattle.cdb_setup.specs.Parts.{Parts}
 use Rattle.cdb_session.specs.Styles.{Onward, stays, goes}
 use Rattle.cdb_streams.specs.Streams.{Stream}
-use Rattle.cdb_shared_session.specs.Keeping.{Keeps}
+use Rattle.cdb_shared_session.specs.KeptOutcomes.{Keeps}
 use Rattle.cdb_shared_session.specs.KeptAlone.{KeptView, KeepsOn, IsLaterKept}
 use Rattle.cdb_shared_session.proofs.KeptEntries.{keeps_longer}
 
@@ -19,7 +19,8 @@ module _ {J : Type 0} (stream : J → Stream) where
   pub same_kept : (old : KeptView J) → length (old.control).journal ≤ MAX_ENTRIES → IsLaterKept stream old old
   same_kept old few = record { setup = refl; seats = refl; begins = ([], sym (append-nil (old.control).journal)); few = few; keeps = λ first kept. kept }
 
-  pub later_kept : (first now : KeptView J) → length (first.control).journal ≤ MAX_ENTRIES → Onward (IsLaterKept stream) first now → IsLaterKept stream first now
+  pub later_kept : (first now : KeptView J) → length (first.control).journal ≤ MAX_ENTRIES
+      → Onward (IsLaterKept stream) first now → IsLaterKept stream first now
   later_kept first _ few stays = same_kept first few
   later_kept first now few (goes middle _ before later) =
       let b = later_kept first middle few before in
@@ -32,7 +33,8 @@ module _ {J : Type 0} (stream : J → Stream) where
       }
 
   -- one entry more, and what the file lacked
-  pub one_more : (rules : Parts → Rules) (old middle new : KeptView J) (seat : ℕ) (command : Command) → middle ≡ record { control = extended rules old.control seat command; file = old.file; count = old.count }
+  pub one_more : (rules : Parts → Rules) (old middle new : KeptView J) (seat : ℕ) (command : Command)
+      → middle ≡ record { control = extended rules old.control seat command; file = old.file; count = old.count }
       → new.control ≡ middle.control → length (middle.control).journal ≤ MAX_ENTRIES → KeepsOn stream middle new → IsLaterKept stream old new
   one_more rules old middle new seat command is same few keeps =
       let control : new.control ≡ extended rules old.control seat command = same ∙ ap (λ (v : KeptView J). v.control) is in
@@ -44,6 +46,7 @@ module _ {J : Type 0} (stream : J → Stream) where
         few = subst (λ (c : Journaled). length c.journal ≤ MAX_ENTRIES) (sym same) few;
         keeps = λ first kept.
             keeps first
-            (subst (λ (v : KeptView J). Keeps stream first v.file 0 v.count (middle.control).journal) (sym (ap (λ (v : KeptView J). let w : KeptView J = record { control = middle.control; file = v.file; count = v.count } in w) is))
+            (subst (λ (v : KeptView J). Keeps stream first v.file 0 v.count (middle.control).journal)
+            (sym (ap (λ (v : KeptView J). let w : KeptView J = record { control = middle.control; file = v.file; count = v.count } in w) is))
             (keeps_longer stream first old.file old.count (old.control).journal (middle.control).journal kept begins));
       }

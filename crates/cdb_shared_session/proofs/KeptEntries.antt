@@ -1,7 +1,8 @@
 -- What a file has of a journal, piece by piece.
 use Rattle.std.proofs.lemmas.Grind.{common_steps, flat_map-append}
 use Rattle.std.proofs.lemmas.Option.{gets}
-use Rattle.std.proofs.Common.{◌≡◌, ℕ, zero, suc, ◌-◌, ◌≤◌, List, [], ◌∷◌, ◌++◌, length, take, drop, refl, sym, ap, subst, ◌∙◌, arith, length-append, take-append-drop, append-nil}
+use Rattle.std.proofs.Common.{◌≡◌, ℕ, zero, suc, ◌-◌, ◌≤◌, List, [], ◌∷◌, ◌++◌, length, take, drop, refl}
+use Rattle.std.proofs.Common.{sym, ap, subst, ◌∙◌, arith, length-append, take-append-drop, append-nil}
 use Rattle.std.proofs.lemmas.List.{take_all}
 use Rattle.std.proofs.KnownBytes.{Appends-nil}
 use Rattle.std.specs.Prelude.{Option, Some, None, option_map, IfSome, IfOk, Result, Ok, Err}
@@ -15,7 +16,7 @@ use Rattle.cdb_streams.specs.declared.buffer.OutputFault.{OutputFault}
 use Rattle.cdb_streams.specs.declared.buffer.OutputFault.TheVariants as output
 use Rattle.cdb_streams.specs.declared.sink.Failed.{Failed}
 use Rattle.cdb_shared_session.specs.declared.keeping.Kept.{Kept}
-use Rattle.cdb_shared_session.specs.Keeping.{AreKept, HasKept, IsKept, Keeps, kept_outcome}
+use Rattle.cdb_shared_session.specs.KeptOutcomes.{AreKept, HasKept, IsKept, Keeps, kept_outcome}
 use Rattle.cdb_shared_session.proofs.WrittenTexts.{takes_then, fails_then, fails_first}
 
 -- the entries from one number on, up to another and then those behind it
@@ -60,12 +61,14 @@ module _ {J : Type 0} (stream : J → Stream) where
   kept_at_first (Some file) seen = keeps_none file 0 seen (omega arith) (Appends-nil (stream file).bytes, refl)
 
   -- what was kept before, and what was kept of what was seen then
-  pub keeps_then : (old mid new : J) (from to : ℕ) (r : Result ℕ Failed) (before seen : List Entry) → Keeps stream old mid from (Ok to) before → Begins before seen
+  pub keeps_then : (old mid new : J) (from to : ℕ) (r : Result ℕ Failed) (before seen : List Entry)
+      → Keeps stream old mid from (Ok to) before → Begins before seen
       → Keeps stream mid new to r seen → Keeps stream old new from r seen
   keeps_then old mid new from to (Ok last) before seen first begins second =
       let more = begins.0 in
       let longer = ap length begins.1 ∙ length-append before more in
-      let same : drop from (take to seen) ≡ drop from (take to before) = ap (λ (l : List Entry). drop from (take to l)) begins.1 ∙ front before more from to first.1 in
+      let same : drop from (take to seen) ≡ drop from (take to before) =
+      ap (λ (l : List Entry). drop from (take to l)) begins.1 ∙ front before more from to first.1 in
       let whole = parts seen from to last first.0 second.0 ∙ ap (λ (l : List Entry). l ++ drop to (take last seen)) same in (
         omega (arith, first.0, second.0),
         second.1,
@@ -74,7 +77,8 @@ module _ {J : Type 0} (stream : J → Stream) where
       )
   keeps_then old mid new from to (Err failed) before seen first begins second =
       let more = begins.0 in
-      let same : drop from (take to seen) ≡ drop from (take to before) = ap (λ (l : List Entry). drop from (take to l)) begins.1 ∙ front before more from to first.1 in
+      let same : drop from (take to seen) ≡ drop from (take to before) =
+      ap (λ (l : List Entry). drop from (take to l)) begins.1 ∙ front before more from to first.1 in
       let whole = rest seen from to first.0 ∙ ap (λ (l : List Entry). l ++ drop to seen) same in
       subst (λ text. Fails stream old new text) (sym (ap journal_text whole ∙ texts (drop from (take to before)) (drop to seen)))
       (fails_then stream old mid new _ _ first.2 second)
@@ -85,7 +89,8 @@ module _ {J : Type 0} (stream : J → Stream) where
   keeps_on file new to r before seen begins kept (Some old) first = keeps_then old file new 0 to r before seen first begins kept
 
   -- not more was kept than there is
-  pub may_add : (old new : Option J) (count : Result ℕ Failed) (seen journal : List Entry) → Begins seen journal → AreKept stream old new count seen → IfSome new (λ _. IfOk count (λ n. n ≤ length journal))
+  pub may_add : (old new : Option J) (count : Result ℕ Failed) (seen journal : List Entry) → Begins seen journal
+      → AreKept stream old new count seen → IfSome new (λ _. IfOk count (λ n. n ≤ length journal))
   may_add None None count seen journal begins kept = tt
   may_add None (Some new) count seen journal begins kept = absurd kept
   may_add (Some old) None count seen journal begins kept = tt
@@ -93,7 +98,8 @@ module _ {J : Type 0} (stream : J → Stream) where
   may_add (Some old) (Some new) (Err failed) seen journal begins kept = tt
 
   -- the rest of the journal was added
-  pub kept_rest : (old file new : J) (count : ℕ) (r : Result (Unit {0}) OutputFault) (seen journal : List Entry) → Begins seen journal → Keeps stream old file 0 (Ok count) seen
+  pub kept_rest : (old file new : J) (count : ℕ) (r : Result (Unit {0}) OutputFault) (seen journal : List Entry)
+      → Begins seen journal → Keeps stream old file 0 (Ok count) seen
       → IsWritten stream (whole_ending r) file new (Only (journal_text (drop count journal))) → IsKept stream r old new journal
   kept_rest old file new count r seen journal begins first written = by r written
     where
@@ -106,7 +112,8 @@ module _ {J : Type 0} (stream : J → Stream) where
       whole : journal_text journal ≡ journal_text (take count seen) ++ journal_text (drop count journal)
       whole = ap journal_text split ∙ texts (take count seen) (drop count journal)
 
-      by : (r : Result (Unit {0}) OutputFault) → IsWritten stream (whole_ending r) file new (Only (journal_text (drop count journal))) → IsKept stream r old new journal
+      by : (r : Result (Unit {0}) OutputFault)
+          → IsWritten stream (whole_ending r) file new (Only (journal_text (drop count journal))) → IsKept stream r old new journal
       by (Ok done) (text, is, taken) =
           subst (λ t. Takes stream old new t) (sym whole) (takes_then stream old file new _ _ first.2 (subst (λ t. Takes stream file new t) is taken))
       by (Err output.Write) (text, is, failed) =
@@ -115,7 +122,8 @@ module _ {J : Type 0} (stream : J → Stream) where
           (take count seen, drop count journal, split, subst (λ (j : J). Takes stream old j (journal_text (take count seen))) (sym same) first.2)
 
   -- what was kept of a journal, of a longer one
-  pub keeps_longer : (old new : J) (r : Result ℕ Failed) (seen more : List Entry) → Keeps stream old new 0 r seen → Begins seen more → Keeps stream old new 0 r more
+  pub keeps_longer : (old new : J) (r : Result ℕ Failed) (seen more : List Entry)
+      → Keeps stream old new 0 r seen → Begins seen more → Keeps stream old new 0 r more
   keeps_longer old new (Ok n) seen more (low, high, taken) begins =
       let same : take n more ≡ take n seen = ap (λ (l : List Entry). take n l) begins.1 ∙ front seen begins.0 0 n high in (
         low,
@@ -123,15 +131,19 @@ module _ {J : Type 0} (stream : J → Stream) where
         subst (λ (l : List Entry). Takes stream old new (journal_text l)) (sym same) taken,
       )
   keeps_longer old new (Err failed) seen more broken begins =
-      subst (λ t. Fails stream old new t) (sym (ap journal_text begins.1 ∙ texts seen begins.0)) (fails_first stream old new (journal_text seen) (journal_text begins.0) broken)
+      subst (λ t. Fails stream old new t) (sym (ap journal_text begins.1 ∙ texts seen begins.0))
+      (fails_first stream old new (journal_text seen) (journal_text begins.0) broken)
 
   -- what the file lacked was added
   pub kept_more : (old file new : J) (count : ℕ) (journal : List Entry) → Keeps stream old file 0 (Ok count) journal
       → IsWritten stream Complete file new (Only (journal_text (drop count journal))) → Keeps stream old new 0 (Ok (length journal)) journal
   kept_more old file new count journal first (text, is, taken) =
       let all : take (length journal) journal ≡ journal = take_all (length journal) journal (omega arith) in
-      keeps_then old file new 0 count (Ok (length journal)) journal journal first ([], sym (append-nil journal))
-      (first.1, omega arith, subst (λ (l : List Entry). Takes stream file new (journal_text (drop count l))) (sym all) (subst (λ t. Takes stream file new t) is taken))
+      keeps_then old file new 0 count (Ok (length journal)) journal journal first ([], sym (append-nil journal)) (
+        first.1,
+        omega arith,
+        subst (λ (l : List Entry). Takes stream file new (journal_text (drop count l))) (sym all) (subst (λ t. Takes stream file new t) is taken),
+      )
 
   -- or a beginning of it
   pub kept_broken : (old file new : J) (count : ℕ) (failed : Failed) (journal : List Entry) → Keeps stream old file 0 (Ok count) journal
@@ -140,17 +152,14 @@ module _ {J : Type 0} (stream : J → Stream) where
       keeps_then old file new 0 count (Err failed) journal journal first ([], sym (append-nil journal)) (subst (λ t. Fails stream file new t) is broken)
 
   -- the writing had failed
-  pub kept_failed : (old file : J) (failed : Failed) (seen journal : List Entry) → Begins seen journal → Keeps stream old file 0 (Err failed) seen → IsKept stream (Err output.Write) old file journal
+  pub kept_failed : (old file : J) (failed : Failed) (seen journal : List Entry) → Begins seen journal
+      → Keeps stream old file 0 (Err failed) seen → IsKept stream (Err output.Write) old file journal
   kept_failed old file failed seen journal begins first =
-      subst (λ t. Fails stream old file t) (sym (ap journal_text begins.1 ∙ texts seen begins.0)) (fails_first stream old file (journal_text seen) (journal_text begins.0) first)
+      subst (λ t. Fails stream old file t) (sym (ap journal_text begins.1 ∙ texts seen begins.0))
+      (fails_first stream old file (journal_text seen) (journal_text begins.0) first)
 
-  pub kept_end : (file : J) (kept : Kept J) (count : Result ℕ Failed) (journal : List Entry)
-      → ((old : J) (seen : List Entry) → Begins seen journal → Keeps stream old file 0 count seen → IsKept stream kept.outcome old kept.file journal)
-      → (old : Option J) (seen : List Entry) → Begins seen journal → AreKept stream old (Some file) count seen → HasKept stream old (Some kept) journal
-  kept_end file kept count journal all None seen begins first = absurd first
-  kept_end file kept count journal all (Some old) seen begins first = all old seen begins first
-
-  pub kept_nowhere : (count : Result ℕ Failed) (journal : List Entry) (old : Option J) (seen : List Entry) → AreKept stream old None count seen → HasKept stream old None journal
+  pub kept_nowhere : (count : Result ℕ Failed) (journal : List Entry) (old : Option J) (seen : List Entry)
+      → AreKept stream old None count seen → HasKept stream old None journal
   kept_nowhere count journal None seen first = tt
   kept_nowhere count journal (Some old) seen first = absurd first
 
@@ -160,12 +169,14 @@ module _ {J : Type 0} (stream : J → Stream) where
   abbrev pub seen_kept : Kept J → Kept Stream
   seen_kept kept = record { file = stream kept.file; outcome = kept.outcome }
 
-  pub seen_is : (r : Result (Unit {0}) OutputFault) (old new : J) (journal : List Entry) → IsKept stream r old new journal → IsKept (λ (s : Stream). s) r (stream old) (stream new) journal
+  pub seen_is : (r : Result (Unit {0}) OutputFault) (old new : J) (journal : List Entry)
+      → IsKept stream r old new journal → IsKept (λ (s : Stream). s) r (stream old) (stream new) journal
   seen_is (Ok done) old new journal kept = kept
   seen_is (Err output.Write) old new journal kept = kept
   seen_is (Err (output.NoMemory refused)) old new journal kept = kept
 
-  pub kept_seen : (file : Option J) (kept : Option (Kept J)) (journal : List Entry) → HasKept stream file kept journal → HasKept (λ (s : Stream). s) (option_map stream file) (option_map seen_kept kept) journal
+  pub kept_seen : (file : Option J) (kept : Option (Kept J)) (journal : List Entry) → HasKept stream file kept journal
+      → HasKept (λ (s : Stream). s) (option_map stream file) (option_map seen_kept kept) journal
   kept_seen None None journal has = tt
   kept_seen None (Some kept) journal has = absurd has
   kept_seen (Some file) None journal has = absurd has

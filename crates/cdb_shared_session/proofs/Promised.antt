@@ -18,5 +18,8 @@ some_of [] low = absurd (omega arith)
 some_of (x ∷ xs) low = x
 
 module _ {R A P T : Type 0} (before : SeatView) (opener : P) (promise : SeatPromise R A P) (is : IsSeatPromise before opener promise) where
-  pub kept : (rules : Parts → Rules) (Answers : RunView → Inquiry → List ℕ → Type 0) (known : T → Known) (opens : P → Result SeatSeen ReadFault → Type 0) (seat : SeatView) (finished : Finished T) → HasRun rules Answers known opens promise.seat.value promise.opener.value seat finished → HasRun rules Answers known opens before opener seat finished
-  kept rules Answers known opens seat finished h = subst (λ (x : SeatView × P). HasRun rules Answers known opens x.0 x.1 seat finished) (λ i. (is.seat_is i, is.opener_is i)) h
+  pub kept : (rules : Parts → Rules) (Answers : RunView → Inquiry → List ℕ → Type 0) (known : T → Known)
+      (opens : P → Result SeatSeen ReadFault → Type 0) (seat : SeatView) (finished : Finished T)
+      → HasRun rules Answers known opens promise.seat.value promise.opener.value seat finished → HasRun rules Answers known opens before opener seat finished
+  kept rules Answers known opens seat finished h =
+      subst (λ (x : SeatView × P). HasRun rules Answers known opens x.0 x.1 seat finished) (λ i. (is.seat_is i, is.opener_is i)) h

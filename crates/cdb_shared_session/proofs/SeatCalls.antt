@@ -3,7 +3,7 @@ use Rattle.std.proofs.Common.{◌≡◌, ◌↔◌, ℕ, ◌≤◌, true, List, 
 use Rattle.std.proofs.lemmas.List.{take-append-le, take_all}
 use Rattle.std.specs.Prelude.{Result, Ok, Err, IfOk, IfErr, OnErr}
 use Rattle.cdb_base.specs.Limits.{MAX_ENTRIES}
-use Rattle.cdb_commands.specs.ToldReply.{ToldReply, told}
+use Rattle.cdb_commands.specs.ReplyView.{ReplyView, reply_view}
 use Rattle.cdb_commands.specs.declared.command.Command.{Command}
 use Rattle.cdb_commands.specs.declared.reply.Reply.{Reply}
 use Rattle.cdb_control.specs.Journal.{entry, own}
@@ -50,7 +50,8 @@ module _ (rules : Parts → Rules) where
       }
 
   -- a seat before a call that was answered had not seen a full journal
-  room_before : (old new : SeatView) (command : Command) (reply : ToldReply) → IsCall rules old command reply new → length new.seen ≤ MAX_ENTRIES → SeesFull old → ⊥
+  room_before : (old new : SeatView) (command : Command) (reply : ReplyView)
+      → IsCall rules old command reply new → length new.seen ≤ MAX_ENTRIES → SeesFull old → ⊥
   room_before old new command reply call few full =
       let longer = ap length call.begins.1 in
       let parts = length-append old.seen call.begins.0 in
@@ -58,7 +59,8 @@ module _ (rules : Parts → Rules) where
       let one = length-append call.journal (entry old.number command ∷ []) in
       omega (arith, few, full, longer, parts, more, one)
 
-  pub none_made : (old new : SeatView) → IsLater old new → length new.seen ≤ MAX_ENTRIES → SameCalls old new.seen → MakesNone (part_seen rules old) (part_seen rules new)
+  pub none_made : (old new : SeatView) → IsLater old new → length new.seen ≤ MAX_ENTRIES
+      → SameCalls old new.seen → MakesNone (part_seen rules old) (part_seen rules new)
   none_made old new later few same = record {
     goes_on = goes_on old new later;
     calls = (λ i. map (entry (later.number i)) (calls_of-fault old new later same i));
@@ -66,15 +68,19 @@ module _ (rules : Parts → Rules) where
     full = full_stays old new later few;
   }
 
-  pub calls_made : (old new : SeatView) (seat : ℕ) (command : Command) (r : Result Reply CallFault) → IsWithin old.number old.number seat → IsLater old new → IfOk r (λ reply. IsCall rules old command (told reply) new) → OnErr r (SameCalls old new.seen)
-      → IfErr r (λ f. (f ≡ JournalFull) ↔ SeesFull new) → length new.seen ≤ MAX_ENTRIES → Calls (part_seen rules old) (entry seat command) r (part_seen rules new)
+  pub calls_made : (old new : SeatView) (seat : ℕ) (command : Command) (r : Result Reply CallFault) → IsWithin old.number old.number seat
+      → IsLater old new → IfOk r (λ reply. IsCall rules old command (reply_view reply) new) → OnErr r (SameCalls old new.seen)
+      → IfErr r (λ f. (f ≡ JournalFull) ↔ SeesFull new) → length new.seen ≤ MAX_ENTRIES
+      → Calls (part_seen rules old) (entry seat command) r (part_seen rules new)
   calls_made old new seat command (Ok reply) its later call same full few =
       let is : old.number ≡ seat = omega (arith, its.0, its.1) in
       record {
         goes_on = goes_on old new later;
-        calls = (λ i. map (entry (later.number i)) (calls_of-call rules old new command (told reply) later call i)) ∙ map-more (entry old.number) (calls_of old) command ∙ ap (λ (n : ℕ). map (entry old.number) (calls_of old) ++ entry n command ∷ []) is;
-        replies = replies_to-call rules old new command (told reply) later call;
-        room = room_before old new command (told reply) call few;
+        calls =
+            (λ i. map (entry (later.number i)) (calls_of-call rules old new command (reply_view reply) later call i))
+            ∙ map-more (entry old.number) (calls_of old) command ∙ ap (λ (n : ℕ). map (entry old.number) (calls_of old) ++ entry n command ∷ []) is;
+        replies = replies_to-call rules old new command (reply_view reply) later call;
+        room = room_before old new command (reply_view reply) call few;
       }
   calls_made old new seat command (Err JournalFull) its later call same full few = (none_made old new later few same, full.0 refl)
   calls_made old new seat command (Err (NoMemory refused)) its later call same full few = none_made old new later few same
@@ -88,8 +94,10 @@ map-length f [] = refl
 map-length f (x ∷ xs) = let rest = map-length f xs in omega (arith, rest)
 
 -- the answer of the run that the seat has seen
-pub asked_now : {E : Type 0} (rules : Parts → Rules) (Answers : RunView → Inquiry → List ℕ → Type 0) (seat : SeatView) (inquiry : Inquiry) (r : Result (Vec ℕ Global) E)
-    → IfOk r (λ text. Answers (run_left rules seat.setup seat.seats seat.seen) inquiry text.items) → IfOk r (λ text. AnswersNow Answers (part_seen rules seat) inquiry text.items)
+pub asked_now : {E : Type 0} (rules : Parts → Rules) (Answers : RunView → Inquiry → List ℕ → Type 0)
+    (seat : SeatView) (inquiry : Inquiry) (r : Result (Vec ℕ Global) E)
+    → IfOk r (λ text. Answers (run_left rules seat.setup seat.seats seat.seen) inquiry text.items)
+    → IfOk r (λ text. AnswersNow Answers (part_seen rules seat) inquiry text.items)
 asked_now rules Answers seat inquiry (Ok text) is =
     let all : take (length seat.seen) seat.seen ≡ seat.seen = take_all (length seat.seen) seat.seen (omega arith) in
     record {

@@ -7,6 +7,7 @@ use Rattle.cdb_shared_session.specs.Reported.{IsFaultOfSessions}
 use Rattle.cdb_shared_session.specs.declared.threads.SessionsFault.{SessionsFault}
 use Rattle.cdb_shared_session.specs.declared.threads.SessionsFault.TheVariants as sessions
 
-pub threads_failed : (json from : List ℕ) (seats : ℕ) (setup : Parts) (why : SessionsFault) → Encodes json setup → IsFaultOfSessions json from seats (of_sessions why)
+pub threads_failed : (json from : List ℕ) (seats : ℕ) (setup : Parts) (why : SessionsFault)
+    → Encodes json setup → IsFaultOfSessions json from seats (of_sessions why)
 threads_failed json from seats setup (sessions.NoMemory refused) encodes = encodes.0
 threads_failed json from seats setup (sessions.Spawn refused) encodes = (setup, encodes)

@@ -1,5 +1,6 @@
 -- The journal of sessions has commands of lines alone, so it can be written.
-use Rattle.std.proofs.Common.{◌≡◌, ℕ, ◌+◌, ◌-◌, ◌<◌, ◌≤◌, ◌==◌, Bool, true, false, cond, List, [], ◌∷◌, ◌++◌, drop, length, map, get_or, sym, ap, ◌∙◌, subst, inl, inr, arith}
+use Rattle.std.proofs.Common.{◌≡◌, ℕ, ◌+◌, ◌-◌, ◌<◌, ◌≤◌, ◌==◌, Bool, true, false, cond, List, [], ◌∷◌}
+use Rattle.std.proofs.Common.{◌++◌, drop, length, map, get_or, sym, ap, ◌∙◌, subst, inl, inr, arith}
 use Rattle.std.proofs.Math.Seq.{drop-append_seam}
 use Rattle.std.proofs.lemmas.List.{drop_all, map-append}
 use Rattle.std.specs.List.{AllByRecursion, AllZip}
@@ -11,7 +12,7 @@ use Rattle.cdb_control.specs.declared.control.Entry.{Entry}
 use Rattle.cdb_control.proofs.Own.{own-append}
 use Rattle.cdb_journal.specs.Journals.{AreEntriesOf, IsWritable}
 use Rattle.cdb_journal.specs.OpenedFrom.{IsOpenedFrom}
-use Rattle.cdb_journal.proofs.Telling.{read_few}
+use Rattle.cdb_journal.proofs.RepliesToSeats.{read_few}
 use Rattle.cdb_rules.specs.RunView.{RunView}
 use Rattle.cdb_rules.specs.Rules.{Rules}
 use Rattle.cdb_session.specs.Exchanges.{Exchange}
@@ -70,7 +71,8 @@ begun_has_line (TooLong, outcome) line asks = tt
 abbrev HaveLine : List Exchange → Type 0
 HaveLine exchanges = AllByRecursion (λ exchange. HasLine exchange.0) exchanges
 
-all_have_line : (Asking : Exchange → List ℕ → Type 0) → ((exchange : Exchange) (line : List ℕ) → Asking exchange line → HasLine exchange.0) → (exchanges : List Exchange) (lines : List (List ℕ)) → AllZip Asking exchanges lines → HaveLine exchanges
+all_have_line : (Asking : Exchange → List ℕ → Type 0) → ((exchange : Exchange) (line : List ℕ) → Asking exchange line → HasLine exchange.0)
+    → (exchanges : List Exchange) (lines : List (List ℕ)) → AllZip Asking exchanges lines → HaveLine exchanges
 all_have_line Asking has [] lines asked = tt
 all_have_line Asking has (exchange ∷ exchanges) [] asked = absurd asked
 all_have_line Asking has (exchange ∷ exchanges) (line ∷ lines) asked = (has exchange line asked.0, all_have_line Asking has exchanges lines asked.1)
@@ -96,7 +98,8 @@ entries_have_line seat TooLong count has = tt
 asked_have_lines : (chooses : Bool) (seat : ℕ) (exchanges : List Exchange) → HaveLine exchanges → HaveLines (all_asked chooses seat exchanges)
 asked_have_lines chooses seat [] all = tt
 asked_have_lines chooses seat (exchange ∷ exchanges) all =
-    both_have_lines (asked_of seat exchange) (all_asked chooses (seat_next chooses seat exchange.0) exchanges) (entries_have_line seat exchange.0 exchange.1.given all.0) (asked_have_lines chooses (seat_next chooses seat exchange.0) exchanges all.1)
+    both_have_lines (asked_of seat exchange) (all_asked chooses (seat_next chooses seat exchange.0) exchanges)
+    (entries_have_line seat exchange.0 exchange.1.given all.0) (asked_have_lines chooses (seat_next chooses seat exchange.0) exchanges all.1)
 
 first_have_lines : (first more : List Entry) → HaveLines (first ++ more) → HaveLines first
 first_have_lines [] more all = tt
@@ -112,7 +115,8 @@ module _ (Answers : RunView → Inquiry → List ℕ → Type 0) (style : StyleV
       ]
 
   have_line : (exchanges : List Exchange) (lines : List (List ℕ)) → AreAsked exchanges lines → HaveLine exchanges
-  have_line exchanges lines asked = all_have_line Asks (λ exchange line asks. asked_has_line exchange.0 (line_meant line) asks) exchanges (up_to_quit lines) asked
+  have_line exchanges lines asked =
+      all_have_line Asks (λ exchange line asks. asked_has_line exchange.0 (line_meant line) asks) exchanges (up_to_quit lines) asked
 
   session_has_lines : (returned : Result (Unit {0}) PlayFault) (moves : List Move) → IsSession Answers style part returned moves → HaveLines part.calls
   session_has_lines (Ok done) moves s = let r = s.ends.responded in calls_have_lines r.0 (have_line r.0 (lines_of (read_in moves)) r.1) r.3.0
@@ -120,7 +124,8 @@ module _ (Answers : RunView → Inquiry → List ℕ → Type 0) (style : StyleV
   session_has_lines (Err fault.Write) moves s = let r = s.ends.0.responded in calls_have_lines r.0 (have_line r.0 s.ends.0.lines r.1) r.3.0
   session_has_lines (Err (fault.NoMemory refused)) moves s =
       let r = s.ends.commands in
-      calls_have_lines (r.exchanges ++ r.begun) (have_line-append r.exchanges r.begun (have_line r.exchanges s.ends.lines r.asked) (all_have_line AsksForNoLess begun_has_line r.begun s.ends.next r.next_asked)) r.commands.0
+      calls_have_lines (r.exchanges ++ r.begun) (have_line-append r.exchanges r.begun (have_line r.exchanges s.ends.lines r.asked)
+      (all_have_line AsksForNoLess begun_has_line r.begun s.ends.next r.next_asked)) r.commands.0
   session_has_lines (Err (fault.Setup why)) moves s = absurd s.ends
   session_has_lines (Err (fault.Line script line why)) moves s = absurd s.ends
   session_has_lines (Err (fault.ScriptTooLong script)) moves s = absurd s.ends
@@ -152,7 +157,8 @@ of_each_seat seats (e ∷ es) of_seats each = (
   of_each_seat seats es of_seats.1 (λ seat low high. own_tail (e.seat == seat) e.command (own seat es) (each seat low high)),
 )
 
-module _ (rules : Parts → Rules) (Answers : RunView → Inquiry → List ℕ → Type 0) (begun c : Journaled) (its : List Entry) (is : c.journal ≡ begun.journal ++ its) (seat : ℕ) where
+module _ (rules : Parts → Rules) (Answers : RunView → Inquiry → List ℕ → Type 0)
+    (begun c : Journaled) (its : List Entry) (is : c.journal ≡ begun.journal ++ its) (seat : ℕ) where
   own_came : own seat c.journal ≡ own seat begun.journal ++ own seat its
   own_came = ap (own seat) is ∙ own-append seat begun.journal its
 
@@ -169,17 +175,21 @@ module _ (rules : Parts → Rules) (Answers : RunView → Inquiry → List ℕ �
       sym (drop-append_seam front (own seat its)) ∙ ap (drop (length front)) (sym own_came ∙ same) ∙ drop_all (length front) front (omega arith)
 
   -- what came of a seat has commands of lines alone
-  ended_in_range : (Opens : Result SeatSeen ReadFault → Type 0) (ended : Option Known) (outcome : Result (Unit {0}) PlayFault) → HasEnded rules Answers begun c seat Opens ended outcome → InRange (own seat its)
+  ended_in_range : (Opens : Result SeatSeen ReadFault → Type 0) (ended : Option Known) (outcome : Result (Unit {0}) PlayFault)
+      → HasEnded rules Answers begun c seat Opens ended outcome → InRange (own seat its)
   ended_in_range Opens (Some ended) outcome (opening, opens, held) =
       commands_of seat (own seat its)
-      (subst HaveLines calls_came (session_has_lines Answers (seat_style opening.prompt c.setup c.seats seat) (since (part_in rules begun seat) (part_in rules c seat)) outcome held.made held.session))
+      (subst HaveLines calls_came (session_has_lines Answers (seat_style opening.prompt c.setup c.seats seat)
+      (since (part_in rules begun seat) (part_in rules c seat)) outcome held.made held.session))
   ended_in_range Opens None outcome (fault, opens, unopened) = subst InRange (sym (none_came unopened.none)) tt
 
 later_of_seats : (seats : ℕ) (first more : List Entry) → AreOfSeats seats (first ++ more) → AreOfSeats seats more
 later_of_seats seats [] more all = all
 later_of_seats seats (e ∷ first) more all = later_of_seats seats first more all.1
 
-pub writable : {P T : Type 0} (rules : Parts → Rules) (Answers : RunView → Inquiry → List ℕ → Type 0) (known : T → Known) (opens : P → Result SeatSeen ReadFault → Type 0) (begun : Journaled) (openers : List P) (c : Journaled) (finished : List (Finished T)) → AreSessions rules Answers known opens begun openers c finished
+pub writable : {P T : Type 0} (rules : Parts → Rules) (Answers : RunView → Inquiry → List ℕ → Type 0) (known : T → Known)
+    (opens : P → Result SeatSeen ReadFault → Type 0) (begun : Journaled) (openers : List P) (c : Journaled) (finished : List (Finished T))
+    → AreSessions rules Answers known opens begun openers c finished
     → IsWritable begun → begun.seats ≡ length openers → length c.journal ≤ MAX_ENTRIES → IsWritable c
 writable rules Answers known opens begun openers c finished all can of few =
     let its = all.begins.0 in

@@ -24,6 +24,7 @@ module _ {W : Type 0} (stream : W → Stream) where
   fails_first old new a b ((written, rest, is, added), failed) =
       ((written, rest ++ b, ap (λ text. text ++ b) is ∙ append_assoc written rest b, added), failed)
 
-  pub writes_then : {A E : Type 0} (r : Result A E) (old now new : W) (a b : List ℕ) → Takes stream old now a → Writes stream r now new b → Writes stream r old new (a ++ b)
+  pub writes_then : {A E : Type 0} (r : Result A E) (old now new : W) (a b : List ℕ)
+      → Takes stream old now a → Writes stream r now new b → Writes stream r old new (a ++ b)
   writes_then (Ok done) old now new a b first second = takes_then old now new a b first second
   writes_then (Err failed) old now new a b first second = fails_then old now new a b first second

@@ -17,7 +17,7 @@ use Rattle.cdb_setup.specs.Parts.{Parts}
 use Rattle.cdb_streams.specs.Streams.{Stream}
 use Rattle.cdb_streams.specs.declared.fault.PlayFault.{PlayFault}
 use Rattle.cdb_streams.specs.declared.sink.Failed.{Failed}
-use Rattle.cdb_shared_session.specs.Keeping.{IsKept, Keeps}
+use Rattle.cdb_shared_session.specs.KeptOutcomes.{IsKept, Keeps}
 use Rattle.cdb_shared_session.specs.declared.keeping.Kept.{Kept}
 
 -- ---- what the code keeps for itself: a control, the file of its journal, and how many entries the file has
@@ -45,7 +45,8 @@ module _ {J : Type 0} (stream : J → Stream) where
   -- ---- what the public contract names
 
   -- One journal explains all responses, from a control at the beginning to one at the end, and the file took it.
-  pub record HoldsKept (rules : Parts → Rules) (Answers : RunView → Inquiry → List ℕ → Type 0) (prompt : List ℕ) (begun : Journaled) (returned : Result (Unit {0}) PlayFault)
+  pub record HoldsKept (rules : Parts → Rules) (Answers : RunView → Inquiry → List ℕ → Type 0)
+      (prompt : List ℕ) (begun : Journaled) (returned : Result (Unit {0}) PlayFault)
       (made : List Move) (file : J) (kept : Kept J) : Type 0 where
     pub control : Journaled
     pub setup_is : control.setup ≡ begun.setup
@@ -56,7 +57,8 @@ module _ {J : Type 0} (stream : J → Stream) where
     pub keeps : IsKept stream kept.outcome file kept.file control.journal
 
   -- such a session that has made the moves, where those before were known
-  abbrev pub HoldsFrom : (Parts → Rules) → (RunView → Inquiry → List ℕ → Type 0) → List ℕ → Journaled → Known → Known → J → Result (Unit {0}) PlayFault × Kept J → Type 0
+  abbrev pub HoldsFrom : (Parts → Rules) → (RunView → Inquiry → List ℕ → Type 0) → List ℕ
+      → Journaled → Known → Known → J → Result (Unit {0}) PlayFault × Kept J → Type 0
   HoldsFrom rules Answers prompt begun old new file ended =
       (made : List Move) × Makes old new made × HoldsKept rules Answers prompt begun ended.0 made file ended.1
 
@@ -67,7 +69,8 @@ module _ {J : Type 0} (stream : J → Stream) where
   IsNotBegun json from old new file (Ok done, kept) = ⊥
 
   -- on the setup that the text of JSON encodes, from the journal on, or there is no session
-  abbrev pub DebugsKept : (Parts → Rules) → (RunView → Inquiry → List ℕ → Type 0) → List ℕ → List ℕ → List ℕ → Known → Known → J
+  abbrev pub DebugsKept : (Parts → Rules) → (RunView → Inquiry → List ℕ → Type 0)
+      → List ℕ → List ℕ → List ℕ → Known → Known → J
       → Result (Unit {0}) PlayFault × Kept J → Type 0
   DebugsKept rules Answers prompt json from old new file ended =
       IsNotBegun json from old new file ended

@@ -2,7 +2,7 @@
 pub mod Openings
 pub mod SeatParts
 pub mod SharedSessions
-pub mod Keeping
+pub mod KeptOutcomes
 pub mod KeptAlone
 pub mod Reports
 pub mod Reported

@@ -1,5 +1,6 @@
 -- What the thread of a seat promises, and what it hands back.
-use Rattle.std.specs.Prelude.{◌≡◌, ℕ, ◌-◌, ◌<◌, ◌≤◌, List, length, slice_index_or, Result, Ok, Err, Vec, vec_len, Option, Some, None, option_map}
+use Rattle.std.specs.Prelude.{◌≡◌, ℕ, ◌-◌, ◌<◌, ◌≤◌, List, length, slice_index_or, Result}
+use Rattle.std.specs.Prelude.{Ok, Err, Vec, vec_len, Option, Some, None, option_map}
 use Rattle.std.specs.Global.{Global}
 use Rattle.std.specs.declared.thread.PromisedHandle.{PromisedHandle}
 use Rattle.atomic_table.specs.Seated.{TableId}
@@ -33,22 +34,27 @@ pub record IsUnused (shared : TableId) (welcome : Welcome) (seat : SeatView) : T
   pub some : (1 ≤ welcome.seats) × (welcome.seats ≤ MAX_SEATS)
 
 -- the session of a seat in this style, by what the seat has seen before it and at its end
-abbrev pub RunsSeat : {A : Type 0} → (Parts → Rules) → (RunView → Inquiry → List ℕ → Type 0) → StyleView → SeatView → SeatView → Result A PlayFault → Known → Known
+abbrev pub RunsSeat : {A : Type 0} → (Parts → Rules) → (RunView → Inquiry → List ℕ → Type 0)
+    → StyleView → SeatView → SeatView → Result A PlayFault → Known → Known
     → Type 0
-RunsSeat rules Answers style before seat = HoldsSession Answers style (since (part_seen rules before) (part_seen rules seat))
+RunsSeat rules Answers style before seat =
+    HoldsSession Answers style (since (part_seen rules before) (part_seen rules seat))
 
--- what the thread of a seat has done, by the seat that it hands back and by what the streams were at the end, if they could be
--- opened
-abbrev pub HasServed : (Parts → Rules) → (RunView → Inquiry → List ℕ → Type 0) → (Result SeatSeen ReadFault → Type 0) → SeatView → SeatView → Option Known
+-- what the thread of a seat has done, by the seat that it hands back and by what the streams were at the end, if they
+-- could be opened
+abbrev pub HasServed : (Parts → Rules) → (RunView → Inquiry → List ℕ → Type 0)
+    → (Result SeatSeen ReadFault → Type 0) → SeatView → SeatView → Option Known
     → Result (Unit {0}) PlayFault → Type 0
 HasServed rules Answers Opens before seat (Some ended) outcome =
     (opened : SeatSeen) × Opens (Ok opened)
-    × RunsSeat rules Answers (seat_style opened.prompt seat.setup seat.seats before.number) before seat outcome opened.console ended
+    × RunsSeat rules Answers (seat_style opened.prompt seat.setup seat.seats before.number)
+    before seat outcome opened.console ended
 HasServed rules Answers Opens before seat None outcome =
     (fault : ReadFault) × Opens (Err fault) × (outcome ≡ Err (of_reading fault)) × (seat.seen ≡ before.seen)
 
 -- what the seat's thread hands back, the seat and how its session ended, says what the seat has done with its opener
-pub record HasRun {P T : Type 0} (rules : Parts → Rules) (Answers : RunView → Inquiry → List ℕ → Type 0) (known : T → Known)
+pub record HasRun {P T : Type 0} (rules : Parts → Rules)
+    (Answers : RunView → Inquiry → List ℕ → Type 0) (known : T → Known)
     (opens : P → Result SeatSeen ReadFault → Type 0) (before : SeatView) (opener : P) (seat : SeatView)
     (finished : Finished T) : Type 0 where
   pub later : IsLater before seat
@@ -70,7 +76,8 @@ AreSeatPromises {R} {A} {P} {T} seats openers handles =
 
 -- What the threads hand back, the first seat's first: each keeps the promise of its handle, of which the last seat's
 -- comes first.
-abbrev pub AllKept : {R A P T : Type 0} → (Parts → Rules) → (RunView → Inquiry → List ℕ → Type 0) → (T → Known) → (P → Result SeatSeen ReadFault → Type 0)
+abbrev pub AllKept : {R A P T : Type 0} → (Parts → Rules)
+    → (RunView → Inquiry → List ℕ → Type 0) → (T → Known) → (P → Result SeatSeen ReadFault → Type 0)
     → List (PromisedHandle (SeatResult R T) (SeatPromise R A P)) → List SeatView → List (Finished T) → Type 0
 AllKept {R} {A} {P} {T} rules Answers known opens handles seats finished =
     (k : ℕ) (seat : SeatView) (its : Finished T) → k < length seats
@@ -80,7 +87,8 @@ AllKept {R} {A} {P} {T} rules Answers known opens handles seats finished =
     (slice_index_or seats k seat) (slice_index_or finished k its)
 
 -- each seat has run with its opener
-abbrev pub AllHaveRun : {P T : Type 0} → (Parts → Rules) → (RunView → Inquiry → List ℕ → Type 0) → (T → Known) → (P → Result SeatSeen ReadFault → Type 0)
+abbrev pub AllHaveRun : {P T : Type 0} → (Parts → Rules) → (RunView → Inquiry → List ℕ → Type 0)
+    → (T → Known) → (P → Result SeatSeen ReadFault → Type 0)
     → List SeatView → List P → List SeatView → List (Finished T) → Type 0
 AllHaveRun {P} {T} rules Answers known opens before openers seats finished =
     (k : ℕ) (seat : SeatView) (its : Finished T) → k < length seats → (first : SeatView) (opener : P)

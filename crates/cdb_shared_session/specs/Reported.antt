@@ -22,14 +22,16 @@ use Rattle.cdb_journal.specs.Journals.{IsWritable, journal_text}
 use Rattle.cdb_journal.specs.OpenedFrom.{IsOpenedFrom}
 use Rattle.cdb_shared_session.specs.Openings.{SeatSeen}
 use Rattle.cdb_shared_session.specs.SharedSessions.{AreSessions}
-use Rattle.cdb_shared_session.specs.Keeping.{HasKept, kept_outcome}
+use Rattle.cdb_shared_session.specs.KeptOutcomes.{HasKept, kept_outcome}
 use Rattle.cdb_shared_session.specs.declared.keeping.Kept.{Kept}
 use Rattle.cdb_shared_session.specs.Reports.{outcomes, failures_text, status_of}
 use Rattle.cdb_shared_session.specs.declared.endpoint.Finished.{Finished}
 
--- the sessions, which go on from a journal, have ended; the journal was kept in the file where there was one, it was written, and what failed was
--- reported, as far as that went; these are the status, and the file with how the journal was kept
-pub record RunsSessions {P T J O E : Type 0} (rules : Parts → Rules) (Answers : RunView → Inquiry → List ℕ → Type 0) (known : T → Known)
+-- the sessions, which go on from a journal, have ended; the journal was kept in the file where there was one, it was
+-- written, and what failed was reported, as far as that went; these are the status, and the file with how the journal
+-- was kept
+pub record RunsSessions {P T J O E : Type 0} (rules : Parts → Rules)
+    (Answers : RunView → Inquiry → List ℕ → Type 0) (known : T → Known)
     (opens : P → Result SeatSeen ReadFault → Type 0) (file_stream : J → Stream) (output_stream : O → Stream)
     (error_stream : E → Stream) (json from : List ℕ) (openers : List P) (file : Option J) (output output_after : O)
     (error error_after : E) (ended : ℕ × Option (Kept J)) : Type 0 where
@@ -46,15 +48,18 @@ pub record RunsSessions {P T J O E : Type 0} (rules : Parts → Rules) (Answers 
   pub written : Result (Unit {0}) OutputFault
   pub journal : IsWritten output_stream (whole_ending written) output output_after (Only (journal_text control.journal))
   pub reported : Result (Unit {0}) Failed
-  pub lines : Writes error_stream reported error error_after (failures_text written (kept_outcome ended.1) (outcomes finished))
+  pub lines : Writes error_stream reported error error_after
+      (failures_text written (kept_outcome ended.1) (outcomes finished))
   pub status_is : ended.0 ≡ status_of written (kept_outcome ended.1) (outcomes finished)
 
--- The setup's first fault, else that of the journal for so many seats; or memory or a thread is not there. A setup that is
--- too long is told so, and no thread is started for one with a fault.
+-- The setup's first fault, else that of the journal for so many seats; or memory or a thread is not there. A setup that
+-- is too long is told so, and no thread is started for one with a fault.
 abbrev pub IsFaultOfSessions : List ℕ → List ℕ → ℕ → RaceFault → Type 0
 IsFaultOfSessions json from seats (fault.Setup why) = IsFaultOfBeginning json from seats (play.Setup why)
-IsFaultOfSessions json from seats (fault.Line number line why) = IsFaultOfBeginning json from seats (play.Line number line why)
-IsFaultOfSessions json from seats (fault.ScriptTooLong number) = IsFaultOfBeginning json from seats (play.ScriptTooLong number)
+IsFaultOfSessions json from seats (fault.Line number line why) =
+    IsFaultOfBeginning json from seats (play.Line number line why)
+IsFaultOfSessions json from seats (fault.ScriptTooLong number) =
+    IsFaultOfBeginning json from seats (play.ScriptTooLong number)
 IsFaultOfSessions json from seats (fault.NoMemory refused) = IsFaultOfBeginning json from seats (play.NoMemory refused)
 IsFaultOfSessions json from seats (fault.Spawn refused) = IsSetup json
 IsFaultOfSessions json from seats other = ⊥

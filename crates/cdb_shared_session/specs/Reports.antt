@@ -42,11 +42,13 @@ kept_line (Ok done) = []
 kept_line (Err fault) = codes "journal: " ++ as_line (play_fault_text (of_output fault) (codes "the input"))
 
 -- what is reported of a journal that was written so, of one that was kept so, and of seats whose sessions ended so
-abbrev pub failures_text : Result (Unit {0}) OutputFault → Result (Unit {0}) OutputFault → List (Result (Unit {0}) PlayFault) → List ℕ
+abbrev pub failures_text : Result (Unit {0}) OutputFault
+    → Result (Unit {0}) OutputFault → List (Result (Unit {0}) PlayFault) → List ℕ
 failures_text written kept outcomes = failed_seat_lines 1 outcomes ++ (journal_line written ++ kept_line kept)
 
 -- the status: that of a journal that was not written or not kept, else that of the least seat that failed
-abbrev pub status_of : Result (Unit {0}) OutputFault → Result (Unit {0}) OutputFault → List (Result (Unit {0}) PlayFault) → ℕ
+abbrev pub status_of : Result (Unit {0}) OutputFault
+    → Result (Unit {0}) OutputFault → List (Result (Unit {0}) PlayFault) → ℕ
 status_of (Err fault) kept outcomes = play_status (of_output fault)
 status_of (Ok done) (Err fault) outcomes = play_status (of_output fault)
 status_of (Ok done) (Ok its) outcomes = seats_status outcomes

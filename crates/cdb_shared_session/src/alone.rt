@@ -118,17 +118,17 @@ fn hold_kept<R: Runs, A: Answers<R>, T: Console, J: Sink + Drop>(
     (outcome, kept)
 }
 
-/// A session on a run of the setup as `debug` holds it, and beside it the journal in a file, in which nothing is: once a
-/// command is carried out the file has its entry, a line with the seat and the command, before the response is written; the
-/// entries that the session goes on from stand before all others.
-/// Where the file can't be written, or memory is out, the session goes on; what the file lacks then is added at the end.
-/// Returned are how the session ended, as of `debug`, and the file with how the journal was kept.
+/// A session on a run of the setup as `debug` holds it, and beside it the journal in a file, in which nothing is: once
+/// a command is carried out the file has its entry, a line with the seat and the command, before the response is
+/// written; the entries that the session goes on from stand before all others.
+/// Where the file can't be written, or memory is out, the session goes on; what the file lacks then is added at the
+/// end. Returned are how the session ended, as of `debug`, and the file with how the journal was kept.
 ///
 /// # Errors
 /// Those of `debug`. Before the session begins the file is left as it was.
 ///
-/// Promise: One journal explains all responses of the session, and the file has it at the end, or a beginning of it where
-/// it could not be written or memory was out.
+/// Promise: One journal explains all responses of the session, and the file has it at the end, or a beginning of it
+/// where it could not be written or memory was out.
 pub fn debug_kept<R: Runs, A: Answers<R>, T: Console, J: Sink + Drop>(
     alloc: Global,
     setup: &[u8],

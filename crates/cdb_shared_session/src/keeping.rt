@@ -4,7 +4,7 @@ ghost use Rattle.std.specs.Prelude.{◌≤◌, List, Option, IfOk, IfSome, lengt
 ghost use Rattle.cdb_control.specs.declared.control.Entry.{Entry as AnEntry};
 ghost use Rattle.cdb_control.specs.Journal.{Begins};
 ghost use Rattle.cdb_shared.specs.Seats.{RestsAt, IsLater};
-ghost use Rattle.cdb_shared_session.specs.Keeping.{AreKept, GoesOnKeeping, HasKept, IsKept, Keeps};
+ghost use Rattle.cdb_shared_session.specs.KeptOutcomes.{AreKept, GoesOnKeeping, HasKept, IsKept, Keeps};
 
 use crate::reports::write_journal;
 use cdb_control::Entry;

@@ -95,8 +95,8 @@ fn write_journal_fault<W: Sink>(
     }
 }
 
-/// Writes the line of a file in which the journal was not kept, if it was not. Where the writer fails, what was written is a
-/// beginning of the line.
+/// Writes the line of a file in which the journal was not kept, if it was not. Where the writer fails, what was written
+/// is a beginning of the line.
 pub fn write_kept_fault<W: Sink>(kept: &Result<(), OutputFault>, out: &mut W) -> Result<(), Failed>
     ensures { Writes W.stream result out.old out.new (kept_line kept.now) }
 {
@@ -122,8 +122,8 @@ fn write_journal_faults<W: Sink>(
 }
 
 /// Writes a line for each seat whose session failed, with its number and the fault, in the order of the seats, of which
-/// there are at most 64, and then one for a journal that was not written, and one for a file in which it was not kept. It
-/// takes no memory, and where the writer
+/// there are at most 64, and then one for a journal that was not written, and one for a file in which it was not kept.
+/// It takes no memory, and where the writer
 /// fails, what was written is a beginning of the lines.
 pub fn write_failures<T, W: Sink>(
     finished: &[Finished<T>],
@@ -151,8 +151,8 @@ fn status_of_seats<T>(finished: &[Finished<T>]) -> u8
     0
 }
 
-/// The status once all sessions have ended: 6 or 7 where the journal was not written or not kept, else that of the least
-/// seat whose session failed, 3, 6 or 7, and 0 where none did.
+/// The status once all sessions have ended: 6 or 7 where the journal was not written or not kept, else that of the
+/// least seat whose session failed, 3, 6 or 7, and 0 where none did.
 pub fn status_after<T>(
     finished: &[Finished<T>],
     written: &Result<(), OutputFault>,

@@ -92,7 +92,8 @@ pub(crate) struct SeatPromise<R: Runs, A, P> {
 impl<R: Runs, A: Answers<R>, P: Opener> Promise<SeatResult<R, P::Seat>> for SeatPromise<R, A, P> {
     ghost use Rattle.cdb_shared_session.specs.Promises.{HasRun};
 
-    ghost kept_by = { λ p r. HasRun R.rules A.answers P.Seat.known P.opens p.seat.value p.opener.value r.seat r.finished };
+    ghost kept_by = { λ p r.
+        HasRun R.rules A.answers P.Seat.known P.opens p.seat.value p.opener.value r.seat r.finished };
 }
 
 /// A seat's session in a style by which no line chooses a seat, from its first line to its last. Hands the seat back.
@@ -112,7 +113,8 @@ fn run_styled<R: Runs, A: Answers<R>, T: Console, Rt: Wait>(
     requires first { style.now.first ≡ seat.number }
     requires chooses { style.now.chooses ≡ false }
     ensures later { IsLater seat result.0 }
-    ensures session { RunsSeat R.rules A.answers style.now seat result.0 result.1 (T.known console.old) (T.known console.new) }
+    ensures session { RunsSeat R.rules A.answers style.now seat
+        result.0 result.1 (T.known console.old) (T.known console.new) }
 {
     let caller = SeatCaller::<'_, R, A, Rt> {
         shared,

@@ -3,7 +3,7 @@
 ghost use Rattle.std.specs.Prelude.{◌≡◌, ◌≤◌, ℕ, List, vec_len, IfOk, IfErr, OnErr};
 ghost use Rattle.cdb_session.specs.Debugs.{IsFaultOfBeginning};
 ghost use Rattle.cdb_shared_session.specs.Faults.{of_sessions};
-ghost use Rattle.cdb_shared_session.specs.Keeping.{kept_outcome};
+ghost use Rattle.cdb_shared_session.specs.KeptOutcomes.{kept_outcome};
 ghost use Rattle.cdb_shared_session.specs.Reported.{RunsSessions, IsFaultOfSessions};
 
 use crate::endpoint::Opener;
@@ -53,17 +53,18 @@ fn outcome_of<J>(kept: &Option<Kept<J>>) -> Result<(), OutputFault>
     }
 }
 
-/// Holds sessions of as many seats as there are openers, from 1 to 64, over one run of the setup, which go on from a journal of
-/// these seats, until all have ended; a journal without bytes has no entries;
-/// each seat is opened in its own thread, and one that can't be opened has failed. Where there is a file, the journal is
-/// kept in it meanwhile. Then the journal is written to the output, a line for each entry, and to the other output a line
-/// for each seat that failed, and one where the journal could not be written or kept; these lines take no memory. Returned
-/// is the status: 6 or 7 where the journal could not be written or kept, else that of the least seat that failed, and 0
-/// where none did; and with it the file, with how the journal was kept.
+/// Holds sessions of as many seats as there are openers, from 1 to 64, over one run of the setup, which go on from a
+/// journal of these seats, until all have ended; a journal without bytes has no entries;
+/// each seat is opened in its own thread, and one that can't be opened has failed. Where there is a file, the journal
+/// is kept in it meanwhile. Then the journal is written to the output, a line for each entry, and to the other output a
+/// line for each seat that failed, and one where the journal could not be written or kept; these lines take no memory.
+/// Returned is the status: 6 or 7 where the journal could not be written or kept, else that of the least seat that
+/// failed, and 0 where none did; and with it the file, with how the journal was kept.
 ///
 /// # Errors
-/// `Setup`, `Line` and `ScriptTooLong` as of `begin`, and then no session was begun; `Spawn` where a thread can't be started, and
-/// `NoMemory` where an allocation fails before the sessions have ended. Nothing was written to either output.
+/// `Setup`, `Line` and `ScriptTooLong` as of `begin`, and then no session was begun; `Spawn` where a thread can't be
+/// started, and `NoMemory` where an allocation fails before the sessions have ended. Nothing was written to either
+/// output.
 ///
 /// Promise: That journal is written, `S LINE` for each entry, and a line for each seat that failed, which takes no
 /// memory; the status is that of a journal that was not written, else of the least seat that failed.

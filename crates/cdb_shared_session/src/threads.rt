@@ -6,7 +6,7 @@ ghost use Rattle.cdb_session.specs.Greetings.{greeting_text};
 ghost use Rattle.cdb_shared_session.specs.SharedSessions.{AreSessions};
 ghost use Rattle.cdb_shared_session.specs.Promises.{IsUnused, IsSeatPromise, AreSeatPromises};
 ghost use Rattle.cdb_shared_session.specs.Promises.{AllKept, AllHaveRun, HasRun};
-ghost use Rattle.cdb_shared_session.specs.Keeping.{GoesOnKeeping, HasKept};
+ghost use Rattle.cdb_shared_session.specs.KeptOutcomes.{GoesOnKeeping, HasKept};
 ghost use Rattle.cdb_shared.specs.Seats.{fresh_seat, fresh_seats, HasHeadline, IsLater, RestsAt};
 
 use crate::endpoint::{Finished, Opener};
@@ -163,8 +163,8 @@ type Left<R, P, J> = (
     Keeping<R, J>,
 );
 
-/// Starts a thread for each seat in this scope, keeps the journal while they are going on, and joins them all; the seats
-/// and how their sessions ended are added to lists that have room for them.
+/// Starts a thread for each seat in this scope, keeps the journal while they are going on, and joins them all; the
+/// seats and how their sessions ended are added to lists that have room for them.
 fn join_all<
     's,
     E,
@@ -304,16 +304,16 @@ pub type Ended<R, P, J> = (
 );
 
 /// Sessions of as many seats as there are openers, from 1 to 64, over one control, each in a thread of its
-/// own, until all have ended; then the control, whose journal has the commands of all behind its entries so far, and what came
-/// of each seat, in the order of the openers, of which the k-th is that of seat k. Each thread opens its own seat, so a seat begins when its
-/// streams are open, and holds no other until then. A line has its response as in a session of one seat, but that no
-/// line chooses a seat. A seat with a prompt is greeted with this greeting, the setup in words, and where there is more than one seat its
-/// number stands before the prompt. A seat that can't be opened, or whose session ends with a fault, ends alone, and the others go
-/// on. Where the journal so far can be written, the whole journal can be too, and a replay of what was written tells each seat what it
-/// was told.
+/// own, until all have ended; then the control, whose journal has the commands of all behind its entries so far, and
+/// what came of each seat, in the order of the openers, of which the k-th is that of seat k. Each thread opens its own
+/// seat, so a seat begins when its streams are open, and holds no other until then. A line has its response as in a
+/// session of one seat, but that no line chooses a seat. A seat with a prompt is greeted with this greeting, the setup
+/// in words, and where there is more than one seat its number stands before the prompt. A seat that can't be opened, or
+/// whose session ends with a fault, ends alone, and the others go on. Where the journal so far can be written, the
+/// whole journal can be too, and a replay of what was written tells each seat what it was told.
 ///
-/// Where there is a file, the journal is kept in it: ten times a second the entries that are new are added in one piece,
-/// and the last ones once all sessions have ended. Where it can't be written, the sessions go on.
+/// Where there is a file, the journal is kept in it: ten times a second the entries that are new are added in one
+/// piece, and the last ones once all sessions have ended. Where it can't be written, the sessions go on.
 ///
 /// # Errors
 /// `NoMemory` where the control, the results or the threads find no memory, and then no session was begun. `Spawn`
@@ -323,10 +323,10 @@ pub type Ended<R, P, J> = (
 /// Promise: With several seats one journal explains the responses to each: it has the commands of each seat's lines, in
 /// order and each once, or the first of them and is full; each seat got the replies to them there, in full before it
 /// was asked for more; no entry is of another seat. What a line of a seat asks of the run is answered of the run that a
-/// beginning of the journal leaves, which has of the seat just the commands of the lines before. A seat is opened in its own thread; one that can't be opened has no
-/// entry, and ends with that fault. A seat that fails ends alone; only after out of memory the journal may have one
-/// command more than had its reply. The file has the journal at the end, or a beginning of it where it could not be
-/// written or memory was out.
+/// beginning of the journal leaves, which has of the seat just the commands of the lines before. A seat is opened in
+/// its own thread; one that can't be opened has no entry, and ends with that fault. A seat that fails ends alone; only
+/// after out of memory the journal may have one command more than had its reply. The file has the journal at the end,
+/// or a beginning of it where it could not be written or memory was out.
 pub fn debug_seats<
     R: Runs + Send,
     A: Answers<R> + Send,

@@ -1,2 +1,2 @@
 pub mod PlayedBack
-pub mod Parting
+pub mod SliceFlags

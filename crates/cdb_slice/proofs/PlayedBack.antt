@@ -55,10 +55,12 @@ module _ (rules : Rules) (SameState : List Event → List Event → Type 0) (set
       record { answered = all.0; left = all.1 }
 
   -- what led to an event of a valid history is one itself
-  pub past_valid : (history : List Event) (position : ℕ) (events others : List Event) → IsTrue (rules.valid history) → IsSlice depends history position events others → IsTrue (rules.valid events)
+  pub past_valid : (history : List Event) (position : ℕ) (events others : List Event)
+      → IsTrue (rules.valid history) → IsSlice depends history position events others → IsTrue (rules.valid events)
   past_valid history position events others valid slice =
       keeps.beginning events others (keeps.exchanged history (events ++ others) (slice_to_front depends history position events others slice) valid)
 
-  pub sliced_valid : (history : List Event) (step : Option StepAsked) (events : List Event) → IsTrue (rules.valid history) → AreSliced history step events → IsTrue (rules.valid events)
+  pub sliced_valid : (history : List Event) (step : Option StepAsked) (events : List Event)
+      → IsTrue (rules.valid history) → AreSliced history step events → IsTrue (rules.valid events)
   sliced_valid history None events valid is = subst (λ (h : List Event). IsTrue (rules.valid h)) (sym is) valid
   sliced_valid history (Some step) events valid (position, asked, others, slice) = past_valid history position events others valid slice

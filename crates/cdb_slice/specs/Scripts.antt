@@ -32,9 +32,11 @@ script_text events = flat_map line_text events
 abbrev pub AreAnswered : Rules → State → List Event → Type 0
 AreAnswered rules t [] = Unit {0}
 AreAnswered rules t (event ∷ events) =
-    TellsTaken (reply_of rules t 1 (command_for event)) event × AreAnswered rules (obey rules t 1 (command_for event)) events
+    TellsTaken (reply_of rules t 1 (command_for event)) event
+    × AreAnswered rules (obey rules t 1 (command_for event)) events
 
--- Played from the start, the command for each event is answered with it, and in the end just these events stand, in this order.
+-- Played from the start, the command for each event is answered with it, and in the end just these events stand, in
+-- this order.
 pub record PlaysBack (rules : Rules) (setup : Parts) (events : List Event) : Type 0 where
   pub answered : AreAnswered rules (first_control_state setup 1) events
   pub left : (replay rules setup 1 (journal_of (map command_for events))).history ≡ events

@@ -4,7 +4,7 @@ use Rattle.cdb_base.specs.declared.event.Event.{Event}
 use Rattle.cdb_causal.specs.Dependence.{depends}
 use Rattle.cdb_causal.specs.Past.{IsSlice}
 use Rattle.cdb_explain.specs.Asked.{IsMissing, IsStepAsked}
-use Rattle.cdb_explain.specs.Left.{Leaves}
+use Rattle.cdb_explain.specs.RunLeft.{Leaves}
 use Rattle.cdb_explain.specs.StepFaults.{IsFaultOfLeft}
 use Rattle.cdb_base.specs.declared.question.StepAsked.{StepAsked}
 use Rattle.cdb_explain.specs.declared.fault.ExplainFault.{ExplainFault}
@@ -14,20 +14,24 @@ use Rattle.cdb_setup.specs.Parts.{Parts}
 use Rattle.cdb_slice.specs.Scripts.{PlaysBack, script_text}
 use Rattle.cdb_streams.specs.Streams.{Stream}
 
--- the events are all that stand; or exactly those that have led to the step that is asked for, in the order of the history
+-- the events are all that stand; or exactly those that have led to the step that is asked for, in the order of the
+-- history
 abbrev pub AreSliced : List Event → Option StepAsked → List Event → Type 0
 AreSliced history None events = events ≡ history
 AreSliced history (Some step) events =
-    (position : ℕ) × IsStepAsked history step.p step.k position × (others : List Event) × IsSlice depends history position events others
+    (position : ℕ) × IsStepAsked history step.p step.k position
+    × (others : List Event) × IsSlice depends history position events others
 
 -- the text is a script of these events, and plays them back
 abbrev pub IsSliceText : (Parts → Rules) → RunView → Option StepAsked → List ℕ → Type 0
 IsSliceText rules run step text =
-    (events : List Event) × AreSliced run.history step events × (text ≡ script_text events) × PlaysBack (rules run.setup) run.setup events
+    (events : List Event) × AreSliced run.history step events
+    × (text ≡ script_text events) × PlaysBack (rules run.setup) run.setup events
 
 -- of the run that the script leaves
 abbrev pub WritesSlice : (Parts → Rules) → List ℕ → Option StepAsked → Stream → Stream → List ℕ → Type 0
-WritesSlice rules json step old new text = (run : RunView) × Leaves rules json old new run × IsSliceText rules run step text
+WritesSlice rules json step old new text =
+    (run : RunView) × Leaves rules json old new run × IsSliceText rules run step text
 
 -- the step does not stand in that run; else as a fault of a play
 abbrev pub IsFaultOfSlice : (Parts → Rules) → List ℕ → Option StepAsked → Stream → Stream → ExplainFault → Type 0

@@ -1,5 +1,5 @@
-//! A script that plays a run again, or only what led to a step of it. The functions of `laws` do nothing: the contract of each
-//! is the law.
+//! A script that plays a run again, or only what led to a step of it. The functions of `laws` do nothing: the contract
+//! of each is the law.
 //!
 //! ```text
 //! slice::<AnyRun, _, _>(alloc, setup, &mut script, step, &mut output)?;

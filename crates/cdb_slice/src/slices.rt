@@ -43,19 +43,19 @@ fn write_script<T: Runs, W: Sink>(
     Ok(())
 }
 
-/// Writes a script of the standing events of the run that a script leaves, a command for each; with a step only of those that
-/// have led to it. Given from the start, each command is answered with its event, and in the end just these events stand,
-/// in this order. That each line is read as its command is a law of `cdb_text`.
+/// Writes a script of the standing events of the run that a script leaves, a command for each; with a step only of
+/// those that have led to it. Given from the start, each command is answered with its event, and in the end just these
+/// events stand, in this order. That each line is read as its command is a law of `cdb_text`.
 ///
 /// The setup is read first, then the whole script, then all its lines; the text is whole before any of it is
 /// written. So after `Write` what was written is a beginning of the text, and after any other fault nothing was
 /// written. `NoStep` comes where no such step stands. After `Setup` the script is not read; `Read` comes only where
 /// the reader failed in this call, and `Write` only where the writer did.
 ///
-/// Promise: A slice has a line for each standing event, or for each that has led to the step, and for no other, in the order
-/// of the history: its command. Given from the start, each is answered with its event, and in the end just these events stand.
-/// `NoStep` comes only where no such step stands. After a fault nothing was written, but after a failed write a
-/// beginning.
+/// Promise: A slice has a line for each standing event, or for each that has led to the step, and for no other, in the
+/// order of the history: its command. Given from the start, each is answered with its event, and in the end just these
+/// events stand. `NoStep` comes only where no such step stands. After a fault nothing was written, but after a failed
+/// write a beginning.
 pub fn slice<T: Runs, R: Source, W: Sink>(
     alloc: Global,
     setup: &[u8],

@@ -11,8 +11,8 @@ use Rattle.cdb_standing.specs.Causes.{writes}
 use Rattle.cdb_standing.specs.Tables.{IsEntry, IsSound}
 use Rattle.cdb_standing.specs.declared.tables.Entry.{Entry}
 use Rattle.cdb_standing.specs.declared.tables.Sent.{Sent}
-use Rattle.cdb_standing.proofs.Affecting.{either, is_accessed, Affects, affects_is}
-use Rattle.cdb_standing.proofs.Finding.{affecting, affected}
+use Rattle.cdb_standing.proofs.LaterLinks.{either, is_accessed, Affects, affects_is}
+use Rattle.cdb_standing.proofs.EarliestFound.{affecting, affected}
 
 -- a step of process p of the first kind sends what one of the other kind receives
 pub record IsMail (p : ℕ) (kind other : Kind) : Type 0 where
@@ -35,7 +35,8 @@ why p (Send m) other is = inl (record { m = m; sends = refl; receives = is })
 why p (Write register) other is = inr (record { n = number_of register; one = refl; two = is; written = inl refl })
 why p _ other is = absurd is
 
-pub writes_is : (kind : Kind) (n : ℕ) → writes kind ≡ true → accessed kind ≡ Some n → (other : Kind) → accessed other ≡ Some n → (p : ℕ) → kind_affects p kind other ≡ true
+pub writes_is : (kind : Kind) (n : ℕ) → writes kind ≡ true → accessed kind ≡ Some n
+    → (other : Kind) → accessed other ≡ Some n → (p : ℕ) → kind_affects p kind other ≡ true
 writes_is (Write register) n w one other two p = is_accessed register other (two ∙ sym one)
 writes_is _ n w one other two p = absurd (true≢false (sym w))
 

@@ -15,11 +15,11 @@ use Rattle.cdb_base.specs.declared.name.StepName.{StepName}
 use Rattle.cdb_causal.specs.Rollback.{without}
 use Rattle.cdb_causal.proofs.Lists.{map-without, nth_map}
 use Rattle.cdb_standing.specs.InOrder.{Has}
-use Rattle.cdb_standing.specs.Lefts.{left_of, recorded_with, AreBeside}
+use Rattle.cdb_standing.specs.UndoDataLists.{undo_data_of, recorded_with, AreBeside}
 use Rattle.cdb_standing.specs.Moves.{StandsIn, HasStep, IsNextStep, IsEndOf, IsFreeAlone, IsTakenOut}
 use Rattle.cdb_standing.specs.Recorded.{events_of, nothing, recorded_of, IsRecordTakenOut}
 use Rattle.cdb_standing.specs.Tables.{row_of, IsPutOn}
-use Rattle.cdb_standing.specs.declared.recorded.Left.{Left}
+use Rattle.cdb_standing.specs.declared.recorded.UndoData.{UndoData}
 use Rattle.cdb_standing.specs.declared.recorded.Recorded.{Recorded}
 use Rattle.cdb_standing.proofs.Ordered.{has_at, at_has, has_left, has_right, has_cases, without_keeps, without_only}
 use Rattle.cdb_standing.proofs.Places.{step_named}
@@ -47,21 +47,21 @@ module _ (history : List Event) (at : ℕ) (gone : Event) (there : nth history a
 -- ---- lists of what is recorded
 
 module _ {B : Type 0} where
-  pub events_recorded : (lefts : List (List (Left B))) (history : List Event) → events_of (recorded_with lefts history) ≡ history
+  pub events_recorded : (lefts : List (List (UndoData B))) (history : List Event) → events_of (recorded_with lefts history) ≡ history
   events_recorded lefts [] = refl
   events_recorded lefts (x ∷ xs) = ap (λ l. x ∷ l) (events_recorded lefts xs)
 
   -- the events that a contract sees
-  pub history_seen : (lefts : List (List (Left B))) (history : List Event) {records : List (Recorded B)} → recorded_with lefts history ≡ records
+  pub history_seen : (lefts : List (List (UndoData B))) (history : List Event) {records : List (Recorded B)} → recorded_with lefts history ≡ records
       → history ≡ events_of records
   history_seen lefts history is = sym (events_recorded lefts history) ∙ ap events_of is
 
   -- the loss of a copy at the end
-  pub loss_recorded : (lefts : List (List (Left B))) (history : List Event) (copy : CopyName)
+  pub loss_recorded : (lefts : List (List (UndoData B))) (history : List Event) (copy : CopyName)
       → recorded_with lefts (history ++ Lost copy ∷ []) ≡ recorded_with lefts history ++ recorded_of (Lost copy) nothing ∷ []
   loss_recorded lefts history copy = map-append _ history (Lost copy ∷ [])
 
-  same_recorded : (low high : List (List (Left B))) (history : List Event) → ((it : Event) → Has history it → left_of high it ≡ left_of low it)
+  same_recorded : (low high : List (List (UndoData B))) (history : List Event) → ((it : Event) → Has history it → undo_data_of high it ≡ undo_data_of low it)
       → recorded_with high history ≡ recorded_with low history
   same_recorded low high [] same = refl
   same_recorded low high (x ∷ xs) same = ap₂ (λ l rest. recorded_of x l ∷ rest) (same x (inl refl)) (same_recorded low high xs (λ it h. same it (inr h)))
@@ -73,7 +73,7 @@ steps_front history copy p k (kind, h) =
     ⊎_elim (λ q. (kind, has_stands history (Step p k kind) q)) (λ q. ⊎_elim (λ e. absurd (cc)) (λ no. absurd no) q)
     (has_cases history (Lost copy ∷ []) (Step p k kind) (stands_has (history ++ Lost copy ∷ []) (Step p k kind) h))
 
-module _ {B : Type 0} (lefts : List (List (Left B))) (history : List Event) (beside : AreBeside lefts history) (copy : CopyName) where
+module _ {B : Type 0} (lefts : List (List (UndoData B))) (history : List Event) (beside : AreBeside lefts history) (copy : CopyName) where
   pub beside_loss : AreBeside lefts (history ++ Lost copy ∷ [])
   beside_loss =
       record {
@@ -92,7 +92,7 @@ module _ {B : Type 0} (lefts : List (List (Left B))) (history : List Event) (bes
       }
 
 -- something lies in the row of a process of which a step stands
-pub some_left : {B : Type 0} (lefts : List (List (Left B))) (history : List Event) → AreBeside lefts history → (p k : ℕ)
+pub some_left : {B : Type 0} (lefts : List (List (UndoData B))) (history : List Event) → AreBeside lefts history → (p k : ℕ)
     → IsFreeAlone history (named.Step (record { p = p; k = k })) → 0 < length (row_of lefts p)
 some_left lefts history beside p k (at, (it, there, is), free) = by it there is
   where
@@ -104,23 +104,24 @@ some_left lefts history beside p k (at, (it, there, is), free) = by it there is
         let one = w.0 in let many = w.1 in rw (← p_is) (omega arith)
     by (Lost copy) there is = absurd (cc)
 
-module _ {B : Type 0} (low high : List (List (Left B))) (p : ℕ) (left : Left B) (put : IsPutOn p low left high) where
-  other_nth : (xs : List (Left B)) (k : ℕ) → k ≢ length xs + 1 → nth (xs ++ left ∷ []) k ≡ nth xs k
+module _ {B : Type 0} (low high : List (List (UndoData B))) (p : ℕ) (left : UndoData B) (put : IsPutOn p low left high) where
+  other_nth : (xs : List (UndoData B)) (k : ℕ) → k ≢ length xs + 1 → nth (xs ++ left ∷ []) k ≡ nth xs k
   other_nth xs zero other = refl
   other_nth [] (suc zero) other = absurd (other (omega arith))
   other_nth [] (suc (suc k)) other = refl
   other_nth (x ∷ xs) (suc zero) other = refl
   other_nth (x ∷ xs) (suc (suc k)) other = other_nth xs (suc k) (λ e. other (omega arith))
 
-  left_otherwise : (k : ℕ) → k ≡ length (row_of low p) + 1 → (it : Event) → ((kind : Kind) → it ≢ Step p k kind) → left_of high it ≡ left_of low it
+  left_otherwise : (k : ℕ) → k ≡ length (row_of low p) + 1 → (it : Event) → ((kind : Kind) → it ≢ Step p k kind) → undo_data_of high it ≡ undo_data_of low it
   left_otherwise k last (Lost copy) other = refl
   left_otherwise k last (Step q l kind) other = ⊎_elim own (λ no. ap (λ row. unwrap_or (nth row l) nothing) (put.others q no)) (cases_eq q p)
     where
-      own : q ≡ p → left_of high (Step q l kind) ≡ left_of low (Step q l kind)
+      own : q ≡ p → undo_data_of high (Step q l kind) ≡ undo_data_of low (Step q l kind)
       own e =
-          rw e (ap (λ row. unwrap_or (nth row l) nothing) put.more ∙ ap (λ o. unwrap_or o nothing) (other_nth (row_of low p) l (λ i. other kind (λ j. Step (e j) ((i ∙ sym last) j) kind))))
+          rw e (ap (λ row. unwrap_or (nth row l) nothing) put.more
+          ∙ ap (λ o. unwrap_or o nothing) (other_nth (row_of low p) l (λ i. other kind (λ j. Step (e j) ((i ∙ sym last) j) kind))))
 
-  top_left : (k : ℕ) (kind : Kind) → k ≡ length (row_of low p) + 1 → left_of high (Step p k kind) ≡ left
+  top_left : (k : ℕ) (kind : Kind) → k ≡ length (row_of low p) + 1 → undo_data_of high (Step p k kind) ≡ left
   top_left k kind last = ap (λ o. unwrap_or o nothing) (put_joins p low left high put k last)
 
   low_length : (q : ℕ) → q ≢ p → length (row_of high q) ≡ length (row_of low q)
@@ -145,7 +146,9 @@ module _ {B : Type 0} (low high : List (List (Left B))) (p : ℕ) (left : Left B
     beside_more =
         record {
           processes = put.as_many ∙ beside.processes;
-          within = λ q l h. ⊎_elim (within q l h.0) (λ q'. ⊎_elim (joined q l h.0) (λ no. absurd no) q') (has_cases history (Step p k kind ∷ []) (Step q l h.0) (stands_has (history ++ Step p k kind ∷ []) (Step q l h.0) h.1));
+          within =
+              λ q l h. ⊎_elim (within q l h.0) (λ q'. ⊎_elim (joined q l h.0) (λ no. absurd no) q')
+              (has_cases history (Step p k kind ∷ []) (Step q l h.0) (stands_has (history ++ Step p k kind ∷ []) (Step q l h.0) h.1));
           standing = standing;
         }
       where
@@ -170,8 +173,11 @@ module _ {B : Type 0} (low high : List (List (Left B))) (p : ℕ) (left : Left B
             was q l one w = let h = beside.standing q l one w in (h.0, stands_front history (Step p k kind) (Step q l h.0) h.1)
 
             last : q ≡ p → l ≡ k → HasStep (history ++ Step p k kind ∷ []) q l
-            last e is =
-                (kind, rw (e, is) (has_stands (history ++ Step p k kind ∷ []) (Step p k kind) (has_right history (Step p k kind ∷ []) (Step p k kind) (inl refl))))
+            last e is = (
+              kind,
+              rw (e, is)
+                  (has_stands (history ++ Step p k kind ∷ []) (Step p k kind) (has_right history (Step p k kind ∷ []) (Step p k kind) (inl refl))),
+            )
 
             own : q ≡ p → HasStep (history ++ Step p k kind ∷ []) q l
             own e =
@@ -188,8 +194,10 @@ module _ {B : Type 0} (low high : List (List (Left B))) (p : ℕ) (left : Left B
         (top_left k kind next_left)
 
   -- the last step of a process less
-  module _ (history new : List Event) (k : ℕ) (kind : Kind) (beside : AreBeside high history) (free : IsFreeAlone history (named.Step (record { p = p; k = k })))
-      (taken : IsTakenOut history (named.Step (record { p = p; k = k })) (Step p k kind) new) (was_last : IsEndOf history p k) (last : IsEndOf new p (k - 1)) where
+  module _ (history new : List Event) (k : ℕ) (kind : Kind) (beside : AreBeside high history)
+      (free : IsFreeAlone history (named.Step (record { p = p; k = k })))
+      (taken : IsTakenOut history (named.Step (record { p = p; k = k })) (Step p k kind) new)
+      (was_last : IsEndOf history p k) (last : IsEndOf new p (k - 1)) where
     there : nth history free.0 ≡ Some (Step p k kind)
     there = (taken free.0 free.1).0
 
@@ -212,15 +220,19 @@ module _ {B : Type 0} (low high : List (List (Left B))) (p : ℕ) (left : Left B
           processes = sym put.as_many ∙ beside.processes;
           within = λ q l h.
               let w = beside.within q l (old_step q l h) in
-              let many = w.1 in
-              (w.0, ⊎_elim (λ e. let less = last l (rw e at h) in let n = last_left in rw e (omega arith)) (λ no. let e = low_length q no in omega arith) (cases_eq q p));
+              let many = w.1 in (
+                w.0,
+                ⊎_elim (λ e. let less = last l (rw e at h) in let n = last_left in rw e (omega arith))
+                    (λ no. let e = low_length q no in omega arith) (cases_eq q p),
+              );
           standing = standing;
         }
       where
         standing : (q l : ℕ) → 1 ≤ l → l ≤ length (row_of low q) → HasStep new q l
         standing q l one w =
             ⊎_elim
-            (λ e. kept (λ i. let n = last_left in let w' : l ≤ length (row_of low p) = rw e at w in absurd (omega arith)) (rw e (let w' : l ≤ length (row_of low p) = rw e at w in let h = high_length in omega arith)))
+            (λ e. kept (λ i. let n = last_left in let w' : l ≤ length (row_of low p) = rw e at w in absurd (omega arith))
+            (rw e (let w' : l ≤ length (row_of low p) = rw e at w in let h = high_length in omega arith)))
             (λ no. kept (λ i. absurd (no i.0)) (let e = low_length q no in omega arith))
             (cases_eq q p)
           where
@@ -229,7 +241,8 @@ module _ {B : Type 0} (low high : List (List (Left B))) (p : ℕ) (left : Left B
                 let h = beside.standing q l one w in
                 (h.0, rw (taken free.0 free.1).1 (stays history free.0 (Step p k kind) there (Step q l h.0) (λ e. other ((cc), (cc))) h.1))
 
-    pub step_taken : IsRecordTakenOut (recorded_with high history) (named.Step (record { p = p; k = k })) (recorded_of (Step p k kind) left) (recorded_with low new)
+    pub step_taken : IsRecordTakenOut (recorded_with high history)
+        (named.Step (record { p = p; k = k })) (recorded_of (Step p k kind) left) (recorded_with low new)
     step_taken at h =
         let out = taken at (rw (events_recorded high history) at h) in (
           nth_map _ history at (Step p k kind) out.0 ∙ ap (λ l. Some (recorded_of (Step p k kind) l)) (top_left k kind last_left),
@@ -238,7 +251,8 @@ module _ {B : Type 0} (low high : List (List (Left B))) (p : ℕ) (left : Left B
         )
 
 -- the loss of a copy less
-module _ {B : Type 0} (lefts : List (List (Left B))) (history new : List Event) (copy : CopyName) (taken : IsTakenOut history (named.Lost copy) (Lost copy) new) where
+module _ {B : Type 0} (lefts : List (List (UndoData B))) (history new : List Event)
+    (copy : CopyName) (taken : IsTakenOut history (named.Lost copy) (Lost copy) new) where
   pub loss_taken : IsRecordTakenOut (recorded_with lefts history) (named.Lost copy) (recorded_of (Lost copy) nothing) (recorded_with lefts new)
   loss_taken at h =
       let out = taken at (rw (events_recorded lefts history) at h) in

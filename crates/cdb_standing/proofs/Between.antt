@@ -1,5 +1,6 @@
 -- What lies between a step and the last one of a process on which it depends: accesses of the register that both access.
-use Rattle.std.proofs.Common.{◌≡◌, ℕ, ◌<◌, ◌≤◌, Bool, true, false, true≢false, ◌&&◌, ◌||◌, cond, nat_eq, eqb-true, eq-eqb, List, Option, Some, None, ◌⊎◌, inl, inr, ⊎_elim, refl, sym, ap, ◌∙◌, subst, arith}
+use Rattle.std.proofs.Common.{◌≡◌, ℕ, ◌<◌, ◌≤◌, Bool, true, false, true≢false, ◌&&◌, ◌||◌, cond, nat_eq, eqb-true, eq-eqb}
+use Rattle.std.proofs.Common.{List, Option, Some, None, ◌⊎◌, inl, inr, ⊎_elim, refl, sym, ap, ◌∙◌, subst, arith}
 use Rattle.std.proofs.lemmas.Option.{none-some}
 use Rattle.std.specs.Option.{option_and_then}
 use Rattle.cdb_base.specs.declared.event.Event.{Event}
@@ -15,13 +16,13 @@ use Rattle.cdb_standing.specs.declared.tables.Access.{Access}
 use Rattle.cdb_standing.specs.declared.tables.Copied.TheVariants.{Received}
 use Rattle.cdb_standing.specs.declared.tables.Entry.{Entry}
 use Rattle.cdb_standing.specs.declared.tables.Sent.{Sent}
-use Rattle.cdb_standing.proofs.Affecting.{both, either}
+use Rattle.cdb_standing.proofs.LaterLinks.{both, either}
 use Rattle.cdb_standing.proofs.Apart.{IsMail, AreInConflict, links_apart, conflict_links}
-use Rattle.cdb_standing.proofs.Cutting.{process_within}
-use Rattle.cdb_standing.proofs.Finding.{own_links, loss_found}
+use Rattle.cdb_standing.proofs.CutsFound.{process_within}
+use Rattle.cdb_standing.proofs.EarliestFound.{own_links, loss_found}
 use Rattle.cdb_standing.proofs.LastCauses.{written_is, is_written_too, loss_needs}
 use Rattle.cdb_standing.proofs.Lasts.{is_listed, listed_is}
-use Rattle.cdb_standing.proofs.Mailing.{same_or_other, same_copy}
+use Rattle.cdb_standing.proofs.MailRows.{same_or_other, same_copy}
 use Rattle.cdb_standing.proofs.Rows.{same_at}
 
 -- a step of process s of the last kind accesses the register of both others, and is in conflict with the first, and with the second or of its process
@@ -33,7 +34,8 @@ pub record LiesBetween (cause : Kind) (p : ℕ) (kind : Kind) (s : ℕ) (other :
   pub with_cause : (writes cause ≡ true) ⊎ (writes other ≡ true)
   pub with_step : (s ≡ p) ⊎ ((writes kind ≡ true) ⊎ (writes other ≡ true))
 
-pub same_register : {cause : Kind} {p : ℕ} {kind : Kind} {s : ℕ} {other : Kind} (lies : LiesBetween cause p kind s other) → register_of_both cause kind ≡ Some lies.n
+pub same_register : {cause : Kind} {p : ℕ} {kind : Kind} {s : ℕ} {other : Kind} (lies : LiesBetween cause p kind s other)
+    → register_of_both cause kind ≡ Some lies.n
 same_register lies = rw (lies.of_cause, lies.of_step) (rw (eq-eqb lies.n lies.n refl) refl)
 
 of_options : (o u : Option ℕ) (n : ℕ) → option_and_then (λ m. cond (is_that u m) (Some m) None) o ≡ Some n → (o ≡ Some n) × (u ≡ Some n)
@@ -57,9 +59,11 @@ module _ {next : ℕ} {steps : List (List Entry)} {sent : List (List Sent)} (sou
   -- nothing depends on a loss
   pub no_loss : {effect : Event} {a x : ℕ} {copy : CopyName} → Stands steps sent a effect → IsCause steps sent effect a x (event.Lost copy) → ⊥
   no_loss {effect} {a} {x} {copy} stands c =
-      let none = (loss_found next steps sent sound copy x c.stands).each a effect (record { stands = stands; later = c.earlier; linked = c.linked }) in none-some none.0 none.1
+      let none = (loss_found next steps sent sound copy x c.stands).each a effect (record { stands = stands; later = c.earlier; linked = c.linked }) in
+      none-some none.0 none.1
 
-  module _ {p k a : ℕ} {kind : Kind} (at : IsEntry steps p k a kind) {q l c : ℕ} {cause : Kind} (is : IsLastCause steps sent (event.Step p k kind) a q l c cause) where
+  module _ {p k a : ℕ} {kind : Kind} (at : IsEntry steps p k a kind) {q l c : ℕ}
+      {cause : Kind} (is : IsLastCause steps sent (event.Step p k kind) a q l c cause) where
     abbrev pub IsBetweenHere : ℕ → Event → Type 0
     IsBetweenHere = IsBetween steps sent (event.Step q l cause) c (event.Step p k kind) a
 
@@ -70,7 +74,8 @@ module _ {next : ℕ} {steps : List (List Entry)} {sent : List (List Sent)} (sou
     lies_between s j x other b =
         elim (same_or_other q s) [
           | inl e ↦ (let past = is.last j x other (rw (← e) at b.to_effect) in let later = b.of_cause.later in absurd (omega arith))
-          | inr apart ↦ of_other apart (links_apart sound q l c cause s j x other is.is.stands b.of_cause.stands b.of_cause.later apart b.of_cause.linked) (same_or_other s p)
+          | inr apart ↦ of_other apart
+              (links_apart sound q l c cause s j x other is.is.stands b.of_cause.stands b.of_cause.later apart b.of_cause.linked) (same_or_other s p)
         ]
       where
         from_it : (s ≡ p → ⊥) → Linked s other p kind
@@ -94,7 +99,8 @@ module _ {next : ℕ} {steps : List (List Entry)} {sent : List (List Sent)} (sou
         of_other apart (inl mail) (inl e) =
             let e1 = mail.sends in let e2 = mail.receives in
             elim (from_cause (λ f. apart (f ∙ sym e))) [
-              | inl again ↦ (let e3 = again.sends in let e4 = again.receives in let m_is : again.m ≡ mail.m = cc in absurd (one_receive mail.m e e2 (rw m_is at e4)))
+              | inl again ↦
+                  (let e3 = again.sends in let e4 = again.receives in let m_is : again.m ≡ mail.m = cc in absurd (one_receive mail.m e e2 (rw m_is at e4)))
               | inr r ↦ absurd (none-some r.n (rw e1 at r.one))
             ]
         of_other apart (inl mail) (inr further) =
@@ -121,7 +127,8 @@ module _ {next : ℕ} {steps : List (List Entry)} {sent : List (List Sent)} (sou
               }
             ]
 
-    pub is_between : (s j x : ℕ) (other : Kind) → IsEntry steps s j x other → c < x → x < a → LiesBetween cause p kind s other → IsBetweenHere x (event.Step s j other)
+    pub is_between : (s j x : ℕ) (other : Kind) → IsEntry steps s j x other → c < x
+        → x < a → LiesBetween cause p kind s other → IsBetweenHere x (event.Step s j other)
     is_between s j x other here later earlier lies =
         record {
           of_cause = record {
@@ -142,7 +149,8 @@ module _ {next : ℕ} {steps : List (List Entry)} {sent : List (List Sent)} (sou
 
     -- ---- on the lists
 
-    module _ {accesses writing : List (List Access)} (all : AreListed accessed accesses steps) (some : AreListed written writing steps) (n : ℕ) (few : n < 11) (both_are : register_of_both cause kind ≡ Some n) where
+    module _ {accesses writing : List (List Access)} (all : AreListed accessed accesses steps)
+        (some : AreListed written writing steps) (n : ℕ) (few : n < 11) (both_are : register_of_both cause kind ≡ Some n) where
       abbrev On : ℕ → Type 0
       On s = HasAccessBetween (between_in accesses writing cause p kind s) s n c a
 
@@ -152,7 +160,8 @@ module _ {next : ℕ} {steps : List (List Entry)} {sent : List (List Sent)} (sou
           registers : (accessed cause ≡ Some n) × (accessed kind ≡ Some n)
           registers = both_access cause kind n both_are
 
-          by : (t : Bool) → (writes cause && (nat_eq s p || writes kind)) ≡ t → HasAccessBetween (cond t accesses writing) s n c a → (x : ℕ) × (it : Event) × IsBetweenHere x it
+          by : (t : Bool) → (writes cause && (nat_eq s p || writes kind)) ≡ t
+              → HasAccessBetween (cond t accesses writing) s n c a → (x : ℕ) × (it : Event) × IsBetweenHere x it
           by true holds h =
               let it = listed_is accessed accesses steps all s n one nine few h.0 h.1 in
               let is = both (writes cause) (nat_eq s p || writes kind) holds in (
@@ -196,9 +205,15 @@ module _ {next : ℕ} {steps : List (List Entry)} {sent : List (List Sent)} (sou
               by (inl w) (inr (inr v)) = v
 
           by : (t : Bool) → (writes cause && (nat_eq s p || writes kind)) ≡ t → HasAccessBetween (cond t accesses writing) s n c a
-          by true holds = (access_of x j, is_listed accessed accesses steps all s n one nine few j x other b.of_cause.stands of_it, b.of_cause.later, b.to_effect.earlier)
-          by false fails =
-              (access_of x j, is_listed written writing steps some s n one nine few j x other b.of_cause.stands (is_written_too other n (it_writes fails) of_it), b.of_cause.later, b.to_effect.earlier)
+          by true holds =
+              (access_of x j, is_listed accessed accesses steps all s n one nine few j x other b.of_cause.stands of_it, b.of_cause.later, b.to_effect.earlier)
+          by false fails = (
+            access_of x j,
+            is_listed written writing steps some s n one nine few j x other b.of_cause.stands
+                (is_written_too other n (it_writes fails) of_it),
+            b.of_cause.later,
+            b.to_effect.earlier,
+          )
 
       pub none_on_lists : ((s : ℕ) → 1 ≤ s → s ≤ 9 → On s → ⊥) → HasNone steps sent (event.Step q l cause) c (event.Step p k kind) a
       none_on_lists none x (event.Lost copy) b = no_loss at b.to_effect
@@ -212,7 +227,8 @@ module _ {next : ℕ} {steps : List (List Entry)} {sent : List (List Sent)} (sou
     none_without none x (event.Step s j other) b = let lies = lies_between s j x other b in none-some lies.n (sym none ∙ same_register lies)
 
   -- nothing lies between a send and the loss of a copy
-  pub none_before_loss : {copy : CopyName} {a q l c : ℕ} {cause : Kind} → Stands steps sent a (event.Lost copy) → IsLastCause steps sent (event.Lost copy) a q l c cause
+  pub none_before_loss : {copy : CopyName} {a q l c : ℕ} {cause : Kind}
+      → Stands steps sent a (event.Lost copy) → IsLastCause steps sent (event.Lost copy) a q l c cause
       → HasNone steps sent (event.Step q l cause) c (event.Lost copy) a
   none_before_loss at is x (event.Lost other) b = no_loss at b.to_effect
   none_before_loss {copy} {a} {q} {l} {c} {cause} at is x (event.Step s j other) b =

@@ -17,18 +17,19 @@ use Rattle.cdb_standing.specs.InOrder.{Marked}
 use Rattle.cdb_standing.specs.Tables.{row_of, history_of, standing, entry_of, Stands, IsSound}
 use Rattle.cdb_standing.specs.declared.tables.Entry.{Entry}
 use Rattle.cdb_standing.specs.declared.tables.Sent.{Sent}
-use Rattle.cdb_standing.proofs.Adding.{marked}
+use Rattle.cdb_standing.proofs.Joined.{marked}
 use Rattle.cdb_standing.proofs.Between.{no_loss}
-use Rattle.cdb_standing.proofs.Cutting.{process_within}
-use Rattle.cdb_standing.proofs.Finding.{own_links}
-use Rattle.cdb_standing.proofs.Mailing.{same_or_other}
+use Rattle.cdb_standing.proofs.CutsFound.{process_within}
+use Rattle.cdb_standing.proofs.EarliestFound.{own_links}
+use Rattle.cdb_standing.proofs.MailRows.{same_or_other}
 use Rattle.cdb_standing.proofs.Places.{IsPlace, place_of, stands_at, event_in, link_up, link_down, named_place}
 use Rattle.cdb_standing.proofs.Rows.{same_at}
 
 module _ {next : ℕ} {steps : List (List Entry)} {sent : List (List Sent)} (sound : IsSound next steps sent) {effect : Event} {ahead : ℕ} where
   -- ---- of one process
 
-  pub at_entry : (q l : ℕ) (entry : Entry) → Some entry ≡ nth (row_of steps q) l → (mark : ℕ) × (kind : Kind) × IsLastCause steps sent effect ahead q l mark kind → IsLastCause steps sent effect ahead q l entry.mark entry.kind
+  pub at_entry : (q l : ℕ) (entry : Entry) → Some entry ≡ nth (row_of steps q) l
+      → (mark : ℕ) × (kind : Kind) × IsLastCause steps sent effect ahead q l mark kind → IsLastCause steps sent effect ahead q l entry.mark entry.kind
   at_entry q l entry here is =
       let same = same_at (row_of steps q) l (entry_of is.0 is.1) entry is.2.is.stands (sym here) in
       subst (λ (e : Entry). IsLastCause steps sent effect ahead q l e.mark e.kind) same is.2
@@ -49,7 +50,8 @@ module _ {next : ℕ} {steps : List (List Entry)} {sent : List (List Sent)} (sou
           only = λ name e. absurd (none-some name e);
           each = λ j d.
               let same = direct_is j d in
-              absurd (d.nothing_between x it (subst (λ m. IsBetween steps sent (event.Step q j d.kind) m effect ahead x it) (sym same.0) (subst (λ e. IsBetween steps sent e mark effect ahead x it) (sym same.1) b)));
+              absurd (d.nothing_between x it (subst (λ m. IsBetween steps sent (event.Step q j d.kind) m effect ahead x it)
+              (sym same.0) (subst (λ e. IsBetween steps sent e mark effect ahead x it) (sym same.1) b)));
         }
 
     pub shown : HasNone steps sent (event.Step q l kind) mark effect ahead → IsDirectOf steps sent effect ahead q (Some (step_named q l))
@@ -87,7 +89,8 @@ module _ {next : ℕ} {steps : List (List Entry)} {sent : List (List Sent)} (sou
           few = (let f = are.few in omega arith);
         }
 
-    pub one_more : (found : StepId) → IsDirectOf steps sent effect ahead (top + 1) (Some found) → AreDirect steps sent effect ahead (top + 1) (names ++ found ∷ [])
+    pub one_more : (found : StepId) → IsDirectOf steps sent effect ahead (top + 1) (Some found)
+        → AreDirect steps sent effect ahead (top + 1) (names ++ found ∷ [])
     one_more found is =
         record {
           only = λ k name at.
@@ -159,7 +162,8 @@ module _ {next : ℕ} {steps : List (List Entry)} {sent : List (List Sent)} (sou
         there : (mark : ℕ) × (it : Event) × IsPlace next steps sent sound n.0 mark it × Stands steps sent mark it × (event_name it ≡ name)
         there = named_place next steps sent sound n.0 name n.2
 
-        by : (mark : ℕ) (it : Event) → IsPlace next steps sent sound n.0 mark it → event_name it ≡ name → (q : ℕ) × (l : ℕ) × IsDirect steps sent effect ahead q l × (name ≡ step_named q l)
+        by : (mark : ℕ) (it : Event) → IsPlace next steps sent sound n.0 mark it → event_name it ≡ name
+            → (q : ℕ) × (l : ℕ) × IsDirect steps sent effect ahead q l × (name ≡ step_named q l)
         by mark (event.Lost copy) here e =
             absurd (no_loss sound (stands_at next steps sent sound at ahead effect place) (cause_at n.0 mark (event.Lost copy) here n.1.link))
         by mark (event.Step q l kind) here e = (

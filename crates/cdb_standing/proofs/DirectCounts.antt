@@ -9,10 +9,11 @@ use Rattle.cdb_causal.specs.DirectDependents.{as_number, is_direct, direct_depen
 use Rattle.cdb_causal.specs.Names.{IsPositionOf}
 use Rattle.cdb_causal.proofs.Dependents.{dependents_added, free_if_none}
 use Rattle.cdb_standing.specs.Recorded.{IsCountOf, IsZeroWhereFree}
-use Rattle.cdb_standing.proofs.Merging.{drop_get}
+use Rattle.cdb_standing.proofs.Merge.{drop_get}
 
 -- one event more
-pub counted_more : (events : List Event) (at j : ℕ) (cause event : Event) → at ≤ j → slice_get events j ≡ Some event → (b : Bool) → b ≡ is_direct depends cause (take (j - at) (drop at events)) event
+pub counted_more : (events : List Event) (at j : ℕ) (cause event : Event) → at ≤ j
+    → slice_get events j ≡ Some event → (b : Bool) → b ≡ is_direct depends cause (take (j - at) (drop at events)) event
     → direct_dependents depends cause (take (j + 1 - at) (drop at events)) ≡ direct_dependents depends cause (take (j - at) (drop at events)) + as_number b
 counted_more events at j cause event later there b b_is =
     let behind = drop at events in
@@ -20,12 +21,14 @@ counted_more events at j cause event later there b b_is =
     let here : slice_get behind (j - at) ≡ Some event = drop_get at events (j - at) ∙ ap (slice_get events) is ∙ there in
     let more : j + 1 - at ≡ suc (j - at) = omega arith in
     ap (λ n. direct_dependents depends cause (take n behind)) more
-    ∙ ap (direct_dependents depends cause) (take-suc behind (j - at) event (slice_get_within behind (j - at) event here) ∙ ap (λ x. take (j - at) behind ++ x ∷ []) (get_or_from_slice_get behind (j - at) event event here))
+    ∙ ap (direct_dependents depends cause) (take-suc behind (j - at) event (slice_get_within behind (j - at) event here)
+    ∙ ap (λ x. take (j - at) behind ++ x ∷ []) (get_or_from_slice_get behind (j - at) event event here))
     ∙ dependents_added depends cause (take (j - at) behind) event
     ∙ ap (λ t. direct_dependents depends cause (take (j - at) behind) + as_number t) (sym b_is)
 
 -- by name
-module _ (history : List Event) (name : StepId) (position : ℕ) (is : IsPositionOf history name position) (count : ℕ) (counts : CountsDirectDependents depends history position count) where
+module _ (history : List Event) (name : StepId) (position : ℕ) (is : IsPositionOf history name position)
+    (count : ℕ) (counts : CountsDirectDependents depends history position count) where
   pub counted : IsCountOf history name count
   counted at event stands named = let same = is.only at (event, stands, named) in rw same (counts event (rw same at stands))
 

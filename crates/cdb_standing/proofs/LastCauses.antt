@@ -1,5 +1,6 @@
 -- The last step of a process on which an event depends.
-use Rattle.std.proofs.Common.{◌≡◌, ◌≢◌, ℕ, ◌+◌, ◌<◌, ◌≤◌, true, true≢false, nat_eq, eqb-true, ◌&&◌, List, Option, Some, None, ◌⊎◌, inl, inr, ⊎_elim, refl, sym, ap, ◌∙◌, subst, eq-eqb, arith}
+use Rattle.std.proofs.Common.{◌≡◌, ◌≢◌, ℕ, ◌+◌, ◌<◌, ◌≤◌, true, true≢false, nat_eq, eqb-true, ◌&&◌, List, Option}
+use Rattle.std.proofs.Common.{Some, None, ◌⊎◌, inl, inr, ⊎_elim, refl, sym, ap, ◌∙◌, subst, eq-eqb, arith}
 use Rattle.std.proofs.lemmas.Bool.{cases_lt, ne_eqb}
 use Rattle.std.proofs.lemmas.Option.{none-some}
 use Rattle.std.specs.Option.{option_map}
@@ -19,11 +20,11 @@ use Rattle.cdb_standing.specs.declared.tables.Access.{Access}
 use Rattle.cdb_standing.specs.declared.tables.Copied.TheVariants.{Received, Lost}
 use Rattle.cdb_standing.specs.declared.tables.Entry.{Entry}
 use Rattle.cdb_standing.specs.declared.tables.Sent.{Sent}
-use Rattle.cdb_standing.proofs.Affecting.{both, either, receives_is, sends_is}
+use Rattle.cdb_standing.proofs.LaterLinks.{both, either, receives_is, sends_is}
 use Rattle.cdb_standing.proofs.Apart.{IsMail, AreInConflict, links_apart, conflict_links}
-use Rattle.cdb_standing.proofs.Finding.{and_true, own_links, affecting}
+use Rattle.cdb_standing.proofs.EarliestFound.{and_true, own_links, affecting}
 use Rattle.cdb_standing.proofs.Lasts.{is_listed, listed_is}
-use Rattle.cdb_standing.proofs.Mailing.{same_or_other, same_copy}
+use Rattle.cdb_standing.proofs.MailRows.{same_or_other, same_copy}
 use Rattle.cdb_standing.proofs.Rows.{same_at, nth_within, nth_some}
 
 -- what is written is accessed
@@ -41,7 +42,9 @@ module _ {next : ℕ} {steps : List (List Entry)} {sent : List (List Sent)} (sou
   pub mark_le : (p k l a b : ℕ) (kind other : Kind) → IsEntry steps p k a kind → IsEntry steps p l b other → k ≤ l → a ≤ b
   mark_le p k l a b kind other here there le =
       elim (same_or_other k l) [
-        | inl e ↦ (let same = same_at (row_of steps p) l (entry_of a kind) (entry_of b other) (rw e at here) there in let m : a ≡ b = ap (λ (x : Entry). x.mark) same in omega arith)
+        | inl e ↦ (let same = same_at (row_of steps p) l (entry_of a kind) (entry_of b other) (rw e at here) there in
+            let m : a ≡ b = ap (λ (x : Entry). x.mark) same in
+            omega arith)
         | inr apart ↦ (let less = sound.rises p k l a b kind other here there (omega arith) in omega arith)
       ]
 
@@ -54,7 +57,8 @@ module _ {next : ℕ} {steps : List (List Entry)} {sent : List (List Sent)} (sou
 
   -- ---- the send of a message
 
-  module _ (effect : Event) (ahead s m q : ℕ) (only : (j b : ℕ) (other : Kind) → IsCause steps sent effect ahead b (event.Step q j other) → (q ≡ s) × (other ≡ Send m))
+  module _ (effect : Event) (ahead s m q : ℕ)
+      (only : (j b : ℕ) (other : Kind) → IsCause steps sent effect ahead b (event.Step q j other) → (q ≡ s) × (other ≡ Send m))
       (links : (l b : ℕ) → IsEntry steps s l b (Send m) → IsCause steps sent effect ahead b (event.Step s l (Send m))) where
     its_send : (j b : ℕ) (other : Kind) → IsCause steps sent effect ahead b (event.Step q j other) → IsEntry steps s j b (Send m)
     its_send j b other c = let o = only j b other c in rw (o.0, o.1) at c.stands
@@ -115,11 +119,13 @@ module _ {next : ℕ} {steps : List (List Entry)} {sent : List (List Sent)} (sou
 
       -- the last on a list
       module _ (of : Kind → Option ℕ) (table : List (List Access)) (lists : AreListed of table steps) (n : ℕ) (one : 1 ≤ q) (nine : q ≤ 9) (few : n < 11)
-          (only : (other : Kind) → IsMail q other kind ⊎ AreInConflict other kind → of other ≡ Some n) (conflicts : (other : Kind) → of other ≡ Some n → AreInConflict other kind) where
+          (only : (other : Kind) → IsMail q other kind ⊎ AreInConflict other kind → of other ≡ Some n)
+          (conflicts : (other : Kind) → of other ≡ Some n → AreInConflict other kind) where
         pub list_last : (found : Option ℕ) → IsLastByList (row_of table (cell q n)) a found → IsLastCauseOrNone steps sent This a q found
         list_last found by = rw by.2 (of_access by.0 by.1)
           where
-            of_access : (last : Option Access) → IsLastBeforeOrNone (row_of table (cell q n)) a last → IsLastCauseOrNone steps sent This a q (option_map (λ (access : Access). access.k) last)
+            of_access : (last : Option Access) → IsLastBeforeOrNone (row_of table (cell q n)) a last
+                → IsLastCauseOrNone steps sent This a q (option_map (λ (access : Access). access.k) last)
             of_access None none = λ j b other c.
                 let late = none _ (is_listed of table steps lists q n one nine few j b other c.stands (only other (linked_by j b other c))) in
                 let early = c.earlier in absurd (omega arith)
@@ -129,7 +135,9 @@ module _ {next : ℕ} {steps : List (List Entry)} {sent : List (List Sent)} (sou
                   it.0,
                   record {
                     is = record { stands = it.1; earlier = is.1; linked = conflict_links sound q access.k p k (conflicts it.0 it.2) };
-                    last = λ j b other c. is.2 _ (is_listed of table steps lists q n one nine few j b other c.stands (only other (linked_by j b other c))) c.earlier;
+                    last =
+                        λ j b other c.
+                        is.2 _ (is_listed of table steps lists q n one nine few j b other c.stands (only other (linked_by j b other c))) c.earlier;
                   },
                 )
 
@@ -159,7 +167,8 @@ module _ {next : ℕ} {steps : List (List Entry)} {sent : List (List Sent)} (sou
         only other (inl mail) = absurd (let e = mail.receives in (cc))
         only other (inr c) = is_written_too other (number_of x) (⊎_elim (λ w. w) (λ w. absurd (true≢false (sym w))) c.written) (c.one ∙ sym c.two)
 
-    pub write_last : (x : Reg) → IsEntry steps p k a (Write x) → (table : List (List Access)) → AreListed accessed table steps → 1 ≤ q → q ≤ 9 → number_of x < 11
+    pub write_last : (x : Reg) → IsEntry steps p k a (Write x) → (table : List (List Access))
+        → AreListed accessed table steps → 1 ≤ q → q ≤ 9 → number_of x < 11
         → (found : Option ℕ) → IsLastByList (row_of table (cell q (number_of x))) a found → IsLastCauseOrNone steps sent (event.Step p k (Write x)) a q found
     write_last x at table lists one nine few found by =
         list_last p k a (Write x) at q apart accessed table lists (number_of x) one nine few only
@@ -181,11 +190,15 @@ module _ {next : ℕ} {steps : List (List Entry)} {sent : List (List Sent)} (sou
       let is = both (nat_eq q copy.to) (receives copy.msg.s copy.msg.m other) e in
       let got = rw (receives_is copy.msg.s copy.msg.m other is.1) at at in
       let received = sound.is_received copy.msg.s copy.msg.m q j b got in
-      let same = same_copy sent copy.msg.s copy.msg.m copy.to copy.msg.s copy.msg.m q (Lost a) (Received j) lost received (refl, refl, sym (eqb-true q copy.to is.0)) in
+      let same =
+      same_copy sent copy.msg.s copy.msg.m copy.to copy.msg.s copy.msg.m q (Lost a)
+      (Received j) lost received (refl, refl, sym (eqb-true q copy.to is.0)) in
       absurd (cc))
-      (either (sends copy.msg.s copy.msg.m q other) (nat_eq q copy.to && receives copy.msg.s copy.msg.m other) (sym (by_effect (event.Step q j other) (event.Lost copy)) ∙ linked))
+      (either (sends copy.msg.s copy.msg.m q other) (nat_eq q copy.to && receives copy.msg.s copy.msg.m other)
+      (sym (by_effect (event.Step q j other) (event.Lost copy)) ∙ linked))
 
-  pub loss_last : (copy : CopyName) (a q : ℕ) → IsCopy sent copy.msg.s copy.msg.m copy.to (Lost a) → IsLastCauseOrNone steps sent (event.Lost copy) a q (sent_by sent copy.msg.s copy.msg.m q)
+  pub loss_last : (copy : CopyName) (a q : ℕ) → IsCopy sent copy.msg.s copy.msg.m copy.to (Lost a)
+      → IsLastCauseOrNone steps sent (event.Lost copy) a q (sent_by sent copy.msg.s copy.msg.m q)
   loss_last copy a q at =
       sent_last (event.Lost copy) a copy.msg.s copy.msg.m q
       (λ j b other c. loss_needs copy a q j b other at c.stands c.linked)
@@ -193,5 +206,7 @@ module _ {next : ℕ} {steps : List (List Entry)} {sent : List (List Sent)} (sou
       record {
         stands = sends;
         earlier = sound.sent_lost copy.msg.s copy.msg.m l b copy.to a sends at;
-        linked = affecting next steps sent sound (event.Step copy.msg.s l (Send copy.msg.m)) (event.Lost copy) (and_true copy.msg.s copy.msg.s copy.msg.m copy.msg.m refl refl);
+        linked =
+            affecting next steps sent sound (event.Step copy.msg.s l (Send copy.msg.m))
+            (event.Lost copy) (and_true copy.msg.s copy.msg.s copy.msg.m copy.msg.m refl refl);
       })

@@ -1,5 +1,6 @@
 -- The last access of a list before a mark, and the steps that are on a list.
-use Rattle.std.proofs.Common.{◌≡◌, ℕ, zero, suc, ◌+◌, ◌<◌, ◌≤◌, true, false, inl, inr, ltb, ltb-true, ltb-false, List, length, slice_index_or, Option, Some, sym, ap, subst, arith}
+use Rattle.std.proofs.Common.{◌≡◌, ℕ, zero, suc, ◌+◌, ◌<◌, ◌≤◌, true, false, inl, inr, ltb, ltb-true, ltb-false}
+use Rattle.std.proofs.Common.{List, length, slice_index_or, Option, Some, sym, ap, subst, arith}
 use Rattle.std.proofs.lemmas.Option.{none-some, slice_get_within, get_or_from_slice_get, slice_get-get_or}
 use Rattle.std.proofs.lemmas.Bool.{cases_lt}
 use Rattle.std.specs.List.Sorted.{IsPartitionPoint}
@@ -10,9 +11,10 @@ use Rattle.cdb_standing.specs.Tables.{row_of, entry_of, IsEntry}
 use Rattle.cdb_standing.specs.declared.tables.Access.{Access}
 use Rattle.cdb_standing.specs.declared.tables.Entry.{Entry}
 use Rattle.cdb_standing.proofs.Ordered.{at_has, has_at}
-use Rattle.cdb_standing.proofs.Listing.{rising_or, listed_only, listed_has}
+use Rattle.cdb_standing.proofs.ListedEvents.{rising_or, listed_only, listed_has}
 
-module _ (xs : List Access) (mark n : ℕ) (rising : IsRisingBy xs) (point : IsPartitionPoint (λ (a : Access). ltb a.mark mark ≡ true) (λ (a : Access). ltb a.mark mark ≡ false) xs n) where
+module _ (xs : List Access) (mark n : ℕ) (rising : IsRisingBy xs)
+    (point : IsPartitionPoint (λ (a : Access). ltb a.mark mark ≡ true) (λ (a : Access). ltb a.mark mark ≡ false) xs n) where
   index_or : (other d : Access) → Has xs other → (j : ℕ) × (j < length xs) × (slice_index_or xs j d ≡ other)
   index_or other d h =
       let found = has_at xs other h in
@@ -32,13 +34,16 @@ module _ (xs : List Access) (mark n : ℕ) (rising : IsRisingBy xs) (point : IsP
         let found = index_or other d h in
         elim (cases_lt found.0 n) [
           | inl within ↦ rw (← found.2) (rising_or xs rising found.0 i d (omega arith) less)
-          | inr past ↦ absurd (let same : (slice_index_or xs found.0 d).mark ≡ other.mark = ap (λ (a : Access). a.mark) found.2 in let late = high found.0 d past found.1 in omega arith)
+          | inr past ↦ absurd (let same : (slice_index_or xs found.0 d).mark ≡ other.mark = ap (λ (a : Access). a.mark) found.2 in
+              let late = high found.0 d past found.1 in
+              omega arith)
         ],
   )
 
 -- ---- the steps that are on a list
 
-module _ (of : Kind → Option ℕ) (table : List (List Access)) (steps : List (List Entry)) (lists : AreListed of table steps) (s n : ℕ) (one : 1 ≤ s) (nine : s ≤ 9) (few : n < 11) where
+module _ (of : Kind → Option ℕ) (table : List (List Access)) (steps : List (List Entry))
+    (lists : AreListed of table steps) (s n : ℕ) (one : 1 ≤ s) (nine : s ≤ 9) (few : n < 11) where
   pub is_listed : (j mark : ℕ) (kind : Kind) → IsEntry steps s j mark kind → of kind ≡ Some n → Has (row_of table (cell s n)) (access_of mark j)
   is_listed zero mark kind at is = absurd (none-some (entry_of mark kind) at)
   is_listed (suc i) mark kind at is =
@@ -50,6 +55,7 @@ module _ (of : Kind → Option ℕ) (table : List (List Access)) (steps : List (
       let found = listed_only of n 1 (row_of steps s) access (rw (lists.each s n one nine few) at h) in
       let e : suc found.0 ≡ 1 + found.0 = omega arith in (
         (found.1).kind,
-        subst (λ (x : Access). IsEntry steps s x.k x.mark (found.1).kind) (sym found.4) (subst (λ j. IsEntry steps s j (found.1).mark (found.1).kind) e found.2),
+        subst (λ (x : Access). IsEntry steps s x.k x.mark (found.1).kind) (sym found.4)
+            (subst (λ j. IsEntry steps s j (found.1).mark (found.1).kind) e found.2),
         found.3,
       )

@@ -1,5 +1,6 @@
 -- Numbers that are raised until what is up to them is closed under causes.
-use Rattle.std.proofs.Common.{◌≡◌, ◌↔◌, ℕ, zero, suc, ◌+◌, ◌<◌, ◌≤◌, Bool, true, false, cond, nat_eq, nat_lt, ltb-true, ltb-false, eqb-true, eq-eqb, List, [], ◌∷◌, length, set, slice_index, length-set, replicate, Option, Some, None, ◌⊎◌, inl, inr, ⊎_elim, refl, sym, ◌∙◌, subst, arith}
+use Rattle.std.proofs.Common.{◌≡◌, ◌↔◌, ℕ, zero, suc, ◌+◌, ◌<◌, ◌≤◌, Bool, true, false, cond, nat_eq, nat_lt, ltb-true, ltb-false, eqb-true, eq-eqb, List, []}
+use Rattle.std.proofs.Common.{◌∷◌, length, set, slice_index, length-set, replicate, Option, Some, None, ◌⊎◌, inl, inr, ⊎_elim, refl, sym, ◌∙◌, subst, arith}
 use Rattle.std.proofs.lemmas.Bool.{cases_lt}
 use Rattle.std.proofs.lemmas.Option.{same_Some}
 use Rattle.cdb_base.specs.Event.{event_name}
@@ -13,18 +14,19 @@ use Rattle.cdb_causal.specs.Past.{IsInPast, one_link, link_before, HasLedTo}
 use Rattle.cdb_standing.specs.Causes.{IsCause, IsLastCauseOrNone}
 use Rattle.cdb_standing.specs.Cuts.{cut_of as end_of, IsLower}
 use Rattle.cdb_standing.specs.LedTo.{IsUpTo}
-use Rattle.cdb_standing.specs.Pasts.{IsLedFrom, itself, back, IsSoundPast, HasCausesWithin, IsLookedBehind, IsClosedBehind, AreFew, raised, AreRaised, IsItselfWithin, IsPastBegun, IsPast, room}
+use Rattle.cdb_standing.specs.Pasts.{IsLedFrom, itself, back, IsSoundPast, HasCausesWithin, IsLookedBehind, IsClosedBehind}
+use Rattle.cdb_standing.specs.Pasts.{AreFew, raised, AreRaised, IsItselfWithin, IsPastBegun, IsPast, room}
 use Rattle.cdb_standing.specs.InOrder.{Marked}
 use Rattle.cdb_standing.specs.Tables.{row_of, history_of, standing, entry_of, IsEntry, Stands, IsSound}
 use Rattle.cdb_standing.specs.declared.tables.Entry.{Entry}
 use Rattle.cdb_standing.specs.declared.tables.Sent.{Sent}
-use Rattle.cdb_standing.proofs.Adding.{marked}
+use Rattle.cdb_standing.proofs.Joined.{marked}
 use Rattle.cdb_standing.proofs.Between.{no_loss}
-use Rattle.cdb_standing.proofs.Cutting.{process_within, cut_at, cut_set, cut_set_other}
+use Rattle.cdb_standing.proofs.CutsFound.{process_within, cut_at, cut_set, cut_set_other}
 use Rattle.cdb_standing.proofs.DirectCauses.{cause_at}
-use Rattle.cdb_standing.proofs.Finding.{own_links}
+use Rattle.cdb_standing.proofs.EarliestFound.{own_links}
 use Rattle.cdb_standing.proofs.Firsts.{not_before}
-use Rattle.cdb_standing.proofs.Mailing.{same_or_other}
+use Rattle.cdb_standing.proofs.MailRows.{same_or_other}
 use Rattle.cdb_standing.proofs.Places.{IsPlace, place_of, stands_at, mark_at, link_up, one_name}
 use Rattle.cdb_standing.proofs.Rows.{nth_within, same_at}
 
@@ -81,19 +83,23 @@ module _ {next : ℕ} {steps : List (List Entry)} {sent : List (List Sent)} (sou
   number_few q l a kind at = let high = (nth_within (row_of steps q) l (entry_of a kind) at).1 in let few = sound.few q in omega arith
 
   -- the steps before one that led to the event led to it
-  led_back : (one : Event) (end q j l a b : ℕ) (kind other : Kind) → IsEntry steps q j a kind → IsEntry steps q l b other → j ≤ l → IsLedFrom steps sent one end b (event.Step q l other) → IsLedFrom steps sent one end a (event.Step q j kind)
+  led_back : (one : Event) (end q j l a b : ℕ) (kind other : Kind) → IsEntry steps q j a kind → IsEntry steps q l b other
+      → j ≤ l → IsLedFrom steps sent one end b (event.Step q l other) → IsLedFrom steps sent one end a (event.Step q j kind)
   led_back one end q j l a b kind other here there le led =
       elim (same_or_other j l) [
         | inl e ↦ (let same = same_at (row_of steps q) l (entry_of a kind) (entry_of b other) (rw e at here) there in
-            subst (λ i. IsLedFrom steps sent one end a (event.Step q i kind)) (sym e) (subst (λ (x : Entry). IsLedFrom steps sent one end x.mark (event.Step q l x.kind)) (sym same) led))
-        | inr less ↦ back led (record { stands = here; earlier = sound.rises q j l a b kind other here there (omega arith); linked = own_links q j l kind other })
+            subst (λ i. IsLedFrom steps sent one end a (event.Step q i kind)) (sym e)
+            (subst (λ (x : Entry). IsLedFrom steps sent one end x.mark (event.Step q l x.kind)) (sym same) led))
+        | inr less ↦
+            back led (record { stands = here; earlier = sound.rises q j l a b kind other here there (omega arith); linked = own_links q j l kind other })
       ]
 
   -- ---- one number raised
 
   -- to that of a step that led to the event
   abbrev IsFoundLed : Event → ℕ → ℕ → Option ℕ → Type 0
-  IsFoundLed one end q found = (l : ℕ) → found ≡ Some l → (a : ℕ) × (kind : Kind) × IsEntry steps q l a kind × IsLedFrom steps sent one end a (event.Step q l kind)
+  IsFoundLed one end q found =
+      (l : ℕ) → found ≡ Some l → (a : ℕ) × (kind : Kind) × IsEntry steps q l a kind × IsLedFrom steps sent one end a (event.Step q l kind)
 
   module _ (q : ℕ) (found : Option ℕ) (old new : List ℕ) (are : AreRaised q found old new) where
     pub raise_higher : IsLower new old
@@ -114,7 +120,8 @@ module _ {next : ℕ} {steps : List (List Entry)} {sent : List (List Sent)} (sou
           | inr h ↦ up_to h.0 h.2 (led h.0 h.1) (rw (are r, h.3) at le)
         ]
       where
-        up_to : (m : ℕ) → r ≡ q → (b : ℕ) × (other : Kind) × IsEntry steps q m b other × IsLedFrom steps sent one end b (event.Step q m other) → l ≤ m → IsLedFrom steps sent one end a (event.Step r l kind)
+        up_to : (m : ℕ) → r ≡ q → (b : ℕ) × (other : Kind) × IsEntry steps q m b other × IsLedFrom steps sent one end b (event.Step q m other)
+            → l ≤ m → IsLedFrom steps sent one end a (event.Step r l kind)
         up_to m r_is it le =
             subst (λ x. IsLedFrom steps sent one end a (event.Step x l kind)) (sym r_is) (led_back one end q l m a it.0 kind it.1 (rw r_is at at) it.2 le it.3)
 
@@ -127,7 +134,8 @@ module _ {next : ℕ} {steps : List (List Entry)} {sent : List (List Sent)} (sou
     pub causes_led : (one : Event) (end : ℕ) → IsLedFrom steps sent one end ahead effect → IsFoundLed one end q found
     causes_led one end led l e = let it = rw e at last in (it.0, it.1, it.2.is.stands, back led it.2.is)
 
-    pub causes_within : (old new : List ℕ) → AreRaised q found old new → (i : ℕ) → i + 1 ≡ q → HasCausesWithin steps sent effect ahead i old → HasCausesWithin steps sent effect ahead (i + 1) new
+    pub causes_within : (old new : List ℕ) → AreRaised q found old new → (i : ℕ) → i + 1 ≡ q
+        → HasCausesWithin steps sent effect ahead i old → HasCausesWithin steps sent effect ahead (i + 1) new
     causes_within old new are i e was r l a kind c le =
         elim (same_or_other r q) [
           | inl r_is ↦ rw (are r, r_is) (of_last l a kind (rw r_is at c))
@@ -142,14 +150,16 @@ module _ {next : ℕ} {steps : List (List Entry)} {sent : List (List Sent)} (sou
             by (Some m) it =
                 let far = raised_far q m (end_of old q) in
                 elim (cases_lt m l) [
-                  | inl less ↦ absurd (let le = it.2.last l a kind c in let more = sound.rises q m l it.0 a it.1 kind it.2.is.stands c.stands less in omega arith)
+                  | inl less ↦
+                      absurd (let le = it.2.last l a kind c in let more = sound.rises q m l it.0 a it.1 kind it.2.is.stands c.stands less in omega arith)
                   | inr not ↦ omega arith
                 ]
 
   pub none_within : (effect : Event) (ahead : ℕ) (ends : List ℕ) → HasCausesWithin steps sent effect ahead 0 ends
   none_within effect ahead ends q l a kind c le = let low = (process_within next steps sent sound q l a kind c.stands).0 in absurd (omega arith)
 
-  pub within_more : (effect : Event) (ahead top : ℕ) (old new : List ℕ) → IsLower new old → HasCausesWithin steps sent effect ahead top old → HasCausesWithin steps sent effect ahead top new
+  pub within_more : (effect : Event) (ahead top : ℕ) (old new : List ℕ) → IsLower new old
+      → HasCausesWithin steps sent effect ahead top old → HasCausesWithin steps sent effect ahead top new
   within_more effect ahead top old new higher was q l a kind c le = let h = was q l a kind c le in let more = higher q in omega arith
 
   -- ---- the start
@@ -157,11 +167,14 @@ module _ {next : ℕ} {steps : List (List Entry)} {sent : List (List Sent)} (sou
   pub none_sound : (one : Event) (end : ℕ) → IsSoundPast steps sent one end (replicate 9 0)
   none_sound one end q l a kind at le = let low = number_from_one q l a kind at in let none = zero_ends 9 q in absurd (omega arith)
 
-  pub begun : (p k end : ℕ) (kind : Kind) (old new : List ℕ) → IsEntry steps p k end kind → AreRaised p (Some k) old new → IsSoundPast steps sent (event.Step p k kind) end old → AreFew old
+  pub begun : (p k end : ℕ) (kind : Kind) (old new : List ℕ) → IsEntry steps p k end kind
+      → AreRaised p (Some k) old new → IsSoundPast steps sent (event.Step p k kind) end old → AreFew old
       → HasCausesWithin steps sent (event.Step p k kind) end 9 old → IsPastBegun steps sent (event.Step p k kind) end new
   begun p k end kind old new at are was few causes =
       record {
-        sound = raise_sound p (Some k) old new are (event.Step p k kind) end (λ l e. let l_is = same_Some k l e in (end, kind, rw l_is at at, subst (λ j. IsLedFrom steps sent (event.Step p k kind) end end (event.Step p j kind)) l_is itself)) was;
+        sound =
+            raise_sound p (Some k) old new are (event.Step p k kind) end (λ l e. let l_is = same_Some k l e in
+            (end, kind, rw l_is at at, subst (λ j. IsLedFrom steps sent (event.Step p k kind) end end (event.Step p j kind)) l_is itself)) was;
         itself = rw (are p) (raised_far p k (end_of old p));
         causes = within_more (event.Step p k kind) end 9 old new (raise_higher p (Some k) old new are) causes;
         few = raise_few p (Some k) old new are few (λ l e. rw (← same_Some k l e) (number_few p k end kind at));
@@ -173,7 +186,8 @@ module _ {next : ℕ} {steps : List (List Entry)} {sent : List (List Sent)} (sou
   itself_more (event.Step p k kind) old new higher h = let more = higher p in omega arith
   itself_more (event.Lost copy) old new higher h = tt
 
-  module _ {one : Event} {end : ℕ} {looked ends : List ℕ} (i : ℕ) (nine : i < 9) (less : end_of looked (i + 1) < end_of ends (i + 1)) (was : IsRaising steps sent one end looked ends) where
+  module _ {one : Event} {end : ℕ} {looked ends : List ℕ} (i : ℕ) (nine : i < 9)
+      (less : end_of looked (i + 1) < end_of ends (i + 1)) (was : IsRaising steps sent one end looked ends) where
     abbrev next_one : ℕ
     next_one = slice_index looked i + 1
 
@@ -202,27 +216,45 @@ module _ {next : ℕ} {steps : List (List Entry)} {sent : List (List Sent)} (sou
       pub goes_on : IsSoundPast steps sent one end new → IsLookedBehind steps sent (i + 1) next_one new → AreFew new → IsRaising steps sent one end longer new
       goes_on sound_now looked_at few =
           record {
-            so_far = record { sound = sound_now; itself = itself_more one ends new higher was.so_far.itself; causes = within_more one end 9 ends new higher was.so_far.causes; few = few };
+            so_far =
+                record {
+                  sound = sound_now;
+                  itself = itself_more one ends new higher was.so_far.itself;
+                  causes = within_more one end 9 ends new higher was.so_far.causes;
+                  few = few;
+                };
             closed = λ q l le.
                 elim (same_or_other q (suc i)) [
                   | inl e ↦ (let now = here_now q e in let then = here_before q e in
                       elim (same_or_other l next_one) [
-                        | inl f ↦ (let q_is : i + 1 ≡ q = omega arith in subst (λ x. IsLookedBehind steps sent x l new) q_is (subst (λ x. IsLookedBehind steps sent (i + 1) x new) (sym f) looked_at))
+                        | inl f ↦ (let q_is : i + 1 ≡ q = omega arith in
+                            subst (λ x. IsLookedBehind steps sent x l new) q_is (subst (λ x. IsLookedBehind steps sent (i + 1) x new) (sym f) looked_at))
                         | inr other ↦ before q l (omega arith)
                       ])
                   | inr other ↦ before q l (rw (cut_set_other looked i next_one q other) at le)
                 ];
             above = λ q.
                 elim (same_or_other q (suc i)) [
-                  | inl e ↦ (let now = here_now q e in let then = here_before q e in let q_is : q ≡ i + 1 = omega arith in let first = rw (← q_is) at less in let more = higher q in omega arith)
+                  | inl e ↦ (let now = here_now q e in
+                      let then = here_before q e in
+                      let q_is : q ≡ i + 1 = omega arith in
+                      let first = rw (← q_is) at less in
+                      let more = higher q in
+                      omega arith)
                   | inr other ↦ (let same = cut_set_other looked i next_one q other in let old = was.above q in let more = higher q in omega arith)
                 ];
             long = length-set looked i next_one ∙ was.long;
           }
 
-  pub none_above : {one : Event} {end : ℕ} {looked ends : List ℕ} → IsRaising steps sent one end looked ends → ((q : ℕ) → end_of ends q ≤ end_of looked q) → IsPast steps sent one end ends
+  pub none_above : {one : Event} {end : ℕ} {looked ends : List ℕ} → IsRaising steps sent one end looked ends
+      → ((q : ℕ) → end_of ends q ≤ end_of looked q) → IsPast steps sent one end ends
   none_above was none_open =
-      record { sound = was.so_far.sound; itself = was.so_far.itself; causes = was.so_far.causes; closed = λ q l le. was.closed q l (let all = none_open q in omega arith) }
+      record {
+        sound = was.so_far.sound;
+        itself = was.so_far.itself;
+        causes = was.so_far.causes;
+        closed = λ q l le. was.closed q l (let all = none_open q in omega arith);
+      }
 
   -- ---- in the history
 
@@ -267,9 +299,11 @@ module _ {next : ℕ} {steps : List (List Entry)} {sent : List (List Sent)} (sou
         within_of b effect itself = are.causes
         within_of b effect (back {b = d} {effect = further} r c) = by effect c (within_of d further r)
           where
-            by : (effect : Event) → IsCause steps sent further d b effect → HasCausesWithin steps sent further d 9 ends → HasCausesWithin steps sent effect b 9 ends
+            by : (effect : Event) → IsCause steps sent further d b effect
+                → HasCausesWithin steps sent further d 9 ends → HasCausesWithin steps sent effect b 9 ends
             by (event.Lost copy) c within = absurd (no_loss sound (led_stands d further r) c)
-            by (event.Step q l kind) c within = are.closed q l (within q l b kind c (process_within next steps sent sound q l b kind c.stands).1) b kind c.stands
+            by (event.Step q l kind) c within =
+                are.closed q l (within q l b kind c (process_within next steps sent sound q l b kind c.stands).1) b kind c.stands
 
         itself_up : (x : Event) → IsItselfWithin x ends → IsUpTo ends (event_name x) x
         itself_up (event.Step p k kind) h = h

@@ -1,5 +1,6 @@
 -- The steps of a process in the history, and their numbers.
-use Rattle.std.proofs.Common.{◌≡◌, ℕ, zero, suc, ◌+◌, ◌<◌, ◌≤◌, Bool, true, false, cond, List, [], ◌∷◌, length, slice_get, Some, filter, inl, inr, refl, sym, ap, ◌∙◌, subst, true≢false, eqb-true, eq-eqb, arith}
+use Rattle.std.proofs.Common.{◌≡◌, ℕ, zero, suc, ◌+◌, ◌<◌, ◌≤◌, Bool, true, false, cond, List, [], ◌∷◌, length, slice_get}
+use Rattle.std.proofs.Common.{Some, filter, inl, inr, refl, sym, ap, ◌∙◌, subst, true≢false, eqb-true, eq-eqb, arith}
 use Rattle.std.proofs.lemmas.Option.{none-some, same_Some}
 use Rattle.cdb_base.specs.Event.{event_name, is_step_of}
 use Rattle.cdb_base.specs.Positions.{nth}
@@ -8,14 +9,14 @@ use Rattle.cdb_base.specs.declared.event.Event.TheVariants as event
 use Rattle.cdb_base.specs.declared.name.StepId.{StepId}
 use Rattle.cdb_base.specs.declared.name.StepId.TheVariants as named
 use Rattle.cdb_base.specs.declared.name.StepName.{StepName}
-use Rattle.cdb_standing.specs.Comparing.{steps_by, AreNumbered}
+use Rattle.cdb_standing.specs.Comparisons.{steps_by, AreNumbered}
 use Rattle.cdb_standing.specs.InOrder.{Marked, Has, IsRising, each_from, events_of}
 use Rattle.cdb_standing.specs.Moves.{HasStep, IsEndOf, IsStandingName}
 use Rattle.cdb_standing.specs.Tables.{row_of, step_at, history_of, standing, IsSound, Stands}
 use Rattle.cdb_standing.specs.declared.tables.Entry.{Entry}
 use Rattle.cdb_standing.specs.declared.tables.Sent.{Sent}
-use Rattle.cdb_standing.proofs.Adding.{marked}
-use Rattle.cdb_standing.proofs.Finding.{row_rising}
+use Rattle.cdb_standing.proofs.Joined.{marked}
+use Rattle.cdb_standing.proofs.EarliestFound.{row_rising}
 use Rattle.cdb_standing.proofs.Listed.{standing_rising, standing_only, standing_has}
 use Rattle.cdb_standing.proofs.Ordered.{has_at, at_has, each_only, same_list}
 use Rattle.cdb_standing.proofs.Rows.{nth_some, each_one_only, each_one_has}
@@ -28,7 +29,8 @@ module _ {A : Type 0} (test : A → Bool) where
   passing_only [] x h = absurd h
   passing_only (z ∷ xs) x h = by (test z) refl h (passing_only xs x)
     where
-      by : (b : Bool) → test z ≡ b → Has (cond b (z ∷ filter test xs) (filter test xs)) x → (Has (filter test xs) x → Has xs x × (test x ≡ true)) → Has (z ∷ xs) x × (test x ≡ true)
+      by : (b : Bool) → test z ≡ b → Has (cond b (z ∷ filter test xs) (filter test xs)) x
+          → (Has (filter test xs) x → Has xs x × (test x ≡ true)) → Has (z ∷ xs) x × (test x ≡ true)
       by true e (inl same) again = (inl same, ap test (sym same) ∙ e)
       by true e (inr h) again = let found = again h in (inr found.0, found.1)
       by false e h again = let found = again h in (inr found.0, found.1)
@@ -59,7 +61,8 @@ module _ (p : ℕ) where
   its_events [] = refl
   its_events (z ∷ xs) = by (is_its z) (its_events xs)
     where
-      by : (b : Bool) → steps_by p (events_of xs) ≡ events_of (filter is_its xs) → cond b (z.event ∷ steps_by p (events_of xs)) (steps_by p (events_of xs)) ≡ events_of (cond b (z ∷ filter is_its xs) (filter is_its xs))
+      by : (b : Bool) → steps_by p (events_of xs) ≡ events_of (filter is_its xs)
+          → cond b (z.event ∷ steps_by p (events_of xs)) (steps_by p (events_of xs)) ≡ events_of (cond b (z ∷ filter is_its xs) (filter is_its xs))
       by true again = ap (λ l. z.event ∷ l) again
       by false again = again
 
@@ -69,12 +72,16 @@ module _ (p : ℕ) where
   row_length n [] = refl
   row_length n (x ∷ xs) = ap suc (row_length (suc n) xs)
 
-  row_named : (n : ℕ) (row : List Entry) (i : ℕ) (it : Event) → slice_get (events_of (each_from (step_at p) n row)) i ≡ Some it → event_name it ≡ named.Step (record { p = p; k = n + i })
+  row_named : (n : ℕ) (row : List Entry) (i : ℕ) (it : Event)
+      → slice_get (events_of (each_from (step_at p) n row)) i ≡ Some it → event_name it ≡ named.Step (record { p = p; k = n + i })
   row_named n [] i it at = absurd (none-some it at)
-  row_named n (x ∷ xs) zero it at = let e : n ≡ n + 0 = omega arith in ap event_name (sym (same_Some (event.Step p n x.kind) it at)) ∙ ap (λ k. named.Step (record { p = p; k = k })) e
-  row_named n (x ∷ xs) (suc i) it at = let e : suc n + i ≡ n + suc i = omega arith in row_named (suc n) xs i it at ∙ ap (λ k. named.Step (record { p = p; k = k })) e
+  row_named n (x ∷ xs) zero it at = let e : n ≡ n + 0 = omega arith in
+      ap event_name (sym (same_Some (event.Step p n x.kind) it at)) ∙ ap (λ k. named.Step (record { p = p; k = k })) e
+  row_named n (x ∷ xs) (suc i) it at = let e : suc n + i ≡ n + suc i = omega arith in
+      row_named (suc n) xs i it at ∙ ap (λ k. named.Step (record { p = p; k = k })) e
 
-  rows_rise : (n : ℕ) (row : List Entry) → ((i j : ℕ) (one other : Entry) → slice_get row i ≡ Some one → slice_get row j ≡ Some other → i < j → one.mark < other.mark) → IsRising (each_from (step_at p) n row)
+  rows_rise : (n : ℕ) (row : List Entry) → ((i j : ℕ) (one other : Entry) → slice_get row i ≡ Some one
+      → slice_get row j ≡ Some other → i < j → one.mark < other.mark) → IsRising (each_from (step_at p) n row)
   rows_rise n [] rises = tt
   rows_rise n (x ∷ xs) rises = (after, rows_rise (suc n) xs (λ i j one other at_i at_j less. rises (suc i) (suc j) one other at_i at_j (omega arith)))
     where
@@ -113,7 +120,8 @@ module _ (next : ℕ) (steps : List (List Entry)) (sent : List (List Sent)) (sou
   steps_are =
       its_events p (standing steps sent)
       ∙ ap events_of
-      (same_list (filter (is_its p) (standing steps sent)) (each_from (step_at p) 1 row) (its_rising p (standing steps sent) (standing_rising steps sent)) (rows_rise p 1 row (row_rising next steps sent sound p))
+      (same_list (filter (is_its p) (standing steps sent)) (each_from (step_at p) 1 row)
+      (its_rising p (standing steps sent) (standing_rising steps sent)) (rows_rise p 1 row (row_rising next steps sent sound p))
       (λ x h. let of = passing_only (is_its p) (standing steps sent) x h in in_row x (standing_only steps sent x of.0) of.1)
       (λ x h. let of = of_row x h in passing_has (is_its p) (standing steps sent) x (standing_has steps sent sound.single x.mark x.event of.0) of.1))
 
@@ -145,12 +153,14 @@ module _ (p : ℕ) (history : List Event) where
       by (event.Lost copy) there name = absurd (cc)
 
   -- so the last step is that of the count
-  pub last_number : (k l : ℕ) → AreNumbered p history → k ≡ length (steps_by p history) → IsEndOf history p k → IsEndOf history p l → IsStandingName history (named.Step (record { p = p; k = l })) → l ≡ k
+  pub last_number : (k l : ℕ) → AreNumbered p history → k ≡ length (steps_by p history) → IsEndOf history p k
+      → IsEndOf history p l → IsStandingName history (named.Step (record { p = p; k = l })) → l ≡ k
   last_number zero l numbered count end other_end other = let low = end l (has l other) in omega arith
   last_number (suc i) l numbered count end other_end other =
       let high = other_end (suc i) (has (suc i) (step_there numbered (suc i) (omega arith) (omega arith))) in let low = end l (has l other) in omega arith
 
-  pub last_named : (k : ℕ) (name : StepId) → AreNumbered p history → k ≡ length (steps_by p history) → IsEndOf history p k → (l : ℕ) → name ≡ named.Step (record { p = p; k = l }) → IsEndOf history p l → IsStandingName history name
+  pub last_named : (k : ℕ) (name : StepId) → AreNumbered p history → k ≡ length (steps_by p history) → IsEndOf history p k
+      → (l : ℕ) → name ≡ named.Step (record { p = p; k = l }) → IsEndOf history p l → IsStandingName history name
       → named.Step (record { p = p; k = k }) ≡ name
   last_named k name numbered count end l is other_end standing =
       ap (λ n. named.Step (record { p = p; k = n })) (sym (last_number k l numbered count end other_end (subst (IsStandingName history) is standing))) ∙ sym is

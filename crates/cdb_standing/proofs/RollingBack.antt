@@ -27,7 +27,7 @@ use Rattle.cdb_standing.specs.declared.tables.Sent.{Sent}
 use Rattle.cdb_standing.specs.declared.tables.Tables.{Tables}
 use Rattle.cdb_standing.proofs.Firsts.{first_of_loss}
 use Rattle.cdb_standing.proofs.Listed.{standing_rising, standing_only, standing_has}
-use Rattle.cdb_standing.proofs.Merging.{IsOf, step, loss, of_stands, all_only, all_has}
+use Rattle.cdb_standing.proofs.Merge.{IsOf, step, loss, of_stands, all_only, all_has}
 use Rattle.cdb_standing.proofs.Ordered.{has_at, at_has, same_list}
 use Rattle.cdb_standing.proofs.Places.{stands_in, in_stands}
 use Rattle.cdb_standing.proofs.Rows.{same_at}
@@ -43,7 +43,8 @@ record IsPart (IsRemoved : ℕ → Type 0) (n : ℕ) (xs : List Marked) (removed
   all : (i : ℕ) (x : Marked) → slice_get xs i ≡ Some x → IsRemoved (n + i) → Has part x
 
 module _ (IsRemoved : ℕ → Type 0) where
-  part_of : (n : ℕ) (xs : List Marked) {left removed : List Event} → IsRising xs → IsParted IsRemoved n (events_of xs) left removed → IsPart IsRemoved n xs removed
+  part_of : (n : ℕ) (xs : List Marked) {left removed : List Event} → IsRising xs
+      → IsParted IsRemoved n (events_of xs) left removed → IsPart IsRemoved n xs removed
   part_of n [] rising done = record { part = []; rising = tt; are = refl; only = λ x h. absurd h; all = λ i x at removed. absurd (none-some x at) }
   part_of n (y ∷ ys) rising (kept stays rest) =
       let more = part_of (suc n) ys rising.1 rest in
@@ -58,7 +59,8 @@ module _ (IsRemoved : ℕ → Type 0) where
       next : (n i : ℕ) → suc n + i ≡ n + suc i
       next n i = omega arith
 
-      all : {removed : List Event} (more : IsPart IsRemoved (suc n) ys removed) (i : ℕ) (x : Marked) → slice_get (y ∷ ys) i ≡ Some x → IsRemoved (n + i) → Has more.part x
+      all : {removed : List Event} (more : IsPart IsRemoved (suc n) ys removed) (i : ℕ) (x : Marked)
+          → slice_get (y ∷ ys) i ≡ Some x → IsRemoved (n + i) → Has more.part x
       all more zero x at gone' = let e : n + 0 ≡ n = omega arith in absurd (stays (subst IsRemoved e gone'))
       all more (suc i) x at gone' = more.all i x at (subst IsRemoved (sym (next n i)) gone')
   part_of n (y ∷ ys) rising (gone here rest) =
@@ -77,21 +79,25 @@ module _ (IsRemoved : ℕ → Type 0) where
       first : n ≡ n + 0
       first = omega arith
 
-      only : {removed : List Event} (more : IsPart IsRemoved (suc n) ys removed) (x : Marked) → Has (y ∷ more.part) x → (i : ℕ) × (slice_get (y ∷ ys) i ≡ Some x) × IsRemoved (n + i)
+      only : {removed : List Event} (more : IsPart IsRemoved (suc n) ys removed) (x : Marked)
+          → Has (y ∷ more.part) x → (i : ℕ) × (slice_get (y ∷ ys) i ≡ Some x) × IsRemoved (n + i)
       only more x (inl e) = (0, ap Some e, subst IsRemoved first here)
       only more x (inr h) = let found = more.only x h in (suc found.0, found.1, subst IsRemoved (next n found.0) found.2)
 
-      all : {removed : List Event} (more : IsPart IsRemoved (suc n) ys removed) (i : ℕ) (x : Marked) → slice_get (y ∷ ys) i ≡ Some x → IsRemoved (n + i) → Has (y ∷ more.part) x
+      all : {removed : List Event} (more : IsPart IsRemoved (suc n) ys removed) (i : ℕ) (x : Marked)
+          → slice_get (y ∷ ys) i ≡ Some x → IsRemoved (n + i) → Has (y ∷ more.part) x
       all more zero x at gone' = inl (same_Some y x at)
       all more (suc i) x at gone' = inr (more.all i x at (subst IsRemoved (sym (next n i)) gone'))
 
-no_removed : {IsRemoved : ℕ → Type 0} → ((i : ℕ) → IsRemoved i → ⊥) → {n : ℕ} {xs left removed : List Event} → IsParted IsRemoved n xs left removed → removed ≡ []
+no_removed : {IsRemoved : ℕ → Type 0} → ((i : ℕ) → IsRemoved i → ⊥)
+    → {n : ℕ} {xs left removed : List Event} → IsParted IsRemoved n xs left removed → removed ≡ []
 no_removed none done = refl
 no_removed none (kept stays rest) = no_removed none rest
 no_removed none (gone here rest) = absurd (none _ here)
 
 -- a free event has no consequences
-pub free_alone : (history : List Event) (at : ℕ) (it : Event) → 1 ≤ at → nth history at ≡ Some it → IsFree depends history at → rolled_back depends history at ≡ it ∷ []
+pub free_alone : (history : List Event) (at : ℕ) (it : Event) → 1 ≤ at → nth history at ≡ Some it
+    → IsFree depends history at → rolled_back depends history at ≡ it ∷ []
 free_alone history at it one there free =
     rolled_back_split depends history at it there ∙ ap (λ l. it ∷ l) (no_removed none (consequences_parted depends history at one).1)
   where
@@ -105,7 +111,8 @@ zeros zero (suc q) = refl
 zeros (suc n) (suc zero) = refl
 zeros (suc n) (suc (suc q)) = zeros n (suc q)
 
-module _ (next : ℕ) (steps : List (List Entry)) (sent : List (List Sent)) (sound : IsSound next steps sent) (cuts : List ℕ) (events : List Event) (ordered : AreInOrder cuts steps sent events) where
+module _ (next : ℕ) (steps : List (List Entry)) (sent : List (List Sent)) (sound : IsSound next steps sent)
+    (cuts : List ℕ) (events : List Event) (ordered : AreInOrder cuts steps sent events) where
   -- each event is of a step
   abbrev HasOrigin : ℕ → Event → Type 0
   HasOrigin mark it = (p : ℕ) × (k : ℕ) × (entry : Entry) × (nth (row_of steps p) k ≡ Some entry) × IsOf next steps sent sound p k mark it
@@ -147,9 +154,12 @@ module _ (next : ℕ) (steps : List (List Entry)) (sent : List (List Sent)) (sou
       let same : k ≡ l = sym one.by ∙ ap (λ (x : Sent). x.k) (same_at (row_of sent p) m one.it two.it one.was_sent two.was_sent) ∙ two.by in
       omega arith
 
-  pub cut_in_order : (name : StepId) → AreConsequencesCut (history_of steps sent) name cuts → (at : ℕ) → IsNamedAt (history_of steps sent) at name → 1 ≤ at → events ≡ rolled_back depends (history_of steps sent) at
+  pub cut_in_order : (name : StepId) → AreConsequencesCut (history_of steps sent) name cuts → (at : ℕ)
+      → IsNamedAt (history_of steps sent) at name → 1 ≤ at → events ≡ rolled_back depends (history_of steps sent) at
   cut_in_order name are at named one =
-      let part = part_of (IsRolledBack depends (history_of steps sent) at) 1 (standing steps sent) (standing_rising steps sent) (parted depends (history_of steps sent) at one) in
+      let part =
+      part_of (IsRolledBack depends (history_of steps sent) at) 1 (standing steps sent)
+      (standing_rising steps sent) (parted depends (history_of steps sent) at one) in
       ordered.are
       ∙ ap events_of
       (same_list ordered.marked part.part ordered.rising part.rising
@@ -182,11 +192,13 @@ module _ (t : Tables) (kept : AreKept t) where
   pub step_rolled : (name : StepId) (cuts : List ℕ) (events : List Event) → (IsStandingName (history_in t) name → AreConsequencesCut (history_in t) name cuts)
       → AreInOrder cuts (rows_in t.steps.items) (rows_in t.sent.items) events → IsRolledBackFrom name events
   step_rolled name cuts events are ordered at h =
-      cut_in_order t.next (rows_in t.steps.items) (rows_in t.sent.items) kept.sound cuts events ordered name (are (at, h)) at h (from_one (history_in t) at name h)
+      cut_in_order t.next (rows_in t.steps.items) (rows_in t.sent.items) kept.sound
+      cuts events ordered name (are (at, h)) at h (from_one (history_in t) at name h)
 
   pub loss_rolled : (copy : CopyName) (events : List Event) → events ≡ event.Lost copy ∷ [] → IsRolledBackFrom (named.Lost copy) events
   loss_rolled copy events are at h =
-      are ∙ sym (free_alone (history_in t) at (event.Lost copy) (from_one (history_in t) at (named.Lost copy) h) (by h.0 h.1 h.2) (first_of_loss t.next (rows_in t.steps.items) (rows_in t.sent.items) kept.sound copy at h))
+      are ∙ sym (free_alone (history_in t) at (event.Lost copy) (from_one (history_in t) at (named.Lost copy) h)
+      (by h.0 h.1 h.2) (first_of_loss t.next (rows_in t.steps.items) (rows_in t.sent.items) kept.sound copy at h))
     where
       by : (it : Event) → nth (history_in t) at ≡ Some it → event_name it ≡ named.Lost copy → nth (history_in t) at ≡ Some (event.Lost copy)
       by (event.Step p k kind) there is = absurd (cc)

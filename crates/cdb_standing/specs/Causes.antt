@@ -1,5 +1,6 @@
 -- The direct causes of an event: of each process the last step on which it depends, where nothing lies between.
-use Rattle.std.specs.Prelude.{◌≡◌, ℕ, ◌<◌, ◌≤◌, Bool, true, false, ◌&&◌, ◌||◌, cond, nat_eq, List, Option, Some, None, MatchBool, MatchOption, length, slice_get}
+use Rattle.std.specs.Prelude.{◌≡◌, ℕ, ◌<◌, ◌≤◌, Bool, true, false, ◌&&◌, ◌||◌, cond, nat_eq, List}
+use Rattle.std.specs.Prelude.{Option, Some, None, MatchBool, MatchOption, length, slice_get}
 use Rattle.std.specs.Option.{option_map, option_and_then}
 use Rattle.cdb_base.specs.Positions.{nth}
 use Rattle.cdb_base.specs.declared.event.Event.{Event}
@@ -29,7 +30,9 @@ sent_by sent s m q = cond (nat_eq s q) (option_map (λ (it : Sent). it.k) (nth (
 
 -- the last of a list of accesses before a mark, by the number of its step
 abbrev pub IsLastByList : List Access → ℕ → Option ℕ → Type 0
-IsLastByList accesses ahead found = (last : Option Access) × IsLastBeforeOrNone accesses ahead last × (found ≡ option_map (λ (access : Access). access.k) last)
+IsLastByList accesses ahead found =
+    (last : Option Access) × IsLastBeforeOrNone accesses ahead last
+    × (found ≡ option_map (λ (access : Access). access.k) last)
 
 -- whether a step of that kind writes
 abbrev pub writes : Kind → Bool
@@ -45,18 +48,21 @@ abbrev pub between_in : List (List Access) → List (List Access) → Kind → �
 between_in accesses writing cause p kind s = cond (writes cause && (nat_eq s p || writes kind)) accesses writing
 
 abbrev pub HasAccessBetween : List (List Access) → ℕ → ℕ → ℕ → ℕ → Type 0
-HasAccessBetween table s n behind ahead = (access : Access) × Has (row_of table (cell s n)) access × (behind < access.mark) × (access.mark < ahead)
+HasAccessBetween table s n behind ahead =
+    (access : Access) × Has (row_of table (cell s n)) access × (behind < access.mark) × (access.mark < ahead)
 
 -- ---- causes
 
 -- the event stands before the mark, and another depends on it
-pub record IsCause (steps : List (List Entry)) (sent : List (List Sent)) (effect : Event) (ahead mark : ℕ) (it : Event) : Type 0 where
+pub record IsCause (steps : List (List Entry)) (sent : List (List Sent))
+    (effect : Event) (ahead mark : ℕ) (it : Event) : Type 0 where
   pub stands : Stands steps sent mark it
   pub earlier : mark < ahead
   pub linked : depends it effect ≡ true
 
 -- it is the last step of process q on which the event depends
-pub record IsLastCause (steps : List (List Entry)) (sent : List (List Sent)) (effect : Event) (ahead q l mark : ℕ) (kind : Kind) : Type 0 where
+pub record IsLastCause (steps : List (List Entry)) (sent : List (List Sent))
+    (effect : Event) (ahead q l mark : ℕ) (kind : Kind) : Type 0 where
   pub is : IsCause steps sent effect ahead mark (Step q l kind)
   pub last : (j b : ℕ) (other : Kind) → IsCause steps sent effect ahead b (Step q j other) → b ≤ mark
 
@@ -67,19 +73,23 @@ IsLastCauseOrNone steps sent effect ahead q found =
     (λ l. (mark : ℕ) × (kind : Kind) × IsLastCause steps sent effect ahead q l mark kind)
 
 -- the event lies between: it depends on the cause, and the effect on it
-pub record IsBetween (steps : List (List Entry)) (sent : List (List Sent)) (cause : Event) (behind : ℕ) (effect : Event) (ahead mark : ℕ) (it : Event) : Type 0 where
+pub record IsBetween (steps : List (List Entry)) (sent : List (List Sent)) (cause : Event)
+    (behind : ℕ) (effect : Event) (ahead mark : ℕ) (it : Event) : Type 0 where
   pub of_cause : IsDependent steps sent cause behind mark it
   pub to_effect : IsCause steps sent effect ahead mark it
 
 abbrev pub HasNone : List (List Entry) → List (List Sent) → Event → ℕ → Event → ℕ → Type 0
-HasNone steps sent cause behind effect ahead = (mark : ℕ) (it : Event) → IsBetween steps sent cause behind effect ahead mark it → ⊥
+HasNone steps sent cause behind effect ahead =
+    (mark : ℕ) (it : Event) → IsBetween steps sent cause behind effect ahead mark it → ⊥
 
 abbrev pub TellsBetween : List (List Entry) → List (List Sent) → Event → ℕ → Event → ℕ → Bool → Type 0
 TellsBetween steps sent cause behind effect ahead told =
-    MatchBool told ((mark : ℕ) × (it : Event) × IsBetween steps sent cause behind effect ahead mark it) (HasNone steps sent cause behind effect ahead)
+    MatchBool told ((mark : ℕ) × (it : Event) × IsBetween steps sent cause behind effect ahead mark it)
+    (HasNone steps sent cause behind effect ahead)
 
 -- the l-th step of process q is a direct cause
-pub record IsDirect (steps : List (List Entry)) (sent : List (List Sent)) (effect : Event) (ahead q l : ℕ) : Type 0 where
+pub record IsDirect (steps : List (List Entry)) (sent : List (List Sent))
+    (effect : Event) (ahead q l : ℕ) : Type 0 where
   pub mark : ℕ
   pub kind : Kind
   pub is : IsCause steps sent effect ahead mark (Step q l kind)
@@ -89,15 +99,21 @@ abbrev pub step_named : ℕ → ℕ → StepId
 step_named q l = named.Step (record { p = q; k = l })
 
 -- the direct cause that is a step of process q
-pub record IsDirectOf (steps : List (List Entry)) (sent : List (List Sent)) (effect : Event) (ahead q : ℕ) (found : Option StepId) : Type 0 where
-  pub only : (name : StepId) → found ≡ Some name → (l : ℕ) × IsDirect steps sent effect ahead q l × (name ≡ step_named q l)
+pub record IsDirectOf (steps : List (List Entry)) (sent : List (List Sent))
+    (effect : Event) (ahead q : ℕ) (found : Option StepId) : Type 0 where
+  pub only : (name : StepId) → found ≡ Some name
+      → (l : ℕ) × IsDirect steps sent effect ahead q l × (name ≡ step_named q l)
   pub each : (l : ℕ) → IsDirect steps sent effect ahead q l → found ≡ Some (step_named q l)
 
 -- the direct causes of processes up to one, in order
-pub record AreDirect (steps : List (List Entry)) (sent : List (List Sent)) (effect : Event) (ahead top : ℕ) (names : List StepId) : Type 0 where
-  pub only : (k : ℕ) (name : StepId) → slice_get names k ≡ Some name → (q : ℕ) × (l : ℕ) × (q ≤ top) × IsDirect steps sent effect ahead q l × (name ≡ step_named q l)
-  pub each : (q l : ℕ) → q ≤ top → IsDirect steps sent effect ahead q l → (k : ℕ) × (slice_get names k ≡ Some (step_named q l))
-  pub in_order : (k l : ℕ) (name other : StepId) → k < l → slice_get names k ≡ Some name → slice_get names l ≡ Some other → ComesBefore name other
+pub record AreDirect (steps : List (List Entry)) (sent : List (List Sent))
+    (effect : Event) (ahead top : ℕ) (names : List StepId) : Type 0 where
+  pub only : (k : ℕ) (name : StepId) → slice_get names k ≡ Some name
+      → (q : ℕ) × (l : ℕ) × (q ≤ top) × IsDirect steps sent effect ahead q l × (name ≡ step_named q l)
+  pub each : (q l : ℕ) → q ≤ top → IsDirect steps sent effect ahead q l
+      → (k : ℕ) × (slice_get names k ≡ Some (step_named q l))
+  pub in_order : (k l : ℕ) (name other : StepId) → k < l → slice_get names k ≡ Some name
+      → slice_get names l ≡ Some other → ComesBefore name other
   pub few : length names ≤ top
 
 -- the direct causes of the event of that name, where it stands

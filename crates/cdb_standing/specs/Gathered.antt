@@ -1,5 +1,7 @@
--- The events that numbers cut off, as they are gathered: of each process its steps from a number on, each with the losses of what it sent.
-use Rattle.std.specs.Prelude.{◌≡◌, ◌↔◌, ℕ, suc, ◌+◌, ◌-◌, ◌<◌, ◌≤◌, List, [], ◌++◌, Option, Some, MatchOption, length, drop, slice_get}
+-- The events that numbers cut off, as they are gathered: of each process its steps from a number on, each with the
+-- losses of what it sent.
+use Rattle.std.specs.Prelude.{◌≡◌, ◌↔◌, ℕ, suc, ◌+◌, ◌-◌, ◌<◌, ◌≤◌, List, [], ◌++◌}
+use Rattle.std.specs.Prelude.{Option, Some, MatchOption, length, drop, slice_get}
 use Rattle.std.specs.Option.{option_map_or}
 use Rattle.cdb_base.specs.Positions.{nth}
 use Rattle.cdb_base.specs.declared.event.Event.{Event}
@@ -14,7 +16,8 @@ use Rattle.cdb_standing.specs.declared.tables.Sent.{Sent}
 
 -- the losses of the copies of what a step of process p sent
 abbrev pub losses_of : List (List Sent) → ℕ → Kind → List Marked
-losses_of sent p (Send m) = option_map_or (λ (it : Sent). each_from (loss_at p m) 1 it.copies) (nth (row_of sent p) m) []
+losses_of sent p (Send m) =
+    option_map_or (λ (it : Sent). each_from (loss_at p m) 1 it.copies) (nth (row_of sent p) m) []
 losses_of sent p _ = []
 
 -- a step with these
@@ -36,20 +39,23 @@ abbrev pub IsNextOf : List (List Entry) → List ℕ → Next → Type 0
 IsNextOf steps from next = IsLeftAt steps from next.i
 
 abbrev pub IsNextOrNone : List (List Entry) → List ℕ → ℕ → Option Next → Type 0
-IsNextOrNone steps from i found = MatchOption found (IsLeftAt steps from i → ⊥) (λ next. IsNextOf steps from next × (next.i ≡ i))
+IsNextOrNone steps from i found =
+    MatchOption found (IsLeftAt steps from i → ⊥) (λ next. IsNextOf steps from next × (next.i ≡ i))
 
 abbrev pub NoneIsLeft : List (List Entry) → List ℕ → ℕ → ℕ → Type 0
 NoneIsLeft steps from start end = (i : ℕ) → start ≤ i → i < end → IsLeftAt steps from i → ⊥
 
 -- the next step of the process at an index was added, with the losses of what it sent; n is the number behind it
-pub record IsGathered (steps : List (List Entry)) (sent : List (List Sent)) (from : List ℕ) (i : ℕ) (old new : List Marked) (n : ℕ) : Type 0 where
+pub record IsGathered (steps : List (List Entry)) (sent : List (List Sent))
+    (from : List ℕ) (i : ℕ) (old new : List Marked) (n : ℕ) : Type 0 where
   pub entry : Entry
   pub at : slice_get (row_of steps (suc i)) (cut_of from (suc i) - 1) ≡ Some entry
   pub number : n ≡ cut_of from (suc i) - 1 + 2
   pub more : new ≡ old ++ of_step sent (suc i) (suc (cut_of from (suc i) - 1)) entry
 
 -- the same events in the order of their marks
-pub record AreInOrder (cuts : List ℕ) (steps : List (List Entry)) (sent : List (List Sent)) (events : List Event) : Type 0 where
+pub record AreInOrder (cuts : List ℕ) (steps : List (List Entry))
+    (sent : List (List Sent)) (events : List Event) : Type 0 where
   pub marked : List Marked
   pub rising : IsRising marked
   pub same : (one : Marked) → Has marked one ↔ Has (all_from cuts steps sent) one

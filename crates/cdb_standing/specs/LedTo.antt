@@ -18,4 +18,5 @@ IsUpTo ends name (Lost copy) = named.Lost copy ≡ name
 -- those are exactly the events that led to the one of that name, and that one
 abbrev pub IsPastOfName : List Event → StepId → List ℕ → Type 0
 IsPastOfName history name ends =
-    (at : ℕ) → IsNamedAt history at name → (other : ℕ) (it : Event) → nth history other ≡ Some it → (IsUpTo ends name it) ↔ (HasLedTo depends history at other)
+    (at : ℕ) → IsNamedAt history at name → (other : ℕ) (it : Event)
+    → nth history other ≡ Some it → (IsUpTo ends name it) ↔ (HasLedTo depends history at other)

@@ -10,14 +10,17 @@ use Rattle.cdb_standing.specs.declared.tables.Entry.{Entry}
 use Rattle.cdb_standing.specs.declared.tables.Sent.{Sent}
 
 -- the event at a mark is one, or a chain of dependences leads from it to that one
-pub data IsLedFrom (steps : List (List Entry)) (sent : List (List Sent)) (one : Event) (end : ℕ) : ℕ → Event → Type 0 where
+pub data IsLedFrom (steps : List (List Entry)) (sent : List (List Sent)) (one : Event) (end : ℕ) : ℕ
+    → Event → Type 0 where
   itself : IsLedFrom steps sent one end end one
-  back : {a b : ℕ} {cause effect : Event} → IsLedFrom steps sent one end b effect → IsCause steps sent effect b a cause → IsLedFrom steps sent one end a cause
+  back : {a b : ℕ} {cause effect : Event} → IsLedFrom steps sent one end b effect
+      → IsCause steps sent effect b a cause → IsLedFrom steps sent one end a cause
 
 -- the steps up to the numbers led to the event
 abbrev pub IsSoundPast : List (List Entry) → List (List Sent) → Event → ℕ → List ℕ → Type 0
 IsSoundPast steps sent one end ends =
-    (q l a : ℕ) (kind : Kind) → IsEntry steps q l a kind → l ≤ end_of ends q → IsLedFrom steps sent one end a (Step q l kind)
+    (q l a : ℕ) (kind : Kind) → IsEntry steps q l a kind
+    → l ≤ end_of ends q → IsLedFrom steps sent one end a (Step q l kind)
 
 -- of the processes up to one, the steps on which an event depends are up to the numbers
 abbrev pub HasCausesWithin : List (List Entry) → List (List Sent) → Event → ℕ → ℕ → List ℕ → Type 0
@@ -26,7 +29,8 @@ HasCausesWithin steps sent effect ahead top ends =
 
 -- so are those on which the l-th step of process q depends
 abbrev pub IsLookedBehind : List (List Entry) → List (List Sent) → ℕ → ℕ → List ℕ → Type 0
-IsLookedBehind steps sent q l ends = (a : ℕ) (kind : Kind) → IsEntry steps q l a kind → HasCausesWithin steps sent (Step q l kind) a 9 ends
+IsLookedBehind steps sent q l ends =
+    (a : ℕ) (kind : Kind) → IsEntry steps q l a kind → HasCausesWithin steps sent (Step q l kind) a 9 ends
 
 -- and those on which each step up to other numbers depends
 abbrev pub IsClosedBehind : List (List Entry) → List (List Sent) → List ℕ → List ℕ → Type 0
@@ -49,14 +53,16 @@ abbrev pub IsItselfWithin : Event → List ℕ → Type 0
 IsItselfWithin (Step p k kind) ends = k ≤ end_of ends p
 IsItselfWithin (Lost copy) ends = ⊤
 
-pub record IsPastBegun (steps : List (List Entry)) (sent : List (List Sent)) (one : Event) (end : ℕ) (ends : List ℕ) : Type 0 where
+pub record IsPastBegun (steps : List (List Entry)) (sent : List (List Sent))
+    (one : Event) (end : ℕ) (ends : List ℕ) : Type 0 where
   pub sound : IsSoundPast steps sent one end ends
   pub itself : IsItselfWithin one ends
   pub causes : HasCausesWithin steps sent one end 9 ends
   pub few : AreFew ends
 
 -- the steps up to the numbers are those that led to the event, and it itself, if it is a step
-pub record IsPast (steps : List (List Entry)) (sent : List (List Sent)) (one : Event) (end : ℕ) (ends : List ℕ) : Type 0 where
+pub record IsPast (steps : List (List Entry)) (sent : List (List Sent))
+    (one : Event) (end : ℕ) (ends : List ℕ) : Type 0 where
   pub sound : IsSoundPast steps sent one end ends
   pub itself : IsItselfWithin one ends
   pub causes : HasCausesWithin steps sent one end 9 ends

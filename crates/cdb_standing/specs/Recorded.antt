@@ -14,14 +14,14 @@ use Rattle.cdb_causal.specs.Names.{IsNamedAt}
 use Rattle.cdb_causal.specs.Rollback.{without}
 use Rattle.cdb_standing.specs.Moves.{IsEndOf, IsFreeAlone}
 use Rattle.cdb_standing.specs.declared.recorded.Recorded.{Recorded}
-use Rattle.cdb_standing.specs.declared.recorded.Left.{Left}
+use Rattle.cdb_standing.specs.declared.recorded.UndoData.{UndoData}
 
 -- what the loss of a copy leaves
-abbrev pub nothing : {B : Type 0} → Left B
+abbrev pub nothing : {B : Type 0} → UndoData B
 nothing = record { back = None; overwritten = None }
 
 -- an event with what it left
-abbrev pub recorded_of : {B : Type 0} → Event → Left B → Recorded B
+abbrev pub recorded_of : {B : Type 0} → Event → UndoData B → Recorded B
 recorded_of event left = record { event = event; back = left.back; overwritten = left.overwritten }
 
 -- the events alone
@@ -29,30 +29,36 @@ abbrev pub events_of : {B : Type 0} → List (Recorded B) → List Event
 events_of records = map (λ recorded. recorded.event) records
 
 -- the change led from one state to the other, and the event has been added at the end with what the change left
-abbrev pub IsAddedBy : {F S B E : Type 0} → Once F (MutBor S × Unit {0}) (Result (Left B) E × (MutBor S × Unit {0})) → F → S → S
+abbrev pub IsAddedBy : {F S B E : Type 0}
+    → Once F (MutBor S × Unit {0}) (Result (UndoData B) E × (MutBor S × Unit {0})) → F → S → S
     → Event → List (Recorded B) → List (Recorded B) → Type 0
 IsAddedBy {F} {S} {B} {E} called change before after event old new =
-    (left : Left B) × FnOnceReturnsAtMut called change before (Ok left) after × (new ≡ old ++ recorded_of event left ∷ [])
+    (left : UndoData B) × FnOnceReturnsAtMut called change before (Ok left) after
+    × (new ≡ old ++ recorded_of event left ∷ [])
 
 -- the event of that name was the recorded one, and all others are left
 abbrev pub IsRecordTakenOut : {B : Type 0} → List (Recorded B) → StepId → Recorded B → List (Recorded B) → Type 0
-IsRecordTakenOut old name recorded new = (at : ℕ) → IsNamedAt (events_of old) at name → (nth old at ≡ Some recorded) × (new ≡ without old at)
+IsRecordTakenOut old name recorded new =
+    (at : ℕ) → IsNamedAt (events_of old) at name → (nth old at ≡ Some recorded) × (new ≡ without old at)
 
 -- the name is that of the last step of process p
 abbrev pub IsLastOf : List Event → ℕ → StepId → Type 0
 IsLastOf history p name = (k : ℕ) × (name ≡ named.Step (record { p = p; k = k })) × IsEndOf history p k
 
 -- a free event of such a name is taken out, where one stands; where none does, nothing has changed
-abbrev pub TakesFree : {B : Type 0} → (StepId → Type 0) → Option (Recorded B) → List (Recorded B) → List (Recorded B) → Type 0
+abbrev pub TakesFree : {B : Type 0} → (StepId → Type 0)
+    → Option (Recorded B) → List (Recorded B) → List (Recorded B) → Type 0
 TakesFree Is result old new =
     MatchOption result
     (((name : StepId) → Is name → IsFreeAlone (events_of old) name → ⊥) × (new ≡ old))
-    (λ recorded. let name = event_name recorded.event in Is name × IsFreeAlone (events_of old) name × IsRecordTakenOut old name recorded new)
+    (λ recorded. let name = event_name recorded.event in
+    Is name × IsFreeAlone (events_of old) name × IsRecordTakenOut old name recorded new)
 
 -- the event of that name is a direct cause of so many
 abbrev pub IsCountOf : List Event → StepId → ℕ → Type 0
 IsCountOf history name count =
-    (at : ℕ) (event : Event) → nth history at ≡ Some event → event_name event ≡ name → count ≡ direct_dependents depends event (drop at history)
+    (at : ℕ) (event : Event) → nth history at ≡ Some event → event_name event ≡ name
+    → count ≡ direct_dependents depends event (drop at history)
 
 -- these are 0 exactly where no event depends on that event
 abbrev pub IsZeroWhereFree : List Event → StepId → ℕ → Type 0

@@ -1,7 +1,8 @@
 //! How an event is added.
 
 ghost use Rattle.std.specs.Prelude.{◌≡◌, ◌+◌, ◌<◌, ◌≤◌, length, OnOk};
-ghost use Rattle.cdb_standing.specs.Accesses.{accessed as accessed_by, written as written_by, access_of, HasRoomToList, IsListedAt, IsRegisterOf};
+ghost use Rattle.cdb_standing.specs.Accesses.{accessed as accessed_by, written as written_by, access_of};
+ghost use Rattle.cdb_standing.specs.Accesses.{HasRoomToList, IsListedAt, IsRegisterOf};
 ghost use Rattle.cdb_standing.specs.Rooms.{HoldSameSteps, HasRoomFor, HasRoomToMail, HoldSame, HasRows};
 ghost use Rattle.cdb_standing.specs.Tables.{rows_in, HasCopy, IsCopySet, IsMailedBy, MayMail, IsStepAdded};
 ghost use Rattle.cdb_standing.specs.declared.tables.Copied.TheVariants.{Lost};

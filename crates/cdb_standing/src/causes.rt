@@ -3,7 +3,9 @@
 ghost use Rattle.std.specs.Prelude.{◌≡◌, ◌↔◌, ℕ, ◌<◌, IsTrue, IfSome, length};
 ghost use Rattle.cdb_base.specs.declared.event.Event.TheVariants.{Step};
 ghost use Rattle.cdb_standing.specs.Accesses.{cell, IsRisingBy};
-ghost use Rattle.cdb_standing.specs.Causes.{sent_by, writes as writes_of, register_of_both, between_in, HasAccessBetween, IsLastByList, IsLastCause, IsLastCauseOrNone, TellsBetween, IsDirectOf, AreDirect, AreDirectByName};
+ghost use Rattle.cdb_standing.specs.Causes.{sent_by, writes as writes_of, register_of_both, between_in};
+ghost use Rattle.cdb_standing.specs.Causes.{HasAccessBetween, IsLastByList, IsLastCause, IsLastCauseOrNone};
+ghost use Rattle.cdb_standing.specs.Causes.{TellsBetween, IsDirectOf, AreDirect, AreDirectByName};
 ghost use Rattle.cdb_standing.specs.Kept.{AreKept};
 ghost use Rattle.cdb_standing.specs.Tables.{rows_in, row_of, IsEntry, Stands};
 

@@ -1,17 +1,19 @@
 //! The standing events.
 
-ghost use Rattle.std.specs.Prelude.{◌≡◌, ℕ, ◌+◌, ◌-◌, ◌<◌, ◌≤◌, [], ◌∷◌, ◌++◌, Ok, IfOk, IfErr, OnOk, OnErr, IsTrue, MatchOption, length, ◌↔◌};
+ghost use Rattle.std.specs.Prelude.{◌≡◌, ℕ, ◌+◌, ◌-◌, ◌<◌, ◌≤◌, [], ◌∷◌, ◌++◌, Ok, IfOk, IfErr};
+ghost use Rattle.std.specs.Prelude.{OnOk, OnErr, IsTrue, MatchOption, length, ◌↔◌};
 ghost use Rattle.std.specs.Fn.{FnOnceReturnsAtMut, FnOnceTakesAtMut};
 ghost use Rattle.cdb_base.specs.declared.event.Event.TheVariants.{Step, Lost};
-ghost use Rattle.cdb_causal.specs.Changing.{HasFailed};
+ghost use Rattle.cdb_causal.specs.FailedChange.{HasFailed};
 ghost use Rattle.cdb_base.specs.declared.name.StepId.TheVariants as named;
 ghost use Rattle.cdb_causal.specs.DirectCauses.{AreDirectCauses};
 ghost use Rattle.cdb_causal.specs.Names.{IsNamedAt, IsNewName, IsFirstDependentOrFree};
 ghost use Rattle.cdb_causal.specs.Dependence.{depends as depends_of};
 ghost use Rattle.cdb_causal.specs.Rollback.{rolled_back};
-ghost use Rattle.cdb_standing.specs.Comparing.{steps_by, AreNumbered, AreWritesBefore, LoseSame};
+ghost use Rattle.cdb_standing.specs.Comparisons.{steps_by, AreNumbered, AreWritesBefore, LoseSame};
 ghost use Rattle.cdb_standing.specs.LedTo.{IsPastOfName};
-ghost use Rattle.cdb_standing.specs.Moves.{IsNextStep, MayDo, IsPending, MayCome, IsEndOf, IsStandingName, IsFreeAlone, IsNamed, IsTakenOut};
+ghost use Rattle.cdb_standing.specs.Moves.{IsNextStep, MayDo, IsPending, MayCome, IsEndOf, IsStandingName};
+ghost use Rattle.cdb_standing.specs.Moves.{IsFreeAlone, IsNamed, IsTakenOut};
 
 use crate::accesses::number_of;
 use crate::add::{add_loss, add_step, reserve_mark, reserve_step};
@@ -132,9 +134,9 @@ impl History {
         past_in(&self.tables, &name)
     }
 
-    /// The names of the direct causes of the event of that name, which stands: of the earlier events on which it depends,
-    /// those with no event between that depends on such an event and has it depend on itself. They are steps, by
-    /// process, at most one of each, so nine cells suffice, and no memory is taken.
+    /// The names of the direct causes of the event of that name, which stands: of the earlier events on which it
+    /// depends, those with no event between that depends on such an event and has it depend on itself. They are steps,
+    /// by process, at most one of each, so nine cells suffice, and no memory is taken.
     pub fn direct_causes(&self, alloc: Global, name: StepId) -> SmallVec<StepId, 9>
         requires { IsStandingName self.now name }
         ensures { (at : ℕ) → IsNamedAt self.now at name → AreDirectCauses self.now at result.items }
@@ -142,9 +144,9 @@ impl History {
         causes_in(alloc, &self.tables, &name)
     }
 
-    /// Changes a state as the loss of a copy does, and adds the loss at the end: of a message that was sent, to a process
-    /// that has neither received nor lost it. `change` is called before it is added. Where `change` fails, or no mark is
-    /// left, nothing is added.
+    /// Changes a state as the loss of a copy does, and adds the loss at the end: of a message that was sent, to a
+    /// process that has neither received nor lost it. `change` is called before it is added. Where `change` fails, or
+    /// no mark is left, nothing is added.
     pub fn push_loss_with<S, R, F: FnOnce(&mut S) -> Result<R, NoMemory>>(
         &mut self,
         copy: CopyName,
@@ -167,8 +169,8 @@ impl History {
         Ok(left)
     }
 
-    /// Adds an event at the end: the next step of its process, or the loss of a copy that was neither received nor lost.
-    /// Without memory nothing is added.
+    /// Adds an event at the end: the next step of its process, or the loss of a copy that was neither received nor
+    /// lost. Without memory nothing is added.
     pub fn push(&mut self, event: Event) -> Result<(), NoMemory>
         requires { MayCome self.old event }
         ensures ok { OnOk result (self.new ≡ self.old ++ event ∷ []) }
@@ -180,8 +182,8 @@ impl History {
         }
     }
 
-    /// Whether an event may be added at the end: the next step of its process, which sends that process's next message, or
-    /// receives a copy that was neither received nor lost, or does neither; or the loss of such a copy.
+    /// Whether an event may be added at the end: the next step of its process, which sends that process's next message,
+    /// or receives a copy that was neither received nor lost, or does neither; or the loss of such a copy.
     pub fn may_come(&self, event: &Event) -> bool
         ensures { IsTrue result ↔ MayCome self.now event.now }
     {

@@ -31,8 +31,8 @@ pub(crate) fn is_next_step(tables: &Tables, p: Proc, k: u16) -> bool
     tables.steps[p.index()].len() + 1 == k as usize
 }
 
-/// Whether a step that does that finds what it needs: the number of the message that it sends is the next, the copy that
-/// it receives waits.
+/// Whether a step that does that finds what it needs: the number of the message that it sends is the next, the copy
+/// that it receives waits.
 fn may_mail(sent: &Vec<Vec<Sent>>, p: Proc, kind: &Kind) -> bool
     requires { length sent.now.items ≡ 9 }
     ensures { IsTrue result ↔ MayMail p kind.now (rows_in sent.now.items) }

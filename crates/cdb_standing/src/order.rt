@@ -1,8 +1,10 @@
 //! The events that numbers cut off, in the order in which they were taken.
 
-ghost use Rattle.std.specs.Prelude.{◌≡◌, ◌<◌, ◌≤◌, ◌++◌, ◌∷◌, [], None, length, IfOk, OnOk, IfSome, IfNone, IsPermutation};
+ghost use Rattle.std.specs.Prelude.{◌≡◌, ◌<◌, ◌≤◌, ◌++◌, ◌∷◌, [], None, length};
+ghost use Rattle.std.specs.Prelude.{IfOk, OnOk, IfSome, IfNone, IsPermutation};
 ghost use Rattle.cdb_base.specs.declared.event.Kind.TheVariants.{Send};
-ghost use Rattle.cdb_standing.specs.Gathered.{losses_of, of_step, all_from, AreInOrder, IsLeftAt, IsNextOf, IsNextOrNone, NoneIsLeft, IsGathered};
+ghost use Rattle.cdb_standing.specs.Gathered.{losses_of, of_step, all_from, AreInOrder, IsLeftAt};
+ghost use Rattle.cdb_standing.specs.Gathered.{IsNextOf, IsNextOrNone, NoneIsLeft, IsGathered};
 ghost use Rattle.cdb_standing.specs.InOrder.{events_of};
 ghost use Rattle.cdb_standing.specs.Kept.{AreKept};
 ghost use Rattle.cdb_standing.specs.Tables.{rows_in, row_of, loss_at, IsEntry};
@@ -105,8 +107,8 @@ fn next_at(tables: &Tables, from: &[usize; 9], i: usize) -> Option<Next>
     })
 }
 
-/// Of the next steps of the processes at the indexes from `start` to `end`, and of another one, the earliest, or the first
-/// that was taken at `low`.
+/// Of the next steps of the processes at the indexes from `start` to `end`, and of another one, the earliest, or the
+/// first that was taken at `low`.
 fn earliest(
     tables: &Tables,
     from: &[usize; 9],
@@ -137,8 +139,8 @@ fn earliest(
     found
 }
 
-/// The earliest of all next steps. The look begins at a process, and ends at a step that was taken at `low`, before which
-/// none is left: mostly it is one of that process, or of the one behind it.
+/// The earliest of all next steps. The look begins at a process, and ends at a step that was taken at `low`, before
+/// which none is left: mostly it is one of that process, or of the one behind it.
 fn first_left(tables: &Tables, from: &[usize; 9], start: usize, low: u64) -> Option<Next>
     requires kept { AreKept tables.now }
     requires few { start < 9 }

@@ -5,7 +5,8 @@ ghost use Rattle.cdb_base.specs.declared.event.Event.{Event as AnEvent};
 ghost use Rattle.cdb_standing.specs.Cuts.{cut_of as end_of, IsLower};
 ghost use Rattle.cdb_standing.specs.Kept.{history_in, AreKept};
 ghost use Rattle.cdb_standing.specs.LedTo.{IsPastOfName};
-ghost use Rattle.cdb_standing.specs.Pasts.{AreRaised, IsLedFrom, IsSoundPast, HasCausesWithin, AreFew, IsLookedBehind, IsPastBegun, IsPast};
+ghost use Rattle.cdb_standing.specs.Pasts.{AreRaised, IsLedFrom, IsSoundPast, HasCausesWithin};
+ghost use Rattle.cdb_standing.specs.Pasts.{AreFew, IsLookedBehind, IsPastBegun, IsPast};
 ghost use Rattle.cdb_standing.specs.Tables.{rows_in, Stands};
 
 use crate::causes::last_cause;

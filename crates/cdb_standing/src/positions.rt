@@ -1,5 +1,5 @@
-//! Events by their positions, from 1, for whoever embeds the library: a run names its events. These calls list the whole
-//! history in order, which takes memory.
+//! Events by their positions, from 1, for whoever embeds the library: a run names its events. These calls list the
+//! whole history in order, which takes memory.
 
 ghost use Rattle.std.specs.Prelude.{◌≡◌, ℕ, ◌≤◌, List, length, map, IfOk, OnOk, OnErr, MatchOption, Some};
 ghost use Rattle.cdb_base.specs.Event.{event_name};
@@ -135,8 +135,8 @@ pub fn first_dependent(
     Ok(history.first_dependent(name))
 }
 
-/// The names of the consequences of the event at a position, from 1 to the number of events, in order: of the least set of
-/// later events each of which depends on that event or on one of them.
+/// The names of the consequences of the event at a position, from 1 to the number of events, in order: of the least set
+/// of later events each of which depends on that event or on one of them.
 pub fn consequences(alloc: Global, history: &History, at: usize) -> Result<Vec<StepId>, NoMemory>
     requires from_one { 1 ≤ at }
     requires to_len { at ≤ length history.now }

@@ -4,7 +4,7 @@ use cdb_base::{Cell, Event};
 
 /// What a step left for taking it back. `B` is what an input leaves of its machine.
 #[derive(Drop)]
-pub struct Left<B: Drop> {
+pub struct UndoData<B: Drop> {
     /// What the step consumed or overwrote in its machine; none for a crash.
     pub back: Option<B>,
     /// The cell that a write overwrote.

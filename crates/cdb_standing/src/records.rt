@@ -4,14 +4,15 @@ ghost use Rattle.std.specs.Prelude.{◌≡◌, [], ◌∷◌, ◌++◌, Ok, IsTr
 ghost use Rattle.std.specs.Fn.{FnOnceReturnsAtMut, FnOnceTakesAtMut};
 ghost use Rattle.cdb_base.specs.declared.event.Event.TheVariants.{Step, Lost};
 ghost use Rattle.cdb_base.specs.declared.name.StepId.TheVariants as named;
-ghost use Rattle.cdb_causal.specs.Changing.{HasFailed};
+ghost use Rattle.cdb_causal.specs.FailedChange.{HasFailed};
 ghost use Rattle.cdb_causal.specs.Names.{IsNewName};
 ghost use Rattle.cdb_standing.specs.Moves.{MayCome, IsFreeAlone};
-ghost use Rattle.cdb_standing.specs.Recorded.{events_of, nothing, recorded_of, IsAddedBy, IsRecordTakenOut, IsLastOf, TakesFree, IsCountOf, IsZeroWhereFree};
+ghost use Rattle.cdb_standing.specs.Recorded.{events_of, nothing, recorded_of, IsAddedBy, IsRecordTakenOut};
+ghost use Rattle.cdb_standing.specs.Recorded.{IsLastOf, TakesFree, IsCountOf, IsZeroWhereFree};
 
 use crate::history::History;
 use crate::positions::count_direct;
-use crate::recorded::{Left, Recorded};
+use crate::recorded::{Recorded, UndoData};
 use crate::table::{empty_rows, put_on, reserve_step_in, take_last};
 use cdb_base::{CopyName, Event, Kind, NoMemory, Proc, StepId, StepName};
 use std::alloc::Global;
@@ -40,12 +41,12 @@ fn is_free(history: &History, name: StepId) -> bool
 pub struct Records<B: Drop> {
     history: History,
     /// By process, what its standing steps left, the last on top.
-    left: Vec<Vec<Left<B>>>,
+    left: Vec<Vec<UndoData<B>>>,
 }
 
 impl<B: Drop> Model for Records<B> {
     ghost use Rattle.std.specs.Prelude.{List};
-    ghost use Rattle.cdb_standing.specs.Lefts.{recorded_with, AreBeside};
+    ghost use Rattle.cdb_standing.specs.UndoDataLists.{recorded_with, AreBeside};
     ghost use Rattle.cdb_standing.specs.Tables.{rows_in};
     ghost use Rattle.cdb_standing.specs.declared.recorded.Recorded.{Recorded};
 
@@ -81,11 +82,11 @@ impl<B: Drop> Records<B> {
         history
     }
 
-    /// Changes a state as the `k`-th step of process `p` does, which is its next, and adds the step at the end, with what
-    /// `change` returns for taking it back: makes room for both, then calls `change`, then adds them, which takes no
-    /// memory. Where there is no room, and where `change` fails, nothing is added.
+    /// Changes a state as the `k`-th step of process `p` does, which is its next, and adds the step at the end, with
+    /// what `change` returns for taking it back: makes room for both, then calls `change`, then adds them, which takes
+    /// no memory. Where there is no room, and where `change` fails, nothing is added.
     #[inline(always)]
-    pub fn push_with<S, F: FnOnce(&mut S) -> Result<Left<B>, NoMemory>>(
+    pub fn push_with<S, F: FnOnce(&mut S) -> Result<UndoData<B>, NoMemory>>(
         &mut self,
         p: Proc,
         k: u16,
@@ -107,8 +108,8 @@ impl<B: Drop> Records<B> {
         Ok(())
     }
 
-    /// Changes a state as the loss of a copy does, which was neither received nor lost, and adds the loss at the end, which
-    /// leaves nothing: calls `change`, then adds it. Where `change` fails, or there is no room, nothing is added.
+    /// Changes a state as the loss of a copy does, which was neither received nor lost, and adds the loss at the end,
+    /// which leaves nothing: calls `change`, then adds it. Where `change` fails, or there is no room, nothing is added.
     pub fn push_loss_with<S, F: FnOnce(&mut S) -> Result<(), NoMemory>>(
         &mut self,
         copy: CopyName,
@@ -127,9 +128,9 @@ impl<B: Drop> Records<B> {
         Ok(())
     }
 
-    /// Adds the `k`-th step of process `p`, which is its next, at the end, with what it left. After `NoMemory` nothing is
-    /// added, and what it left is given up.
-    pub fn push(&mut self, p: Proc, k: u16, kind: Kind, left: Left<B>) -> Result<(), NoMemory>
+    /// Adds the `k`-th step of process `p`, which is its next, at the end, with what it left. After `NoMemory` nothing
+    /// is added, and what it left is given up.
+    pub fn push(&mut self, p: Proc, k: u16, kind: Kind, left: UndoData<B>) -> Result<(), NoMemory>
         requires { MayCome (events_of self.old) (Step p k kind) }
         ensures ok { OnOk result (self.new ≡ self.old ++ recorded_of (Step p k kind) left ∷ []) }
         ensures err { OnErr result (self.new ≡ self.old) }
@@ -147,8 +148,8 @@ impl<B: Drop> Records<B> {
         self.push_loss_with(copy, &mut (), |_| Ok(()))
     }
 
-    /// How many standing events have the event of that name as a direct cause: 0 exactly where none depends on it, and 0
-    /// where no event has the name. The history is listed for it, which takes memory.
+    /// How many standing events have the event of that name as a direct cause: 0 exactly where none depends on it, and
+    /// 0 where no event has the name. The history is listed for it, which takes memory.
     pub fn count_of(&self, alloc: Global, name: StepId) -> Result<usize, NoMemory>
         ensures count { IfOk result (IsCountOf (events_of self.now) name) }
         ensures free { IfOk result (IsZeroWhereFree (events_of self.now) name) }
@@ -160,9 +161,9 @@ impl<B: Drop> Records<B> {
         }
     }
 
-    /// Takes out the last step of a process, on which nothing depends, and returns what it did and what it left. It takes
-    /// no memory.
-    pub fn take_step(&mut self, p: Proc, k: u16) -> (Kind, Left<B>)
+    /// Takes out the last step of a process, on which nothing depends, and returns what it did and what it left. It
+    /// takes no memory.
+    pub fn take_step(&mut self, p: Proc, k: u16) -> (Kind, UndoData<B>)
         requires { IsFreeAlone (events_of self.old) (named.Step (record { p = p; k = k })) }
         ensures { IsRecordTakenOut self.old (named.Step (record { p = p; k = k }))
             (recorded_of (Step p k result.0) result.1) self.new }
@@ -180,8 +181,8 @@ impl<B: Drop> Records<B> {
         self.history.take_loss(copy);
     }
 
-    /// Takes the last step of a process out, where one stands and nothing depends on it; else nothing changes. It takes no
-    /// memory.
+    /// Takes the last step of a process out, where one stands and nothing depends on it; else nothing changes. It takes
+    /// no memory.
     pub fn take_last_of(&mut self, p: Proc) -> Option<Recorded<B>>
         ensures { TakesFree (IsLastOf (events_of self.old) p) result self.old self.new }
     {
@@ -190,7 +191,7 @@ impl<B: Drop> Records<B> {
             return None;
         }
         let (kind, left) = self.take_step(p, k);
-        let Left { back, overwritten } = left;
+        let UndoData { back, overwritten } = left;
         Some(Recorded {
             event: Event::Step { p, k, kind },
             back,

@@ -1,5 +1,6 @@
 -- Bytes that are added one piece after the other.
-use Rattle.std.proofs.Common.{false, not, ◌&&◌, ◌==◌, ◌≡◌, ◌≢◌, ℕ, ◌+◌, ◌-◌, ◌<◌, List, [], ◌∷◌, ◌++◌, length, get_or, take, drop, add-one, append-nil, Option, refl, sym, ap, subst, ◌∙◌, append_assoc, take-append-drop}
+use Rattle.std.proofs.Common.{false, not, ◌&&◌, ◌==◌, ◌≡◌, ◌≢◌, ℕ, ◌+◌, ◌-◌, ◌<◌, List, [], ◌∷◌, ◌++◌, length, get_or, take}
+use Rattle.std.proofs.Common.{drop, add-one, append-nil, Option, refl, sym, ap, subst, ◌∙◌, append_assoc, take-append-drop}
 use Rattle.std.specs.Prelude.{Ok}
 use Rattle.std.specs.List.{flat_map}
 use Rattle.std.specs.Io.KnownBytes.{Appends, Keeps}
@@ -28,7 +29,8 @@ pub no_failure : (count : ℕ) (piece : List ℕ) → count ≢ 0 → is_failure
 no_failure count piece some = ap (λ b. b && not (length piece == 0)) (ne_eqb count 0 some)
 
 -- a beginning of one text more is a beginning of all
-pub beginning_of_all : (old now new : Option (List ℕ)) (before text after all : List ℕ) → Appends old now before → all ≡ before ++ (text ++ after) → AddsBeginning now new text → AddsBeginning old new all
+pub beginning_of_all : (old now new : Option (List ℕ)) (before text after all : List ℕ) → Appends old now before
+    → all ≡ before ++ (text ++ after) → AddsBeginning now new text → AddsBeginning old new all
 beginning_of_all old now new before text after all e is added =
     (before ++ added.0, added.1 ++ after, is ∙ rw added.2 (simp append_assoc), Appends-trans old now new before added.0 e added.3)
 
@@ -37,21 +39,26 @@ pub parted : {X : Type 0} (xs : List X) (i : ℕ) (d : X) → i < length xs → 
 parted {X} xs i d below = sym (take-append-drop i xs) ∙ ap (λ (ys : List X). take i xs ++ ys) (drop-cons xs i d below ∙ (rw add-one refl))
 
 -- the same of their texts
-pub parted_texts : {X : Type 0} (text : X → List ℕ) (xs : List X) (i : ℕ) (d : X) → i < length xs → flat_map text xs ≡ flat_map text (take i xs) ++ (text (get_or xs i d) ++ flat_map text (drop (i + 1) xs))
+pub parted_texts : {X : Type 0} (text : X → List ℕ) (xs : List X) (i : ℕ) (d : X) → i < length xs
+    → flat_map text xs ≡ flat_map text (take i xs) ++ (text (get_or xs i d) ++ flat_map text (drop (i + 1) xs))
 parted_texts text xs i d below =
-    ap (flat_map text) (parted xs i d below) ∙ flat_map-append text (take i xs) (get_or xs i d ∷ drop (i + 1) xs) ∙ ap (λ (bs : List ℕ). flat_map text (take i xs) ++ bs) (flat_map-cons text (get_or xs i d) (drop (i + 1) xs))
+    ap (flat_map text) (parted xs i d below) ∙ flat_map-append text (take i xs) (get_or xs i d ∷ drop (i + 1) xs)
+    ∙ ap (λ (bs : List ℕ). flat_map text (take i xs) ++ bs) (flat_map-cons text (get_or xs i d) (drop (i + 1) xs))
 
 -- nothing is a beginning
 pub nothing : (held : Option (List ℕ)) (text : List ℕ) → AddsBeginning held held text
 nothing held text = ([], text, refl, Appends-nil held)
 
 -- the texts of the items up to one, and its own
-pub one_more_text : {X : Type 0} (text : X → List ℕ) (xs : List X) (i : ℕ) (d : X) → i < length xs → flat_map text (take (i + 1) xs) ≡ flat_map text (take i xs) ++ text (get_or xs i d)
+pub one_more_text : {X : Type 0} (text : X → List ℕ) (xs : List X) (i : ℕ) (d : X) → i < length xs
+    → flat_map text (take (i + 1) xs) ≡ flat_map text (take i xs) ++ text (get_or xs i d)
 one_more_text text xs i d below =
-    ap (flat_map text) (take_more xs i d below) ∙ flat_map-append text (take i xs) (get_or xs i d ∷ []) ∙ ap (λ (bs : List ℕ). flat_map text (take i xs) ++ bs) (append-nil (text (get_or xs i d)))
+    ap (flat_map text) (take_more xs i d below) ∙ flat_map-append text (take i xs) (get_or xs i d ∷ [])
+    ∙ ap (λ (bs : List ℕ). flat_map text (take i xs) ++ bs) (append-nil (text (get_or xs i d)))
 
 -- the text of one item more is written
-pub one_text : {X : Type 0} (text : X → List ℕ) (old now new : Option (List ℕ)) (xs : List X) (i : ℕ) (d : X) → i < length xs → Appends old now (flat_map text (take i xs)) → Appends now new (text (get_or xs i d))
+pub one_text : {X : Type 0} (text : X → List ℕ) (old now new : Option (List ℕ)) (xs : List X) (i : ℕ) (d : X)
+    → i < length xs → Appends old now (flat_map text (take i xs)) → Appends now new (text (get_or xs i d))
     → Appends old new (flat_map text (take (i + 1) xs))
 one_text text old now new xs i d below so more =
     subst (Appends old new) (sym (one_more_text text xs i d below)) (Appends-trans old now new (flat_map text (take i xs)) (text (get_or xs i d)) so more)

@@ -10,7 +10,8 @@ in_place new items len as_many long =
     ∙ ap (take len) (append-nil new) ∙ take_all len new (omega (arith, as_many, long))
 
 -- what is held then: what was held, and the text
-pub held : (from end len : ℕ) (slice items new before text : List ℕ) → Writes from end slice new text → slice ≡ items → length slice ≡ len → take from items ≡ before
+pub held : (from end len : ℕ) (slice items new before text : List ℕ)
+    → Writes from end slice new text → slice ≡ items → length slice ≡ len → take from items ≡ before
     → take end (take len (new ++ drop (length new) items)) ≡ before ++ text
 held from end len slice items new before text w value long is =
     ap (take end) (in_place new items len (w.as_many ∙ ap length value) (sym (ap length value) ∙ long))

@@ -1,8 +1,8 @@
 pub mod Added
-pub mod Putting
-pub mod Cutting
-pub mod Reading
-pub mod Ending
+pub mod PiecesPut
+pub mod CutLines
+pub mod LinesRead
+pub mod StreamEnds
 pub mod Numbered
 pub mod WholeTexts
 pub mod Held

@@ -9,7 +9,8 @@ module _ (a b c d : Piece) where
   four end = simp (append_assoc, append-nil)
 
   pub numbered : (shown number : ℕ) (name fault_name detail : List ℕ) → shown ≡ number → name ≡ fault_name → pieces_text (a ∷ b ∷ c ∷ d ∷ []) ≡ detail
-      → codes "setup fault " ++ (decimal shown ++ (codes " " ++ (name ++ (piece_text a ++ (piece_text b ++ (piece_text c ++ (piece_text d ++ (codes "\n" ++ []))))))))
+      → codes "setup fault "
+      ++ (decimal shown ++ (codes " " ++ (name ++ (piece_text a ++ (piece_text b ++ (piece_text c ++ (piece_text d ++ (codes "\n" ++ []))))))))
       ≡ (codes "setup fault " ++ decimal number ++ codes " " ++ fault_name ++ detail) ++ codes "\n"
   numbered shown number name fault_name detail same named is =
       ap (λ t. codes "setup fault " ++ (decimal shown ++ (codes " " ++ (name ++ t)))) (four (codes "\n") ∙ ap (λ t. t ++ codes "\n") is)

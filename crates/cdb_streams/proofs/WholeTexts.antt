@@ -10,5 +10,6 @@ pub setup_writes_none : (fault : SetupFault) → of_setup fault ≢ play.Write
 setup_writes_none (setup.NoMemory refused) same = cc
 setup_writes_none fault same = cc
 
-pub no_failed_write : {A : Type 0} (result : Result A PlayFault) (made fault : PlayFault) → result ≡ Err made → made ≡ fault → fault ≢ play.Write → result ≢ Err play.Write
+pub no_failed_write : {A : Type 0} (result : Result A PlayFault) (made fault : PlayFault)
+    → result ≡ Err made → made ≡ fault → fault ≢ play.Write → result ≢ Err play.Write
 no_failed_write result made fault is made_is other same = other cc

@@ -43,7 +43,8 @@ of_output (output.NoMemory refused) = NoMemory refused
 abbrev pub IsSetup : List ℕ → Type 0
 IsSetup json = (setup : Parts) × Encodes json setup
 
--- what a fault says that comes from reading a script and its lines; the setup was read before, and nothing is written yet
+-- what a fault says that comes from reading a script and its lines; the setup was read before, and nothing is written
+-- yet
 abbrev pub IsFaultOfReading : Stream → Stream → PlayFault → Type 0
 IsFaultOfReading old new (Setup fault) = ⊥
 IsFaultOfReading old new (Line number line fault) =
@@ -55,8 +56,8 @@ IsFaultOfReading old new Write = ⊥
 IsFaultOfReading old new (NoMemory refused) = Unit {0}
 
 -- What a fault of a play says of the setup's text and of the script, where the reader had the first bytes left before
--- and the second after. A fault of the setup comes before those of the script, and those before the writer's. Out of memory
--- comes only where the setup's text is not too long.
+-- and the second after. A fault of the setup comes before those of the script, and those before the writer's. Out of
+-- memory comes only where the setup's text is not too long.
 abbrev pub IsFaultOfPlay : List ℕ → Stream → Stream → PlayFault → Type 0
 IsFaultOfPlay json old new (Setup fault) = IsFirstFault fault json
 IsFaultOfPlay json old new (Line number line fault) = IsSetup json × IsFaultOfReading old new (Line number line fault)

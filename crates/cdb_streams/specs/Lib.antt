@@ -9,6 +9,6 @@ pub mod Statuses
 pub mod Endings
 pub mod Written
 pub mod Buffers
-pub mod Putting
+pub mod PiecesPut
 -- ---- what the code keeps for itself
 pub mod Pieces

@@ -1,5 +1,6 @@
 -- What readers and writers do to the bytes that are known of them.
-use Rattle.std.specs.Prelude.{◌≡◌, ℕ, ◌+◌, ◌%◌, ◌^◌, Bool, true, not, ◌&&◌, ◌==◌, List, ◌++◌, length, Option, Result, Ok, Err, if◌then◌else◌}
+use Rattle.std.specs.Prelude.{◌≡◌, ℕ, ◌+◌, ◌%◌, ◌^◌, Bool, true, not, ◌&&◌, ◌==◌, List}
+use Rattle.std.specs.Prelude.{◌++◌, length, Option, Result, Ok, Err, if◌then◌else◌}
 use Rattle.std.specs.Io.KnownBytes.{Appends, Consumes, IsAtEnd}
 
 -- A stream: of a reader the bytes that are left, of a writer those that it holds, where they are known; and how many of
@@ -55,7 +56,8 @@ module _ {W : Type 0} (stream : W → Stream) where
   -- it took a beginning of the text, and then one call failed
   abbrev pub Fails : W → W → List ℕ → Type 0
   Fails old new text =
-      AddsBeginning (stream old).bytes (stream new).bytes text × ((stream new).failures ≡ one_more (stream old).failures)
+      AddsBeginning (stream old).bytes (stream new).bytes text
+      × ((stream new).failures ≡ one_more (stream old).failures)
 
   -- Where nothing but the writer can fail: it took the text, or it failed and took a beginning of it
   abbrev pub Writes : {A E : Type 0} → Result A E → W → W → List ℕ → Type 0

@@ -10,8 +10,8 @@ Only text other = other ≡ text
 
 -- Of a writer before and after, each seen as a stream
 module _ {W : Type 0} (stream : W → Stream) where
-  -- It took a text of this kind, and no call failed; or a beginning of one, and then a call failed; or nothing or whole pieces
-  -- that are a beginning of one, and no call failed; or it is as it was.
+  -- It took a text of this kind, and no call failed; or a beginning of one, and then a call failed; or nothing or whole
+  -- pieces that are a beginning of one, and no call failed; or it is as it was.
   abbrev pub IsWritten : Ending → W → W → (List ℕ → Type 0) → Type 0
   IsWritten Complete old new IsText = (text : List ℕ) × IsText text × Takes stream old new text
   IsWritten WriterFailed old new IsText = (text : List ℕ) × IsText text × Fails stream old new text

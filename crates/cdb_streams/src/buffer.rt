@@ -1,8 +1,9 @@
 //! A buffer between what is put and a writer.
 
-ghost use Rattle.std.specs.Prelude.{◌≡◌, ◌↔◌, ℕ, ◌+◌, ◌<◌, ◌≤◌, List, [], ◌++◌, take, length, IsTrue, MatchBool, IfOk, OnOk, OnErr};
+ghost use Rattle.std.specs.Prelude.{◌≡◌, ◌↔◌, ℕ, ◌+◌, ◌<◌, ◌≤◌, List, [], ◌++◌, take};
+ghost use Rattle.std.specs.Prelude.{length, IsTrue, MatchBool, IfOk, OnOk, OnErr};
 ghost use Rattle.std.specs.List.{flat_map};
-ghost use Rattle.cdb_commands.specs.ToldReply.{told};
+ghost use Rattle.cdb_commands.specs.ReplyView.{reply_view};
 ghost use Rattle.cdb_text.specs.Texts.{text_of};
 ghost use Rattle.cdb_text.specs.declared.text.short_report.TheConstants.{MOST_LINE};
 ghost use Rattle.cdb_streams.specs.Endings.{whole_ending};
@@ -104,7 +105,7 @@ impl Model for Buffer {
 
 impl Buffer {
     ghost use Rattle.cdb_streams.specs.Buffers.{piece, IsPut};
-    ghost use Rattle.cdb_streams.specs.Putting.{Puts};
+    ghost use Rattle.cdb_streams.specs.PiecesPut.{Puts};
     ghost use Rattle.cdb_streams.specs.Streams.{Fails, Writes};
 
     /// An empty buffer, which has all the memory that it will need.
@@ -143,11 +144,11 @@ impl Buffer {
         count
     }
 
-    /// Holds the text of the reply to a step, a loss, an undo, a redo or what was refused too, which is written where it is held,
-    /// unless there may be no room, or the reply is another: then nothing is changed.
+    /// Holds the text of the reply to a step, a loss, an undo, a redo or what was refused too, which is written where
+    /// it is held, unless there may be no room, or the reply is another: then nothing is changed.
     pub(crate) fn put_short(&mut self, reply: &Reply) -> bool
         ensures { MatchBool result
-            (self.new ≡ self.old ++ text_of (told reply.now)) (self.new ≡ self.old) }
+            (self.new ≡ self.old ++ text_of (reply_view reply.now)) (self.new ≡ self.old) }
     {
         if PIECE - self.count < MOST_BYTES {
             return false;
@@ -165,7 +166,7 @@ impl Buffer {
     /// then nothing is changed.
     pub(crate) fn put_report(&mut self, reply: &Reply) -> bool
         ensures { MatchBool result
-            (self.new ≡ self.old ++ text_of (told reply.now)) (self.new ≡ self.old) }
+            (self.new ≡ self.old ++ text_of (reply_view reply.now)) (self.new ≡ self.old) }
     {
         if PIECE - self.count < MOST_REPORT {
             return false;

@@ -80,8 +80,8 @@ impl fmt::Display for LongScript {
     }
 }
 
-/// The text that the program reports, without the end of the line; the program names what could not be read, which here is the
-/// input.
+/// The text that the program reports, without the end of the line; the program names what could not be read, which here
+/// is the input.
 impl fmt::Display for PlayFault {
     ghost output = { λ fault. Some (play_fault_text fault (codes "the input")) };
 

@@ -2,7 +2,8 @@
 
 ghost use Rattle.std.specs.Prelude.{◌≡◌, ◌∷◌, [], Some};
 ghost use Rattle.cdb_setup.specs.Numbers.{numbered_text, setup_detail, setup_fault_text};
-ghost use Rattle.cdb_streams.specs.FaultTexts.{as_line, play_fault_text, race_fault_text, script_line_text, long_script_text};
+ghost use Rattle.cdb_streams.specs.FaultTexts.{as_line, play_fault_text, race_fault_text};
+ghost use Rattle.cdb_streams.specs.FaultTexts.{script_line_text, long_script_text};
 ghost use Rattle.cdb_streams.specs.Pieces.{pieces_text};
 ghost use Rattle.cdb_streams.specs.Streams.{Writes};
 

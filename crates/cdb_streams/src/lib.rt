@@ -1,5 +1,5 @@
-//! Readers and writers, scripts, the texts of replies on their way to a writer, and the faults of plays and races with their
-//! texts and statuses.
+//! Readers and writers, scripts, the texts of replies on their way to a writer, and the faults of plays and races with
+//! their texts and statuses.
 #![tactic(auto)]
 
 mod buffer;

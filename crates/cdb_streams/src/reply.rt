@@ -1,8 +1,8 @@
 //! The text of a reply is put into a buffer.
 
-ghost use Rattle.cdb_commands.specs.ToldReply.{told};
+ghost use Rattle.cdb_commands.specs.ReplyView.{reply_view};
 ghost use Rattle.cdb_text.specs.Texts.{text_of};
-ghost use Rattle.cdb_streams.specs.Putting.{Puts};
+ghost use Rattle.cdb_streams.specs.PiecesPut.{Puts};
 
 use crate::buffer::{Buffer, OutputFault};
 use crate::sink::Sink;
@@ -18,7 +18,7 @@ fn put_made<W: Sink>(
     out: &mut W,
 ) -> Result<(), OutputFault>
     ensures { Puts W.stream result out.old buffer.old out.new buffer.new
-        (text_of (told reply.now)) }
+        (text_of (reply_view reply.now)) }
 {
     text.clear();
     push_reply(text, reply)?;
@@ -26,8 +26,8 @@ fn put_made<W: Sink>(
     Ok(())
 }
 
-/// Puts the text of a reply. A short report is written in the buffer itself, and so are the lines of the mail and of the
-/// history; else the text is made in `text`.
+/// Puts the text of a reply. A short report is written in the buffer itself, and so are the lines of the mail and of
+/// the history; else the text is made in `text`.
 pub fn put_reply<W: Sink>(
     reply: &Reply,
     text: &mut String,
@@ -35,7 +35,7 @@ pub fn put_reply<W: Sink>(
     out: &mut W,
 ) -> Result<(), OutputFault>
     ensures { Puts W.stream result out.old buffer.old out.new buffer.new
-        (text_of (told reply.now)) }
+        (text_of (reply_view reply.now)) }
 {
     if buffer.put_short(reply) {
         return Ok(());

@@ -3,7 +3,8 @@ use Rattle.std.proofs.Common.{◌≡◌, ℕ, [], ◌∷◌, map, Some, None, re
 use Rattle.std.specs.Prelude.{Ok, codes, decimal}
 use Rattle.cdb_base.specs.declared.act.Act.TheVariants as act
 use Rattle.cdb_commands.specs.declared.command.Command.{Command}
-use Rattle.cdb_commands.specs.declared.command.Command.TheVariants.{Step, Auto, Lose, Undo, UndoLost, Redo, Forget, Rollback, RollbackLost, Why, WhyLost, Break, Unbreak, Resume, Show, Decisions}
+use Rattle.cdb_commands.specs.declared.command.Command.TheVariants.{Step, Auto, Lose, Undo, UndoLost, Redo, Forget, Rollback, RollbackLost}
+use Rattle.cdb_commands.specs.declared.command.Command.TheVariants.{Why, WhyLost, Break, Unbreak, Resume, Show, Decisions}
 use Rattle.cdb_commands.specs.declared.command.Stop.TheVariants as stop
 use Rattle.cdb_commands.specs.declared.command.View.TheVariants as view
 use Rattle.cdb_text.specs.declared.keyword.Keyword.TheVariants as key
@@ -11,9 +12,9 @@ use Rattle.cdb_text.specs.declared.verb.Verb.{Verb}
 use Rattle.cdb_text.specs.declared.verb.Verb.TheVariants as verb
 use Rattle.cdb_text.specs.Commands.{number, command_parts}
 use Rattle.cdb_text.specs.Grammar.{IsInRange, HasNumbersInRange, part_text}
-use Rattle.cdb_text.specs.Reading.{keyword_of}
+use Rattle.cdb_text.specs.Readers.{keyword_of}
 use Rattle.cdb_text.specs.Verbs.{on_step, on_loss}
-use Rattle.cdb_text.proofs.Reading.{command_at, step_at, break_at, show_at, event_at, one_at, two_at, three_at}
+use Rattle.cdb_text.proofs.ReaderSteps.{command_at, step_at, break_at, show_at, event_at, one_at, two_at, three_at}
 use Rattle.cdb_text.proofs.Numbers.{number_again}
 use Rattle.cdb_text.proofs.Keys.{keyword_again, number_is_no_keyword, register_again}
 
@@ -35,7 +36,8 @@ step_again : (v : Verb) (p k : ℕ) → IsInRange (number p) → IsInRange (numb
 unfolding event_at
 step_again v p k first second = rw (number_is_no_keyword p first.0 first.1, number_again p first.0 first.1) (one_again (on_step v p) k second)
 
-loss_again : (v : Verb) (s m p : ℕ) → IsInRange (number s) → IsInRange (number m) → IsInRange (number p) → event_at v (codes "lost" ∷ decimal s ∷ decimal m ∷ decimal p ∷ []) ≡ Ok (on_loss v s m p)
+loss_again : (v : Verb) (s m p : ℕ) → IsInRange (number s) → IsInRange (number m) → IsInRange (number p)
+    → event_at v (codes "lost" ∷ decimal s ∷ decimal m ∷ decimal p ∷ []) ≡ Ok (on_loss v s m p)
 unfolding event_at
 loss_again v s m p first second third = rw (keyword_again key.Lost) (three_again (on_loss v) s m p first second third)
 
@@ -46,7 +48,8 @@ again (Step p act.Learn) is = rw (number_again p is.1.0.0 is.1.0.1) refl
 again (Step p act.Crash) is = rw (number_again p is.1.0.0 is.1.0.1) refl
 again (Step p (act.Query None)) is = rw (number_again p is.1.0.0 is.1.0.1) refl
 again (Step p (act.Query (Some l))) is = rw (number_again p is.1.0.0 is.1.0.1, number_again l is.1.1.1.0.0 is.1.1.1.0.1) refl
-again (Step p (act.Recv s m)) is = rw (number_again p is.1.0.0 is.1.0.1, number_again s is.1.1.1.0.0 is.1.1.1.0.1, number_again m is.1.1.1.1.0.0 is.1.1.1.1.0.1) refl
+again (Step p (act.Recv s m)) is =
+    rw (number_again p is.1.0.0 is.1.0.1, number_again s is.1.1.1.0.0 is.1.1.1.0.1, number_again m is.1.1.1.1.0.0 is.1.1.1.1.0.1) refl
 again (Auto p) is = one_again Auto p is.1.0
 again (Lose s m p) is = three_again Lose s m p is.1.0 is.1.1.0 is.1.1.1.0
 again (Undo p k) is = step_again verb.Undo p k is.1.0 is.1.1.0

@@ -14,11 +14,11 @@ use Rattle.cdb_text.specs.Commands.{CommandPart, fixed, number}
 use Rattle.cdb_text.specs.Faults.{IsFirstFaultOfWords}
 use Rattle.cdb_text.specs.Grammar.{AreWordsOf, IsInRange, part_text}
 use Rattle.cdb_text.specs.Keywords.{keyword_name}
-use Rattle.cdb_text.specs.Reading.{◌>>=◌, IsReadAfter, keyword_of, number_at, number_of, word_at}
+use Rattle.cdb_text.specs.Readers.{◌>>=◌, IsReadAfter, keyword_of, number_at, number_of, word_at}
 use Rattle.cdb_text.specs.Verbs.{verb_name}
 use Rattle.cdb_text.proofs.Keys.{keyword_again, keyword_says}
 use Rattle.cdb_text.proofs.Numbers.{number_again, number_says}
-use Rattle.cdb_text.proofs.Reading.{break_at, command_at, event_at, query_at, recv_at, show_at, step_at}
+use Rattle.cdb_text.proofs.ReaderSteps.{break_at, command_at, event_at, query_at, recv_at, show_at, step_at}
 use Rattle.cdb_text.proofs.States.{Completes, Reader, Reads, State}
 use Rattle.cdb_text.proofs.Table.{all_words, break_state, query_state, recv_state, event_state, show_state, step_p, step_state}
 
@@ -26,14 +26,16 @@ All-both : (xs ys : List CommandPart) → AllByRecursion IsInRange xs → AllByR
 All-both [] ys a b = b
 All-both (x ∷ xs) ys a b = (a.0, All-both xs ys a.1 b)
 
-completed : (parts : List CommandPart) (words : List (List ℕ)) (command : Command) → AllByRecursion IsInRange parts → Completes parts words command → AreWordsOf command (map part_text parts ++ words)
+completed : (parts : List CommandPart) (words : List (List ℕ)) (command : Command) → AllByRecursion IsInRange parts
+    → Completes parts words command → AreWordsOf command (map part_text parts ++ words)
 completed parts words command ranges found = (
   ap (λ (ws : List (List ℕ)). map part_text parts ++ ws) found.2 ∙ sym (ap (map part_text) found.1 ∙ map-append part_text parts found.0),
   subst (λ (ps : List CommandPart). AllByRecursion IsInRange ps) (sym found.1) (All-both parts found.0 ranges found.3),
 )
 
 -- a state finds the command, or the first fault
-read_by : (parts : List CommandPart) (k : Reader) → State parts k → AllByRecursion IsInRange parts → (words : List (List ℕ)) (read : Result Command LineFault) → read ≡ k words → IsReadAfter (map part_text parts) words read
+read_by : (parts : List CommandPart) (k : Reader) → State parts k → AllByRecursion IsInRange parts
+    → (words : List (List ℕ)) (read : Result Command LineFault) → read ≡ k words → IsReadAfter (map part_text parts) words read
 unfolding IsReadAfter
 read_by parts k at ranges words (Ok command) e = completed parts words command ranges (at.says words command (sym e))
 read_by parts k at ranges words (Err fault) e = at.faults words fault (sym e)
@@ -91,7 +93,8 @@ reads_why rest = rw (keyword_again key.Why) refl
 
 pub event_read : (v : Verb) (words : List (List ℕ)) (read : Result Command LineFault) → read ≡ event_at v words → IsReadAfter (verb_name v ∷ []) words read
 event_read verb.Undo = read_by (fixed "undo" ∷ []) (event_at verb.Undo) (event_state verb.Undo "undo" refl (λ p k. refl) (λ s m p. refl) reads_undo) (tt, tt)
-event_read verb.Rollback = read_by (fixed "rollback" ∷ []) (event_at verb.Rollback) (event_state verb.Rollback "rollback" refl (λ p k. refl) (λ s m p. refl) reads_rollback) (tt, tt)
+event_read verb.Rollback =
+    read_by (fixed "rollback" ∷ []) (event_at verb.Rollback) (event_state verb.Rollback "rollback" refl (λ p k. refl) (λ s m p. refl) reads_rollback) (tt, tt)
 event_read verb.Why = read_by (fixed "why" ∷ []) (event_at verb.Why) (event_state verb.Why "why" refl (λ p k. refl) (λ s m p. refl) reads_why) (tt, tt)
 
 pub command_read : (words : List (List ℕ)) (read : Result Command LineFault) → read ≡ command_at words → IsReadAfter [] words read
@@ -99,7 +102,8 @@ command_read = read_by [] command_at all_words tt
 
 -- ---- a word further
 
-longer : (before words : List (List ℕ)) (word : List ℕ) (read : Result Command LineFault) → IsReadAfter (before ++ word ∷ []) words read → IsReadAfter before (word ∷ words) read
+longer : (before words : List (List ℕ)) (word : List ℕ) (read : Result Command LineFault)
+    → IsReadAfter (before ++ word ∷ []) words read → IsReadAfter before (word ∷ words) read
 unfolding IsReadAfter
 longer before words word (Ok command) is = subst (λ (ws : List (List ℕ)). AreWordsOf command ws) (append_assoc before (word ∷ []) words) is
 longer before words word (Err fault) is = subst (λ (ws : List (List ℕ)). IsFirstFaultOfWords fault ws) (append_assoc before (word ∷ []) words) is
@@ -111,7 +115,8 @@ word_says (w ∷ ws) word rest e =
     ap (λ (x : List ℕ × List (List ℕ)). x.0 ∷ x.1) both
 
 -- behind a fixed word
-pub behind_word : (before words : List (List ℕ)) (word : List ℕ) (rest : List (List ℕ)) (k : Keyword) (read : Result Command LineFault) → word_at words ≡ Ok (word, rest) → keyword_of word ≡ Some k
+pub behind_word : (before words : List (List ℕ)) (word : List ℕ) (rest : List (List ℕ)) (k : Keyword) (read : Result Command LineFault)
+    → word_at words ≡ Ok (word, rest) → keyword_of word ≡ Some k
     → IsReadAfter (before ++ keyword_name k ∷ []) rest read → IsReadAfter before words read
 behind_word before words word rest k read next is then =
     let same : keyword_name k ∷ rest ≡ words = sym (word_says words word rest next ∙ ap (λ (w : List ℕ). w ∷ rest) (keyword_says word k is)) in
@@ -129,6 +134,7 @@ number_at_says [] n rest e = absurd cc
 number_at_says (word ∷ ws) n rest e = some_says word ws (number_of word) n rest refl e
 
 -- behind a number
-pub behind_number : (before words : List (List ℕ)) (n : ℕ) (rest : List (List ℕ)) (read : Result Command LineFault) → number_at words ≡ Ok (n, rest) → IsReadAfter (before ++ decimal n ∷ []) rest read → IsReadAfter before words read
+pub behind_number : (before words : List (List ℕ)) (n : ℕ) (rest : List (List ℕ)) (read : Result Command LineFault)
+    → number_at words ≡ Ok (n, rest) → IsReadAfter (before ++ decimal n ∷ []) rest read → IsReadAfter before words read
 behind_number before words n rest read next then =
     subst (λ (ws : List (List ℕ)). IsReadAfter before ws read) (sym (number_at_says words n rest next)) (longer before rest (decimal n) read then)

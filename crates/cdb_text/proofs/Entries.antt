@@ -1,5 +1,6 @@
 -- The lines of a journal.
-use Rattle.std.proofs.Common.{◌≡◌, ◌≢◌, ◌↔◌, ℕ, ◌<◌, ◌≤◌, List, [], ◌∷◌, ◌++◌, map, length, Option, Some, None, refl, sym, ap, subst, ◌∙◌, inl, inr, arith, append_assoc}
+use Rattle.std.proofs.Common.{◌≡◌, ◌≢◌, ◌↔◌, ℕ, ◌<◌, ◌≤◌, List, [], ◌∷◌, ◌++◌, map, length, Option}
+use Rattle.std.proofs.Common.{Some, None, refl, sym, ap, subst, ◌∙◌, inl, inr, arith, append_assoc}
 use Rattle.std.specs.Prelude.{codes, decimal, ok_or, Result, Ok, Err}
 use Rattle.std.specs.List.{join_with_byte}
 use Rattle.std.proofs.lemmas.Fmt.{decimal_nonempty}
@@ -12,7 +13,7 @@ use Rattle.cdb_text.specs.Commands.{CommandPart, command_parts}
 use Rattle.cdb_text.specs.Entries.{EachEntryHasOneLine, entry_text, IsSeat, IsEntryLine, BeginWithNoSeat, IsFaultOfEntryWords, IsFaultOfEntry}
 use Rattle.cdb_text.specs.Faults.{IsFirstFaultOfWords}
 use Rattle.cdb_text.specs.Grammar.{AreWordsOf, HasNumbersInRange, part_text, printed, words_of}
-use Rattle.cdb_text.specs.Reading.{◌>>=◌, IsReadAfter, number_at, number_of}
+use Rattle.cdb_text.specs.Readers.{◌>>=◌, IsReadAfter, number_at, number_of}
 use Rattle.cdb_text.proofs.Cut.{is_space}
 use Rattle.cdb_text.proofs.Numbers.{number_says, number_again}
 use Rattle.cdb_text.proofs.Printed.{none_is_space, number_is_spaceless, printed_is_line, some_part}
@@ -217,7 +218,8 @@ module _ (line : List ℕ) (some : line ≢ []) (no : BeginWithNoSeat (words_of 
 
 -- ---- the empty line
 
-pub empty_is_none : (line : List ℕ) → line ≡ [] → (t : ℕ) (other : Command) → (let read : EntryRead = Err Empty in read ≡ Ok (t, other)) ↔ IsEntryLine t other line
+pub empty_is_none : (line : List ℕ) → line ≡ [] → (t : ℕ) (other : Command)
+    → (let read : EntryRead = Err Empty in read ≡ Ok (t, other)) ↔ IsEntryLine t other line
 empty_is_none line none t other = (
   (λ same. absurd cc),
   (λ its.

@@ -1,5 +1,6 @@
 -- Fixed words and registers.
-use Rattle.std.proofs.Common.{◌≡◌, ℕ, ◌+◌, ◌-◌, ◌<◌, ◌≤◌, Bool, true, ◌&&◌, cond, List, [], ◌∷◌, length, get_or, Option, Some, None, bytes_eq, eqb, refl, sym, ap, subst, ◌∙◌, arith, inl, inr, lit≤}
+use Rattle.std.proofs.Common.{◌≡◌, ℕ, ◌+◌, ◌-◌, ◌<◌, ◌≤◌, Bool, true, ◌&&◌, cond, List, [], ◌∷◌, length, get_or, Option}
+use Rattle.std.proofs.Common.{Some, None, bytes_eq, eqb, refl, sym, ap, subst, ◌∙◌, arith, inl, inr, lit≤}
 use Rattle.std.specs.Prelude.{find, codes, decimal, slice_index, nat_le}
 use Rattle.std.proofs.lemmas.Bool.{and_parts, cases_Bool, le-leb, leb-true, eqb-true}
 use Rattle.std.proofs.lemmas.Slice.Eq.{bytes_eq-Decides, HasBytesAt, text_from_reads}
@@ -13,7 +14,7 @@ use Rattle.cdb_text.specs.declared.keyword.Keyword.TheVariants as key
 use Rattle.cdb_text.specs.Keywords.{keyword_name, keywords}
 use Rattle.cdb_text.specs.Commands.{register}
 use Rattle.cdb_text.specs.Grammar.{part_text, IsInRange}
-use Rattle.cdb_text.specs.Reading.{keyword_of, register_named}
+use Rattle.cdb_text.specs.Readers.{keyword_of, register_named}
 
 found_is : {A : Type 0} (p : A → Bool) (xs : List A) (x : A) → find p xs ≡ Some x → p x ≡ true
 found_is p [] x e = absurd cc
@@ -135,7 +136,8 @@ digit_says a b is low high =
 abbrev test : List ℕ → Bool
 test word = eqb (length word) 2 && eqb (slice_index word 0) 114 && nat_le 49 (slice_index word 1) && nat_le (slice_index word 1) 57
 
-test_says : (word : List ℕ) → test word ≡ true → (word ≡ part_text (register (R (slice_index word 1 - 48)))) × IsInRange (register (R (slice_index word 1 - 48)))
+test_says : (word : List ℕ) → test word ≡ true
+    → (word ≡ part_text (register (R (slice_index word 1 - 48)))) × IsInRange (register (R (slice_index word 1 - 48)))
 test_says word e =
     let without_high = and_parts (eqb (length word) 2 && eqb (slice_index word 0) 114 && nat_le 49 (slice_index word 1)) _ e in
     let without_low = and_parts (eqb (length word) 2 && eqb (slice_index word 0) 114) _ without_high.0 in
@@ -143,7 +145,8 @@ test_says word e =
     let is = digit_says (slice_index word 0) (slice_index word 1) (eqb-true _ _ without_r.1) (leb-true _ _ without_low.1) (leb-true _ _ without_high.1) in
     (two_bytes word (eqb-true _ _ without_r.0) ∙ is.0, is.1)
 
-register_says_r : (word : List ℕ) (x : Reg) → cond (test word) (Some (R (slice_index word 1 - 48))) None ≡ Some x → (word ≡ part_text (register x)) × IsInRange (register x)
+register_says_r : (word : List ℕ) (x : Reg) → cond (test word) (Some (R (slice_index word 1 - 48))) None ≡ Some x
+    → (word ≡ part_text (register x)) × IsInRange (register x)
 register_says_r word x e =
     elim (cases_Bool (test word)) [
       | inl h ↦

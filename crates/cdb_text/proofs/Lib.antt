@@ -7,7 +7,7 @@ pub mod Keys
 pub mod Numbers
 pub mod Printed
 pub mod Pushed
-pub mod Reading
+pub mod ReaderSteps
 pub mod Registers
 pub mod Short
 pub mod States

@@ -1,5 +1,6 @@
 -- Numbers of one to six digits.
-use Rattle.std.proofs.Common.{◌≡◌, ◌≢◌, ℕ, zero, suc, ◌-◌, ◌^◌, ◌<◌, ◌≤◌, true, ◌&&◌, cond, List, [], ◌∷◌, length, take, Option, Some, None, refl, sym, ◌∙◌, arith, inl, inr}
+use Rattle.std.proofs.Common.{◌≡◌, ◌≢◌, ℕ, zero, suc, ◌-◌, ◌^◌, ◌<◌, ◌≤◌, true, ◌&&◌, cond, List, []}
+use Rattle.std.proofs.Common.{◌∷◌, length, take, Option, Some, None, refl, sym, ◌∙◌, arith, inl, inr}
 use Rattle.std.specs.Prelude.{MatchOption, slice_index, decimal, nat_lt, nat_le}
 use Rattle.std.specs.Str.{all_ascii_digits}
 use Rattle.std.specs.Str.Parse.{AllDigits, digits_value}
@@ -9,7 +10,7 @@ use Rattle.std.specs.Char.{digit_value}
 use Rattle.std.proofs.lemmas.List.{length-take}
 use Rattle.std.proofs.lemmas.Str.Parse.{IsNumeralModel, numerals_by_value, tells_all_ascii_digits, tells_digits, digits_value_short}
 use Rattle.std.proofs.lemmas.Fmt.{decimal_digit, digits_decimal, digits_value-decimal, decimal-digits_value, length-decimal-le, decimal_nonempty, first_decimal}
-use Rattle.cdb_text.specs.Reading.{is_number, number_of}
+use Rattle.cdb_text.specs.Readers.{is_number, number_of}
 
 by_all : IsNumeralModel (AllDigits 10) (digits_value 10)
 by_all = numerals_by_value (AllDigits 10) tells_digits
@@ -52,7 +53,8 @@ tests_say word e =
 says_tests : (word : List ℕ) → IsDigits word → is_number word ≡ true
 unfolding is_number
 says_tests word is =
-    and_from _ _ (and_from _ _ (and_from _ _ (by_test.from word is.all) (lt-ltb _ _ is.some)) (le-leb _ _ is.few)) (let e = ne_eqb (slice_index word 0) 48 is.first in rw e refl)
+    and_from _ _ (and_from _ _ (and_from _ _ (by_test.from word is.all) (lt-ltb _ _ is.some)) (le-leb _ _ is.few))
+    (let e = ne_eqb (slice_index word 0) 48 is.first in rw e refl)
 
 -- what reading a word gives
 pub number_is : (word : List ℕ) (found : Option ℕ) → 0 < length word → length word ≤ 6 → slice_index word 0 ≢ 48
@@ -88,7 +90,8 @@ number_says word n e =
     let found = value_says word n e in
     let short = digits_value_short by_all word 6 found.0.all found.0.few in
     let small : n < 1000000 = omega (arith, short, found.1) in
-    let same : decimal (digits_value 10 word) ≡ word = decimal-digits_value by_all word found.0.all found.0.some (λ zero_first. absurd (found.0.first zero_first)) (omega (arith, short)) in
+    let same : decimal (digits_value 10 word) ≡ word =
+    decimal-digits_value by_all word found.0.all found.0.some (λ zero_first. absurd (found.0.first zero_first)) (omega (arith, short)) in
     let part_text : word ≡ decimal n = rw found.1 (sym same) in
     (part_text, positive word n found.0 part_text (omega arith), omega arith)
 

@@ -27,16 +27,19 @@ pub none_is_space : (word : List ℕ) → IsSpaceless word → All (λ byte. is_
 none_is_space word is = All-from_recursion (λ byte. is_space byte ≡ false) word is
 
 -- words without a space, joined by spaces, are cut into these words
-joined : (word : List ℕ) (words : List (List ℕ)) → IsSpaceless word → AllByRecursion IsSpaceless words → words_of (join_with_byte 32 (word ∷ words)) ≡ word ∷ words
+joined : (word : List ℕ) (words : List (List ℕ)) → IsSpaceless word
+    → AllByRecursion IsSpaceless words → words_of (join_with_byte 32 (word ∷ words)) ≡ word ∷ words
 joined word [] is all = slice_split_none is_space word (none_is_space word is)
 joined word (next ∷ words) is all =
-    slice_split_at is_space word 32 (join_with_byte 32 (next ∷ words)) (none_is_space word is) refl ∙ ap (λ (ws : List (List ℕ)). word ∷ ws) (joined next words all.0 all.1)
+    slice_split_at is_space word 32 (join_with_byte 32 (next ∷ words)) (none_is_space word is) refl
+    ∙ ap (λ (ws : List (List ℕ)). word ∷ ws) (joined next words all.0 all.1)
 
 -- ---- the words of a command
 
 digit_is_no_space : (byte : ℕ) → digit_value byte < 10 → is_space byte ≡ false
 digit_is_no_space byte is =
-    false_from_ne_true (is_space byte) (λ e. let space : digit_value 32 < 10 = subst (λ (b : ℕ). digit_value b < 10) (eqb-true byte 32 e) is in omega (arith, space))
+    false_from_ne_true (is_space byte)
+    (λ e. let space : digit_value 32 < 10 = subst (λ (b : ℕ). digit_value b < 10) (eqb-true byte 32 e) is in omega (arith, space))
 
 digits_are_spaceless : (word : List ℕ) → AllDigits 10 word → IsSpaceless word
 digits_are_spaceless [] all = tt
@@ -77,12 +80,14 @@ part_is_spaceless (number n) e is = number_is_spaceless n is.1
 part_is_spaceless (register (R p)) e is = (refl, number_is_spaceless p (omega (arith, is.1)))
 part_is_spaceless (register Dec) e is = (refl, (refl, (refl, tt)))
 
-parts_are_spaceless : (parts : List CommandPart) → list_all no_space parts ≡ true → AllByRecursion IsInRange parts → AllByRecursion IsSpaceless (map part_text parts)
+parts_are_spaceless : (parts : List CommandPart) → list_all no_space parts ≡ true
+    → AllByRecursion IsInRange parts → AllByRecursion IsSpaceless (map part_text parts)
 parts_are_spaceless [] e all = tt
 parts_are_spaceless (part ∷ parts) e all = let tests = and_parts _ _ e in (part_is_spaceless part tests.0 all.0, parts_are_spaceless parts tests.1 all.1)
 
 -- a command has a part
-cut_again : (parts : List CommandPart) → parts ≢ [] → AllByRecursion IsSpaceless (map part_text parts) → words_of (join_with_byte 32 (map part_text parts)) ≡ map part_text parts
+cut_again : (parts : List CommandPart) → parts ≢ [] → AllByRecursion IsSpaceless (map part_text parts)
+    → words_of (join_with_byte 32 (map part_text parts)) ≡ map part_text parts
 cut_again [] some all = absurd (some refl)
 cut_again (part ∷ parts) some all = joined (part_text part) (map part_text parts) all.0 all.1
 
@@ -104,10 +109,12 @@ some_part (Show view.History) e = cc
 some_part other e = cc
 
 pub printed_is_line : (command : Command) → HasNumbersInRange command → IsLineOf command (printed command)
-printed_is_line command ranges = (cut_again (command_parts command) (some_part command) (parts_are_spaceless (command_parts command) (no_spaces command) ranges), ranges)
+printed_is_line command ranges =
+    (cut_again (command_parts command) (some_part command) (parts_are_spaceless (command_parts command) (no_spaces command) ranges), ranges)
 
 line_is_printed : (command : Command) (line : List ℕ) → IsLineOf command line → line ≡ printed command
 line_is_printed command line is = sym (join_with_byte-slice_split 32 line) ∙ ap (join_with_byte 32) is.0
 
 pub one_line : EachCommandHasOneLine
-one_line command line = (λ is. (is.1, line_is_printed command line is), λ both. subst (λ (l : List ℕ). IsLineOf command l) (sym both.1) (printed_is_line command both.0))
+one_line command line =
+    (λ is. (is.1, line_is_printed command line is), λ both. subst (λ (l : List ℕ). IsLineOf command l) (sym both.1) (printed_is_line command both.0))

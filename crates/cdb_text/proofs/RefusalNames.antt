@@ -2,7 +2,8 @@
 use Rattle.std.proofs.Common.{◌≤◌, length, arith}
 use Rattle.cdb_base.specs.Refusal.{refusal_name}
 use Rattle.cdb_base.specs.declared.refusal.Refusal.{Refusal}
-use Rattle.cdb_base.specs.declared.refusal.Refusal.TheVariants.{NoProcess, Crashed, Done, NotNow, NoMessage, Taken, BadLeader, NoAnswer, StepLimit, NoStep, NeededBy, Idle, Paused, NothingToRedo, NoBreak, BreakLimit, Moved, Lost, NoLoss}
+use Rattle.cdb_base.specs.declared.refusal.Refusal.TheVariants.{NoProcess, Crashed, Done, NotNow, NoMessage, Taken, BadLeader, NoAnswer, StepLimit, NoStep}
+use Rattle.cdb_base.specs.declared.refusal.Refusal.TheVariants.{NeededBy, Idle, Paused, NothingToRedo, NoBreak, BreakLimit, Moved, Lost, NoLoss}
 
 pub name_is_short : (refusal : Refusal) → length (refusal_name refusal) ≤ 13
 name_is_short NoProcess = omega arith

@@ -1,5 +1,6 @@
 -- The lines of the registers, one after the other.
-use Rattle.std.proofs.Common.{◌≡◌, ℕ, suc, ◌+◌, ◌<◌, ◌≤◌, List, [], ◌∷◌, ◌++◌, length, get_or, drop, refl, sym, ap, ◌∙◌, append_assoc, add-one, arith, drop-cons}
+use Rattle.std.proofs.Common.{◌≡◌, ℕ, suc, ◌+◌, ◌<◌, ◌≤◌, List, [], ◌∷◌, ◌++◌, length, get_or, drop}
+use Rattle.std.proofs.Common.{refl, sym, ap, ◌∙◌, append_assoc, add-one, arith, drop-cons}
 use Rattle.std.proofs.lemmas.List.{append-nil, length-drop, nil_from_length}
 use Rattle.cdb_base.specs.declared.register.Cell.{Cell}
 use Rattle.cdb_text.specs.Reports.{register_line, decision_line, registers_from}
@@ -27,12 +28,16 @@ register_last cells i cell end is =
     (none, rw front refl)
 
 pub goes_on : (before after : List ℕ) (cells : List Cell) (i : ℕ) (cell : Cell) (all : List ℕ) → i + 1 < length cells → cell ≡ get_or cells i cell
-    → after ≡ before ++ register_line (i + 1) cell → before ++ registers_from (i + 1) (drop i cells) ≡ all → after ++ registers_from (i + 1 + 1) (drop (i + 1) cells) ≡ all
+    → after ≡ before ++ register_line (i + 1) cell → before ++ registers_from (i + 1) (drop i cells) ≡ all
+    → after ++ registers_from (i + 1 + 1) (drop (i + 1) cells) ≡ all
 goes_on before after cells i cell all below is wrote so_far =
-    rw wrote (append_assoc before (register_line (i + 1) cell) (registers_from (i + 1 + 1) (drop (i + 1) cells)) ∙ ap (λ (t : List ℕ). before ++ t) (sym (register_next cells i cell below is)) ∙ so_far)
+    rw wrote (append_assoc before (register_line (i + 1) cell) (registers_from (i + 1 + 1) (drop (i + 1) cells))
+    ∙ ap (λ (t : List ℕ). before ++ t) (sym (register_next cells i cell below is)) ∙ so_far)
 
-pub ends : (before after : List ℕ) (cells : List Cell) (i : ℕ) (cell : Cell) (all : List ℕ) → i < length cells → length cells ≤ i + 1 → cell ≡ get_or cells i cell
-    → after ≡ before ++ decision_line cell → before ++ registers_from (i + 1) (drop i cells) ≡ all → after ++ registers_from (i + 1 + 1) (drop (i + 1) cells) ≡ all
+pub ends : (before after : List ℕ) (cells : List Cell) (i : ℕ) (cell : Cell) (all : List ℕ)
+    → i < length cells → length cells ≤ i + 1 → cell ≡ get_or cells i cell
+    → after ≡ before ++ decision_line cell → before ++ registers_from (i + 1) (drop i cells) ≡ all
+    → after ++ registers_from (i + 1 + 1) (drop (i + 1) cells) ≡ all
 ends before after cells i cell all below past is wrote so_far =
     let last = register_last cells i cell (omega arith) is in
     rw (last.0, append-nil) (wrote ∙ ap (λ (t : List ℕ). before ++ t) (sym last.1) ∙ so_far)

@@ -19,7 +19,10 @@ words line digit is low high =
       (tt, ((omega arith, omega arith), tt)),
     )
 
-pub short_auto : (line : List ℕ) → length line ≡ 6 → HasBytesAt line 0 (codes "auto ") → 49 ≤ get_or line 5 0 → get_or line 5 0 ≤ 57 → AreWordsOf (Auto (get_or line 5 0 - 48)) (words_of line)
+pub short_auto : (line : List ℕ) → length line ≡ 6 → HasBytesAt line 0 (codes "auto ")
+    → 49 ≤ get_or line 5 0 → get_or line 5 0 ≤ 57 → AreWordsOf (Auto (get_or line 5 0 - 48)) (words_of line)
 short_auto line long reads low high =
-    let is = text_from_reads line (97 ∷ 117 ∷ 116 ∷ 111 ∷ 32 ∷ get_or line 5 0 ∷ []) long (reads.0, (reads.1.0, (reads.1.1.0, (reads.1.1.1.0, (reads.1.1.1.1.0, (refl, tt)))))) in
+    let is =
+    text_from_reads line (97 ∷ 117 ∷ 116 ∷ 111 ∷ 32 ∷ get_or line 5 0 ∷ []) long
+    (reads.0, (reads.1.0, (reads.1.1.0, (reads.1.1.1.0, (reads.1.1.1.1.0, (refl, tt)))))) in
     words line (get_or line 5 0) is low high

@@ -79,7 +79,8 @@ begins_nowhere_stops fault line begins stops = fault_stops fault stops.0 stops.1
 stop_at_one : (f g : LineFault) (line : Words) → StopsIn f line → StopsIn g line → f ≡ g
 stop_at_one f g line a b =
     elim (cut_twice a.0 a.1 a.2 b.0 b.1 b.2 (sym a.3 ∙ b.3)) [
-      | inl same ↦ one_fault f g b.0 b.1 (subst (λ (w : List ℕ). IsFaultAt f b.0 (Some w)) same.1 (subst (λ (ws : Words). IsFaultAt f ws (Some a.1)) same.0 a.4)) b.4
+      | inl same ↦
+          one_fault f g b.0 b.1 (subst (λ (w : List ℕ). IsFaultAt f b.0 (Some w)) same.1 (subst (λ (ws : Words). IsFaultAt f ws (Some a.1)) same.0 a.4)) b.4
       | inr (inl behind) ↦ absurd (fault_stops f a.0 a.1 a.4 (goes_on_within b.0 a.0 a.1 behind.0 behind.1 (fault_begins g b.0 (Some b.1) b.4)))
       | inr (inr behind) ↦ absurd (fault_stops g b.0 b.1 b.4 (goes_on_within a.0 b.0 b.1 behind.0 behind.1 (fault_begins f a.0 (Some a.1) a.4)))
     ]

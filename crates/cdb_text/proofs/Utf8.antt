@@ -175,8 +175,11 @@ mail_line copy = fixed (codes "to ") refl then number copy.0 then space then mes
 pub decision : (pair : ℕ × ℕ) → IsUtf8 (decision_text pair)
 decision pair = space then number pair.0 then fixed (codes "=") refl then number pair.1
 
-pub cell : (held : Cell) → IsUtf8 (codes " lre " ++ decimal held.lre ++ codes " lrww " ++ decimal held.lrww ++ codes " val " ++ value_text held.val ++ codes "\n")
-cell held = fixed (codes " lre ") refl then number held.lre then fixed (codes " lrww ") refl then number held.lrww then fixed (codes " val ") refl then value held.val then line_end
+pub cell : (held : Cell)
+    → IsUtf8 (codes " lre " ++ decimal held.lre ++ codes " lrww " ++ decimal held.lrww ++ codes " val " ++ value_text held.val ++ codes "\n")
+cell held =
+    fixed (codes " lre ") refl then number held.lre then fixed (codes " lrww ") refl
+    then number held.lrww then fixed (codes " val ") refl then value held.val then line_end
 
 pub last_line : (held : Cell) → IsUtf8 (decision_line held)
 last_line held = fixed (codes "dec ") refl then value held.val then line_end

@@ -6,8 +6,8 @@ use Rattle.cdb_text.specs.declared.fault.LineFault.{LineFault}
 use Rattle.cdb_text.specs.declared.fault.LineFault.TheVariants.{Empty, Word, Number, Extra, Missing}
 use Rattle.cdb_text.specs.Faults.{IsFirstFaultOfWords, IsFaultOf}
 use Rattle.cdb_text.specs.Grammar.{AreWordsOf, IsLineOf, words_of}
-use Rattle.cdb_text.specs.Reading.{IsReadAfter, keyword_of}
-use Rattle.cdb_text.proofs.Reading.{command_at}
+use Rattle.cdb_text.specs.Readers.{IsReadAfter, keyword_of}
+use Rattle.cdb_text.proofs.ReaderSteps.{command_at}
 use Rattle.cdb_text.proofs.Again.{again}
 use Rattle.cdb_text.proofs.Unique.{one_first_fault, whole_has_no_fault}
 
@@ -47,7 +47,8 @@ first_of_line Number line some is = is.1
 first_of_line Extra line some is = is.1
 
 -- a line is refused with a fault exactly where that is its first
-pub fault_of_line : (line : List ℕ) (read : Result Command LineFault) → line ≢ [] → IsReadAfter [] (words_of line) read → (fault : LineFault) → (read ≡ Err fault) ↔ IsFaultOf fault line
+pub fault_of_line : (line : List ℕ) (read : Result Command LineFault) → line ≢ []
+    → IsReadAfter [] (words_of line) read → (fault : LineFault) → (read ≡ Err fault) ↔ IsFaultOf fault line
 fault_of_line line read some is fault =
     let one = one_fault (words_of line) read fault is in
     (λ e. of_line fault line some (one.0 e), λ first. one.1 (first_of_line fault line some first))

@@ -4,7 +4,9 @@ use Prim.Native.String.{String}
 use Rattle.cdb_base.specs.declared.act.Act.TheVariants.{Go, Learn, Crash, Query, Recv}
 use Rattle.cdb_base.specs.declared.register.Reg.{Reg}
 use Rattle.cdb_commands.specs.declared.command.Command.{Command}
-use Rattle.cdb_commands.specs.declared.command.Command.TheVariants.{Step, Auto, Lose, Undo, UndoLost, Redo, Forget, Rollback, RollbackLost, Why, WhyLost, Break, Unbreak, Resume, Show, Decisions}
+use Rattle.cdb_commands.specs.declared.command.Command.TheVariants.{Step, Auto, Lose, Undo, UndoLost, Redo, Forget}
+use Rattle.cdb_commands.specs.declared.command.Command.TheVariants.{Rollback, RollbackLost, Why, WhyLost, Break}
+use Rattle.cdb_commands.specs.declared.command.Command.TheVariants.{Unbreak, Resume, Show, Decisions}
 use Rattle.cdb_commands.specs.declared.command.Stop.TheVariants as stop
 use Rattle.cdb_commands.specs.declared.command.View.TheVariants as view
 

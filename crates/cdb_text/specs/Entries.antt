@@ -23,7 +23,8 @@ BeginWithNoSeat words = (seat : ℕ) (others : List (List ℕ)) → IsSeat seat 
 -- the words after the number of a seat have this first fault
 abbrev pub HasFaultBehindSeat : LineFault → List (List ℕ) → Type 0
 HasFaultBehindSeat fault words =
-    (seat : ℕ) × (others : List (List ℕ)) × IsSeat seat × (words ≡ decimal seat ∷ others) × IsFirstFaultOfWords fault others
+    (seat : ℕ) × (others : List (List ℕ)) × IsSeat seat
+    × (words ≡ decimal seat ∷ others) × IsFirstFaultOfWords fault others
 
 -- the first fault of the words: the first of them is no seat, or it is one, and those after it have the fault
 abbrev pub IsFaultOfEntryWords : LineFault → List (List ℕ) → Type 0

@@ -1,7 +1,10 @@
 -- The fixed words.
 use Rattle.std.specs.Prelude.{ℕ, List, [], ◌∷◌, codes}
 use Rattle.cdb_text.specs.declared.keyword.Keyword.{Keyword}
-use Rattle.cdb_text.specs.declared.keyword.Keyword.TheVariants.{Step, Auto, Lose, Undo, Redo, Forget, Rollback, Why, Break, Unbreak, Resume, Show, Decisions, Go, Learn, Crash, Query, Recv, Decide, Round, Write, Regs, Mail, History, Lost}
+use Rattle.cdb_text.specs.declared.keyword.Keyword.TheVariants.{Step, Auto, Lose, Undo, Redo, Forget, Rollback}
+use Rattle.cdb_text.specs.declared.keyword.Keyword.TheVariants.{Why, Break, Unbreak, Resume, Show, Decisions}
+use Rattle.cdb_text.specs.declared.keyword.Keyword.TheVariants.{Go, Learn, Crash, Query, Recv, Decide, Round}
+use Rattle.cdb_text.specs.declared.keyword.Keyword.TheVariants.{Write, Regs, Mail, History, Lost}
 
 abbrev pub keyword_name : Keyword → List ℕ
 keyword_name Step = codes "step"

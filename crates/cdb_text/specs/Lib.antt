@@ -14,4 +14,4 @@ pub mod Pushes
 pub mod Keywords
 pub mod Verbs
 pub mod Words
-pub mod Reading
+pub mod Readers

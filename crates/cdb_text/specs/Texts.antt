@@ -1,6 +1,7 @@
 -- The texts of replies. Each line ends with byte 10, and numbers are decimal.
 use Rattle.std.specs.Prelude.{ℕ, List, [], ◌++◌, codes, decimal, Option, Some, None}
-use Rattle.cdb_commands.specs.ToldReply.{ToldReply, Stepped, Undone, Redone, RolledBack, Because, BreakSet, BreakGone, Resumed, Forgot, Proc, Regs, Mail, History, Decisions, Refused}
+use Rattle.cdb_commands.specs.ReplyView.{ReplyView, Stepped, Undone, Redone, RolledBack, Because, BreakSet, BreakGone}
+use Rattle.cdb_commands.specs.ReplyView.{Resumed, Forgot, Proc, Regs, Mail, History, Decisions, Refused}
 use Rattle.cdb_text.specs.Events.{event_text}
 use Rattle.cdb_base.specs.NameTexts.{name_text}
 use Rattle.cdb_base.specs.Refusal.{refusal_text}
@@ -16,7 +17,7 @@ abbrev pub break_text : Option ℕ → List ℕ
 break_text None = []
 break_text (Some b) = codes " break " ++ decimal b
 
-abbrev pub text_of : ToldReply → List ℕ
+abbrev pub text_of : ReplyView → List ℕ
 text_of (Stepped event decides paused) =
     event_text event ++ decides_text decides ++ break_text paused ++ codes "\n"
 text_of (Undone event) = codes "undone " ++ event_text event ++ codes "\n"

@@ -25,8 +25,8 @@ fn seat(words: &mut Words<'_>) -> Result<u8, LineFault>
     Ok(number as u8)
 }
 
-/// The seat, from 1 to 64, and the command of a line of a journal, which is given without the byte 10 at its end; else the
-/// first fault of the line, read from the left: a first word that is no seat is a bad number. It allocates nothing.
+/// The seat, from 1 to 64, and the command of a line of a journal, which is given without the byte 10 at its end; else
+/// the first fault of the line, read from the left: a first word that is no seat is a bad number. It allocates nothing.
 pub fn parse_entry(line: &[u8]) -> Result<(u8, Command), LineFault>
     ensures entry { (seat : ℕ) (command : CommandName) →
         (result ≡ Ok (seat, command)) ↔ IsEntryLine seat command line.now }

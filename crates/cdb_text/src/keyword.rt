@@ -34,7 +34,7 @@ pub(crate) enum Keyword {
 
 impl Keyword {
     ghost use Rattle.cdb_text.specs.Keywords.{keyword_name};
-    ghost use Rattle.cdb_text.specs.Reading.{keyword_of};
+    ghost use Rattle.cdb_text.specs.Readers.{keyword_of};
 
     /// Each fixed word.
     const ALL: [Keyword; 25] = [
@@ -116,7 +116,7 @@ impl Keyword {
     }
 
     /// The one that has this name.
-    #[tactic(auto, unfolding(crate::specs::Reading::keyword_of))]
+    #[tactic(auto, unfolding(crate::specs::Readers::keyword_of))]
     fn named(word: &[u8]) -> Option<Keyword>
         ensures { result ≡ keyword_of word.now }
     {

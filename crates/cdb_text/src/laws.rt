@@ -9,9 +9,9 @@ pub fn each_command_has_one_line()
     ensures { EachCommandHasOneLine }
 {}
 
-/// Each command of a seat from 1 to 64 whose numbers are in range has exactly one line in a journal, the number of the seat, a
-/// space and the printed command; any other has none. So `parse_entry` returns what was written, and takes no other line for
-/// it.
+/// Each command of a seat from 1 to 64 whose numbers are in range has exactly one line in a journal, the number of the
+/// seat, a space and the printed command; any other has none. So `parse_entry` returns what was written, and takes no
+/// other line for it.
 pub fn each_entry_has_one_line()
     ensures { EachEntryHasOneLine }
 {}

@@ -6,7 +6,7 @@ ghost use Rattle.cdb_text.specs.declared.fault.LineFault.{LineFault as LineFault
 ghost use Rattle.cdb_text.specs.Grammar.{IsInRange, IsLineOf, words_of};
 ghost use Rattle.cdb_text.specs.Faults.{IsFaultOf};
 ghost use Rattle.cdb_text.specs.Commands.{number};
-ghost use Rattle.cdb_text.specs.Reading.{IsReadAfter};
+ghost use Rattle.cdb_text.specs.Readers.{IsReadAfter};
 ghost use Rattle.cdb_text.specs.Verbs.{verb_name};
 
 use crate::fault::LineFault;

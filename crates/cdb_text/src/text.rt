@@ -2,7 +2,7 @@
 
 ghost use Rattle.std.specs.Prelude.{◌≡◌, ◌++◌, IfOk, codes, decimal};
 ghost use Rattle.cdb_text.specs.Pushes.{Pushes};
-ghost use Rattle.cdb_commands.specs.ToldReply.{told};
+ghost use Rattle.cdb_commands.specs.ReplyView.{reply_view};
 ghost use Rattle.cdb_base.specs.NameTexts.{name_text};
 ghost use Rattle.cdb_base.specs.Refusal.{refusal_text};
 ghost use Rattle.cdb_text.specs.Events.{event_text};
@@ -110,7 +110,7 @@ fn push_refused(text: &mut String, refusal: &Refusal) -> Result<(), AllocError>
 /// Adds the text of a reply at the end of a text: its lines, each of which ends with byte 10. Only out of memory
 /// is an error.
 pub fn push_reply(text: &mut String, reply: &Reply) -> Result<(), AllocError>
-    ensures { Pushes result text.old text.new (text_of (told reply.now)) }
+    ensures { Pushes result text.old text.new (text_of (reply_view reply.now)) }
 {
     match reply {
         Reply::Stepped {
@@ -140,7 +140,7 @@ pub fn push_reply(text: &mut String, reply: &Reply) -> Result<(), AllocError>
 
 /// The text of a reply: its lines, each of which ends with byte 10. `NoMemory` if an allocation fails.
 pub fn reply_text(alloc: Global, reply: &Reply) -> Result<Vec<u8>, NoMemory>
-    ensures { IfOk result (λ bytes. bytes.items ≡ text_of (told reply.now)) }
+    ensures { IfOk result (λ bytes. bytes.items ≡ text_of (reply_view reply.now)) }
 {
     let mut text = String::with_capacity(alloc, MOST_REPLIES)?;
     push_reply(&mut text, reply)?;

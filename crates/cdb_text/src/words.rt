@@ -3,12 +3,12 @@
 ghost use Rattle.std.specs.Prelude.{◌≡◌, ◌≢◌, ◌≤◌, ◌∷◌, [], length};
 ghost use Rattle.std.specs.Prelude.{MatchOption, MatchBool, IfOk};
 ghost use Rattle.std.specs.Str.Parse.{AllDigits, digits_value};
-ghost use Rattle.cdb_base.specs.Results.{Tells};
+ghost use Rattle.cdb_base.specs.Results.{MapsTo};
 ghost use Rattle.cdb_text.specs.Commands.{number};
 ghost use Rattle.cdb_text.specs.Grammar.{IsInRange, words_of};
 ghost use Rattle.cdb_text.specs.Words.{words_left};
-ghost use Rattle.cdb_text.specs.Reading.{number_of, register_named};
-ghost use Rattle.cdb_text.specs.Reading.{word_at, number_at, register_at, ended};
+ghost use Rattle.cdb_text.specs.Readers.{number_of, register_named};
+ghost use Rattle.cdb_text.specs.Readers.{word_at, number_at, register_at, ended};
 
 use crate::fault::LineFault;
 use cdb_base::{Proc, Reg};
@@ -47,7 +47,7 @@ impl<'a> Words<'a> {
 
     /// The next word.
     pub(crate) fn word(&mut self) -> Result<&'a [u8], LineFault>
-        ensures { Tells (λ word. (word.now, self.new)) result (word_at self.old) }
+        ensures { MapsTo (λ word. (word.now, self.new)) result (word_at self.old) }
     {
         let Some(line) = self.rest else {
             return Err(LineFault::Missing);
@@ -59,7 +59,7 @@ impl<'a> Words<'a> {
 
     /// The next word, which is a number.
     pub(crate) fn number(&mut self) -> Result<u32, LineFault>
-        ensures next { Tells (λ n. (n, self.new)) result (number_at self.old) }
+        ensures next { MapsTo (λ n. (n, self.new)) result (number_at self.old) }
         ensures in_range { IfOk result (λ n. IsInRange (number n)) }
     {
         let word = self.word()?;
@@ -71,7 +71,7 @@ impl<'a> Words<'a> {
 
     /// The next word, which is a register.
     pub(crate) fn register(&mut self) -> Result<Reg, LineFault>
-        ensures { Tells (λ x. (x, self.new)) result (register_at self.old) }
+        ensures { MapsTo (λ x. (x, self.new)) result (register_at self.old) }
     {
         let word = self.word()?;
         match register_named(word) {
@@ -129,7 +129,7 @@ pub(crate) fn number_of(word: &[u8]) -> Option<u32>
 }
 
 /// The register that the word is.
-#[tactic(auto, unfolding(crate::specs::Reading::register_named))]
+#[tactic(auto, unfolding(crate::specs::Readers::register_named))]
 pub(crate) fn register_named(word: &[u8]) -> Option<Reg>
     ensures { result ≡ register_named word.now }
 {

@@ -1,5 +1,6 @@
 -- The flows of the Alpha machine are true of one process.
-use Rattle.std.proofs.Common.{◌≡◌, ℕ, zero, suc, ◌+◌, Bool, true, false, ◌==◌, nat_le, ◌⊎◌, List, [], ◌∷◌, ◌++◌, length, Contains, Option, Some, None, is_some, find, if◌then◌else◌, inl, inr, refl, sym, ap, subst, ◌∙◌}
+use Rattle.std.proofs.Common.{◌≡◌, ℕ, zero, suc, ◌+◌, Bool, true, false, ◌==◌, nat_le, ◌⊎◌, List, [], ◌∷◌, ◌++◌, length, Contains}
+use Rattle.std.proofs.Common.{Option, Some, None, is_some, find, if◌then◌else◌, inl, inr, refl, sym, ap, subst, ◌∙◌}
 use Rattle.std.specs.Option.{option_map, option_and_then, unwrap_or}
 use Rattle.std.proofs.lemmas.Bool.{cases_eq}
 use Rattle.std.proofs.lemmas.Option.{none-some, same_Some}
@@ -19,7 +20,8 @@ use Rattle.cdb_alpha.specs.declared.place.Place.TheVariants.{A0, A1, A2, A3, A4,
 use Rattle.cdb_alpha.specs.LocalState.{LocalState, first_state}
 use Rattle.cdb_alpha.specs.Machine.{alpha_table}
 use Rattle.cdb_alpha.specs.Seen.{greatest_write, latest, value_seen, chosen_value, is_overtaken}
-use Rattle.cdb_alpha.specs.Table.{Row, asks, reads, writes, goes_on, rests, row_at, wish_by, next_state, next_round, judge, see_decision, entered, with_value, decision_cell, begin_pass}
+use Rattle.cdb_alpha.specs.Table.{Row, asks, reads, writes, goes_on, rests, row_at, wish_by, next_state, next_round}
+use Rattle.cdb_alpha.specs.Table.{judge, see_decision, entered, with_value, decision_cell, begin_pass}
 use Rattle.cdb_alpha.proofs.Leads.{Leads, leads}
 use Rattle.cdb_rules.proofs.Positions.{nth_push_other, nth_push_back}
 use Rattle.cdb_trail.specs.Flow.{Spot, slot, register, Flow, still, moves, MayTake, MaySet}
@@ -28,7 +30,7 @@ use Rattle.cdb_trail.specs.AlphaFlow as flows
 use Rattle.cdb_trail.specs.AlphaFlow.{Slot, slot_value, has_settled, settled_from, read_flow, write_flow, local_flow, flow, alpha_flows}
 use Rattle.cdb_trail.proofs.Numbers.{IsNumbered, numbered}
 use Rattle.cdb_trail.proofs.RunFlows.{Fits, taken, AreTrueOfOne}
-use Rattle.cdb_trail.proofs.Trailing.{AreTold}
+use Rattle.cdb_trail.proofs.Trails.{AreTold}
 
 -- a process has decided at the last place alone
 abbrev pub DecidedLast : LocalState → Type 0
@@ -134,11 +136,13 @@ module _ (p : ℕ) (s : LocalState) where
   sets_first y rest = in_contained (slot p y ∷ rest) (slot p y) (inl refl)
 
   -- a step that sets no slot: to another place, of which it is known whether a value is settled there
-  quiet : (i : Input) (t : LocalState) (f : Flow Slot) → ((x : Slot) (v : ℕ) → slot_value t x ≡ Some v → slot_value s x ≡ Some v) → ((x : Slot) → Contains f.sets (slot p x) → ⊥) → IsTrueRow i t f
+  quiet : (i : Input) (t : LocalState) (f : Flow Slot) → ((x : Slot) (v : ℕ) → slot_value t x ≡ Some v → slot_value s x ≡ Some v)
+      → ((x : Slot) → Contains f.sets (slot p x) → ⊥) → IsTrueRow i t f
   quiet i t f same never = record { set = λ x here. absurd (never x here); kept = λ x v lies no. same x v lies }
 
   -- the value is settled after the step only where it was before
-  moved : (i : Input) (place : Place) (round : ℕ) (f : Flow Slot) → (has_settled place ≡ true → has_settled s.place ≡ true) → ((x : Slot) → Contains f.sets (slot p x) → ⊥)
+  moved : (i : Input) (place : Place) (round : ℕ) (f : Flow Slot)
+      → (has_settled place ≡ true → has_settled s.place ≡ true) → ((x : Slot) → Contains f.sets (slot p x) → ⊥)
       → IsTrueRow i (record s { place = place; round = round }) f
   moved i place round f settled never = quiet i (record s { place = place; round = round }) f same never
     where
@@ -158,7 +162,8 @@ module _ (p : ℕ) (s : LocalState) where
       → IsTrueRow i (record s { seen = s.seen ++ c ∷ []; place = place }) (moves (register x) (slot p (flows.seen (length s.seen + 1)) ∷ []))
   sees i x c place is settled = record {
     set = λ y here.
-        subst (λ z. slot_value (record s { seen = s.seen ++ c ∷ []; place = place }) z ≡ brought_value i) (sym (only_slot (flows.seen (length s.seen + 1)) y here))
+        subst (λ z. slot_value (record s { seen = s.seen ++ c ∷ []; place = place }) z ≡ brought_value i)
+        (sym (only_slot (flows.seen (length s.seen + 1)) y here))
         (ap (λ e. option_and_then (λ (d : Cell). d.val) e) (nth_push_back s.seen c (length s.seen + 1) refl) ∙ sym (ap brought_value is));
     kept = kept;
   }
@@ -169,7 +174,9 @@ module _ (p : ℕ) (s : LocalState) where
       kept (flows.seen n) v lies never = go (cases_eq n (length s.seen + 1))
         where
           go : (n ≡ length s.seen + 1) ⊎ (n ≡ length s.seen + 1 → ⊥) → slot_value s (flows.seen n) ≡ Some v
-          go (inl new) = absurd (never (subst (λ k. Contains {X = Spot Slot} (slot p (flows.seen (length s.seen + 1)) ∷ []) (slot p (flows.seen k))) (sym new) (sets_first (flows.seen (length s.seen + 1)) [])))
+          go (inl new) =
+              absurd (never (subst (λ k. Contains {X = Spot Slot} (slot p (flows.seen (length s.seen + 1)) ∷ []) (slot p (flows.seen k)))
+              (sym new) (sets_first (flows.seen (length s.seen + 1)) [])))
           go (inr old) = ap (λ e. option_and_then (λ (d : Cell). d.val) e) (sym (nth_push_other s.seen c n old)) ∙ lies
       kept flows.value v lies never = (moved i place s.round still settled nothing_set).kept flows.value v lies (nothing_set flows.value)
       kept flows.own v lies never = lies
@@ -184,7 +191,8 @@ module _ (p : ℕ) (s : LocalState) where
       undecided (inl at) = let same : A9 ≡ A0 = sym at ∙ here in absurd (cc)
       undecided (inr none) = none
 
-      kept_some : (w : ℕ) (y : Slot) (v : ℕ) → slot_value (record s { decision = Some w; place = A9 }) y ≡ Some v → (Contains {X = Spot Slot} (slot p flows.decision ∷ []) (slot p y) → ⊥) → slot_value s y ≡ Some v
+      kept_some : (w : ℕ) (y : Slot) (v : ℕ) → slot_value (record s { decision = Some w; place = A9 }) y ≡ Some v
+          → (Contains {X = Spot Slot} (slot p flows.decision ∷ []) (slot p y) → ⊥) → slot_value s y ≡ Some v
       kept_some w flows.input v lies never = lies
       kept_some w (flows.seen n) v lies never = lies
       kept_some w flows.value v lies never = absurd (none-some v lies)
@@ -220,10 +228,12 @@ module _ (p : ℕ) (s : LocalState) where
       same flows.decision v lies = lies
 
   -- the value is written
-  writes_value : (i : Input) (r : Reg) → has_settled s.place ≡ true → IsTrueRow i (begin_pass A6 s (with_value s)) (moves (slot p flows.value) (register r ∷ slot p flows.own ∷ []))
+  writes_value : (i : Input) (r : Reg) → has_settled s.place ≡ true
+      → IsTrueRow i (begin_pass A6 s (with_value s)) (moves (slot p flows.value) (register r ∷ slot p flows.own ∷ []))
   writes_value i r settled = record {
     set = λ y here.
-        subst (λ z. slot_value (begin_pass A6 s (with_value s)) z ≡ slot_value s flows.value) (sym (only_own r y here)) (sym (ap (λ (b : Bool). if b then Some s.value else None) settled));
+        subst (λ z. slot_value (begin_pass A6 s (with_value s)) z ≡ slot_value s flows.value)
+        (sym (only_own r y here)) (sym (ap (λ (b : Bool). if b then Some s.value else None) settled));
     kept = kept;
   }
     where
@@ -231,7 +241,8 @@ module _ (p : ℕ) (s : LocalState) where
       none_seen zero v lies = none-some v lies
       none_seen (suc n) v lies = none-some v lies
 
-      kept : (y : Slot) (v : ℕ) → slot_value (begin_pass A6 s (with_value s)) y ≡ Some v → (Contains {X = Spot Slot} (register r ∷ slot p flows.own ∷ []) (slot p y) → ⊥) → slot_value s y ≡ Some v
+      kept : (y : Slot) (v : ℕ) → slot_value (begin_pass A6 s (with_value s)) y ≡ Some v
+          → (Contains {X = Spot Slot} (register r ∷ slot p flows.own ∷ []) (slot p y) → ⊥) → slot_value s y ≡ Some v
       kept flows.input v lies never = lies
       kept (flows.seen n) v lies never = absurd (none_seen n v lies)
       kept flows.value v lies never = ap (λ (b : Bool). if b then Some s.value else None) settled ∙ lies
@@ -245,11 +256,13 @@ module _ (p : ℕ) (s : LocalState) where
   settled_value = by_seen (value_seen s.seen) refl
     where
       -- a cell was seen that has the value
-      by_cell : (v : ℕ) → value_seen s.seen ≡ Some v → slot_value s (unwrap_or (option_map flows.seen (number_of (λ (c : Cell). c.lrww == greatest_write s.seen) s.seen)) flows.input) ≡ Some v
+      by_cell : (v : ℕ) → value_seen s.seen ≡ Some v
+          → slot_value s (unwrap_or (option_map flows.seen (number_of (λ (c : Cell). c.lrww == greatest_write s.seen) s.seen)) flows.input) ≡ Some v
       by_cell v is = by_test (greatest_write s.seen == 0) is
         where
           by_number : option_and_then (λ (c : Cell). c.val) (latest s.seen) ≡ Some v
-              → ((number_of (λ (c : Cell). c.lrww == greatest_write s.seen) s.seen ≡ None) × (find (λ (c : Cell). c.lrww == greatest_write s.seen) s.seen ≡ None))
+              → ((number_of (λ (c : Cell). c.lrww == greatest_write s.seen) s.seen ≡ None)
+              × (find (λ (c : Cell). c.lrww == greatest_write s.seen) s.seen ≡ None))
               ⊎ IsNumbered (λ (c : Cell). c.lrww == greatest_write s.seen) s.seen
               → slot_value s (unwrap_or (option_map flows.seen (number_of (λ (c : Cell). c.lrww == greatest_write s.seen) s.seen)) flows.input) ≡ Some v
           by_number val (inl none) = absurd (none-some v (sym (ap (λ o. option_and_then (λ (c : Cell). c.val) o) none.1) ∙ val))
@@ -265,20 +278,24 @@ module _ (p : ℕ) (s : LocalState) where
 
       by_seen : (o : Option ℕ) → value_seen s.seen ≡ o → slot_value s (settled_from s) ≡ Some (chosen_value s.input s.seen)
       by_seen None is =
-          ap (λ (x : Option ℕ). slot_value s (unwrap_or (option_map flows.seen (if is_some x then number_of (λ (c : Cell). c.lrww == greatest_write s.seen) s.seen else None)) flows.input)) is
+          ap (λ (x : Option ℕ). slot_value s
+          (unwrap_or (option_map flows.seen (if is_some x then number_of (λ (c : Cell). c.lrww == greatest_write s.seen) s.seen else None)) flows.input)) is
           ∙ sym (ap (λ x. Some (unwrap_or x s.input)) is)
       by_seen (Some v) is =
-          ap (λ (x : Option ℕ). slot_value s (unwrap_or (option_map flows.seen (if is_some x then number_of (λ (c : Cell). c.lrww == greatest_write s.seen) s.seen else None)) flows.input)) is
+          ap (λ (x : Option ℕ). slot_value s
+          (unwrap_or (option_map flows.seen (if is_some x then number_of (λ (c : Cell). c.lrww == greatest_write s.seen) s.seen else None)) flows.input)) is
           ∙ (by_cell v is ∙ sym (ap (λ x. Some (unwrap_or x s.input)) is))
 
   settles : (i : Input) → IsTrueRow i (record s { value = chosen_value s.input s.seen; place = A5 }) (moves (slot p (settled_from s)) (slot p flows.value ∷ []))
   settles i = record {
     set = λ y here.
-        subst (λ z. slot_value (record s { value = chosen_value s.input s.seen; place = A5 }) z ≡ slot_value s (settled_from s)) (sym (only_slot flows.value y here)) (sym settled_value);
+        subst (λ z. slot_value (record s { value = chosen_value s.input s.seen; place = A5 }) z ≡ slot_value s (settled_from s))
+        (sym (only_slot flows.value y here)) (sym settled_value);
     kept = kept;
   }
     where
-      kept : (y : Slot) (v : ℕ) → slot_value (record s { value = chosen_value s.input s.seen; place = A5 }) y ≡ Some v → (Contains {X = Spot Slot} (slot p flows.value ∷ []) (slot p y) → ⊥) → slot_value s y ≡ Some v
+      kept : (y : Slot) (v : ℕ) → slot_value (record s { value = chosen_value s.input s.seen; place = A5 }) y ≡ Some v
+          → (Contains {X = Spot Slot} (slot p flows.value ∷ []) (slot p y) → ⊥) → slot_value s y ≡ Some v
       kept flows.input v lies never = lies
       kept (flows.seen n) v lies never = lies
       kept flows.value v lies never = absurd (never (sets_first flows.value []))
@@ -294,7 +311,8 @@ module _ (p : ℕ) (s : LocalState) where
           (moved i A0 (s.round + s.processes) f (λ settled. absurd (cc)) never)
       go false it = absurd (none-some t it)
 
-  row : (q : Place) (kind : Kind) (i : Input) (t : LocalState) → s.place ≡ q → DecidedLast s → Fits kind i → Leads (row_at q s) i t → IsTrueRow i t (flow_in q kind)
+  row : (q : Place) (kind : Kind) (i : Input) (t : LocalState) → s.place ≡ q
+      → DecidedLast s → Fits kind i → Leads (row_at q s) i t → IsTrueRow i t (flow_in q kind)
   row A0 kind i t here last fit h =
       subst (λ k. IsTrueRow i t (flow_in A0 k)) (sym (read_kind kind i h.0 h.1 fit h.3)) (looks i h.0 h.1 h.3 last here t h.4)
   row A1 kind i t here last fit h =
@@ -309,7 +327,8 @@ module _ (p : ℕ) (s : LocalState) where
       (subst (λ z. IsTrueRow i z (write_flow A2 p (R s.me))) (same_Some (begin_pass A3 s (entered s)) t h.1) (enters i (R s.me)))
   row A3 kind i t here last fit h =
       subst (λ k. IsTrueRow i t (flow_in A3 k)) (sym (read_kind kind i h.0 h.1 fit h.3))
-      (subst (λ z. IsTrueRow i z (read_flow A3 p s h.0)) h.4 (sees i h.0 h.1 (if length s.seen + 1 == s.processes then A4 else A3) h.3 (not_yet (length s.seen + 1 == s.processes))))
+      (subst (λ z. IsTrueRow i z (read_flow A3 p s h.0)) h.4
+      (sees i h.0 h.1 (if length s.seen + 1 == s.processes then A4 else A3) h.3 (not_yet (length s.seen + 1 == s.processes))))
     where
       not_yet : (b : Bool) → has_settled (if b then A4 else A3) ≡ true → has_settled s.place ≡ true
       not_yet true settled = absurd (cc)
@@ -321,19 +340,22 @@ module _ (p : ℕ) (s : LocalState) where
           → IsTrueRow i t (if b then still else moves (slot p (settled_from s)) (slot p flows.value ∷ []))
       go true it = to_next i t still nothing_set it
       go false it =
-          subst (λ z. IsTrueRow i z (moves (slot p (settled_from s)) (slot p flows.value ∷ []))) (same_Some (record s { value = chosen_value s.input s.seen; place = A5 }) t it) (settles i)
+          subst (λ z. IsTrueRow i z (moves (slot p (settled_from s)) (slot p flows.value ∷ [])))
+          (same_Some (record s { value = chosen_value s.input s.seen; place = A5 }) t it) (settles i)
   row A5 kind i t here last fit h =
       subst (λ k. IsTrueRow i t (flow_in A5 k)) (sym (write_kind kind i (R s.me) fit h.0))
       (subst (λ z. IsTrueRow i z (write_flow A5 p (R s.me))) (same_Some (begin_pass A6 s (with_value s)) t h.1) (writes_value i (R s.me) (ap has_settled here)))
   row A6 kind i t here last fit h =
       subst (λ k. IsTrueRow i t (flow_in A6 k)) (sym (read_kind kind i h.0 h.1 fit h.3))
-      (subst (λ z. IsTrueRow i z (read_flow A6 p s h.0)) h.4 (sees i h.0 h.1 (if length s.seen + 1 == s.processes then A7 else A6) h.3 (λ settled. ap has_settled here)))
+      (subst (λ z. IsTrueRow i z (read_flow A6 p s h.0)) h.4
+      (sees i h.0 h.1 (if length s.seen + 1 == s.processes then A7 else A6) h.3 (λ settled. ap has_settled here)))
   row A7 kind i t here last fit h =
       subst (λ k. IsTrueRow i t (flow_in A7 k)) (sym (local_kind kind i fit h.0)) (go (is_overtaken s.round s.seen) h.1)
     where
       go : (b : Bool) → (if b then next_round s else Some (record s { place = A8 })) ≡ Some t → IsTrueRow i t still
       go true it = to_next i t still nothing_set it
-      go false it = subst (λ z. IsTrueRow i z still) (same_Some (record s { place = A8 }) t it) (moved i A8 s.round still (λ settled. ap has_settled here) nothing_set)
+      go false it =
+          subst (λ z. IsTrueRow i z still) (same_Some (record s { place = A8 }) t it) (moved i A8 s.round still (λ settled. ap has_settled here) nothing_set)
   row A8 kind i t here last fit h =
       subst (λ k. IsTrueRow i t (flow_in A8 k)) (sym (write_kind kind i Dec fit h.0)) (to_next i t (write_flow A8 p Dec) (only_register Dec) h.1)
   row A9 kind i t here last fit h = absurd h
@@ -383,7 +405,8 @@ writes_due r d c None is = absurd (none-some c is)
 in_front : (r : Reg) (rest : List (Spot Slot)) → Contains {X = Spot Slot} (register r ∷ rest) (register r)
 in_front r rest = in_contained (register r ∷ rest) (register r) (inl refl)
 
-written : (p : ℕ) (q : Place) (r : Reg) (s t : LocalState) (c : Cell) → s.place ≡ q → Leads (row_at q s) (input.Write r) t → wished_cell (wish_by (row_at q s)) ≡ Some c
+written : (p : ℕ) (q : Place) (r : Reg) (s t : LocalState) (c : Cell) → s.place ≡ q
+    → Leads (row_at q s) (input.Write r) t → wished_cell (wish_by (row_at q s)) ≡ Some c
     → Contains (write_flow q p r).sets (register r) × (c.val ≡ taken alpha_table alpha_flows s (input.Write r) (write_flow q p r).takes)
 written p A0 r s t c here h is = let no = h.3 in absurd (cc)
 written p A1 r s t c here h is = let no = h.1 in absurd (cc)

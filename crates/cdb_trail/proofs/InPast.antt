@@ -1,5 +1,6 @@
 -- Each step on a trail has led to the last, and one trail alone leads to a step.
-use Rattle.std.proofs.Common.{◌≡◌, ℕ, ◌<◌, ◌≤◌, Bool, true, false, ◌&&◌, ◌||◌, List, [], ◌∷◌, ◌++◌, Contains, Option, Some, None, ◌⊎◌, inl, inr, refl, sym, ap, subst, ◌∙◌, arith, eq-eqb}
+use Rattle.std.proofs.Common.{◌≡◌, ℕ, ◌<◌, ◌≤◌, Bool, true, false, ◌&&◌, ◌||◌, List, [], ◌∷◌, ◌++◌, Contains}
+use Rattle.std.proofs.Common.{Option, Some, None, ◌⊎◌, inl, inr, refl, sym, ap, subst, ◌∙◌, arith, eq-eqb}
 use Rattle.std.proofs.lemmas.Bool.{cases_lt}
 use Rattle.std.proofs.lemmas.List.Elements.{Contains-push_cases}
 use Rattle.std.proofs.lemmas.Option.{none-some, same_Some}
@@ -27,10 +28,12 @@ any_of false false false d e (inl it) = absurd (cc)
 any_of false false false d e (inr (inl it)) = absurd (cc)
 any_of false false false d e (inr (inr it)) = absurd (cc)
 
-dependent : (event other : Event) → (same_process event other ≡ true) ⊎ ((are_a send_and_receive event other ≡ true) ⊎ (are_a write_and_access event other ≡ true))
+dependent : (event other : Event)
+    → (same_process event other ≡ true) ⊎ ((are_a send_and_receive event other ≡ true) ⊎ (are_a write_and_access event other ≡ true))
     → depends event other ≡ true
 dependent event other it =
-    any_of (same_process event other) (are_a send_and_receive event other) (are_a write_and_access event other) (are_a send_and_loss event other) (are_a loss_and_receive event other) it
+    any_of (same_process event other) (are_a send_and_receive event other) (are_a write_and_access event other)
+    (are_a send_and_loss event other) (are_a loss_and_receive event other) it
 
 first_or : (a b : Bool) → a ≡ true → (a || b) ≡ true
 first_or true b is = refl
@@ -52,15 +55,18 @@ module _ {S : Type 0} where
       let R : ℕ → Type 0 = λ o. depends (Step o k (Send m)) (Step q l (Recv s m)) ≡ true in
       subst P (sym sets.1) (subst Q (sym takes) (subst R sets.0
       (dependent (Step s k (Send m)) (Step q l (Recv s m))
-      (inr (inl (first_or (send_and_receive (Step s k (Send m)) (Step q l (Recv s m))) (send_and_receive (Step q l (Recv s m)) (Step s k (Send m))) (both_are _ _ (eq-eqb s s refl) (eq-eqb m m refl))))))))
+      (inr (inl (first_or (send_and_receive (Step s k (Send m)) (Step q l (Recv s m)))
+      (send_and_receive (Step q l (Recv s m)) (Step s k (Send m))) (both_are _ _ (eq-eqb s s refl) (eq-eqb m m refl))))))))
   linked (register r) p k q l kind other sets takes =
       let P : Kind → Type 0 = λ x. depends (Step p k x) (Step q l other) ≡ true in
       let Q : Kind → Type 0 = λ y. depends (Step p k (Write r)) (Step q l y) ≡ true in
       subst P (sym sets) (subst Q (sym takes)
       (dependent (Step p k (Write r)) (Step q l (Read r))
-      (inr (inr (first_or (write_and_access (Step p k (Write r)) (Step q l (Read r))) (write_and_access (Step q l (Read r)) (Step p k (Write r))) (same_register-itself r))))))
+      (inr (inr (first_or (write_and_access (Step p k (Write r)) (Step q l (Read r)))
+      (write_and_access (Step q l (Read r)) (Step p k (Write r))) (same_register-itself r))))))
 
-module _ {L S : Type 0} (machine : Machine L) (flows : Flows L S) (inputs : List ℕ) (true_flows : FlowsAreTrue machine flows inputs) (history : List Event) where
+module _ {L S : Type 0} (machine : Machine L) (flows : Flows L S) (inputs : List ℕ)
+    (true_flows : FlowsAreTrue machine flows inputs) (history : List Event) where
   -- the event at a position is a step of a kind, which may do what it does there
   record IsStepThat (May : ℕ → Kind → Type 0) (i : ℕ) : Type 0 where
     pub process : ℕ
@@ -78,11 +84,13 @@ module _ {L S : Type 0} (machine : Machine L) (flows : Flows L S) (inputs : List
   takes_by : (i : ℕ) (spot : Spot S) → Takes machine flows history i spot → IsStepThat (λ p kind. MayTake p kind spot) i
   takes_by i spot takes = go (nth history i) refl takes
     where
-      by_process : (p k : ℕ) (kind : Kind) → nth history i ≡ Some (Step p k kind) → (o : Option (ProcessState L)) → (flow_by flows p kind o).takes ≡ Some spot → IsStepThat (λ q other. MayTake q other spot) i
+      by_process : (p k : ℕ) (kind : Kind) → nth history i ≡ Some (Step p k kind) → (o : Option (ProcessState L))
+          → (flow_by flows p kind o).takes ≡ Some spot → IsStepThat (λ q other. MayTake q other spot) i
       by_process p k kind is None it = absurd (no_take spot it)
       by_process p k kind is (Some x) it = record { process = p; number = k; kind = kind; is = is; may = true_flows.takes_own p x.progress.local kind spot it }
 
-      go : (o : Option Event) → nth history i ≡ o → (flow_in machine flows history (state_before machine flows history i) o).takes ≡ Some spot → IsStepThat (λ p kind. MayTake p kind spot) i
+      go : (o : Option Event) → nth history i ≡ o → (flow_in machine flows history (state_before machine flows history i) o).takes ≡ Some spot
+          → IsStepThat (λ p kind. MayTake p kind spot) i
       go None is it = absurd (no_take spot it)
       go (Some (Step p k kind)) is it = by_process p k kind is (nth (state_before machine flows history i).processes p) it
       go (Some (Lost copy)) is it = absurd (no_take spot it)
@@ -90,11 +98,13 @@ module _ {L S : Type 0} (machine : Machine L) (flows : Flows L S) (inputs : List
   sets_by : (i : ℕ) (spot : Spot S) → Sets machine flows history i spot → IsStepThat (λ p kind. MaySet p kind spot) i
   sets_by i spot sets = go (nth history i) refl sets
     where
-      by_process : (p k : ℕ) (kind : Kind) → nth history i ≡ Some (Step p k kind) → (o : Option (ProcessState L)) → Contains (flow_by flows p kind o).sets spot → IsStepThat (λ q other. MaySet q other spot) i
+      by_process : (p k : ℕ) (kind : Kind) → nth history i ≡ Some (Step p k kind) → (o : Option (ProcessState L))
+          → Contains (flow_by flows p kind o).sets spot → IsStepThat (λ q other. MaySet q other spot) i
       by_process p k kind is None it = absurd (no_set spot it)
       by_process p k kind is (Some x) it = record { process = p; number = k; kind = kind; is = is; may = true_flows.sets_own p x.progress.local kind spot it }
 
-      go : (o : Option Event) → nth history i ≡ o → Contains (flow_in machine flows history (state_before machine flows history i) o).sets spot → IsStepThat (λ p kind. MaySet p kind spot) i
+      go : (o : Option Event) → nth history i ≡ o → Contains (flow_in machine flows history (state_before machine flows history i) o).sets spot
+          → IsStepThat (λ p kind. MaySet p kind spot) i
       go None is it = absurd (no_set spot it)
       go (Some (Step p k kind)) is it = by_process p k kind is (nth (state_before machine flows history i).processes p) it
       go (Some (Lost copy)) is it = absurd (no_set spot it)

@@ -1,5 +1,6 @@
 -- The flows of the leader machine are true of one process.
-use Rattle.std.proofs.Common.{◌≡◌, ℕ, zero, suc, ◌+◌, Bool, true, false, ◌&&◌, not, ◌==◌, ◌⊎◌, List, [], ◌∷◌, ◌++◌, length, Contains, Option, Some, None, is_some, find, nat_lt, if◌then◌else◌, inl, inr, refl, sym, ap, subst, ◌∙◌}
+use Rattle.std.proofs.Common.{◌≡◌, ℕ, zero, suc, ◌+◌, Bool, true, false, ◌&&◌, not, ◌==◌, ◌⊎◌, List, [], ◌∷◌, ◌++◌, length, Contains}
+use Rattle.std.proofs.Common.{Option, Some, None, is_some, find, nat_lt, if◌then◌else◌, inl, inr, refl, sym, ap, subst, ◌∙◌}
 use Rattle.std.specs.Option.{option_map, option_or, option_and_then, option_flatten}
 use Rattle.std.proofs.lemmas.Bool.{cases_eq}
 use Rattle.std.proofs.lemmas.Option.{none-some, same_Some}
@@ -19,18 +20,21 @@ use Rattle.cdb_leader.specs.declared.inbox.Received.{Received}
 use Rattle.cdb_leader.specs.declared.inbox.FirstPhase.{FirstPhase}
 use Rattle.cdb_leader.specs.declared.place.Place.{Place}
 use Rattle.cdb_leader.specs.declared.place.Place.TheVariants.{L0, L1, L2, L3, L4, L5, L6}
-use Rattle.cdb_leader.specs.Inbox.{first_phase, second_phase, as_decision, if_from, first_from, first_phase_from, second_phase_from, decision_from, agreed_leader, agreed_estimate, proposal, is_only_proposal, learnt}
+use Rattle.cdb_leader.specs.Inbox.{first_phase, second_phase, as_decision, if_from, first_from, first_phase_from, second_phase_from}
+use Rattle.cdb_leader.specs.Inbox.{decision_from, agreed_leader, agreed_estimate, proposal, is_only_proposal, learnt}
 use Rattle.cdb_leader.specs.LocalState.{LocalState, first_state}
 use Rattle.cdb_leader.specs.Machine.{leader_table}
-use Rattle.cdb_leader.specs.Table.{heard_first_phase, heard_second_phase, heard_lead, is_lead, set_aux, end_round, query_at, payload_at, after_sending_at, send_at, local_at, adopt, learn_at, recv_at, next_state}
+use Rattle.cdb_leader.specs.Table.{heard_first_phase, heard_second_phase, heard_lead, is_lead, set_aux, end_round, query_at}
+use Rattle.cdb_leader.specs.Table.{payload_at, after_sending_at, send_at, local_at, adopt, learn_at, recv_at, next_state}
 use Rattle.cdb_rules.proofs.Positions.{nth_push_other, nth_push_back}
 use Rattle.cdb_trail.specs.Flow.{Spot, slot, message, Flow, still, moves, MayTake, MaySet}
 use Rattle.cdb_deeds.specs.Numbers.{number_of}
 use Rattle.cdb_deeds.specs.LeaderDeeds.{number_from, number_of_estimate, number_of_proposal, number_of_learnt}
-use Rattle.cdb_trail.specs.LeaderFlow.{Slot, received, estimate, aux, decision, slot_value, sets_aux, sets_estimate, send_flow, query_flow, local_flow, flow, leader_flows}
+use Rattle.cdb_trail.specs.LeaderFlow.{Slot, received, estimate, aux, decision, slot_value, sets_aux, sets_estimate}
+use Rattle.cdb_trail.specs.LeaderFlow.{send_flow, query_flow, local_flow, flow, leader_flows}
 use Rattle.cdb_trail.proofs.Numbers.{IsNumbered, numbered, given_found, given_none, found_passes}
 use Rattle.cdb_trail.proofs.RunFlows.{Fits, taken, AreTrueOfOne}
-use Rattle.cdb_trail.proofs.Trailing.{AreTold}
+use Rattle.cdb_trail.proofs.Trails.{AreTold}
 
 -- ---- what a message reads as is what it carries
 
@@ -75,7 +79,8 @@ reading_of {A} m reading it a is = go (it.from == m) is
 read_of : {A : Type 0} (m : ℕ) (reading : Payload → Option A) (inbox : List Received) (a : A) → first_from m reading inbox ≡ Some a → IsRead m reading inbox a
 read_of {A} m reading inbox a is = go (numbered (λ it. is_some (if_from m reading it)) inbox)
   where
-    go : ((number_of (λ it. is_some (if_from m reading it)) inbox ≡ None) × (find (λ it. is_some (if_from m reading it)) inbox ≡ None)) ⊎ IsNumbered (λ it. is_some (if_from m reading it)) inbox
+    go : ((number_of (λ it. is_some (if_from m reading it)) inbox ≡ None) × (find (λ it. is_some (if_from m reading it)) inbox ≡ None))
+        ⊎ IsNumbered (λ it. is_some (if_from m reading it)) inbox
         → IsRead m reading inbox a
     go (inl none) = absurd (none-some a (sym (given_none (if_from m reading) inbox none.1) ∙ is))
     go (inr it) = record {
@@ -90,7 +95,8 @@ read_of {A} m reading inbox a is = go (numbered (λ it. is_some (if_from m readi
 not_read : {A : Type 0} (m : ℕ) (reading : Payload → Option A) (inbox : List Received) → first_from m reading inbox ≡ None → number_from m reading inbox ≡ None
 not_read {A} m reading inbox is = go (numbered (λ it. is_some (if_from m reading it)) inbox)
   where
-    go : ((number_of (λ it. is_some (if_from m reading it)) inbox ≡ None) × (find (λ it. is_some (if_from m reading it)) inbox ≡ None)) ⊎ IsNumbered (λ it. is_some (if_from m reading it)) inbox
+    go : ((number_of (λ it. is_some (if_from m reading it)) inbox ≡ None) × (find (λ it. is_some (if_from m reading it)) inbox ≡ None))
+        ⊎ IsNumbered (λ it. is_some (if_from m reading it)) inbox
         → number_from m reading inbox ≡ None
     go (inl none) = none.0
     go (inr it) =
@@ -102,7 +108,8 @@ not_read {A} m reading inbox is = go (numbered (λ it. is_some (if_from m readin
 
 module _ (p : ℕ) (s : LocalState) where
   -- the value of the message of that number
-  value_of_number : (i : Input) (number : ℕ) (m : Received) → nth s.inbox number ≡ Some m → taken leader_table leader_flows s i (Some (slot p (received number))) ≡ payload_value m.payload
+  value_of_number : (i : Input) (number : ℕ) (m : Received) → nth s.inbox number ≡ Some m
+      → taken leader_table leader_flows s i (Some (slot p (received number))) ≡ payload_value m.payload
   value_of_number i number m at = ap (λ o. option_and_then (λ (it : Received). payload_value it.payload) o) at
 
   -- what the flow f says of the step to t
@@ -114,7 +121,8 @@ module _ (p : ℕ) (s : LocalState) where
   of_state i t u f is row = subst (λ z. IsTrueRow i z f) (same_Some u t is) row
 
   -- a step that sets no slot
-  quiet : (i : Input) (t : LocalState) (f : Flow Slot) → ((x : Slot) → slot_value t x ≡ slot_value s x) → ((x : Slot) → Contains f.sets (slot p x) → ⊥) → IsTrueRow i t f
+  quiet : (i : Input) (t : LocalState) (f : Flow Slot) → ((x : Slot) → slot_value t x ≡ slot_value s x)
+      → ((x : Slot) → Contains f.sets (slot p x) → ⊥) → IsTrueRow i t f
   quiet i t f same never = record {
     set = λ x here. absurd (never x here);
     kept = λ x v lies no. sym (same x) ∙ lies;
@@ -140,7 +148,8 @@ module _ (p : ℕ) (s : LocalState) where
   sets_first : (y : Slot) (rest : List (Spot Slot)) → Contains (slot p y ∷ rest) (slot p y)
   sets_first y rest = in_contained (slot p y ∷ rest) (slot p y) (inl refl)
 
-  moved : (i : Input) (place : Place) (round : ℕ) (lead : Option ℕ) (f : Flow Slot) → ((x : Slot) → Contains f.sets (slot p x) → ⊥) → IsTrueRow i (record s { place = place; round = round; lead = lead }) f
+  moved : (i : Input) (place : Place) (round : ℕ) (lead : Option ℕ) (f : Flow Slot)
+      → ((x : Slot) → Contains f.sets (slot p x) → ⊥) → IsTrueRow i (record s { place = place; round = round; lead = lead }) f
   moved i place round lead f never = quiet i (record s { place = place; round = round; lead = lead }) f same never
     where
       same : (x : Slot) → slot_value (record s { place = place; round = round; lead = lead }) x ≡ slot_value s x
@@ -150,7 +159,8 @@ module _ (p : ℕ) (s : LocalState) where
       same decision = refl
 
   -- aux is set to the value of the message that is named
-  aux_value : (i : Input) → agreed_estimate s.quorum s.round s.inbox ≡ taken leader_table leader_flows s i (option_map (λ n. slot p (received n)) (number_of_estimate s))
+  aux_value : (i : Input)
+      → agreed_estimate s.quorum s.round s.inbox ≡ taken leader_table leader_flows s i (option_map (λ n. slot p (received n)) (number_of_estimate s))
   aux_value i = by_leader (agreed_leader s.quorum s.round s.inbox)
     where
       by_leader : (o : Option ℕ) → option_map (λ (said : FirstPhase). said.estimate) (option_and_then (λ m. first_phase_from s.round m s.inbox) o)
@@ -188,12 +198,14 @@ module _ (p : ℕ) (s : LocalState) where
       → IsTrueRow i (record s { estimate = w; place = place }) (moves (slot p (received number)) (slot p estimate ∷ []))
   adopted i place w number m at carries = record {
     set = λ x here.
-        subst (λ y. slot_value (record s { estimate = w; place = place }) y ≡ taken leader_table leader_flows s i (Some (slot p (received number)))) (sym (only_slot estimate x here))
+        subst (λ y. slot_value (record s { estimate = w; place = place }) y ≡ taken leader_table leader_flows s i (Some (slot p (received number))))
+        (sym (only_slot estimate x here))
         (sym (value_of_number i number m at ∙ carries));
     kept = kept;
   }
     where
-      kept : (x : Slot) (v : ℕ) → slot_value (record s { estimate = w; place = place }) x ≡ Some v → (Contains {X = Spot Slot} (slot p estimate ∷ []) (slot p x) → ⊥) → slot_value s x ≡ Some v
+      kept : (x : Slot) (v : ℕ) → slot_value (record s { estimate = w; place = place }) x ≡ Some v
+          → (Contains {X = Spot Slot} (slot p estimate ∷ []) (slot p x) → ⊥) → slot_value s x ≡ Some v
       kept (received n) v lies never = lies
       kept estimate v lies never = absurd (never (sets_first estimate []))
       kept aux v lies never = lies
@@ -203,7 +215,9 @@ module _ (p : ℕ) (s : LocalState) where
   queried L0 l t is = go (nat_lt s.round 999999) is
     where
       go : (b : Bool) → (if b then Some (record s { round = s.round + 1; lead = Some l; place = L1 }) else None) ≡ Some t → IsTrueRow (input.Query l) t still
-      go true it = of_state (input.Query l) t (record s { round = s.round + 1; lead = Some l; place = L1 }) still it (moved (input.Query l) L1 (s.round + 1) (Some l) still nothing_set)
+      go true it =
+          of_state (input.Query l) t (record s { round = s.round + 1; lead = Some l; place = L1 })
+          still it (moved (input.Query l) L1 (s.round + 1) (Some l) still nothing_set)
       go false it = absurd (cc)
   queried L1 l t is = absurd (cc)
   queried L2 l t is = go (heard_first_phase s && not (is_lead l s.lead)) is
@@ -227,7 +241,8 @@ module _ (p : ℕ) (s : LocalState) where
           go (inr (inl same)) = let is : x ≡ decision = cc in subst (λ y. slot_value (after_sending_at L5 s) y ≡ Some s.estimate) (sym is) refl
           go (inr (inr none)) = elim none [ ]
 
-      kept : (x : Slot) (v : ℕ) → slot_value (after_sending_at L5 s) x ≡ Some v → (Contains {X = Spot Slot} (message p m ∷ slot p decision ∷ []) (slot p x) → ⊥) → slot_value s x ≡ Some v
+      kept : (x : Slot) (v : ℕ) → slot_value (after_sending_at L5 s) x ≡ Some v
+          → (Contains {X = Spot Slot} (message p m ∷ slot p decision ∷ []) (slot p x) → ⊥) → slot_value s x ≡ Some v
       kept (received n) v lies never = lies
       kept estimate v lies never = lies
       kept aux v lies never = lies
@@ -237,9 +252,11 @@ module _ (p : ℕ) (s : LocalState) where
   sends L0 m t is = absurd (cc)
   sends L1 m t is = go s.lead is
     where
-      go : (o : Option ℕ) → option_map (λ (_ : Payload). after_sending_at L1 s) (option_map (λ l. P1 s.round s.estimate l) o) ≡ Some t → IsTrueRow input.Send t (send_flow L1 p m)
+      go : (o : Option ℕ) → option_map (λ (_ : Payload). after_sending_at L1 s) (option_map (λ l. P1 s.round s.estimate l) o) ≡ Some t
+          → IsTrueRow input.Send t (send_flow L1 p m)
       go None it = absurd (cc)
-      go (Some l) it = of_state input.Send t (after_sending_at L1 s) (send_flow L1 p m) it (moved input.Send L2 s.round s.lead (send_flow L1 p m) (only_message m))
+      go (Some l) it =
+          of_state input.Send t (after_sending_at L1 s) (send_flow L1 p m) it (moved input.Send L2 s.round s.lead (send_flow L1 p m) (only_message m))
   sends L2 m t is = absurd (cc)
   sends L3 m t is = of_state input.Send t (after_sending_at L3 s) (send_flow L3 p m) is (moved input.Send L4 s.round s.lead (send_flow L3 p m) (only_message m))
   sends L4 m t is = absurd (cc)
@@ -254,7 +271,8 @@ module _ (p : ℕ) (s : LocalState) where
           → IsTrueRow input.Local t (sets_estimate p (option_and_then (λ m. number_from m (second_phase s.round) s.inbox) o))
       by_sender None none =
           let nothing : proposal s.round s.inbox ≡ None = given_none (λ m. option_flatten (second_phase_from s.round m s.inbox)) all_processes none in
-          of_state input.Local t (end_round s None) still (sym (ap (λ o. Some (end_round s o)) nothing) ∙ is) (moved input.Local L0 s.round s.lead still nothing_set)
+          of_state input.Local t (end_round s None) still (sym (ap (λ o. Some (end_round s o)) nothing) ∙ is)
+          (moved input.Local L0 s.round s.lead still nothing_set)
       by_sender (Some m) some = by_vote (second_phase_from s.round m s.inbox) refl
         where
           given : proposal s.round s.inbox ≡ option_flatten (second_phase_from s.round m s.inbox)
@@ -263,7 +281,8 @@ module _ (p : ℕ) (s : LocalState) where
           passes : is_some (option_flatten (second_phase_from s.round m s.inbox)) ≡ true
           passes = found_passes (λ n. is_some (option_flatten (second_phase_from s.round n s.inbox))) all_processes m some
 
-          by_vote : (o : Option (Option ℕ)) → second_phase_from s.round m s.inbox ≡ o → IsTrueRow input.Local t (sets_estimate p (number_from m (second_phase s.round) s.inbox))
+          by_vote : (o : Option (Option ℕ)) → second_phase_from s.round m s.inbox ≡ o
+              → IsTrueRow input.Local t (sets_estimate p (number_from m (second_phase s.round) s.inbox))
           by_vote None vote = let no : false ≡ true = subst (λ o. is_some (option_flatten o) ≡ true) vote passes in absurd (cc)
           by_vote (Some None) vote = let no : false ≡ true = subst (λ o. is_some (option_flatten o) ≡ true) vote passes in absurd (cc)
           by_vote (Some (Some w)) vote =
@@ -271,7 +290,8 @@ module _ (p : ℕ) (s : LocalState) where
               let proposed : proposal s.round s.inbox ≡ Some w = given ∙ ap option_flatten vote in
               subst (λ o. IsTrueRow input.Local t (sets_estimate p o)) (sym it.is)
               (of_state input.Local t (end_round s (Some w)) (sets_estimate p (Some it.number)) (sym (ap (λ o. Some (end_round s o)) proposed) ∙ is)
-              (adopted input.Local (if is_only_proposal s.round w s.inbox then L5 else L0) w it.number it.message it.at (second_phase_value s.round it.message.payload (Some w) it.reads)))
+              (adopted input.Local (if is_only_proposal s.round w s.inbox then L5 else L0) w it.number
+              it.message it.at (second_phase_value s.round it.message.payload (Some w) it.reads)))
 
   went_on : (q : Place) (t : LocalState) → local_at q s ≡ Some t → IsTrueRow input.Local t (local_flow q p s)
   went_on L0 t is = absurd (cc)
@@ -284,7 +304,8 @@ module _ (p : ℕ) (s : LocalState) where
   went_on L3 t is = absurd (cc)
   went_on L4 t is = go (heard_second_phase s) is
     where
-      go : (b : Bool) → (if b then Some (end_round s (proposal s.round s.inbox)) else None) ≡ Some t → IsTrueRow input.Local t (sets_estimate p (number_of_proposal s))
+      go : (b : Bool) → (if b then Some (end_round s (proposal s.round s.inbox)) else None) ≡ Some t
+          → IsTrueRow input.Local t (sets_estimate p (number_of_proposal s))
       go true it = ended t it
       go false it = absurd (cc)
   went_on L5 t is = absurd (cc)
@@ -309,7 +330,8 @@ module _ (p : ℕ) (s : LocalState) where
           by_decision (Some w) said =
               let it = read_of m as_decision s.inbox w said in
               subst (λ o. IsTrueRow input.Learn t (sets_estimate p o)) (sym it.is)
-              (of_state input.Learn t (record s { estimate = w; place = L5 }) (sets_estimate p (Some it.number)) (sym (ap (λ o. option_map (λ v. record s { estimate = v; place = L5 }) o) (given ∙ said)) ∙ is)
+              (of_state input.Learn t (record s { estimate = w; place = L5 }) (sets_estimate p (Some it.number))
+              (sym (ap (λ o. option_map (λ v. record s { estimate = v; place = L5 }) o) (given ∙ said)) ∙ is)
               (adopted input.Learn L5 w it.number it.message it.at (decision_value it.message.payload w it.reads)))
 
   learns : (q : Place) (t : LocalState) → learn_at q s ≡ Some t → IsTrueRow input.Learn t (sets_estimate p (number_of_learnt s))
@@ -329,21 +351,28 @@ module _ (p : ℕ) (s : LocalState) where
   heard o m x = record {
     set = λ y here.
         subst (λ z. slot_value (with_message o x) z ≡ payload_value x) (sym (only_slot (received (length s.inbox + 1)) y here))
-        (ap (λ e. option_and_then (λ (it : Received). payload_value it.payload) e) (nth_push_back s.inbox (record { from = o; payload = x }) (length s.inbox + 1) refl));
+        (ap (λ e. option_and_then (λ (it : Received). payload_value it.payload) e)
+        (nth_push_back s.inbox (record { from = o; payload = x }) (length s.inbox + 1) refl));
     kept = kept;
   }
     where
-      kept : (y : Slot) (v : ℕ) → slot_value (with_message o x) y ≡ Some v → (Contains {X = Spot Slot} (slot p (received (length s.inbox + 1)) ∷ []) (slot p y) → ⊥) → slot_value s y ≡ Some v
+      kept : (y : Slot) (v : ℕ) → slot_value (with_message o x) y ≡ Some v
+          → (Contains {X = Spot Slot} (slot p (received (length s.inbox + 1)) ∷ []) (slot p y) → ⊥) → slot_value s y ≡ Some v
       kept (received n) v lies never = go (cases_eq n (length s.inbox + 1))
         where
           go : (n ≡ length s.inbox + 1) ⊎ (n ≡ length s.inbox + 1 → ⊥) → slot_value s (received n) ≡ Some v
-          go (inl new) = absurd (never (subst (λ k. Contains {X = Spot Slot} (slot p (received (length s.inbox + 1)) ∷ []) (slot p (received k))) (sym new) (sets_first (received (length s.inbox + 1)) [])))
-          go (inr old) = ap (λ e. option_and_then (λ (it : Received). payload_value it.payload) e) (sym (nth_push_other s.inbox (record { from = o; payload = x }) n old)) ∙ lies
+          go (inl new) =
+              absurd (never (subst (λ k. Contains {X = Spot Slot} (slot p (received (length s.inbox + 1)) ∷ []) (slot p (received k)))
+              (sym new) (sets_first (received (length s.inbox + 1)) [])))
+          go (inr old) =
+              ap (λ e. option_and_then (λ (it : Received). payload_value it.payload) e)
+              (sym (nth_push_other s.inbox (record { from = o; payload = x }) n old)) ∙ lies
       kept estimate v lies never = lies
       kept aux v lies never = lies
       kept decision v lies never = lies
 
-  receives : (q : Place) (o m : ℕ) (x : Payload) (t : LocalState) → recv_at q s o x ≡ Some t → IsTrueRow (input.Recv o x) t (moves (message o m) (slot p (received (length s.inbox + 1)) ∷ []))
+  receives : (q : Place) (o m : ℕ) (x : Payload) (t : LocalState) → recv_at q s o x ≡ Some t
+      → IsTrueRow (input.Recv o x) t (moves (message o m) (slot p (received (length s.inbox + 1)) ∷ []))
   receives L0 o m x t is = of_state (input.Recv o x) t (with_message o x) _ is (heard o m x)
   receives L1 o m x t is = of_state (input.Recv o x) t (with_message o x) _ is (heard o m x)
   receives L2 o m x t is = of_state (input.Recv o x) t (with_message o x) _ is (heard o m x)
@@ -382,7 +411,8 @@ sent : (p m : ℕ) (q : Place) (s : LocalState) (x : Payload) → payload_at q s
 sent p m L0 s x is = absurd (cc)
 sent p m L1 s x is = go s.lead is
   where
-    go : (o : Option ℕ) → option_map (λ l. P1 s.round s.estimate l) o ≡ Some x → Contains (send_flow L1 p m).sets (message p m) × (payload_value x ≡ Some s.estimate)
+    go : (o : Option ℕ) → option_map (λ l. P1 s.round s.estimate l) o ≡ Some x
+        → Contains (send_flow L1 p m).sets (message p m) × (payload_value x ≡ Some s.estimate)
     go None it = absurd (cc)
     go (Some l) it = (in_front p m [], sym (ap payload_value (same_Some (P1 s.round s.estimate l) x it)))
 sent p m L2 s x is = absurd (cc)

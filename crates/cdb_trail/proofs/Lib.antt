@@ -1,4 +1,4 @@
-pub mod Trailing
+pub mod Trails
 pub mod InPast
 pub mod Whole
 pub mod RunFlows
@@ -7,6 +7,6 @@ pub mod LeaderTrue
 pub mod AlphaTrue
 pub mod Promised
 pub mod WalkBack
-pub mod Playing
-pub mod Telling
-pub mod Originating
+pub mod ReadsPlayed
+pub mod OracleAnswers
+pub mod ValueOrigins

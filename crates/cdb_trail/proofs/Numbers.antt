@@ -1,5 +1,6 @@
 -- What the number of the first element that passes a test says of the searches of the tables.
-use Rattle.std.proofs.Common.{◌≡◌, ℕ, zero, suc, Bool, true, false, cond, List, [], ◌∷◌, Option, Some, None, is_some, option_map, find, if◌then◌else◌, ◌⊎◌, inl, inr, refl, sym, ap, ◌∙◌}
+use Rattle.std.proofs.Common.{◌≡◌, ℕ, zero, suc, Bool, true, false, cond, List, [], ◌∷◌, Option, Some, None}
+use Rattle.std.proofs.Common.{is_some, option_map, find, if◌then◌else◌, ◌⊎◌, inl, inr, refl, sym, ap, ◌∙◌}
 use Rattle.std.specs.Option.{option_or}
 use Rattle.std.proofs.lemmas.Option.{none-some}
 use Rattle.cdb_base.specs.Positions.{nth}
@@ -52,7 +53,8 @@ pub given_found : {X Y : Type 0} (f : X → Option Y) (xs : List X) (x : X) → 
 given_found f [] x is = absurd (none-some x is)
 given_found {X} {Y} f (z ∷ zs) x is = go (f z) refl is (given_found f zs x)
   where
-    go : (o : Option Y) → f z ≡ o → cond (is_some o) (Some z) (find (λ y. is_some (f y)) zs) ≡ Some x → (find (λ y. is_some (f y)) zs ≡ Some x → first_given f zs ≡ f x)
+    go : (o : Option Y) → f z ≡ o → cond (is_some o) (Some z) (find (λ y. is_some (f y)) zs) ≡ Some x
+        → (find (λ y. is_some (f y)) zs ≡ Some x → first_given f zs ≡ f x)
         → option_or (f z) (first_given f zs) ≡ f x
     go (Some y) at it rest =
         let same : z ≡ x = cc in
@@ -63,7 +65,8 @@ pub given_none : {X Y : Type 0} (f : X → Option Y) (xs : List X) → find (λ 
 given_none f [] is = refl
 given_none {X} {Y} f (z ∷ zs) is = go (f z) refl is (given_none f zs)
   where
-    go : (o : Option Y) → f z ≡ o → cond (is_some o) (Some z) (find (λ y. is_some (f y)) zs) ≡ None → (find (λ y. is_some (f y)) zs ≡ None → first_given f zs ≡ None)
+    go : (o : Option Y) → f z ≡ o → cond (is_some o) (Some z) (find (λ y. is_some (f y)) zs) ≡ None
+        → (find (λ y. is_some (f y)) zs ≡ None → first_given f zs ≡ None)
         → option_or (f z) (first_given f zs) ≡ None
     go (Some y) at it rest = absurd (cc)
     go None at it rest = ap (λ o. option_or o (first_given f zs)) at ∙ rest it

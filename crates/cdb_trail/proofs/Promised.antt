@@ -27,7 +27,8 @@ alpha_values_have_trails setup = each_value_has_a_trail (alpha_machine setup) al
 
 pub leader_trails : (setup : Parts) → EachDecisionHasATrail (leader_machine setup) leader_flows setup.inputs leader_table.decision
 leader_trails setup =
-    each_decision_has_a_trail (leader_machine setup) leader_flows setup.inputs (leader_flows_are_true setup) leader.slots_apart leader_table.decision (λ s. refl)
+    each_decision_has_a_trail (leader_machine setup) leader_flows setup.inputs
+    (leader_flows_are_true setup) leader.slots_apart leader_table.decision (λ s. refl)
 
 pub alpha_trails : (setup : Parts) → EachDecisionHasATrail (alpha_machine setup) alpha_flows setup.inputs alpha_table.decision
 alpha_trails setup =

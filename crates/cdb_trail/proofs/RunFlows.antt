@@ -1,5 +1,6 @@
 -- The flows of a machine are true in each run where they are true of one process.
-use Rattle.std.proofs.Common.{◌≡◌, ℕ, zero, suc, ◌+◌, Bool, true, false, ◌==◌, List, [], ◌++◌, length, Contains, Option, Some, None, is_some, option_map, option_to_list, option_and_then, unwrap_or, if◌then◌else◌, ◌⊎◌, inl, inr, refl, sym, ap, subst, ◌∙◌, eqb-true}
+use Rattle.std.proofs.Common.{◌≡◌, ℕ, zero, suc, ◌+◌, Bool, true, false, ◌==◌, List, [], ◌++◌, length, Contains, Option, Some, None, is_some, option_map}
+use Rattle.std.proofs.Common.{option_to_list, option_and_then, unwrap_or, if◌then◌else◌, ◌⊎◌, inl, inr, refl, sym, ap, subst, ◌∙◌, eqb-true}
 use Rattle.std.specs.FinSet as set
 use Rattle.std.proofs.lemmas.Bool.{cases_eq}
 use Rattle.std.proofs.lemmas.Option.{none-some, same_Some}
@@ -26,14 +27,14 @@ use Rattle.cdb_rules.specs.Machines.{machine_of}
 use Rattle.cdb_rules.specs.Mail.{mail_of}
 use Rattle.cdb_rules.specs.State.{Machine, ProcessState, RunState, start, fresh_process}
 use Rattle.cdb_rules.specs.Step.{may_lose, after}
-use Rattle.cdb_rules.specs.Taking.{arriving, taken_local, input_of, registers_after}
+use Rattle.cdb_rules.specs.InputsTaken.{arriving, taken_local, input_of, registers_after}
 use Rattle.cdb_rules.proofs.FoldKeeps.{reached_keeps}
 use Rattle.cdb_rules.proofs.Positions.{nth-map, nth-set_nth_same, nth-set_nth_other, nth-update_nth_same, nth-update_nth_other, nth_push_other, nth_push_back}
 use Rattle.cdb_rules.proofs.Stages.{sight_in, meets, sent_after, process_after, state_after}
 use Rattle.cdb_rules.proofs.Taken.{IsAccepted, mapped, bound, both, some_of, taken_from, parts, where_true}
 use Rattle.cdb_setup.specs.Parts.{Parts}
 use Rattle.cdb_agreement.proofs.Firsts.{first_of_input, first_cells, first_decision}
-use Rattle.cdb_trail.proofs.Trailing.{AreTold, same_register}
+use Rattle.cdb_trail.proofs.Trails.{AreTold, same_register}
 use Rattle.cdb_trail.specs.Flow.{Spot, slot, message, register, Flow, still, Flows, value_at, flow_of, flow_by, MayTake, MaySet, IsReached, FlowsAreTrue}
 
 -- an input of a step of that kind
@@ -59,7 +60,8 @@ module _ {L S : Type 0} (table : Table L) (flows : Flows L S) where
   pub record AreTrueOfOne (Good : L → Type 0) : Type 0 where
     pub first_good : (me n q given : ℕ) → Good (table.first me n q given)
     pub next_good : (s t : L) (i : Input) → Good s → table.next s i ≡ Some t → Good t
-    pub slot_set : (p : ℕ) (s t : L) (kind : Kind) (i : Input) → Good s → Fits kind i → table.next s i ≡ Some t → (x : S) → Contains (flows.flow p s kind).sets (slot p x)
+    pub slot_set : (p : ℕ) (s t : L) (kind : Kind) (i : Input) → Good s → Fits kind i
+        → table.next s i ≡ Some t → (x : S) → Contains (flows.flow p s kind).sets (slot p x)
         → flows.value t x ≡ taken s i (flows.flow p s kind).takes
     pub slot_kept : (p : ℕ) (s t : L) (kind : Kind) (i : Input) → Good s → Fits kind i → table.next s i ≡ Some t → (x : S) (v : ℕ) → flows.value t x ≡ Some v
         → (Contains (flows.flow p s kind).sets (slot p x) → ⊥) → flows.value s x ≡ Some v
@@ -76,7 +78,8 @@ module _ {L S : Type 0} (table : Table L) (flows : Flows L S) where
   fits state p (Query l) i is = sym (same_Some (input.Query l) i is)
   fits state p (Send m) i is = sym (same_Some input.Send i is)
   fits state p (Recv o m) i is = let it = mapped (input.Recv o) (arriving (mail_of state) p (message_name o m)) i is in (it.0, sym it.2)
-  fits state p (Read r) i is = let it = mapped (λ (stands : RegisterState). input.Read r stands.cell) (register_of state.registers r) i is in (it.0.cell, sym it.2)
+  fits state p (Read r) i is = let it = mapped (λ (stands : RegisterState). input.Read r stands.cell) (register_of state.registers r) i is in
+      (it.0.cell, sym it.2)
   fits state p (Write r) i is = let it = mapped (λ (stands : RegisterState). input.Write r) (register_of state.registers r) i is in sym it.2
   fits state p Local i is = sym (same_Some input.Local i is)
   fits state p Learn i is = sym (same_Some input.Learn i is)
@@ -99,13 +102,15 @@ module _ {L S : Type 0} (table : Table L) (flows : Flows L S) where
         (suc k, ap (λ y. slot (suc k) y) is.0, first.2 ∙ ap (λ y. Some y) (sym is.1))
     first_lies (message s m) v lies =
         let payload = bound payload_value (payload_of (mail_of (start machine)) (message_name s m)) v lies in
-        absurd (none_sent (nth (start machine).processes s) refl (sym (ap (λ sent. nth (unwrap_or sent []) m) (nth-map (λ (x : ProcessState L). x.sent) (start machine).processes s)) ∙ payload.1))
+        absurd (none_sent (nth (start machine).processes s) refl
+        (sym (ap (λ sent. nth (unwrap_or sent []) m) (nth-map (λ (x : ProcessState L). x.sent) (start machine).processes s)) ∙ payload.1))
       where
         nothing : (i : ℕ) (y : Payload) → nth {A = Payload} [] i ≡ Some y → ⊥
         nothing zero y is = none-some y is
         nothing (suc i) y is = none-some y is
 
-        none_sent : {y : Payload} (o : Option (ProcessState L)) → nth (start machine).processes s ≡ o → nth (unwrap_or (option_map (λ (x : ProcessState L). x.sent) o) []) m ≡ Some y → ⊥
+        none_sent : {y : Payload} (o : Option (ProcessState L)) → nth (start machine).processes s ≡ o
+            → nth (unwrap_or (option_map (λ (x : ProcessState L). x.sent) o) []) m ≡ Some y → ⊥
         none_sent {y = y} None is it = nothing m y it
         none_sent {y = y} (Some x) is it =
             let begun = mapped fresh_process (nth machine.firsts s) x (sym (nth-map fresh_process machine.firsts s) ∙ is) in
@@ -136,7 +141,8 @@ module _ {L S : Type 0} (table : Table L) (flows : Flows L S) where
           let it = mapped (input.Recv o) (arriving (mail_of t) p (message_name o m)) i is in
           ap (λ y. option_and_then payload_value y) (there (is_lost (mail_of t) (copy_name (message_name o m) p)) it.0 it.1) ∙ ap brought_value it.2
         where
-          there : (b : Bool) (y : Payload) → (if b then None else payload_of (mail_of t) (message_name o m)) ≡ Some y → payload_of (mail_of t) (message_name o m) ≡ Some y
+          there : (b : Bool) (y : Payload) → (if b then None else payload_of (mail_of t) (message_name o m)) ≡ Some y
+              → payload_of (mail_of t) (message_name o m) ≡ Some y
           there true y none = absurd (none-some y none)
           there false y some = some
 
@@ -146,7 +152,8 @@ module _ {L S : Type 0} (table : Table L) (flows : Flows L S) where
           ap (λ o. option_and_then (λ (c : Cell). c.val) (option_map (λ (y : RegisterState). y.cell) o)) it.1 ∙ ap brought_value it.2
 
       -- what is taken lies in the spot
-      lies_there : (kind : Kind) (i : Input) → input_of kind (sight_in t p kind) ≡ Some i → (o : Option (Spot S)) → ((spot : Spot S) → o ≡ Some spot → MayTake p kind spot)
+      lies_there : (kind : Kind) (i : Input) → input_of kind (sight_in t p kind) ≡ Some i
+          → (o : Option (Spot S)) → ((spot : Spot S) → o ≡ Some spot → MayTake p kind spot)
           → option_and_then (value_at flows t) o ≡ taken local i o
       lies_there kind i is None may = refl
       lies_there kind i is (Some (slot q y)) may = subst (λ n. value_at flows t (slot n y) ≡ flows.value local y) (sym (may (slot q y) refl)) (slot_of y)
@@ -216,7 +223,8 @@ module _ {L S : Type 0} (table : Table L) (flows : Flows L S) where
         -- what a write writes
         abbrev Writes : Reg → Type 0
         Writes r =
-            (cell : Cell) × (wished_cell (table.wish local) ≡ Some cell) × ((stands : RegisterState) × (register_of t.registers r ≡ Some stands)) × (table.next local (input.Write r) ≡ Some s)
+            (cell : Cell) × (wished_cell (table.wish local) ≡ Some cell)
+            × ((stands : RegisterState) × (register_of t.registers r ≡ Some stands)) × (table.next local (input.Write r) ≡ Some s)
 
         writes : (r : Reg) → Accepted (Write r) → Writes r
         writes r accepted =
@@ -225,10 +233,12 @@ module _ {L S : Type 0} (table : Table L) (flows : Flows L S) where
               cell.0,
               cell.1,
               stands,
-              sym (ap (λ (o : Option RegisterState). taken_local table.next local (option_map (λ (y : RegisterState). input.Write r) o)) stands.1) ∙ accepted.takes,
+              sym (ap (λ (o : Option RegisterState). taken_local table.next local (option_map (λ (y : RegisterState). input.Write r) o)) stands.1)
+                  ∙ accepted.takes,
             )
 
-        written_there : (r : Reg) (cell : Cell) → register_of (with_register (put_cell cell) t.registers r) r ≡ option_map (put_cell cell) (register_of t.registers r)
+        written_there : (r : Reg) (cell : Cell)
+            → register_of (with_register (put_cell cell) t.registers r) r ≡ option_map (put_cell cell) (register_of t.registers r)
         written_there (R j) cell = nth-update_nth_same (put_cell cell) t.registers.of_processes j
         written_there Dec cell = refl
 
@@ -238,7 +248,8 @@ module _ {L S : Type 0} (table : Table L) (flows : Flows L S) where
         other_register Dec (R i) cell other = refl
         other_register Dec Dec cell other = absurd (other refl)
 
-        registers_written : (r : Reg) (cell : Cell) → wished_cell (table.wish local) ≡ Some cell → (to (Write r)).registers ≡ with_register (put_cell cell) t.registers r
+        registers_written : (r : Reg) (cell : Cell) → wished_cell (table.wish local) ≡ Some cell
+            → (to (Write r)).registers ≡ with_register (put_cell cell) t.registers r
         registers_written r cell wishes = ap (registers_after t.registers (Write r)) wishes
 
         -- ---- a spot that is set
@@ -250,33 +261,42 @@ module _ {L S : Type 0} (table : Table L) (flows : Flows L S) where
             own_messages (Send m) m ∙ ap (λ o. nth (x.sent ++ option_to_list o) m) it.1 ∙ nth_push_back x.sent it.0 m it.2 in
             ap (λ o. option_and_then payload_value o) lies ∙ (one.sent p m local s it.0 it.3 it.1).1
 
-        set_register : (r : Reg) → Accepted (Write r) → value_at flows (to (Write r)) (register r) ≡ taken local (input.Write r) (flows.flow p local (Write r)).takes
+        set_register : (r : Reg) → Accepted (Write r)
+            → value_at flows (to (Write r)) (register r) ≡ taken local (input.Write r) (flows.flow p local (Write r)).takes
         set_register r accepted =
             let it = writes r accepted in
             let lies : register_of (to (Write r)).registers r ≡ Some (put_cell it.0 it.2.0) =
             ap (λ registers. register_of registers r) (registers_written r it.0 it.1) ∙ written_there r it.0 ∙ ap (option_map (put_cell it.0)) it.2.1 in
             ap (λ o. option_and_then (λ (c : Cell). c.val) (option_map (λ (y : RegisterState). y.cell) o)) lies ∙ (one.written p r local s it.0 it.3 it.1).1
 
-        set_spot : (kind : Kind) → Accepted kind → (i : Input) → input_of kind (sight_in t p kind) ≡ Some i → (spot : Spot S) → Contains (flows.flow p local kind).sets spot
+        set_spot : (kind : Kind) → Accepted kind → (i : Input) → input_of kind (sight_in t p kind) ≡ Some i
+            → (spot : Spot S) → Contains (flows.flow p local kind).sets spot
             → value_at flows (to kind) spot ≡ taken local i (flows.flow p local kind).takes
         set_spot kind accepted i is (slot q y) here =
             let same : q ≡ p = one.sets_own p local kind (slot q y) here in
             let next = sym (ap (λ o. taken_local table.next local o) is) ∙ accepted.takes in
             let P : ℕ → Type 0 = λ n. value_at flows (to kind) (slot n y) ≡ taken local i (flows.flow p local kind).takes in
             subst P (sym same)
-            (slot_after kind y ∙ one.slot_set p local s kind i good (fits t p kind i is) next y (subst (λ n. Contains (flows.flow p local kind).sets (slot n y)) same here))
+            (slot_after kind y
+            ∙ one.slot_set p local s kind i good (fits t p kind i is) next y (subst (λ n. Contains (flows.flow p local kind).sets (slot n y)) same here))
         set_spot kind accepted i is (message o m) here =
             let may = one.sets_own p local kind (message o m) here in
-            let P : Kind → Type 0 = λ z. Accepted z → (j : Input) → input_of z (sight_in t p z) ≡ Some j → value_at flows (to z) (message p m) ≡ taken local j (flows.flow p local z).takes in
+            let P : Kind → Type 0 =
+            λ z. Accepted z → (j : Input) → input_of z (sight_in t p z) ≡ Some j
+            → value_at flows (to z) (message p m) ≡ taken local j (flows.flow p local z).takes in
             let Q : ℕ → Type 0 = λ n. value_at flows (to kind) (message n m) ≡ taken local i (flows.flow p local kind).takes in
             subst Q (sym may.0)
-            (subst P (sym may.1) (λ sent j is_j. set_message m sent ∙ ap (λ z. taken local z (flows.flow p local (Send m)).takes) (same_Some input.Send j is_j)) accepted i is)
+            (subst P (sym may.1)
+            (λ sent j is_j. set_message m sent ∙ ap (λ z. taken local z (flows.flow p local (Send m)).takes) (same_Some input.Send j is_j)) accepted i is)
         set_spot kind accepted i is (register r) here =
             let may : kind ≡ Write r = one.sets_own p local kind (register r) here in
-            let P : Kind → Type 0 = λ z. Accepted z → (j : Input) → input_of z (sight_in t p z) ≡ Some j → value_at flows (to z) (register r) ≡ taken local j (flows.flow p local z).takes in
+            let P : Kind → Type 0 =
+            λ z. Accepted z → (j : Input) → input_of z (sight_in t p z) ≡ Some j
+            → value_at flows (to z) (register r) ≡ taken local j (flows.flow p local z).takes in
             subst P (sym may)
             (λ wrote j is_j. set_register r wrote
-            ∙ ap (λ z. taken local z (flows.flow p local (Write r)).takes) (mapped (λ (stands : RegisterState). input.Write r) (register_of t.registers r) j is_j).2)
+            ∙ ap (λ z. taken local z (flows.flow p local (Write r)).takes)
+            (mapped (λ (stands : RegisterState). input.Write r) (register_of t.registers r) j is_j).2)
             accepted i is
 
         sets_nothing : (spot : Spot S) → Contains (flows.flow p local Crash).sets spot → ⊥
@@ -289,14 +309,16 @@ module _ {L S : Type 0} (table : Table L) (flows : Flows L S) where
         good_left kind accepted = go (has_input kind accepted.met)
           where
             go : (kind ≡ Crash) ⊎ ((i : Input) × (input_of kind (sight_in t p kind) ≡ Some i)) → Good s
-            go (inl crashes) = subst Good (same_Some local s (subst (λ z. taken_local table.next local (input_of z (sight_in t p z)) ≡ Some s) crashes accepted.takes)) good
+            go (inl crashes) =
+                subst Good (same_Some local s (subst (λ z. taken_local table.next local (input_of z (sight_in t p z)) ≡ Some s) crashes accepted.takes)) good
             go (inr it) = one.next_good local s it.0 good (sym (ap (λ o. taken_local table.next local o) it.1) ∙ accepted.takes)
 
         pub set_by_step : (kind : Kind) → Accepted kind → (spot : Spot S) → Contains (flows.flow p local kind).sets spot
             → value_at flows (to kind) spot ≡ option_and_then (value_at flows t) (flows.flow p local kind).takes
         set_by_step kind accepted spot here = go (has_input kind accepted.met)
           where
-            go : (kind ≡ Crash) ⊎ ((i : Input) × (input_of kind (sight_in t p kind) ≡ Some i)) → value_at flows (to kind) spot ≡ option_and_then (value_at flows t) (flows.flow p local kind).takes
+            go : (kind ≡ Crash) ⊎ ((i : Input) × (input_of kind (sight_in t p kind) ≡ Some i))
+                → value_at flows (to kind) spot ≡ option_and_then (value_at flows t) (flows.flow p local kind).takes
             go (inl crashes) = absurd (sets_nothing spot (subst (λ z. Contains (flows.flow p local z).sets spot) crashes here))
             go (inr it) =
                 set_spot kind accepted it.0 it.1 spot here
@@ -304,12 +326,14 @@ module _ {L S : Type 0} (table : Table L) (flows : Flows L S) where
 
         -- ---- a spot that is not set
 
-        kept_slot : (kind : Kind) → Accepted kind → (y : S) (v : ℕ) → flows.value s y ≡ Some v → (Contains (flows.flow p local kind).sets (slot p y) → ⊥) → flows.value local y ≡ Some v
+        kept_slot : (kind : Kind) → Accepted kind → (y : S) (v : ℕ) → flows.value s y ≡ Some v
+            → (Contains (flows.flow p local kind).sets (slot p y) → ⊥) → flows.value local y ≡ Some v
         kept_slot kind accepted y v lies never = go (has_input kind accepted.met)
           where
             go : (kind ≡ Crash) ⊎ ((i : Input) × (input_of kind (sight_in t p kind) ≡ Some i)) → flows.value local y ≡ Some v
             go (inl crashes) =
-                let same : local ≡ s = same_Some local s (subst (λ z. taken_local table.next local (input_of z (sight_in t p z)) ≡ Some s) crashes accepted.takes) in
+                let same : local ≡ s =
+                same_Some local s (subst (λ z. taken_local table.next local (input_of z (sight_in t p z)) ≡ Some s) crashes accepted.takes) in
                 ap (λ l. flows.value l y) same ∙ lies
             go (inr it) =
                 let next = sym (ap (λ o. taken_local table.next local o) it.1) ∙ accepted.takes in
@@ -328,7 +352,8 @@ module _ {L S : Type 0} (table : Table L) (flows : Flows L S) where
                 let same : number ≡ m = it.2 ∙ sym new in
                 absurd (never (subst (λ n. Contains (flows.flow p local (Send number)).sets (message p n)) same (one.sent p number local s it.0 it.3 it.1).0))
             go (inr old) =
-                ap (λ o. option_and_then payload_value o) (sym (nth_push_other x.sent it.0 m old) ∙ sym (ap (λ o. nth (x.sent ++ option_to_list o) m) it.1)) ∙ lies
+                ap (λ o. option_and_then payload_value o)
+                (sym (nth_push_other x.sent it.0 m old) ∙ sym (ap (λ o. nth (x.sent ++ option_to_list o) m) it.1)) ∙ lies
         kept_message (Query l) accepted m v lies never = lies
         kept_message (Recv o n) accepted m v lies never = lies
         kept_message (Read r) accepted m v lies never = lies
@@ -340,7 +365,8 @@ module _ {L S : Type 0} (table : Table L) (flows : Flows L S) where
         abbrev shown : Option RegisterState → Option ℕ
         shown o = option_and_then (λ (c : Cell). c.val) (option_map (λ (y : RegisterState). y.cell) o)
 
-        kept_register : (kind : Kind) → Accepted kind → (r : Reg) (v : ℕ) → shown (register_of (to kind).registers r) ≡ Some v → (Contains (flows.flow p local kind).sets (register r) → ⊥)
+        kept_register : (kind : Kind) → Accepted kind → (r : Reg) (v : ℕ)
+            → shown (register_of (to kind).registers r) ≡ Some v → (Contains (flows.flow p local kind).sets (register r) → ⊥)
             → shown (register_of t.registers r) ≡ Some v
         kept_register (Write o) accepted r v lies never = go (same_register r o)
           where
@@ -348,7 +374,8 @@ module _ {L S : Type 0} (table : Table L) (flows : Flows L S) where
             it = writes o accepted
 
             go : AreTold r o → shown (register_of t.registers r) ≡ Some v
-            go (inl same) = absurd (never (subst (λ z. Contains (flows.flow p local (Write o)).sets (register z)) (sym same) (one.written p o local s it.0 it.3 it.1).0))
+            go (inl same) =
+                absurd (never (subst (λ z. Contains (flows.flow p local (Write o)).sets (register z)) (sym same) (one.written p o local s it.0 it.3 it.1).0))
             go (inr other) =
                 ap shown (sym (other_register o r it.0 other) ∙ sym (ap (λ registers. register_of registers r) (registers_written o it.0 it.1))) ∙ lies
         kept_register (Query l) accepted r v lies never = lies
@@ -359,7 +386,8 @@ module _ {L S : Type 0} (table : Table L) (flows : Flows L S) where
         kept_register Learn accepted r v lies never = lies
         kept_register Crash accepted r v lies never = lies
 
-        pub kept_by_step : (kind : Kind) → Accepted kind → (spot : Spot S) (v : ℕ) → value_at flows (to kind) spot ≡ Some v → (Contains (flows.flow p local kind).sets spot → ⊥) → value_at flows t spot ≡ Some v
+        pub kept_by_step : (kind : Kind) → Accepted kind → (spot : Spot S) (v : ℕ) → value_at flows (to kind) spot ≡ Some v
+            → (Contains (flows.flow p local kind).sets spot → ⊥) → value_at flows t spot ≡ Some v
         kept_by_step kind accepted (slot q y) v lies never = go (cases_eq q p)
           where
             go : (q ≡ p) ⊎ (q ≡ p → ⊥) → value_at flows t (slot q y) ≡ Some v
@@ -372,12 +400,16 @@ module _ {L S : Type 0} (table : Table L) (flows : Flows L S) where
           where
             go : (o ≡ p) ⊎ (o ≡ p → ⊥) → value_at flows t (message o m) ≡ Some v
             go (inl same) =
-                let here = sym (ap (λ z. option_and_then payload_value z) (own_messages kind m)) ∙ subst (λ n. value_at flows (to kind) (message n m) ≡ Some v) same lies in
-                let before = kept_message kind accepted m v here (λ set. never (subst (λ n. Contains (flows.flow p local kind).sets (message n m)) (sym same) set)) in
+                let here =
+                sym (ap (λ z. option_and_then payload_value z) (own_messages kind m))
+                ∙ subst (λ n. value_at flows (to kind) (message n m) ≡ Some v) same lies in
+                let before =
+                kept_message kind accepted m v here (λ set. never (subst (λ n. Contains (flows.flow p local kind).sets (message n m)) (sym same) set)) in
                 subst (λ n. value_at flows t (message n m) ≡ Some v) (sym same)
                 (ap (λ z. option_and_then payload_value z) (messages_in t p m ∙ ap (λ z. nth (sent_in z) m) at) ∙ before)
             go (inr other) =
-                ap (λ z. option_and_then payload_value z) (messages_in t o m ∙ ap (λ z. nth (sent_in z) m) (sym (others kind o other)) ∙ sym (messages_in (to kind) o m)) ∙ lies
+                ap (λ z. option_and_then payload_value z)
+                (messages_in t o m ∙ ap (λ z. nth (sent_in z) m) (sym (others kind o other)) ∙ sym (messages_in (to kind) o m)) ∙ lies
         kept_by_step kind accepted (register r) v lies never = kept_register kind accepted r v lies never
 
     -- ---- each event
@@ -398,7 +430,8 @@ module _ {L S : Type 0} (table : Table L) (flows : Flows L S) where
         let step = taken_from machine t u p k kind is in
         let x = step.process in
         let good = all p x step.at_process in
-        subst AllGood step.leads_to (left_good p k kind x step.next step.at_process (good_left t p x step.at_process good k step.next kind (parts machine t u p k kind step)))
+        subst AllGood step.leads_to
+        (left_good p k kind x step.next step.at_process (good_left t p x step.at_process good k step.next kind (parts machine t u p k kind step)))
       where
         left_good : (p k : ℕ) (kind : Kind) (x : ProcessState L) (s : L) → nth t.processes p ≡ Some x → Good s → AllGood (state_after machine t p k kind x s)
         left_good p k kind x s at good o y here = go (cases_eq o p)
@@ -406,9 +439,12 @@ module _ {L S : Type 0} (table : Table L) (flows : Flows L S) where
             go : (o ≡ p) ⊎ (o ≡ p → ⊥) → Good y.progress.local
             go (inl same) =
                 let there = subst (λ n. nth (state_after machine t p k kind x s).processes n ≡ Some y) same here in
-                let is_y = same_Some (process_after machine x p k kind (sight_in t p kind) s) y (sym (nth-set_nth_same t.processes p (process_after machine x p k kind (sight_in t p kind) s) x at) ∙ there) in
+                let is_y =
+                same_Some (process_after machine x p k kind (sight_in t p kind) s) y
+                (sym (nth-set_nth_same t.processes p (process_after machine x p k kind (sight_in t p kind) s) x at) ∙ there) in
                 subst (λ (z : ProcessState L). Good z.progress.local) is_y good
-            go (inr other) = all o y (sym (nth-set_nth_other t.processes p o (process_after machine x p k kind (sight_in t p kind) s) (λ same. other (sym same))) ∙ here)
+            go (inr other) =
+                all o y (sym (nth-set_nth_other t.processes p o (process_after machine x p k kind (sight_in t p kind) s) (λ same. other (sym same))) ∙ here)
     after_good t (happening.Lost copy) u all is =
         let lost = where_true (may_lose machine (mail_of t) copy) (Some (record t { lost = set.insert t.lost copy })) u is in
         subst AllGood (same_Some (record t { lost = set.insert t.lost copy }) u lost.1) all
@@ -419,27 +455,33 @@ module _ {L S : Type 0} (table : Table L) (flows : Flows L S) where
     pub are_true : FlowsAreTrue machine flows setup.inputs
     are_true = record { set = set_by; kept = kept_by; first = first_lies; takes_own = one.takes_own; sets_own = one.sets_own }
       where
-        flow_is : (t : RunState L) (p k : ℕ) (kind : Kind) (x : ProcessState L) → nth t.processes p ≡ Some x → flow_of flows t (happening.Step p k kind) ≡ flows.flow p x.progress.local kind
+        flow_is : (t : RunState L) (p k : ℕ) (kind : Kind) (x : ProcessState L) → nth t.processes p ≡ Some x
+            → flow_of flows t (happening.Step p k kind) ≡ flows.flow p x.progress.local kind
         flow_is t p k kind x at = ap (flow_by flows p kind) at
 
-        set_by : (t u : RunState L) (event : Event) → IsReached machine t → after machine t event ≡ Some u → (spot : Spot S) → Contains (flow_of flows t event).sets spot
+        set_by : (t u : RunState L) (event : Event) → IsReached machine t
+            → after machine t event ≡ Some u → (spot : Spot S) → Contains (flow_of flows t event).sets spot
             → value_at flows u spot ≡ option_and_then (value_at flows t) (flow_of flows t event).takes
         set_by t u (happening.Step p k kind) reaches is spot here =
             let taken_step = taken_from machine t u p k kind is in
             let x = taken_step.process in
             let flow = flow_is t p k kind x taken_step.at_process in
             subst (λ z. value_at flows z spot ≡ option_and_then (value_at flows t) (flow_of flows t (happening.Step p k kind)).takes) taken_step.leads_to
-            (subst (λ (f : Flow S). value_at flows (state_after machine t p k kind x taken_step.next) spot ≡ option_and_then (value_at flows t) f.takes) (sym flow)
-            (set_by_step t p x taken_step.at_process (reached_good t reaches p x taken_step.at_process) k taken_step.next kind (parts machine t u p k kind taken_step) spot (subst (λ (f : Flow S). Contains f.sets spot) flow here)))
+            (subst (λ (f : Flow S).
+            value_at flows (state_after machine t p k kind x taken_step.next) spot ≡ option_and_then (value_at flows t) f.takes) (sym flow)
+            (set_by_step t p x taken_step.at_process (reached_good t reaches p x taken_step.at_process) k taken_step.next
+            kind (parts machine t u p k kind taken_step) spot (subst (λ (f : Flow S). Contains f.sets spot) flow here)))
         set_by t u (happening.Lost copy) reaches is spot here = let none = contained_in [] spot here in elim none [ ]
 
-        kept_by : (t u : RunState L) (event : Event) → IsReached machine t → after machine t event ≡ Some u → (spot : Spot S) (v : ℕ) → value_at flows u spot ≡ Some v
+        kept_by : (t u : RunState L) (event : Event) → IsReached machine t
+            → after machine t event ≡ Some u → (spot : Spot S) (v : ℕ) → value_at flows u spot ≡ Some v
             → (Contains (flow_of flows t event).sets spot → ⊥) → value_at flows t spot ≡ Some v
         kept_by t u (happening.Step p k kind) reaches is spot v lies never =
             let taken_step = taken_from machine t u p k kind is in
             let x = taken_step.process in
             let flow = flow_is t p k kind x taken_step.at_process in
-            kept_by_step t p x taken_step.at_process (reached_good t reaches p x taken_step.at_process) k taken_step.next kind (parts machine t u p k kind taken_step) spot v
+            kept_by_step t p x taken_step.at_process (reached_good t reaches p x taken_step.at_process)
+            k taken_step.next kind (parts machine t u p k kind taken_step) spot v
             (subst (λ z. value_at flows z spot ≡ Some v) (sym taken_step.leads_to) lies)
             (λ here. never (subst (λ (f : Flow S). Contains f.sets spot) (sym flow) here))
         kept_by t u (happening.Lost copy) reaches is spot v lies never =
@@ -447,7 +489,8 @@ module _ {L S : Type 0} (table : Table L) (flows : Flows L S) where
             let same = same_Some (record t { lost = set.insert t.lost copy }) u lost.1 in
             as_it_was t copy spot v (subst (λ z. value_at flows z spot ≡ Some v) (sym same) lies)
           where
-            as_it_was : (t : RunState L) (copy : CopyName) (spot : Spot S) (v : ℕ) → value_at flows (record t { lost = set.insert t.lost copy }) spot ≡ Some v → value_at flows t spot ≡ Some v
+            as_it_was : (t : RunState L) (copy : CopyName) (spot : Spot S) (v : ℕ)
+                → value_at flows (record t { lost = set.insert t.lost copy }) spot ≡ Some v → value_at flows t spot ≡ Some v
             as_it_was t copy (slot q y) v lies = lies
             as_it_was t copy (message o m) v lies = lies
             as_it_was t copy (register r) v lies = lies

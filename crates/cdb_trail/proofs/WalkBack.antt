@@ -1,5 +1,6 @@
 -- The walk back from a step along its trail: what is left of the trail leads to the first step that was found.
-use Rattle.std.proofs.Common.{◌≡◌, ℕ, zero, suc, ◌<◌, ◌≤◌, Bool, true, false, List, [], ◌∷◌, ◌++◌, Contains, Option, Some, None, length, replicate, slice_set, option_to_list, ◌⊎◌, inl, inr, refl, sym, ap, subst, ◌∙◌, arith, true≢false}
+use Rattle.std.proofs.Common.{◌≡◌, ℕ, zero, suc, ◌<◌, ◌≤◌, Bool, true, false, List, [], ◌∷◌, ◌++◌, Contains, Option, Some, None, length}
+use Rattle.std.proofs.Common.{replicate, slice_set, option_to_list, ◌⊎◌, inl, inr, refl, sym, ap, subst, ◌∙◌, arith, true≢false}
 use Rattle.std.proofs.lemmas.Bool.{cases_eq, cases_lt}
 use Rattle.std.proofs.lemmas.List.{length-set, length-replicate, get_or-replicate}
 use Rattle.std.proofs.lemmas.List.Elements.{Contains-push_cases}
@@ -52,12 +53,8 @@ no_flags n (suc k) is =
 
 -- ---- the spots that are set
 
-pub among_two : {A : Type 0} (first second : Option A) (x : A) → (first ≡ Some x) ⊎ (second ≡ Some x) → Contains (option_to_list first ++ option_to_list second) x
-among_two {A} first second x (inl is) = subst (λ (o : Option A). Contains (option_to_list o ++ option_to_list second) x) (sym is) (in_contained (x ∷ option_to_list second) x (inl refl))
-among_two {A} None second x (inr is) = subst (λ (o : Option A). Contains (option_to_list o) x) (sym is) (in_contained (x ∷ []) x (inl refl))
-among_two {A} (Some y) second x (inr is) = subst (λ (o : Option A). Contains (y ∷ option_to_list o) x) (sym is) (in_contained (y ∷ x ∷ []) x (inr (inl refl)))
-
-pub one_of_two : {A : Type 0} (first second : Option A) (x : A) → Contains (option_to_list first ++ option_to_list second) x → (first ≡ Some x) ⊎ (second ≡ Some x)
+pub one_of_two : {A : Type 0} (first second : Option A) (x : A)
+    → Contains (option_to_list first ++ option_to_list second) x → (first ≡ Some x) ⊎ (second ≡ Some x)
 one_of_two {A} first second x here = go first second (contained_in (option_to_list first ++ option_to_list second) x here)
   where
     alone : (o : Option A) → IsIn x (option_to_list o) → o ≡ Some x
@@ -123,7 +120,9 @@ module _ {L S : Type 0} (machine : Machine L) (flows : Flows L S) (history : Lis
     takes = takes;
     unset = λ k high less sets. absurd (omega (arith, is, high, less));
     a_flag_each = length-set none before true ∙ length-replicate (length history) false;
-    found = subst (IsFlagged (slice_set none before true)) (sym is) (flag_here none before (let number : length none ≡ length history = length-replicate (length history) false in omega (arith, number, low)));
+    found =
+        subst (IsFlagged (slice_set none before true)) (sym is)
+        (flag_here none before (let number : length none ≡ length history = length-replicate (length history) false in omega (arith, number, low)));
     covers = λ k here. inl here;
     only = λ k flagged. by k (flag_before none before k flagged);
     of_trail = λ k here. here;
@@ -137,7 +136,8 @@ module _ {L S : Type 0} (machine : Machine L) (flows : Flows L S) (history : Lis
       by k (inr same) = subst (Contains trail) (is ∙ sym same) (last_of q j trail is_trail)
 
   -- the event at the next position does not set the wanted spot
-  pub passed : (i : ℕ) (wanted : Spot S) (flags : List Bool) → IsWalked (suc i) wanted flags → (Sets machine flows history (suc i) wanted → ⊥) → IsWalked i wanted flags
+  pub passed : (i : ℕ) (wanted : Spot S) (flags : List Bool) → IsWalked (suc i) wanted flags
+      → (Sets machine flows history (suc i) wanted → ⊥) → IsWalked i wanted flags
   passed i wanted flags so never = record {
     proposer = so.proposer;
     trail = so.trail;
@@ -188,7 +188,8 @@ module _ {L S : Type 0} (machine : Machine L) (flows : Flows L S) (history : Lis
       let it = split so.proposer (suc i) so.head so.left wanted so.leads so.above so.takes so.unset sets in
       takes_some so.proposer (suc i) it.shorter it.leads
 
-  pub stepped : (i : ℕ) (wanted : Spot S) (flags : List Bool) → IsWalked (suc i) wanted flags → Sets machine flows history (suc i) wanted → i < length history → (from : Spot S)
+  pub stepped : (i : ℕ) (wanted : Spot S) (flags : List Bool) → IsWalked (suc i) wanted flags
+      → Sets machine flows history (suc i) wanted → i < length history → (from : Spot S)
       → Takes machine flows history (suc i) from → IsWalked i from (slice_set flags i true)
   stepped i wanted flags so sets low from takes = record {
     proposer = so.proposer;
@@ -228,7 +229,8 @@ module _ {L S : Type 0} (machine : Machine L) (flows : Flows L S) (history : Lis
 
       of_left : (k : ℕ) → Contains it.shorter k → Contains so.trail k
       of_left k here =
-          so.of_trail k (subst (λ (xs : List ℕ). Contains xs k) (sym it.is) (in_contained (it.shorter ++ so.head ∷ []) k (in_front k it.shorter (so.head ∷ []) (contained_in it.shorter k here))))
+          so.of_trail k (subst (λ (xs : List ℕ). Contains xs k) (sym it.is)
+          (in_contained (it.shorter ++ so.head ∷ []) k (in_front k it.shorter (so.head ∷ []) (contained_in it.shorter k here))))
 
       by : (k : ℕ) → IsFlagged flags k ⊎ (k ≡ suc i) → Contains so.trail k
       by k (inl flagged) = so.only k flagged
@@ -249,7 +251,8 @@ module _ {L S : Type 0} (machine : Machine L) (flows : Flows L S) (history : Lis
     where
       fed_by : (k : ℕ) → Sets machine flows history k fed.spot → k < head → ⊥
       fed_by zero sets less = nothing_at_zero fed.spot sets
-      fed_by (suc k) sets less = unset (suc k) (omega arith) less (subst (Sets machine flows history (suc k)) (one_spot head fed.spot wanted fed.takes takes) sets)
+      fed_by (suc k) sets less =
+          unset (suc k) (omega arith) less (subst (Sets machine flows history (suc k)) (one_spot head fed.spot wanted fed.takes takes) sets)
 
   pub is_input : (wanted : Spot S) (flags : List Bool) (so : IsWalked 0 wanted flags) → wanted ≡ slot so.proposer flows.input
   is_input wanted flags so = (at_start so.proposer so.head so.left wanted so.leads so.takes so.unset).input
@@ -259,7 +262,9 @@ module _ {L S : Type 0} (machine : Machine L) (flows : Flows L S) (history : Lis
     where
       covered : (k : ℕ) → Contains so.left k ⊎ IsFlagged flags k → IsFlagged flags k
       covered k (inr flagged) = flagged
-      covered k (inl here) = alone (contained_in (so.head ∷ []) k (subst (λ (xs : List ℕ). Contains xs k) (at_start so.proposer so.head so.left wanted so.leads so.takes so.unset).is here))
+      covered k (inl here) =
+          alone (contained_in (so.head ∷ []) k
+          (subst (λ (xs : List ℕ). Contains xs k) (at_start so.proposer so.head so.left wanted so.leads so.takes so.unset).is here))
         where
           alone : IsIn k (so.head ∷ []) → IsFlagged flags k
           alone (inl same) = subst (IsFlagged flags) (sym same) so.found

@@ -6,10 +6,12 @@ use Rattle.cdb_rules.specs.Step.{IsValid}
 use Rattle.cdb_trail.specs.Flow.{Flows, FlowsAreTrue}
 use Rattle.cdb_trail.specs.Trails.{HasTrail, EachValueHasATrail, EachDecisionHasATrail, TrailsAreUnique}
 use Rattle.cdb_trail.proofs.InPast.{all_in_past, one_trail}
-use Rattle.cdb_trail.proofs.Trailing.{AreTold, IsLed, led_to_value, led_to_decision}
+use Rattle.cdb_trail.proofs.Trails.{AreTold, IsLed, led_to_value, led_to_decision}
 
-module _ {L S : Type 0} (machine : Machine L) (flows : Flows L S) (inputs : List ℕ) (true_flows : FlowsAreTrue machine flows inputs) (apart : (x y : S) → AreTold x y) where
-  has_trail : (history : List Event) (valid : IsValid machine history) (v j : ℕ) → IsLed machine flows inputs true_flows apart history valid v j → HasTrail machine flows inputs history v j
+module _ {L S : Type 0} (machine : Machine L) (flows : Flows L S) (inputs : List ℕ)
+    (true_flows : FlowsAreTrue machine flows inputs) (apart : (x y : S) → AreTold x y) where
+  has_trail : (history : List Event) (valid : IsValid machine history) (v j : ℕ)
+      → IsLed machine flows inputs true_flows apart history valid v j → HasTrail machine flows inputs history v j
   has_trail history valid v j led = (
     led.proposer,
     led.trail,
@@ -27,6 +29,7 @@ module _ {L S : Type 0} (machine : Machine L) (flows : Flows L S) (inputs : List
   pub trails_are_unique : TrailsAreUnique machine flows inputs
   trails_are_unique history q r j one other mine theirs = one_trail machine flows inputs true_flows history q r j one other mine theirs
 
-  pub each_decision_has_a_trail : (decision : L → Option ℕ) → ((local : L) → decision local ≡ flows.value local flows.decision) → EachDecisionHasATrail machine flows inputs decision
+  pub each_decision_has_a_trail : (decision : L → Option ℕ)
+      → ((local : L) → decision local ≡ flows.value local flows.decision) → EachDecisionHasATrail machine flows inputs decision
   each_decision_has_a_trail decision told history valid p v j decides =
       has_trail history valid v j (led_to_decision machine flows decision inputs true_flows apart told history valid p v j decides)

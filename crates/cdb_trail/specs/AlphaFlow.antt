@@ -10,10 +10,11 @@ use Rattle.cdb_alpha.specs.declared.place.Place.TheVariants.{A0, A2, A3, A4, A5,
 use Rattle.cdb_alpha.specs.LocalState.{LocalState}
 use Rattle.cdb_alpha.specs.Seen.{is_overtaken}
 use Rattle.cdb_deeds.specs.AlphaDeeds.{register_of_value}
--- the input of a process, the cell of register i that it saw, the value that it has settled in its round, the one in the cell that it
--- wrote last, and its decision
+-- the input of a process, the cell of register i that it saw, the value that it has settled in its round, the one in
+-- the cell that it wrote last, and its decision
 pub use Rattle.cdb_trail.specs.declared.alpha_flow.Slot.{Slot}
-pub use Rattle.cdb_trail.specs.declared.alpha_flow.Slot.TheVariants.{Input as input, Seen as seen, Value as value, Own as own, Decision as decision}
+pub use Rattle.cdb_trail.specs.declared.alpha_flow.Slot.TheVariants.{Input as input, Seen as seen, Value as value}
+pub use Rattle.cdb_trail.specs.declared.alpha_flow.Slot.TheVariants.{Own as own, Decision as decision}
 use Rattle.cdb_trail.specs.Flow.{slot, register, Flow, still, moves, Flows}
 
 -- the process has settled the value of its round

@@ -55,8 +55,8 @@ module _ {L S : Type 0} (flows : Flows L S) where
   flow_of state (Step p k kind) = flow_by p kind (nth state.processes p)
   flow_of state (Lost copy) = still
 
--- a step of process p of that kind may take a value from the spot: from its own slots, from the message that it receives, or from the
--- register that it reads
+-- a step of process p of that kind may take a value from the spot: from its own slots, from the message that it
+-- receives, or from the register that it reads
 abbrev pub MayTake : {S : Type 0} → ℕ → Kind → Spot S → Type 0
 MayTake p kind (slot q x) = q ≡ p
 MayTake p kind (message s m) = kind ≡ Recv s m
@@ -75,13 +75,19 @@ IsReached machine state = (history : List Event) × (fold machine history ≡ So
 -- The flows of a machine tell where each value comes from, in every state of a run of processes with these inputs.
 pub record FlowsAreTrue {L S : Type 0} (machine : Machine L) (flows : Flows L S) (inputs : List ℕ) : Type 0 where
   -- each spot that an event sets has after it the value that the event took: none, where it took none
-  pub set : (t u : RunState L) (event : Event) → IsReached machine t → after machine t event ≡ Some u → (spot : Spot S) → Contains (flow_of flows t event).sets spot
+  pub set : (t u : RunState L) (event : Event) → IsReached machine t
+      → after machine t event ≡ Some u → (spot : Spot S) → Contains (flow_of flows t event).sets spot
       → value_at flows u spot ≡ option_and_then (value_at flows t) (flow_of flows t event).takes
   -- a spot that it does not set has no value after it that it had not before
-  pub kept : (t u : RunState L) (event : Event) → IsReached machine t → after machine t event ≡ Some u → (spot : Spot S) (v : ℕ)
-      → value_at flows u spot ≡ Some v → (Contains (flow_of flows t event).sets spot → ⊥) → value_at flows t spot ≡ Some v
+  pub kept : (t u : RunState L) (event : Event) → IsReached machine t
+      → after machine t event ≡ Some u → (spot : Spot S) (v : ℕ)
+      → value_at flows u spot ≡ Some v → (Contains (flow_of flows t event).sets spot → ⊥)
+      → value_at flows t spot ≡ Some v
   -- before the first event values lie in the slots of the inputs alone
-  pub first : (spot : Spot S) (v : ℕ) → value_at flows (start machine) spot ≡ Some v → (q : ℕ) × (spot ≡ slot q flows.input) × (nth inputs q ≡ Some v)
+  pub first : (spot : Spot S) (v : ℕ) → value_at flows (start machine) spot ≡ Some v
+      → (q : ℕ) × (spot ≡ slot q flows.input) × (nth inputs q ≡ Some v)
   -- a step takes and sets what it may
-  pub takes_own : (p : ℕ) (s : L) (kind : Kind) (spot : Spot S) → (flows.flow p s kind).takes ≡ Some spot → MayTake p kind spot
-  pub sets_own : (p : ℕ) (s : L) (kind : Kind) (spot : Spot S) → Contains (flows.flow p s kind).sets spot → MaySet p kind spot
+  pub takes_own : (p : ℕ) (s : L) (kind : Kind) (spot : Spot S)
+      → (flows.flow p s kind).takes ≡ Some spot → MayTake p kind spot
+  pub sets_own : (p : ℕ) (s : L) (kind : Kind) (spot : Spot S)
+      → Contains (flows.flow p s kind).sets spot → MaySet p kind spot

@@ -12,7 +12,8 @@ use Rattle.cdb_leader.specs.LocalState.{LocalState}
 use Rattle.cdb_leader.specs.Table.{heard_first_phase, is_lead}
 -- the i-th message that a process received, its estimate, what came of the first phase, and its decision
 pub use Rattle.cdb_trail.specs.declared.leader_flow.Slot.{Slot}
-pub use Rattle.cdb_trail.specs.declared.leader_flow.Slot.TheVariants.{Received as received, Estimate as estimate, Aux as aux, Decision as decision}
+pub use Rattle.cdb_trail.specs.declared.leader_flow.Slot.TheVariants.{Received as received, Estimate as estimate}
+pub use Rattle.cdb_trail.specs.declared.leader_flow.Slot.TheVariants.{Aux as aux, Decision as decision}
 use Rattle.cdb_trail.specs.Flow.{slot, message, Flow, still, moves, Flows}
 
 abbrev pub slot_value : LocalState → Slot → Option ℕ

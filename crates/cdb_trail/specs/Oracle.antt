@@ -1,6 +1,7 @@
--- The oracle's answers on which a trail rests: the queries whose answers its votes count, and that began the rounds in which its values
--- were settled.
-use Rattle.std.specs.Prelude.{ℕ, Bool, false, ◌==◌, ◌&&◌, List, ◌++◌, codes, length, filter, map, option_map, option_to_list}
+-- The oracle's answers on which a trail rests: the queries whose answers its votes count, and that began the rounds in
+-- which its values were settled.
+use Rattle.std.specs.Prelude.{ℕ, Bool, false, ◌==◌, ◌&&◌, List, ◌++◌, codes, length}
+use Rattle.std.specs.Prelude.{filter, map, option_map, option_to_list}
 use Rattle.std.specs.List.{flat_map, list_any, range_with_len}
 use Rattle.cdb_agreement.specs.Algorithms.{rules}
 use Rattle.cdb_base.specs.Event.{event_name}
@@ -29,13 +30,14 @@ told_at run flags position event = record {
 -- the first events, count of them
 abbrev pub told_first : RunView → List Bool → ℕ → List Told
 told_first run flags count =
-    flat_map (λ position. option_to_list (option_map (told_at run flags position) (nth run.history position))) (range_with_len 1 count)
+    flat_map (λ position. option_to_list (option_map (told_at run flags position) (nth run.history position)))
+    (range_with_len 1 count)
 
 abbrev pub all_told : RunView → List Bool → List Told
 all_told run flags = told_first run flags (length run.history)
 
--- a step of process p that did that counts an answer to process q: a vote those to the senders that name the leader, and what
--- settles the value of a round of Alpha the one to its own process
+-- a step of process p that did that counts an answer to process q: a vote those to the senders that name the leader,
+-- and what settles the value of a round of Alpha the one to its own process
 abbrev pub counts : Deed → ℕ → ℕ → Bool
 counts (Votes source leader by) p q = list_any (λ name. name.s == q) by
 counts (SettlesRegister value register) p q = q == p

@@ -35,4 +35,5 @@ IsOriginIn run = IsOriginBy run.setup.algorithm run
 -- each event has its own, in order
 abbrev pub AreOrigins : List Event → (ℕ → Option Origin → Type 0) → List (Option Origin) → Type 0
 AreOrigins history IsIts origins =
-    (length origins ≡ length history) × ((i : ℕ) (origin : Option Origin) → slice_get origins i ≡ Some origin → IsIts (suc i) origin)
+    (length origins ≡ length history)
+    × ((i : ℕ) (origin : Option Origin) → slice_get origins i ≡ Some origin → IsIts (suc i) origin)

@@ -14,9 +14,11 @@ use Rattle.cdb_trail.specs.declared.trail.Trail.{Trail}
 
 -- of the positions of a history those on the trail are flagged
 abbrev pub FlagsTrail : ℕ → List ℕ → List Bool → Type 0
-FlagsTrail events trail flags = (length flags ≡ events) × ((position : ℕ) → IsFlagged flags position ↔ Contains trail position)
+FlagsTrail events trail flags =
+    (length flags ≡ events) × ((position : ℕ) → IsFlagged flags position ↔ Contains trail position)
 
--- a trail leads to the step at that position, and this is its proposer, its value and its flags; or the step takes no value
+-- a trail leads to the step at that position, and this is its proposer, its value and its flags; or the step takes no
+-- value
 abbrev pub IsTrailFound : {L S : Type 0} → Machine L → Flows L S → RunView → ℕ → Option Trail → Type 0
 IsTrailFound machine flows run position (Some found) =
     (trail : List ℕ) × IsTrailOf machine flows run.setup.inputs run.history found.proposer found.value position trail

@@ -45,8 +45,8 @@ module _ {L S : Type 0} (machine : Machine L) (flows : Flows L S) (history : Lis
     pub takes : Takes i (slot q flows.input)
     pub first : (k : ℕ) → k < i → Sets k (slot q flows.input) → ⊥
 
-  -- the positions of a trail from the input of process q to step j: the first step takes the input, and each other one takes its value
-  -- from the step before it on the trail
+  -- the positions of a trail from the input of process q to step j: the first step takes the input, and each other one
+  -- takes its value from the step before it on the trail
   pub data IsTrail (q : ℕ) : ℕ → List ℕ → Type 0 where
     begins : {i : ℕ} → TakesInput q i → IsTrail q i (i ∷ [])
     goes_on : {i j : ℕ} {trail : List ℕ} → IsTrail q i trail → IsFed i j → IsTrail q j (trail ++ j ∷ [])
@@ -67,8 +67,8 @@ module _ {L S : Type 0} (machine : Machine L) (flows : Flows L S) (history : Lis
 -- ---- the trail of a value, where processes 1, 2 and so on have these inputs
 
 module _ {L S : Type 0} (machine : Machine L) (flows : Flows L S) (inputs : List ℕ) where
-  -- the trail leads from the input of a process to the event at position j: this input is v, each step on the trail moves v, and has led
-  -- to the event
+  -- the trail leads from the input of a process to the event at position j: this input is v, each step on the trail
+  -- moves v, and has led to the event
   pub record IsTrailOf (history : List Event) (proposer v j : ℕ) (trail : List ℕ) : Type 0 where
     pub is_trail : IsTrail machine flows history proposer j trail
     pub proposed : nth inputs proposer ≡ Some v
@@ -80,12 +80,15 @@ module _ {L S : Type 0} (machine : Machine L) (flows : Flows L S) (inputs : List
 
   -- to each step that takes a value a trail leads
   abbrev pub EachValueHasATrail : Type 0
-  EachValueHasATrail = (history : List Event) → IsValid machine history → (v j : ℕ) → TakesValue machine flows history v j → HasTrail history v j
+  EachValueHasATrail =
+      (history : List Event) → IsValid machine history → (v j : ℕ)
+      → TakesValue machine flows history v j → HasTrail history v j
 
   -- and no other leads to it
   abbrev pub TrailsAreUnique : Type 0
   TrailsAreUnique =
-      (history : List Event) (q r j : ℕ) (one other : List ℕ) → IsTrail machine flows history q j one → IsTrail machine flows history r j other
+      (history : List Event) (q r j : ℕ) (one other : List ℕ)
+      → IsTrail machine flows history q j one → IsTrail machine flows history r j other
       → (q ≡ r) × (one ≡ other)
 
   -- ---- where the function tells what a process has decided
@@ -93,7 +96,8 @@ module _ {L S : Type 0} (machine : Machine L) (flows : Flows L S) (inputs : List
   module _ (decision : L → Option ℕ) where
     -- process p has decided v in that state
     abbrev pub HasDecided : RunState L → ℕ → ℕ → Type 0
-    HasDecided state p v = (process : ProcessState L) × (nth state.processes p ≡ Some process) × (decision process.progress.local ≡ Some v)
+    HasDecided state p v =
+        (process : ProcessState L) × (nth state.processes p ≡ Some process) × (decision process.progress.local ≡ Some v)
 
     -- process p decides v by the event at position j: it has decided v after it, and had not before it
     pub record Decides (history : List Event) (p v j : ℕ) : Type 0 where
@@ -103,4 +107,5 @@ module _ {L S : Type 0} (machine : Machine L) (flows : Flows L S) (inputs : List
       pub before : HasDecided (state_before machine flows history j) p v → ⊥
 
     abbrev pub EachDecisionHasATrail : Type 0
-    EachDecisionHasATrail = (history : List Event) → IsValid machine history → (p v j : ℕ) → Decides history p v j → HasTrail history v j
+    EachDecisionHasATrail =
+        (history : List Event) → IsValid machine history → (p v j : ℕ) → Decides history p v j → HasTrail history v j

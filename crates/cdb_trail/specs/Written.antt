@@ -3,7 +3,7 @@ use Rattle.std.specs.Prelude.{◌≡◌, ℕ, List, ◌++◌, codes, decimal, Op
 use Rattle.cdb_agreement.specs.Algorithms.{rules}
 use Rattle.cdb_explain.specs.Asked.{IsStepAsked, StandsNoStep}
 use Rattle.cdb_explain.specs.Explanations.{events_text, flagged_text}
-use Rattle.cdb_explain.specs.Left.{Leaves}
+use Rattle.cdb_explain.specs.RunLeft.{Leaves}
 use Rattle.cdb_explain.specs.StepFaults.{IsFaultOfLeft}
 use Rattle.cdb_explain.specs.declared.fault.ExplainFault.{ExplainFault}
 use Rattle.cdb_explain.specs.declared.line.Causes.TheVariants.{Hidden}
@@ -17,12 +17,13 @@ use Rattle.cdb_trail.specs.declared.trail.Trail.{Trail}
 abbrev pub proposal_text : ℕ → ℕ → List ℕ
 proposal_text proposer value = codes "process " ++ decimal proposer ++ codes " proposes " ++ decimal value ++ codes "\n"
 
--- the text of a trail: its input, then a line for each event on it, in the order of the history, the oracle's answers on which it rests,
--- and how many events they are of how many
+-- the text of a trail: its input, then a line for each event on it, in the order of the history, the oracle's answers
+-- on which it rests, and how many events they are of how many
 abbrev pub trail_text : RunView → Trail → List ℕ
 trail_text run trail =
     let flags = trail.flags.items in
-    proposal_text trail.proposer trail.value ++ events_text rules Hidden run flags ++ answers_text (answers_in run flags)
+    proposal_text trail.proposer trail.value
+    ++ events_text rules Hidden run flags ++ answers_text (answers_in run flags)
     ++ flagged_text run flags
 
 -- the text is that of the trail to the event at that position

@@ -2,7 +2,8 @@
 
 ghost use Rattle.std.specs.Prelude.{◌≡◌, ◌+◌, [], ◌∷◌, length};
 ghost use Rattle.cdb_trail.specs.Flow.{slot, message, moves};
-ghost use Rattle.cdb_trail.specs.LeaderFlow.{received, leader_flows, sets_aux, sets_estimate, send_flow, query_flow, local_flow};
+ghost use Rattle.cdb_trail.specs.LeaderFlow.{received, leader_flows, sets_aux, sets_estimate};
+ghost use Rattle.cdb_trail.specs.LeaderFlow.{send_flow, query_flow, local_flow};
 
 use crate::flow::{Flow, Spot};
 use crate::flowing::Flowing;

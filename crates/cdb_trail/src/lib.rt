@@ -1,5 +1,5 @@
-//! The trail of a value to a step: the steps along which it went, from the input of a process. The functions of `laws` do
-//! nothing: the contract of each is the law.
+//! The trail of a value to a step: the steps along which it went, from the input of a process. The functions of `laws`
+//! do nothing: the contract of each is the law.
 //!
 //! ```text
 //! write_trail(alloc, setup, &mut script, 2, None, &mut output)?;

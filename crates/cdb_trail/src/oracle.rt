@@ -5,7 +5,8 @@ ghost use Rattle.cdb_deeds.specs.Deeds.{deed_in, received_by_each};
 ghost use Rattle.cdb_explain.specs.Rounds.{round_by};
 ghost use Rattle.cdb_rules.specs.ByRules.{IsInOrder};
 ghost use Rattle.cdb_text.specs.Pushes.{Pushes};
-ghost use Rattle.cdb_trail.specs.Oracle.{all_told, answers_among, answers_in, answers_text, answers_word, began, counts, is_answer, on_trail, rests};
+ghost use Rattle.cdb_trail.specs.Oracle.{all_told, answers_among, answers_in, answers_text, answers_word};
+ghost use Rattle.cdb_trail.specs.Oracle.{began, counts, is_answer, on_trail, rests};
 ghost use Rattle.std.specs.List.{list_any};
 ghost use Rattle.std.specs.Prelude.{◌≡◌, ◌==◌, length, map, IfOk};
 
@@ -118,7 +119,12 @@ fn tell(
 ) -> Result<Told, NoMemory>
     requires { names.now ≡ received_by_each again.now.history }
     ensures { IfOk result (λ it. it
-        ≡ record { event = event.now; deed = deed_in again.now event.now; round = round_by rules again.now event.now; on_trail = on_trail }) }
+        ≡ record {
+          event = event.now;
+          deed = deed_in again.now event.now;
+          round = round_by rules again.now event.now;
+          on_trail = on_trail;
+        }) }
 {
     let deed = again.deed(alloc, names, event)?;
     Ok(Told {

@@ -93,11 +93,11 @@ fn origins_by<P: Flowing>(alloc: Global, run: &Trace) -> Result<Vec<Option<Origi
     Ok(origins)
 }
 
-/// From where the value of each event of a run came, in order; none where an event takes no value. It plays the run again
-/// once, and for each event goes back to where its value was set. `NoMemory` if an allocation fails.
+/// From where the value of each event of a run came, in order; none where an event takes no value. It plays the run
+/// again once, and for each event goes back to where its value was set. `NoMemory` if an allocation fails.
 ///
-/// Promise: Each event that takes a value has the step before it on its trail, or the process whose input it takes where its
-/// trail begins with it; each other has none. So followed back from a step they give its trail.
+/// Promise: Each event that takes a value has the step before it on its trail, or the process whose input it takes
+/// where its trail begins with it; each other has none. So followed back from a step they give its trail.
 pub fn origins_of(alloc: Global, run: &Trace) -> Result<Vec<Option<Origin>>, NoMemory>
     requires { IsInOrder rules run.now }
     ensures { IfOk result (λ origins. AreOrigins run.now.history (IsOriginIn run.now) origins.items) }

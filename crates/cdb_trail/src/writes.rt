@@ -16,7 +16,8 @@ ghost use Rattle.cdb_streams.specs.declared.fault.PlayFault.TheVariants as play;
 ghost use Rattle.cdb_text.specs.Pushes.{Pushes};
 ghost use Rattle.cdb_trail.specs.Oracle.{answers_in, answers_text};
 ghost use Rattle.cdb_trail.specs.Trailed.{IsTrailIn};
-ghost use Rattle.cdb_trail.specs.Written.{proposal_text, trail_text, IsFaultOfTrail, IsTrailText, IsTrailToStep, TakesNoValue, WritesTrail};
+ghost use Rattle.cdb_trail.specs.Written.{proposal_text, trail_text, IsFaultOfTrail, IsTrailText};
+ghost use Rattle.cdb_trail.specs.Written.{IsTrailToStep, TakesNoValue, WritesTrail};
 
 use crate::oracle::{answers_in, push_answers};
 use crate::trail::{Trail, trail_of};
@@ -116,17 +117,18 @@ fn write_trail_to<W: Sink>(
 }
 
 /// Writes the trail of a value to a step of the run that a script leaves: to the `k`-th standing step of process `p`;
-/// without `k` to its last one, which is its decision where it has decided. First the process whose input the value was,
-/// then each event along which it went, the oracle's answers on which they rest, and how many events they are.
+/// without `k` to its last one, which is its decision where it has decided. First the process whose input the value
+/// was, then each event along which it went, the oracle's answers on which they rest, and how many events they are.
 ///
 /// The setup is read first, then the whole script, then all its lines; the text is whole before any of it is
 /// written. So after `Write` what was written is a beginning of the text, and after any other fault nothing was
-/// written. `NoStep` comes where no such step stands, and `NoValue` where it takes no value. After `Setup` the script is
-/// not read; `Read` comes only where the reader failed in this call, and `Write` only where the writer did.
+/// written. `NoStep` comes where no such step stands, and `NoValue` where it takes no value. After `Setup` the script
+/// is not read; `Read` comes only where the reader failed in this call, and `Write` only where the writer did.
 ///
 /// Promise: A trail has the process whose input the value was, a line for each event on the trail to the step and for
-/// no other, and the oracle's answers on which it rests, and counts them. `NoStep` comes only where no such step stands, `NoValue` only where it takes no value.
-/// After a fault nothing was written, but after a failed write a beginning.
+/// no other, and the oracle's answers on which it rests, and counts them. `NoStep` comes only where no such step
+/// stands, `NoValue` only where it takes no value. After a fault nothing was written, but after a failed write a
+/// beginning.
 pub fn write_trail<R: Source, W: Sink>(
     alloc: Global,
     setup: &[u8],

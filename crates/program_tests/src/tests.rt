@@ -12,7 +12,7 @@ mod reading;
 mod streams;
 
 use cdb_base::Request;
-use cdb_program::{Action, MAX_TURNS, Outside, perform};
+use cdb_program::{Action, MAX_TURNS, World, perform};
 use cdb_session::Streams;
 use files::Folder;
 use std::process::Abort;
@@ -86,7 +86,7 @@ fn performed<R: Threads + Wait + Clock + Sync + Abort + AllocGlobal>(
 ) -> Ended {
     assert!(rt; may_perform(action));
     let alloc = rt.alloc();
-    let mut outside = Outside {
+    let mut world = World {
         files: Folder::new(alloc, good.files),
         streams: Streams::new(
             Reader::new(INPUT, good.input),
@@ -94,12 +94,12 @@ fn performed<R: Threads + Wait + Clock + Sync + Abort + AllocGlobal>(
         ),
         error: Writer::new(alloc, good.error),
     };
-    let status = perform(rt, alloc, action, &mut outside);
-    let Outside {
+    let status = perform(rt, alloc, action, &mut world);
+    let World {
         files,
         streams,
         error,
-    } = outside;
+    } = world;
     let Streams { input, output } = streams;
     let failures = files
         .failures

@@ -2,10 +2,10 @@
 use Rattle.std.proofs.Common.{◌≡◌, inl, inr, ℕ, List, [], Option, Some, None, Result, Ok, Err, IfOk, IfErr, subst, sym}
 use Rattle.clap.specs.Words.{Row}
 use Rattle.cdb_base.specs.Memory.{no_memory}
-use Rattle.cdb_base.specs.Requests.{Asked, Script, Play, Race, Ask, Frames, Debug, Replay, Search, Shrink, Same, Clocks, Page, Text}
-use Rattle.cdb_arguments.specs.Asking.{IsOfKinds, NamesAsked}
-use Rattle.cdb_arguments.specs.declared.request.AskFault.{AskFault}
-use Rattle.cdb_arguments.specs.declared.request.AskFault.TheVariants as fault_of_asking
+use Rattle.cdb_base.specs.Requests.{RequestView, Script, Play, Race, Ask, Frames, Debug, Replay, Search, Shrink, Same, Clocks, Page, Text}
+use Rattle.cdb_arguments.specs.RequestsOfRows.{IsOfKinds, NamesAsked}
+use Rattle.cdb_arguments.specs.declared.request.ArgumentsFault.{ArgumentsFault}
+use Rattle.cdb_arguments.specs.declared.request.ArgumentsFault.TheVariants as fault_of_asking
 use Rattle.cdb_program.specs.Known.{Seen}
 use Rattle.cdb_program.specs.Requests.{HasTurns}
 use Rattle.cdb_program.specs.declared.fault.Fault.TheVariants as fault
@@ -37,11 +37,11 @@ pub only_memory : (action : Action) → OrOutOfMemory (IsRefusal []) action → 
 only_memory action (inl refusal) = absurd (no_refusal action refusal)
 only_memory action (inr memory) = memory
 
-pub memory_has_no_kinds : (fault : AskFault) → fault ≡ fault_of_asking.NoMemory no_memory → IsOfKinds [] fault
+pub memory_has_no_kinds : (fault : ArgumentsFault) → fault ≡ fault_of_asking.NoMemory no_memory → IsOfKinds [] fault
 memory_has_no_kinds fault is = subst (IsOfKinds []) (sym is) tt
 
 -- a race that the matches name has turns
-pub turns_named : (found : Option (Text × List Row)) (asked : Asked) → NamesAsked found asked → HasTurns asked
+pub turns_named : (found : Option (Text × List Row)) (asked : RequestView) → NamesAsked found asked → HasTurns asked
 turns_named None asked is = rw is tt
 turns_named (Some found) (Race setup turns scripts) names = names.1.2.0
 turns_named (Some found) Script names = tt
@@ -71,7 +71,8 @@ err_then P Q (Ok value) then is = tt
 err_then P Q (Err error) then is = then error is
 
 -- where the arguments were read, but not their texts, an allocation failed
-pub asked_of_words : {W E S : Type 0} (words_of : W → List Text) (texts_of : S → List Text) (prompt : Text) (old new : Seen) (status : ℕ) (words : Result W E) (found : Result S Unread)
+pub asked_of_words : {W E S : Type 0} (words_of : W → List Text) (texts_of : S → List Text)
+    (prompt : Text) (old new : Seen) (status : ℕ) (words : Result W E) (found : Result S Unread)
     → IfOk found (λ found. IfOk words (λ words. texts_of found ≡ words_of words))
     → IfErr found (λ reason. IfOk words (λ words. reason ≡ unread.NoMemory no_memory))
     → IfOk found (λ found. PerformsOne (IsAskedBy prompt (texts_of found)) old new status)

@@ -5,8 +5,8 @@ use Rattle.std.specs.declared.io.ErrorKind.TheVariants as io_kind
 use Rattle.clap.specs.Words.{Kinds, IsAmong, Row, fault_of, subcommand_of}
 use Rattle.clap.specs.declared.error.kind.ErrorKind.{ErrorKind}
 use Rattle.cdb_base.specs.Memory.{no_memory}
-use Rattle.cdb_base.specs.Requests.{Asked, Text, asked_for}
-use Rattle.cdb_arguments.specs.Asking.{NamesAsked, words_status}
+use Rattle.cdb_base.specs.Requests.{RequestView, Text, asked_for}
+use Rattle.cdb_arguments.specs.RequestsOfRows.{NamesAsked, words_status}
 use Rattle.cdb_arguments.specs.CommandLine.{program}
 use Rattle.cdb_arguments.specs.Plain.{IsLine}
 use Rattle.cdb_streams.specs.declared.fault.PlayFault.TheVariants.{NoMemory}
@@ -19,13 +19,13 @@ use Rattle.cdb_program.specs.declared.request.Action.{Action}
 use Rattle.cdb_program.specs.declared.request.Action.TheVariants.{Perform, Print, Refuse}
 
 -- this is what is performed, a session here with this prompt
-abbrev pub IsPerformed : Text → Asked → Action → Type 0
+abbrev pub IsPerformed : Text → RequestView → Action → Type 0
 IsPerformed prompt asked (Perform request its_prompt) = (asked_for request.now ≡ asked) × (its_prompt.now ≡ prompt)
 IsPerformed prompt asked action = ⊥
 
 -- what the subcommand that `clap` found asks for is performed
 abbrev pub IsRequested : Text → Option (Text × List Row) → Action → Type 0
-IsRequested prompt found action = (it : Asked) × NamesAsked found it × IsPerformed prompt it action
+IsRequested prompt found action = (it : RequestView) × NamesAsked found it × IsPerformed prompt it action
 
 -- help or the version is printed where that was asked for, else the text of what is wrong is reported
 abbrev pub IsRefusal : Kinds → Action → Type 0
@@ -45,11 +45,12 @@ OrOutOfMemory IsIt action = IsIt action ⊎ IsOutOfMemory action
 -- The action for what arguments with these texts ask for, the program's name first. Plain ones are told without the
 -- terms of `clap`. A session here has this prompt.
 pub record IsAskedBy (prompt : Text) (words : List Text) (action : Action) : Type 0 where
-  pub plain : (asked : Asked) → IsLine words asked → OrOutOfMemory (IsPerformed prompt asked) action
+  pub plain : (asked : RequestView) → IsLine words asked → OrOutOfMemory (IsPerformed prompt asked) action
   pub taken : fault_of program words ≡ [] → OrOutOfMemory (IsRequested prompt (subcommand_of program words)) action
   pub refused : fault_of program words ≢ [] → OrOutOfMemory (IsRefusal (fault_of program words)) action
 
--- why the arguments could not be read, where the system had an error of this kind: an allocation failed, or one is no text
+-- why the arguments could not be read, where the system had an error of this kind: an allocation failed, or one is no
+-- text
 abbrev pub unread_of : IoKind → Unread
 unread_of io_kind.OutOfMemory = unread.NoMemory no_memory
 unread_of kind = unread.NotUtf8

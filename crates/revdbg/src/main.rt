@@ -6,7 +6,7 @@ mod run;
 mod seats;
 mod system_files;
 
-use cdb_program::Outside;
+use cdb_program::World;
 use cdb_session::Streams;
 use cdb_streams::{Input, Output};
 use run::begin;
@@ -23,7 +23,7 @@ fn words_of(rt: &HostRuntime) -> io::Result<Vec<String>> {
 }
 
 fn main(rt: HostRuntime) -> ExitCode {
-    let mut outside = Outside {
+    let mut world = World {
         files: SystemFiles::new(&rt),
         streams: Streams::new(Input::new(rt.reader()), Output::new(io::writer(&rt))),
         error: Output::new(rt.stderr()),
@@ -32,6 +32,6 @@ fn main(rt: HostRuntime) -> ExitCode {
     let words = words_of(&rt);
     let arguments = words.as_ref().map_or(0, |words| words.len());
     let _ = eprint!(&rt; "{}", hint_at(is_terminal, arguments));
-    let status = begin(&rt, rt.alloc(), prompt_at(is_terminal), words, &mut outside);
+    let status = begin(&rt, rt.alloc(), prompt_at(is_terminal), words, &mut world);
     ExitCode::from(status)
 }

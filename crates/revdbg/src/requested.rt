@@ -3,14 +3,15 @@
 ghost use Rattle.std.specs.Prelude.{◌≡◌, Err, IfErr, IfOk, IsOk, OnOk, map, string_bytes};
 ghost use Rattle.std.specs.IoError.{error_kind};
 ghost use Rattle.clap.specs.Words.{Kinds};
-ghost use Rattle.cdb_arguments.specs.Asking.{IsOfKinds};
+ghost use Rattle.cdb_arguments.specs.RequestsOfRows.{IsOfKinds};
 ghost use Rattle.cdb_base.specs.Memory.{no_memory};
 ghost use Rattle.cdb_base.specs.Requests.{asked_for, texts};
 ghost use Rattle.cdb_program.specs.Requests.{HasTurns, MayPerform};
 ghost use Rattle.revdbg.specs.ActionFor.{IsReportOf, Makes};
-ghost use Rattle.revdbg.specs.Requested.{IsAskedBy, IsOutOfMemory, IsPerformed, IsRefusal, IsUnread, OrOutOfMemory, unread_of};
+ghost use Rattle.revdbg.specs.Requested.{IsAskedBy, IsOutOfMemory, IsPerformed, IsRefusal};
+ghost use Rattle.revdbg.specs.Requested.{IsUnread, OrOutOfMemory, unread_of};
 
-use cdb_arguments::{AskFault, ask_status, asked};
+use cdb_arguments::{ArgumentsFault, ask_status, asked};
 use cdb_base::{NoMemory, Request};
 use cdb_program::{Action, Fault};
 use cdb_streams::PlayFault;
@@ -44,7 +45,7 @@ pub enum ArgsError {
     /// They could not be read, for this reason; out of memory also where an allocation fails later.
     Unread(Unread),
     /// They are wrong, or ask for help or the version, as this text says.
-    Refused(AskFault, String),
+    Refused(ArgumentsFault, String),
 }
 
 /// The report that an allocation failed.
@@ -56,15 +57,15 @@ fn out_of_memory<'a>(refused: NoMemory) -> Action<'a, 'a>
 }
 
 /// To print help or the version, or to report what is wrong with the arguments, where this is the text.
-fn refusal_of<'a>(fault: &AskFault, text: &'a str) -> Action<'a, 'a>
+fn refusal_of<'a>(fault: &ArgumentsFault, text: &'a str) -> Action<'a, 'a>
     ensures refusal { (kinds : Kinds) → IsOfKinds kinds fault.now →
         OrOutOfMemory (IsRefusal kinds) result }
     ensures turns { MayPerform result }
 {
     match fault {
-        AskFault::NoMemory(refused) => out_of_memory(*refused),
-        AskFault::Words(_) if ask_status(fault) == 0 => Action::Print(text),
-        AskFault::Words(_) => Action::Refuse(Fault::Refused(text)),
+        ArgumentsFault::NoMemory(refused) => out_of_memory(*refused),
+        ArgumentsFault::Words(_) if ask_status(fault) == 0 => Action::Print(text),
+        ArgumentsFault::Words(_) => Action::Refuse(Fault::Refused(text)),
     }
 }
 
@@ -143,7 +144,7 @@ pub fn texts_of<'a>(
 }
 
 /// Why arguments that are refused ask for nothing.
-fn refused(alloc: Global, fault: AskFault) -> ArgsError
+fn refused(alloc: Global, fault: ArgumentsFault) -> ArgsError
     ensures { (kinds : Kinds) → IsOfKinds kinds fault →
         Makes (Err result) (λ _. OrOutOfMemory (IsRefusal kinds)) }
 {
@@ -156,8 +157,8 @@ fn refused(alloc: Global, fault: AskFault) -> ArgsError
 /// What the arguments with these texts ask for, the program's name first.
 ///
 /// # Errors
-/// `Unread` where there are none, as they could not be read, and where an allocation fails; `Refused` where they are wrong,
-/// and where they ask for help or the version.
+/// `Unread` where there are none, as they could not be read, and where an allocation fails; `Refused` where they are
+/// wrong, and where they ask for help or the version.
 pub fn asked_in<'a>(
     alloc: Global,
     read: &'a Result<Vec<&'a str>, Unread>,

@@ -6,7 +6,7 @@ ghost use Rattle.cdb_base.specs.Requests.{texts};
 ghost use Rattle.revdbg.specs.Requested.{IsAskedBy, IsUnread, PerformsOne, unread_of};
 
 use crate::requested::{Unread, action_of, asked_in, report_of, texts_of};
-use cdb_program::{Files, Outside, perform};
+use cdb_program::{Files, World, perform};
 use cdb_streams::{Sink, Source};
 use std::alloc::Global;
 use std::io;
@@ -26,16 +26,16 @@ fn run<
     alloc: Global,
     prompt: &str,
     read: &Result<Vec<&str>, Unread>,
-    outside: &mut Outside<F, I, O, E>,
+    world: &mut World<F, I, O, E>,
 ) -> u8
     ensures asked { IfOk read.now (λ found. PerformsOne
-        (IsAskedBy prompt.now (texts found.items)) outside.old outside.new result) }
+        (IsAskedBy prompt.now (texts found.items)) world.old world.new result) }
     ensures unread { IfErr read.now (λ reason. PerformsOne
-        (IsUnread reason) outside.old outside.new result) }
+        (IsUnread reason) world.old world.new result) }
 {
     match asked_in(alloc, read) {
-        Ok(request) => perform(threads, alloc, action_of(&request, &*prompt), outside),
-        Err(error) => perform(threads, alloc, report_of(&error), outside),
+        Ok(request) => perform(threads, alloc, action_of(&request, &*prompt), world),
+        Err(error) => perform(threads, alloc, report_of(&error), world),
     }
 }
 
@@ -55,13 +55,13 @@ pub fn begin<
     alloc: Global,
     prompt: &str,
     words: io::Result<Vec<String>>,
-    outside: &mut Outside<F, I, O, E>,
+    world: &mut World<F, I, O, E>,
 ) -> u8
     ensures asked { IfOk words (λ words. PerformsOne
-        (IsAskedBy prompt.now (map string_bytes words.items)) outside.old outside.new result) }
+        (IsAskedBy prompt.now (map string_bytes words.items)) world.old world.new result) }
     ensures unread { IfErr words (λ error. PerformsOne
-        (IsUnread (unread_of (error_kind error))) outside.old outside.new result) }
+        (IsUnread (unread_of (error_kind error))) world.old world.new result) }
 {
     let read = texts_of(alloc, &words);
-    run(threads, alloc, prompt, &read, outside)
+    run(threads, alloc, prompt, &read, world)
 }

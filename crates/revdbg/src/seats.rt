@@ -17,8 +17,8 @@ pub fn prompt_at(is_terminal: bool) -> &'static str
     if is_terminal { "> " } else { "" }
 }
 
-/// What is said before a script is read from standard input, where that is a terminal: else nobody would know that it is
-/// waited for. The program's name is one of so many arguments.
+/// What is said before a script is read from standard input, where that is a terminal: else nobody would know that it
+/// is waited for. The program's name is one of so many arguments.
 pub fn hint_at(is_terminal: bool, arguments: usize) -> &'static str
     ensures { result.now ≡ hint_at is_terminal arguments }
 {
@@ -29,7 +29,8 @@ pub fn hint_at(is_terminal: bool, arguments: usize) -> &'static str
     }
 }
 
-/// The file that a seat `IN:OUT` reads and the one that it writes, cut at the first colon; none for the name of a terminal.
+/// The file that a seat `IN:OUT` reads and the one that it writes, cut at the first colon; none for the name of a
+/// terminal.
 pub fn pair_of(name: &str) -> Option<(&str, &str)>
     ensures { MatchOption result (HasNoColon name.now)
         (λ pair. IsPair name.now pair.0.now pair.1.now) }

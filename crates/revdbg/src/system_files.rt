@@ -71,8 +71,8 @@ fn is_used(about: &Metadata) -> bool {
     about.is_file() && about.len() > 0
 }
 
-/// The file of this name to write to, which is made where it is not there. A file that has something in it is refused, so
-/// that none is emptied.
+/// The file of this name to write to, which is made where it is not there. A file that has something in it is refused,
+/// so that none is emptied.
 fn empty_file(rt: &HostRuntime, name: &str) -> io::Result<File> {
     let file = File::options().write(true).create(true).open(rt, name)?;
     if is_used(&file.metadata()?) {
@@ -81,8 +81,8 @@ fn empty_file(rt: &HostRuntime, name: &str) -> io::Result<File> {
     Ok(file)
 }
 
-/// The seat of this name: a terminal device, or `IN:OUT`, a pair of files or pipes. The file that is written to is made where
-/// it is not there, and refused where it has something in it.
+/// The seat of this name: a terminal device, or `IN:OUT`, a pair of files or pipes. The file that is written to is made
+/// where it is not there, and refused where it has something in it.
 fn seat_of(rt: &HostRuntime, name: &str) -> io::Result<Endpoint<SeatConsole>> {
     let (input, output) = match pair_of(name) {
         Some((input, output)) => (File::open(rt, path_of(input))?, empty_file(rt, output)?),

@@ -6,7 +6,7 @@ use Rattle.cdb_base.specs.declared.event.Event.{Event}
 use Rattle.cdb_base.specs.declared.event.Event.TheVariants as event
 use Rattle.cdb_base.specs.declared.event.Kind.TheVariants as kind
 use Rattle.cdb_base.specs.declared.refusal.Refusal.TheVariants.{NeededBy}
-use Rattle.cdb_commands.specs.ToldReply.{ToldReply, Stepped, Refused}
+use Rattle.cdb_commands.specs.ReplyView.{ReplyView, Stepped, Refused}
 use Rattle.cdb_control.specs.Journal.{entry, replies_of}
 use Rattle.cdb_commands.specs.declared.command.Command.TheVariants.{Step, Undo, Redo, Rollback, Show, Decisions}
 use Rattle.cdb_commands.specs.declared.command.View.TheVariants.{History}
@@ -20,7 +20,7 @@ abbrev pub setup_of_one : Parts
 setup_of_one = record { version = 1; algorithm = Leader; processes = 1; quorum = 1; inputs = 7 ∷ []; answers = [] }
 
 -- the replies to a seat along such a journal
-abbrev pub replies : ℕ → List Entry → List ToldReply
+abbrev pub replies : ℕ → List Entry → List ReplyView
 replies seat journal = replies_of (rules_of leader_table setup_of_one) setup_of_one 2 seat journal
 
 -- the first two steps of the process
@@ -31,11 +31,11 @@ abbrev pub send : Event
 send = event.Step 1 2 (kind.Send 1)
 
 -- the reply to a step that decides nothing and sets no pause
-abbrev pub plain_step : Event → ToldReply
+abbrev pub plain_step : Event → ReplyView
 plain_step event = Stepped event None None
 
 -- the reply to an undo of what this event needs
-abbrev pub needed_by : Event → ToldReply
+abbrev pub needed_by : Event → ReplyView
 needed_by event = Refused (NeededBy (event_name event))
 
 -- seat 1 steps; seat 2 undoes the step and, after a redo of seat 1 that is refused, takes it again

@@ -3,12 +3,12 @@
 ghost use Rattle.std.specs.Prelude.{◌≡◌, ◌+◌, ◌≤◌, [], ◌++◌, length, map};
 ghost use Rattle.std.specs.List.{flat_map};
 ghost use Rattle.cdb_base.specs.Limits.{MAX_SEATS};
-ghost use Rattle.cdb_commands.specs.ToldReply.{told};
+ghost use Rattle.cdb_commands.specs.ReplyView.{reply_view};
 ghost use Rattle.cdb_race.specs.Races.{all_told};
 ghost use Rattle.cdb_text.specs.Texts.{text_of};
 ghost use Rattle.cdb_play.specs.Races.{seat_heading, seat_text, seats_text, end_text, verdict_text, have_one_value};
 ghost use Rattle.cdb_play.specs.Races.{text_with};
-ghost use Rattle.cdb_streams.specs.Putting.{Puts};
+ghost use Rattle.cdb_streams.specs.PiecesPut.{Puts};
 ghost use Rattle.cdb_streams.specs.Endings.{pieces_ending};
 ghost use Rattle.cdb_streams.specs.Written.{IsWritten, Only};
 
@@ -26,7 +26,7 @@ fn put_replies<W: Sink>(
     out: &mut W,
 ) -> Result<(), OutputFault>
     ensures { Puts W.stream result out.old buffer.old out.new buffer.new
-        (flat_map text_of (map told replies.now)) }
+        (flat_map text_of (map reply_view replies.now)) }
 {
     for reply in replies {
         put_reply(reply, text, buffer, out)?;
@@ -54,7 +54,7 @@ fn put_seat<W: Sink>(
     out: &mut W,
 ) -> Result<(), OutputFault>
     ensures { Puts W.stream result out.old buffer.old out.new buffer.new
-        (seat_text seat (map told replies.now)) }
+        (seat_text seat (map reply_view replies.now)) }
 {
     put_line(seat, buffer, out)?;
     put_replies(replies, text, buffer, out)

@@ -1,11 +1,13 @@
 //! Steps and losses of a run, removed with their consequences, and why they cannot be removed
 //! alone.
 
-ghost use Rattle.std.specs.Prelude.{◌≡◌, ◌+◌, ◌<◌, ◌≤◌, [], ◌∷◌, ◌++◌, reverse, vec_len, vec_capacity, Ok, IfOk, IsOk, OnOk, OnErr};
+ghost use Rattle.std.specs.Prelude.{◌≡◌, ◌+◌, ◌<◌, ◌≤◌, [], ◌∷◌, ◌++◌, reverse, vec_len};
+ghost use Rattle.std.specs.Prelude.{vec_capacity, Ok, IfOk, IsOk, OnOk, OnErr};
 ghost use Rattle.std.specs.Vec.{vec_items};
-ghost use Rattle.cdb_base.specs.Results.{Tells};
+ghost use Rattle.cdb_base.specs.Results.{MapsTo};
 ghost use Rattle.cdb_rules.specs.EventRefs.{name_given};
-ghost use Rattle.cdb_rules.specs.Runs.{step_name, loss_name, AllLeadTo, RollsBackOnto, result_of_rollback, causes_in, after_rollback, RollbackLeadsBack, IsExactRollback, AreCausesOf};
+ghost use Rattle.cdb_rules.specs.Runs.{step_name, loss_name, AllLeadTo, RollsBackOnto, result_of_rollback, causes_in};
+ghost use Rattle.cdb_rules.specs.Runs.{after_rollback, RollbackLeadsBack, IsExactRollback, AreCausesOf};
 ghost use Rattle.cdb_rules.specs.Undo.{number_removed, with_removed};
 ghost use Rattle.cdb_standing.specs.Moves.{IsStandingName};
 
@@ -65,7 +67,7 @@ impl<P: Process> Run<P> {
         event: EventRef,
     ) -> Result<Result<Vec<Event>, Refusal>, NoMemory>
         ensures returns { IfOk result
-            (λ r. Tells vec_items r (result_of_rollback self.old (name_given event))) }
+            (λ r. MapsTo vec_items r (result_of_rollback self.old (name_given event))) }
         ensures after { OnOk result (self.new ≡ after_rollback self.old (name_given event)) }
         ensures exact { OnOk result (IsExactRollback self.old (name_given event) self.new) }
         ensures again { IfOk result
@@ -118,7 +120,7 @@ impl<P: Process> Run<P> {
         k: u32,
     ) -> Result<Result<Vec<Event>, Refusal>, NoMemory>
         ensures returns { IfOk result
-            (λ r. Tells vec_items r (result_of_rollback self.old (step_name p k))) }
+            (λ r. MapsTo vec_items r (result_of_rollback self.old (step_name p k))) }
         ensures after { OnOk result (self.new ≡ after_rollback self.old (step_name p k)) }
         ensures exact { OnOk result (IsExactRollback self.old (step_name p k) self.new) }
         ensures again { IfOk result
@@ -139,7 +141,7 @@ impl<P: Process> Run<P> {
         p: u32,
     ) -> Result<Result<Vec<Event>, Refusal>, NoMemory>
         ensures returns { IfOk result
-            (λ r. Tells vec_items r (result_of_rollback self.old (loss_name s m p))) }
+            (λ r. MapsTo vec_items r (result_of_rollback self.old (loss_name s m p))) }
         ensures after { OnOk result (self.new ≡ after_rollback self.old (loss_name s m p)) }
         ensures exact { OnOk result (IsExactRollback self.old (loss_name s m p) self.new) }
         ensures again { IfOk result
@@ -153,7 +155,7 @@ impl<P: Process> Run<P> {
     /// The direct causes of a standing event, in order of process, at most one of each; or the first refusal that
     /// holds: `NoProcess` or `NoStep`. It takes no memory.
     pub fn causes_of(&self, alloc: Global, event: EventRef) -> Result<SmallVec<StepId, 9>, Refusal>
-        ensures returns { Tells (λ causes. causes.items) result
+        ensures returns { MapsTo (λ causes. causes.items) result
             (causes_in self.now (name_given event)) }
         ensures direct { IfOk result
             (λ causes. AreCausesOf self.now (name_given event) causes.items) }
@@ -165,7 +167,7 @@ impl<P: Process> Run<P> {
 
     /// The direct causes of the `k`-th step of process `p`, as `causes_of` returns them.
     pub fn causes(&self, alloc: Global, p: u32, k: u32) -> Result<SmallVec<StepId, 9>, Refusal>
-        ensures returns { Tells (λ causes. causes.items) result
+        ensures returns { MapsTo (λ causes. causes.items) result
             (causes_in self.now (step_name p k)) }
         ensures direct { IfOk result (λ causes. AreCausesOf self.now (step_name p k) causes.items) }
     {

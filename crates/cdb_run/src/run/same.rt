@@ -6,7 +6,7 @@ ghost use Rattle.cdb_causal.specs.Dependence.{depends};
 ghost use Rattle.cdb_causal.specs.Exchange.{IsExchanged};
 ghost use Rattle.cdb_rules.specs.OwnSteps.{own_steps};
 ghost use Rattle.cdb_rules.specs.Runs.{AreInSameState};
-ghost use Rattle.cdb_run.specs.Comparing.{AreAlike};
+ghost use Rattle.cdb_run.specs.Alike.{AreAlike};
 
 use crate::own_steps::same_steps;
 use crate::run::Run;

@@ -4,11 +4,12 @@
 ghost use Rattle.std.specs.Prelude.{◌≡◌, ◌+◌, ◌/◌, ◌%◌, ◌<◌, ◌≤◌, ◌∷◌, [], ◌++◌, codes, decimal, length, MatchOption};
 ghost use Rattle.cdb_base.specs.NameTexts.{name_text, step_text, message_text, loss_text, register_text};
 ghost use Rattle.cdb_base.specs.Refusal.{refusal_name, refusal_detail, refusal_text};
-ghost use Rattle.cdb_commands.specs.ToldReply.{told};
+ghost use Rattle.cdb_commands.specs.ReplyView.{reply_view};
 ghost use Rattle.cdb_text.specs.Events.{event_text, kind_text};
 ghost use Rattle.cdb_text.specs.Pushes.{Writes};
 ghost use Rattle.cdb_text.specs.Texts.{break_text, decides_text, text_of};
-ghost use Rattle.cdb_text.specs.declared.text.short.TheConstants.{MOST_BYTES, MOST_CAUSES, MOST_OF_A_CAUSE, MOST_REPORT};
+ghost use Rattle.cdb_text.specs.declared.text.short.TheConstants.{MOST_BYTES, MOST_CAUSES, MOST_OF_A_CAUSE};
+ghost use Rattle.cdb_text.specs.declared.text.short.TheConstants.{MOST_REPORT};
 ghost use Rattle.cdb_text.specs.Reports.{cause_text, causes_text};
 ghost use Rattle.std.specs.List.{flat_map};
 ghost use Rattle.std.specs.Prelude.{◌*◌};
@@ -356,12 +357,12 @@ pub(super) fn write_refused(bytes: &mut [u8], from: usize, refusal: &Refusal) ->
     write_byte(bytes, next, b'\n')
 }
 
-/// Writes the text of the reply to a step, a loss, an undo, a redo or what was refused from this byte on, where there must be
-/// room for `MOST_BYTES`, and returns where the text ends; none of another reply, and then nothing is written.
+/// Writes the text of the reply to a step, a loss, an undo, a redo or what was refused from this byte on, where there
+/// must be room for `MOST_BYTES`, and returns where the text ends; none of another reply, and then nothing is written.
 pub fn write_short_reply(bytes: &mut [u8], from: usize, reply: &Reply) -> Option<usize>
     requires { from + MOST_BYTES ≤ length bytes.old }
     ensures { MatchOption result (bytes.new ≡ bytes.old)
-        (λ end. Writes from end bytes.old bytes.new (text_of (told reply.now))) }
+        (λ end. Writes from end bytes.old bytes.new (text_of (reply_view reply.now))) }
 {
     let end = match reply {
         Reply::Stepped {
@@ -418,8 +419,8 @@ fn write_causes(bytes: &mut [u8], from: usize, causes: &[StepId]) -> usize
 /// How many causes an event has at most whose text is short.
 pub const MOST_CAUSES: usize = 9;
 
-/// Writes the text of an event and its direct causes, at most `MOST_CAUSES`, from this byte on, where there must be room
-/// for `MOST_REPORT`, and returns where the text ends.
+/// Writes the text of an event and its direct causes, at most `MOST_CAUSES`, from this byte on, where there must be
+/// room for `MOST_REPORT`, and returns where the text ends.
 pub fn write_because(bytes: &mut [u8], from: usize, name: StepId, causes: &[StepId]) -> usize
     requires few { length causes.now ≤ MOST_CAUSES }
     requires room { from + MOST_REPORT ≤ length bytes.old }

@@ -7,7 +7,8 @@ ghost use Rattle.cdb_text.specs.Reports.{value_text, payload_text, copy_line, ev
 ghost use Rattle.cdb_text.specs.Reports.{machine_letter, life_word, decision_text, decisions_text};
 ghost use Rattle.cdb_text.specs.Reports.{register_line, decision_line, registers_from, registers_text};
 ghost use Rattle.cdb_text.specs.declared.text.short.TheConstants.{MOST_REPORT};
-ghost use Rattle.cdb_text.specs.declared.text.short_report.TheConstants.{MOST_ITEMS, MOST_LINE, MOST_OF_A_CELL, MOST_OF_A_REGISTER, MOST_OF_A_DECISION};
+ghost use Rattle.cdb_text.specs.declared.text.short_report.TheConstants.{MOST_ITEMS, MOST_LINE, MOST_OF_A_CELL};
+ghost use Rattle.cdb_text.specs.declared.text.short_report.TheConstants.{MOST_OF_A_REGISTER, MOST_OF_A_DECISION};
 
 use super::short::{
     MOST_REPORT, write_byte, write_event, write_message, write_number, write_process, write_word,
@@ -131,7 +132,8 @@ fn write_place(bytes: &mut [u8], from: usize, view: &ProcView) -> usize
     write_number(bytes, next, view.round)
 }
 
-/// Writes the text of a process from this byte on, where there must be room for `MOST_REPORT`, and returns where it ends.
+/// Writes the text of a process from this byte on, where there must be room for `MOST_REPORT`, and returns where it
+/// ends.
 pub fn write_view(bytes: &mut [u8], from: usize, view: &ProcView) -> usize
     requires { from + MOST_REPORT ≤ length bytes.old }
     ensures { Writes from result bytes.old bytes.new (process_text view.now) }
@@ -178,8 +180,8 @@ fn write_each_decision(bytes: &mut [u8], from: usize, decisions: &[(Proc, Val)])
     }
 }
 
-/// Writes the text of decisions, at most `MOST_ITEMS`, from this byte on, where there must be room for `MOST_REPORT`, and
-/// returns where it ends.
+/// Writes the text of decisions, at most `MOST_ITEMS`, from this byte on, where there must be room for `MOST_REPORT`,
+/// and returns where it ends.
 pub fn write_decisions(bytes: &mut [u8], from: usize, decisions: &[(Proc, Val)]) -> usize
     requires few { length decisions.now ≤ MOST_ITEMS }
     requires room { from + MOST_REPORT ≤ length bytes.old }
@@ -257,8 +259,8 @@ fn write_registers_from(bytes: &mut [u8], from: usize, number: u32, cells: &[Cel
     }
 }
 
-/// Writes the text of registers, at most `MOST_ITEMS`, from this byte on, where there must be room for `MOST_REPORT`, and
-/// returns where it ends.
+/// Writes the text of registers, at most `MOST_ITEMS`, from this byte on, where there must be room for `MOST_REPORT`,
+/// and returns where it ends.
 pub fn write_registers(bytes: &mut [u8], from: usize, cells: &[Cell]) -> usize
     requires few { length cells.now ≤ MOST_ITEMS }
     requires room { from + MOST_REPORT ≤ length bytes.old }

@@ -132,8 +132,8 @@ fn hear_often(
     }
 }
 
-/// The index of an inbox covers its first 65,535 messages, more than any run has. After 65,533 messages the next two are
-/// still covered, and the others are not. Each sender counts once in either place, and no longer once its messages
+/// The index of an inbox covers its first 65,535 messages, more than any run has. After 65,533 messages the next two
+/// are still covered, and the others are not. Each sender counts once in either place, and no longer once its messages
 /// are taken back.
 #[test]
 fn an_inbox_is_exact_beyond_its_index(rt: HostRuntime) {

@@ -2,7 +2,7 @@
 
 use super::dependence::{copy, step};
 use cdb_base::{Cell, Event, Kind, NoMemory, Proc, Reg, StepId, StepName, Val};
-use cdb_standing::{Left, Recorded, Records};
+use cdb_standing::{Recorded, Records, UndoData};
 use std::alloc::Global;
 use std::process::Abort;
 
@@ -19,7 +19,7 @@ fn add(records: &mut Records<u32>, event: Event, number: u32) -> Result<(), NoMe
     }
     match event {
         Event::Step { p, k, kind } => {
-            let left = Left {
+            let left = UndoData {
                 back: Some(number),
                 overwritten: Some(CELL),
             };

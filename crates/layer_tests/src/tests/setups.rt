@@ -1,4 +1,5 @@
-//! Setups as values: their parts, which of them are equal, and refused memory. Their faults are rows of tests/setups.txt.
+//! Setups as values: their parts, which of them are equal, and refused memory. Their faults are rows of
+//! tests/setups.txt.
 
 use cdb_base::{NoMemory, Proc, Val};
 use cdb_setup::{Algorithm, Setup, SetupFault};

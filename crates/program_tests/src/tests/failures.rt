@@ -151,8 +151,8 @@ fn each_write_of_output_fails_in_turn(rt: HostRuntime) -> Result<(), Fail> {
 
 #[test]
 fn each_write_of_a_session_fails_in_turn(rt: HostRuntime) {
-    // The greeting takes 18 calls of 5 bytes at most. Then come the prompt, and answers of 12 and 25 bytes, each with the
-    // prompt.
+    // The greeting takes 18 calls of 5 bytes at most. Then come the prompt, and answers of 12 and 25 bytes, each with
+    // the prompt.
     let (calls, greeting) = (18, 86);
     let written = [0, 2, 7, 12, 16, 21, 26, 31, 36, 41];
     let debug = debug(rt.alloc());

@@ -13,8 +13,8 @@ fn count_of(rt: &impl AllocGlobal, words: &[&str]) -> Result<u32, u8> {
     }
 }
 
-/// Out of memory: the status says so, and the same words, read again, ask for what they ask or are refused. To see it, let
-/// each allocation of this test fail in turn.
+/// Out of memory: the status says so, and the same words, read again, ask for what they ask or are refused. To see it,
+/// let each allocation of this test fail in turn.
 #[test]
 fn words_without_memory(rt: HostRuntime) {
     let rows = [("99999", Ok(99_999)), ("-1", Err(2))];

@@ -1,5 +1,5 @@
 use Rattle.cdb_rules.proofs.WhereOk.{rolled_back_where_ok, rolled_back_back}
-use Rattle.cdb_rules.proofs.Standing.{standing_rolled_back, new_rolled_back, absent_rolled_back}
+use Rattle.cdb_rules.proofs.AllStanding.{standing_rolled_back, new_rolled_back, absent_rolled_back}
 use Rattle.cdb_agreement.proofs.laws.granted_rollback.Goals as goal
 
 pub returns-clause-rolled_back : goal.returns-clause-rolled_back

@@ -1,5 +1,5 @@
 use Rattle.cdb_rules.proofs.WhereOk.{undone_free, undone_back}
-use Rattle.cdb_rules.proofs.Standing.{free_undone, needed_refused, new_undone, absent_undone}
+use Rattle.cdb_rules.proofs.AllStanding.{free_undone, needed_refused, new_undone, absent_undone}
 use Rattle.cdb_agreement.proofs.laws.granted_undo.Goals as goal
 
 pub returns-clause-undone : goal.returns-clause-undone

@@ -31,15 +31,19 @@ loop-name-preserved c =
     let copied : option_to_list c.copy_of.result ≡ shown_copy mail p name = c.copy_of.ensures in
     let grown : c.match-copy_of.copies.items ≡ items ++ shown_copy mail p name =
     elim c.match-copy_of.branch [
-      | in-Some-copy_of+in_ok-push w ↦ ap (λ v. v.items) w.copies-is ∙ w.in_ok-push.ensures.items ∙ ap (λ o. items ++ option_to_list o) (sym w.in-Some-copy_of.is) ∙ ap (λ more. items ++ more) copied
-      | in_default-copy_of w ↦ ap (λ v. v.items) w.copies-is ∙ sym (append-nil items) ∙ ap (λ o. items ++ option_to_list o) (sym w.in_default-copy_of.is) ∙ ap (λ more. items ++ more) copied
+      | in-Some-copy_of+in_ok-push w ↦ ap (λ v. v.items) w.copies-is ∙ w.in_ok-push.ensures.items
+          ∙ ap (λ o. items ++ option_to_list o) (sym w.in-Some-copy_of.is) ∙ ap (λ more. items ++ more) copied
+      | in_default-copy_of w ↦ ap (λ v. v.items) w.copies-is ∙ sym (append-nil items)
+          ∙ ap (λ o. items ++ option_to_list o) (sym w.in_default-copy_of.is) ∙ ap (λ more. items ++ more) copied
     ] in
     ap (λ so_far. so_far ++ flat_map (shown_copy mail p) (filter (is_above (Some name)) (copies_for mail p))) grown
-    ∙ one-looked (shown_copy mail p) (copies_for mail p) c.args.copies.now.items c.loop-name.after items name (copies-rise mail p) (sym c.pending.ensures ∙ c.in-Some.is) c.loop-name.invariant
+    ∙ one-looked (shown_copy mail p) (copies_for mail p) c.args.copies.now.items c.loop-name.after
+    items name (copies-rise mail p) (sym c.pending.ensures ∙ c.in-Some.is) c.loop-name.invariant
 
 pub returns : goal.returns
 returns c =
     let run = c.args.run.now in
     let mail = (rules run.setup).mail run.history in
     let p = c.args.p.now in
-    all-looked (shown_copy mail p) (copies_for mail p) c.args.copies.now.items c.loop-name.after c.loop-name.copies.items (sym c.pending.ensures ∙ c.in_default.is) c.loop-name.invariant
+    all-looked (shown_copy mail p) (copies_for mail p) c.args.copies.now.items c.loop-name.after
+    c.loop-name.copies.items (sym c.pending.ensures ∙ c.in_default.is) c.loop-name.invariant

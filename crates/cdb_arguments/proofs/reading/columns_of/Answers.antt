@@ -1,7 +1,7 @@
 use Rattle.std.proofs.Common.{◌∙◌, codes, subst, Option, refl}
 use Rattle.clap.specs.Words.{Text, found_of}
 use Rattle.clap.proofs.WalkLemmas.{first_value-rows}
-use Rattle.cdb_arguments.specs.Asking.{AreColumns}
+use Rattle.cdb_arguments.specs.RequestsOfRows.{AreColumns}
 use Rattle.cdb_arguments.proofs.Given.{some_text, no_text}
 use Rattle.cdb_arguments.proofs.reading.columns_of.Goals as goal
 

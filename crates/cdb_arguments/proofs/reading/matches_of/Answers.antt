@@ -22,5 +22,6 @@ returns-in-Ok-clause-right c =
 pub returns-in-Err-clause-refused : goal.returns-in-Err-clause-refused
 returns-in-Err-clause-refused c =
     let words : List (List ℕ) = map (λ word. word.now) c.args.words.now in
-    c.ask_fault.ensures.words (fault_of program words) (subst (λ (kinds : Kinds). HasKind kinds c.in-Err.error) (ap (λ (a : App). fault_of a words) c.in_ok-program.ensures)
+    c.ask_fault.ensures.words (fault_of program words)
+    (subst (λ (kinds : Kinds). HasKind kinds c.in-Err.error) (ap (λ (a : App). fault_of a words) c.in_ok-program.ensures)
     (c.in-Err.ensures.kinds (ap is_simple_and_free c.in_ok-program.ensures ∙ program_is_free)))

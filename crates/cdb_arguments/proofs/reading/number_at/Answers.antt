@@ -1,7 +1,7 @@
 use Rattle.std.proofs.Common.{◌∙◌, subst, Option, Some, None, refl}
 use Rattle.clap.specs.Words.{Text, found_of}
 use Rattle.clap.proofs.WalkLemmas.{first_value-rows}
-use Rattle.cdb_arguments.specs.Asking.{IsNumberOf}
+use Rattle.cdb_arguments.specs.RequestsOfRows.{IsNumberOf}
 use Rattle.cdb_arguments.proofs.Given.{some_text, no_text}
 use Rattle.cdb_arguments.proofs.reading.number_at.Goals as goal
 

@@ -1,5 +1,5 @@
 use Rattle.std.proofs.Common.{sym, subst}
-use Rattle.cdb_arguments.specs.Asking.{NamesOne}
+use Rattle.cdb_arguments.specs.RequestsOfRows.{NamesOne}
 use Rattle.cdb_base.specs.Requests.{texts}
 use Rattle.cdb_arguments.proofs.CommandLine.{names_one}
 use Rattle.cdb_arguments.proofs.reading.read.Goals as goal

@@ -9,7 +9,8 @@ pub returns-in-Some : goal.returns-in-Some
 returns-in-Some c =
     let rows = raw_values-rows (found_of c.args.matches.now) c.args.id.now in
     let texts : Some (map (λ v. v.now) c.in-Some.texts.now) ≡ all_of c.args.id.now (rows_of (found_of c.args.matches.now)) = c.in-Some.ensures ∙ rows in
-    IfOk-weaker c.from_slice.result _ _ (λ v items. ap (map (λ t. t.now)) items ∙ ap (λ (o : Option (List Text)). unwrap_or o []) texts) c.from_slice.ensures.items
+    IfOk-weaker c.from_slice.result _ _
+    (λ v items. ap (map (λ t. t.now)) items ∙ ap (λ (o : Option (List Text)). unwrap_or o []) texts) c.from_slice.ensures.items
 
 pub returns-in-None : goal.returns-in-None
 returns-in-None c =

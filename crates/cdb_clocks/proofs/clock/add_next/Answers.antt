@@ -12,7 +12,8 @@ returns-in_ok-add_clock-in-Step-clause-next c = λ end stands kept.
     let at : nth history (suc end) ≡ Some (Step c.in-Step.p c.in-Step.k c.in-Step.kind) = stands ∙ ap Some c.in-Step.is in
     let clock = c.next_clock-clock.result in
     let is = c.next_clock-clock.ensures end c.in-Step.kind at kept in (
-      kept_at_step history end (rows_in c.args.rows.now.items) kept c.requires.comparable c.requires.numbered c.in-Step.p c.in-Step.k c.in-Step.kind at clock is (rows_in c.add_clock.new.rows.items) c.in_ok-add_clock-in-Step.ensures,
+      kept_at_step history end (rows_in c.args.rows.now.items) kept c.requires.comparable c.requires.numbered c.in-Step.p
+          c.in-Step.k c.in-Step.kind at clock is (rows_in c.add_clock.new.rows.items) c.in_ok-add_clock-in-Step.ensures,
       subst (λ e. IsClockIfStep history (suc end) e clock) (sym c.in-Step.is) is,
     )
 

@@ -47,8 +47,12 @@ loop-event-preserved c =
           (old.0, ap (λ (l : List (List ℕ)). nth l at) pushed ∙ nth_front c.loop-event.clocks.items clock old.0 at old.1, old.2))
           (λ last.
           let same = same_Some event (Step p k kind) (sym here ∙ subst (λ (n : ℕ). nth history n ≡ Some (Step p k kind)) last there) in
-          let is : IsClock history (suc i) clock = subst (λ e. IsClockIfStep history (suc i) e clock) same next.1 in
-          (clock, ap (λ (l : List (List ℕ)). nth l at) pushed ∙ at_end c.loop-event.clocks.items clock at (last ∙ ap suc (sym was.number)), subst (λ (n : ℕ). IsClock history n clock) (sym last) is))
+          let is : IsClock history (suc i) clock = subst (λ e. IsClockIfStep history (suc i) e clock) same next.1 in (
+            clock,
+            ap (λ (l : List (List ℕ)). nth l at) pushed
+                ∙ at_end c.loop-event.clocks.items clock at (last ∙ ap suc (sym was.number)),
+            subst (λ (n : ℕ). IsClock history n clock) (sym last) is,
+          ))
           (last_position at i (omega (arith, few)));
     }
 

@@ -12,5 +12,6 @@ invariant-loop-event l = record {
   nine : length l.rows.items ≡ 9;
   kept : AreKept l.history l.event-index (rows_in l.rows.items);
   number : length l.clocks.items ≡ l.event-index;
-  clocks : (at p k : ℕ) (kind : Kind) → nth l.history at ≡ Some (Step p k kind) → at ≤ l.event-index → (clock : List ℕ) × (nth l.clocks.items at ≡ Some clock) × IsClock l.history at clock;
+  clocks : (at p k : ℕ) (kind : Kind) → nth l.history at ≡ Some (Step p k kind) → at ≤ l.event-index
+      → (clock : List ℕ) × (nth l.clocks.items at ≡ Some clock) × IsClock l.history at clock;
 }

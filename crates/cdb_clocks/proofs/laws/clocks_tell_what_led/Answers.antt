@@ -1,4 +1,4 @@
-use Rattle.cdb_clocks.proofs.Told.{clock_tells}
+use Rattle.cdb_clocks.proofs.WrittenClocks.{clock_tells}
 use Rattle.cdb_clocks.proofs.laws.clocks_tell_what_led.Goals as goal
 
 pub returns : goal.returns

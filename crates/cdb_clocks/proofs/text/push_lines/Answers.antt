@@ -29,15 +29,19 @@ loop-i-preserved g c =
     let standing = (g.met.T.Runs.histories run.setup range).standing run.history c.requires.valid in
     let later : RunView = g.T.Runs.run c.push_next.new.again in
     let taken = c.in_ok-push_next.ensures.taken in
-    let line = its_line g.T.Runs.rules g.T.Runs.same_state g.met.T.Runs.histories run i event at (g.T.Runs.run c.loop-i.again) so.again Shown standing later taken in
+    let line =
+    its_line g.T.Runs.rules g.T.Runs.same_state g.met.T.Runs.histories run i event at (g.T.Runs.run c.loop-i.again) so.again Shown standing later taken in
     let added = c.in_ok-push_next.ensures.lines in
-    let within : i < length c.args.clocks.now = (let test = c.loop-i-test.true in omega (arith, test, ap length c.events-events.ensures, c.requires.a_clock_each)) in
+    let within : i < length c.args.clocks.now =
+    (let test = c.loop-i-test.true in omega (arith, test, ap length c.events-events.ensures, c.requires.a_clock_each)) in
     let clock : List ℕ = get_or c.args.clocks.now i [] in
     let kept = c.in_ok-add.ensures (g.T.Runs.run c.loop-i.again).history so.names in
     record {
       names = kept ∙ ap (λ (r : RunView). received_by_each r.history) (sym taken);
       again = next_along g.T.Runs.rules g.T.Runs.same_state g.met.T.Runs.histories run i event at _ so.again later taken;
       text =
-          text_more g.T.Runs.rules run c.args.clocks.now i (string_bytes c.args.text.now) (string_bytes c.loop-i.text) (string_bytes c.push_next.new.text) _ so.text added
-          (its_lines g.T.Runs.rules run c.args.clocks.now i event clock later (deed_in (g.T.Runs.run c.loop-i.again) event) at (slice_get-get_or c.args.clocks.now i [] within) line);
+          text_more g.T.Runs.rules run c.args.clocks.now i (string_bytes c.args.text.now)
+          (string_bytes c.loop-i.text) (string_bytes c.push_next.new.text) _ so.text added
+          (its_lines g.T.Runs.rules run c.args.clocks.now i event clock later
+          (deed_in (g.T.Runs.run c.loop-i.again) event) at (slice_get-get_or c.args.clocks.now i [] within) line);
     }

@@ -1,7 +1,7 @@
 use Rattle.cdb_clocks.specs.Texts.{IsClocksText}
-use Rattle.cdb_clocks.specs.Told.{clocks_ending, WritesClocks}
+use Rattle.cdb_clocks.specs.WrittenClocks.{clocks_ending, WritesClocks}
 use Rattle.cdb_rules.specs.RunView.{RunView}
-use Rattle.cdb_streams.proofs.Ending.{written_as}
+use Rattle.cdb_streams.proofs.StreamEnds.{written_as}
 use Rattle.cdb_clocks.proofs.writes.clocks.Goals as goal
 
 pub returns-clause-wrote : goal.returns-clause-wrote

@@ -1,4 +1,4 @@
-use Rattle.cdb_deeds.proofs.Naming.{deeds_name_received}
+use Rattle.cdb_deeds.proofs.NamedDeeds.{deeds_name_received}
 use Rattle.cdb_deeds.proofs.laws.deeds_name_received.Goals as goal
 
 pub returns : goal.returns

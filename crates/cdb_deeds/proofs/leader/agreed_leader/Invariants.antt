@@ -6,4 +6,6 @@ use Rattle.cdb_deeds.proofs.leader.agreed_leader.Given as goal
 
 -- none of the processes so far is the one
 abbrev pub invariant-loop-leader : goal.invariant-loop-leader
-invariant-loop-leader l = find (is_agreed l.machine.quorum l.machine.round l.machine.inbox) (drop l.leader-index all_processes) ≡ find (is_agreed l.machine.quorum l.machine.round l.machine.inbox) all_processes
+invariant-loop-leader l =
+    find (is_agreed l.machine.quorum l.machine.round l.machine.inbox) (drop l.leader-index all_processes)
+    ≡ find (is_agreed l.machine.quorum l.machine.round l.machine.inbox) all_processes

@@ -10,4 +10,5 @@ use Rattle.cdb_deeds.proofs.leader.messages_in.Given as goal
 -- with those of the senders that are left they are all
 abbrev pub invariant-loop-sender : goal.invariant-loop-sender
 invariant-loop-sender l =
-    l.by ++ flat_map (λ m. option_to_list (option_and_then (nth l.names) (number_in l.phase l.machine m))) (drop l.sender-index all_processes) ≡ messages_in l.phase l.machine l.names
+    l.by ++ flat_map (λ m. option_to_list (option_and_then (nth l.names) (number_in l.phase l.machine m))) (drop l.sender-index all_processes)
+    ≡ messages_in l.phase l.machine l.names

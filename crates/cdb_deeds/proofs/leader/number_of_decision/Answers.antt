@@ -20,4 +20,5 @@ loop-i-preserved c =
     (ap is_some (sym c.decision.ensures) ∙ sym c.is_some.ensures ∙ c.if-is_some.false) c.loop-i.invariant
 
 pub returns : goal.returns
-returns c = sym (no_number (λ (it : Received). is_some (if_from c.args.sender as_decision it)) c.args.inbox.now (λ k x less. c.loop-i.invariant k x (omega arith)))
+returns c =
+    sym (no_number (λ (it : Received). is_some (if_from c.args.sender as_decision it)) c.args.inbox.now (λ k x less. c.loop-i.invariant k x (omega arith)))

@@ -7,4 +7,6 @@ use Rattle.cdb_deeds.proofs.leader.proposer.Given as goal
 
 -- none of the processes so far is the one
 abbrev pub invariant-loop-sender : goal.invariant-loop-sender
-invariant-loop-sender l = find (λ m. is_some (option_flatten (second_phase_from l.machine.round m l.machine.inbox))) (drop l.sender-index all_processes) ≡ find (λ m. is_some (option_flatten (second_phase_from l.machine.round m l.machine.inbox))) all_processes
+invariant-loop-sender l =
+    find (λ m. is_some (option_flatten (second_phase_from l.machine.round m l.machine.inbox))) (drop l.sender-index all_processes)
+    ≡ find (λ m. is_some (option_flatten (second_phase_from l.machine.round m l.machine.inbox))) all_processes

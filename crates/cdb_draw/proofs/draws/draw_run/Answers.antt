@@ -1,6 +1,6 @@
 use Rattle.std.proofs.Common.{Err, refl, inl}
 use Rattle.std.proofs.lemmas.Result.{err_from_is_err_and}
-use Rattle.cdb_streams.proofs.Ending.{only_as}
+use Rattle.cdb_streams.proofs.StreamEnds.{only_as}
 use Rattle.cdb_streams.specs.Endings.{Complete, pieces_ending}
 use Rattle.cdb_draw.proofs.draws.draw_run.Goals as goal
 

@@ -1,5 +1,5 @@
 use Rattle.std.proofs.Common.{◌∙◌, Bool, List, length, ap, sym}
-use Rattle.cdb_draw.proofs.Weighing.{length_weighed}
+use Rattle.cdb_draw.proofs.Weights.{length_weighed}
 use Rattle.cdb_draw.specs.declared.weight.Weight.{Weight}
 use Rattle.cdb_draw.proofs.draws.weights_to.Goals as goal
 

@@ -4,7 +4,7 @@ use Rattle.std.specs.Global.{Global}
 use Rattle.cdb_agreement.specs.Algorithms.{rules}
 use Rattle.cdb_draw.specs.Frames.{IsFrameOf}
 use Rattle.cdb_draw.specs.declared.frames.Frame.{Frame}
-use Rattle.cdb_draw.proofs.Framing.{no_frame_at, one_more_frame}
+use Rattle.cdb_draw.proofs.FramesFound.{no_frame_at, one_more_frame}
 use Rattle.cdb_draw.proofs.frames.find_each.Goals.{in-Some+in_ok-push_frame, in_default}
 use Rattle.cdb_draw.proofs.frames.find_each.Goals as goal
 
@@ -22,7 +22,9 @@ loop-i-preserved c =
           record {
             carried = carried;
             found = one_more_frame rules setup commands c.loop-i.i (w.in-Some.frame ∷ []) it.0 before.found grown;
-            each = All-same (IsFrameOf rules setup commands) _ _ grown (All-push (IsFrameOf rules setup commands) c.loop-i.frames.items w.in-Some.frame before.each it.1);
+            each =
+                All-same (IsFrameOf rules setup commands) _ _ grown
+                (All-push (IsFrameOf rules setup commands) c.loop-i.frames.items w.in-Some.frame before.each it.1);
           }
       | in_default w ↦
           let none = no_frame_at _ _ _ next w.in_default.not-Some in

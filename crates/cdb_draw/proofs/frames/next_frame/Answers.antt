@@ -2,14 +2,15 @@ use Rattle.std.proofs.Common.{◌≡◌, ◌∙◌, ◌+◌, ◌<◌, ◌∷◌,
 use Rattle.cdb_agreement.specs.Algorithms.{rules}
 use Rattle.cdb_draw.specs.Frames.{events_at, frame_at}
 use Rattle.cdb_draw.specs.declared.layout.TheConstants.{MOST_DRAWN}
-use Rattle.cdb_draw.proofs.Framing.{events_next, frame_is, frame_next, no_frame}
+use Rattle.cdb_draw.proofs.FramesFound.{events_next, frame_is, frame_next, no_frame}
 use Rattle.cdb_draw.proofs.frames.next_frame.Goals as goal
 
 pub returns-in_default-clause-frame : goal.returns-in_default-clause-frame
 returns-in_default-clause-frame c =
     let setup = c.args.control.now.setup in
     let commands = c.args.commands.now in
-    frame_next rules setup commands c.args.i c.index-commands-i.result c.requires.i c.index-commands-i.is c.args.control.now c.requires.before _ c.in_ok-took.ensures.took
+    frame_next rules setup commands c.args.i c.index-commands-i.result c.requires.i
+    c.index-commands-i.is c.args.control.now c.requires.before _ c.in_ok-took.ensures.took
     ∙ no_frame _ _ c.in_ok-took.field-0 c.in_default.not-Some
 
 pub returns-then-events-gt-MOST_DRAWN-clause-fault : goal.returns-then-events-gt-MOST_DRAWN-clause-fault
@@ -17,14 +18,19 @@ returns-then-events-gt-MOST_DRAWN-clause-fault c =
     let setup = c.args.control.now.setup in
     let commands = c.args.commands.now in
     let stand = ap length (c.as_slice-events.ensures.value ∙ c.in_ok-standing.ensures ∙ c.run.ensures.history)
-    ∙ events_next rules setup commands c.args.i c.index-commands-i.result c.requires.i c.index-commands-i.is c.args.control.now c.requires.before _ c.in_ok-took.ensures.done in
+    ∙ events_next rules setup commands c.args.i c.index-commands-i.result c.requires.i
+    c.index-commands-i.is c.args.control.now c.requires.before _ c.in_ok-took.ensures.done in
     (c.args.i + 1, omega arith, omega arith)
 
 pub returns-clause-frame : goal.returns-clause-frame
 returns-clause-frame c =
     let setup = c.args.control.now.setup in
     let commands = c.args.commands.now in
-    let stand : length c.as_slice-events.result.now ≡ events_at rules setup commands (c.args.i + 1) = ap length (c.as_slice-events.ensures.value ∙ c.in_ok-standing.ensures ∙ c.run.ensures.history)
-    ∙ events_next rules setup commands c.args.i c.index-commands-i.result c.requires.i c.index-commands-i.is c.args.control.now c.requires.before _ c.in_ok-took.ensures.done in
-    let framed = frame_next rules setup commands c.args.i c.index-commands-i.result c.requires.i c.index-commands-i.is c.args.control.now c.requires.before _ c.in_ok-took.ensures.took in
+    let stand : length c.as_slice-events.result.now ≡ events_at rules setup commands (c.args.i + 1) =
+    ap length (c.as_slice-events.ensures.value ∙ c.in_ok-standing.ensures ∙ c.run.ensures.history)
+    ∙ events_next rules setup commands c.args.i c.index-commands-i.result c.requires.i
+    c.index-commands-i.is c.args.control.now c.requires.before _ c.in_ok-took.ensures.done in
+    let framed =
+    frame_next rules setup commands c.args.i c.index-commands-i.result c.requires.i
+    c.index-commands-i.is c.args.control.now c.requires.before _ c.in_ok-took.ensures.took in
     (framed ∙ frame_is (c.args.i + 1) _ _ _ c.in-Some.took stand c.in-Some.is, record { carried_out = omega arith; stand = stand; few = omega arith })

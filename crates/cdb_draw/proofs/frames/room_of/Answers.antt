@@ -8,4 +8,5 @@ use Rattle.cdb_draw.proofs.frames.room_of.Goals as goal
 pub returns : goal.returns
 returns c =
     let s = c.args.frames.now in
-    c.unwrap_or.ensures ∙ ap (λ o. unwrap_or o 0) (reduce_from_yields_List _ c.map.result _ c.max.ensures.ran (YieldsList-from_map _ (λ (x : Frame). x.events) (YieldsList-from_slice s cc) c.map.ensures.closure (λ x b q k. search (rules, tests)))) ∙ max_of_map (λ (x : Frame). x.events) s
+    c.unwrap_or.ensures ∙ ap (λ o. unwrap_or o 0) (reduce_from_yields_List _ c.map.result _ c.max.ensures.ran (YieldsList-from_map _ (λ (x : Frame). x.events)
+    (YieldsList-from_slice s cc) c.map.ensures.closure (λ x b q k. search (rules, tests)))) ∙ max_of_map (λ (x : Frame). x.events) s

@@ -1,4 +1,4 @@
-use Rattle.cdb_draw.proofs.Keeping.{arrows_keep_off}
+use Rattle.cdb_draw.proofs.KeptPlaces.{arrows_keep_off}
 use Rattle.cdb_draw.proofs.laws.arrows_keep_off_marks.Goals as goal
 
 pub returns : goal.returns

@@ -1,6 +1,6 @@
 use Rattle.std.proofs.Common.{refl}
 use Rattle.std.proofs.lemmas.Result.{err_from_is_err_and}
-use Rattle.cdb_streams.proofs.Putting.{put_last}
+use Rattle.cdb_streams.proofs.PiecesPut.{put_last}
 use Rattle.cdb_draw.proofs.Parted.{cut_before}
 use Rattle.cdb_draw.proofs.mark.put_mark.Goals as goal
 

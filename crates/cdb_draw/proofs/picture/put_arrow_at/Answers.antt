@@ -3,7 +3,7 @@ use Rattle.cdb_base.specs.Positions.{nth}
 use Rattle.cdb_base.specs.declared.event.Event.{Event}
 use Rattle.cdb_causal.proofs.Lists.{by_next}
 use Rattle.cdb_rules.proofs.Flagged.{item_one}
-use Rattle.cdb_draw.proofs.Weighing.{weight_read}
+use Rattle.cdb_draw.proofs.Weights.{weight_read}
 use Rattle.cdb_draw.specs.Weights.{weight_at}
 use Rattle.cdb_draw.specs.declared.weight.Weight.{Weight}
 use Rattle.cdb_draw.specs.declared.weight.Weight.TheVariants.{Pale}

@@ -1,7 +1,7 @@
 use Rattle.std.proofs.Common.{rules, ◌<◌, length, ap, arith}
 use Rattle.std.proofs.lemmas.Result.{err_from_is_err_and}
 use Rattle.cdb_draw.specs.Arrows.{arrow_at}
-use Rattle.cdb_streams.proofs.Putting.{put_nothing, puts_nothing}
+use Rattle.cdb_streams.proofs.PiecesPut.{put_nothing, puts_nothing}
 use Rattle.cdb_draw.proofs.Parted.{cut_one, put_one}
 use Rattle.cdb_draw.proofs.picture.put_arrows.Goals as goal
 

@@ -12,7 +12,7 @@ use Rattle.cdb_explain.proofs.Along.{deed_along, next_along, next_valid}
 use Rattle.cdb_deeds.specs.Deeds.{received_by_each}
 use Rattle.cdb_explain.specs.Explanations.{deed_at}
 use Rattle.cdb_streams.specs.declared.buffer.OutputFault.TheVariants.{NoMemory}
-use Rattle.cdb_streams.proofs.Putting.{put_nothing, puts_nothing}
+use Rattle.cdb_streams.proofs.PiecesPut.{put_nothing, puts_nothing}
 use Rattle.cdb_draw.proofs.Parted.{cut_one, put_one}
 use Rattle.cdb_draw.proofs.picture.put_marks.Goals as goal
 
@@ -26,7 +26,8 @@ pub take_next-requires : goal.take_next-requires
 take_next-requires g c =
     let at = item_at c.events-events.ensures c.loop-i.i c.index-events-i.result (omega arith) c.index-events-i.is in
     let range = rw c.setup.ensures at c.n-ranges.ensures.ranges in
-    next_valid g.T.Runs.rules g.T.Runs.same_state g.met.T.Runs.histories c.args.run.now c.loop-i.i c.index-events-i.result at _ c.loop-i.invariant.again range c.requires.valid
+    next_valid g.T.Runs.rules g.T.Runs.same_state g.met.T.Runs.histories c.args.run.now
+    c.loop-i.i c.index-events-i.result at _ c.loop-i.invariant.again range c.requires.valid
 
 pub put_mark_at-requires-clause-standing : goal.put_mark_at-requires-clause-standing
 put_mark_at-requires-clause-standing g c =
@@ -36,14 +37,16 @@ put_mark_at-requires-clause-standing g c =
 pub put_mark_at-requires-clause-after : goal.put_mark_at-requires-clause-after
 put_mark_at-requires-clause-after g c =
     let at = item_at c.events-events.ensures c.loop-i.i c.index-events-i.result (omega arith) c.index-events-i.is in
-    next_along g.T.Runs.rules g.T.Runs.same_state g.met.T.Runs.histories c.args.run.now c.loop-i.i c.index-events-i.result at _ c.loop-i.invariant.again _ c.in_ok-take_next.ensures
+    next_along g.T.Runs.rules g.T.Runs.same_state g.met.T.Runs.histories c.args.run.now
+    c.loop-i.i c.index-events-i.result at _ c.loop-i.invariant.again _ c.in_ok-take_next.ensures
 
 pub put_mark_at-requires-clause-did : goal.put_mark_at-requires-clause-did
 put_mark_at-requires-clause-did g c =
     let i = c.loop-i.i in
     let at = item_at c.events-events.ensures i c.index-events-i.result (omega arith) c.index-events-i.is in
     let next : suc i ≡ i + 1 = omega arith in
-    c.in_ok-deed.ensures ∙ sym (deed_along g.T.Runs.rules g.T.Runs.same_state g.met.T.Runs.histories c.args.run.now i c.index-events-i.result at _ c.loop-i.invariant.again)
+    c.in_ok-deed.ensures
+    ∙ sym (deed_along g.T.Runs.rules g.T.Runs.same_state g.met.T.Runs.histories c.args.run.now i c.index-events-i.result at _ c.loop-i.invariant.again)
     ∙ ap (deed_at c.args.run.now) next
 
 pub returns-in_err-deed : goal.returns-in_err-deed

@@ -1,6 +1,6 @@
 use Rattle.std.proofs.Common.{Err, refl}
 use Rattle.std.proofs.lemmas.Result.{err_from_is_err_and}
-use Rattle.cdb_streams.proofs.Putting.{put_last, put_more}
+use Rattle.cdb_streams.proofs.PiecesPut.{put_last, put_more}
 use Rattle.cdb_draw.proofs.Parted.{cut_before}
 use Rattle.cdb_draw.proofs.picture.put_picture.Goals as goal
 
@@ -15,7 +15,8 @@ returns-in_err-put_lanes g c =
     let p = err_from_is_err_and c.from_residual-in_err-put_lanes.result c.from_residual-in_err-put_lanes.ensures.1 in
     let why = c.in_err-put_lanes.field-0.0 in
     let cut = cut_before g.W.Sink.stream (Unit {0}) why c.args.out.now c.put_lanes.new.out c.args.buffer.now c.put_lanes.new.buffer in
-    rw (p.1, p.2) (cut _ _ (cut _ _ (cut _ _ (put_last g.W.Sink.stream {A = Unit {0}} (Err why) _ _ _ _ _ _ _ _ _ c.in_ok-put_head.ensures refl c.in_err-put_lanes.ensures))))
+    rw (p.1, p.2) (cut _ _
+    (cut _ _ (cut _ _ (put_last g.W.Sink.stream {A = Unit {0}} (Err why) _ _ _ _ _ _ _ _ _ c.in_ok-put_head.ensures refl c.in_err-put_lanes.ensures))))
 
 pub returns-in_err-put_arrows : goal.returns-in_err-put_arrows
 returns-in_err-put_arrows g c =

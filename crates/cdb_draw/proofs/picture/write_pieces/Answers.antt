@@ -1,20 +1,29 @@
 use Rattle.std.proofs.Common.{refl}
 use Rattle.std.proofs.lemmas.Result.{err_from_is_err_and}
-use Rattle.cdb_streams.proofs.Putting.{left_written, written_at_end, fails_at_end}
+use Rattle.cdb_streams.proofs.PiecesPut.{left_written, written_at_end, fails_at_end}
 use Rattle.cdb_draw.proofs.picture.write_pieces.Goals as goal
 
 pub returns-in_err-put_picture : goal.returns-in_err-put_picture
 returns-in_err-put_picture g c =
     let p = err_from_is_err_and c.from_residual.result c.from_residual.ensures.1 in
     rw (p.1, p.2)
-    (left_written g.W.Sink.stream (Unit {0}) c.in_err-put_picture.field-0.0 c.args.out.now c.put_picture.new.out c.put_picture.new.buffer _ (rw c.requires.empty at c.in_err-put_picture.ensures))
+    (left_written g.W.Sink.stream (Unit {0}) c.in_err-put_picture.field-0.0 c.args.out.now
+    c.put_picture.new.out c.put_picture.new.buffer _ (rw c.requires.empty at c.in_err-put_picture.ensures))
 
 pub returns-in_err-flush : goal.returns-in_err-flush
 returns-in_err-flush g c =
     let p = err_from_is_err_and c.from_residual-in_err-flush.result c.from_residual-in_err-flush.ensures.1 in
-    rw (p.1, p.2)
-    (_, refl, fails_at_end g.W.Sink.stream c.args.out.now c.put_picture.new.out c.flush.new.out c.put_picture.new.buffer _ (rw c.requires.empty at c.in_ok-put_picture.ensures) c.in_err-flush.ensures.written)
+    rw (p.1, p.2) (
+      _,
+      refl,
+      fails_at_end g.W.Sink.stream c.args.out.now c.put_picture.new.out c.flush.new.out
+          c.put_picture.new.buffer _ (rw c.requires.empty at c.in_ok-put_picture.ensures) c.in_err-flush.ensures.written,
+    )
 
 pub returns : goal.returns
-returns g c =
-    (_, refl, written_at_end g.W.Sink.stream c.args.out.now c.put_picture.new.out c.flush.new.out c.put_picture.new.buffer _ (rw c.requires.empty at c.in_ok-put_picture.ensures) c.in_ok-flush.ensures.written)
+returns g c = (
+  _,
+  refl,
+  written_at_end g.W.Sink.stream c.args.out.now c.put_picture.new.out c.flush.new.out
+      c.put_picture.new.buffer _ (rw c.requires.empty at c.in_ok-put_picture.ensures) c.in_ok-flush.ensures.written,
+)

@@ -1,6 +1,6 @@
 use Rattle.cdb_rules.specs.RunView.{RunView}
 use Rattle.cdb_agreement.specs.Algorithms.{rules}
-use Rattle.cdb_streams.proofs.Ending.{written_as}
+use Rattle.cdb_streams.proofs.StreamEnds.{written_as}
 use Rattle.cdb_explain.proofs.Returned.{no_err}
 use Rattle.cdb_draw.proofs.Ended.{fault_drawn, no_setup_drawn, none_read_drawn}
 use Rattle.cdb_draw.specs.Drawn.{draw_ending, Draws, IsPictureFor}
@@ -12,7 +12,8 @@ returns-clause-wrote g c =
     let new = g.R.Source.stream c.run_left_by.new.script in
     let run : RunView = c.in_ok-run.run' in
     let left = c.in_ok-run.ensures.left.leaves in
-    written_as g.W.Sink.stream (draw_ending c.write_drawing.result) c.args.out.now c.write_drawing.new.out (IsPictureFor rules run c.args.columns c.args.step) (Draws rules c.args.setup.now c.args.columns c.args.step old new)
+    written_as g.W.Sink.stream (draw_ending c.write_drawing.result) c.args.out.now c.write_drawing.new.out
+    (IsPictureFor rules run c.args.columns c.args.step) (Draws rules c.args.setup.now c.args.columns c.args.step old new)
     (λ text is. (run, left, is)) c.write_drawing.ensures.wrote
 
 pub returns-clause-fault : goal.returns-clause-fault

@@ -1,6 +1,6 @@
 use Rattle.std.proofs.Common.{Some, length}
 use Rattle.cdb_agreement.specs.Algorithms.{rules}
-use Rattle.cdb_streams.proofs.Ending.{written_as}
+use Rattle.cdb_streams.proofs.StreamEnds.{written_as}
 use Rattle.cdb_streams.specs.Endings.{pieces_ending}
 use Rattle.cdb_draw.specs.Drawn.{IsPictureOfPast}
 use Rattle.cdb_draw.specs.Picture.{IsPicture}

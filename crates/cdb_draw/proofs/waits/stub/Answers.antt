@@ -15,5 +15,6 @@ unfolding stub_text
 returns c =
     texts c.class.ensures (ap point_text c.spot-at.ensures.value) c.waiter.ensures c.waiter-2.ensures c.waiter-3.ensures c.waiter-4.ensures c.waiter-5.ensures
     c.waiter-6.ensures c.waiter-7.ensures c.waiter-8.ensures c.waiter-9.ensures
-    (λ weight at p q r s t u v w x. concat (codes "<g class='wait " ∷ weight ∷ codes "' transform='translate(" ∷ at ∷ codes ")'><path d='M0,0L22,9'/><text class='note' y='33'>to"
+    (λ weight at p q r s t u v w x.
+    concat (codes "<g class='wait " ∷ weight ∷ codes "' transform='translate(" ∷ at ∷ codes ")'><path d='M0,0L22,9'/><text class='note' y='33'>to"
     ∷ p ∷ q ∷ r ∷ s ∷ codes "</text><text class='note' y='44'>" ∷ t ∷ u ∷ v ∷ w ∷ x ∷ codes "</text></g>\n" ∷ []))

@@ -6,7 +6,7 @@ use Rattle.cdb_rules.specs.RunView.{RunView}
 use Rattle.cdb_setup.specs.Parts.{AreInRange}
 use Rattle.cdb_explain.specs.Explanations.{line_at, line_text}
 use Rattle.cdb_explain.proofs.Along.{next_valid, next_along, its_line}
-use Rattle.cdb_explain.proofs.Flagging.{count_more, flag_read, text_more, text_same, unflagged_more}
+use Rattle.cdb_explain.proofs.Flags.{count_more, flag_read, text_more, text_same, unflagged_more}
 use Rattle.cdb_explain.proofs.lines.push_lines.Goals as goal
 use Rattle.cdb_explain.proofs.lines.push_lines.Goals.{then-flags-i+in_ok-push_next, else-flags-i+in_ok-take_next}
 
@@ -43,14 +43,21 @@ loop-i-preserved g c =
     elim c.if-flags-i.branch [
       | then-flags-i+in_ok-push_next w ↦
           let later = g.T.Runs.run w.push_next.new.again in
-          let line = its_line g.T.Runs.rules g.T.Runs.same_state g.met.T.Runs.histories run i event at _ so.again c.args.causes standing later w.in_ok-push_next.ensures.taken in
+          let line =
+          its_line g.T.Runs.rules g.T.Runs.same_state g.met.T.Runs.histories run i event
+          at _ so.again c.args.causes standing later w.in_ok-push_next.ensures.taken in
           let is = flag_read flags i _ true within w.if-flags-i.true in
           let counted = w.count-is in
           let few = so.few in
           record {
-            again = ap g.T.Runs.run w.again-is ∙ next_along g.T.Runs.rules g.T.Runs.same_state g.met.T.Runs.histories run i event at _ so.again later w.in_ok-push_next.ensures.taken;
+            again =
+                ap g.T.Runs.run w.again-is
+                ∙ next_along g.T.Runs.rules g.T.Runs.same_state g.met.T.Runs.histories run i event at _ so.again later w.in_ok-push_next.ensures.taken;
             names = added ∙ ap (λ (r : RunView). received_by_each r.history) (sym (ap g.T.Runs.run w.again-is ∙ w.in_ok-push_next.ensures.taken));
-            text = text_more (line_at g.T.Runs.rules c.args.causes run) flags i (string_bytes c.args.text.now) (string_bytes c.loop-i.text) (string_bytes c.if-flags-i.text) (line_text g.T.Runs.rules c.args.causes later (deed_in (g.T.Runs.run c.loop-i.again) event) later event) so.text (ap string_bytes w.text-is ∙ w.in_ok-push_next.ensures.line) line is;
+            text =
+                text_more (line_at g.T.Runs.rules c.args.causes run) flags i (string_bytes c.args.text.now) (string_bytes c.loop-i.text)
+                (string_bytes c.if-flags-i.text) (line_text g.T.Runs.rules c.args.causes later (deed_in (g.T.Runs.run c.loop-i.again) event) later event)
+                so.text (ap string_bytes w.text-is ∙ w.in_ok-push_next.ensures.line) line is;
             count = w.count-is ∙ ap (λ (n : ℕ). n + 1) so.count ∙ sym (count_more flags i is);
             few = omega (arith, counted, few);
           }
@@ -60,9 +67,13 @@ loop-i-preserved g c =
           let counted = w.count-is in
           let few = so.few in
           record {
-            again = ap g.T.Runs.run w.again-is ∙ next_along g.T.Runs.rules g.T.Runs.same_state g.met.T.Runs.histories run i event at _ so.again later w.in_ok-take_next.ensures;
+            again =
+                ap g.T.Runs.run w.again-is
+                ∙ next_along g.T.Runs.rules g.T.Runs.same_state g.met.T.Runs.histories run i event at _ so.again later w.in_ok-take_next.ensures;
             names = added ∙ ap (λ (r : RunView). received_by_each r.history) (sym (ap g.T.Runs.run w.again-is ∙ w.in_ok-take_next.ensures));
-            text = ap string_bytes w.text-is ∙ text_same (line_at g.T.Runs.rules c.args.causes run) flags i (string_bytes c.args.text.now) (string_bytes c.loop-i.text) so.text is;
+            text =
+                ap string_bytes w.text-is
+                ∙ text_same (line_at g.T.Runs.rules c.args.causes run) flags i (string_bytes c.args.text.now) (string_bytes c.loop-i.text) so.text is;
             count = w.count-is ∙ so.count ∙ ap length (sym (unflagged_more flags i is));
             few = omega (arith, counted, few);
           }

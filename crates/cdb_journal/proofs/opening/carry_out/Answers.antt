@@ -10,6 +10,7 @@ loop-entry-preserved g c =
     let first = c.args.control.now in
     let i = c.loop-entry.entry-index in
     let e = c.entry-item.result in
-    let more : take i entries ++ e ∷ [] ≡ take (i + 1) entries = ap (λ (other : Entry). take i entries ++ other ∷ []) c.entry-item.is ∙ sym (take_more _ i _ c.loop-entry-test.true) in
+    let more : take i entries ++ e ∷ [] ≡ take (i + 1) entries =
+    ap (λ (other : Entry). take i entries ++ other ∷ []) c.entry-item.is ∙ sym (take_more _ i _ c.loop-entry-test.true) in
     subst (λ (done : List Entry). c.execute.new.self ≡ carried_out first done) more
     (one_more g.R.Runs.rules first c.loop-entry.control c.execute.new.self (take i entries) e c.loop-entry.invariant c.requires.rooms c.in-Ok.ensures.journal)

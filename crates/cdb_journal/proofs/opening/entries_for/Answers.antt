@@ -1,7 +1,7 @@
 use Rattle.std.proofs.Common.{◌≡◌, None, rules, tests}
 use Rattle.cdb_journal.specs.OpenedFrom.{first_beyond}
 use Rattle.cdb_journal.proofs.CarriedOut.{of_seats}
-use Rattle.cdb_journal.proofs.Telling.{read_seats}
+use Rattle.cdb_journal.proofs.RepliesToSeats.{read_seats}
 use Rattle.cdb_journal.proofs.opening.entries_for.Goals as goal
 
 pub returns-in-None-clause-entries : goal.returns-in-None-clause-entries

@@ -1,4 +1,4 @@
-use Rattle.cdb_journal.proofs.Telling.{read_few}
+use Rattle.cdb_journal.proofs.RepliesToSeats.{read_few}
 use Rattle.cdb_journal.proofs.opening.open_from.Goals as goal
 
 pub open_on-requires-clause-few : goal.open_on-requires-clause-few

@@ -1,6 +1,6 @@
 use Rattle.std.proofs.lemmas.Result.{err_from_is_err_and}
-use Rattle.cdb_streams.proofs.Putting.{puts_nothing}
-use Rattle.cdb_journal.proofs.Telling.{first_state}
+use Rattle.cdb_streams.proofs.PiecesPut.{puts_nothing}
+use Rattle.cdb_journal.proofs.RepliesToSeats.{first_state}
 use Rattle.cdb_journal.proofs.replays.perform_all.Goals as goal
 
 pub returns-in_err-control : goal.returns-in_err-control

@@ -3,12 +3,12 @@ use Rattle.std.proofs.lemmas.List.{take_all, take_more}
 use Rattle.std.proofs.lemmas.Result.{err_from_is_err_and}
 use Rattle.cdb_streams.specs.Buffers.{IsPut}
 use Rattle.cdb_streams.proofs.Added.{parted}
-use Rattle.cdb_streams.proofs.Putting.{put_nothing, put_more, cut_short}
+use Rattle.cdb_streams.proofs.PiecesPut.{put_nothing, put_more, cut_short}
 use Rattle.cdb_control.specs.Commands.{obey, reply_of}
 use Rattle.cdb_control.specs.Journal.{Journaled, control_state, entry, extended, reply_in, replay_from}
 use Rattle.cdb_control.specs.declared.control.Entry.{Entry}
-use Rattle.cdb_journal.specs.Told.{told_from, told_line, told_text}
-use Rattle.cdb_journal.proofs.Telling.{next_state, state_behind, text_behind, parted_text, one_reply, seat_at}
+use Rattle.cdb_journal.specs.SeatReplies.{told_from, told_line, told_text}
+use Rattle.cdb_journal.proofs.RepliesToSeats.{next_state, state_behind, text_behind, parted_text, one_reply, seat_at}
 use Rattle.cdb_journal.proofs.replays.perform_each.Goals as goal
 
 pub loop-entry-init : goal.loop-entry-init
@@ -59,7 +59,8 @@ loop-entry-preserved g c =
     let control = c.loop-entry.control in
     let so = c.loop-entry.invariant in
     let is : c.perform.new.control ≡ extended rules_of control e.seat e.command = c.in_ok-perform.ensures.done in
-    let more : done ++ e ∷ [] ≡ take (i + 1) entries = ap (λ (other : Entry). done ++ other ∷ []) c.entry-item.is ∙ sym (take_more _ i _ c.loop-entry-test.true) in
+    let more : done ++ e ∷ [] ≡ take (i + 1) entries =
+    ap (λ (other : Entry). done ++ other ∷ []) c.entry-item.is ∙ sym (take_more _ i _ c.loop-entry-test.true) in
     let its = told_line e.seat (reply_in rules_of control e.seat e.command) in
     let same : its ≡ told_line e.seat (reply_of rules (replay_from rules t done) e.seat e.command) =
     (λ j. told_line e.seat (reply_of (rules_of (so.setup j)) (so.state j) e.seat e.command)) in

@@ -1,7 +1,7 @@
 use Rattle.std.proofs.Common.{◌≡◌, ◌+◌, length, take}
 use Rattle.cdb_control.specs.Journal.{control_state, replay_from}
 use Rattle.cdb_streams.specs.Buffers.{IsPut}
-use Rattle.cdb_journal.specs.Told.{told_from, told_text}
+use Rattle.cdb_journal.specs.SeatReplies.{told_from, told_text}
 use Rattle.cdb_journal.proofs.replays.perform_each.Given as goal
 
 abbrev pub invariant-loop-entry : goal.invariant-loop-entry

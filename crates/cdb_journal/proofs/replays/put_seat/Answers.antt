@@ -1,7 +1,7 @@
 use Rattle.std.proofs.Common.{◌≡◌, rules, refl, codes, decimal, [], ◌++◌}
 use Rattle.std.proofs.lemmas.Result.{err_from_is_err_and}
 use Rattle.cdb_streams.specs.declared.buffer.OutputFault.TheVariants.{Write}
-use Rattle.cdb_streams.proofs.Putting.{put_nothing, put_more, cut_short}
+use Rattle.cdb_streams.proofs.PiecesPut.{put_nothing, put_more, cut_short}
 use Rattle.cdb_journal.proofs.replays.put_seat.Goals as goal
 
 pub returns-in_err-put : goal.returns-in_err-put

@@ -2,10 +2,10 @@ use Rattle.std.proofs.Common.{refl}
 use Rattle.std.proofs.lemmas.Result.{err_from_is_err_and}
 use Rattle.cdb_base.specs.Limits.{MAX_SEATS}
 use Rattle.cdb_streams.specs.Endings.{Complete}
-use Rattle.cdb_streams.proofs.Ending.{only_as}
+use Rattle.cdb_streams.proofs.StreamEnds.{only_as}
 use Rattle.cdb_journal.specs.Replays.{Replays}
-use Rattle.cdb_journal.specs.Told.{told_along, told_text}
-use Rattle.cdb_journal.proofs.Telling.{read_seats, read_few, replay_wrote}
+use Rattle.cdb_journal.specs.SeatReplies.{told_along, told_text}
+use Rattle.cdb_journal.proofs.RepliesToSeats.{read_seats, read_few, replay_wrote}
 use Rattle.cdb_journal.proofs.replays.replay_by.Goals as goal
 
 pub write_replies-requires-clause-seats : goal.write_replies-requires-clause-seats

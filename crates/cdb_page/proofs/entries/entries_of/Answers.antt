@@ -2,7 +2,7 @@ use Rattle.std.proofs.Common.{◌≡◌, ◌∙◌, ℕ, suc, ◌+◌, List, Opt
 use Rattle.std.proofs.lemmas.Option.{slice_get-get_or}
 use Rattle.cdb_page.specs.Entries.{IsEntry}
 use Rattle.cdb_page.specs.declared.entries.Entry.{Entry}
-use Rattle.cdb_page.proofs.Listing.{one_more}
+use Rattle.cdb_page.proofs.ListItems.{one_more}
 use Rattle.cdb_trail.specs.Origins.{IsOriginIn}
 use Rattle.cdb_trail.specs.declared.origins.Origin.{Origin}
 use Rattle.cdb_page.proofs.entries.entries_of.Goals as goal
@@ -21,7 +21,9 @@ loop-i-preserved c =
     let next : i + 1 ≡ suc i = omega arith in
     record {
       count = search rules;
-      each = subst (λ (found : List Entry). (k : ℕ) (it : Entry) → slice_get found k ≡ Some it → IsEntry c.args.run.now (suc k) it) (sym c.in_ok-push.ensures.items)
+      each =
+          subst (λ (found : List Entry). (k : ℕ) (it : Entry) → slice_get found k ≡ Some it → IsEntry c.args.run.now (suc k) it)
+          (sym c.in_ok-push.ensures.items)
           (one_more (IsEntry c.args.run.now) c.loop-i.entries.items i c.in_ok-entry_at.field-0 c.loop-i.invariant.count
           (subst (λ m. IsEntry c.args.run.now m c.in_ok-entry_at.field-0) next c.in_ok-entry_at.ensures) c.loop-i.invariant.each);
     }

@@ -1,4 +1,4 @@
-use Rattle.cdb_page.proofs.Following.{dependents_are_the_consequences}
+use Rattle.cdb_page.proofs.PageSteps.{dependents_are_the_consequences}
 use Rattle.cdb_page.proofs.laws.dependents_lead_to_all_consequences.Goals as goal
 
 pub returns : goal.returns

@@ -1,4 +1,4 @@
-use Rattle.cdb_page.proofs.Tracing.{sound, whole}
+use Rattle.cdb_page.proofs.PageTrace.{sound, whole}
 use Rattle.cdb_page.proofs.laws.origins_lead_along_trails.Goals as goal
 
 pub returns-clause-sound : goal.returns-clause-sound

@@ -1,5 +1,5 @@
 use Rattle.std.proofs.Common.{arith}
-use Rattle.cdb_page.proofs.Listing.{item_one, link_told}
+use Rattle.cdb_page.proofs.ListItems.{item_one, link_told}
 use Rattle.cdb_page.proofs.links.is_linked.Goals as goal
 
 pub returns-then-i-j : goal.returns-then-i-j

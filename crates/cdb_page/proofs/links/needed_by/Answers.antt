@@ -1,5 +1,5 @@
 use Rattle.std.proofs.Common.{arith}
-use Rattle.cdb_page.proofs.Listing.{first_link, link_within}
+use Rattle.cdb_page.proofs.ListItems.{first_link, link_within}
 use Rattle.cdb_page.proofs.links.needed_by.Goals as goal
 
 pub returns-then-is_linked : goal.returns-then-is_linked

@@ -5,7 +5,7 @@ use Rattle.cdb_draw.proofs.Ended.{fault_drawn, no_setup_drawn, none_read_drawn}
 use Rattle.cdb_explain.proofs.Returned.{no_err}
 use Rattle.cdb_page.specs.Written.{IsPageOfFew, WritesPage}
 use Rattle.cdb_page.specs.declared.parts.Refresh.TheVariants.{Never}
-use Rattle.cdb_streams.proofs.Ending.{written_as}
+use Rattle.cdb_streams.proofs.StreamEnds.{written_as}
 use Rattle.cdb_page.proofs.writes.write_page.Goals as goal
 
 pub returns-clause-wrote : goal.returns-clause-wrote
@@ -14,7 +14,8 @@ returns-clause-wrote g c =
     let new = g.R.Source.stream c.run_left_by.new.script in
     let run : RunView = c.in_ok-run.run' in
     let left = c.in_ok-run.ensures.left.leaves in
-    written_as g.W.Sink.stream (explain_ending c.write_page_of.result) c.args.out.now c.write_page_of.new.out (IsPageOfFew Never run) (WritesPage c.args.setup.now old new)
+    written_as g.W.Sink.stream (explain_ending c.write_page_of.result) c.args.out.now
+    c.write_page_of.new.out (IsPageOfFew Never run) (WritesPage c.args.setup.now old new)
     (λ text is. (run, left, is)) c.write_page_of.ensures.wrote
 
 pub returns-clause-fault : goal.returns-clause-fault

@@ -5,8 +5,8 @@ use Rattle.cdb_streams.specs.Buffers.{IsPut}
 use Rattle.cdb_control.specs.OneSeat.{HasCarriedOut}
 use Rattle.cdb_play.specs.Transcripts.{reply_to, transcript}
 use Rattle.cdb_streams.proofs.Added.{parted}
-use Rattle.cdb_streams.proofs.Putting.{put_nothing, put_more, cut_short}
-use Rattle.cdb_play.proofs.Transcribing.{no_texts, one_reply, parted_transcript, texts_behind}
+use Rattle.cdb_streams.proofs.PiecesPut.{put_nothing, put_more, cut_short}
+use Rattle.cdb_play.proofs.Transcripts.{no_texts, one_reply, parted_transcript, texts_behind}
 use Rattle.cdb_control.proofs.OneSeat.{one_command}
 use Rattle.cdb_play.proofs.plays.perform_each.Goals as goal
 

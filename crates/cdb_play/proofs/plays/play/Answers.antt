@@ -1,4 +1,4 @@
-use Rattle.cdb_streams.proofs.Ending.{written_as}
+use Rattle.cdb_streams.proofs.StreamEnds.{written_as}
 use Rattle.cdb_play.proofs.OnHeadline.{rests_on_headline}
 use Rattle.cdb_play.proofs.plays.play.Goals as goal
 

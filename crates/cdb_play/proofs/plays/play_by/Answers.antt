@@ -2,8 +2,8 @@ use Rattle.std.proofs.Common.{refl}
 use Rattle.std.proofs.lemmas.Result.{err_from_is_err_and}
 use Rattle.cdb_streams.specs.Endings.{Complete}
 use Rattle.cdb_play.specs.Transcripts.{transcript, Plays}
-use Rattle.cdb_play.proofs.Ending.{play_wrote}
-use Rattle.cdb_streams.proofs.Ending.{only_as}
+use Rattle.cdb_play.proofs.Ends.{play_wrote}
+use Rattle.cdb_streams.proofs.StreamEnds.{only_as}
 use Rattle.cdb_play.proofs.plays.play_by.Goals as goal
 
 pub returns-clause-wrote : goal.returns-clause-wrote

@@ -1,6 +1,6 @@
 use Rattle.std.proofs.Common.{refl}
 use Rattle.std.proofs.lemmas.Result.{err_from_is_err_and}
-use Rattle.cdb_streams.proofs.Putting.{left_written, written_at_end, fails_at_end}
+use Rattle.cdb_streams.proofs.PiecesPut.{left_written, written_at_end, fails_at_end}
 use Rattle.cdb_play.proofs.plays.write_pieces.Goals as goal
 
 pub returns-in_err-perform_all : goal.returns-in_err-perform_all

@@ -3,8 +3,8 @@ use Rattle.std.proofs.lemmas.Result.{err_from_is_err_and}
 use Rattle.cdb_race.specs.Faults.{IsFaultBehind}
 use Rattle.cdb_play.specs.declared.races.Open.{Open}
 use Rattle.cdb_play.specs.Races.{IsFaultUngated, bytes_of}
-use Rattle.cdb_play.proofs.Ending.{race_unwritten_scripts}
-use Rattle.cdb_streams.proofs.Ending.{written_as}
+use Rattle.cdb_play.proofs.Ends.{race_unwritten_scripts}
+use Rattle.cdb_streams.proofs.StreamEnds.{written_as}
 use Rattle.cdb_play.proofs.RaceTexts.{of_scripts}
 use Rattle.cdb_play.proofs.RunningFaults.{both, first_fits, of_reading, ungated}
 use Rattle.cdb_play.proofs.races.race_on.Goals as goal

@@ -1,8 +1,8 @@
 use Rattle.std.proofs.lemmas.Result.{err_from_is_err_and, IfErr-weaker}
 use Rattle.cdb_race.specs.Faults.{IsFaultBehind}
 use Rattle.cdb_play.specs.Races.{bytes_of}
-use Rattle.cdb_play.proofs.Ending.{race_unwritten_scripts}
-use Rattle.cdb_streams.proofs.Ending.{written_as}
+use Rattle.cdb_play.proofs.Ends.{race_unwritten_scripts}
+use Rattle.cdb_streams.proofs.StreamEnds.{written_as}
 use Rattle.cdb_play.proofs.RaceTexts.{of_scripts}
 use Rattle.cdb_play.proofs.RunningFaults.{of_reading, on_setup, not_of_reading}
 use Rattle.cdb_play.proofs.races.race_on_with.Goals as goal

@@ -3,8 +3,8 @@ use Rattle.std.proofs.lemmas.Result.{err_from_is_err_and, IfErr-weaker}
 use Rattle.cdb_rules.specs.Agreement.{HasMajorityIfNeeded}
 use Rattle.cdb_race.specs.Faults.{IsFaultBehind}
 use Rattle.cdb_play.specs.Races.{bytes_of, ProposedAtEnd}
-use Rattle.cdb_play.proofs.Ending.{race_unwritten_setup}
-use Rattle.cdb_streams.proofs.Ending.{written_as}
+use Rattle.cdb_play.proofs.Ends.{race_unwritten_setup}
+use Rattle.cdb_streams.proofs.StreamEnds.{written_as}
 use Rattle.cdb_play.proofs.RunningFaults.{of_race, of_setup_read, not_of_setup}
 use Rattle.cdb_play.proofs.SeatsFit.{same_setup}
 use Rattle.cdb_play.proofs.races.race_with.Goals as goal

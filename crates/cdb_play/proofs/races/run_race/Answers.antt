@@ -1,6 +1,6 @@
 use Rattle.std.proofs.Common.{◌-◌, ◌∙◌, sym, ap, Err, arith, length, map, drop}
 use Rattle.std.proofs.lemmas.List.{length-map, length-take, length-drop}
-use Rattle.cdb_commands.specs.ToldReply.{told}
+use Rattle.cdb_commands.specs.ReplyView.{reply_view}
 use Rattle.cdb_setup.specs.Parts.{Parts}
 use Rattle.std.proofs.lemmas.Result.{err_from_is_err_and}
 use Rattle.cdb_race.specs.Faults.{IsFaultBehind}
@@ -9,11 +9,11 @@ use Rattle.cdb_race.specs.declared.threads.RaceFault.{RaceFault as ThreadFault}
 use Rattle.cdb_streams.specs.Endings.{Complete}
 use Rattle.cdb_play.specs.Races.{last_decisions, EndsInAgreement, EndsInProposed}
 use Rattle.cdb_play.specs.RaceStages.{IsTextOfCommands}
-use Rattle.cdb_play.proofs.Ending.{race_unwritten_threads, race_wrote}
-use Rattle.cdb_streams.proofs.Ending.{only_as}
+use Rattle.cdb_play.proofs.Ends.{race_unwritten_threads, race_wrote}
+use Rattle.cdb_streams.proofs.StreamEnds.{only_as}
 use Rattle.cdb_play.proofs.RaceTexts.{text_of_replies}
 use Rattle.cdb_play.proofs.RunningFaults.{of_threads, of_writing, not_of_threads, not_of_writing}
-use Rattle.cdb_play.proofs.Agreeing.{agrees, ends_in_agreement, proposes, ends_in_proposed}
+use Rattle.cdb_play.proofs.Agreement.{agrees, ends_in_agreement, proposes, ends_in_proposed}
 use Rattle.cdb_play.proofs.races.run_race.Goals as goal
 
 pub returns-in-Err-clause-wrote : goal.returns-in-Err-clause-wrote
@@ -77,7 +77,7 @@ pub slice_bounds-write_race-count : goal.slice_bounds-write_race-count
 slice_bounds-write_race-count g c =
     let replies = c.in-Ok.raced.replies.items in
     let processes = c.from-processes.ensures ∙ c.n.ensures.value in
-    let long = ap length c.deref.ensures.value ∙ sym (length-map replies (λ list. map told list.items))
+    let long = ap length c.deref.ensures.value ∙ sym (length-map replies (λ list. map reply_view list.items))
     ∙ c.in-Ok.ensures.raced.many ∙ c.in-Ok.ensures.raced.seats_are in
     omega (arith, processes, long)
 
@@ -88,7 +88,7 @@ pub write_race-written-requires-clause-seats : goal.write_race-written-requires-
 write_race-written-requires-clause-seats g c =
     let replies = c.in-Ok.raced.replies.items in
     let processes = c.from-processes.ensures ∙ c.n.ensures.value in
-    let long = ap length c.deref.ensures.value ∙ sym (length-map replies (λ list. map told list.items))
+    let long = ap length c.deref.ensures.value ∙ sym (length-map replies (λ list. map reply_view list.items))
     ∙ c.in-Ok.ensures.raced.many ∙ c.in-Ok.ensures.raced.seats_are in
     let same = ap (λ (s : Parts). s.processes) c.in-Ok.ensures.raced.setup_is in
     let all = c.deref.result.now in

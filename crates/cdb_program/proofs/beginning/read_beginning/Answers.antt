@@ -1,4 +1,4 @@
-use Rattle.cdb_program.proofs.Opening.{both_begin}
+use Rattle.cdb_program.proofs.OpenedFiles.{both_begin}
 use Rattle.cdb_program.proofs.beginning.read_beginning.Goals as goal
 
 pub returns-in-Some : goal.returns-in-Some

@@ -6,7 +6,7 @@ use Rattle.cdb_program.proofs.clocks.clock_files.Goals as goal
 pub returns-in_err-json-clause-does : goal.returns-in_err-json-clause-does
 returns-in_err-json-clause-does g c =
     let p = err_from_is_err_and c.from_residual.result c.from_residual.ensures.1 in
-    rw (p.1, p.2, ← c.outside.view_is) (refl, inl (c.in_err-json.ensures, refl))
+    rw (p.1, p.2, ← c.world.view_is) (refl, inl (c.in_err-json.ensures, refl))
 
 pub returns-clause-does : goal.returns-clause-does
 returns-clause-does g c =
@@ -15,7 +15,7 @@ returns-clause-does g c =
     let said = c.clocks-written.ensures in
     let json_is : c.as_slice.result.now ≡ json = c.as_slice.ensures.value in
     let bytes_is : c.as_slice-2.result.now ≡ bytes = c.as_slice-2.ensures.value in
-    rw (← c.outside.view_is) (
+    rw (← c.world.view_is) (
       refl,
       inr (
         json ∷ bytes ∷ [],
@@ -23,7 +23,8 @@ returns-clause-does g c =
         (
           c.clocks-written.result,
           c.of_play.ensures,
-          rw (← json_is, ← bytes_is) (clocks_seen g.O.Sink.stream c.as_slice.result.now c.as_slice-2.result.now c.clocks-written.result _ _ said.wrote said.fault),
+          rw (← json_is, ← bytes_is)
+              (clocks_seen g.O.Sink.stream c.as_slice.result.now c.as_slice-2.result.now c.clocks-written.result _ _ said.wrote said.fault),
         ),
       ),
     )

@@ -6,7 +6,7 @@ use Rattle.cdb_program.proofs.compares.compare_files.Goals as goal
 pub returns-in_err-json-clause-does : goal.returns-in_err-json-clause-does
 returns-in_err-json-clause-does g c =
     let p = err_from_is_err_and c.from_residual.result c.from_residual.ensures.1 in
-    rw (p.1, p.2, ← c.outside.view_is) (refl, inl (c.in_err-json.ensures, refl))
+    rw (p.1, p.2, ← c.world.view_is) (refl, inl (c.in_err-json.ensures, refl))
 
 pub returns-clause-does : goal.returns-clause-does
 returns-clause-does g c =
@@ -17,7 +17,7 @@ returns-clause-does g c =
     let json_is : c.as_slice.result.now ≡ json = c.as_slice.ensures.value in
     let one_is : c.as_slice-2.result.now ≡ one = c.as_slice-2.ensures.value in
     let other_is : c.as_slice-3.result.now ≡ other = c.as_slice-3.ensures.value in
-    rw (← c.outside.view_is) (
+    rw (← c.world.view_is) (
       refl,
       inr (
         json ∷ one ∷ other ∷ [],
@@ -26,7 +26,8 @@ returns-clause-does g c =
           c.same-told.result,
           c.of_same.ensures,
           rw (← json_is, ← one_is, ← other_is)
-              (compared_seen g.O.Sink.stream c.as_slice.result.now c.as_slice-2.result.now c.as_slice-3.result.now c.same-told.result _ _ said.wrote said.same said.fault),
+              (compared_seen g.O.Sink.stream c.as_slice.result.now c.as_slice-2.result.now
+              c.as_slice-3.result.now c.same-told.result _ _ said.wrote said.same said.fault),
         ),
       ),
     )

@@ -5,11 +5,11 @@ use Rattle.cdb_program.proofs.debugs.debug_file.Goals as goal
 pub returns-in_err-json-clause-does : goal.returns-in_err-json-clause-does
 returns-in_err-json-clause-does g c =
     let p = err_from_is_err_and c.from_residual.result c.from_residual.ensures.1 in
-    rw (p.1, p.2, ← c.outside.view_is) (inl ((c.in_err-json.ensures, refl), refl))
+    rw (p.1, p.2, ← c.world.view_is) (inl ((c.in_err-json.ensures, refl), refl))
 
 pub returns-clause-does : goal.returns-clause-does
 returns-clause-does g c =
-    rw (← c.outside.view_is)
+    rw (← c.world.view_is)
     (inr (
       c.in_ok-json.json.items,
       c.in_ok-json.journal.items,

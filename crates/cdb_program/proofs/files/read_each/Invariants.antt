@@ -1,7 +1,7 @@
 use Rattle.std.proofs.Common.{take}
 use Rattle.cdb_play.specs.Races.{bytes_of}
 use Rattle.cdb_base.specs.Requests.{texts}
-use Rattle.cdb_program.specs.Reading.{HasRead}
+use Rattle.cdb_program.specs.FilesRead.{HasRead}
 use Rattle.cdb_program.proofs.files.read_each.Given as goal
 
 abbrev pub invariant-loop-name : goal.invariant-loop-name

@@ -1,5 +1,5 @@
-use Rattle.cdb_program.proofs.Opening.{fails_one}
-use Rattle.cdb_program.specs.Reading.{most_read}
+use Rattle.cdb_program.proofs.OpenedFiles.{fails_one}
+use Rattle.cdb_program.specs.FilesRead.{most_read}
 use Rattle.cdb_program.proofs.files.read_file.Goals as goal
 
 pub returns-in-Err : goal.returns-in-Err

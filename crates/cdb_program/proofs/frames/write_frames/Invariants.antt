@@ -1,5 +1,5 @@
 use Rattle.std.proofs.Common.{◌≡◌}
-use Rattle.cdb_program.specs.Framing.{after_frames}
+use Rattle.cdb_program.specs.FrameFiles.{after_frames}
 use Rattle.cdb_program.proofs.frames.write_frames.Given as goal
 
 abbrev pub invariant-loop-i : goal.invariant-loop-i

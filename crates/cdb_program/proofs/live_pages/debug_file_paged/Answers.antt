@@ -10,7 +10,7 @@ use Rattle.cdb_streams.specs.declared.fault.PlayFault.{PlayFault}
 use Rattle.cdb_program.specs.Known.{any_name}
 use Rattle.cdb_program.specs.Answers.{IsAnswer}
 use Rattle.cdb_program.specs.LivePages.{IsNewPage, files_for}
-use Rattle.cdb_program.proofs.Opening.{opened_then, fails_before}
+use Rattle.cdb_program.proofs.OpenedFiles.{opened_then, fails_before}
 use Rattle.cdb_program.proofs.Seated.{fails_later}
 use Rattle.cdb_program.proofs.Shown.{debugged_page}
 use Rattle.cdb_program.proofs.live_pages.debug_file_paged.Goals as goal
@@ -19,15 +19,22 @@ pub returns-in_err-json-clause-does : goal.returns-in_err-json-clause-does
 returns-in_err-json-clause-does g c =
     let p = err_from_is_err_and c.from_residual.result c.from_residual.ensures.1 in
     let names = c.args.setup.now ∷ any_name (any_text c.args.from) in
-    rw (p.1, p.2, ← c.outside.view_is)
+    rw (p.1, p.2, ← c.world.view_is)
     (inl ((fails_before _ _ names (files_for (any_text c.args.journal) c.args.page.now) c.in_err-json.field-0.0 c.in_err-json.ensures, refl), refl))
 
 pub returns-in_err-live-clause-does : goal.returns-in_err-live-clause-does
 returns-in_err-live-clause-does g c =
     let p = err_from_is_err_and c.from_residual-in_err-live.result c.from_residual-in_err-live.ensures.1 in
     let names = c.args.setup.now ∷ any_name (any_text c.args.from) in
-    rw (p.1, p.2, ← c.outside.view_is)
-    (inl ((fails_later _ _ _ names (files_for (any_text c.args.journal) c.args.page.now) c.in_err-live.field-0.0 c.in_ok-json.ensures.0 c.in_err-live.ensures.fault, refl), refl))
+    rw (p.1, p.2, ← c.world.view_is)
+    (inl (
+      (
+        fails_later _ _ _ names (files_for (any_text c.args.journal) c.args.page.now)
+            c.in_err-live.field-0.0 c.in_ok-json.ensures.0 c.in_err-live.ensures.fault,
+        refl,
+      ),
+      refl,
+    ))
 
 pub returns-clause-does : goal.returns-clause-does
 returns-clause-does g c =
@@ -38,8 +45,9 @@ returns-clause-does g c =
     let first : Live = c.in_ok-live.live in
     let ended : Result (Unit {0}) PlayFault × Kept Live = c.debug_kept-debugged.result in
     let made : IsNewPage journal json begun first = rw (← c.as_slice-json.ensures.value, ← c.as_slice-begun.ensures.value) c.in_ok-live.ensures.page in
-    let session : DebugsKept stream_of rules IsAnswer c.args.prompt.now json begun _ _ first ended = rw (← c.as_bytes.ensures.value, ← c.as_slice-json.ensures.value, ← c.as_slice-begun.ensures.value) c.debug_kept-debugged.ensures in
-    rw (← c.outside.view_is)
+    let session : DebugsKept stream_of rules IsAnswer c.args.prompt.now json begun _ _ first ended =
+    rw (← c.as_bytes.ensures.value, ← c.as_slice-json.ensures.value, ← c.as_slice-begun.ensures.value) c.debug_kept-debugged.ensures in
+    rw (← c.world.view_is)
     (inr (
       json,
       begun,

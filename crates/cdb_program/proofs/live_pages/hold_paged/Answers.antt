@@ -9,7 +9,7 @@ use Rattle.cdb_page.specs.Live.{Live, stream_of}
 use Rattle.cdb_program.specs.Answers.{IsAnswer}
 use Rattle.cdb_program.specs.Known.{any_name}
 use Rattle.cdb_program.specs.LivePages.{IsNewPage, IsOfPage, files_for}
-use Rattle.cdb_program.proofs.Opening.{fails_before, opened_then}
+use Rattle.cdb_program.proofs.OpenedFiles.{fails_before, opened_then}
 use Rattle.cdb_program.proofs.Seated.{as_fault, fails_later, holds_seen, seats_known}
 use Rattle.cdb_program.proofs.Shown.{kept_by}
 use Rattle.cdb_program.proofs.live_pages.hold_paged.Goals as goal
@@ -20,8 +20,9 @@ returns-in_err-json-clause-fault g c =
     let names = texts c.args.seats.now in
     let from = any_text c.args.from in
     let files = files_for (any_text c.args.journal) c.args.page.now in
-    rw (p.1, p.2, ← c.outside.view_is)
-    (as_fault _ names from files _ _ c.in_err-json.field-0.0 (fails_before _ _ (c.args.setup.now ∷ any_name from) (names ++ files) c.in_err-json.field-0.0 c.in_err-json.ensures))
+    rw (p.1, p.2, ← c.world.view_is)
+    (as_fault _ names from files _ _ c.in_err-json.field-0.0
+    (fails_before _ _ (c.args.setup.now ∷ any_name from) (names ++ files) c.in_err-json.field-0.0 c.in_err-json.ensures))
 
 pub returns-in_err-openers-clause-fault : goal.returns-in_err-openers-clause-fault
 returns-in_err-openers-clause-fault g c =
@@ -31,7 +32,7 @@ returns-in_err-openers-clause-fault g c =
     let files = files_for (any_text c.args.journal) c.args.page.now in
     let why = c.in_err-openers.field-0.0 in
     let fails = fails_before _ _ names files why c.in_err-openers.ensures.fault in
-    rw (p.1, p.2, ← c.outside.view_is)
+    rw (p.1, p.2, ← c.world.view_is)
     (as_fault _ names from files _ _ why (fails_later _ _ _ (c.args.setup.now ∷ any_name from) (names ++ files) why c.in_ok-json.ensures.0 fails))
 
 pub returns-in_err-live-clause-fault : goal.returns-in_err-live-clause-fault
@@ -42,7 +43,7 @@ returns-in_err-live-clause-fault g c =
     let files = files_for (any_text c.args.journal) c.args.page.now in
     let why = c.in_err-live.field-0.0 in
     let fails = fails_later _ _ _ names files why c.in_ok-openers.ensures.opened c.in_err-live.ensures.fault in
-    rw (p.1, p.2, ← c.outside.view_is)
+    rw (p.1, p.2, ← c.world.view_is)
     (as_fault _ names from files _ _ why (fails_later _ _ _ (c.args.setup.now ∷ any_name from) (names ++ files) why c.in_ok-json.ensures.0 fails))
 
 pub returns-in-Ok-clause-sessions : goal.returns-in-Ok-clause-sessions
@@ -62,10 +63,12 @@ returns-in-Ok-clause-sessions g c =
     let held = rw (c.as_slice-json.ensures.value, c.as_slice-begun.ensures.value) at c.in-Ok.ensures.sessions in
     let shown = c.outcome_of.result in
     let its = kept_by journal json begun first c.in-Ok.kept _ shown made held.keeps c.outcome_of.ensures.keeps_up c.outcome_of.ensures.is in
-    let files_before = g.F.Files.seen c.outside.inside.files in
-    let session = holds_seen rules IsAnswer g.F.Seat.Seat.Console.known opens stream_of g.O.Sink.stream g.E.Sink.stream files_before names json begun openers (Some first) _ _ _ _ _ seats held in
+    let files_before = g.F.Files.seen c.world.inside.files in
+    let session =
+    holds_seen rules IsAnswer g.F.Seat.Seat.Console.known opens stream_of g.O.Sink.stream
+    g.E.Sink.stream files_before names json begun openers (Some first) _ _ _ _ _ seats held in
     let error = g.E.Sink.stream c.debug_shared.new.error in
-    rw (← c.outside.view_is) (record {
+    rw (← c.world.view_is) (record {
       json = json;
       begun = begun;
       seated = (opened_then _ _ _ before (names ++ files) c.in_ok-json.ensures.0 opened, c.in_ok-json.ensures.1);
@@ -89,8 +92,9 @@ returns-clause-fault g c =
     let files = files_for (any_text c.args.journal) c.args.page.now in
     let before = c.args.setup.now ∷ any_name (any_text c.args.from) in
     let opened = opened_then _ _ _ names files c.in_ok-openers.ensures.opened c.in_ok-live.ensures.opened in
-    let many : vec_len c.in_ok-openers.openers ≡ length names = omega (arith, c.in_ok-openers.ensures.count, length-map c.args.seats.now (λ (name : Bor (List ℕ)). name.now)) in
-    rw (← c.outside.view_is) (
+    let many : vec_len c.in_ok-openers.openers ≡ length names =
+    omega (arith, c.in_ok-openers.ensures.count, length-map c.args.seats.now (λ (name : Bor (List ℕ)). name.now)) in
+    rw (← c.world.view_is) (
       c.in_ok-json.json.items,
       c.in_ok-json.begun.items,
       (opened_then _ _ _ before (names ++ files) c.in_ok-json.ensures.0 opened, c.in_ok-json.ensures.1),
@@ -102,13 +106,13 @@ returns-then-seats-from-clause-fault g c =
     (omega (arith, c.from.ensures, c.if-seats-from.true, length-map c.args.seats.now (λ (name : Bor (List ℕ)). name.now)), refl)
 
 pub returns-in-Ok-clause-input : goal.returns-in-Ok-clause-input
-returns-in-Ok-clause-input g c = rw (← c.outside.view_is) refl
+returns-in-Ok-clause-input g c = rw (← c.world.view_is) refl
 
 pub returns-clause-output : goal.returns-clause-output
-returns-clause-output g c = rw (← c.outside.view_is) (ap g.O.Sink.stream c.in-Err.ensures.unwritten.0)
+returns-clause-output g c = rw (← c.world.view_is) (ap g.O.Sink.stream c.in-Err.ensures.unwritten.0)
 
 pub returns-clause-error : goal.returns-clause-error
-returns-clause-error g c = rw (← c.outside.view_is) (ap g.E.Sink.stream c.in-Err.ensures.unwritten.1)
+returns-clause-error g c = rw (← c.world.view_is) (ap g.E.Sink.stream c.in-Err.ensures.unwritten.1)
 
 pub returns-clause-input : goal.returns-clause-input
-returns-clause-input g c = rw (← c.outside.view_is) refl
+returns-clause-input g c = rw (← c.world.view_is) refl

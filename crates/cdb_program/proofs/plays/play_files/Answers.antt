@@ -7,7 +7,7 @@ use Rattle.cdb_program.proofs.plays.play_files.Goals as goal
 pub returns-in_err-json-clause-does : goal.returns-in_err-json-clause-does
 returns-in_err-json-clause-does g c =
     let p = err_from_is_err_and c.from_residual.result c.from_residual.ensures.1 in
-    rw (p.1, p.2, ← c.outside.view_is) (refl, inl (c.in_err-json.ensures, refl))
+    rw (p.1, p.2, ← c.world.view_is) (refl, inl (c.in_err-json.ensures, refl))
 
 pub returns-clause-does : goal.returns-clause-does
 returns-clause-does g c =
@@ -16,7 +16,7 @@ returns-clause-does g c =
     let said = c.play-played.ensures in
     let json_is : c.as_slice.result.now ≡ json = c.as_slice.ensures.value in
     let bytes_is : c.new-commands.result ≡ bytes = c.new-commands.ensures in
-    rw (← c.outside.view_is) (
+    rw (← c.world.view_is) (
       refl,
       inr (
         json ∷ bytes ∷ [],
@@ -26,7 +26,8 @@ returns-clause-does g c =
           Some c.play-played.new.script,
           c.of_play.ensures,
           rw (← json_is, ← bytes_is)
-              (play_seen (λ (bytes : List ℕ). in_memory (Some bytes)) g.O.Sink.stream c.as_slice.result.now c.play-played.result c.new-commands.result c.play-played.new.script _ _ said.wrote said.headline said.fault said.unread said.read),
+              (play_seen (λ (bytes : List ℕ). in_memory (Some bytes)) g.O.Sink.stream c.as_slice.result.now c.play-played.result
+              c.new-commands.result c.play-played.new.script _ _ said.wrote said.headline said.fault said.unread said.read),
         ),
       ),
     )

@@ -5,7 +5,7 @@ use Rattle.cdb_program.proofs.plays.play_input.Goals as goal
 pub returns-clause-does : goal.returns-clause-does
 returns-clause-does g c =
     let said = c.play-played.ensures in
-    rw (← c.outside.view_is) (
+    rw (← c.world.view_is) (
       refl,
       (
         c.play-played.result,

@@ -12,8 +12,14 @@ use Rattle.cdb_program.proofs.races.race_bytes.Goals as goal
 pub returns-in-Err : goal.returns-in-Err
 returns-in-Err g c =
     let fault = c.in-Err.fault in
-    let only : (other : Parts) → Encodes c.args.setup.now other → fault ≡ (NoMemory no_memory) = λ other its. memory_alone c.read.result fault other c.in-Err.is (c.read.ensures.only other its) in
-    inl (Err c.from.result, c.of_race.ensures, rw c.from.ensures (race_unread c.args.setup.now c.args.turns (bytes_of c.args.scripts.now) fault _ c.in-Err.ensures.fault (λ long. cc (c.in-Err.ensures.too_long long)) only))
+    let only : (other : Parts) → Encodes c.args.setup.now other → fault ≡ (NoMemory no_memory) =
+    λ other its. memory_alone c.read.result fault other c.in-Err.is (c.read.ensures.only other its) in
+    inl (
+      Err c.from.result,
+      c.of_race.ensures,
+      rw c.from.ensures (race_unread c.args.setup.now c.args.turns
+          (bytes_of c.args.scripts.now) fault _ c.in-Err.ensures.fault (λ long. cc (c.in-Err.ensures.too_long long)) only),
+    )
 
 pub returns : goal.returns
 returns g c =
@@ -25,6 +31,7 @@ returns g c =
     inl (
       c.race_on-raced.result,
       c.of_race-2.ensures,
-      race_seen g.O.Sink.stream c.args.setup.now c.args.turns found scripts c.race_on-raced.result _ _ c.in-Ok.ensures.found (λ other its. same_setup c.read.result found other c.in-Ok.is (c.read.ensures.only other its)) few said.wrote
+      race_seen g.O.Sink.stream c.args.setup.now c.args.turns found scripts c.race_on-raced.result _ _ c.in-Ok.ensures.found
+          (λ other its. same_setup c.read.result found other c.in-Ok.is (c.read.ensures.only other its)) few said.wrote
           said.agree said.fault,
     )

@@ -1,5 +1,5 @@
-use Rattle.cdb_program.proofs.Opening.{fails_one}
-use Rattle.cdb_program.specs.Replaying.{most_of_journal}
+use Rattle.cdb_program.proofs.OpenedFiles.{fails_one}
+use Rattle.cdb_program.specs.Replays.{most_of_journal}
 use Rattle.cdb_program.proofs.replays.read_journal.Goals as goal
 
 pub returns-in-Err : goal.returns-in-Err

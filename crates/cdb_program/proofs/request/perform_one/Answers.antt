@@ -6,6 +6,6 @@ pub returns : goal.returns
 returns g c =
     let carried = c.carry_out-outcome.ensures in (
       c.carry_out-outcome.result,
-      does_but_error (asked_for c.args.request.now) c.args.outside.now _ _ _ (rw (← c.outside.view_is) at carried.does),
-      rw (← carried.error, ← c.outside.view_is) c.report.ensures,
+      does_but_error (asked_for c.args.request.now) c.args.world.now _ _ _ (rw (← c.world.view_is) at carried.does),
+      rw (← carried.error, ← c.world.view_is) c.report.ensures,
     )

@@ -6,12 +6,12 @@ use Rattle.cdb_program.proofs.searches.search_for.Goals as goal
 pub returns-in_err-json-clause-does : goal.returns-in_err-json-clause-does
 returns-in_err-json-clause-does g c =
     let p = err_from_is_err_and c.from_residual.result c.from_residual.ensures.1 in
-    rw (p.1, p.2, ← c.outside.view_is) (refl, inl (c.in_err-json.ensures, refl))
+    rw (p.1, p.2, ← c.world.view_is) (refl, inl (c.in_err-json.ensures, refl))
 
 pub returns-clause-does : goal.returns-clause-does
 returns-clause-does g c =
     let said = c.search-searched.ensures in
-    rw (← c.outside.view_is) (
+    rw (← c.world.view_is) (
       refl,
       inr (
         c.in_ok-json.json.items ∷ [],
@@ -19,7 +19,8 @@ returns-clause-does g c =
         (
           c.search-searched.result,
           c.of_search.ensures,
-          rw (← c.as_slice.ensures.value) (search_seen g.O.Sink.stream c.as_slice.result.now c.args.goal c.args.walks c.search-searched.result _ _ said.wrote said.fault),
+          rw (← c.as_slice.ensures.value)
+              (search_seen g.O.Sink.stream c.as_slice.result.now c.args.goal c.args.walks c.search-searched.result _ _ said.wrote said.fault),
         ),
       ),
     )

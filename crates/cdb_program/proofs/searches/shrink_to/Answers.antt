@@ -8,7 +8,7 @@ use Rattle.cdb_program.proofs.searches.shrink_to.Goals as goal
 pub returns-in_err-json-clause-does : goal.returns-in_err-json-clause-does
 returns-in_err-json-clause-does g c =
     let p = err_from_is_err_and c.from_residual.result c.from_residual.ensures.1 in
-    rw (p.1, p.2, ← c.outside.view_is) (refl, inl (c.in_err-json.ensures, refl))
+    rw (p.1, p.2, ← c.world.view_is) (refl, inl (c.in_err-json.ensures, refl))
 
 pub returns-clause-does : goal.returns-clause-does
 returns-clause-does g c =
@@ -17,7 +17,7 @@ returns-clause-does g c =
     let said = c.shrink-shrunk.ensures in
     let json_is : c.as_slice-2.result.now ≡ json = c.as_slice-2.ensures.value in
     let bytes_is : c.new-commands.result.rest.now ≡ bytes = ap (λ (b : Bor (List ℕ)). b.now) c.new-commands.ensures ∙ c.as_slice.ensures.value in
-    rw (← c.outside.view_is) (
+    rw (← c.world.view_is) (
       refl,
       inr (
         json ∷ bytes ∷ [],
@@ -27,7 +27,8 @@ returns-clause-does g c =
           Some c.shrink-shrunk.new.script.rest.now,
           c.of_search.ensures,
           rw (← json_is, ← bytes_is)
-              (shrink_seen (λ (b : Bytes). in_memory (Some b.rest.now)) g.O.Sink.stream c.as_slice-2.result.now c.args.goal c.shrink-shrunk.result c.new-commands.result c.shrink-shrunk.new.script _ _ said.wrote said.fault said.unread said.read),
+              (shrink_seen (λ (b : Bytes). in_memory (Some b.rest.now)) g.O.Sink.stream c.as_slice-2.result.now c.args.goal
+              c.shrink-shrunk.result c.new-commands.result c.shrink-shrunk.new.script _ _ said.wrote said.fault said.unread said.read),
         ),
       ),
     )

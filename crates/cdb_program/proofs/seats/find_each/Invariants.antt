@@ -1,7 +1,7 @@
 use Rattle.std.proofs.Common.{◌≡◌, take, vec_len}
 use Rattle.cdb_program.specs.Known.{after_opening}
 use Rattle.cdb_base.specs.Requests.{texts}
-use Rattle.cdb_program.specs.Seating.{AreOpenersOf}
+use Rattle.cdb_program.specs.SeatStreams.{AreOpenersOf}
 use Rattle.cdb_program.proofs.seats.find_each.Given as goal
 
 abbrev pub invariant-loop-name : goal.invariant-loop-name

@@ -6,7 +6,7 @@ use Rattle.cdb_base.specs.Requests.{any_text, texts}
 use Rattle.cdb_program.specs.Answers.{IsAnswer}
 use Rattle.cdb_program.specs.Known.{any_name}
 use Rattle.std.specs.Prelude.{◌++◌, option_map}
-use Rattle.cdb_program.proofs.Opening.{fails_before, opened_then}
+use Rattle.cdb_program.proofs.OpenedFiles.{fails_before, opened_then}
 use Rattle.cdb_program.proofs.Seated.{as_fault, fails_later, file_seen, holds_seen, seats_known}
 use Rattle.cdb_shared_session.proofs.KeptEntries.{seen_kept}
 use Rattle.cdb_program.proofs.seats.hold_seats.Goals as goal
@@ -17,8 +17,9 @@ returns-in_err-json-clause-fault g c =
     let names = texts c.args.seats.now in
     let from = any_text c.args.from in
     let file = any_name (any_text c.args.file) in
-    rw (p.1, p.2, ← c.outside.view_is)
-    (as_fault _ names from file _ _ c.in_err-json.field-0.0 (fails_before _ _ (c.args.setup.now ∷ any_name from) (names ++ file) c.in_err-json.field-0.0 c.in_err-json.ensures))
+    rw (p.1, p.2, ← c.world.view_is)
+    (as_fault _ names from file _ _ c.in_err-json.field-0.0
+    (fails_before _ _ (c.args.setup.now ∷ any_name from) (names ++ file) c.in_err-json.field-0.0 c.in_err-json.ensures))
 
 pub returns-in_err-openers-clause-fault : goal.returns-in_err-openers-clause-fault
 returns-in_err-openers-clause-fault g c =
@@ -28,7 +29,7 @@ returns-in_err-openers-clause-fault g c =
     let file = any_name (any_text c.args.file) in
     let why = c.in_err-openers.field-0.0 in
     let fails = fails_before _ _ names (file) why c.in_err-openers.ensures.fault in
-    rw (p.1, p.2, ← c.outside.view_is)
+    rw (p.1, p.2, ← c.world.view_is)
     (as_fault _ names from file _ _ why (fails_later _ _ _ (c.args.setup.now ∷ any_name from) (names ++ file) why c.in_ok-json.ensures.0 fails))
 
 pub returns-in_err-file-clause-fault : goal.returns-in_err-file-clause-fault
@@ -39,7 +40,7 @@ returns-in_err-file-clause-fault g c =
     let file = any_name (any_text c.args.file) in
     let why = c.in_err-file.field-0.0 in
     let fails = fails_later _ _ _ names (file) why c.in_ok-openers.ensures.opened c.in_err-file.ensures.fault in
-    rw (p.1, p.2, ← c.outside.view_is)
+    rw (p.1, p.2, ← c.world.view_is)
     (as_fault _ names from file _ _ why (fails_later _ _ _ (c.args.setup.now ∷ any_name from) (names ++ file) why c.in_ok-json.ensures.0 fails))
 
 pub returns-in-Ok-clause-sessions : goal.returns-in-Ok-clause-sessions
@@ -51,7 +52,7 @@ returns-in-Ok-clause-sessions g c =
     let before = c.args.setup.now ∷ any_name (any_text c.args.from) in
     let seats = seats_known opens _ _ before names openers c.in_ok-json.ensures.0 c.in_ok-openers.ensures.seats in
     let opened = opened_then _ _ _ names (file) c.in_ok-openers.ensures.opened c.in_ok-file.ensures.opened in
-    rw (← c.outside.view_is) (
+    rw (← c.world.view_is) (
       c.in_ok-json.json.items,
       c.in_ok-json.journal.items,
       (opened_then _ _ _ before (names ++ file) c.in_ok-json.ensures.0 opened, c.in_ok-json.ensures.1),
@@ -61,7 +62,8 @@ returns-in-Ok-clause-sessions g c =
         c.in_ok-file.ensures.file,
         rw (← c.as_slice.ensures.value, ← c.as_slice-2.ensures.value)
             (file_seen rules IsAnswer _ _ g.F.Made.Sink.stream _ _ _ _ names _ _ _ _ _ _
-            (holds_seen rules IsAnswer g.F.Seat.Seat.Console.known opens g.F.Made.Sink.stream g.O.Sink.stream g.E.Sink.stream (g.F.Files.seen c.outside.inside.files) names _ _ openers _ _ _ _ _ _ seats c.in-Ok.ensures.sessions)),
+            (holds_seen rules IsAnswer g.F.Seat.Seat.Console.known opens g.F.Made.Sink.stream g.O.Sink.stream g.E.Sink.stream
+            (g.F.Files.seen c.world.inside.files) names _ _ openers _ _ _ _ _ _ seats c.in-Ok.ensures.sessions)),
       ),
     )
 
@@ -71,8 +73,9 @@ returns-clause-fault g c =
     let file = any_name (any_text c.args.file) in
     let before = c.args.setup.now ∷ any_name (any_text c.args.from) in
     let opened = opened_then _ _ _ names (file) c.in_ok-openers.ensures.opened c.in_ok-file.ensures.opened in
-    let many : vec_len c.in_ok-openers.openers ≡ length names = omega (arith, c.in_ok-openers.ensures.count, length-map c.args.seats.now (λ (name : Bor (List ℕ)). name.now)) in
-    rw (← c.outside.view_is) (
+    let many : vec_len c.in_ok-openers.openers ≡ length names =
+    omega (arith, c.in_ok-openers.ensures.count, length-map c.args.seats.now (λ (name : Bor (List ℕ)). name.now)) in
+    rw (← c.world.view_is) (
       c.in_ok-json.json.items,
       c.in_ok-json.journal.items,
       (opened_then _ _ _ before (names ++ file) c.in_ok-json.ensures.0 opened, c.in_ok-json.ensures.1),
@@ -84,13 +87,13 @@ returns-then-seats-from-clause-fault g c =
     (omega (arith, c.from.ensures, c.if-seats-from.true, length-map c.args.seats.now (λ (name : Bor (List ℕ)). name.now)), refl)
 
 pub returns-in-Ok-clause-input : goal.returns-in-Ok-clause-input
-returns-in-Ok-clause-input g c = rw (← c.outside.view_is) refl
+returns-in-Ok-clause-input g c = rw (← c.world.view_is) refl
 
 pub returns-clause-output : goal.returns-clause-output
-returns-clause-output g c = rw (← c.outside.view_is) (ap g.O.Sink.stream c.in-Err.ensures.unwritten.0)
+returns-clause-output g c = rw (← c.world.view_is) (ap g.O.Sink.stream c.in-Err.ensures.unwritten.0)
 
 pub returns-clause-error : goal.returns-clause-error
-returns-clause-error g c = rw (← c.outside.view_is) (ap g.E.Sink.stream c.in-Err.ensures.unwritten.1)
+returns-clause-error g c = rw (← c.world.view_is) (ap g.E.Sink.stream c.in-Err.ensures.unwritten.1)
 
 pub returns-clause-input : goal.returns-clause-input
-returns-clause-input g c = rw (← c.outside.view_is) refl
+returns-clause-input g c = rw (← c.world.view_is) refl

@@ -1,6 +1,7 @@
-use Rattle.std.proofs.Common.{◌≡◌, ℕ, ◌-◌, ◌∙◌, sym, ap, subst, arith, List, [], ◌∷◌, ◌++◌, append-nil, append_assoc, None, map, get_or, vec_len, length, Vec, Global}
+use Rattle.std.proofs.Common.{◌≡◌, ℕ, ◌-◌, ◌∙◌, sym, ap, subst, arith, List, [], ◌∷◌, ◌++◌, append-nil}
+use Rattle.std.proofs.Common.{append_assoc, None, map, get_or, vec_len, length, Vec, Global}
 use Rattle.std.proofs.lemmas.List.{length-map, map-append}
-use Rattle.cdb_commands.specs.ToldReply.{ToldReply, told}
+use Rattle.cdb_commands.specs.ReplyView.{ReplyView, reply_view}
 use Rattle.cdb_commands.specs.declared.reply.Reply.{Reply}
 use Rattle.cdb_race.specs.Faults.{fault_in}
 use Rattle.cdb_race.specs.Promises.{HasRan}
@@ -39,25 +40,37 @@ loop-ran-preserved g c =
     let front = c.pop.new.self.ok.0 in
     let seats_now = c.loop-ran.seats.ok.0 in
     let answered_now = c.loop-ran.replied.ok.0 in
-    let tells : List ToldReply = map told ran.replies.items in
-    let told_more = ap all_told replied.items ∙ map-append (λ (list : Vec Reply Global). map told list.items) c.loop-ran.replied.items (ran.replies ∷ []) in
-    let whole : all ≡ c.pop.new.self.items ++ (ran ∷ was.left.0) = was.left.1 ∙ ap (λ l. l ++ was.left.0) popped ∙ append_assoc c.pop.new.self.items (ran ∷ []) was.left.0 in
-    let at : length all - 1 - length c.loop-ran.seats.items ≡ length c.pop.new.self.items = omega (arith, c.args.rans.ok.0, was.count, left, front, seats_now) in
+    let tells : List ReplyView = map reply_view ran.replies.items in
+    let told_more =
+    ap all_told replied.items ∙ map-append (λ (list : Vec Reply Global). map reply_view list.items) c.loop-ran.replied.items (ran.replies ∷ []) in
+    let whole : all ≡ c.pop.new.self.items ++ (ran ∷ was.left.0) =
+    was.left.1 ∙ ap (λ l. l ++ was.left.0) popped ∙ append_assoc c.pop.new.self.items (ran ∷ []) was.left.0 in
+    let at : length all - 1 - length c.loop-ran.seats.items ≡ length c.pop.new.self.items =
+    omega (arith, c.args.rans.ok.0, was.count, left, front, seats_now) in
     record {
       left = (ran ∷ was.left.0, whole);
       clean = λ none. (each_front (λ (k : ℕ) (r : Ran g.row.T.Denot). fault_in r ≡ None) _ _ _ popped (was.clean none)).0;
-      rans = λ plan before same outcomes. (each_front (λ (k : ℕ) (r : Ran g.row.T.Denot). (b : SeatView) → HasRan g.T.Runs.rules plan (get_or before (length before - 1 - k) b) r) _ _ _ popped (was.rans plan before same outcomes)).0;
+      rans =
+          λ plan before same outcomes. (each_front (λ (k : ℕ) (r : Ran g.row.T.Denot).
+          (b : SeatView) → HasRan g.T.Runs.rules plan (get_or before (length before - 1 - k) b) r) _ _ _ popped (was.rans plan before same outcomes)).0;
       count = omega (arith, left, seats.len, was.count);
       replied = omega (arith, seats.len, replied.len, was.replied);
       room = (omega (arith, seats.capacity, was.room.0), omega (arith, replied.capacity, was.room.1));
       gathered = λ k seat other low.
-          each_push (λ (i : ℕ) (s : SeatView). s ≡ (get_or all (length all - 1 - i) other).seat) c.loop-ran.seats.items _ ran.seat seats.items (λ i s below. was.gathered i s other below)
+          each_push (λ (i : ℕ) (s : SeatView). s ≡ (get_or all (length all - 1 - i) other).seat)
+          c.loop-ran.seats.items _ ran.seat seats.items (λ i s below. was.gathered i s other below)
           (ap (λ (r : Ran g.row.T.Denot). r.seat) (sym (get_or-middle c.pop.new.self.items was.left.0 all ran other _ whole at))) k seat low;
       each = λ plan before same outcomes none.
           let clean = (each_front (λ (k : ℕ) (r : Ran g.row.T.Denot). fault_in r ≡ None) _ _ _ popped (was.clean none)).1 in
-          let one = (each_front (λ (k : ℕ) (r : Ran g.row.T.Denot). (b : SeatView) → HasRan g.T.Runs.rules plan (get_or before (length before - 1 - k) b) r) _ _ _ popped (was.rans plan before same outcomes)).1 in
-          let position : length before - 1 - length c.pop.new.self.items ≡ length c.loop-ran.seats.items = omega (arith, same, was.count, left, front, seats_now) in
-          let long : length (all_told c.loop-ran.replied.items) ≡ length c.loop-ran.seats.items = length-map c.loop-ran.replied.items _ ∙ omega (arith, was.replied, seats_now, answered_now) in
-          pair_push (λ (k : ℕ) (s : SeatView) (a : List ToldReply). (b : SeatView) → HasFinished g.T.Runs.rules plan (get_or before k b) s a) c.loop-ran.seats.items _ (all_told c.loop-ran.replied.items) _ ran.seat tells seats.items told_more long (was.each plan before same outcomes none)
-          (λ b. subst (λ n. HasFinished g.T.Runs.rules plan (get_or before n b) ran.seat tells) position (finished g.T.Runs.rules plan _ ran.seat tells ran.end (ends_well _ _ clean) (one b)));
+          let one =
+          (each_front (λ (k : ℕ) (r : Ran g.row.T.Denot). (b : SeatView) → HasRan g.T.Runs.rules plan (get_or before (length before - 1 - k) b) r)
+          _ _ _ popped (was.rans plan before same outcomes)).1 in
+          let position : length before - 1 - length c.pop.new.self.items ≡ length c.loop-ran.seats.items =
+          omega (arith, same, was.count, left, front, seats_now) in
+          let long : length (all_told c.loop-ran.replied.items) ≡ length c.loop-ran.seats.items =
+          length-map c.loop-ran.replied.items _ ∙ omega (arith, was.replied, seats_now, answered_now) in
+          pair_push (λ (k : ℕ) (s : SeatView) (a : List ReplyView). (b : SeatView) → HasFinished g.T.Runs.rules plan (get_or before k b) s a)
+          c.loop-ran.seats.items _ (all_told c.loop-ran.replied.items) _ ran.seat tells seats.items told_more long (was.each plan before same outcomes none)
+          (λ b. subst (λ n. HasFinished g.T.Runs.rules plan (get_or before n b) ran.seat tells) position
+          (finished g.T.Runs.rules plan _ ran.seat tells ran.end (ends_well _ _ clean) (one b)));
     }

@@ -18,7 +18,8 @@ use Rattle.cdb_race.proofs.threads.race.Goals as goal
 pub run_all-requires-clause-ready : goal.run_all-requires-clause-ready
 run_all-requires-clause-ready g c κs within =
     let plan : Plan = record { processes = c.n-processes.result; turns = c.args.turns; scripts = c.args.scripts } in
-    all_ready c.in_ok-shared.shared plan c.args.setup _ (fresh_of c.in_ok-shared.shared c.args.setup (seats_of plan) _ _ (omega arith) c.in_ok-shared.ensures.seats)
+    all_ready c.in_ok-shared.shared plan c.args.setup _
+    (fresh_of c.in_ok-shared.shared c.args.setup (seats_of plan) _ _ (omega arith) c.in_ok-shared.ensures.seats)
 
 pub run_all-requires-clause-gates : goal.run_all-requires-clause-gates
 run_all-requires-clause-gates g c κs within =
@@ -40,7 +41,15 @@ pub finish-control-requires-clause-some : goal.finish-control-requires-clause-so
 finish-control-requires-clause-some g c =
     let plan : Plan = record { processes = c.n-processes.result; turns = c.args.turns; scripts = c.args.scripts } in
     let new = fresh_of c.in_ok-shared.shared c.args.setup (seats_of plan) _ _ (omega arith) c.in_ok-shared.ensures.seats in
-    omega (arith, new.many, c.in_ok-shared.seats.ok.0, c.n-processes.ensures.value, c.n-processes.ensures.ranges.processes.0, c.in-Ok.ensures.count, c.collect-seats.ensures.count.0)
+    omega (
+      arith,
+      new.many,
+      c.in_ok-shared.seats.ok.0,
+      c.n-processes.ensures.value,
+      c.n-processes.ensures.ranges.processes.0,
+      c.in-Ok.ensures.count,
+      c.collect-seats.ensures.count.0,
+    )
 
 pub finish-control-requires-clause-rest : goal.finish-control-requires-clause-rest
 finish-control-requires-clause-rest g c =
@@ -51,7 +60,8 @@ finish-control-requires-clause-rest g c =
     let before = c.in_ok-shared.seats in
     let long : length seats.items ≡ length rans.items = omega (arith, c.collect-seats.ensures.count.0, seats.ok.0, rans.ok.0) in
     let many : length rans.items ≡ seats_of plan = omega (arith, c.in-Ok.ensures.count, new.many, rans.ok.0, before.ok.0) in
-    all_rest g.T.Runs.rules c.in_ok-shared.shared plan c.args.setup before.items seats.items rans.items new many long c.in-Ok.ensures.each c.collect-seats.ensures.seats
+    all_rest g.T.Runs.rules c.in_ok-shared.shared plan c.args.setup before.items
+    seats.items rans.items new many long c.in-Ok.ensures.each c.collect-seats.ensures.seats
 
 pub returns-in-None-clause-raced : goal.returns-in-None-clause-raced
 returns-in-None-clause-raced g c =
@@ -62,11 +72,14 @@ returns-in-None-clause-raced g c =
     let seats = c.collect-seats.result.0 in
     let got = c.collect-seats.ensures in
     let replies = c.collect-seats.result.1 in
-    let clean : All (λ ran. fault_in ran ≡ None) rans.items = subst (λ (l : List (Ran g.row.T.Denot)). All (λ ran. fault_in ran ≡ None) l) c.as_slice.ensures.value c.in-None.ensures in
+    let clean : All (λ ran. fault_in ran ≡ None) rans.items =
+    subst (λ (l : List (Ran g.row.T.Denot)). All (λ ran. fault_in ran ≡ None) l) c.as_slice.ensures.value c.in-None.ensures in
     let finished = got.each plan before.items (omega (arith, c.in-Ok.ensures.count, before.ok.0)) c.in-Ok.ensures.each clean in
     let many : length seats.items ≡ length before.items = omega (arith, got.count.0, c.in-Ok.ensures.count, seats.ok.0, before.ok.0) in
-    let long : length (all_told replies.items) ≡ length seats.items = length-map replies.items _ ∙ omega (arith, got.count.0, got.count.1, replies.ok.0, seats.ok.0) in
-    raced g.T.Runs.rules c.in_ok-shared.shared plan c.args.setup c.finish-control.result before.items seats.items _ c.n-processes.ensures.value new (many ∙ new.many) finished c.finish-control.ensures.known c.n-processes.ensures.ranges.processes.0 long c.journal.ensures.seats
+    let long : length (all_told replies.items) ≡ length seats.items =
+    length-map replies.items _ ∙ omega (arith, got.count.0, got.count.1, replies.ok.0, seats.ok.0) in
+    raced g.T.Runs.rules c.in_ok-shared.shared plan c.args.setup c.finish-control.result before.items seats.items _ c.n-processes.ensures.value
+    new (many ∙ new.many) finished c.finish-control.ensures.known c.n-processes.ensures.ranges.processes.0 long c.journal.ensures.seats
 
 pub returns-in-Some-clause-fault : goal.returns-in-Some-clause-fault
 returns-in-Some-clause-fault g c =
@@ -95,9 +108,13 @@ returns-in-Some-clause-full g c = λ full.
     let same : why ≡ fault.JournalFull = same_fault (Err why) (Err fault.JournalFull) why fault.JournalFull refl refl full in
     let met = met_full last.its.seat.number last.its.end (last.has ∙ ap (λ (f : RaceFault). Some f) same) in
     let final = c.finish-control.result in
-    let so_far = under_way g.T.Runs.rules c.in_ok-shared.shared plan c.args.setup final before.items rans.items last.its c.n-processes.ensures.value new many c.in-Ok.ensures.each seats.items long got.seats c.finish-control.ensures.known c.n-processes.ensures.ranges.processes.0 c.journal.ensures.seats in
+    let so_far =
+    under_way g.T.Runs.rules c.in_ok-shared.shared plan c.args.setup final before.items rans.items last.its c.n-processes.ensures.value new many
+    c.in-Ok.ensures.each seats.items long got.seats c.finish-control.ensures.known c.n-processes.ensures.ranges.processes.0 c.journal.ensures.seats in
     let whole =
-    full_at g.T.Runs.rules c.in_ok-shared.shared plan c.args.setup final before.items rans.items last.its c.n-processes.ensures.value new many c.in-Ok.ensures.each seats.items long got.seats c.finish-control.ensures.known last.position last.within (ap (λ (r : Ran g.row.T.Denot). r.end) last.at ∙ met) c.journal.ensures.limit in
+    full_at g.T.Runs.rules c.in_ok-shared.shared plan c.args.setup final before.items rans.items last.its
+    c.n-processes.ensures.value new many c.in-Ok.ensures.each seats.items long got.seats c.finish-control.ensures.known
+    last.position last.within (ap (λ (r : Ran g.row.T.Denot). r.end) last.at ∙ met) c.journal.ensures.limit in
     (final, so_far, whole)
 
 pub returns-in-Some-clause-told : goal.returns-in-Some-clause-told
@@ -134,4 +151,5 @@ pub returns-in-Some-clause-passes : goal.returns-in-Some-clause-passes
 returns-in-Some-clause-passes g c = λ all.
     let why = c.in-Some.fault in
     let many : length c.args.gates.items ≡ c.args.setup.processes + length c.args.scripts.now = omega (arith, c.requires.gates, c.args.gates.ok.0) in
-    told_passes g.row.T.Denot g.T.Runs.rules g.G.Gate.heard g.G.Gate.passes c.args.gates.items c.args.setup c.args.turns c.args.scripts.now why many (returns-in-Some-clause-told g c) all
+    told_passes g.row.T.Denot g.T.Runs.rules g.G.Gate.heard g.G.Gate.passes c.args.gates.items
+    c.args.setup c.args.turns c.args.scripts.now why many (returns-in-Some-clause-told g c) all

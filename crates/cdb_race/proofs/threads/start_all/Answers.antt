@@ -21,8 +21,10 @@ loop-seat-preserved g c =
     let whole : all ≡ front ++ (seat ∷ was.left.0) = was.left.1 ∙ ap (λ l. l ++ was.left.0) popped ∙ append_assoc front (seat ∷ []) was.left.0 in
     let its = c.in-Some-pop.gate in
     let few = c.in-Some-pop.ensures.items in
-    let all_gates : c.args.gates.items ≡ c.pop-in-Some.new.self.items ++ (its ∷ was.left_gates.0) = was.left_gates.1 ∙ ap (λ l. l ++ was.left_gates.0) few ∙ append_assoc c.pop-in-Some.new.self.items (its ∷ []) was.left_gates.0 in
-    let position_gate : vec_len c.args.gates - 1 - length c.loop-seat.handles.items ≡ length c.pop-in-Some.new.self.items = omega (arith, gates, seats, c.pop-in-Some.new.self.ok.0, handles, was.count, was.gates, was.many_gates) in
+    let all_gates : c.args.gates.items ≡ c.pop-in-Some.new.self.items ++ (its ∷ was.left_gates.0) =
+    was.left_gates.1 ∙ ap (λ l. l ++ was.left_gates.0) few ∙ append_assoc c.pop-in-Some.new.self.items (its ∷ []) was.left_gates.0 in
+    let position_gate : vec_len c.args.gates - 1 - length c.loop-seat.handles.items ≡ length c.pop-in-Some.new.self.items =
+    omega (arith, gates, seats, c.pop-in-Some.new.self.ok.0, handles, was.count, was.gates, was.many_gates) in
     let position : vec_len c.args.seats - 1 - length c.loop-seat.handles.items ≡ length front = omega (arith, seats, c.pop.new.self.ok.0, handles, was.count) in
     record {
       ready = (each_front (λ (k : ℕ) (s : SeatView). IsReady c.args.shared.now plan s) _ _ _ popped was.ready).0;
@@ -33,15 +35,23 @@ loop-seat-preserved g c =
       count = omega (arith, seats);
       room = omega arith;
       each = λ k before gate handle low.
-          let here : seat ≡ get_or all (vec_len c.args.seats - 1 - length c.loop-seat.handles.items) before = sym (get_or-middle front was.left.0 all seat before _ whole position) in
-          let there : its ≡ get_or c.args.gates.items (vec_len c.args.gates - 1 - length c.loop-seat.handles.items) gate = sym (get_or-middle c.pop-in-Some.new.self.items was.left_gates.0 c.args.gates.items its gate _ all_gates position_gate) in
-          let one = subst (λ (x : SeatView × g.row.G.Denot). IsPromise plan x.0 x.1 c.in_ok-handle.handle.promise) (λ i. (here i, there i)) c.in_ok-handle.ensures.promise in
-          each_push (λ (i : ℕ) (h : PromisedHandle (Ran g.row.T.Denot) (SeatPromise g.row.T.Denot g.row.G.Denot)). IsPromise plan (get_or all (vec_len c.args.seats - 1 - i) before) (get_or c.args.gates.items (vec_len c.args.gates - 1 - i) gate) h.promise) c.loop-seat.handles.items c.push_reserved.new.self.items c.in_ok-handle.handle
-          c.push_reserved.ensures.items (λ i h below. was.each i before gate h (omega (arith, handles))) one k handle (omega (arith, c.push_reserved.new.self.ok.0));
+          let here : seat ≡ get_or all (vec_len c.args.seats - 1 - length c.loop-seat.handles.items) before =
+          sym (get_or-middle front was.left.0 all seat before _ whole position) in
+          let there : its ≡ get_or c.args.gates.items (vec_len c.args.gates - 1 - length c.loop-seat.handles.items) gate =
+          sym (get_or-middle c.pop-in-Some.new.self.items was.left_gates.0 c.args.gates.items its gate _ all_gates position_gate) in
+          let one =
+          subst (λ (x : SeatView × g.row.G.Denot). IsPromise plan x.0 x.1 c.in_ok-handle.handle.promise)
+          (λ i. (here i, there i)) c.in_ok-handle.ensures.promise in
+          each_push (λ (i : ℕ) (h : PromisedHandle (Ran g.row.T.Denot) (SeatPromise g.row.T.Denot g.row.G.Denot)).
+          IsPromise plan (get_or all (vec_len c.args.seats - 1 - i) before) (get_or c.args.gates.items (vec_len c.args.gates - 1 - i) gate) h.promise)
+          c.loop-seat.handles.items c.push_reserved.new.self.items c.in_ok-handle.handle
+          c.push_reserved.ensures.items (λ i h below. was.each i before gate h (omega (arith, handles)))
+          one k handle (omega (arith, c.push_reserved.new.self.ok.0));
     }
 
 pub returns-clause-each : goal.returns-clause-each
-returns-clause-each g c = λ k before gate handle low. c.loop-seat.invariant.each k before gate handle (omega (arith, c.in_default.ensures.cases.0, c.loop-seat.invariant.count))
+returns-clause-each g c =
+    λ k before gate handle low. c.loop-seat.invariant.each k before gate handle (omega (arith, c.in_default.ensures.cases.0, c.loop-seat.invariant.count))
 
 pub loop-seat-smaller : goal.loop-seat-smaller
 loop-seat-smaller g c =

@@ -13,7 +13,8 @@ invariant-loop-seat g l = record {
   room : vec_len l.fn.seats ≤ vec_capacity l.handles;
   many_gates : vec_len l.fn.gates ≡ vec_len l.fn.seats;
   each : (k : ℕ) (before : SeatView) (gate : g.row.G.Denot) (handle : _) → k < vec_len l.handles
-      → IsPromise l.plan (get_or l.fn.seats.items (vec_len l.fn.seats - 1 - k) before) (get_or l.fn.gates.items (vec_len l.fn.gates - 1 - k) gate) (get_or l.handles.items k handle).promise;
+      → IsPromise l.plan (get_or l.fn.seats.items (vec_len l.fn.seats - 1 - k) before)
+      (get_or l.fn.gates.items (vec_len l.fn.gates - 1 - k) gate) (get_or l.handles.items k handle).promise;
 }
 
 abbrev pub decreases-loop-seat : goal.decreases-loop-seat

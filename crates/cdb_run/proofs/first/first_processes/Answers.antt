@@ -2,7 +2,7 @@ use Rattle.std.proofs.Common.{◌+◌, ◌≤◌, ◌++◌, length, map, sym, ap
 use Rattle.std.proofs.lemmas.List.{drop_all}
 use Rattle.cdb_rules.specs.Machines.{first_states}
 use Rattle.cdb_rules.specs.State.{fresh_progress}
-use Rattle.cdb_run.proofs.Starting.{first_added}
+use Rattle.cdb_run.proofs.AtStart.{first_added}
 use Rattle.cdb_run.proofs.first.first_processes.Goals as goal
 
 pub loop-i-init : goal.loop-i-init
@@ -18,7 +18,8 @@ loop-i-preserved g c =
     c.loop-i.processes.items c.push.new.self.items (map fresh_progress (first_states first 1 setup.processes setup.quorum setup.inputs))
     c.new-p.ensures.value
     c.input.ensures
-    (◌∙◌ {b = first c.new-p.result c.n-n.result c.q.result c.input.result} c.in_ok-local.ensures (ap₂ (λ n q. first c.new-p.result n q c.input.result) c.n-n.ensures.value c.q.ensures))
+    (◌∙◌ {b = first c.new-p.result c.n-n.result c.q.result c.input.result} c.in_ok-local.ensures
+    (ap₂ (λ n q. first c.new-p.result n q c.input.result) c.n-n.ensures.value c.q.ensures))
     c.in_ok-push.ensures.items
     c.loop-i.invariant
 

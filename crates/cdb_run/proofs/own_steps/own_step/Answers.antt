@@ -12,4 +12,5 @@ returns c =
     let found = c.in_ok-event.ensures in
     let there = found.1.named in
     let same : there.0 ≡ c.in_ok-event.event = same_Some _ _ (sym there.1 ∙ found.2) in
-    rw (c.met_by-writes_before.ensures found.0 found.2) (sym (own_named c.args.p c.args.history.now c.requires c.args.k found.0 c.in_ok-event.event found.2 (ap event_name (sym same) ∙ there.2)))
+    rw (c.met_by-writes_before.ensures found.0 found.2)
+    (sym (own_named c.args.p c.args.history.now c.requires c.args.k found.0 c.in_ok-event.event found.2 (ap event_name (sym same) ∙ there.2)))

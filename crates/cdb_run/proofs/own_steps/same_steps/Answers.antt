@@ -33,7 +33,8 @@ pub loop-i-preserved : goal.loop-i-preserved
 loop-i-preserved c =
     let one : suc c.loop-i.i ≡ c.loop-i.i + 1 = omega arith in
     below_more _ _ c.loop-i.invariant
-    (ap (nth (own_steps c.args.p c.args.history.now)) one ∙ sym c.own_step.ensures ∙ same_option c.own_step.result c.own_step-in-loop-i.result (c.if-ne.ensures) ∙ c.own_step-in-loop-i.ensures
+    (ap (nth (own_steps c.args.p c.args.history.now)) one ∙ sym c.own_step.ensures
+    ∙ same_option c.own_step.result c.own_step-in-loop-i.result (c.if-ne.ensures) ∙ c.own_step-in-loop-i.ensures
     ∙ ap (nth (own_steps c.args.p c.args.other.now)) (sym one))
 
 pub returns : goal.returns
@@ -41,5 +42,8 @@ returns c =
     let one = own_length c.args.p c.args.history.now in
     let other = own_length c.args.p c.args.other.now in
     let count = c.steps_of-count.ensures.count in
-    let other_count = c.steps_of.ensures.count in
-    ((λ e. same_lists (own_steps c.args.p c.args.history.now) (own_steps c.args.p c.args.other.now) (omega arith) (λ i less. c.loop-i.invariant i (omega arith))), (λ same. refl))
+    let other_count = c.steps_of.ensures.count in (
+      (λ e. same_lists (own_steps c.args.p c.args.history.now) (own_steps c.args.p c.args.other.now)
+          (omega arith) (λ i less. c.loop-i.invariant i (omega arith))),
+      (λ same. refl),
+    )

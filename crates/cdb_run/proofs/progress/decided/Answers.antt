@@ -1,6 +1,6 @@
 use Rattle.std.proofs.Common.{◌≡◌, ◌+◌, ◌++◌, sym, ap, ◌∙◌, append-nil, [], ◌∷◌}
 use Rattle.std.specs.Prelude.{option_map, option_to_list}
-use Rattle.cdb_run.proofs.Deciding.{decided_next, decided_all}
+use Rattle.cdb_run.proofs.Decisions.{decided_next, decided_all}
 use Rattle.cdb_run.proofs.progress.decided.Goals as goal
 use Rattle.cdb_run.proofs.progress.decided.Goals.{in-Some+in_ok-push, in_default}
 

@@ -1,5 +1,5 @@
 use Rattle.std.proofs.Common.{sym, true≢false}
-use Rattle.cdb_same.proofs.Standing.{not_new, stands_found}
+use Rattle.cdb_same.proofs.StandingSteps.{not_new, stands_found}
 use Rattle.cdb_same.proofs.alone.stands.Goals as goal
 
 pub returns-in-Some : goal.returns-in-Some

@@ -1,6 +1,6 @@
 use Rattle.std.proofs.Common.{ℕ, ◌+◌, ⊎_elim, sym, subst, ◌∙◌, arith}
 use Rattle.std.proofs.lemmas.Bool.{cases_eq}
-use Rattle.cdb_standing.specs.Comparing.{AreNumbered}
+use Rattle.cdb_standing.specs.Comparisons.{AreNumbered}
 use Rattle.cdb_same.proofs.order.numbered.Goals as goal
 
 pub loop-i-preserved : goal.loop-i-preserved

@@ -1,4 +1,4 @@
-use Rattle.cdb_same.specs.Comparing.{AreNumberedUpTo}
+use Rattle.cdb_same.specs.Comparisons.{AreNumberedUpTo}
 use Rattle.cdb_same.proofs.order.numbered.Given as goal
 
 abbrev pub invariant-loop-i : goal.invariant-loop-i

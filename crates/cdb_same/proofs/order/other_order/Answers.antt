@@ -3,7 +3,7 @@ use Rattle.std.proofs.lemmas.Option.{same_Some, slice_get_within}
 use Rattle.cdb_base.specs.declared.event.Event.{Event}
 use Rattle.cdb_rules.proofs.Flagged.{item_at}
 use Rattle.cdb_rules.proofs.ListMembers.{position_in}
-use Rattle.cdb_rules.proofs.Naming.{in_position}
+use Rattle.cdb_rules.proofs.NamedEvents.{in_position}
 use Rattle.cdb_same.proofs.Behind.{behind_causes, keeps_order, turned_by}
 use Rattle.cdb_same.proofs.Counted.{counts_first}
 use Rattle.cdb_same.specs.Come.{AreCounts, HasCausesBefore}
@@ -36,7 +36,8 @@ returns-in-Some c =
     let i : ℕ = c.loop-event.event-index in
     let at = item_at c.requires.others i event c.loop-event-test.true c.event-item.is in
     let there = position_in event c.args.first.now (c.requires.back event (in_position c.args.second.now (suc i) event at)) in
-    turned_by c.args.first.now c.args.second.now c.requires.first c.requires.second c.requires.within i event at c.loop-event.counts c.loop-event.invariant.counts (suc there.0) there.1
+    turned_by c.args.first.now c.args.second.now c.requires.first c.requires.second c.requires.within
+    i event at c.loop-event.counts c.loop-event.invariant.counts (suc there.0) there.1
     c.in-Some.name (c.in-Some.ensures (suc there.0) there.1) c.in_ok-find.field-0 c.in_ok-find.ensures
 
 pub loop-event-preserved : goal.loop-event-preserved
@@ -45,10 +46,14 @@ loop-event-preserved c =
     let i : ℕ = c.loop-event.event-index in
     let at = item_at c.requires.others i event c.loop-event-test.true c.event-item.is in
     let more : suc i ≡ i + 1 = omega arith in
-    let behind = behind_causes c.args.first.now c.args.second.now c.requires.first c.requires.second c.requires.within i event at c.loop-event.counts c.loop-event.invariant.counts c.in_default.ensures in
+    let behind =
+    behind_causes c.args.first.now c.args.second.now c.requires.first c.requires.second c.requires.within
+    i event at c.loop-event.counts c.loop-event.invariant.counts c.in_default.ensures in
     record {
       counts = subst (λ (n : ℕ). AreCounts c.args.second.now n c.count.new.counts) more (c.count.ensures i at c.loop-event.invariant.counts);
-      behind = below_more _ _ c.loop-event.invariant.behind (λ effect stands. subst (HasCausesBefore c.args.first.now c.args.second.now) (same_Some event effect (sym at ∙ stands)) behind);
+      behind =
+          below_more _ _ c.loop-event.invariant.behind
+          (λ effect stands. subst (HasCausesBefore c.args.first.now c.args.second.now) (same_Some event effect (sym at ∙ stands)) behind);
     }
 
 pub returns : goal.returns

@@ -1,6 +1,6 @@
 use Rattle.std.proofs.Common.{subst}
 use Rattle.std.proofs.lemmas.Result.{IfOk-weaker}
-use Rattle.cdb_causal.specs.Standing.{IsStanding}
+use Rattle.cdb_causal.specs.StandingEvents.{IsStanding}
 use Rattle.cdb_same.proofs.Apart.{same_exactly}
 use Rattle.cdb_same.proofs.runs.compare_runs.Goals as goal
 

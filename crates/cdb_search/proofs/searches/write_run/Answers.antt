@@ -5,7 +5,7 @@ use Rattle.cdb_search.proofs.Scripts.{is_script}
 use Rattle.cdb_search.specs.Found.{IsScriptTo}
 use Rattle.cdb_setup.specs.Parts.{AreInRange}
 use Rattle.cdb_slice.specs.Scripts.{script_text}
-use Rattle.cdb_streams.proofs.Ending.{only_as}
+use Rattle.cdb_streams.proofs.StreamEnds.{only_as}
 use Rattle.cdb_streams.specs.Endings.{whole_ending}
 use Rattle.cdb_search.proofs.searches.write_run.Goals as goal
 
@@ -17,6 +17,8 @@ returns g c =
     let plays = c.valid_histories_play_back.ensures run.setup range run.history c.into_parts-setup.ensures.valid in
     let same = c.in_ok-events.ensures ∙ sym (ap (λ (r : RunView). r.history) c.into_parts-setup.ensures.run) in
     let text = c.in_ok-text.text.items in
-    let its = is_script rules run.setup c.args.goal run.history c.in_ok-events.events.items text same (c.in_ok-text.ensures ∙ ap script_text c.as_slice.ensures.value) plays c.requires in
+    let its =
+    is_script rules run.setup c.args.goal run.history c.in_ok-events.events.items text same
+    (c.in_ok-text.ensures ∙ ap script_text c.as_slice.ensures.value) plays c.requires in
     only_as g.W.Sink.stream (whole_ending c.write_text.result) c.args.out.now c.write_text.new.out text (IsScriptTo rules run.setup c.args.goal) its
     (rw c.as_slice-2.ensures.value at c.write_text.ensures)

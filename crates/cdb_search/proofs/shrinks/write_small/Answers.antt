@@ -4,12 +4,12 @@ use Rattle.std.proofs.lemmas.Result.{err_from_is_err_and}
 use Rattle.cdb_commands.specs.declared.command.Command.{Command}
 use Rattle.cdb_rules.specs.RunView.{RunView}
 use Rattle.cdb_goal.specs.Holds.{Holds}
-use Rattle.cdb_search.proofs.Scripts.{fault_of_small, same_ending, same_left}
+use Rattle.cdb_search.proofs.Scripts.{same_ending, same_left}
 use Rattle.cdb_search.specs.Found.{search_ending}
 use Rattle.cdb_search.specs.Shrunk.{HoldsAfter, IsShrunk, IsShrunkText, lines_text}
 use Rattle.cdb_setup.specs.Parts.{AreInRange, Parts}
 use Rattle.cdb_slice.specs.Scripts.{command_for}
-use Rattle.cdb_streams.proofs.Ending.{only_as}
+use Rattle.cdb_streams.proofs.StreamEnds.{only_as}
 use Rattle.cdb_streams.specs.Endings.{Ending, whole_ending}
 use Rattle.cdb_streams.specs.Written.{IsWritten}
 use Rattle.cdb_streams.specs.declared.buffer.OutputFault.TheVariants as output
@@ -42,9 +42,11 @@ returns-then-not-branch-clause-fault g c =
     let range : AreInRange run.setup = rw c.setup.ensures at c.n-ranges.ensures.ranges in
     let plays = c.valid_histories_play_back.ensures run.setup range run.history c.requires.valid in
     let same = same_left rules run.setup c.args.goal run.history plays in
-    let commands : c.as_slice.result.now ≡ map command_for run.history = c.as_slice.ensures.value ∙ c.in_ok-commands.ensures ∙ ap (map command_for) c.events.ensures in
+    let commands : c.as_slice.result.now ≡ map command_for run.history =
+    c.as_slice.ensures.value ∙ c.in_ok-commands.ensures ∙ ap (map command_for) c.events.ensures in
     λ holds. let yes = c.in_ok-holds_after.ensures.1 (rw (c.setup-2.ensures, commands) (same.1 holds)) in false≢true (sym c.if-not-branch.true ∙ yes)
 
 pub shrunk-requires-clause-holds : goal.shrunk-requires-clause-holds
 shrunk-requires-clause-holds g c =
-    rw (c.setup-3.ensures, c.as_slice-2.ensures.value) (rw (c.setup-2.ensures, c.as_slice.ensures.value) at (c.in_ok-holds_after.ensures.0 c.if-not-branch.false))
+    rw (c.setup-3.ensures, c.as_slice-2.ensures.value)
+    (rw (c.setup-2.ensures, c.as_slice.ensures.value) at (c.in_ok-holds_after.ensures.0 c.if-not-branch.false))

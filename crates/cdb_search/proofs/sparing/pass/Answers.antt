@@ -7,7 +7,9 @@ use Rattle.cdb_search.specs.Shrunk.{HoldsAfter}
 use Rattle.cdb_search.proofs.sparing.pass.Goals as goal
 
 pub loop-i-init : goal.loop-i-init
-loop-i-init g c = none_tried (g.T.Runs.rules c.args.setup.now) c.args.setup.now c.args.goal c.args.commands.now c.in_ok-lines.lines.items c.in_ok-lines.ensures.items c.requires.holds
+loop-i-init g c =
+    none_tried (g.T.Runs.rules c.args.setup.now) c.args.setup.now c.args.goal
+    c.args.commands.now c.in_ok-lines.lines.items c.in_ok-lines.ensures.items c.requires.holds
 
 pub holds_after-requires : goal.holds_after-requires
 holds_after-requires g c =
@@ -30,7 +32,8 @@ loop-i-preserved-then-branch g c =
     let lines = c.loop-i.lines.items in
     let tried = subst (λ (n : ℕ). Tried rules c.args.setup.now c.args.goal c.args.commands.now n lines) next c.loop-i.invariant in
     let fewer : c.in_ok-fewer.fewer.items ≡ without lines (suc i) = rw (c.as_slice.ensures.value, same_next) at c.in_ok-fewer.ensures in
-    let holds : HoldsAfter rules c.args.setup.now c.args.goal c.in_ok-fewer.fewer.items = rw c.as_slice-in-loop-i.ensures.value at (c.in_ok-holds_after.ensures.0 c.if-branch.true) in
+    let holds : HoldsAfter rules c.args.setup.now c.args.goal c.in_ok-fewer.fewer.items =
+    rw c.as_slice-in-loop-i.ensures.value at (c.in_ok-holds_after.ensures.0 c.if-branch.true) in
     spared rules c.args.setup.now c.args.goal c.args.commands.now i lines c.in_ok-fewer.fewer.items tried fewer holds
 
 pub loop-i-preserved : goal.loop-i-preserved
@@ -41,9 +44,13 @@ loop-i-preserved g c =
     let same_next : i + 1 ≡ suc i = omega arith in
     let lines = c.loop-i.lines.items in
     let tried = subst (λ (n : ℕ). Tried rules c.args.setup.now c.args.goal c.args.commands.now n lines) next c.loop-i.invariant in
-    let fewer : c.as_slice-in-loop-i.result.now ≡ without lines (suc i) = c.as_slice-in-loop-i.ensures.value ∙ (rw (c.as_slice.ensures.value, same_next) at c.in_ok-fewer.ensures) in
+    let fewer : c.as_slice-in-loop-i.result.now ≡ without lines (suc i) =
+    c.as_slice-in-loop-i.ensures.value ∙ (rw (c.as_slice.ensures.value, same_next) at c.in_ok-fewer.ensures) in
     needed rules c.args.setup.now c.args.goal c.args.commands.now i lines tried
-    (λ holds. let yes = c.in_ok-holds_after.ensures.1 (subst (HoldsAfter rules c.args.setup.now c.args.goal) (sym fewer) holds) in let no = c.if-branch.false in cc)
+    (λ holds.
+    let yes = c.in_ok-holds_after.ensures.1 (subst (HoldsAfter rules c.args.setup.now c.args.goal) (sym fewer) holds) in let no = c.if-branch.false in cc)
 
 pub returns : goal.returns
-returns g c = all_tried (g.T.Runs.rules c.args.setup.now) c.args.setup.now c.args.goal c.args.commands.now c.loop-i.i c.loop-i.lines.items (omega arith) c.loop-i.invariant
+returns g c =
+    all_tried (g.T.Runs.rules c.args.setup.now) c.args.setup.now c.args.goal
+    c.args.commands.now c.loop-i.i c.loop-i.lines.items (omega arith) c.loop-i.invariant

@@ -6,7 +6,9 @@ use Rattle.cdb_search.specs.Shrunk.{HoldsAfter}
 use Rattle.cdb_search.proofs.sparing.shrunk.Goals as goal
 
 pub loop-init : goal.loop-init
-loop-init g c = none_spared (g.T.Runs.rules c.args.setup.now) c.args.setup.now c.args.goal c.args.commands.now c.in_ok-lines.lines.items c.in_ok-lines.ensures.items c.requires.holds
+loop-init g c =
+    none_spared (g.T.Runs.rules c.args.setup.now) c.args.setup.now c.args.goal
+    c.args.commands.now c.in_ok-lines.lines.items c.in_ok-lines.ensures.items c.requires.holds
 
 pub pass-requires-clause-holds : goal.pass-requires-clause-holds
 pass-requires-clause-holds g c = rw c.as_slice.ensures.value c.loop.invariant.holds

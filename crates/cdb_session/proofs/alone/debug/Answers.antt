@@ -20,7 +20,10 @@ returns g c =
     let begun = c.in_ok-begun.ensures.begun in
     let rules = g.R.Runs.rules in
     let prompt = c.args.prompt.now in
-    let greeted : c.greeting_at.result.now ≡ greeting_at prompt (greeting_text begun.0) = c.greeting_at.ensures ∙ ap (greeting_at prompt) (c.as_slice.ensures.value ∙ begun.3) in
+    let greeted : c.greeting_at.result.now ≡ greeting_at prompt (greeting_text begun.0) =
+    c.greeting_at.ensures ∙ ap (greeting_at prompt) (c.as_slice.ensures.value ∙ begun.3) in
     let answers = g.A.Answers.answers in
-    let ran = subst (λ (greeting : List ℕ). HoldsSession answers (nine greeting prompt) (since (whole_part rules first) (whole_part rules last)) c.run-own.result.1 (g.T.Console.known c.args.console.now) (g.T.Console.known c.run-own.new.console)) greeted c.run-own.ensures.session in
+    let ran =
+    subst (λ (greeting : List ℕ). HoldsSession answers (nine greeting prompt) (since (whole_part rules first) (whole_part rules last))
+    c.run-own.result.1 (g.T.Console.known c.args.console.now) (g.T.Console.known c.run-own.new.console)) greeted c.run-own.ensures.session in
     debugged rules answers prompt c.args.setup.now c.args.from.now _ _ begun.0 begun.1 first last begun.2 c.run-own.ensures.later c.run-own.result.1 ran

@@ -11,7 +11,8 @@ invariant-loop-line g l = record {
   lines : l.session.lines + length l.rest ≤ l.initial.session.lines + length l.bytes;
   sits : MaySit l.style (g.C.Caller.seats l.session.caller) l.session.seat;
   later : Onward g.C.Caller.later l.initial.session.caller l.session.caller;
-  goes : Goes g.C.Caller.answers l.style (g.T.Console.known l.initial.console) (seen_by g.C.Caller.part l.initial.session) l.initial.unfinished.items l.bytes (g.T.Console.known l.console) (seen_by g.C.Caller.part l.session) l.unfinished.items l.rest;
+  goes : Goes g.C.Caller.answers l.style (g.T.Console.known l.initial.console) (seen_by g.C.Caller.part l.initial.session)
+      l.initial.unfinished.items l.bytes (g.T.Console.known l.console) (seen_by g.C.Caller.part l.session) l.unfinished.items l.rest;
 }
 
 abbrev pub decreases-loop-line : goal.decreases-loop-line

@@ -12,7 +12,8 @@ use Rattle.cdb_session.proofs.feed.respond_to_line.Goals as goal
 pub returns-in_err-line-clause-unfinished : goal.returns-in_err-line-clause-unfinished
 returns-in_err-line-clause-unfinished g c =
     let p = err_from_is_err_and c.from_residual.result c.from_residual.ensures.1 in
-    rw (p.1, p.2) (line_is_unread g.C.Caller.answers c.args.style.now _ (seen_by g.C.Caller.part c.args.session.now) c.args.unfinished.now.items c.args.unfinished.now.items)
+    rw (p.1, p.2) (line_is_unread g.C.Caller.answers c.args.style.now _
+    (seen_by g.C.Caller.part c.args.session.now) c.args.unfinished.now.items c.args.unfinished.now.items)
 
 pub returns-in_err-line-clause-later : goal.returns-in_err-line-clause-later
 returns-in_err-line-clause-later g c = stays
@@ -20,23 +21,37 @@ returns-in_err-line-clause-later g c = stays
 pub returns-in_err-text-clause-unfinished : goal.returns-in_err-text-clause-unfinished
 returns-in_err-text-clause-unfinished g c =
     let p = err_from_is_err_and c.from_residual-in_err-text.result c.from_residual-in_err-text.ensures.1 in
-    let meant : c.as_slice-2.result.now ≡ line_meant c.args.unfinished.now.items = c.as_slice-2.ensures.value ∙ c.in_ok-line.ensures ∙ ap line_meant c.as_slice.ensures.value in
+    let meant : c.as_slice-2.result.now ≡ line_meant c.args.unfinished.now.items =
+    c.as_slice-2.ensures.value ∙ c.in_ok-line.ensures ∙ ap line_meant c.as_slice.ensures.value in
     let asks = subst (AsksFor c.request_of-request.result) meant c.request_of-request.ensures.asks in
     rw (p.1, p.2)
-    (line_is_lost g.C.Caller.answers c.args.style.now _ _ (seen_by g.C.Caller.part c.args.session.now) (seen_by g.C.Caller.part c.show.new.self) c.args.unfinished.now.items c.args.unfinished.now.items c.request_of-request.result asks NoMemory c.in_err-text.field-0.0 refl c.in_err-text.ensures.shows)
+    (line_is_lost g.C.Caller.answers c.args.style.now _ _ (seen_by g.C.Caller.part c.args.session.now)
+    (seen_by g.C.Caller.part c.show.new.self) c.args.unfinished.now.items c.args.unfinished.now.items
+    c.request_of-request.result asks NoMemory c.in_err-text.field-0.0 refl c.in_err-text.ensures.shows)
 
 pub returns-in_err-write_all-clause-unfinished : goal.returns-in_err-write_all-clause-unfinished
 returns-in_err-write_all-clause-unfinished g c =
     let p = err_from_is_err_and c.from_residual-in_err-write_all.result c.from_residual-in_err-write_all.ensures.1 in
-    let meant : c.as_slice-2.result.now ≡ line_meant c.args.unfinished.now.items = c.as_slice-2.ensures.value ∙ c.in_ok-line.ensures ∙ ap line_meant c.as_slice.ensures.value in
+    let meant : c.as_slice-2.result.now ≡ line_meant c.args.unfinished.now.items =
+    c.as_slice-2.ensures.value ∙ c.in_ok-line.ensures ∙ ap line_meant c.as_slice.ensures.value in
     let asks = subst (AsksFor c.request_of-request.result) meant c.request_of-request.ensures.asks in
-    let says = subst (WritesAll c.write_all.result (g.T.Console.known c.args.console.now) (g.T.Console.known c.write_all.new.console)) c.as_slice-3.ensures.value c.write_all.ensures in
+    let says =
+    subst (WritesAll c.write_all.result (g.T.Console.known c.args.console.now) (g.T.Console.known c.write_all.new.console))
+    c.as_slice-3.ensures.value c.write_all.ensures in
     rw (p.1, p.2)
-    (line_is_broken g.C.Caller.answers c.args.style.now _ _ (seen_by g.C.Caller.part c.args.session.now) (seen_by g.C.Caller.part c.show.new.self) c.args.unfinished.now.items c.args.unfinished.now.items c.request_of-request.result asks NoMemory c.in_ok-text.text (Unit {0}) _ c.in_err-write_all.field-0.0 c.in_ok-text.ensures.shows (rw (c.in_err-write_all.was) at says))
+    (line_is_broken g.C.Caller.answers c.args.style.now _ _ (seen_by g.C.Caller.part c.args.session.now) (seen_by g.C.Caller.part c.show.new.self)
+    c.args.unfinished.now.items c.args.unfinished.now.items c.request_of-request.result asks NoMemory c.in_ok-text.text
+    (Unit {0}) _ c.in_err-write_all.field-0.0 c.in_ok-text.ensures.shows (rw (c.in_err-write_all.was) at says))
 
 pub returns-clause-unfinished : goal.returns-clause-unfinished
 returns-clause-unfinished g c =
-    let meant : c.as_slice-2.result.now ≡ line_meant c.args.unfinished.now.items = c.as_slice-2.ensures.value ∙ c.in_ok-line.ensures ∙ ap line_meant c.as_slice.ensures.value in
+    let meant : c.as_slice-2.result.now ≡ line_meant c.args.unfinished.now.items =
+    c.as_slice-2.ensures.value ∙ c.in_ok-line.ensures ∙ ap line_meant c.as_slice.ensures.value in
     let asks = subst (AsksFor c.request_of-request.result) meant c.request_of-request.ensures.asks in
-    let says = subst (WritesAll c.write_all.result (g.T.Console.known c.args.console.now) (g.T.Console.known c.write_all.new.console)) c.as_slice-3.ensures.value c.write_all.ensures in
-    line_is_done g.C.Caller.answers c.args.style.now _ _ (seen_by g.C.Caller.part c.args.session.now) (seen_by g.C.Caller.part c.show.new.self) c.args.unfinished.now.items c.clear.new.self.items c.request_of-request.result asks NoMemory c.in_ok-text.text (Unit {0}) (Unit {0}) tt c.is_quit.result c.in_ok-text.ensures.shows (rw (c.in_ok-write_all.was) at says) c.in_ok-text.ensures.lines c.in_ok-text.ensures.seat c.clear.ensures.items c.is_quit.ensures
+    let says =
+    subst (WritesAll c.write_all.result (g.T.Console.known c.args.console.now) (g.T.Console.known c.write_all.new.console))
+    c.as_slice-3.ensures.value c.write_all.ensures in
+    line_is_done g.C.Caller.answers c.args.style.now _ _ (seen_by g.C.Caller.part c.args.session.now)
+    (seen_by g.C.Caller.part c.show.new.self) c.args.unfinished.now.items c.clear.new.self.items c.request_of-request.result
+    asks NoMemory c.in_ok-text.text (Unit {0}) (Unit {0}) tt c.is_quit.result c.in_ok-text.ensures.shows
+    (rw (c.in_ok-write_all.was) at says) c.in_ok-text.ensures.lines c.in_ok-text.ensures.seat c.clear.ensures.items c.is_quit.ensures

@@ -25,4 +25,5 @@ returns c =
     let items = c.as_slice-line-items.result.now in
     let all : take c.loop-line.line-index items ≡ items = take_all c.loop-line.line-index items (omega (arith, c.loop-line-test.false)) in
     let are = ap (map (λ (it : Bor (List ℕ)). it.now)) c.as_slice-line-items.ensures.value ∙ c.in_ok-lines.ensures in
-    c.loop-line.invariant ∙ ap (λ (its : List (Bor (List ℕ))). old ++ about t (map (λ (it : Bor (List ℕ)). it.now) its)) all ∙ ap (λ (its : List (List ℕ)). old ++ about t its) are
+    c.loop-line.invariant ∙ ap (λ (its : List (Bor (List ℕ))). old ++ about t (map (λ (it : Bor (List ℕ)). it.now) its)) all
+    ∙ ap (λ (its : List (List ℕ)). old ++ about t its) are

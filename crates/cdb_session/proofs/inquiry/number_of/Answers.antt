@@ -2,7 +2,8 @@ use Rattle.std.proofs.Common.{arith, sym, length}
 use Rattle.std.proofs.lemmas.Bool.{eqb-true, eqb-false}
 use Rattle.cdb_text.proofs.Numbers.{number_is, no_number}
 use Rattle.cdb_session.proofs.inquiry.number_of.Goals as goal
-use Rattle.cdb_session.proofs.inquiry.number_of.Goals.{then-is_empty-via-then-is_empty, then-is_empty-via-else-is_empty+then-word-gt6, then-is_empty-via-else-is_empty+else-word-gt6+then-word-eq48}
+use Rattle.cdb_session.proofs.inquiry.number_of.Goals.{then-is_empty-via-then-is_empty, then-is_empty-via-else-is_empty+then-word-gt6}
+use Rattle.cdb_session.proofs.inquiry.number_of.Goals.{then-is_empty-via-else-is_empty+else-word-gt6+then-word-eq48}
 
 pub returns-then-is_empty : goal.returns-then-is_empty
 returns-then-is_empty c =
@@ -14,4 +15,6 @@ returns-then-is_empty c =
     ]))
 
 pub returns : goal.returns
-returns c = number_is c.args.word.now c.value_of.result (omega (arith, eqb-false (length c.args.word.now) 0 (sym c.if-is_empty.ensures))) (omega arith) c.if-word-eq48.false c.value_of.ensures
+returns c =
+    number_is c.args.word.now c.value_of.result (omega (arith, eqb-false (length c.args.word.now) 0 (sym c.if-is_empty.ensures)))
+    (omega arith) c.if-word-eq48.false c.value_of.ensures

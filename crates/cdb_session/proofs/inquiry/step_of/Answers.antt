@@ -13,5 +13,7 @@ returns-in_default-Some c =
     let rest = c.in_default-Some.field-0-1.now in
     let begins : words_left c.args.words ≡ words_of c.in_ok-words.field-0.now = search rules in
     let words : words_left c.args.words ≡ first ∷ second ∷ words_left c.first_word-2.result.1 =
-    begins ∙ c.first_word.ensures ∙ ap (λ (more : Option (Bor (List ℕ))). first ∷ words_left more) c.in-Some.is ∙ ap (λ (more : List (List ℕ)). first ∷ more) c.first_word-2.ensures in
-    too_many (words_left c.args.words) first second rest (words ∙ ap (λ (more : Option (Bor (List ℕ))). first ∷ second ∷ words_left more) c.in_default-Some.is-1)
+    begins ∙ c.first_word.ensures ∙ ap (λ (more : Option (Bor (List ℕ))). first ∷ words_left more) c.in-Some.is
+    ∙ ap (λ (more : List (List ℕ)). first ∷ more) c.first_word-2.ensures in
+    too_many (words_left c.args.words) first second rest
+    (words ∙ ap (λ (more : Option (Bor (List ℕ))). first ∷ second ∷ words_left more) c.in_default-Some.is-1)

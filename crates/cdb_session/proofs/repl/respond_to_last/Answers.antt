@@ -17,10 +17,15 @@ returns-then-is_empty-clause-later g c = stays
 pub returns-in_err-respond_to_line-clause-last : goal.returns-in_err-respond_to_line-clause-last
 returns-in_err-respond_to_line-clause-last g c =
     let p = err_from_is_err_and c.from_residual.result c.from_residual.ensures.1 in
-    let some : 0 < length c.args.unfinished.now.items = omega (arith, some_where_not_empty _ _ c.is_empty.ensures c.if-is_empty.false, c.args.unfinished.now.ok.0) in
-    rw (p.1, p.2) (last_fails g.C.Caller.answers c.args.style.now _ _ (seen_by g.C.Caller.part c.args.session.now) c.args.unfinished.now.items some (seen_by g.C.Caller.part c.respond_to_line.new.session) c.respond_to_line.new.unfinished.items c.in_err-respond_to_line.field-0.0 c.in_err-respond_to_line.ensures.unfinished)
+    let some : 0 < length c.args.unfinished.now.items =
+    omega (arith, some_where_not_empty _ _ c.is_empty.ensures c.if-is_empty.false, c.args.unfinished.now.ok.0) in
+    rw (p.1, p.2) (last_fails g.C.Caller.answers c.args.style.now _ _ (seen_by g.C.Caller.part c.args.session.now)
+    c.args.unfinished.now.items some (seen_by g.C.Caller.part c.respond_to_line.new.session)
+    c.respond_to_line.new.unfinished.items c.in_err-respond_to_line.field-0.0 c.in_err-respond_to_line.ensures.unfinished)
 
 pub returns-clause-last : goal.returns-clause-last
 returns-clause-last g c =
-    let some : 0 < length c.args.unfinished.now.items = omega (arith, some_where_not_empty _ _ c.is_empty.ensures c.if-is_empty.false, c.args.unfinished.now.ok.0) in
-    last_done g.C.Caller.answers c.args.style.now _ _ (seen_by g.C.Caller.part c.args.session.now) c.args.unfinished.now.items some (seen_by g.C.Caller.part c.respond_to_line.new.session) c.respond_to_line.new.unfinished.items c.in_ok-respond_to_line.field-0 c.in_ok-respond_to_line.ensures.unfinished
+    let some : 0 < length c.args.unfinished.now.items =
+    omega (arith, some_where_not_empty _ _ c.is_empty.ensures c.if-is_empty.false, c.args.unfinished.now.ok.0) in
+    last_done g.C.Caller.answers c.args.style.now _ _ (seen_by g.C.Caller.part c.args.session.now) c.args.unfinished.now.items some (seen_by g.C.Caller.part
+    c.respond_to_line.new.session) c.respond_to_line.new.unfinished.items c.in_ok-respond_to_line.field-0 c.in_ok-respond_to_line.ensures.unfinished

@@ -12,7 +12,8 @@ invariant-loop-read g l = record {
   lines : l.session.lines ≤ l.read;
   sits : MaySit l.style (g.C.Caller.seats l.session.caller) l.session.seat;
   later : Onward g.C.Caller.later l.fn.session.caller l.session.caller;
-  arrives : Arrives g.C.Caller.answers l.style (g.T.Console.known l.fn.console) (g.T.Console.known l.console) (seen_by g.C.Caller.part l.session) l.unfinished.items l.read;
+  arrives : Arrives g.C.Caller.answers l.style (g.T.Console.known l.fn.console)
+      (g.T.Console.known l.console) (seen_by g.C.Caller.part l.session) l.unfinished.items l.read;
 }
 
 abbrev pub decreases-loop-read : goal.decreases-loop-read

@@ -14,11 +14,13 @@ returns-in_err-write_all g c =
     let digits : List ℕ = c.as_bytes.result.now in
     let are : digits ≡ decimal its.first = c.as_bytes.ensures.value ∙ c.format.ensures.text in
     let whole : digits ++ its.prompt.now ≡ c.args.style.now.prompt =
-    ap (λ text. text ++ its.prompt.now) are ∙ sym (ap (λ b. prompt_at b its.first its.prompt.now) numbered) ∙ ap (λ (m : StyleView). m.prompt) c.style.view_is in
+    ap (λ text. text ++ its.prompt.now) are ∙ sym (ap (λ b. prompt_at b its.first its.prompt.now) numbered)
+    ∙ ap (λ (m : StyleView). m.prompt) c.style.view_is in
     let before = g.T.Console.known c.args.console.now in
     let now = g.T.Console.known c.write_all-2.new.console in
     rw p.1
-    (subst (λ (text : List ℕ). WritesAll {A = Unit {0}} {E = Unit {0}} (Err tt) before now text) whole (first_cut_off (Unit {0}) (Unit {0}) before now now digits its.prompt.now (Unit {0}) (Unit {0}) tt tt c.in_err-write_all.ensures))
+    (subst (λ (text : List ℕ). WritesAll {A = Unit {0}} {E = Unit {0}} (Err tt) before now text) whole
+    (first_cut_off (Unit {0}) (Unit {0}) before now now digits its.prompt.now (Unit {0}) (Unit {0}) tt tt c.in_err-write_all.ensures))
 
 pub returns : goal.returns
 returns g c =
@@ -27,7 +29,8 @@ returns g c =
     let digits : List ℕ = c.as_bytes.result.now in
     let are : digits ≡ decimal its.first = c.as_bytes.ensures.value ∙ c.format.ensures.text in
     let whole : digits ++ its.prompt.now ≡ c.args.style.now.prompt =
-    ap (λ text. text ++ its.prompt.now) are ∙ sym (ap (λ b. prompt_at b its.first its.prompt.now) numbered) ∙ ap (λ (m : StyleView). m.prompt) c.style.view_is in
+    ap (λ text. text ++ its.prompt.now) are ∙ sym (ap (λ b. prompt_at b its.first its.prompt.now) numbered)
+    ∙ ap (λ (m : StyleView). m.prompt) c.style.view_is in
     let before = g.T.Console.known c.args.console.now in
     let now = g.T.Console.known c.write_all-2.new.console in
     let new = g.T.Console.known c.write_all-3.new.console in

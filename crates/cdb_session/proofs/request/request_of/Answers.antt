@@ -15,41 +15,63 @@ returns-in-Some-seat_of-clause-only c =
     only_seat c.args.line.now c.if-line-gt-MAX_BYTES.false c.in-Some-seat_of.seat its.0 its.1
 
 pub returns-in-Some-inquiry_of-clause-asks : goal.returns-in-Some-inquiry_of-clause-asks
-returns-in-Some-inquiry_of-clause-asks c = (c.if-line-gt-MAX_BYTES.false, inquiry_says c.args.line.now c.in-Some-inquiry_of.inquiry (sym c.in-Some-inquiry_of.ensures))
+returns-in-Some-inquiry_of-clause-asks c =
+    (c.if-line-gt-MAX_BYTES.false, inquiry_says c.args.line.now c.in-Some-inquiry_of.inquiry (sym c.in-Some-inquiry_of.ensures))
 
 pub returns-in-Some-inquiry_of-clause-only : goal.returns-in-Some-inquiry_of-clause-only
-returns-in-Some-inquiry_of-clause-only c = only_inquiry c.args.line.now c.if-line-gt-MAX_BYTES.false c.in-Some-inquiry_of.inquiry (inquiry_says c.args.line.now c.in-Some-inquiry_of.inquiry (sym c.in-Some-inquiry_of.ensures))
+returns-in-Some-inquiry_of-clause-only c =
+    only_inquiry c.args.line.now c.if-line-gt-MAX_BYTES.false c.in-Some-inquiry_of.inquiry
+    (inquiry_says c.args.line.now c.in-Some-inquiry_of.inquiry (sym c.in-Some-inquiry_of.ensures))
 
 pub returns-in-Some-repeat_of-clause-asks : goal.returns-in-Some-repeat_of-clause-asks
-returns-in-Some-repeat_of-clause-asks c =
-    (c.if-line-gt-MAX_BYTES.false, inr (c.in-Some-repeat_of.p, refl, repeat_says c.args.line.now c.in-Some-repeat_of.p c.in-Some-repeat_of.times (sym c.in-Some-repeat_of.ensures)))
+returns-in-Some-repeat_of-clause-asks c = (
+  c.if-line-gt-MAX_BYTES.false,
+  inr (c.in-Some-repeat_of.p, refl, repeat_says c.args.line.now c.in-Some-repeat_of.p c.in-Some-repeat_of.times (sym c.in-Some-repeat_of.ensures)),
+)
 
 pub returns-in-Some-repeat_of-clause-only : goal.returns-in-Some-repeat_of-clause-only
 returns-in-Some-repeat_of-clause-only c =
-    only_repeat c.args.line.now c.if-line-gt-MAX_BYTES.false c.in-Some-repeat_of.p c.in-Some-repeat_of.times (repeat_says c.args.line.now c.in-Some-repeat_of.p c.in-Some-repeat_of.times (sym c.in-Some-repeat_of.ensures))
+    only_repeat c.args.line.now c.if-line-gt-MAX_BYTES.false c.in-Some-repeat_of.p c.in-Some-repeat_of.times
+    (repeat_says c.args.line.now c.in-Some-repeat_of.p c.in-Some-repeat_of.times (sym c.in-Some-repeat_of.ensures))
 
 pub returns-in-Ok-clause-asks : goal.returns-in-Ok-clause-asks
 returns-in-Ok-clause-asks c =
     let line = c.args.line.now in
-    let no_quit : line ≢ quit_line = search rules in
-    (c.if-line-gt-MAX_BYTES.false, inl (not_own line c.in_default.ensures.none no_quit c.in_default-seat_of.ensures.none (no_inquiry line (sym c.in_default-inquiry_of.ensures)) (no_repeat line (sym c.in_default-repeat_of.ensures)), (c.in-Ok.ensures.command c.in-Ok.command).0 refl, refl))
+    let no_quit : line ≢ quit_line = search rules in (
+      c.if-line-gt-MAX_BYTES.false,
+      inl (
+        not_own line c.in_default.ensures.none no_quit c.in_default-seat_of.ensures.none (no_inquiry line
+            (sym c.in_default-inquiry_of.ensures)) (no_repeat line (sym c.in_default-repeat_of.ensures)),
+        (c.in-Ok.ensures.command c.in-Ok.command).0 refl,
+        refl,
+      ),
+    )
 
 pub returns-in-Ok-clause-only : goal.returns-in-Ok-clause-only
 returns-in-Ok-clause-only c =
     let line = c.args.line.now in
     let no_quit : line ≢ quit_line = search rules in
-    only_call line c.if-line-gt-MAX_BYTES.false (not_own line c.in_default.ensures.none no_quit c.in_default-seat_of.ensures.none (no_inquiry line (sym c.in_default-inquiry_of.ensures)) (no_repeat line (sym c.in_default-repeat_of.ensures))) (Ok c.in-Ok.command)
+    only_call line c.if-line-gt-MAX_BYTES.false (not_own line c.in_default.ensures.none no_quit c.in_default-seat_of.ensures.none
+    (no_inquiry line (sym c.in_default-inquiry_of.ensures)) (no_repeat line (sym c.in_default-repeat_of.ensures))) (Ok c.in-Ok.command)
     (λ command is. (c.in-Ok.ensures.command command).1 is) (λ fault is. (c.in-Ok.ensures.fault fault).1 is) c.in-Ok.command refl
 
 pub returns-in-Err-clause-asks : goal.returns-in-Err-clause-asks
 returns-in-Err-clause-asks c =
     let line = c.args.line.now in
-    let no_quit : line ≢ quit_line = search rules in
-    (c.if-line-gt-MAX_BYTES.false, (not_own line c.in_default.ensures.none no_quit c.in_default-seat_of.ensures.none (no_inquiry line (sym c.in_default-inquiry_of.ensures)) (no_repeat line (sym c.in_default-repeat_of.ensures)), (c.in-Err.ensures.fault c.in-Err.fault).0 refl, refl))
+    let no_quit : line ≢ quit_line = search rules in (
+      c.if-line-gt-MAX_BYTES.false,
+      (
+        not_own line c.in_default.ensures.none no_quit c.in_default-seat_of.ensures.none (no_inquiry line
+            (sym c.in_default-inquiry_of.ensures)) (no_repeat line (sym c.in_default-repeat_of.ensures)),
+        (c.in-Err.ensures.fault c.in-Err.fault).0 refl,
+        refl,
+      ),
+    )
 
 pub returns-in-Err-clause-only : goal.returns-in-Err-clause-only
 returns-in-Err-clause-only c =
     let line = c.args.line.now in
     let no_quit : line ≢ quit_line = search rules in
-    only_fault line c.if-line-gt-MAX_BYTES.false (not_own line c.in_default.ensures.none no_quit c.in_default-seat_of.ensures.none (no_inquiry line (sym c.in_default-inquiry_of.ensures)) (no_repeat line (sym c.in_default-repeat_of.ensures))) (Err c.in-Err.fault)
+    only_fault line c.if-line-gt-MAX_BYTES.false (not_own line c.in_default.ensures.none no_quit c.in_default-seat_of.ensures.none
+    (no_inquiry line (sym c.in_default-inquiry_of.ensures)) (no_repeat line (sym c.in_default-repeat_of.ensures))) (Err c.in-Err.fault)
     (λ command is. (c.in-Err.ensures.command command).1 is) (λ fault is. (c.in-Err.ensures.fault fault).1 is) c.in-Err.fault refl

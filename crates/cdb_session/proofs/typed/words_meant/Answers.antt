@@ -6,4 +6,5 @@ use Rattle.cdb_session.proofs.typed.words_meant.Goals as goal
 pub loop-rest-init : goal.loop-rest-init
 unfolding words_meant
 loop-rest-init c =
-    ap (λ (words : List (Bor (List ℕ))). fold with_piece (map (λ it. it.now) words) (up_to_comment (slice_split is_blank c.args.line.now))) c.new-words.ensures.items
+    ap (λ (words : List (Bor (List ℕ))). fold with_piece (map (λ it. it.now) words) (up_to_comment (slice_split is_blank c.args.line.now)))
+    c.new-words.ensures.items

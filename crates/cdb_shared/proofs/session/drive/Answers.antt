@@ -1,7 +1,7 @@
 use Rattle.std.proofs.Common.{◌≡◌, ◌+◌, ap, sym, ◌∙◌, rules, arith, ◌∷◌, [], ◌++◌, length, replicate, refl, true, false, true≢false}
 use Rattle.std.proofs.lemmas.List.{length-replicate}
 use Rattle.cdb_base.specs.declared.refusal.Refusal.TheVariants.{Done}
-use Rattle.cdb_commands.specs.ToldReply.{Refused, told}
+use Rattle.cdb_commands.specs.ReplyView.{Refused, reply_view}
 use Rattle.cdb_commands.specs.declared.command.Command.TheVariants.{Auto}
 use Rattle.cdb_shared.proofs.Hears.{heard_asked, heard_told, hears_all, hears_asked, hears_fault}
 use Rattle.cdb_shared.proofs.Steps.{IsLater-trans, calls_of-call, calls_of-fault, replies_to-call, replies_to-fault, driven_fault, NoneDone-push, append_one}
@@ -51,13 +51,13 @@ returns-then-is_done g c =
     let call = calls_of-call g.T.Runs.rules _ _ _ _ c.call.ensures.seat c.in-Ok.ensures.call in
     let longer = replicate-push c.loop-turn.turn _ in
     let calls = append_one _ _ _ was.calls call longer in
-    let done : told c.in-Ok.reply ≡ Refused Done = c.is_done.ensures.0 c.if-is_done.true in
+    let done : reply_view c.in-Ok.reply ≡ Refused Done = c.is_done.ensures.0 c.if-is_done.true in
     record {
       seat = IsLater-trans _ _ _ was.seat c.call.ensures.seat;
       calls = calls;
       turns = omega arith;
       replies = (
-        was.replies.0 ++ told c.in-Ok.reply ∷ [],
+        was.replies.0 ++ reply_view c.in-Ok.reply ∷ [],
         append_one _ _ _ was.replies.1 (replies_to-call g.T.Runs.rules _ _ _ _ c.call.ensures.seat c.in-Ok.ensures.call) refl,
         (was.replies.0, ap (λ r. was.replies.0 ++ r ∷ []) done, was.replies.2),
       );
@@ -83,7 +83,7 @@ loop-turn-preserved g c =
       seat = IsLater-trans _ _ _ was.seat c.call.ensures.seat;
       calls = append_one _ _ _ was.calls call longer;
       replies = (
-        was.replies.0 ++ told c.in-Ok.reply ∷ [],
+        was.replies.0 ++ reply_view c.in-Ok.reply ∷ [],
         append_one _ _ _ was.replies.1 (replies_to-call g.T.Runs.rules _ _ _ _ c.call.ensures.seat c.in-Ok.ensures.call) refl,
         NoneDone-push _ _ was.replies.2 (λ is. true≢false (sym (c.is_done.ensures.1 is) ∙ c.if-is_done.false)),
       );

@@ -1,6 +1,6 @@
 use Rattle.std.proofs.Common.{◌≡◌, ◌++◌, List, replicate, true}
 use Rattle.cdb_commands.specs.declared.command.Command.TheVariants.{Auto}
-use Rattle.cdb_commands.specs.ToldReply.{ToldReply}
+use Rattle.cdb_commands.specs.ReplyView.{ReplyView}
 use Rattle.cdb_shared.specs.Gates.{heard_more, heard_of}
 use Rattle.cdb_shared.specs.Seats.{IsLater}
 use Rattle.cdb_shared.specs.Sessions.{calls_of, replies_to, NoneDone}
@@ -10,7 +10,7 @@ abbrev pub invariant-loop-turn : goal.invariant-loop-turn
 invariant-loop-turn g l = record {
   seat : IsLater l.fn.seat l.seat;
   calls : calls_of l.seat ≡ calls_of l.fn.seat ++ replicate l.turn (Auto l.process);
-  replies : (replies : List ToldReply) × (replies_to g.T.Runs.rules l.seat ≡ replies_to g.T.Runs.rules l.fn.seat ++ replies) × NoneDone replies;
+  replies : (replies : List ReplyView) × (replies_to g.T.Runs.rules l.seat ≡ replies_to g.T.Runs.rules l.fn.seat ++ replies) × NoneDone replies;
   heard : g.G.Gate.heard l.gate ≡ heard_more (g.G.Gate.heard l.fn.gate) (heard_of 1 (calls_of l.fn.seat) (replicate l.turn (Auto l.process)));
   passes : g.G.Gate.passes l.fn.gate ≡ true → g.G.Gate.passes l.gate ≡ true;
 }

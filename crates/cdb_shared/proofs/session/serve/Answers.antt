@@ -1,6 +1,6 @@
 use Rattle.std.proofs.Common.{◌≡◌, ◌≤◌, ◌+◌, ◌∙◌, rules, refl, sym, ap, arith, true, false, true≢false, List, [], ◌∷◌, ◌++◌, length, length-take, map, take}
 use Rattle.std.proofs.lemmas.List.{map-append}
-use Rattle.cdb_commands.specs.ToldReply.{told}
+use Rattle.cdb_commands.specs.ReplyView.{reply_view}
 use Rattle.cdb_commands.specs.declared.reply.Reply.{Reply}
 use Rattle.cdb_shared.specs.Sessions.{calls_of, replies_to}
 use Rattle.cdb_shared.proofs.Hears.{heard_asked, heard_told, hears_all, hears_asked, hears_fault}
@@ -39,7 +39,7 @@ returns-in-Err-clause-gate g c =
 pub returns-in-Err-clause-replies : goal.returns-in-Err-clause-replies
 returns-in-Err-clause-replies g c =
     replies_to-fault g.T.Runs.rules _ _ c.no_room-fault.ensures.seat.0 c.no_room-fault.ensures.seat.1 ∙ c.loop-command.invariant.replies
-    ∙ ap (λ (l : List Reply). replies_to g.T.Runs.rules c.args.seat ++ map told l) (sym c.reserve.ensures.items)
+    ∙ ap (λ (l : List Reply). replies_to g.T.Runs.rules c.args.seat ++ map reply_view l) (sym c.reserve.ensures.items)
 
 pub returns-in-Err-call-clause-gate : goal.returns-in-Err-call-clause-gate
 returns-in-Err-call-clause-gate g c =
@@ -53,7 +53,7 @@ returns-in-Err-call-clause-gate g c =
 pub returns-in-Err-call-clause-replies : goal.returns-in-Err-call-clause-replies
 returns-in-Err-call-clause-replies g c =
     replies_to-fault g.T.Runs.rules _ _ c.call.ensures.seat c.in-Err-call.ensures.fault ∙ c.loop-command.invariant.replies
-    ∙ ap (λ (l : List Reply). replies_to g.T.Runs.rules c.args.seat ++ map told l) (sym c.reserve.ensures.items)
+    ∙ ap (λ (l : List Reply). replies_to g.T.Runs.rules c.args.seat ++ map reply_view l) (sym c.reserve.ensures.items)
 
 pub loop-command-preserved : goal.loop-command-preserved
 loop-command-preserved g c =
@@ -66,8 +66,8 @@ loop-command-preserved g c =
     let longer = take_one_more commands index c.command-item.result (omega arith) c.command-item.is in
     let calls : calls_of c.call.new.seat ≡ calls_of c.args.seat ++ take (index + 1) commands = append_one _ _ _ was.calls call longer in
     let few : length (take (index + 1) commands) ≤ 999999 = few_calls c.args.seat c.call.new.seat _ calls c.call.ensures.limit in
-    let replied = ap (map told) (c.push_reserved.ensures.items ∙ ap (λ (l : List Reply). l ++ c.in-Ok.reply ∷ []) c.reserve.ensures.items)
-    ∙ map-append told c.loop-command.replies.items (c.in-Ok.reply ∷ []) in
+    let replied = ap (map reply_view) (c.push_reserved.ensures.items ∙ ap (λ (l : List Reply). l ++ c.in-Ok.reply ∷ []) c.reserve.ensures.items)
+    ∙ map-append reply_view c.loop-command.replies.items (c.in-Ok.reply ∷ []) in
     record {
       seat = IsLater-trans _ _ _ was.seat c.call.ensures.seat;
       calls = calls;

@@ -1,5 +1,5 @@
 use Rattle.std.proofs.Common.{◌≡◌, ◌≤◌, ◌++◌, map, take, true, vec_len}
-use Rattle.cdb_commands.specs.ToldReply.{told}
+use Rattle.cdb_commands.specs.ReplyView.{reply_view}
 use Rattle.cdb_shared.specs.Gates.{heard_more, heard_of}
 use Rattle.cdb_shared.specs.Seats.{IsLater}
 use Rattle.cdb_shared.specs.Sessions.{calls_of, replies_to}
@@ -9,7 +9,7 @@ abbrev pub invariant-loop-command : goal.invariant-loop-command
 invariant-loop-command g l = record {
   seat : IsLater l.fn.seat l.seat;
   calls : calls_of l.seat ≡ calls_of l.fn.seat ++ take l.command-index l.commands;
-  replies : replies_to g.T.Runs.rules l.seat ≡ replies_to g.T.Runs.rules l.fn.seat ++ map told l.replies.items;
+  replies : replies_to g.T.Runs.rules l.seat ≡ replies_to g.T.Runs.rules l.fn.seat ++ map reply_view l.replies.items;
   count : vec_len l.replies ≡ l.command-index;
   number : l.number ≡ l.command-index;
   limit : l.number ≤ 999999;

@@ -1,6 +1,6 @@
 use Rattle.std.specs.Prelude.{Ok}
 use Rattle.cdb_shared.specs.Seats.{IsLater}
-use Rattle.cdb_shared_session.specs.Keeping.{Keeps}
+use Rattle.cdb_shared_session.specs.KeptOutcomes.{Keeps}
 use Rattle.cdb_shared_session.proofs.keeping.keep_on.Given as goal
 
 abbrev pub invariant-loop : goal.invariant-loop

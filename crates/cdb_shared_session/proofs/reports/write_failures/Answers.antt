@@ -7,8 +7,10 @@ use Rattle.cdb_shared_session.proofs.reports.write_failures.Goals as goal
 pub returns-in_err-write_seats : goal.returns-in_err-write_seats
 returns-in_err-write_seats g c =
     let p = err_from_is_err_and c.from_residual.result c.from_residual.ensures.1 in
-    rw p.1 (fails_first g.W.Sink.stream _ _ (failed_seat_lines 1 (outcomes c.args.finished.now)) (journal_line c.args.written.now ++ kept_line c.args.kept.now) c.in_err-write_seats.ensures)
+    rw p.1 (fails_first g.W.Sink.stream _ _ (failed_seat_lines 1 (outcomes c.args.finished.now))
+    (journal_line c.args.written.now ++ kept_line c.args.kept.now) c.in_err-write_seats.ensures)
 
 pub returns : goal.returns
 returns g c =
-    writes_then g.W.Sink.stream c.write_journal_faults.result _ _ _ (failed_seat_lines 1 (outcomes c.args.finished.now)) (journal_line c.args.written.now ++ kept_line c.args.kept.now) c.in_ok-write_seats.ensures c.write_journal_faults.ensures
+    writes_then g.W.Sink.stream c.write_journal_faults.result _ _ _ (failed_seat_lines 1 (outcomes c.args.finished.now))
+    (journal_line c.args.written.now ++ kept_line c.args.kept.now) c.in_ok-write_seats.ensures c.write_journal_faults.ensures

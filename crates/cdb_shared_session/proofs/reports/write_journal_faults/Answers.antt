@@ -9,4 +9,6 @@ returns-in_err-write_journal_fault g c =
     rw p.1 (fails_first g.W.Sink.stream _ _ (journal_line c.args.written.now) (kept_line c.args.kept.now) c.in_err-write_journal_fault.ensures)
 
 pub returns : goal.returns
-returns g c = writes_then g.W.Sink.stream c.write_kept_fault.result _ _ _ (journal_line c.args.written.now) (kept_line c.args.kept.now) c.in_ok-write_journal_fault.ensures c.write_kept_fault.ensures
+returns g c =
+    writes_then g.W.Sink.stream c.write_kept_fault.result _ _ _ (journal_line c.args.written.now)
+    (kept_line c.args.kept.now) c.in_ok-write_journal_fault.ensures c.write_kept_fault.ensures

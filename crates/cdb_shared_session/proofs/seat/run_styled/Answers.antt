@@ -10,4 +10,5 @@ returns-clause-later g c =
 
 pub returns-clause-session : goal.returns-clause-session
 returns-clause-session g c =
-    subst (λ (seat : SeatView). RunsSeat g.R.Runs.rules g.A.Answers.answers c.args.style.now c.args.seat seat c.run-caller.result.1 (g.T.Console.known c.args.console.now) (g.T.Console.known c.run-caller.new.console)) (sym c.caller.view_is) c.run-caller.ensures.session
+    subst (λ (seat : SeatView). RunsSeat g.R.Runs.rules g.A.Answers.answers c.args.style.now c.args.seat seat c.run-caller.result.1
+    (g.T.Console.known c.args.console.now) (g.T.Console.known c.run-caller.new.console)) (sym c.caller.view_is) c.run-caller.ensures.session

@@ -7,7 +7,7 @@ use Rattle.cdb_streams.specs.Streams.{Writes}
 use Rattle.cdb_streams.specs.Written.{IsWritten, Only}
 use Rattle.cdb_journal.specs.Journals.{journal_text}
 use Rattle.cdb_shared_session.specs.Reported.{IsFaultOfSessions}
-use Rattle.cdb_shared_session.specs.Keeping.{kept_outcome}
+use Rattle.cdb_shared_session.specs.KeptOutcomes.{kept_outcome}
 use Rattle.cdb_shared_session.specs.Reports.{outcomes, failures_text, status_of}
 use Rattle.cdb_shared_session.specs.declared.endpoint.Finished.{Finished}
 use Rattle.cdb_shared_session.proofs.SetupFaults.{threads_failed}
@@ -40,11 +40,20 @@ returns-clause-sessions g c =
       control = c.in-Ok-ended.sessions.0;
       finished = c.in-Ok-ended.sessions.1.items;
       sessions = c.in-Ok-ended.ensures.sessions;
-      writable = c.in-Ok-ended.ensures.writable (opened_writable c.in-Ok.ensures.begun.0 c.len-count.result c.args.from.now c.in-Ok.begun.0 few c.in-Ok.ensures.begun.2);
+      writable =
+          c.in-Ok-ended.ensures.writable
+          (opened_writable c.in-Ok.ensures.begun.0 c.len-count.result c.args.from.now c.in-Ok.begun.0 few c.in-Ok.ensures.begun.2);
       keeps = c.in-Ok-ended.ensures.kept;
       written = written;
-      journal = subst (λ (es : List Entry). IsWritten g.O.Sink.stream (whole_ending written) c.args.output.now c.write_journal-written.new.out (Only (journal_text es))) c.journal.ensures.entries c.write_journal-written.ensures;
+      journal =
+          subst (λ (es : List Entry). IsWritten g.O.Sink.stream (whole_ending written) c.args.output.now
+          c.write_journal-written.new.out (Only (journal_text es))) c.journal.ensures.entries c.write_journal-written.ensures;
       reported = c.write_failures.result;
-      lines = subst (λ (l : List (Finished g.row.P-Seat.Denot)). Writes g.E.Sink.stream c.write_failures.result c.args.error.now c.write_failures.new.out (failures_text written (kept_outcome c.in-Ok-ended.sessions.2) (outcomes l))) c.as_slice-2.ensures.value (rw (← c.outcome_of-outcome.ensures) c.write_failures.ensures);
-      status_is = rw (← c.outcome_of-outcome.ensures) c.status_after-status.ensures ∙ ap (λ (l : List (Finished g.row.P-Seat.Denot)). status_of written (kept_outcome c.in-Ok-ended.sessions.2) (outcomes l)) c.as_slice-3.ensures.value;
+      lines =
+          subst (λ (l : List (Finished g.row.P-Seat.Denot)). Writes g.E.Sink.stream c.write_failures.result c.args.error.now
+          c.write_failures.new.out (failures_text written (kept_outcome c.in-Ok-ended.sessions.2) (outcomes l)))
+          c.as_slice-2.ensures.value (rw (← c.outcome_of-outcome.ensures) c.write_failures.ensures);
+      status_is =
+          rw (← c.outcome_of-outcome.ensures) c.status_after-status.ensures
+          ∙ ap (λ (l : List (Finished g.row.P-Seat.Denot)). status_of written (kept_outcome c.in-Ok-ended.sessions.2) (outcomes l)) c.as_slice-3.ensures.value;
     }

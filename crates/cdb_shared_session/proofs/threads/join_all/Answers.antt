@@ -21,6 +21,8 @@ returns g c =
           let promise = started.each j first opener handle (omega (arith, low, joined.count.0, started.count, seats.ok.0, handles.ok.0)) in
           let seat_at : vec_len before - 1 - j ≡ k = omega (arith, low, joined.count.0, started.count, seats.ok.0, handles.ok.0) in
           let opener_at : vec_len openers - 1 - j ≡ k = omega (arith, low, joined.count.0, started.count, seats.ok.0, handles.ok.0, c.requires.openers) in
-          let its_promise = subst (λ (x : ℕ × ℕ). IsSeatPromise (get_or before.items x.0 first) (get_or openers.items x.1 opener) (get_or handles.items j handle).promise) (λ i. (seat_at i, opener_at i)) promise in
+          let its_promise =
+          subst (λ (x : ℕ × ℕ). IsSeatPromise (get_or before.items x.0 first) (get_or openers.items x.1 opener) (get_or handles.items j handle).promise)
+          (λ i. (seat_at i, opener_at i)) promise in
           kept _ _ _ its_promise g.R.Runs.rules g.A.Answers.answers g.P.Seat.Console.known g.P.Opener.opens _ _ (joined.each k seat its low handle);
     }

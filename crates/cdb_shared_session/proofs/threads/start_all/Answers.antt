@@ -20,7 +20,8 @@ loop-seat-init g c = record {
 }
 
 pub start_one-requires-after_bounds : goal.start_one-requires-after_bounds
-start_one-requires-after_bounds g c κs within = (each_front (λ (k : ℕ) (s : SeatView). IsUnused c.args.shared.now c.args.welcome s) _ _ _ c.in-Some.ensures.items c.loop-seat.invariant.ready).1
+start_one-requires-after_bounds g c κs within =
+    (each_front (λ (k : ℕ) (s : SeatView). IsUnused c.args.shared.now c.args.welcome s) _ _ _ c.in-Some.ensures.items c.loop-seat.invariant.ready).1
 
 pub loop-seat-preserved : goal.loop-seat-preserved
 loop-seat-preserved g c =
@@ -32,11 +33,15 @@ loop-seat-preserved g c =
     let seats = c.in-Some.ensures.cases in
     let openers = c.in-Some-pop.ensures.cases in
     let handles = c.loop-seat.handles.ok.0 in
-    let whole : all ≡ front ++ (seat ∷ was.left.0) = was.left.1 ∙ ap (λ l. l ++ was.left.0) {y = front ++ (seat ∷ [])} popped ∙ append_assoc front (seat ∷ []) was.left.0 in
+    let whole : all ≡ front ++ (seat ∷ was.left.0) =
+    was.left.1 ∙ ap (λ l. l ++ was.left.0) {y = front ++ (seat ∷ [])} popped ∙ append_assoc front (seat ∷ []) was.left.0 in
     let its = c.in-Some-pop.opener in
     let few = c.in-Some-pop.ensures.items in
-    let all_openers : c.args.openers.items ≡ c.pop-in-Some.new.self.items ++ (its ∷ was.left_openers.0) = was.left_openers.1 ∙ ap (λ l. l ++ was.left_openers.0) {y = c.pop-in-Some.new.self.items ++ (its ∷ [])} few ∙ append_assoc c.pop-in-Some.new.self.items (its ∷ []) was.left_openers.0 in
-    let at_opener : vec_len c.args.openers - 1 - length c.loop-seat.handles.items ≡ length c.pop-in-Some.new.self.items = omega (arith, openers, seats, c.pop-in-Some.new.self.ok.0, handles, was.count, was.openers, was.many_openers) in
+    let all_openers : c.args.openers.items ≡ c.pop-in-Some.new.self.items ++ (its ∷ was.left_openers.0) =
+    was.left_openers.1 ∙ ap (λ l. l ++ was.left_openers.0) {y = c.pop-in-Some.new.self.items ++ (its ∷ [])} few
+    ∙ append_assoc c.pop-in-Some.new.self.items (its ∷ []) was.left_openers.0 in
+    let at_opener : vec_len c.args.openers - 1 - length c.loop-seat.handles.items ≡ length c.pop-in-Some.new.self.items =
+    omega (arith, openers, seats, c.pop-in-Some.new.self.ok.0, handles, was.count, was.openers, was.many_openers) in
     let at : vec_len c.args.seats - 1 - length c.loop-seat.handles.items ≡ length front = omega (arith, seats, c.pop.new.self.ok.0, handles, was.count) in
     record {
       ready = (each_front (λ (k : ℕ) (s : SeatView). IsUnused c.args.shared.now c.args.welcome s) _ _ _ popped was.ready).0;
@@ -47,15 +52,22 @@ loop-seat-preserved g c =
       count = omega (arith, seats);
       room = omega arith;
       each = λ k before opener handle low.
-          let here : seat ≡ get_or all (vec_len c.args.seats - 1 - length c.loop-seat.handles.items) before = sym (get_or-middle front was.left.0 all seat before _ whole at) in
-          let there : its ≡ get_or c.args.openers.items (vec_len c.args.openers - 1 - length c.loop-seat.handles.items) opener = sym (get_or-middle c.pop-in-Some.new.self.items was.left_openers.0 c.args.openers.items its opener _ all_openers at_opener) in
-          let one = subst (λ (x : SeatView × g.row.P.Denot). IsSeatPromise x.0 x.1 c.in_ok-handle.handle.promise) (λ i. (here i, there i)) c.in_ok-handle.ensures in
-          each_push (λ (i : ℕ) (h : PromisedHandle (SeatResult g.row.R.Denot g.row.P-Seat.Denot) (SeatPromise g.row.R.Denot g.row.A.Denot g.row.P.Denot)). IsSeatPromise (get_or all (vec_len c.args.seats - 1 - i) before) (get_or c.args.openers.items (vec_len c.args.openers - 1 - i) opener) h.promise) c.loop-seat.handles.items c.push_reserved.new.self.items c.in_ok-handle.handle
-          c.push_reserved.ensures.items (λ i h below. was.each i before opener h (omega (arith, handles))) one k handle (omega (arith, c.push_reserved.new.self.ok.0));
+          let here : seat ≡ get_or all (vec_len c.args.seats - 1 - length c.loop-seat.handles.items) before =
+          sym (get_or-middle front was.left.0 all seat before _ whole at) in
+          let there : its ≡ get_or c.args.openers.items (vec_len c.args.openers - 1 - length c.loop-seat.handles.items) opener =
+          sym (get_or-middle c.pop-in-Some.new.self.items was.left_openers.0 c.args.openers.items its opener _ all_openers at_opener) in
+          let one =
+          subst (λ (x : SeatView × g.row.P.Denot). IsSeatPromise x.0 x.1 c.in_ok-handle.handle.promise) (λ i. (here i, there i)) c.in_ok-handle.ensures in
+          each_push (λ (i : ℕ) (h : PromisedHandle (SeatResult g.row.R.Denot g.row.P-Seat.Denot) (SeatPromise g.row.R.Denot g.row.A.Denot g.row.P.Denot)).
+          IsSeatPromise (get_or all (vec_len c.args.seats - 1 - i) before) (get_or c.args.openers.items (vec_len c.args.openers - 1 - i) opener) h.promise)
+          c.loop-seat.handles.items c.push_reserved.new.self.items c.in_ok-handle.handle
+          c.push_reserved.ensures.items (λ i h below. was.each i before opener h (omega (arith, handles)))
+          one k handle (omega (arith, c.push_reserved.new.self.ok.0));
     }
 
 pub returns-clause-each : goal.returns-clause-each
-returns-clause-each g c = λ k before opener handle low. c.loop-seat.invariant.each k before opener handle (omega (arith, c.in_default.ensures.cases.0, c.loop-seat.invariant.count))
+returns-clause-each g c =
+    λ k before opener handle low. c.loop-seat.invariant.each k before opener handle (omega (arith, c.in_default.ensures.cases.0, c.loop-seat.invariant.count))
 
 pub returns-clause-count : goal.returns-clause-count
 returns-clause-count g c = omega (arith, c.in_default.ensures.cases.0, c.loop-seat.invariant.count)

@@ -13,7 +13,8 @@ invariant-loop-seat g l = record {
   room : vec_len l.fn.seats ≤ vec_capacity l.handles;
   many_openers : vec_len l.fn.openers ≡ vec_len l.fn.seats;
   each : (k : ℕ) (before : SeatView) (opener : g.row.P.Denot) (handle : _) → k < vec_len l.handles
-      → IsSeatPromise (get_or l.fn.seats.items (vec_len l.fn.seats - 1 - k) before) (get_or l.fn.openers.items (vec_len l.fn.openers - 1 - k) opener) (get_or l.handles.items k handle).promise;
+      → IsSeatPromise (get_or l.fn.seats.items (vec_len l.fn.seats - 1 - k) before)
+      (get_or l.fn.openers.items (vec_len l.fn.openers - 1 - k) opener) (get_or l.handles.items k handle).promise;
 }
 
 abbrev pub decreases-loop-seat : goal.decreases-loop-seat

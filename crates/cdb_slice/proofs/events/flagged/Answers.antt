@@ -2,7 +2,7 @@ use Rattle.std.proofs.Common.{◌<◌, ◌∙◌, ℕ, Some, length, true, false
 use Rattle.std.proofs.lemmas.Option.{slice_get-get_or}
 use Rattle.cdb_rules.proofs.Flagged.{item_at}
 use Rattle.cdb_slice.specs.Flagged.{flagged}
-use Rattle.cdb_slice.proofs.Parting.{found_more, found_same}
+use Rattle.cdb_slice.proofs.SliceFlags.{found_more, found_same}
 use Rattle.cdb_slice.proofs.events.flagged.Goals as goal
 use Rattle.cdb_slice.proofs.events.flagged.Goals.{then-flags-i+in_ok-push, else-flags-i}
 

@@ -1,4 +1,5 @@
-use Rattle.std.proofs.Common.{◌≡◌, ◌<◌, ◌≤◌, ◌-◌, ◌∙◌, ℕ, zero, suc, Bool, List, Result, Ok, Err, IfOk, Some, true, inl, length, slice_get, ap, subst, sym, refl, arith}
+use Rattle.std.proofs.Common.{◌≡◌, ◌<◌, ◌≤◌, ◌-◌, ◌∙◌, ℕ, zero, suc, Bool, List, Result, Ok, Err, IfOk}
+use Rattle.std.proofs.Common.{Some, true, inl, length, slice_get, ap, subst, sym, refl, arith}
 use Rattle.cdb_base.specs.Positions.{nth}
 use Rattle.cdb_base.specs.declared.event.Event.{Event}
 use Rattle.cdb_causal.proofs.Lists.{by_next}
@@ -10,7 +11,7 @@ use Rattle.cdb_rules.specs.RunView.{RunView}
 use Rattle.cdb_rules.specs.Runs.{with_history}
 use Rattle.cdb_setup.specs.Parts.{AreInRange}
 use Rattle.cdb_slice.specs.Flagged.{flagged, unflagged}
-use Rattle.cdb_slice.proofs.Parting.{few_flagged, flags_slice, some_flagged}
+use Rattle.cdb_slice.proofs.SliceFlags.{few_flagged, flags_slice, some_flagged}
 use Rattle.cdb_slice.proofs.PlayedBack.{past_valid}
 use Rattle.cdb_slice.proofs.past.past_of.Goals as goal
 
@@ -34,14 +35,16 @@ played-requires g c =
     let flags = c.in_ok-flags.flags.items in
     let slice = flags_slice run.history c.args.position flags c.in_ok-flags.ensures in
     rw (c.as_slice-2.ensures.value, c.in_ok-events.ensures, c.as_slice.ensures.value, c.events.ensures)
-    (past_valid rules (g.T.Runs.same_state run.setup) run.setup keeps run.history c.args.position (flagged flags run.history) (unflagged flags run.history) c.requires.valid slice)
+    (past_valid rules (g.T.Runs.same_state run.setup) run.setup keeps run.history c.args.position
+    (flagged flags run.history) (unflagged flags run.history) c.requires.valid slice)
 
 pub returns-clause-past : goal.returns-clause-past
 returns-clause-past g c =
     let run : RunView = c.args.run.now in
     let flags = c.in_ok-flags.flags.items in
     let slice = flags_slice run.history c.args.position flags c.in_ok-flags.ensures in
-    let events : c.as_slice-2.result.now ≡ flagged flags run.history = rw (c.as_slice-2.ensures.value, c.in_ok-events.ensures, c.as_slice.ensures.value, c.events.ensures) refl in
+    let events : c.as_slice-2.result.now ≡ flagged flags run.history =
+    rw (c.as_slice-2.ensures.value, c.in_ok-events.ensures, c.as_slice.ensures.value, c.events.ensures) refl in
     let whole = sym c.into_parts-setup.ensures.run ∙ c.in_ok-again.ensures ∙ ap (with_history run) events in
     kept_as c.new.result (λ past is. (flagged flags run.history, unflagged flags run.history, slice, is ∙ whole)) c.new.ensures
 
@@ -53,7 +56,8 @@ pub returns-clause-some : goal.returns-clause-some
 returns-clause-some g c =
     let run : RunView = c.args.run.now in
     let flags = c.in_ok-flags.flags.items in
-    let events : c.as_slice-2.result.now ≡ flagged flags run.history = rw (c.as_slice-2.ensures.value, c.in_ok-events.ensures, c.as_slice.ensures.value, c.events.ensures) refl in
+    let events : c.as_slice-2.result.now ≡ flagged flags run.history =
+    rw (c.as_slice-2.ensures.value, c.in_ok-events.ensures, c.as_slice.ensures.value, c.events.ensures) refl in
     let whole = sym c.into_parts-setup.ensures.run ∙ c.in_ok-again.ensures ∙ ap (with_history run) events in
     let itself = (c.in_ok-flags.ensures.1 c.args.position).1 (inl refl) in
     let some = some_led run.history flags c.args.position c.requires.from_one c.requires.to_len itself in
@@ -63,6 +67,8 @@ pub returns-clause-few : goal.returns-clause-few
 returns-clause-few g c =
     let run : RunView = c.args.run.now in
     let flags = c.in_ok-flags.flags.items in
-    let events : c.as_slice-2.result.now ≡ flagged flags run.history = rw (c.as_slice-2.ensures.value, c.in_ok-events.ensures, c.as_slice.ensures.value, c.events.ensures) refl in
+    let events : c.as_slice-2.result.now ≡ flagged flags run.history =
+    rw (c.as_slice-2.ensures.value, c.in_ok-events.ensures, c.as_slice.ensures.value, c.events.ensures) refl in
     let whole = sym c.into_parts-setup.ensures.run ∙ c.in_ok-again.ensures ∙ ap (with_history run) events in
-    kept_as c.new.result (λ past is. subst (λ (r : RunView). length r.history ≤ length run.history) (sym (is ∙ whole)) (few_flagged flags run.history)) c.new.ensures
+    kept_as c.new.result
+    (λ past is. subst (λ (r : RunView). length r.history ≤ length run.history) (sym (is ∙ whole)) (few_flagged flags run.history)) c.new.ensures

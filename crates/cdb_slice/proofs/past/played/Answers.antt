@@ -18,4 +18,5 @@ pub loop-i-preserved : goal.loop-i-preserved
 loop-i-preserved g c =
     let run : RunView = with_history c.args.run.now c.args.events.now in
     let at = item_at refl c.loop-i.i c.index-events-i.result (omega arith) c.index-events-i.is in
-    next_along g.T.Runs.rules g.T.Runs.same_state g.met.T.Runs.histories run c.loop-i.i c.index-events-i.result at _ c.loop-i.invariant _ c.in_ok-take_next.ensures
+    next_along g.T.Runs.rules g.T.Runs.same_state g.met.T.Runs.histories run c.loop-i.i
+    c.index-events-i.result at _ c.loop-i.invariant _ c.in_ok-take_next.ensures

@@ -6,7 +6,7 @@ use Rattle.cdb_setup.specs.Parts.{AreInRange}
 use Rattle.cdb_slice.proofs.PlayedBack.{plays_back, sliced_valid}
 use Rattle.cdb_slice.specs.Scripts.{script_text}
 use Rattle.cdb_slice.specs.Slices.{AreSliced, IsSliceText}
-use Rattle.cdb_streams.proofs.Ending.{only_as}
+use Rattle.cdb_streams.proofs.StreamEnds.{only_as}
 use Rattle.cdb_streams.specs.Endings.{Complete, whole_ending}
 use Rattle.cdb_streams.specs.declared.buffer.OutputFault.TheVariants as output
 use Rattle.cdb_slice.proofs.slices.write_script.Goals as goal
@@ -36,7 +36,8 @@ returns-in_err-write_text-clause-wrote g c =
     let its : IsSliceText g.T.Runs.rules run c.args.step c.in_ok-text.text.items = (events, sliced, text_is, back) in
     let why = c.in_err-write_text.field-0.0 in
     rw (p.1, p.2, text_ends (Unit {0}) why)
-    (only_as g.W.Sink.stream (whole_ending {A = Unit {0}} (Err why)) c.args.out.now c.write_text.new.out c.in_ok-text.text.items (IsSliceText g.T.Runs.rules run c.args.step) its
+    (only_as g.W.Sink.stream (whole_ending {A = Unit {0}} (Err why)) c.args.out.now
+    c.write_text.new.out c.in_ok-text.text.items (IsSliceText g.T.Runs.rules run c.args.step) its
     (rw c.as_slice-2.ensures.value at c.in_err-write_text.ensures))
 
 pub returns-clause-wrote : goal.returns-clause-wrote

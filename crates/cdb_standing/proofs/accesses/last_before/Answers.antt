@@ -3,7 +3,7 @@ use Rattle.std.proofs.lemmas.Bool.{lt-ltb}
 use Rattle.std.proofs.lemmas.List.Sorted.{IsPartitionPoint-from_clause}
 use Rattle.cdb_standing.specs.declared.tables.Access.{Access}
 use Rattle.cdb_standing.proofs.Lasts.{none_before, last_found}
-use Rattle.cdb_standing.proofs.Listing.{rising_or}
+use Rattle.cdb_standing.proofs.ListedEvents.{rising_or}
 use Rattle.cdb_standing.proofs.accesses.last_before.Goals as goal
 
 pub returns-then-n-gt0 : goal.returns-then-n-gt0

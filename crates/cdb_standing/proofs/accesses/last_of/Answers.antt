@@ -1,7 +1,7 @@
 use Rattle.std.proofs.Common.{◌≡◌, suc, ◌+◌, ◌*◌, ◌<◌, length, subst, sym, ◌∙◌, arith}
 use Rattle.cdb_standing.specs.Accesses.{cell, IsRisingBy, IsLastBeforeOrNone}
 use Rattle.cdb_standing.specs.Tables.{rows_in, row_of}
-use Rattle.cdb_standing.proofs.Setting.{row_at}
+use Rattle.cdb_standing.proofs.RowUpdates.{row_at}
 use Rattle.cdb_standing.proofs.accesses.last_of.Goals as goal
 
 pub last_before-requires : goal.last_before-requires
@@ -14,7 +14,8 @@ last_before-requires c =
     let few = c.requires.few in
     let count = c.requires.count in
     let less : i < length table = omega (arith, low, few, count) in
-    subst IsRisingBy (row_at table i c.index-2.result.now less c.index-2.ensures ∙ sym c.deref.ensures.value) (subst (λ q. IsRisingBy (row_of (rows_in table) q)) e c.requires.rising)
+    subst IsRisingBy (row_at table i c.index-2.result.now less c.index-2.ensures ∙ sym c.deref.ensures.value)
+    (subst (λ q. IsRisingBy (row_of (rows_in table) q)) e c.requires.rising)
 
 pub returns : goal.returns
 returns c =
@@ -27,4 +28,5 @@ returns c =
     let count = c.requires.count in
     let less : i < length table = omega (arith, low, few, count) in
     subst (λ q. IsLastBeforeOrNone (row_of (rows_in table) q) c.args.mark c.last_before.result) (sym e)
-    (subst (λ l. IsLastBeforeOrNone l c.args.mark c.last_before.result) (sym (row_at table i c.index-2.result.now less c.index-2.ensures ∙ sym c.deref.ensures.value)) c.last_before.ensures)
+    (subst (λ l. IsLastBeforeOrNone l c.args.mark c.last_before.result)
+    (sym (row_at table i c.index-2.result.now less c.index-2.ensures ∙ sym c.deref.ensures.value)) c.last_before.ensures)

@@ -1,6 +1,6 @@
 use Rattle.std.proofs.Common.{ℕ, true≢false, inl, inr, sym, ◌∙◌, arith}
 use Rattle.cdb_standing.proofs.Between.{none_without, from_list, none_on_lists}
-use Rattle.cdb_standing.proofs.Mailing.{same_or_other}
+use Rattle.cdb_standing.proofs.MailRows.{same_or_other}
 use Rattle.cdb_standing.proofs.causes.is_hidden_from_step.Goals as goal
 
 pub returns-in_default : goal.returns-in_default
@@ -10,7 +10,8 @@ returns-in_default c = λ q l is.
 
 pub returns-then-is_between : goal.returns-then-is_between
 returns-then-is_between c = λ q l is.
-    from_list c.requires.kept.sound c.requires.at is c.requires.kept.accesses c.requires.kept.writes c.in-Some.n c.in-Some.ensures.few (sym c.in-Some.ensures.value)
+    from_list c.requires.kept.sound c.requires.at is c.requires.kept.accesses
+    c.requires.kept.writes c.in-Some.n c.in-Some.ensures.few (sym c.in-Some.ensures.value)
     c.new-s.result (omega arith) (omega arith) (c.is_between.ensures.0 c.if-is_between.true)
 
 pub loop-i-preserved : goal.loop-i-preserved
@@ -23,5 +24,6 @@ loop-i-preserved c = λ s one le.
 
 pub returns : goal.returns
 returns c = λ q l is.
-    none_on_lists c.requires.kept.sound c.requires.at is c.requires.kept.accesses c.requires.kept.writes c.in-Some.n c.in-Some.ensures.few (sym c.in-Some.ensures.value)
+    none_on_lists c.requires.kept.sound c.requires.at is c.requires.kept.accesses
+    c.requires.kept.writes c.in-Some.n c.in-Some.ensures.few (sym c.in-Some.ensures.value)
     (λ s one nine. c.loop-i.invariant s one (omega arith))

@@ -3,8 +3,8 @@ use Rattle.std.proofs.lemmas.Bool.{lt-ltb}
 use Rattle.std.proofs.lemmas.List.Sorted.{IsPartitionPoint-from_clause}
 use Rattle.cdb_standing.specs.Counts.{is_before}
 use Rattle.cdb_standing.specs.declared.tables.Access.{Access}
-use Rattle.cdb_standing.proofs.Counting.{counted_parted}
-use Rattle.cdb_standing.proofs.Listing.{rising_or}
+use Rattle.cdb_standing.proofs.PartCounts.{counted_parted}
+use Rattle.cdb_standing.proofs.ListedEvents.{rising_or}
 use Rattle.cdb_standing.proofs.compare.count_before.Goals as goal
 
 pub returns : goal.returns

@@ -1,9 +1,10 @@
 use Rattle.std.proofs.Common.{◌≡◌, ◌+◌, suc, refl, below_more, arith}
-use Rattle.cdb_standing.proofs.Losing.{all_messages}
+use Rattle.cdb_standing.proofs.Losses.{all_messages}
 use Rattle.cdb_standing.proofs.compare.lose_same.Goals as goal
 
 pub loop-j-preserved : goal.loop-j-preserved
-loop-j-preserved c = let one : suc c.loop-j.j ≡ c.loop-j.j + 1 = omega arith in below_more _ _ c.loop-j.invariant (rw one (c.if-not-lose_same_copies.ensures.0 refl))
+loop-j-preserved c = let one : suc c.loop-j.j ≡ c.loop-j.j + 1 = omega arith in
+    below_more _ _ c.loop-j.invariant (rw one (c.if-not-lose_same_copies.ensures.0 refl))
 
 pub returns : goal.returns
 returns c = ((λ yes. all_messages c.args.row.now c.args.other.now c.loop-j.j (omega arith) (omega arith) c.loop-j.invariant), (λ same. refl))

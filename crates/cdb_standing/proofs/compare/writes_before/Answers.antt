@@ -1,9 +1,9 @@
 use Rattle.std.proofs.Common.{◌≡◌, ◌+◌, ◌*◌, suc, sym, ap, ◌∙◌, arith}
 use Rattle.cdb_standing.specs.Accesses.{cell, written}
 use Rattle.cdb_standing.specs.Tables.{rows_in, row_of}
-use Rattle.cdb_standing.proofs.Counting.{left_all, left_none, next_counted}
-use Rattle.cdb_standing.proofs.Finding.{list_rising}
-use Rattle.cdb_standing.proofs.Setting.{row_at, rows_length}
+use Rattle.cdb_standing.proofs.PartCounts.{left_all, left_none, next_counted}
+use Rattle.cdb_standing.proofs.EarliestFound.{list_rising}
+use Rattle.cdb_standing.proofs.RowUpdates.{row_at, rows_length}
 use Rattle.cdb_standing.proofs.compare.writes_before.Goals as goal
 
 pub loop-i-init : goal.loop-i-init
@@ -19,9 +19,12 @@ count_before-count-requires c =
     let many = rows_length t.writes.items in
     let count = c.requires.kept.writes.count in
     let at : suc (i * 11 + c.args.n) ≡ cell (suc i) c.args.n = omega arith in
-    let is = ap (row_of (rows_in t.writes.items)) (sym at) ∙ row_at t.writes.items (i * 11 + c.args.n) c.index.result.now (omega arith) c.index.ensures ∙ sym c.deref.ensures.value in
+    let is =
+    ap (row_of (rows_in t.writes.items)) (sym at)
+    ∙ row_at t.writes.items (i * 11 + c.args.n) c.index.result.now (omega arith) c.index.ensures ∙ sym c.deref.ensures.value in
     rw (← is)
-    (list_rising t.next (rows_in t.steps.items) (rows_in t.sent.items) c.requires.kept.sound written (rows_in t.writes.items) c.requires.kept.writes (suc i) c.args.n (omega arith) (omega arith) c.requires.few)
+    (list_rising t.next (rows_in t.steps.items) (rows_in t.sent.items) c.requires.kept.sound written
+    (rows_in t.writes.items) c.requires.kept.writes (suc i) c.args.n (omega arith) (omega arith) c.requires.few)
 
 pub loop-i-preserved : goal.loop-i-preserved
 loop-i-preserved c =
@@ -30,9 +33,12 @@ loop-i-preserved c =
     let many = rows_length t.writes.items in
     let count = c.requires.kept.writes.count in
     let at : suc (i * 11 + c.args.n) ≡ cell (suc i) c.args.n = omega arith in
-    let is = ap (row_of (rows_in t.writes.items)) (sym at) ∙ row_at t.writes.items (i * 11 + c.args.n) c.index.result.now (omega arith) c.index.ensures ∙ sym c.deref.ensures.value in
+    let is =
+    ap (row_of (rows_in t.writes.items)) (sym at)
+    ∙ row_at t.writes.items (i * 11 + c.args.n) c.index.result.now (omega arith) c.index.ensures ∙ sym c.deref.ensures.value in
     let more =
-    next_counted t.next (rows_in t.steps.items) (rows_in t.sent.items) c.requires.kept.sound c.args.n c.args.mark i (omega arith) (rows_in t.writes.items) c.requires.kept.writes c.requires.few c.deref.result.now is
+    next_counted t.next (rows_in t.steps.items) (rows_in t.sent.items) c.requires.kept.sound c.args.n c.args.mark
+    i (omega arith) (rows_in t.writes.items) c.requires.kept.writes c.requires.few c.deref.result.now is
     c.count_before-count.result c.count_before-count.ensures in
     let few = more.0 in
     let rest = more.1 in

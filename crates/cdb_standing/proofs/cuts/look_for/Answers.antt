@@ -1,14 +1,15 @@
 use Rattle.std.proofs.Common.{◌≡◌, suc, slice_index, refl, subst, ap, ◌∙◌, sym, arith}
 use Rattle.cdb_standing.specs.Cuts.{cut_of, HasNoneBehind}
 use Rattle.cdb_standing.specs.Tables.{rows_in}
-use Rattle.cdb_standing.proofs.Cutting.{cut_at, lower_sound, lower_closed}
+use Rattle.cdb_standing.proofs.CutsFound.{cut_at, lower_sound, lower_closed}
 use Rattle.cdb_standing.proofs.cuts.look_for.Goals as goal
 
 pub returns-then-not-has_none_behind-clause-sound : goal.returns-then-not-has_none_behind-clause-sound
 returns-then-not-has_none_behind-clause-sound c = λ one behind reached was.
     let t = c.args.tables.now in
     let entry = c.args.entry.now in
-    lower_sound t.next (rows_in t.steps.items) (rows_in t.sent.items) c.requires.kept.sound c.args.p c.args.k entry.mark entry.kind c.requires.at one behind reached
+    lower_sound t.next (rows_in t.steps.items) (rows_in t.sent.items) c.requires.kept.sound
+    c.args.p c.args.k entry.mark entry.kind c.requires.at one behind reached
     c.args.q c.of_others.result c.of_others.ensures c.args.cuts.now c.lower.new.cuts c.lower.ensures was
 
 pub returns-then-not-has_none_behind-clause-closed : goal.returns-then-not-has_none_behind-clause-closed

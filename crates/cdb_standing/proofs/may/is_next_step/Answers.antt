@@ -1,7 +1,7 @@
 use Rattle.std.proofs.Common.{◌≡◌, suc, length, ap, eqb-true, eq-eqb, arith}
 use Rattle.cdb_standing.specs.Tables.{rows_in, row_of}
 use Rattle.cdb_standing.proofs.Places.{next_number, number_next}
-use Rattle.cdb_standing.proofs.Setting.{row_at, rows_length}
+use Rattle.cdb_standing.proofs.RowUpdates.{row_at, rows_length}
 use Rattle.cdb_standing.proofs.may.is_next_step.Goals as goal
 
 pub returns : goal.returns

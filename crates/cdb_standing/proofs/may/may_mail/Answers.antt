@@ -1,6 +1,6 @@
 use Rattle.std.proofs.Common.{◌≡◌, suc, length, ap, eqb-true, eq-eqb, arith}
 use Rattle.cdb_standing.specs.Tables.{rows_in, row_of}
-use Rattle.cdb_standing.proofs.Setting.{row_at}
+use Rattle.cdb_standing.proofs.RowUpdates.{row_at}
 use Rattle.cdb_standing.proofs.may.may_mail.Goals as goal
 
 pub returns-in-Send : goal.returns-in-Send

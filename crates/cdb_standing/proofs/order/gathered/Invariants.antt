@@ -8,7 +8,8 @@ use Rattle.cdb_standing.proofs.order.gathered.Given as goal
 
 abbrev pub invariant-loop-next : goal.invariant-loop-next
 invariant-loop-next l = record {
-  same : IsPermutation (all_from l.cuts (rows_in l.tables.steps.items) (rows_in l.tables.sent.items)) (l.found.items ++ all_from l.from (rows_in l.tables.steps.items) (rows_in l.tables.sent.items));
+  same : IsPermutation (all_from l.cuts (rows_in l.tables.steps.items) (rows_in l.tables.sent.items))
+      (l.found.items ++ all_from l.from (rows_in l.tables.steps.items) (rows_in l.tables.sent.items));
   long : length l.from ≡ 9;
   few : l.start < 9;
 }

@@ -1,7 +1,7 @@
 use Rattle.std.proofs.Common.{◌≡◌, length, Some, refl, arith}
 use Rattle.cdb_base.specs.Positions.{nth}
 use Rattle.cdb_standing.specs.Tables.{rows_in, row_of, loss_at}
-use Rattle.cdb_standing.proofs.Gathering.{next_indexed, all_added}
+use Rattle.cdb_standing.proofs.AllEvents.{next_indexed, all_added}
 use Rattle.cdb_standing.proofs.order.push_losses.Goals as goal
 
 pub loop-i-init : goal.loop-i-init
@@ -12,7 +12,8 @@ loop-i-preserved c =
     let long : length c.in-Some.it.now.copies ≡ 9 = omega arith in
     record {
       rest =
-          next_indexed (loss_at c.args.s c.args.m) c.in-Some.it.now.copies _ _ c.loop-i.found.items c.push_loss.new.found.items c.loop-i.i (omega arith) (omega arith) c.in_ok-push_loss.ensures
+          next_indexed (loss_at c.args.s c.args.m) c.in-Some.it.now.copies _ _ c.loop-i.found.items
+          c.push_loss.new.found.items c.loop-i.i (omega arith) (omega arith) c.in_ok-push_loss.ensures
           c.loop-i.invariant.rest;
       long = λ some. long;
     }

@@ -2,8 +2,8 @@ use Rattle.std.proofs.Common.{◌≡◌, suc, ◌+◌, ◌-◌, ◌++◌, length
 use Rattle.cdb_standing.specs.Cuts.{cut_of}
 use Rattle.cdb_standing.specs.Gathered.{of_step}
 use Rattle.cdb_standing.specs.Tables.{rows_in, row_of}
-use Rattle.cdb_standing.proofs.Cutting.{cut_at}
-use Rattle.cdb_standing.proofs.Setting.{got, row_at, rows_length}
+use Rattle.cdb_standing.proofs.CutsFound.{cut_at}
+use Rattle.cdb_standing.proofs.RowUpdates.{got, row_at, rows_length}
 use Rattle.cdb_standing.proofs.order.push_next.Goals as goal
 
 pub overflow_cast-j : goal.overflow_cast-j

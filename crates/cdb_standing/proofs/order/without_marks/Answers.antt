@@ -1,5 +1,5 @@
 use Rattle.std.proofs.Common.{refl, arith}
-use Rattle.cdb_standing.proofs.Gathering.{next_event, all_events}
+use Rattle.cdb_standing.proofs.AllEvents.{next_event, all_events}
 use Rattle.cdb_standing.proofs.order.without_marks.Goals as goal
 
 pub loop-it-init : goal.loop-it-init
@@ -10,7 +10,9 @@ loop-it-preserved c =
     let was = c.loop-it.invariant in
     let did = c.push_reserved.ensures in
     record {
-      items = next_event c.args.found.now c.loop-it.events.items c.push_reserved.new.self.items c.loop-it.it-index c.it-item.result (omega arith) c.it-item.is did.items was.items;
+      items =
+          next_event c.args.found.now c.loop-it.events.items c.push_reserved.new.self.items
+          c.loop-it.it-index c.it-item.result (omega arith) c.it-item.is did.items was.items;
       len = let l = was.len in let n = did.len in omega arith;
       capacity = let l = was.capacity in let n = did.capacity in omega arith;
     }

@@ -9,7 +9,8 @@ returns-in-Step c =
     let sound = c.look_behind.ensures.sound effect c.args.ahead itself (none_sound c.requires.kept.sound effect c.args.ahead) in
     rw c.in-Step.is
     (begun c.requires.kept.sound c.in-Step.p c.in-Step.k c.args.ahead c.in-Step.kind c.look_behind.new.numbers c.raise.new.numbers
-    (rw c.in-Step.is at c.requires.stands) c.raise.ensures (rw c.in-Step.is at sound) c.look_behind.ensures.few (rw c.in-Step.is at c.look_behind.ensures.within))
+    (rw c.in-Step.is at c.requires.stands) c.raise.ensures (rw c.in-Step.is at sound)
+    c.look_behind.ensures.few (rw c.in-Step.is at c.look_behind.ensures.within))
 
 pub returns-in-Lost : goal.returns-in-Lost
 returns-in-Lost c =

@@ -26,7 +26,8 @@ loop-i-preserved c =
           raise_sound c.requires.kept.sound q found old new c.raise.ensures one end
           (causes_led c.requires.kept.sound c.args.effect.now c.args.ahead q found last one end led) (was.sound one end led before);
       within =
-          causes_within c.requires.kept.sound c.args.effect.now c.args.ahead q found last old new c.raise.ensures c.loop-i.i (sym c.new-q.ensures.value) was.within;
+          causes_within c.requires.kept.sound c.args.effect.now c.args.ahead q found last
+          old new c.raise.ensures c.loop-i.i (sym c.new-q.ensures.value) was.within;
       higher = λ r.
           let more = raise_higher c.requires.kept.sound q found old new c.raise.ensures r in let before = was.higher r in omega arith;
       few =

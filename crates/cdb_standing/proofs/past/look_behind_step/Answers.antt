@@ -15,7 +15,8 @@ returns-in-Some c =
       sound = λ one end was. c.look_behind.ensures.sound one end (was c.args.q c.args.l entry.mark entry.kind here c.requires.own) was;
       looked = λ a kind at.
           let same = same_at (row_of (rows_in t.steps.items) c.args.q) c.args.l entry (entry_of a kind) here at in
-          subst (λ (e : Entry). HasCausesWithin (rows_in t.steps.items) (rows_in t.sent.items) (Step c.args.q c.args.l e.kind) e.mark 9 c.look_behind.new.numbers) same c.look_behind.ensures.within;
+          subst (λ (e : Entry). HasCausesWithin (rows_in t.steps.items) (rows_in t.sent.items)
+          (Step c.args.q c.args.l e.kind) e.mark 9 c.look_behind.new.numbers) same c.look_behind.ensures.within;
       higher = c.look_behind.ensures.higher;
       few = c.look_behind.ensures.few;
     }

@@ -8,7 +8,8 @@ loop-i-smaller c =
 pub loop-i-preserved : goal.loop-i-preserved
 loop-i-preserved c =
     goes_on c.requires.kept.sound c.in-Some.i c.in-Some.ensures.0 c.in-Some.ensures.1 c.loop-i.invariant _
-    c.look_behind_step.ensures.higher (c.look_behind_step.ensures.sound c.args.effect.now c.args.ahead c.loop-i.invariant.so_far.sound) (rw c.new.ensures.value at c.look_behind_step.ensures.looked) c.look_behind_step.ensures.few
+    c.look_behind_step.ensures.higher (c.look_behind_step.ensures.sound c.args.effect.now c.args.ahead c.loop-i.invariant.so_far.sound)
+    (rw c.new.ensures.value at c.look_behind_step.ensures.looked) c.look_behind_step.ensures.few
 
 pub returns : goal.returns
 returns c =

@@ -6,11 +6,13 @@ use Rattle.cdb_causal.specs.Names.{IsNewName, IsPositionOf}
 use Rattle.cdb_standing.specs.Moves.{IsNamed}
 use Rattle.cdb_standing.proofs.records.is_free.Goals as goal
 
-there : (history : List Event) (name : StepId) (o : Option Event) → is_some o ≡ true → MatchOption o (IsNewName history name) (IsNamed history name) → (at : ℕ) × IsPositionOf history name at
+there : (history : List Event) (name : StepId) (o : Option Event) → is_some o ≡ true
+    → MatchOption o (IsNewName history name) (IsNamed history name) → (at : ℕ) × IsPositionOf history name at
 there history name None e found = absurd (true≢false (sym e))
 there history name (Some event) e found = (found.0, found.1)
 
-new : (history : List Event) (name : StepId) (o : Option Event) → is_some o ≡ false → MatchOption o (IsNewName history name) (IsNamed history name) → IsNewName history name
+new : (history : List Event) (name : StepId) (o : Option Event) → is_some o ≡ false
+    → MatchOption o (IsNewName history name) (IsNamed history name) → IsNewName history name
 new history name None e found = found
 new history name (Some event) e found = absurd (true≢false e)
 
@@ -24,4 +26,5 @@ returns-in-None c =
     ((λ yes. (at.0, at.1.named, c.in-None.ensures at.0 at.1.named)), (λ free. refl))
 
 pub returns-in-Some : goal.returns-in-Some
-returns-in-Some c = ((λ e. absurd (true≢false (sym e))), (λ free. let dependent = c.in-Some.ensures free.0 free.1 in absurd (free.2 dependent.position dependent.link)))
+returns-in-Some c =
+    ((λ e. absurd (true≢false (sym e))), (λ free. let dependent = c.in-Some.ensures free.0 free.1 in absurd (free.2 dependent.position dependent.link)))

@@ -1,5 +1,5 @@
 use Rattle.std.proofs.Common.{arith}
-use Rattle.cdb_standing.proofs.Setting.{rows_same, room_made}
+use Rattle.cdb_standing.proofs.RowUpdates.{rows_same, room_made}
 use Rattle.cdb_standing.proofs.table.reserve_step_in.Goals as goal
 
 pub returns-then-len-capacity-clause-room : goal.returns-then-len-capacity-clause-room

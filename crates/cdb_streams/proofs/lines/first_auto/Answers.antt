@@ -1,6 +1,6 @@
 use Rattle.std.proofs.Common.{rules}
 use Rattle.std.proofs.lemmas.List.{take_rest}
-use Rattle.cdb_streams.proofs.Cutting.{cut_auto}
+use Rattle.cdb_streams.proofs.CutLines.{cut_auto}
 use Rattle.cdb_streams.proofs.lines.first_auto.Goals as goal
 
 pub returns-in-97-clause-lines : goal.returns-in-97-clause-lines

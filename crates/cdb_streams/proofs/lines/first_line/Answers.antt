@@ -2,7 +2,7 @@ use Rattle.std.proofs.Common.{◌≡◌, sym, rules, tests}
 use Rattle.std.specs.List.{position_or_len}
 use Rattle.std.proofs.lemmas.List.{take_rest}
 use Rattle.std.proofs.lemmas.List.Sums.{position_or_len_is}
-use Rattle.cdb_streams.proofs.Cutting.{is_newline, no_lines, cut_none, cut_first}
+use Rattle.cdb_streams.proofs.CutLines.{is_newline, no_lines, cut_none, cut_first}
 use Rattle.cdb_streams.proofs.lines.first_line.Goals as goal
 
 pub returns-in-Some-position-clause-lines : goal.returns-in-Some-position-clause-lines

@@ -17,7 +17,8 @@ returns-in_err-write_piece g c =
     let so = c.loop-piece.invariant in
     let failed = c.in_err-write_piece.ensures in
     rw p.1 (
-      beginning_of_all _ _ _ (pieces_text (take i pieces)) _ (pieces_text (drop (i + 1) pieces)) _ so.0 (parted_texts piece_text pieces i _ c.loop-piece-test.true) failed.0,
+      beginning_of_all _ _ _ (pieces_text (take i pieces)) _ (pieces_text (drop (i + 1) pieces))
+          _ so.0 (parted_texts piece_text pieces i _ c.loop-piece-test.true) failed.0,
       failed.1 ∙ ap one_more so.1,
     )
 

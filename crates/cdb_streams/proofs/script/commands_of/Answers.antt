@@ -1,6 +1,6 @@
 use Rattle.std.proofs.Common.{◌≡◌, ◌<◌, rules, length, refl}
 use Rattle.cdb_text.specs.declared.fault.LineFault.TheVariants.{Empty}
-use Rattle.cdb_streams.proofs.Reading.{begun, one_line, bad_line, ended, not_empty}
+use Rattle.cdb_streams.proofs.LinesRead.{begun, one_line, bad_line, ended, not_empty}
 use Rattle.cdb_streams.proofs.script.commands_of.Goals as goal
 
 pub loop-rest-preserved : goal.loop-rest-preserved
@@ -9,7 +9,8 @@ loop-rest-preserved c =
     let some : 0 < length line = not_empty line (λ none. let bad = (c.in-Ok.ensures.fault Empty).1 none in absurd cc) in
     let left : 0 < length c.loop-rest.rest.now = search rules in
     rw c.in_ok-push_command-in-Ok.ensures
-    (one_line c.args.script.now c.loop-rest.commands.items c.loop-rest.rest.now line c.first_line.result.1.now c.loop-rest.invariant c.first_line.ensures.lines c.in-Ok.command ((c.in-Ok.ensures.command c.in-Ok.command).0 refl) some left c.first_line.ensures.shorter c.first_line.ensures.newline)
+    (one_line c.args.script.now c.loop-rest.commands.items c.loop-rest.rest.now line c.first_line.result.1.now c.loop-rest.invariant c.first_line.ensures.lines
+    c.in-Ok.command ((c.in-Ok.ensures.command c.in-Ok.command).0 refl) some left c.first_line.ensures.shorter c.first_line.ensures.newline)
 
 pub returns-clause-commands : goal.returns-clause-commands
 returns-clause-commands c =
@@ -21,6 +22,8 @@ loop-rest-init c = rw c.in_ok-commands.ensures.items (begun c.args.script.now)
 
 pub returns-in-Err-clause-fault : goal.returns-in-Err-clause-fault
 returns-in-Err-clause-fault c =
-    let bad = bad_line c.args.script.now c.loop-rest.commands.items c.loop-rest.rest.now c.first_line.result.0.now c.first_line.result.1.now c.loop-rest.invariant c.first_line.ensures.lines c.in-Err.fault ((c.in-Err.ensures.fault c.in-Err.fault).0 refl) in
+    let bad =
+    bad_line c.args.script.now c.loop-rest.commands.items c.loop-rest.rest.now c.first_line.result.0.now c.first_line.result.1.now
+    c.loop-rest.invariant c.first_line.ensures.lines c.in-Err.fault ((c.in-Err.ensures.fault c.in-Err.fault).0 refl) in
     let number : c.len.result ≡ length c.loop-rest.commands.items = search rules in
     (search rules, rw number bad)

@@ -1,5 +1,5 @@
 use Rattle.std.proofs.Common.{length}
-use Rattle.cdb_streams.proofs.Reading.{IsUnderWay}
+use Rattle.cdb_streams.proofs.LinesRead.{IsUnderWay}
 use Rattle.cdb_streams.proofs.script.commands_of.Given as goal
 
 abbrev pub invariant-loop-rest : goal.invariant-loop-rest

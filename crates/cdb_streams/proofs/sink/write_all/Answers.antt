@@ -31,7 +31,8 @@ loop-done-preserved g c =
       written = (
         one_piece _ _ _ bytes done c.in_ok-count.count so.0 c.in_ok-count.ensures.bytes,
         c.in_ok-count.ensures.failures
-            ∙ ap (λ failed. counted failed (g.W.Sink.stream c.loop-done.out).failures) (no_failure c.in_ok-count.count (take (length bytes - done) (drop done bytes)) c.if-count-eq0.false)
+            ∙ ap (λ failed. counted failed (g.W.Sink.stream c.loop-done.out).failures)
+            (no_failure c.in_ok-count.count (take (length bytes - done) (drop done bytes)) c.if-count-eq0.false)
             ∙ so.1,
       );
     }

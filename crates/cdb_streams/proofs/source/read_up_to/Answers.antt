@@ -8,6 +8,8 @@ pub loop-buffer-preserved : goal.loop-buffer-preserved
 loop-buffer-preserved g c =
     record {
       within = grind (arith, common_steps);
-      taken = rw (c.in_ok-extend_from_slice.ensures.items, take-append-le c.in_ok-count.count c.read.new.buffer _ c.in_ok-count.ensures.within.0) (Consumes-trans _ _ _ _ _ c.loop-buffer.invariant.taken c.in_ok-count.ensures.bytes.0);
+      taken =
+          rw (c.in_ok-extend_from_slice.ensures.items, take-append-le c.in_ok-count.count c.read.new.buffer _ c.in_ok-count.ensures.within.0)
+          (Consumes-trans _ _ _ _ _ c.loop-buffer.invariant.taken c.in_ok-count.ensures.bytes.0);
       failures = c.in_ok-count.ensures.failures ∙ c.loop-buffer.invariant.failures;
     }

@@ -5,7 +5,8 @@ use Rattle.std.proofs.lemmas.Result.{err_from_is_err_and}
 use Rattle.cdb_text.specs.Entries.{BeginWithNoSeat}
 use Rattle.cdb_text.specs.Grammar.{words_of}
 use Rattle.cdb_text.proofs.Cut.{some_word}
-use Rattle.cdb_text.proofs.Entries.{empty_is_none, empty_is_empty, no_seat_is_none, no_seat_is_no_number, whole_entry, whole_has_no_fault, faulty_is_none, its_fault}
+use Rattle.cdb_text.proofs.Entries.{empty_is_none, empty_is_empty, no_seat_is_none, no_seat_is_no_number}
+use Rattle.cdb_text.proofs.Entries.{whole_entry, whole_has_no_fault, faulty_is_none, its_fault}
 use Rattle.cdb_text.proofs.entry.parse_entry.Goals as goal
 
 pub returns-then-is_empty-clause-entry : goal.returns-then-is_empty-clause-entry
@@ -37,7 +38,8 @@ returns-in_err-command-clause-entry c =
     let some : c.args.line.now ≢ [] = λ empty. eqb-false (length c.args.line.now) 0 (sym c.if-is_empty.ensures) (ap length empty) in
     let its = c.in_ok-seat.ensures.seat in
     rw (p.1, p.2)
-    (faulty_is_none c.args.line.now some c.in_ok-seat.seat c.seat.new.words its.0 (sym c.of-words.ensures ∙ its.1) c.in_err-command.field-0.0 c.in_err-command.ensures)
+    (faulty_is_none c.args.line.now some c.in_ok-seat.seat c.seat.new.words its.0
+    (sym c.of-words.ensures ∙ its.1) c.in_err-command.field-0.0 c.in_err-command.ensures)
 
 pub returns-in_err-command-clause-fault : goal.returns-in_err-command-clause-fault
 returns-in_err-command-clause-fault c =
@@ -45,7 +47,8 @@ returns-in_err-command-clause-fault c =
     let some : c.args.line.now ≢ [] = λ empty. eqb-false (length c.args.line.now) 0 (sym c.if-is_empty.ensures) (ap length empty) in
     let its = c.in_ok-seat.ensures.seat in
     rw (p.1, p.2)
-    (its_fault c.args.line.now some c.in_ok-seat.seat c.seat.new.words its.0 (sym c.of-words.ensures ∙ its.1) c.in_err-command.field-0.0 c.in_err-command.ensures)
+    (its_fault c.args.line.now some c.in_ok-seat.seat c.seat.new.words its.0
+    (sym c.of-words.ensures ∙ its.1) c.in_err-command.field-0.0 c.in_err-command.ensures)
 
 pub returns-clause-entry : goal.returns-clause-entry
 returns-clause-entry c =
@@ -57,4 +60,5 @@ pub returns-clause-fault : goal.returns-clause-fault
 returns-clause-fault c =
     let some : c.args.line.now ≢ [] = λ empty. eqb-false (length c.args.line.now) 0 (sym c.if-is_empty.ensures) (ap length empty) in
     let its = c.in_ok-seat.ensures.seat in
-    whole_has_no_fault c.args.line.now some c.in_ok-seat.seat c.seat.new.words its.0 (sym c.of-words.ensures ∙ its.1) c.in_ok-command.command c.in_ok-command.ensures
+    whole_has_no_fault c.args.line.now some c.in_ok-seat.seat c.seat.new.words its.0
+    (sym c.of-words.ensures ∙ its.1) c.in_ok-command.command c.in_ok-command.ensures

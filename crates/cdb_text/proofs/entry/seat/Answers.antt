@@ -9,8 +9,11 @@ returns-in_err-number-clause-fault c =
     rw (p.1, p.2) (no_number_found c.args.words.now c.in_err-number.field-0.0 c.requires c.in_err-number.ensures.next)
 
 pub returns-then-number-from-clause-fault : goal.returns-then-number-from-clause-fault
-returns-then-number-from-clause-fault c =
-    (refl, great_is_no_seat c.args.words.now c.in_ok-number.number c.number.new.self c.in_ok-number.ensures.next (omega (arith, c.if-number-from.true, c.from.ensures)))
+returns-then-number-from-clause-fault c = (
+  refl,
+  great_is_no_seat c.args.words.now c.in_ok-number.number c.number.new.self
+      c.in_ok-number.ensures.next (omega (arith, c.if-number-from.true, c.from.ensures)),
+)
 
 pub returns-clause-seat : goal.returns-clause-seat
 returns-clause-seat c =

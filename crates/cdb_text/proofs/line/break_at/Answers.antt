@@ -1,5 +1,5 @@
 use Rattle.std.proofs.Common.{rules}
-use Rattle.cdb_text.proofs.Reading.{break_at}
+use Rattle.cdb_text.proofs.ReaderSteps.{break_at}
 use Rattle.cdb_text.proofs.Behind.{break_read}
 use Rattle.cdb_text.proofs.line.break_at.Goals as goal
 

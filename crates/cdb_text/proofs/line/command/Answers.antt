@@ -1,6 +1,6 @@
 use Rattle.std.proofs.Common.{rules, []}
 use Rattle.cdb_text.specs.declared.keyword.Keyword.TheVariants as key
-use Rattle.cdb_text.proofs.Reading.{command_at}
+use Rattle.cdb_text.proofs.ReaderSteps.{command_at}
 use Rattle.cdb_text.proofs.Behind.{behind_word, command_read}
 use Rattle.cdb_text.proofs.line.command.Goals as goal
 

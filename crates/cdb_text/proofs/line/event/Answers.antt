@@ -1,5 +1,5 @@
 use Rattle.std.proofs.Common.{rules}
-use Rattle.cdb_text.proofs.Reading.{event_at}
+use Rattle.cdb_text.proofs.ReaderSteps.{event_at}
 use Rattle.cdb_text.proofs.Behind.{event_read}
 use Rattle.cdb_text.proofs.line.event.Goals as goal
 

@@ -1,5 +1,5 @@
 use Rattle.std.proofs.Common.{rules, arith}
-use Rattle.cdb_text.specs.Reading.{IsReadAfter}
+use Rattle.cdb_text.specs.Readers.{IsReadAfter}
 use Rattle.cdb_text.proofs.Short.{short_auto}
 use Rattle.cdb_text.proofs.line.short_auto.Goals as goal
 

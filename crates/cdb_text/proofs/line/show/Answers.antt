@@ -1,5 +1,5 @@
 use Rattle.std.proofs.Common.{rules}
-use Rattle.cdb_text.proofs.Reading.{show_at}
+use Rattle.cdb_text.proofs.ReaderSteps.{show_at}
 use Rattle.cdb_text.proofs.Behind.{show_read}
 use Rattle.cdb_text.proofs.line.show.Goals as goal
 

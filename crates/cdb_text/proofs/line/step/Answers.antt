@@ -1,7 +1,7 @@
 use Rattle.std.proofs.Common.{rules, [], ◌∷◌}
 use Rattle.std.specs.Prelude.{codes, decimal}
 use Rattle.cdb_text.specs.declared.keyword.Keyword.TheVariants as key
-use Rattle.cdb_text.proofs.Reading.{step_at}
+use Rattle.cdb_text.proofs.ReaderSteps.{step_at}
 use Rattle.cdb_text.proofs.Behind.{behind_word, behind_number, step_read}
 use Rattle.cdb_text.proofs.line.step.Goals as goal
 
@@ -26,10 +26,14 @@ unfolding step_at
 returns-in-Some-Crash c = step_read _ _ (search rules)
 
 pub returns-in-Some-Query : goal.returns-in-Some-Query
-returns-in-Some-Query c = behind_number (codes "step" ∷ []) _ _ _ _ c.in_ok-p.ensures.next (behind_word (codes "step" ∷ decimal c.in_ok-p.p ∷ []) _ _ _ key.Query _ c.in_ok-word.ensures (cc) c.query.ensures)
+returns-in-Some-Query c =
+    behind_number (codes "step" ∷ []) _ _ _ _ c.in_ok-p.ensures.next
+    (behind_word (codes "step" ∷ decimal c.in_ok-p.p ∷ []) _ _ _ key.Query _ c.in_ok-word.ensures (cc) c.query.ensures)
 
 pub returns-in-Some-Recv : goal.returns-in-Some-Recv
-returns-in-Some-Recv c = behind_number (codes "step" ∷ []) _ _ _ _ c.in_ok-p.ensures.next (behind_word (codes "step" ∷ decimal c.in_ok-p.p ∷ []) _ _ _ key.Recv _ c.in_ok-word.ensures (cc) c.recv.ensures)
+returns-in-Some-Recv c =
+    behind_number (codes "step" ∷ []) _ _ _ _ c.in_ok-p.ensures.next
+    (behind_word (codes "step" ∷ decimal c.in_ok-p.p ∷ []) _ _ _ key.Recv _ c.in_ok-word.ensures (cc) c.recv.ensures)
 
 pub returns-in_default : goal.returns-in_default
 unfolding step_at

@@ -5,13 +5,13 @@ use Rattle.cdb_agreement.specs.SameState.{ReachSameState}
 use Rattle.cdb_base.specs.declared.event.Event.{Event}
 use Rattle.cdb_deeds.specs.Deeds.{received_by_each}
 use Rattle.cdb_explain.proofs.Along.{next_along, next_valid}
-use Rattle.cdb_explain.proofs.Flagging.{flag_read}
+use Rattle.cdb_explain.proofs.Flags.{flag_read}
 use Rattle.cdb_rules.proofs.Flagged.{item_at}
 use Rattle.cdb_rules.specs.RunView.{RunView}
 use Rattle.cdb_setup.specs.Parts.{AreInRange}
 use Rattle.cdb_trail.specs.Oracle.{told_first}
 use Rattle.cdb_trail.specs.declared.oracle.Told.{Told}
-use Rattle.cdb_trail.proofs.Telling.{told_is, told_more}
+use Rattle.cdb_trail.proofs.OracleAnswers.{told_is, told_more}
 use Rattle.cdb_trail.proofs.oracle.tell_all.Goals as goal
 
 pub take_next-requires : goal.take_next-requires

@@ -1,7 +1,7 @@
 use Rattle.std.proofs.Common.{◌≡◌, ◌-◌, ℕ, suc, Some, sym, ap, ◌∙◌, arith}
 use Rattle.std.proofs.lemmas.Option.{slice_get-get_or}
 use Rattle.cdb_trail.specs.Flow.{Flow}
-use Rattle.cdb_trail.proofs.Originating.{unset_before}
+use Rattle.cdb_trail.proofs.ValueOrigins.{unset_before}
 use Rattle.cdb_trail.proofs.origins.last_setter.Goals as goal
 
 pub returns-then-sets-clause-last : goal.returns-then-sets-clause-last

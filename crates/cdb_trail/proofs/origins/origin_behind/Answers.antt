@@ -7,8 +7,8 @@ use Rattle.cdb_trail.specs.Flow.{Flow}
 use Rattle.cdb_trail.specs.Origins.{IsOrigin}
 use Rattle.cdb_trail.specs.Trails.{TakesInput}
 use Rattle.cdb_trail.specs.declared.origins.Origin.TheVariants.{Step, Input}
-use Rattle.cdb_trail.proofs.Originating.{fed_by, input_by, its_slot}
-use Rattle.cdb_trail.proofs.Playing.{flow_is, takes_none, lies_none, takes_it}
+use Rattle.cdb_trail.proofs.ValueOrigins.{fed_by, input_by, its_slot}
+use Rattle.cdb_trail.proofs.ReadsPlayed.{flow_is, takes_none, lies_none, takes_it}
 use Rattle.cdb_trail.proofs.WalkBack.{no_message, no_register, same_process}
 use Rattle.cdb_trail.proofs.origins.origin_behind.Goals as goal
 

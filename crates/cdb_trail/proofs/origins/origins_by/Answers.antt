@@ -7,8 +7,8 @@ use Rattle.cdb_trail.specs.Flow.{Flow}
 use Rattle.cdb_trail.specs.Origins.{IsOrigin}
 use Rattle.cdb_trail.specs.declared.origins.Origin.{Origin}
 use Rattle.cdb_trail.specs.Played.{AreFirstFlows}
-use Rattle.cdb_trail.proofs.Originating.{one_origin_more}
-use Rattle.cdb_trail.proofs.Playing.{next_valid, next_along, flow_is, one_flow_more}
+use Rattle.cdb_trail.proofs.ValueOrigins.{one_origin_more}
+use Rattle.cdb_trail.proofs.ReadsPlayed.{next_valid, next_along, flow_is, one_flow_more}
 use Rattle.cdb_trail.proofs.origins.origins_by.Goals as goal
 
 pub take_next-requires : goal.take_next-requires
@@ -38,9 +38,12 @@ loop-i-preserved g c =
       flows = subst (λ (found : List (Flow g.row.P-Slot.Denot)). AreFirstFlows table flows run found) (sym c.in_ok-push-2.ensures.items)
           (one_flow_more table flows run c.loop-i.flows.items i c.flow_of.result c.loop-i.invariant.number is c.loop-i.invariant.flows);
       count = search rules;
-      each = subst (λ (found : List (Option Origin)). (k : ℕ) (it : Option Origin) → slice_get found k ≡ Some it → IsOrigin (machine_in table run) flows run.history (suc k) it)
+      each =
+          subst (λ (found : List (Option Origin)).
+          (k : ℕ) (it : Option Origin) → slice_get found k ≡ Some it → IsOrigin (machine_in table run) flows run.history (suc k) it)
           (sym c.in_ok-push.ensures.items)
-          (one_origin_more (IsOrigin (machine_in table run) flows run.history) c.loop-i.origins.items i c.origin_behind.result c.loop-i.invariant.count origin c.loop-i.invariant.each);
+          (one_origin_more (IsOrigin (machine_in table run) flows run.history) c.loop-i.origins.items
+          i c.origin_behind.result c.loop-i.invariant.count origin c.loop-i.invariant.each);
     }
 
 pub returns : goal.returns

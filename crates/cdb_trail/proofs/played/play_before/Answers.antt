@@ -3,7 +3,7 @@ use Rattle.cdb_base.specs.declared.event.Event.{Event}
 use Rattle.cdb_rules.proofs.Flagged.{item_at}
 use Rattle.cdb_rules.specs.Runs.{with_history}
 use Rattle.cdb_trail.specs.Played.{AreFirstFlows}
-use Rattle.cdb_trail.proofs.Playing.{next_valid, next_along, flow_is, one_flow_more}
+use Rattle.cdb_trail.proofs.ReadsPlayed.{next_valid, next_along, flow_is, one_flow_more}
 use Rattle.cdb_trail.proofs.played.play_before.Goals as goal
 
 pub take_next-requires : goal.take_next-requires

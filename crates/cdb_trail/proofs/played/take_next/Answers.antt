@@ -20,7 +20,15 @@ unreachable-requires g c =
     let setup = c.args.again.now.setup in
     let range : AreInRange setup = subst AreInRange c.setup.ensures c.n-ranges.ensures.ranges in
     let laws = g.met.P.Process in
-    let lawful : IsLawful (machine_of table setup) = record { query = laws.query_by_state; recv = laws.recv_by_state; send = laws.wish_send; read = laws.wish_read; write = laws.wish_write; local = laws.wish_local } in
+    let lawful : IsLawful (machine_of table setup) =
+    record {
+      query = laws.query_by_state;
+      recv = laws.recv_by_state;
+      send = laws.wish_send;
+      read = laws.wish_read;
+      write = laws.wish_write;
+      local = laws.wish_local;
+    } in
     let enabled = last_enabled table setup range c.args.again.now.history c.args.event.now c.requires in
     let is = taken_again table setup range lawful c.args.again.now.history c.args.event.now enabled in
     true≢false (ap is_ok (sym is ∙ sym c.in_ok-again.ensures.returns ∙ c.in-Err.is))
@@ -31,7 +39,15 @@ returns g c =
     let setup = c.args.again.now.setup in
     let range : AreInRange setup = subst AreInRange c.setup.ensures c.n-ranges.ensures.ranges in
     let laws = g.met.P.Process in
-    let lawful : IsLawful (machine_of table setup) = record { query = laws.query_by_state; recv = laws.recv_by_state; send = laws.wish_send; read = laws.wish_read; write = laws.wish_write; local = laws.wish_local } in
+    let lawful : IsLawful (machine_of table setup) =
+    record {
+      query = laws.query_by_state;
+      recv = laws.recv_by_state;
+      send = laws.wish_send;
+      read = laws.wish_read;
+      write = laws.wish_write;
+      local = laws.wish_local;
+    } in
     let enabled = last_enabled table setup range c.args.again.now.history c.args.event.now c.requires in
     let is = taken_again table setup range lawful c.args.again.now.history c.args.event.now enabled in
     c.in_ok-again.ensures.after ∙ ap (with_result c.args.again.now) (c.in_ok-again.ensures.returns ∙ is)

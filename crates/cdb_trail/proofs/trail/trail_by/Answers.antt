@@ -6,7 +6,7 @@ use Rattle.cdb_rules.specs.Runs.{machine_in}
 use Rattle.cdb_trail.specs.Flow.{Flow}
 use Rattle.cdb_trail.specs.Played.{IsTrailTo, TakesFrom}
 use Rattle.cdb_trail.specs.Trails.{TakesValue, IsTrailOf}
-use Rattle.cdb_trail.proofs.Playing.{flow_is, takes_none, lies_none, takes_it}
+use Rattle.cdb_trail.proofs.ReadsPlayed.{flow_is, takes_none, lies_none, takes_it}
 use Rattle.cdb_trail.proofs.trail.trail_by.Goals as goal
 
 pub returns : goal.returns
@@ -57,8 +57,11 @@ walk_back-requires-clause-takes g c =
     let is = flow_is table flows run i event at c.in_ok-before.before along c.flow_of-flow.result c.flow_of-flow.ensures in
     let takes = ap (λ (f : Flow g.row.P-Slot.Denot). f.takes) (sym is) ∙ sym c.takes.ensures ∙ c.in-Some.is in
     let lies = sym c.value_at.ensures ∙ c.in-Some-value_at.is in
-    let has = c.requires.has_trails run.history c.requires.valid c.in-Some-value_at.value (suc i) (takes_it table flows run i c.in_ok-before.before along c.in-Some.from takes c.in-Some-value_at.value lies) in
-    let number : suc i ≡ length c.as_slice.result.now + 1 = (let same = ap length c.as_slice.ensures.value in let count = c.in_ok-before.ensures.number in omega (arith, same, count)) in
+    let has =
+    c.requires.has_trails run.history c.requires.valid c.in-Some-value_at.value (suc i)
+    (takes_it table flows run i c.in_ok-before.before along c.in-Some.from takes c.in-Some-value_at.value lies) in
+    let number : suc i ≡ length c.as_slice.result.now + 1 =
+    (let same = ap length c.as_slice.ensures.value in let count = c.in_ok-before.ensures.number in omega (arith, same, count)) in
     subst (λ n. TakesFrom table flows run n c.in-Some.from) number takes
 
 pub walk_back-requires-clause-has_trail : goal.walk_back-requires-clause-has_trail
@@ -76,8 +79,11 @@ walk_back-requires-clause-has_trail g c =
     let is = flow_is table flows run i event at c.in_ok-before.before along c.flow_of-flow.result c.flow_of-flow.ensures in
     let takes = ap (λ (f : Flow g.row.P-Slot.Denot). f.takes) (sym is) ∙ sym c.takes.ensures ∙ c.in-Some.is in
     let lies = sym c.value_at.ensures ∙ c.in-Some-value_at.is in
-    let has = c.requires.has_trails run.history c.requires.valid c.in-Some-value_at.value (suc i) (takes_it table flows run i c.in_ok-before.before along c.in-Some.from takes c.in-Some-value_at.value lies) in
-    let number : suc i ≡ length c.as_slice.result.now + 1 = (let same = ap length c.as_slice.ensures.value in let count = c.in_ok-before.ensures.number in omega (arith, same, count)) in
+    let has =
+    c.requires.has_trails run.history c.requires.valid c.in-Some-value_at.value (suc i)
+    (takes_it table flows run i c.in_ok-before.before along c.in-Some.from takes c.in-Some-value_at.value lies) in
+    let number : suc i ≡ length c.as_slice.result.now + 1 =
+    (let same = ap length c.as_slice.ensures.value in let count = c.in_ok-before.ensures.number in omega (arith, same, count)) in
     (has.0, has.1, subst (λ n. IsTrailTo table flows run has.0 n has.1) number has.2.is_trail)
 
 pub returns-in-Some-value_at : goal.returns-in-Some-value_at
@@ -95,10 +101,19 @@ returns-in-Some-value_at g c =
     let is = flow_is table flows run i event at c.in_ok-before.before along c.flow_of-flow.result c.flow_of-flow.ensures in
     let takes = ap (λ (f : Flow g.row.P-Slot.Denot). f.takes) (sym is) ∙ sym c.takes.ensures ∙ c.in-Some.is in
     let lies = sym c.value_at.ensures ∙ c.in-Some-value_at.is in
-    let has = c.requires.has_trails run.history c.requires.valid c.in-Some-value_at.value (suc i) (takes_it table flows run i c.in_ok-before.before along c.in-Some.from takes c.in-Some-value_at.value lies) in
-    let number : suc i ≡ length c.as_slice.result.now + 1 = (let same = ap length c.as_slice.ensures.value in let count = c.in_ok-before.ensures.number in omega (arith, same, count)) in
+    let has =
+    c.requires.has_trails run.history c.requires.valid c.in-Some-value_at.value (suc i)
+    (takes_it table flows run i c.in_ok-before.before along c.in-Some.from takes c.in-Some-value_at.value lies) in
+    let number : suc i ≡ length c.as_slice.result.now + 1 =
+    (let same = ap length c.as_slice.ensures.value in let count = c.in_ok-before.ensures.number in omega (arith, same, count)) in
     let found = c.in_ok-proposer-in-Some-value_at.ensures in
-    let same = c.requires.no_others run.history has.0 c.in_ok-proposer-in-Some-value_at.proposer (suc i) has.1 found.0 has.2.is_trail (subst (λ n. IsTrailTo table flows run c.in_ok-proposer-in-Some-value_at.proposer n found.0) (sym number) found.1) in
+    let same =
+    c.requires.no_others run.history has.0 c.in_ok-proposer-in-Some-value_at.proposer (suc i) has.1 found.0 has.2.is_trail
+    (subst (λ n. IsTrailTo table flows run c.in_ok-proposer-in-Some-value_at.proposer n found.0) (sym number) found.1) in
     let is_trail = subst (λ q. IsTrailOf (machine_in table run) flows run.setup.inputs run.history q c.in-Some-value_at.value (suc i) found.0) same.0
-    (subst (λ (xs : List ℕ). IsTrailOf (machine_in table run) flows run.setup.inputs run.history has.0 c.in-Some-value_at.value (suc i) xs) same.1 has.2) in
-    (found.0, subst (λ n. IsTrailOf (machine_in table run) flows run.setup.inputs run.history c.in_ok-proposer-in-Some-value_at.proposer c.in-Some-value_at.value n found.0) e is_trail, found.2)
+    (subst (λ (xs : List ℕ). IsTrailOf (machine_in table run) flows run.setup.inputs run.history has.0 c.in-Some-value_at.value (suc i) xs) same.1 has.2) in (
+      found.0,
+      subst (λ n. IsTrailOf (machine_in table run) flows run.setup.inputs run.history
+          c.in_ok-proposer-in-Some-value_at.proposer c.in-Some-value_at.value n found.0) e is_trail,
+      found.2,
+    )

@@ -1,11 +1,12 @@
-use Rattle.std.proofs.Common.{◌≡◌, ℕ, suc, ◌+◌, ◌-◌, ◌<◌, List, Bool, true, false, Contains, length, replicate, slice_set, rules, sym, ap, ◌∙◌, subst, true≢false, arith}
+use Rattle.std.proofs.Common.{◌≡◌, ℕ, suc, ◌+◌, ◌-◌, ◌<◌, List, Bool, true, false, Contains, length}
+use Rattle.std.proofs.Common.{replicate, slice_set, rules, sym, ap, ◌∙◌, subst, true≢false, arith}
 use Rattle.std.proofs.lemmas.Option.{none-some}
 use Rattle.cdb_base.specs.declared.event.Event.{Event}
 use Rattle.cdb_rules.specs.Runs.{machine_in}
 use Rattle.cdb_trail.specs.Flow.{Flow}
 use Rattle.cdb_trail.specs.Played.{IsTrailTo}
 use Rattle.cdb_trail.specs.Trails.{flow_at}
-use Rattle.cdb_trail.proofs.Playing.{read_is}
+use Rattle.cdb_trail.proofs.ReadsPlayed.{read_is}
 use Rattle.cdb_trail.proofs.WalkBack.{IsWalked, begun, passed, source, stepped, is_input, flags_trail, no_message, no_register, same_process}
 use Rattle.cdb_trail.proofs.walk.walk_back.Goals as goal
 
@@ -18,7 +19,8 @@ loop-i-init g c =
     let number : length c.events.result.now ≡ length history = ap length c.events.ensures in
     let next : length c.args.flows.now + 1 ≡ suc (length c.args.flows.now) = omega arith in
     let has = c.requires.has_trail in
-    subst (λ (f : List Bool). IsWalked machine flows history (length c.args.flows.now + 1) (length c.args.flows.now) c.args.from (slice_set f (length c.args.flows.now) true))
+    subst (λ (f : List Bool).
+    IsWalked machine flows history (length c.args.flows.now + 1) (length c.args.flows.now) c.args.from (slice_set f (length c.args.flows.now) true))
     (sym (filled ∙ ap (λ n. replicate n false) number))
     (begun machine flows history (length c.args.flows.now + 1) has.0 has.1 has.2 (length c.args.flows.now) next c.requires.within c.args.from c.requires.takes)
 
@@ -71,7 +73,8 @@ unreachable-requires-in-Message g c =
     let history : List Event = c.args.run.now.history in
     let e : c.loop-i.i ≡ 0 = omega arith in
     let so = subst (λ n. IsWalked machine flows history (length c.args.flows.now + 1) n c.loop-i.wanted c.loop-i.flags.items) e c.loop-i.invariant in
-    no_message so.proposer c.in-Message.field-0 c.in-Message.field-1 flows.input (sym (is_input machine flows history (length c.args.flows.now + 1) c.loop-i.wanted c.loop-i.flags.items so) ∙ c.in-Message.is)
+    no_message so.proposer c.in-Message.field-0 c.in-Message.field-1 flows.input
+    (sym (is_input machine flows history (length c.args.flows.now + 1) c.loop-i.wanted c.loop-i.flags.items so) ∙ c.in-Message.is)
 
 pub unreachable-requires-in-Register : goal.unreachable-requires-in-Register
 unreachable-requires-in-Register g c =
@@ -80,7 +83,8 @@ unreachable-requires-in-Register g c =
     let history : List Event = c.args.run.now.history in
     let e : c.loop-i.i ≡ 0 = omega arith in
     let so = subst (λ n. IsWalked machine flows history (length c.args.flows.now + 1) n c.loop-i.wanted c.loop-i.flags.items) e c.loop-i.invariant in
-    no_register so.proposer c.in-Register.field-0 flows.input (sym (is_input machine flows history (length c.args.flows.now + 1) c.loop-i.wanted c.loop-i.flags.items so) ∙ c.in-Register.is)
+    no_register so.proposer c.in-Register.field-0 flows.input
+    (sym (is_input machine flows history (length c.args.flows.now + 1) c.loop-i.wanted c.loop-i.flags.items so) ∙ c.in-Register.is)
 
 pub returns : goal.returns
 returns g c =

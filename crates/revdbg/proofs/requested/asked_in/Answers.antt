@@ -1,6 +1,6 @@
 use Rattle.std.proofs.Common.{List, [], ap, inl, inr, subst}
 use Rattle.clap.specs.Words.{Kinds}
-use Rattle.cdb_base.specs.Requests.{Asked, Text, asked_for, texts}
+use Rattle.cdb_base.specs.Requests.{RequestView, Text, asked_for, texts}
 use Rattle.revdbg.specs.Requested.{IsAskedBy, IsPerformed, IsRefusal, OrOutOfMemory}
 use Rattle.revdbg.proofs.Requests.{memory_has_no_kinds, only_memory, turns_named}
 use Rattle.revdbg.proofs.requested.asked_in.Goals as goal
@@ -12,7 +12,7 @@ pub returns-in-Ok-asked-clause-asked : goal.returns-in-Ok-asked-clause-asked
 returns-in-Ok-asked-clause-asked c =
     let said = c.in-Ok-asked.ensures in rw c.in-Ok.is
     (λ prompt action of. subst (λ (words : List Text). IsAskedBy prompt words action) (ap texts c.as_slice.ensures.value) (record {
-      plain = λ it line. inl (subst (λ (asked : Asked). IsPerformed prompt asked action) (said.plain it line).0 of);
+      plain = λ it line. inl (subst (λ (asked : RequestView). IsPerformed prompt asked action) (said.plain it line).0 of);
       taken = λ none. inl (asked_for c.in-Ok-asked.asked, said.ok, of);
       refused = λ some. absurd (some said.right);
     }))

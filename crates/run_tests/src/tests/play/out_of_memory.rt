@@ -1,6 +1,6 @@
-//! Out of memory in a play and in a race: nothing of a short transcript was written, and the same call with memory writes
-//! it all. In a session: it ends there, with what came before, and its next calls have the replies as if nothing had
-//! happened. To see it, let each allocation of these tests fail in turn.
+//! Out of memory in a play and in a race: nothing of a short transcript was written, and the same call with memory
+//! writes it all. In a session: it ends there, with what came before, and its next calls have the replies as if nothing
+//! had happened. To see it, let each allocation of these tests fail in turn.
 
 ghost use Rattle.std.specs.Prelude.{IfOk};
 ghost use Rattle.cdb_setup.specs.Format.{Encodes};

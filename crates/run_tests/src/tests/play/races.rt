@@ -132,8 +132,8 @@ fn gates<'a>(
     Ok(gates)
 }
 
-/// The text of a race of two processes and two scripts, where the sessions of the first two seats or of the last two hold
-/// each other up.
+/// The text of a race of two processes and two scripts, where the sessions of the first two seats or of the last two
+/// hold each other up.
 fn do_cross<R: Threads + Wait + Sync + AllocGlobal>(
     rt: &R,
     turns: u32,

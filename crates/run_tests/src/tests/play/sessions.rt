@@ -70,8 +70,8 @@ fn a_gate_stops_one_session_alone(rt: HostRuntime) {
     pair.end(&rt);
 }
 
-/// Serves the second seat with commands where the journal has room for one entry, and then drives the process from there,
-/// after which this many events stand.
+/// Serves the second seat with commands where the journal has room for one entry, and then drives the process from
+/// there, after which this many events stand.
 fn overfill<R: Wait + Abort + AllocGlobal>(
     rt: &R,
     commands: &[Command],

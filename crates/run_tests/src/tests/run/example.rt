@@ -121,8 +121,8 @@ impl Example {
         }
     }
 
-    /// Gives the run up: its setup and its history are dropped here. The proof of what drops a run itself goes through all
-    /// its parts.
+    /// Gives the run up: its setup and its history are dropped here. The proof of what drops a run itself goes through
+    /// all its parts.
     pub fn end(self) {
         let Example { run } = self;
         run.into_parts();

@@ -2,8 +2,9 @@
 
 ghost use Rattle.std.specs.Prelude.{◌≡◌, [], ◌∷◌, None};
 ghost use Rattle.cdb_base.specs.declared.refusal.Refusal.TheVariants.{NothingToRedo};
-ghost use Rattle.cdb_commands.specs.ToldReply.{Undone, Redone, RolledBack, History, Decisions, Refused};
-ghost use Rattle.run_tests.specs.WorkedJournals.{replies, query, send, plain_step, needed_by, undone_and_redone, rolled_back_and_redone};
+ghost use Rattle.cdb_commands.specs.ReplyView.{Undone, Redone, RolledBack, History, Decisions, Refused};
+ghost use Rattle.run_tests.specs.WorkedJournals.{replies, query, send, plain_step, needed_by};
+ghost use Rattle.run_tests.specs.WorkedJournals.{undone_and_redone, rolled_back_and_redone};
 
 use cdb_any_run::AnyRun;
 use cdb_control::laws;

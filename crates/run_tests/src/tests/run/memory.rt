@@ -37,7 +37,8 @@ impl Pair {
     }
 }
 
-/// Gives a command, and returns the number of the refusal, 0 where it is granted; or nothing where an allocation failed.
+/// Gives a command, and returns the number of the refusal, 0 where it is granted; or nothing where an allocation
+/// failed.
 fn give_once<R: Abort + AllocGlobal>(rt: &R, run: &mut Example, command: &Command) -> Option<u8> {
     match run.give(rt, command) {
         Ok(Ok(_)) => Some(0),
@@ -54,7 +55,8 @@ fn give_at_last<R: Abort + AllocGlobal>(rt: &R, run: &mut Example, command: &Com
     }
 }
 
-/// Gives a command to the run that is led. Where an allocation failed it looks like the one behind it, and is asked again.
+/// Gives a command to the run that is led. Where an allocation failed it looks like the one behind it, and is asked
+/// again.
 fn lead<R: Abort + AllocGlobal>(rt: &R, pair: &mut Pair, command: &Command) -> u8 {
     if let Some(number) = give_once(rt, &mut pair.run, command) {
         return number;
@@ -121,7 +123,8 @@ fn roll_back_once<R: Abort + AllocGlobal>(
     run.roll_back(rt, EventRef::Step(p, k), undone).is_ok()
 }
 
-/// Rolls a step back in the run that is led. Where an allocation failed run and list are as before, and it is asked again.
+/// Rolls a step back in the run that is led. Where an allocation failed run and list are as before, and it is asked
+/// again.
 fn roll_back<R: Abort + AllocGlobal>(
     rt: &R,
     pair: &mut Pair,

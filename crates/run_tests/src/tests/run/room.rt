@@ -52,7 +52,8 @@ const OF_ALL_THAT_GOES_BACK: [Row; 9] = [
     (1, [0, 0], "forget", "forgot 1\n", [0, 0]),
 ];
 
-/// Makes room for this many commands of a seat, at the second try where an allocation failed, which has changed no room.
+/// Makes room for this many commands of a seat, at the second try where an allocation failed, which has changed no
+/// room.
 fn make_room<R: Abort + AllocGlobal>(rt: &R, session: &mut Session, seat: u8, count: u32) {
     let before = session.rooms(rt);
     if session.reserve(rt, seat, count).is_err() {
@@ -107,7 +108,8 @@ fn undone_by(reply: &Reply) -> u16 {
     }
 }
 
-/// Gives an undo, at the first try, and returns the number of the step, 0 where it is refused, and the room that is left.
+/// Gives an undo, at the first try, and returns the number of the step, 0 where it is refused, and the room that is
+/// left.
 fn undo<R: Abort + AllocGlobal>(rt: &R, session: &mut Session, line: &str) -> (u16, u32) {
     let reply = session.try_line(rt, 1, line).expect(rt, line);
     let step = undone_by(&reply);

@@ -1,5 +1,5 @@
-//! Out of memory: each command of a worked example changes nothing where an allocation fails, and has its usual reply when it
-//! is given again. To see it, let each allocation of this test fail in turn, with the example in a file.
+//! Out of memory: each command of a worked example changes nothing where an allocation fails, and has its usual reply
+//! when it is given again. To see it, let each allocation of this test fail in turn, with the example in a file.
 
 use super::session::{Session, text_of};
 use cdb_control::Reply;

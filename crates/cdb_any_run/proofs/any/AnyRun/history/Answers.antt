@@ -1,6 +1,6 @@
 use Rattle.cdb_agreement.proofs.Numbered.{steps_numbered, sends_numbered}
 use Rattle.cdb_agreement.specs.Algorithms.{leader_machine, alpha_machine}
-use Rattle.cdb_agreement.specs.Numbering.{AreStepsNumbered, AreSendsNumbered}
+use Rattle.cdb_agreement.specs.StepNumbers.{AreStepsNumbered, AreSendsNumbered}
 use Rattle.cdb_any_run.proofs.Named.{in_leader, in_alpha}
 use Rattle.cdb_any_run.proofs.any.AnyRun.history.Goals as goal
 

@@ -29,6 +29,7 @@ returns c =
     let few : length registers.of_processes ≤ c.loop-p.p-index = omega (arith, fewer, range.processes, c.loop-p-test.false) in
     let all = all-cells registers c.loop-p.p-index c.cell-2.result cells few c.cell-2.ensures c.loop-p.invariant in
     elim c.match-cell-2.branch [
-      | in-Some-cell+in_ok-push-2 w ↦ ap (λ v. v.items) w.cells-is ∙ w.in_ok-push-2.ensures.items ∙ ap (λ o. cells ++ option_to_list o) (sym w.in-Some-cell.is) ∙ all
+      | in-Some-cell+in_ok-push-2 w ↦
+          ap (λ v. v.items) w.cells-is ∙ w.in_ok-push-2.ensures.items ∙ ap (λ o. cells ++ option_to_list o) (sym w.in-Some-cell.is) ∙ all
       | in_default-cell w ↦ ap (λ v. v.items) w.cells-is ∙ sym (append-nil cells) ∙ ap (λ o. cells ++ option_to_list o) (sym w.in_default-cell.is) ∙ all
     ]

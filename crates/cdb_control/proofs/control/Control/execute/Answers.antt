@@ -1,6 +1,6 @@
 use Rattle.std.proofs.Common.{ℕ, ◌+◌, ◌-◌, ◌<◌, ◌≤◌, arith, ap, ◌∙◌, sym, subst, List, [], ◌∷◌, ◌++◌, length, vec_len, vec_capacity, inl, inr, true≢false}
 use Rattle.std.proofs.lemmas.List.{length-map}
-use Rattle.cdb_commands.specs.ToldReply.{told, is_refused}
+use Rattle.cdb_commands.specs.ReplyView.{reply_view, is_refused}
 use Rattle.cdb_control.specs.declared.control.Entry.{Entry}
 use Rattle.cdb_control.specs.Commands.{Outcome, reply_of, outcome}
 use Rattle.cdb_control.specs.Headline.{Headline}
@@ -42,7 +42,7 @@ invariant_of-self-2 g c =
     let one_at_least = subst (λ (o : Outcome). 1 ≤ cost o.reply) (sym c.in-Ok.ensures.ok) spent.one in
     let rooms =
     ap (λ (l : List ℕ). rooms_at (n + 1) l) c.lower.ensures
-    ∙ sym (rooms-lowered room_ends (seat - 1) n (cost (told c.in-Ok.reply)) one_at_least (omega (arith, many, seats, low)))
+    ∙ sym (rooms-lowered room_ends (seat - 1) n (cost (reply_view c.in-Ok.reply)) one_at_least (omega (arith, many, seats, low)))
     ∙ ap (λ (o : Outcome). lowered (rooms_at n room_ends) seat o.reply) c.in-Ok.ensures.ok in
     let more = c.make_room.ensures.capacity in
     let room =
@@ -67,7 +67,9 @@ returns-clause-journal g c =
     let to_last = c.requires.to_last in
     let from_one = c.requires.from_one in
     let lists = was.0.lists in
-    let same = obey-setup rules i.state.state c.perform.new.self.state (g.met.R.Runs.lawful i.state.state.setup was.0.in_range) seat c.args.command from_one (omega (arith, high, to_last, lists)) after in
+    let same =
+    obey-setup rules i.state.state c.perform.new.self.state (g.met.R.Runs.lawful i.state.state.setup was.0.in_range)
+    seat c.args.command from_one (omega (arith, high, to_last, lists)) after in
     let room_ends = i.room_ends.items in
     let n = vec_len i.journal in
     let many = length-map room_ends (λ room_end. room_end - n) in
@@ -79,7 +81,7 @@ returns-clause-journal g c =
     let rooms =
     ap (λ (m : ℕ). rooms_at m c.lower.new.room_ends.items) long
     ∙ ap (λ (l : List ℕ). rooms_at (n + 1) l) c.lower.ensures
-    ∙ sym (rooms-lowered room_ends (seat - 1) n (cost (told c.in-Ok.reply)) one_at_least (omega (arith, many, seats, high, to_last, from_one, lists)))
+    ∙ sym (rooms-lowered room_ends (seat - 1) n (cost (reply_view c.in-Ok.reply)) one_at_least (omega (arith, many, seats, high, to_last, from_one, lists)))
     ∙ ap (λ (o : Outcome). lowered (rooms_at n room_ends) seat o.reply) c.in-Ok.ensures.ok
     ∙ ap (λ (t : State). lowered (rooms_at n room_ends) seat (reply_of rules t seat c.args.command)) (sym was.0.replayed) in
     (λ j. let v : Journaled = record { setup = same j; seats = i.seats; journal = added j; rooms = rooms j } in v)
@@ -97,9 +99,12 @@ invariant_of-self-in-Err g c =
     let room_ends = i.room_ends.items in
     let n = vec_len i.journal in
     let same = c.in-Err.ensures.err in
-    let room = HoldsRooms-kept n (vec_capacity i.journal) (vec_capacity c.make_room.new.journal) (rooms_at n room_ends) i.state next was.1 c.make_room.ensures.capacity same c.perform.ensures.capacities in (
+    let room =
+    HoldsRooms-kept n (vec_capacity i.journal) (vec_capacity c.make_room.new.journal) (rooms_at n room_ends)
+    i.state next was.1 c.make_room.ensures.capacity same c.perform.ensures.capacities in (
       subst (λ (t : State). IsReplayed (rules t.setup) t.setup i.seats c.make_room.new.journal.items t) (sym same)
-          (subst (λ (l : List Entry). IsReplayed (rules i.state.state.setup) i.state.state.setup i.seats l i.state.state) (sym c.make_room.ensures.items) was.0),
+          (subst (λ (l : List Entry). IsReplayed (rules i.state.state.setup) i.state.state.setup i.seats l i.state.state)
+          (sym c.make_room.ensures.items) was.0),
       subst (λ (m : ℕ). HoldsRooms m (vec_capacity c.make_room.new.journal) (rooms_at m room_ends) next) (sym c.make_room.ensures.len) room,
     )
 
@@ -116,14 +121,16 @@ returns-in-Err-clause-headline g c =
     let run = g.R.Runs in
     let laws = g.met.R.Runs in
     let next = c.perform.new.self.state in
-    replayed-headline run.rules run.same_state laws.lawful laws.histories next.setup c.self.inside.seats c.make_room.new.journal.items next (invariant_of-self-in-Err g c).0
+    replayed-headline run.rules run.same_state laws.lawful laws.histories next.setup
+    c.self.inside.seats c.make_room.new.journal.items next (invariant_of-self-in-Err g c).0
 
 pub returns-clause-headline : goal.returns-clause-headline
 returns-clause-headline g c =
     let run = g.R.Runs in
     let laws = g.met.R.Runs in
     let next = c.perform.new.self.state in
-    replayed-headline run.rules run.same_state laws.lawful laws.histories next.setup c.self.inside.seats c.push_entry.new.journal.items next (invariant_of-self-2 g c).0
+    replayed-headline run.rules run.same_state laws.lawful laws.histories next.setup
+    c.self.inside.seats c.push_entry.new.journal.items next (invariant_of-self-2 g c).0
 
 pub returns-in-Err-clause-spared : goal.returns-in-Err-clause-spared
 returns-in-Err-clause-spared g c = λ needs refused same.
@@ -131,7 +138,8 @@ returns-in-Err-clause-spared g c = λ needs refused same.
     let rules = g.R.Runs.rules in
     let seat = c.args.seat in
     let command = c.args.command in
-    let some : 0 < room_of (rooms_at (vec_len i.journal) i.room_ends.items) seat = subst (λ (v : Journaled). 0 < room_of v.rooms seat) (sym c.self.view_is) needs.0 in
+    let some : 0 < room_of (rooms_at (vec_len i.journal) i.room_ends.items) seat =
+    subst (λ (v : Journaled). 0 < room_of v.rooms seat) (sym c.self.view_is) needs.0 in
     let events_kept = c.self.invariant.1.lists (seat - 1) some in
     let as_shown =
     ap (λ (t : State). is_refused (reply_of (rules i.state.state.setup) t seat command)) (sym c.self.invariant.0.replayed)

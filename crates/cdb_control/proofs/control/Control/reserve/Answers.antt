@@ -33,9 +33,11 @@ invariant_of-self-2 g c =
     ∙ rooms-raised room_ends (seat - 1) n count (omega (arith, many, seats, low)) in
     let room =
     HoldsRooms-raised n (vec_capacity i.journal) (vec_capacity c.reserve.new.self) (rooms_at n room_ends) seat count i.state next was.1 low
-    c.in_ok-reserve-2.ensures.state (omega (arith, enough, same_len)) c.reserve.ensures.capacity c.in_ok-reserve-2.ensures.ok c.reserve-2.ensures.capacities in (
+    c.in_ok-reserve-2.ensures.state (omega (arith, enough, same_len))
+    c.reserve.ensures.capacity c.in_ok-reserve-2.ensures.ok c.reserve-2.ensures.capacities in (
       subst (λ (t : State). IsReplayed (g.R.Runs.rules t.setup) t.setup i.seats c.reserve.new.self.items t) (sym c.in_ok-reserve-2.ensures.state)
-          (subst (λ (l : List Entry). IsReplayed (g.R.Runs.rules i.state.state.setup) i.state.state.setup i.seats l i.state.state) (sym c.reserve.ensures.items) was.0),
+          (subst (λ (l : List Entry). IsReplayed (g.R.Runs.rules i.state.state.setup) i.state.state.setup i.seats l i.state.state)
+          (sym c.reserve.ensures.items) was.0),
       subst (λ (m : ℕ). HoldsRooms m (vec_capacity c.reserve.new.self) (rooms_at m c.raise.new.room_ends.items) next) (sym same_len)
           (subst (λ (l : List ℕ). HoldsRooms n (vec_capacity c.reserve.new.self) l next) (sym rooms) room),
     )
@@ -74,9 +76,12 @@ invariant_of-self-in_err-reserve-2 g c =
     let grown = c.reserve.new.self in
     let rooms = rooms_at (vec_len i.journal) i.room_ends.items in
     let same = c.in_err-reserve-2.ensures.state in
-    let room = HoldsRooms-kept (vec_len i.journal) (vec_capacity i.journal) (vec_capacity grown) rooms i.state next was.1 c.reserve.ensures.capacity same c.reserve-2.ensures.capacities in (
+    let room =
+    HoldsRooms-kept (vec_len i.journal) (vec_capacity i.journal) (vec_capacity grown) rooms
+    i.state next was.1 c.reserve.ensures.capacity same c.reserve-2.ensures.capacities in (
       subst (λ (t : State). IsReplayed (g.R.Runs.rules t.setup) t.setup i.seats grown.items t) (sym same)
-          (subst (λ (l : List Entry). IsReplayed (g.R.Runs.rules i.state.state.setup) i.state.state.setup i.seats l i.state.state) (sym c.reserve.ensures.items) was.0),
+          (subst (λ (l : List Entry). IsReplayed (g.R.Runs.rules i.state.state.setup) i.state.state.setup i.seats l i.state.state)
+          (sym c.reserve.ensures.items) was.0),
       subst (λ (m : ℕ). HoldsRooms m (vec_capacity grown) (rooms_at m i.room_ends.items) next) (sym c.reserve.ensures.len) room,
     )
 

@@ -14,8 +14,19 @@ returns-in-Err-2-clause-ok g c =
     let r = c.in_ok-event.field-0 in
     let did = c.in_ok-event.ensures in
     let open_now = sym (ap (λ (v : StoredState). v.state.pause) c.self.view_is) ∙ c.in_default.is in
-    let returned = did.returns ∙ ap (λ (v : StoredState). let rules = g.R.Runs.rules v.state.setup in step_of_chosen (rules.step v.state.history p) (first_act_of rules v.state.history p)) c.self.view_is in
+    let returned =
+    did.returns ∙ ap (λ (v : StoredState).
+    let rules = g.R.Runs.rules v.state.setup in step_of_chosen (rules.step v.state.history p) (first_act_of rules v.state.history p)) c.self.view_is in
     let after =
-    (λ j. let u : State = record { setup = (did.after j).setup; history = (did.after j).history; stops = c.self.inside.breakpoints.stops; next = c.self.inside.breakpoints.next; pause = c.self.inside.pause; redo = map (λ (l : StoredList). l.events) c.self.inside.redo.items } in u)
+    (λ j. let u : State = record {
+      setup = (did.after j).setup;
+      history = (did.after j).history;
+      stops = c.self.inside.breakpoints.stops;
+      next =
+          c.self.inside.breakpoints.next;
+      pause = c.self.inside.pause;
+      redo = map (λ (l : StoredList). l.events) c.self.inside.redo.items;
+    } in u)
     ∙ ap (λ (v : StoredState). taken_in v.state r) c.self.view_is in
-    rw c.refused-in-Err-2.ensures (λ seat. auto_refused-as rules now.state _ seat p first r c.in-Err-2.refusal (c.in-Ok.ensures.free first) open_now returned after c.in-Err-2.is)
+    rw c.refused-in-Err-2.ensures
+    (λ seat. auto_refused-as rules now.state _ seat p first r c.in-Err-2.refusal (c.in-Ok.ensures.free first) open_now returned after c.in-Err-2.is)

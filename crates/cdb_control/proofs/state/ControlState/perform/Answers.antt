@@ -9,9 +9,13 @@ returns-in-Step g c =
     let did = c.step.ensures in
     let now = c.args.self.now in
     record {
-      ok = any_ok g.R.Runs.rules now.state c.step.new.self.state c.args.seat (command.Step c.in-Step.p c.in-Step.act) c.args.command c.in-Step.is c.step.result did.ok;
+      ok =
+          any_ok g.R.Runs.rules now.state c.step.new.self.state c.args.seat
+          (command.Step c.in-Step.p c.in-Step.act) c.args.command c.in-Step.is c.step.result did.ok;
       err = did.err;
-      memory = any_granted g.R.Runs.rules now.state now.state c.args.seat (command.Step c.in-Step.p c.in-Step.act) c.args.command c.in-Step.is c.step.result did.memory;
+      memory =
+          any_granted g.R.Runs.rules now.state now.state c.args.seat
+          (command.Step c.in-Step.p c.in-Step.act) c.args.command c.in-Step.is c.step.result did.memory;
       capacities = as_many now.capacities c.step.new.self.capacities did.kept;
       spared = search rules;
     }
@@ -33,9 +37,13 @@ returns-in-Lose g c =
     let did = c.lose.ensures in
     let now = c.args.self.now in
     record {
-      ok = any_ok g.R.Runs.rules now.state c.lose.new.self.state c.args.seat (command.Lose c.in-Lose.s c.in-Lose.m c.in-Lose.p) c.args.command c.in-Lose.is c.lose.result did.ok;
+      ok =
+          any_ok g.R.Runs.rules now.state c.lose.new.self.state c.args.seat
+          (command.Lose c.in-Lose.s c.in-Lose.m c.in-Lose.p) c.args.command c.in-Lose.is c.lose.result did.ok;
       err = did.err;
-      memory = any_granted g.R.Runs.rules now.state now.state c.args.seat (command.Lose c.in-Lose.s c.in-Lose.m c.in-Lose.p) c.args.command c.in-Lose.is c.lose.result did.memory;
+      memory =
+          any_granted g.R.Runs.rules now.state now.state c.args.seat
+          (command.Lose c.in-Lose.s c.in-Lose.m c.in-Lose.p) c.args.command c.in-Lose.is c.lose.result did.memory;
       capacities = as_many now.capacities c.lose.new.self.capacities did.kept;
       spared = search rules;
     }
@@ -59,9 +67,13 @@ returns-in-UndoLost g c =
     let t = c.args.self.now.state in
     let rules_there = g.R.Runs.rules t.setup in
     record {
-      ok = undo_lost_ok rules_there t c.undo-in-UndoLost.new.self.state c.args.seat c.in-UndoLost.s c.in-UndoLost.m c.in-UndoLost.p c.args.command c.undo-in-UndoLost.result c.in-UndoLost.is did.ok;
+      ok =
+          undo_lost_ok rules_there t c.undo-in-UndoLost.new.self.state c.args.seat c.in-UndoLost.s
+          c.in-UndoLost.m c.in-UndoLost.p c.args.command c.undo-in-UndoLost.result c.in-UndoLost.is did.ok;
       err = did.err;
-      memory = undo_lost_granted rules_there t c.args.seat c.in-UndoLost.s c.in-UndoLost.m c.in-UndoLost.p c.args.command c.undo-in-UndoLost.result c.in-UndoLost.is did.memory;
+      memory =
+          undo_lost_granted rules_there t c.args.seat c.in-UndoLost.s c.in-UndoLost.m
+          c.in-UndoLost.p c.args.command c.undo-in-UndoLost.result c.in-UndoLost.is did.memory;
       capacities = did.capacities;
       spared = λ spared space. did.spared space;
     }
@@ -81,22 +93,26 @@ returns-in-Redo g c =
 pub returns-in-Rollback-clause-ok : goal.returns-in-Rollback-clause-ok
 returns-in-Rollback-clause-ok g c =
     let t = c.args.self.now.state in
-    rollback_ok (g.R.Runs.rules t.setup) t c.rollback.new.self.state c.args.seat c.in-Rollback.p c.in-Rollback.k c.args.command c.rollback.result c.in-Rollback.is c.rollback.ensures.ok
+    rollback_ok (g.R.Runs.rules t.setup) t c.rollback.new.self.state c.args.seat c.in-Rollback.p
+    c.in-Rollback.k c.args.command c.rollback.result c.in-Rollback.is c.rollback.ensures.ok
 
 pub returns-in-Rollback-clause-memory : goal.returns-in-Rollback-clause-memory
 returns-in-Rollback-clause-memory g c =
     let t = c.args.self.now.state in
-    rollback_granted (g.R.Runs.rules t.setup) t c.args.seat c.in-Rollback.p c.in-Rollback.k c.args.command c.rollback.result c.in-Rollback.is c.rollback.ensures.memory
+    rollback_granted (g.R.Runs.rules t.setup) t c.args.seat c.in-Rollback.p c.in-Rollback.k
+    c.args.command c.rollback.result c.in-Rollback.is c.rollback.ensures.memory
 
 pub returns-in-RollbackLost-clause-ok : goal.returns-in-RollbackLost-clause-ok
 returns-in-RollbackLost-clause-ok g c =
     let t = c.args.self.now.state in
-    rollback_lost_ok (g.R.Runs.rules t.setup) t c.rollback-in-RollbackLost.new.self.state c.args.seat c.in-RollbackLost.s c.in-RollbackLost.m c.in-RollbackLost.p c.args.command c.rollback-in-RollbackLost.result c.in-RollbackLost.is c.rollback-in-RollbackLost.ensures.ok
+    rollback_lost_ok (g.R.Runs.rules t.setup) t c.rollback-in-RollbackLost.new.self.state c.args.seat c.in-RollbackLost.s c.in-RollbackLost.m
+    c.in-RollbackLost.p c.args.command c.rollback-in-RollbackLost.result c.in-RollbackLost.is c.rollback-in-RollbackLost.ensures.ok
 
 pub returns-in-RollbackLost-clause-memory : goal.returns-in-RollbackLost-clause-memory
 returns-in-RollbackLost-clause-memory g c =
     let t = c.args.self.now.state in
-    rollback_lost_granted (g.R.Runs.rules t.setup) t c.args.seat c.in-RollbackLost.s c.in-RollbackLost.m c.in-RollbackLost.p c.args.command c.rollback-in-RollbackLost.result c.in-RollbackLost.is c.rollback-in-RollbackLost.ensures.memory
+    rollback_lost_granted (g.R.Runs.rules t.setup) t c.args.seat c.in-RollbackLost.s c.in-RollbackLost.m c.in-RollbackLost.p
+    c.args.command c.rollback-in-RollbackLost.result c.in-RollbackLost.is c.rollback-in-RollbackLost.ensures.memory
 
 pub returns-in-Why-clause-ok : goal.returns-in-Why-clause-ok
 returns-in-Why-clause-ok g c =
@@ -111,9 +127,11 @@ returns-in-Why-clause-memory g c =
 pub returns-in-WhyLost-clause-ok : goal.returns-in-WhyLost-clause-ok
 returns-in-WhyLost-clause-ok g c =
     let t = c.args.self.now.state in
-    why_lost_ok (g.R.Runs.rules t.setup) t c.args.seat c.in-WhyLost.s c.in-WhyLost.m c.in-WhyLost.p c.args.command c.why-in-WhyLost.result c.in-WhyLost.is c.why-in-WhyLost.ensures.ok
+    why_lost_ok (g.R.Runs.rules t.setup) t c.args.seat c.in-WhyLost.s c.in-WhyLost.m c.in-WhyLost.p
+    c.args.command c.why-in-WhyLost.result c.in-WhyLost.is c.why-in-WhyLost.ensures.ok
 
 pub returns-in-WhyLost-clause-memory : goal.returns-in-WhyLost-clause-memory
 returns-in-WhyLost-clause-memory g c =
     let t = c.args.self.now.state in
-    why_lost_granted (g.R.Runs.rules t.setup) t c.args.seat c.in-WhyLost.s c.in-WhyLost.m c.in-WhyLost.p c.args.command c.why-in-WhyLost.result c.in-WhyLost.is c.why-in-WhyLost.ensures.memory
+    why_lost_granted (g.R.Runs.rules t.setup) t c.args.seat c.in-WhyLost.s c.in-WhyLost.m c.in-WhyLost.p
+    c.args.command c.why-in-WhyLost.result c.in-WhyLost.is c.why-in-WhyLost.ensures.memory

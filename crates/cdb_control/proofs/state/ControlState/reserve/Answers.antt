@@ -9,7 +9,9 @@ use Rattle.cdb_control.proofs.state.ControlState.reserve.Goals as goal
 pub returns-clause-state : goal.returns-clause-state
 returns-clause-state g c =
     let now = c.args.self.now in
-    let w = swap now c.self.inside.redo.items c.args.seat c.index_mut.result.now c.reserve.new.self (ap (λ (v : StoredState). v.state.redo) c.self.view_is) (ap (λ (v : StoredState). v.capacities) c.self.view_is) c.requires.from_one c.requires.to_last c.index_mut.ensures.value in
+    let w =
+    swap now c.self.inside.redo.items c.args.seat c.index_mut.result.now c.reserve.new.self (ap (λ (v : StoredState). v.state.redo) c.self.view_is)
+    (ap (λ (v : StoredState). v.capacities) c.self.view_is) c.requires.from_one c.requires.to_last c.index_mut.ensures.value in
     let list = w.put ∙ ap (λ (l : List Event). set now.state.redo (c.args.seat - 1) l) (c.reserve.ensures.events ∙ sym w.at) in
     let lists = map (λ (l : StoredList). l.events) (set c.self.inside.redo.items (c.args.seat - 1) c.reserve.new.self) in
     ap (λ (v : StoredState). let u : State = record v.state { redo = lists } in u) c.self.view_is
@@ -19,12 +21,16 @@ returns-clause-state g c =
 pub returns-clause-ok : goal.returns-clause-ok
 returns-clause-ok g c =
     let now = c.args.self.now in
-    let w = swap now c.self.inside.redo.items c.args.seat c.index_mut.result.now c.reserve.new.self (ap (λ (v : StoredState). v.state.redo) c.self.view_is) (ap (λ (v : StoredState). v.capacities) c.self.view_is) c.requires.from_one c.requires.to_last c.index_mut.ensures.value in
+    let w =
+    swap now c.self.inside.redo.items c.args.seat c.index_mut.result.now c.reserve.new.self (ap (λ (v : StoredState). v.state.redo) c.self.view_is)
+    (ap (λ (v : StoredState). v.capacities) c.self.view_is) c.requires.from_one c.requires.to_last c.index_mut.ensures.value in
     subst (λ (m : ℕ). OnOk c.reserve.result (length (redo_of now.state c.args.seat) + c.args.additional ≤ m)) (sym w.placed)
     (subst (λ (l : List Event). OnOk c.reserve.result (length l + c.args.additional ≤ c.reserve.new.self.capacity)) (sym w.at) c.reserve.ensures.ok)
 
 pub returns-clause-capacities : goal.returns-clause-capacities
 returns-clause-capacities g c =
     let now = c.args.self.now in
-    let w = swap now c.self.inside.redo.items c.args.seat c.index_mut.result.now c.reserve.new.self (ap (λ (v : StoredState). v.state.redo) c.self.view_is) (ap (λ (v : StoredState). v.capacities) c.self.view_is) c.requires.from_one c.requires.to_last c.index_mut.ensures.value in
+    let w =
+    swap now c.self.inside.redo.items c.args.seat c.index_mut.result.now c.reserve.new.self (ap (λ (v : StoredState). v.state.redo) c.self.view_is)
+    (ap (λ (v : StoredState). v.capacities) c.self.view_is) c.requires.from_one c.requires.to_last c.index_mut.ensures.value in
     w.grown c.reserve.ensures.capacity

@@ -1,7 +1,7 @@
 use Rattle.std.proofs.Common.{◌≡◌, false, length, refl, subst, IsOk, ◌-◌, ap, ◌∙◌, sym, List, set, map}
 use Rattle.cdb_base.specs.declared.event.Event.{Event}
-use Rattle.cdb_commands.specs.ToldReply.{is_refused}
-use Rattle.cdb_commands.specs.ToldReply as reply
+use Rattle.cdb_commands.specs.ReplyView.{is_refused}
+use Rattle.cdb_commands.specs.ReplyView as reply
 use Rattle.cdb_control.specs.Commands.{rollback, undone_by}
 use Rattle.cdb_control.proofs.Steps.{on_error, unchanged, rolled_back-as, rollback_refused-as, granted_goes_on, alone_ok}
 use Rattle.cdb_control.proofs.Room.{swap}
@@ -16,17 +16,34 @@ pub returns-clause-ok : goal.returns-clause-ok
 returns-clause-ok g c =
     let now = c.args.self.now in
     let name = name_given c.args.event in
-    let w = swap now c.self.inside.redo.items c.args.seat c.index_mut-list.result.now c.rollback.new.self (ap (λ (v : StoredState). v.state.redo) c.self.view_is) (ap (λ (v : StoredState). v.capacities) c.self.view_is) c.requires.from_one c.requires.to_last c.index_mut-list.ensures.value in
+    let w =
+    swap now c.self.inside.redo.items c.args.seat c.index_mut-list.result.now c.rollback.new.self (ap (λ (v : StoredState). v.state.redo) c.self.view_is)
+    (ap (λ (v : StoredState). v.capacities) c.self.view_is) c.requires.from_one c.requires.to_last c.index_mut-list.ensures.value in
     let x = rollback_of now.state.setup.processes now.state.history name in
     let x0 = rollback_of (g.R.Runs.run c.self.inside.run).setup.processes (g.R.Runs.run c.self.inside.run).history name in
     let r = c.in_ok-count.field-0 in
     let did = c.in_ok-count.ensures.rolled_back in
-    let returned = did.returns ∙ ap (λ (v : StoredState). number_removed (result_alone (rollback_of v.state.setup.processes v.state.history name))) c.self.view_is in
+    let returned =
+    did.returns ∙ ap (λ (v : StoredState). number_removed (result_alone (rollback_of v.state.setup.processes v.state.history name))) c.self.view_is in
     let lists = map (λ (l : StoredList). l.events) (set c.self.inside.redo.items (c.args.seat - 1) c.rollback.new.self) in
-    let list = w.put ∙ ap (λ (l : List Event). set now.state.redo (c.args.seat - 1) l) (did.list ∙ ap (λ (l : List Event). with_removed l (result_alone x0)) (sym w.at) ∙ ap (λ (v : StoredState). with_removed (redo_of now.state c.args.seat) (result_alone (rollback_of v.state.setup.processes v.state.history name))) c.self.view_is) in
+    let list =
+    w.put ∙ ap (λ (l : List Event). set now.state.redo (c.args.seat - 1) l) (did.list ∙ ap (λ (l : List Event). with_removed l (result_alone x0)) (sym w.at)
+    ∙ ap (λ (v : StoredState). with_removed (redo_of now.state c.args.seat) (result_alone (rollback_of v.state.setup.processes v.state.history name)))
+    c.self.view_is) in
     let after =
-    (λ j. let u : State = record { setup = (did.after j).setup; history = (did.after j).history; stops = c.self.inside.breakpoints.stops; next = c.self.inside.breakpoints.next; pause = c.self.inside.pause; redo = list j } in u)
-    ∙ ap (λ (v : StoredState). let u : State = record v.state { history = left_by v.state.history (rollback_of v.state.setup.processes v.state.history name); redo = set now.state.redo (c.args.seat - 1) (with_removed (redo_of now.state c.args.seat) (result_alone x)) } in u) c.self.view_is in
+    (λ j. let u : State = record {
+      setup = (did.after j).setup;
+      history = (did.after j).history;
+      stops =
+          c.self.inside.breakpoints.stops;
+      next = c.self.inside.breakpoints.next;
+      pause = c.self.inside.pause;
+      redo = list j;
+    } in u)
+    ∙ ap (λ (v : StoredState). let u : State = record v.state {
+      history = left_by v.state.history (rollback_of v.state.setup.processes v.state.history name);
+      redo = set now.state.redo (c.args.seat - 1) (with_removed (redo_of now.state c.args.seat) (result_alone x));
+    } in u) c.self.view_is in
     elim c.match-branch-2.branch [
       | in-Ok w ↦ rw w.result-is (rolled_back-as now.state _ c.args.seat x r w.in-Ok.count returned after w.in-Ok.is)
       | in-Err w ↦ rw w.result-is (rw w.refused.ensures (rollback_refused-as now.state _ c.args.seat x r w.in-Err.refusal _ returned after w.in-Err.is))
@@ -35,25 +52,40 @@ returns-clause-ok g c =
 pub returns-clause-capacities : goal.returns-clause-capacities
 returns-clause-capacities g c =
     let now = c.args.self.now in
-    let w = swap now c.self.inside.redo.items c.args.seat c.index_mut-list.result.now c.rollback.new.self (ap (λ (v : StoredState). v.state.redo) c.self.view_is) (ap (λ (v : StoredState). v.capacities) c.self.view_is) c.requires.from_one c.requires.to_last c.index_mut-list.ensures.value in
+    let w =
+    swap now c.self.inside.redo.items c.args.seat c.index_mut-list.result.now c.rollback.new.self (ap (λ (v : StoredState). v.state.redo) c.self.view_is)
+    (ap (λ (v : StoredState). v.capacities) c.self.view_is) c.requires.from_one c.requires.to_last c.index_mut-list.ensures.value in
     w.grown c.rollback.ensures.capacity
 
 pub returns-in_err-count-clause-err : goal.returns-in_err-count-clause-err
 returns-in_err-count-clause-err g c =
     let now = c.args.self.now in
-    let w = swap now c.self.inside.redo.items c.args.seat c.index_mut-list.result.now c.rollback.new.self (ap (λ (v : StoredState). v.state.redo) c.self.view_is) (ap (λ (v : StoredState). v.capacities) c.self.view_is) c.requires.from_one c.requires.to_last c.index_mut-list.ensures.value in
+    let w =
+    swap now c.self.inside.redo.items c.args.seat c.index_mut-list.result.now c.rollback.new.self (ap (λ (v : StoredState). v.state.redo) c.self.view_is)
+    (ap (λ (v : StoredState). v.capacities) c.self.view_is) c.requires.from_one c.requires.to_last c.index_mut-list.ensures.value in
     let did = c.in_err-count.ensures.rolled_back in
     let list = w.put ∙ ap (λ (l : List Event). set now.state.redo (c.args.seat - 1) l) (did.list_err ∙ sym w.at) in
     let after =
-    (λ j. let u : State = record { setup = (did.err j).setup; history = (did.err j).history; stops = c.self.inside.breakpoints.stops; next = c.self.inside.breakpoints.next; pause = c.self.inside.pause; redo = list j } in u)
-    ∙ ap (λ (v : StoredState). let u : State = record v.state { redo = set now.state.redo (c.args.seat - 1) (redo_of now.state c.args.seat) } in u) c.self.view_is
+    (λ j. let u : State = record {
+      setup = (did.err j).setup;
+      history = (did.err j).history;
+      stops =
+          c.self.inside.breakpoints.stops;
+      next = c.self.inside.breakpoints.next;
+      pause = c.self.inside.pause;
+      redo = list j;
+    } in u)
+    ∙ ap (λ (v : StoredState).
+    let u : State = record v.state { redo = set now.state.redo (c.args.seat - 1) (redo_of now.state c.args.seat) } in u) c.self.view_is
     ∙ unchanged now.state c.args.seat in
     on_error c.from_residual.result after
 
 pub returns-in_err-count-clause-capacities : goal.returns-in_err-count-clause-capacities
 returns-in_err-count-clause-capacities g c =
     let now = c.args.self.now in
-    let w = swap now c.self.inside.redo.items c.args.seat c.index_mut-list.result.now c.rollback.new.self (ap (λ (v : StoredState). v.state.redo) c.self.view_is) (ap (λ (v : StoredState). v.capacities) c.self.view_is) c.requires.from_one c.requires.to_last c.index_mut-list.ensures.value in
+    let w =
+    swap now c.self.inside.redo.items c.args.seat c.index_mut-list.result.now c.rollback.new.self (ap (λ (v : StoredState). v.state.redo) c.self.view_is)
+    (ap (λ (v : StoredState). v.capacities) c.self.view_is) c.requires.from_one c.requires.to_last c.index_mut-list.ensures.value in
     w.grown c.rollback.ensures.capacity
 
 pub returns-in_err-count-clause-memory : goal.returns-in_err-count-clause-memory
@@ -62,7 +94,9 @@ returns-in_err-count-clause-memory g c =
     let name = name_given c.args.event in
     let removed = rollback_of now.state.setup.processes now.state.history name in
     let taken : is_refused (rollback now.state c.args.seat name).reply ≡ false =
-    granted_goes_on removed now.state (λ (done : List Event × List Event). record { reply = reply.RolledBack (length done.0); after = undone_by now.state c.args.seat done.0 done.1 })
-    (alone_ok removed (subst (λ (v : StoredState). IsOk (result_alone (rollback_of v.state.setup.processes v.state.history name))) c.self.view_is c.in_err-count.ensures.rolled_back.memory))
+    granted_goes_on removed now.state
+    (λ (done : List Event × List Event). record { reply = reply.RolledBack (length done.0); after = undone_by now.state c.args.seat done.0 done.1 })
+    (alone_ok removed (subst (λ (v : StoredState). IsOk (result_alone (rollback_of v.state.setup.processes v.state.history name)))
+    c.self.view_is c.in_err-count.ensures.rolled_back.memory))
     (λ done. refl) in
     on_error c.from_residual.result taken

@@ -1,7 +1,7 @@
 use Rattle.std.proofs.Common.{◌≡◌, false, [], ◌∷◌, refl, subst, IsOk, arith, ◌-◌, ap, ◌∙◌, sym, length, List, set, map}
 use Rattle.cdb_base.specs.declared.event.Event.{Event}
-use Rattle.cdb_commands.specs.ToldReply.{is_refused}
-use Rattle.cdb_commands.specs.ToldReply as reply
+use Rattle.cdb_commands.specs.ReplyView.{is_refused}
+use Rattle.cdb_commands.specs.ReplyView as reply
 use Rattle.cdb_control.specs.Commands.{undo, undone_by}
 use Rattle.cdb_control.proofs.Steps.{on_error, unchanged, undone-as, undo_refused-as, granted_goes_on, alone_ok}
 use Rattle.cdb_control.proofs.Room.{swap}
@@ -17,7 +17,9 @@ pub returns-clause-ok : goal.returns-clause-ok
 returns-clause-ok g c =
     let now = c.args.self.now in
     let name = name_given c.args.event in
-    let w = swap now c.self.inside.redo.items c.args.seat c.index_mut-list.result.now c.undo.new.self (ap (λ (v : StoredState). v.state.redo) c.self.view_is) (ap (λ (v : StoredState). v.capacities) c.self.view_is) c.requires.from_one c.requires.to_last c.index_mut-list.ensures.value in
+    let w =
+    swap now c.self.inside.redo.items c.args.seat c.index_mut-list.result.now c.undo.new.self (ap (λ (v : StoredState). v.state.redo) c.self.view_is)
+    (ap (λ (v : StoredState). v.capacities) c.self.view_is) c.requires.from_one c.requires.to_last c.index_mut-list.ensures.value in
     let x = undo_of now.state.setup.processes now.state.history name in
     let r = c.in_ok-event.field-0 in
     let did = c.in_ok-event.ensures in
@@ -25,8 +27,19 @@ returns-clause-ok g c =
     let lists = map (λ (l : StoredList). l.events) (set c.self.inside.redo.items (c.args.seat - 1) c.undo.new.self) in
     let list = w.put ∙ ap (λ (l : List Event). set now.state.redo (c.args.seat - 1) l) (did.list ∙ ap (λ (l : List Event). with_taken l r) (sym w.at)) in
     let after =
-    (λ j. let u : State = record { setup = (did.after j).setup; history = (did.after j).history; stops = c.self.inside.breakpoints.stops; next = c.self.inside.breakpoints.next; pause = c.self.inside.pause; redo = list j } in u)
-    ∙ ap (λ (v : StoredState). let u : State = record v.state { history = left_by v.state.history (undo_of v.state.setup.processes v.state.history name); redo = set now.state.redo (c.args.seat - 1) (with_taken (redo_of now.state c.args.seat) r) } in u) c.self.view_is in
+    (λ j. let u : State = record {
+      setup = (did.after j).setup;
+      history = (did.after j).history;
+      stops =
+          c.self.inside.breakpoints.stops;
+      next = c.self.inside.breakpoints.next;
+      pause = c.self.inside.pause;
+      redo = list j;
+    } in u)
+    ∙ ap (λ (v : StoredState). let u : State = record v.state {
+      history = left_by v.state.history (undo_of v.state.setup.processes v.state.history name);
+      redo = set now.state.redo (c.args.seat - 1) (with_taken (redo_of now.state c.args.seat) r);
+    } in u) c.self.view_is in
     elim c.match-branch-2.branch [
       | in-Ok w ↦ rw w.result-is (undone-as now.state _ c.args.seat x r w.in-Ok.event returned after w.in-Ok.is)
       | in-Err w ↦ rw w.result-is (rw w.refused.ensures (undo_refused-as now.state _ c.args.seat x r w.in-Err.refusal _ returned after w.in-Err.is))
@@ -35,7 +48,9 @@ returns-clause-ok g c =
 pub returns-clause-capacities : goal.returns-clause-capacities
 returns-clause-capacities g c =
     let now = c.args.self.now in
-    let w = swap now c.self.inside.redo.items c.args.seat c.index_mut-list.result.now c.undo.new.self (ap (λ (v : StoredState). v.state.redo) c.self.view_is) (ap (λ (v : StoredState). v.capacities) c.self.view_is) c.requires.from_one c.requires.to_last c.index_mut-list.ensures.value in
+    let w =
+    swap now c.self.inside.redo.items c.args.seat c.index_mut-list.result.now c.undo.new.self (ap (λ (v : StoredState). v.state.redo) c.self.view_is)
+    (ap (λ (v : StoredState). v.capacities) c.self.view_is) c.requires.from_one c.requires.to_last c.index_mut-list.ensures.value in
     w.grown c.undo.ensures.capacity
 
 pub returns-clause-spared : goal.returns-clause-spared
@@ -48,7 +63,9 @@ returns-clause-spared g c =
 pub returns-in_err-event-clause-spared : goal.returns-in_err-event-clause-spared
 returns-in_err-event-clause-spared g c = λ more.
     let now = c.args.self.now in
-    let w = swap now c.self.inside.redo.items c.args.seat c.index_mut-list.result.now c.undo.new.self (ap (λ (v : StoredState). v.state.redo) c.self.view_is) (ap (λ (v : StoredState). v.capacities) c.self.view_is) c.requires.from_one c.requires.to_last c.index_mut-list.ensures.value in
+    let w =
+    swap now c.self.inside.redo.items c.args.seat c.index_mut-list.result.now c.undo.new.self (ap (λ (v : StoredState). v.state.redo) c.self.view_is)
+    (ap (λ (v : StoredState). v.capacities) c.self.view_is) c.requires.from_one c.requires.to_last c.index_mut-list.ensures.value in
     let long = ap (λ (l : List Event). length l) w.at in
     let position = w.position in
     absurd (let impossible = c.in_err-event.ensures.spared (omega (arith, long, position, more)) in cc)
@@ -56,19 +73,32 @@ returns-in_err-event-clause-spared g c = λ more.
 pub returns-in_err-event-clause-err : goal.returns-in_err-event-clause-err
 returns-in_err-event-clause-err g c =
     let now = c.args.self.now in
-    let w = swap now c.self.inside.redo.items c.args.seat c.index_mut-list.result.now c.undo.new.self (ap (λ (v : StoredState). v.state.redo) c.self.view_is) (ap (λ (v : StoredState). v.capacities) c.self.view_is) c.requires.from_one c.requires.to_last c.index_mut-list.ensures.value in
+    let w =
+    swap now c.self.inside.redo.items c.args.seat c.index_mut-list.result.now c.undo.new.self (ap (λ (v : StoredState). v.state.redo) c.self.view_is)
+    (ap (λ (v : StoredState). v.capacities) c.self.view_is) c.requires.from_one c.requires.to_last c.index_mut-list.ensures.value in
     let did = c.in_err-event.ensures in
     let list = w.put ∙ ap (λ (l : List Event). set now.state.redo (c.args.seat - 1) l) (did.list_err ∙ sym w.at) in
     let after =
-    (λ j. let u : State = record { setup = (did.err j).setup; history = (did.err j).history; stops = c.self.inside.breakpoints.stops; next = c.self.inside.breakpoints.next; pause = c.self.inside.pause; redo = list j } in u)
-    ∙ ap (λ (v : StoredState). let u : State = record v.state { redo = set now.state.redo (c.args.seat - 1) (redo_of now.state c.args.seat) } in u) c.self.view_is
+    (λ j. let u : State = record {
+      setup = (did.err j).setup;
+      history = (did.err j).history;
+      stops =
+          c.self.inside.breakpoints.stops;
+      next = c.self.inside.breakpoints.next;
+      pause = c.self.inside.pause;
+      redo = list j;
+    } in u)
+    ∙ ap (λ (v : StoredState).
+    let u : State = record v.state { redo = set now.state.redo (c.args.seat - 1) (redo_of now.state c.args.seat) } in u) c.self.view_is
     ∙ unchanged now.state c.args.seat in
     on_error c.from_residual.result after
 
 pub returns-in_err-event-clause-capacities : goal.returns-in_err-event-clause-capacities
 returns-in_err-event-clause-capacities g c =
     let now = c.args.self.now in
-    let w = swap now c.self.inside.redo.items c.args.seat c.index_mut-list.result.now c.undo.new.self (ap (λ (v : StoredState). v.state.redo) c.self.view_is) (ap (λ (v : StoredState). v.capacities) c.self.view_is) c.requires.from_one c.requires.to_last c.index_mut-list.ensures.value in
+    let w =
+    swap now c.self.inside.redo.items c.args.seat c.index_mut-list.result.now c.undo.new.self (ap (λ (v : StoredState). v.state.redo) c.self.view_is)
+    (ap (λ (v : StoredState). v.capacities) c.self.view_is) c.requires.from_one c.requires.to_last c.index_mut-list.ensures.value in
     w.grown c.undo.ensures.capacity
 
 pub returns-in_err-event-clause-memory : goal.returns-in_err-event-clause-memory
@@ -77,7 +107,9 @@ returns-in_err-event-clause-memory g c =
     let name = name_given c.args.event in
     let undone = undo_of now.state.setup.processes now.state.history name in
     let taken : is_refused (undo now.state c.args.seat name).reply ≡ false =
-    granted_goes_on undone now.state (λ (done : Event × List Event). record { reply = reply.Undone done.0; after = undone_by now.state c.args.seat (done.0 ∷ []) done.1 })
-    (alone_ok undone (subst (λ (v : StoredState). IsOk (result_alone (undo_of v.state.setup.processes v.state.history name))) c.self.view_is c.in_err-event.ensures.memory))
+    granted_goes_on undone now.state
+    (λ (done : Event × List Event). record { reply = reply.Undone done.0; after = undone_by now.state c.args.seat (done.0 ∷ []) done.1 })
+    (alone_ok undone
+    (subst (λ (v : StoredState). IsOk (result_alone (undo_of v.state.setup.processes v.state.history name))) c.self.view_is c.in_err-event.ensures.memory))
     (λ done. refl) in
     on_error c.from_residual.result taken

@@ -6,7 +6,7 @@ use Rattle.cdb_base.specs.declared.event.Kind.TheVariants.{Recv}
 use Rattle.cdb_base.specs.declared.name.MsgName.{MsgName}
 use Rattle.cdb_message.specs.Mail.{message_name}
 use Rattle.cdb_deeds.specs.Deeds.{received_by_each}
-use Rattle.cdb_deeds.proofs.Receiving.{names_read, received_more, row_read}
+use Rattle.cdb_deeds.proofs.ReceivedDeeds.{names_read, received_more, row_read}
 use Rattle.cdb_deeds.proofs.received.ReceivedNames.add.Goals as goal
 
 pub returns-in_ok-push : goal.returns-in_ok-push

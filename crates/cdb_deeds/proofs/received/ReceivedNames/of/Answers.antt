@@ -1,5 +1,5 @@
 use Rattle.std.proofs.Common.{◌<◌, ◌∙◌, map, arith}
-use Rattle.cdb_deeds.proofs.Receiving.{names_read, row_read}
+use Rattle.cdb_deeds.proofs.ReceivedDeeds.{names_read, row_read}
 use Rattle.cdb_deeds.proofs.received.ReceivedNames.of.Goals as goal
 
 pub returns : goal.returns

@@ -4,11 +4,11 @@ use Rattle.std.proofs.lemmas.List.{length-map}
 use Rattle.std.proofs.lemmas.Result.{IfOk-weaker}
 use Rattle.cdb_agreement.specs.Algorithms.{rules}
 use Rattle.cdb_base.specs.declared.event.Event.{Event}
-use Rattle.cdb_explain.specs.Left.{run_of}
+use Rattle.cdb_explain.specs.RunLeft.{run_of}
 use Rattle.cdb_control.specs.OneSeat.{carried_out}
 use Rattle.cdb_commands.specs.declared.command.Command.{Command}
 use Rattle.cdb_draw.specs.Frames.{frame_text, frame_weights}
-use Rattle.cdb_draw.proofs.Framing.{drawn_so, picture_at}
+use Rattle.cdb_draw.proofs.FramesFound.{drawn_so, picture_at}
 use Rattle.cdb_draw.proofs.frames.Frames.picture.Goals as goal
 
 pub returns : goal.returns
@@ -18,7 +18,8 @@ returns c =
     let setup = its.setup in
     let commands = its.commands.items in
     let stands = c.in_ok-run.ensures.is ∙ ap (λ (all : List Command). run_of rules (carried_out setup (take frame.commands all))) c.deref.ensures.value in
-    let weights = c.as_slice.ensures.value ∙ c.in_ok-weights.ensures.weights ∙ ap (λ (events : List Event). frame_weights frame.took (length events)) c.events.ensures in
+    let weights =
+    c.as_slice.ensures.value ∙ c.in_ok-weights.ensures.weights ∙ ap (λ (events : List Event). frame_weights frame.took (length events)) c.events.ensures in
     let below = rw (length-map its.frames.items (frame_text rules setup commands its.columns its.room)) at (rw (← c.self.view_is) at c.requires) in
     rw (← c.self.view_is)
     (IfOk-weaker c.held_picture.result _ _

@@ -1,7 +1,7 @@
 use Rattle.std.proofs.Common.{◌≤◌, arith}
 use Rattle.cdb_agreement.specs.Algorithms.{rules}
 use Rattle.cdb_draw.specs.Frames.{room_of}
-use Rattle.cdb_draw.proofs.Framing.{room_few}
+use Rattle.cdb_draw.proofs.FramesFound.{room_few}
 use Rattle.cdb_draw.proofs.frames.Frames.read.Goals as goal
 
 pub invariant_of-result : goal.invariant_of-result

@@ -18,4 +18,5 @@ pub returns-in-None : goal.returns-in-None
 returns-in-None c =
     let word = c.args.word.now in
     names_none word (λ is. false≢true (sym c.if-eq.false ∙ c.eq.ensures ∙ ap (λ w. bytes_eq w (codes "differ")) is))
-    (λ is. false≢true (sym c.if-eq-2.false ∙ c.eq-2.ensures ∙ ap (λ w. bytes_eq w (codes "all")) is)) (rw c.in_default.is at c.stuck_round.ensures) (rw c.in-None.is at c.decided.ensures)
+    (λ is. false≢true (sym c.if-eq-2.false ∙ c.eq-2.ensures ∙ ap (λ w. bytes_eq w (codes "all")) is))
+    (rw c.in_default.is at c.stuck_round.ensures) (rw c.in-None.is at c.decided.ensures)

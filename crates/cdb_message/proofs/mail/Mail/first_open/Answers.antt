@@ -1,6 +1,6 @@
 use Rattle.std.proofs.Common.{◌<◌, ◌+◌, length, arith, ◌∙◌, sym}
 use Rattle.cdb_message.specs.Mail.{message_name, sent_by, is_open}
-use Rattle.cdb_message.proofs.Pending.{find-closed}
+use Rattle.cdb_message.proofs.PendingFound.{find-closed}
 use Rattle.cdb_message.proofs.mail.Mail.first_open.Goals as goal
 
 pub loop-m-preserved : goal.loop-m-preserved

@@ -1,7 +1,7 @@
 use Rattle.std.proofs.Common.{◌≤◌, ◌∙◌, length, sym, ap, get_or, Some, None, arith}
 use Rattle.std.proofs.lemmas.Grind.{common_steps}
 use Rattle.cdb_message.specs.Mail.{messages_of, is_open, is_above}
-use Rattle.cdb_message.proofs.Pending.{first-senders}
+use Rattle.cdb_message.proofs.PendingFound.{first-senders}
 use Rattle.cdb_message.proofs.Least.{least_pending}
 use Rattle.cdb_message.proofs.mail.Mail.pending.Goals as goal
 

@@ -16,9 +16,13 @@ invariant_of-self g c =
       outcome = c.self.inside.outcome;
     } in
     let written = c.take-written.result in
-    let some : 0 < length c.take-written.new.taken.items = subst (λ (text : List ℕ). 0 < length text) (sym c.take-written.ensures.taken) (took_some it.taken c.args.piece.now written c.take-written.ensures.within (subst (λ (count : ℕ). 0 < count) c.unwrap_or.ensures c.if-unwrap_or-gt0.true)) in
-    keeps_up_on it (taken_of written c.args.piece.now) c.take-written.new.taken.items c.failures_after-self-inside.result (option_map g.J.Sink.stream c.take-written.new.file)
-    (g.P.Rewritten.versions c.show_lines-self-inside.new.file) c.show_lines-self-inside.result c.self.invariant c.take-written.ensures.taken c.take-written.ensures.file some
+    let some : 0 < length c.take-written.new.taken.items =
+    subst (λ (text : List ℕ). 0 < length text) (sym c.take-written.ensures.taken) (took_some it.taken c.args.piece.now
+    written c.take-written.ensures.within (subst (λ (count : ℕ). 0 < count) c.unwrap_or.ensures c.if-unwrap_or-gt0.true)) in
+    keeps_up_on it (taken_of written c.args.piece.now) c.take-written.new.taken.items
+    c.failures_after-self-inside.result (option_map g.J.Sink.stream c.take-written.new.file)
+    (g.P.Rewritten.versions c.show_lines-self-inside.new.file) c.show_lines-self-inside.result
+    c.self.invariant c.take-written.ensures.taken c.take-written.ensures.file some
     (rw c.as_slice.ensures.value at c.show_lines-self-inside.ensures)
 
 pub invariant_of-self-else-unwrap_or-gt0 : goal.invariant_of-self-else-unwrap_or-gt0

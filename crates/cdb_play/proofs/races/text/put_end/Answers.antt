@@ -3,7 +3,7 @@ use Rattle.std.proofs.lemmas.Result.{err_from_is_err_and}
 use Rattle.cdb_text.specs.Reports.{decisions_text}
 use Rattle.cdb_play.specs.Races.{verdict_text, end_text}
 use Rattle.cdb_streams.specs.declared.buffer.OutputFault.TheVariants.{Write}
-use Rattle.cdb_streams.proofs.Putting.{put_nothing, put_more, cut_short}
+use Rattle.cdb_streams.proofs.PiecesPut.{put_nothing, put_more, cut_short}
 use Rattle.cdb_play.proofs.races.text.put_end.Goals as goal
 
 pub returns-in_err-replied : goal.returns-in_err-replied

@@ -2,7 +2,7 @@ use Rattle.std.proofs.Common.{◌≡◌, rules, refl, codes, decimal, [], ◌++�
 use Rattle.std.proofs.lemmas.Result.{err_from_is_err_and}
 use Rattle.cdb_play.specs.Races.{seat_heading}
 use Rattle.cdb_streams.specs.declared.buffer.OutputFault.TheVariants.{Write}
-use Rattle.cdb_streams.proofs.Putting.{put_nothing, put_more, cut_short}
+use Rattle.cdb_streams.proofs.PiecesPut.{put_nothing, put_more, cut_short}
 use Rattle.cdb_play.proofs.races.text.put_line.Goals as goal
 
 pub returns-in_err-put : goal.returns-in_err-put

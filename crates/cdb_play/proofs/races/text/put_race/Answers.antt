@@ -2,7 +2,7 @@ use Rattle.std.proofs.Common.{◌≡◌, ◌∙◌, ◌+◌, ap, refl}
 use Rattle.std.proofs.lemmas.Result.{err_from_is_err_and}
 use Rattle.cdb_race.specs.Races.{all_told}
 use Rattle.cdb_play.specs.Races.{seats_text, end_text, last_decisions}
-use Rattle.cdb_streams.proofs.Putting.{put_nothing, cut_short, put_last}
+use Rattle.cdb_streams.proofs.PiecesPut.{put_nothing, cut_short, put_last}
 use Rattle.cdb_play.proofs.races.text.put_race.Goals as goal
 
 pub returns-in_err-put_seats : goal.returns-in_err-put_seats

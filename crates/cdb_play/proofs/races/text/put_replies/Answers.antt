@@ -1,9 +1,9 @@
 use Rattle.std.proofs.Common.{take, drop, ◌+◌, arith}
 use Rattle.std.proofs.lemmas.List.{take_all}
 use Rattle.std.proofs.lemmas.Result.{err_from_is_err_and}
-use Rattle.cdb_commands.specs.ToldReply.{told}
+use Rattle.cdb_commands.specs.ReplyView.{reply_view}
 use Rattle.cdb_text.specs.Texts.{text_of}
-use Rattle.cdb_streams.proofs.Putting.{put_nothing, put_more, cut_short}
+use Rattle.cdb_streams.proofs.PiecesPut.{put_nothing, put_more, cut_short}
 use Rattle.cdb_play.proofs.RaceGrowth.{texts, one_reply, parted_replies}
 use Rattle.cdb_play.proofs.races.text.put_replies.Goals as goal
 
@@ -17,7 +17,7 @@ returns-in_err-put_reply g c =
     let i = c.loop-reply.reply-index in
     let reply = c.reply-item.result in
     rw (p.1, p.2)
-    (cut_short g.W.Sink.stream (Unit {0}) c.in_err-put_reply.field-0.0 _ _ _ _ _ _ (texts (take i replies)) (text_of (told reply))
+    (cut_short g.W.Sink.stream (Unit {0}) c.in_err-put_reply.field-0.0 _ _ _ _ _ _ (texts (take i replies)) (text_of (reply_view reply))
     (texts (drop (i + 1) replies)) (texts replies) c.loop-reply.invariant
     (parted_replies replies i reply c.reply-item.is c.loop-reply-test.true) c.in_err-put_reply.ensures)
 

@@ -1,7 +1,7 @@
 use Rattle.std.proofs.Common.{refl}
 use Rattle.std.proofs.lemmas.Result.{err_from_is_err_and}
 use Rattle.cdb_play.specs.Races.{seat_heading}
-use Rattle.cdb_streams.proofs.Putting.{put_nothing, cut_short, put_last}
+use Rattle.cdb_streams.proofs.PiecesPut.{put_nothing, cut_short, put_last}
 use Rattle.cdb_play.proofs.RaceGrowth.{texts}
 use Rattle.cdb_play.proofs.races.text.put_seat.Goals as goal
 

@@ -1,6 +1,6 @@
 use Rattle.std.proofs.Common.{refl}
 use Rattle.std.proofs.lemmas.Result.{err_from_is_err_and}
-use Rattle.cdb_streams.proofs.Putting.{left_written, fails_at_end}
+use Rattle.cdb_streams.proofs.PiecesPut.{left_written, fails_at_end}
 use Rattle.cdb_play.proofs.races.text.write_pieces.Goals as goal
 
 pub returns-in_err-put_race : goal.returns-in_err-put_race

@@ -3,7 +3,7 @@ use Rattle.cdb_rules.specs.RunView.{RunView}
 use Rattle.cdb_rules.specs.Runs.{decisions_in}
 use Rattle.cdb_rules.specs.Decisions.{decided_from}
 use Rattle.cdb_run.proofs.Held.{count_is}
-use Rattle.cdb_run.proofs.Starting.{at_most_nine}
+use Rattle.cdb_run.proofs.AtStart.{at_most_nine}
 use Rattle.cdb_run.proofs.Views.{progresses_shown}
 use Rattle.cdb_run.proofs.run.Run.decisions.Goals as goal
 

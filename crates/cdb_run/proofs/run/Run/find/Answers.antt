@@ -1,7 +1,7 @@
 use Rattle.std.proofs.Common.{subst}
 use Rattle.cdb_causal.specs.Names.{IsNewName}
 use Rattle.cdb_rules.specs.EventRefs.{name_given}
-use Rattle.cdb_rules.proofs.Finding.{none_named}
+use Rattle.cdb_rules.proofs.NamesFound.{none_named}
 use Rattle.cdb_standing.specs.Moves.{IsNamed}
 use Rattle.cdb_run.proofs.run.Run.find.Goals as goal
 

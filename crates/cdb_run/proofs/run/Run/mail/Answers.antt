@@ -1,7 +1,7 @@
 use Rattle.std.proofs.Common.{ap, ◌∙◌}
 use Rattle.cdb_rules.specs.RunView.{RunView}
 use Rattle.cdb_rules.specs.Runs.{mail_in}
-use Rattle.cdb_run.proofs.Starting.{machine_each}
+use Rattle.cdb_run.proofs.AtStart.{machine_each}
 use Rattle.cdb_run.proofs.Views.{mail_shown, receivers_shown}
 use Rattle.cdb_run.proofs.run.Run.mail.Goals as goal
 

@@ -2,7 +2,7 @@ use Rattle.std.proofs.Common.{◌≡◌, ℕ, ◌≤◌, ◌&&◌, true, ap, ap�
 use Rattle.cdb_rules.specs.Machines.{machine_of}
 use Rattle.cdb_rules.specs.Runs.{loss_name}
 use Rattle.cdb_rules.specs.Undo.{names_processes}
-use Rattle.cdb_rules.proofs.Finding.{among_is, beyond, none_named, too_great}
+use Rattle.cdb_rules.proofs.NamesFound.{among_is, beyond, none_named, too_great}
 use Rattle.cdb_run.proofs.run.Run.name_loss.Goals as goal
 
 both_among : (n s m p : ℕ) → 1 ≤ s → s ≤ n → 1 ≤ p → p ≤ n → names_processes n (loss_name s m p) ≡ true

@@ -1,7 +1,7 @@
 use Rattle.std.proofs.Common.{ap₂}
 use Rattle.cdb_rules.specs.Machines.{machine_of}
 use Rattle.cdb_rules.specs.Runs.{step_name}
-use Rattle.cdb_rules.proofs.Finding.{among_is, beyond, none_named, too_great}
+use Rattle.cdb_rules.proofs.NamesFound.{among_is, beyond, none_named, too_great}
 use Rattle.cdb_run.proofs.run.Run.name_step.Goals as goal
 
 pub returns-in_default-try_from : goal.returns-in_default-try_from

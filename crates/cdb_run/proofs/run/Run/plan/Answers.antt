@@ -5,7 +5,7 @@ use Rattle.cdb_rules.specs.Runs.{IsNext, result_of_step}
 use Rattle.cdb_rules.specs.Machines.{machine_of}
 use Rattle.cdb_rules.specs.Step.{is_among}
 use Rattle.cdb_rules.proofs.Granted.{IsLawful}
-use Rattle.cdb_run.proofs.Starting.{machine_each}
+use Rattle.cdb_run.proofs.AtStart.{machine_each}
 use Rattle.cdb_run.proofs.Views.{index_below, receives_shown, queries_shown, plan_shown, plan_absent, result_enabled}
 use Rattle.cdb_run.proofs.run.Run.plan.Goals as goal
 
@@ -26,7 +26,8 @@ index-progress-requires g c =
     let last : c.in-Some.process ≤ setup.processes = (
     let shown : c.args.p ≤ setup.processes = subst (λ (s : RunView). c.args.p ≤ s.setup.processes) (sym c.self.view_is) c.in-Some.ensures.number.1 in
     subst (λ q. q ≤ setup.processes) (sym c.in-Some.ensures.number.0) shown) in
-    let below : c.index.result < length c.self.inside.state.processes.items = index_below c.self.invariant setup.processes number c.index.result c.in-Some.process c.index.ensures.value last in
+    let below : c.index.result < length c.self.inside.state.processes.items =
+    index_below c.self.invariant setup.processes number c.index.result c.in-Some.process c.index.ensures.value last in
     first_of (search (rules, below), grind (arith, below, common_steps))
 
 pub plan-requires-clause-among : goal.plan-requires-clause-among
@@ -37,7 +38,8 @@ plan-requires-clause-among g c =
     let last : c.in-Some.process ≤ setup.processes = (
     let shown : c.args.p ≤ setup.processes = subst (λ (s : RunView). c.args.p ≤ s.setup.processes) (sym c.self.view_is) c.in-Some.ensures.number.1 in
     subst (λ q. q ≤ setup.processes) (sym c.in-Some.ensures.number.0) shown) in
-    receives_shown c.self.invariant setup.processes number c.index.result c.in-Some.process c.index-progress.result.now c.index.ensures.value last c.index-progress.ensures
+    receives_shown c.self.invariant setup.processes number c.index.result c.in-Some.process
+    c.index-progress.result.now c.index.ensures.value last c.index-progress.ensures
 
 pub plan-requires-clause-queries : goal.plan-requires-clause-queries
 plan-requires-clause-queries g c =
@@ -47,7 +49,8 @@ plan-requires-clause-queries g c =
     let last : c.in-Some.process ≤ setup.processes = (
     let shown : c.args.p ≤ setup.processes = subst (λ (s : RunView). c.args.p ≤ s.setup.processes) (sym c.self.view_is) c.in-Some.ensures.number.1 in
     subst (λ q. q ≤ setup.processes) (sym c.in-Some.ensures.number.0) shown) in
-    queries_shown c.self.invariant setup.processes number c.index.result c.in-Some.process c.index-progress.result.now c.index.ensures.value last c.index-progress.ensures
+    queries_shown c.self.invariant setup.processes number c.index.result c.in-Some.process
+    c.index-progress.result.now c.index.ensures.value last c.index-progress.ensures
 
 pub returns-clause-returns : goal.returns-clause-returns
 returns-clause-returns g c =
@@ -57,7 +60,8 @@ returns-clause-returns g c =
     let last : c.in-Some.process ≤ setup.processes = (
     let shown : c.args.p ≤ setup.processes = subst (λ (s : RunView). c.args.p ≤ s.setup.processes) (sym c.self.view_is) c.in-Some.ensures.number.1 in
     subst (λ q. q ≤ setup.processes) (sym c.in-Some.ensures.number.0) shown) in
-    plan_shown c.self.invariant setup.processes number c.index.result c.in-Some.process c.index-progress.result.now c.index.ensures.value last c.index-progress.ensures setup c.args.act c.plan.result c.plan.ensures
+    plan_shown c.self.invariant setup.processes number c.index.result c.in-Some.process c.index-progress.result.now
+    c.index.ensures.value last c.index-progress.ensures setup c.args.act c.plan.result c.plan.ensures
     ∙ ap (λ (s : RunView). result_of_step process.table s c.in-Some.process c.args.act) c.self.view_is
     ∙ ap (λ p. result_of_step process.table c.args.self.now p c.args.act) c.in-Some.ensures.number.0
 
@@ -71,7 +75,15 @@ returns-clause-enabled g c =
     let setup = c.self.inside.setup in
     let number = machine_each process.table setup c.n-ranges.ensures.ranges in
     let laws = g.met.P.Process in
-    let lawful : IsLawful (machine_of process.table setup) = record { query = laws.query_by_state; recv = laws.recv_by_state; send = laws.wish_send; read = laws.wish_read; write = laws.wish_write; local = laws.wish_local } in
+    let lawful : IsLawful (machine_of process.table setup) =
+    record {
+      query = laws.query_by_state;
+      recv = laws.recv_by_state;
+      send = laws.wish_send;
+      read = laws.wish_read;
+      write = laws.wish_write;
+      local = laws.wish_local;
+    } in
     let answered = returns-clause-returns g c in
     if_ok c.plan.result _ (λ event is.
     subst (λ (s : RunView). IsNext process.table s event) c.self.view_is

@@ -9,7 +9,7 @@ use Rattle.cdb_rules.specs.Refusals.{IsOfRun}
 use Rattle.cdb_rules.specs.Step.{after, state_of}
 use Rattle.cdb_rules.proofs.Again.{again_exact, again_same}
 use Rattle.cdb_rules.proofs.Granted.{IsLawful}
-use Rattle.cdb_run.proofs.Starting.{machine_each}
+use Rattle.cdb_run.proofs.AtStart.{machine_each}
 use Rattle.cdb_run.proofs.Views.{index_below, receives_shown, steps_shown, again_shown, loss_shown, receivers_shown}
 use Rattle.cdb_run.proofs.run.Run.plan_again.Goals as goal
 
@@ -21,7 +21,8 @@ index-progress-requires g c =
     let of_run = subst (λ (s : RunView). IsOfRun s.setup c.args.event.now) (sym c.self.view_is) c.requires in
     let p = c.in-Step.p in
     let last = (subst (IsOfRun setup) c.in-Step.is of_run).0 in
-    let below : c.index.result < length c.self.inside.state.processes.items = index_below c.self.invariant setup.processes number c.index.result p c.index.ensures.value last in
+    let below : c.index.result < length c.self.inside.state.processes.items =
+    index_below c.self.invariant setup.processes number c.index.result p c.index.ensures.value last in
     first_of (search (rules, below), grind (arith, below, common_steps))
 
 pub plan_again-requires-clause-among : goal.plan_again-requires-clause-among
@@ -75,7 +76,8 @@ returns-in-Step-clause-returns g c =
     let of_run = subst (λ (s : RunView). IsOfRun s.setup c.args.event.now) (sym c.self.view_is) c.requires in
     let p = c.in-Step.p in
     let last = (subst (IsOfRun setup) c.in-Step.is of_run).0 in
-    again_shown c.self.invariant setup.processes number c.index.result p c.index-progress.result.now c.index.ensures.value last c.index-progress.ensures setup c.in-Step.k c.in-Step.kind c.plan_again.result c.plan_again.ensures
+    again_shown c.self.invariant setup.processes number c.index.result p c.index-progress.result.now c.index.ensures.value
+    last c.index-progress.ensures setup c.in-Step.k c.in-Step.kind c.plan_again.result c.plan_again.ensures
     ∙ ap (λ (s : RunView). result_of_again process.table s (Step p c.in-Step.k c.in-Step.kind)) c.self.view_is
     ∙ ap (λ event. result_of_again process.table c.args.self.now event) (sym c.in-Step.is)
 
@@ -97,9 +99,18 @@ returns-in-Step-clause-taken g c =
     let of_run = subst (λ (s : RunView). IsOfRun s.setup c.args.event.now) (sym c.self.view_is) c.requires in
     let laws = g.met.P.Process in
     let machine = machine_of process.table setup in
-    let lawful : IsLawful machine = record { query = laws.query_by_state; recv = laws.recv_by_state; send = laws.wish_send; read = laws.wish_read; write = laws.wish_write; local = laws.wish_local } in
+    let lawful : IsLawful machine =
+    record {
+      query = laws.query_by_state;
+      recv = laws.recv_by_state;
+      send = laws.wish_send;
+      read = laws.wish_read;
+      write = laws.wish_write;
+      local = laws.wish_local;
+    } in
     let returned = returns-in-Step-clause-returns g c in
-    subst (λ (s : RunView). let machine = machine_of process.table s.setup in IsOk c.plan_again.result ↔ IsSome (after machine (state_of machine s.history) c.args.event.now)) c.self.view_is
+    subst (λ (s : RunView). let machine = machine_of process.table s.setup in
+    IsOk c.plan_again.result ↔ IsSome (after machine (state_of machine s.history) c.args.event.now)) c.self.view_is
     (again_exact machine lawful setup number refl (state_of machine (events_of c.self.inside.records)) c.args.event.now of_run c.plan_again.result
     (returned ∙ ap (λ (s : RunView). result_of_again process.table s c.args.event.now) (sym c.self.view_is)))
 
@@ -108,7 +119,8 @@ returns-in-Step-clause-same g c =
     let process = g.P.Process in
     let setup = c.args.self.now.setup in
     let machine = machine_of process.table setup in
-    subst (λ returned. IfOk returned (λ taken. taken ≡ c.args.event.now)) (sym (returns-in-Step-clause-returns g c)) (again_same machine setup (state_of machine c.args.self.now.history) c.args.event.now)
+    subst (λ returned. IfOk returned (λ taken. taken ≡ c.args.event.now)) (sym (returns-in-Step-clause-returns g c))
+    (again_same machine setup (state_of machine c.args.self.now.history) c.args.event.now)
 
 pub returns-in-Lost-clause-taken : goal.returns-in-Lost-clause-taken
 returns-in-Lost-clause-taken g c =
@@ -118,9 +130,18 @@ returns-in-Lost-clause-taken g c =
     let of_run = subst (λ (s : RunView). IsOfRun s.setup c.args.event.now) (sym c.self.view_is) c.requires in
     let laws = g.met.P.Process in
     let machine = machine_of process.table setup in
-    let lawful : IsLawful machine = record { query = laws.query_by_state; recv = laws.recv_by_state; send = laws.wish_send; read = laws.wish_read; write = laws.wish_write; local = laws.wish_local } in
+    let lawful : IsLawful machine =
+    record {
+      query = laws.query_by_state;
+      recv = laws.recv_by_state;
+      send = laws.wish_send;
+      read = laws.wish_read;
+      write = laws.wish_write;
+      local = laws.wish_local;
+    } in
     let returned = returns-in-Lost-clause-returns g c in
-    subst (λ (s : RunView). let machine = machine_of process.table s.setup in IsOk c.plan_loss_again.result ↔ IsSome (after machine (state_of machine s.history) c.args.event.now)) c.self.view_is
+    subst (λ (s : RunView). let machine = machine_of process.table s.setup in
+    IsOk c.plan_loss_again.result ↔ IsSome (after machine (state_of machine s.history) c.args.event.now)) c.self.view_is
     (again_exact machine lawful setup number refl (state_of machine (events_of c.self.inside.records)) c.args.event.now of_run c.plan_loss_again.result
     (returned ∙ ap (λ (s : RunView). result_of_again process.table s c.args.event.now) (sym c.self.view_is)))
 
@@ -129,4 +150,5 @@ returns-in-Lost-clause-same g c =
     let process = g.P.Process in
     let setup = c.args.self.now.setup in
     let machine = machine_of process.table setup in
-    subst (λ returned. IfOk returned (λ taken. taken ≡ c.args.event.now)) (sym (returns-in-Lost-clause-returns g c)) (again_same machine setup (state_of machine c.args.self.now.history) c.args.event.now)
+    subst (λ returned. IfOk returned (λ taken. taken ≡ c.args.event.now)) (sym (returns-in-Lost-clause-returns g c))
+    (again_same machine setup (state_of machine c.args.self.now.history) c.args.event.now)

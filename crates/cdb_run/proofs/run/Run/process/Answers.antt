@@ -2,8 +2,8 @@ use Rattle.std.proofs.Common.{◌≡◌, ◌≤◌, None, false, MatchOption, �
 use Rattle.cdb_rules.specs.RunView.{RunView}
 use Rattle.cdb_rules.specs.Runs.{process_in}
 use Rattle.cdb_rules.specs.Step.{is_among}
-use Rattle.cdb_rules.proofs.Finding.{among_some, among_none}
-use Rattle.cdb_run.proofs.Starting.{machine_each}
+use Rattle.cdb_rules.proofs.NamesFound.{among_some, among_none}
+use Rattle.cdb_run.proofs.AtStart.{machine_each}
 use Rattle.cdb_run.proofs.Views.{process_none}
 use Rattle.cdb_run.proofs.run.Run.process.Goals as goal
 

@@ -2,7 +2,7 @@ use Rattle.std.proofs.Common.{rules, ◌≡◌, ◌<◌, ◌≤◌, length, Some
 use Rattle.std.proofs.lemmas.Grind.{common_steps}
 use Rattle.cdb_rules.specs.RunView.{RunView}
 use Rattle.cdb_rules.specs.Runs.{progress_in}
-use Rattle.cdb_run.proofs.Starting.{machine_each}
+use Rattle.cdb_run.proofs.AtStart.{machine_each}
 use Rattle.cdb_run.proofs.Views.{index_below, progress_shown}
 use Rattle.cdb_run.proofs.run.Run.progress.Goals as goal
 
@@ -11,7 +11,8 @@ index-requires-2 g c =
     let setup = c.self.inside.setup in
     let number = machine_each g.P.Process.table setup c.n-ranges.ensures.ranges in
     let last = subst (λ (s : RunView). c.args.p ≤ s.setup.processes) (sym c.self.view_is) c.requires in
-    let below : c.index.result < length c.self.inside.state.processes.items = index_below c.self.invariant setup.processes number c.index.result c.args.p c.index.ensures.value last in
+    let below : c.index.result < length c.self.inside.state.processes.items =
+    index_below c.self.invariant setup.processes number c.index.result c.args.p c.index.ensures.value last in
     first_of (search (rules, below), grind (arith, below, common_steps))
 
 pub returns : goal.returns

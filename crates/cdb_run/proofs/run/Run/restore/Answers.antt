@@ -7,7 +7,7 @@ use Rattle.cdb_rules.specs.Runs.{CanUndo, step_name}
 use Rattle.cdb_standing.specs.Moves.{IsTakenOut}
 use Rattle.cdb_standing.specs.Recorded.{events_of, nothing, recorded_of}
 use Rattle.cdb_run.proofs.Records.{taken_out}
-use Rattle.cdb_run.proofs.Restoring.{stepped_within, may_unpost, may_restore, may_count_back, current_undone, is_lost_now, current_found}
+use Rattle.cdb_run.proofs.RestoredStates.{stepped_within, may_unpost, may_restore, may_count_back, current_undone, is_lost_now, current_found}
 use Rattle.cdb_run.proofs.run.Run.restore.Goals as goal
 
 pub take_step-kind-requires : goal.take_step-kind-requires

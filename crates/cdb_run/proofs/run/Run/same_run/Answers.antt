@@ -18,8 +18,10 @@ returns g c =
     let nine : setup.processes ≤ 9 = ranges.processes.1 in
     omega (arith, inputs, nine, length-first_states process.table.first 1 setup.processes setup.quorum setup.inputs)) in
     let both =
-    answered (machine_of process.table setup) few history others c.history.ensures.valid (subst (λ (s : Parts). IsValid (machine_of process.table s) others) (sym c.requires) c.history-2.ensures.valid)
+    answered (machine_of process.table setup) few history others c.history.ensures.valid
+    (subst (λ (s : Parts). IsValid (machine_of process.table s) others) (sym c.requires) c.history-2.ensures.valid)
     c.are_alike.result (rw (c.history.ensures.events, c.history-2.ensures.events) at c.are_alike.ensures) in
     let state =
-    subst (λ (s : Parts). IsTrue c.are_alike.result ↔ (fold (machine_of process.table setup) history ≡ fold (machine_of process.table s) others)) c.requires both.0 in
+    subst (λ (s : Parts). IsTrue c.are_alike.result ↔ (fold (machine_of process.table setup) history ≡ fold (machine_of process.table s) others))
+    c.requires both.0 in
     record { state = state; exchange = both.1 }

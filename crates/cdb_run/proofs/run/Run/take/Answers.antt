@@ -3,7 +3,7 @@ use Rattle.std.proofs.lemmas.Result.{on_ok_weaker}
 use Rattle.cdb_rules.specs.RunView.{RunView}
 use Rattle.cdb_rules.specs.Machines.{machine_of}
 use Rattle.cdb_rules.specs.Runs.{with_event, IsJustTaken}
-use Rattle.cdb_run.proofs.Starting.{machine_each}
+use Rattle.cdb_run.proofs.AtStart.{machine_each}
 use Rattle.cdb_rules.proofs.TakenBack.{just_taken}
 use Rattle.cdb_setup.specs.Parts.{AreInRange}
 use Rattle.cdb_run.proofs.run.Run.take.Goals as goal

@@ -3,9 +3,9 @@ use Rattle.cdb_base.specs.declared.event.Event.TheVariants.{Lost}
 use Rattle.cdb_message.specs.Mail.{MailState, is_sent, is_received, is_lost, add_loss}
 use Rattle.cdb_rules.specs.RunView.{RunView}
 use Rattle.cdb_rules.specs.Runs.{IsNext}
-use Rattle.cdb_run.proofs.Coming.{enabled_may_come}
+use Rattle.cdb_run.proofs.ComingInputs.{enabled_may_come}
 use Rattle.cdb_run.proofs.Held.{on_its_way, receiver_within, current_lost}
-use Rattle.cdb_run.proofs.Stepping.{current_same}
+use Rattle.cdb_run.proofs.StepsTaken.{current_same}
 use Rattle.cdb_run.proofs.run.Run.take_loss.Goals as goal
 
 pub push_loss_with-requires-clause-may : goal.push_loss_with-requires-clause-may
@@ -20,7 +20,8 @@ push_loss_with-requires-clause-callable g c = λ mail is a1 a2 a3 a4 a5 a6 a7 a8
     let copy = c.args.copy.now in
     let enabled = subst (λ (s : RunView). IsNext process.table s (Lost copy)) (sym c.self.view_is) c.requires in
     let way = on_its_way c.self.invariant copy enabled in
-    subst (λ (m : MailState). (copy.to ≤ length m.received) × (IsTrue (is_sent m copy.msg) × ((is_received m copy.to copy.msg ≡ false) × (is_lost m copy ≡ false)))) (sym is)
+    subst (λ (m : MailState).
+    (copy.to ≤ length m.received) × (IsTrue (is_sent m copy.msg) × ((is_received m copy.to copy.msg ≡ false) × (is_lost m copy ≡ false)))) (sym is)
     (receiver_within c.self.invariant copy enabled, (way.sent, (way.not_received, way.not_lost)))
 
 pub invariant_of-self : goal.invariant_of-self
@@ -37,7 +38,8 @@ invariant_of-self g c =
           sym failed.leaves ∙ left ∙ failed.shows
     ]
     in
-    current_same g.P.Process.table c.self.inside.setup {old = old} c.self.invariant (record { processes = old.processes; mail = mail; registers = old.registers })
+    current_same g.P.Process.table c.self.inside.setup {old = old} c.self.invariant
+    (record { processes = old.processes; mail = mail; registers = old.registers })
     (record { processes = refl; mail = same; registers = refl }) c.push_loss_with.new.self ensures.err
 
 pub invariant_of-self-2 : goal.invariant_of-self-2

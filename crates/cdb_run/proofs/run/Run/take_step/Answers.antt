@@ -4,10 +4,10 @@ use Rattle.cdb_rules.specs.RunView.{RunView}
 use Rattle.cdb_rules.specs.Runs.{IsNext}
 use Rattle.cdb_run.specs.Stepped.{MayStep, HasStepped, IsSameState}
 use Rattle.cdb_run.specs.declared.state.State.{State}
-use Rattle.cdb_run.proofs.Coming.{enabled_may_come}
+use Rattle.cdb_run.proofs.ComingInputs.{enabled_may_come}
 use Rattle.cdb_run.proofs.Held.{within}
-use Rattle.cdb_run.proofs.Starting.{at_most_nine}
-use Rattle.cdb_run.proofs.Stepping.{may_step, current_after, current_same}
+use Rattle.cdb_run.proofs.AtStart.{at_most_nine}
+use Rattle.cdb_run.proofs.StepsTaken.{may_step, current_after, current_same}
 use Rattle.cdb_run.proofs.run.Run.take_step.Goals as goal
 
 pub push_with-requires-clause-may : goal.push_with-requires-clause-may
@@ -55,5 +55,7 @@ invariant_of-self-2 g c =
     let changed = ok.1 in
     let met = changed.met in
     let left : HasStepped process.table process.before changed.shown.now p kind ok.0 changed.left.now = search (rules, met) in
-    let stepped = subst (λ s. HasStepped process.table process.before s p kind ok.0 c.push_with.new.state) changed.shows (subst (λ s. HasStepped process.table process.before changed.shown.now p kind ok.0 s) changed.leaves left) in
+    let stepped =
+    subst (λ s. HasStepped process.table process.before s p kind ok.0 c.push_with.new.state) changed.shows
+    (subst (λ s. HasStepped process.table process.before changed.shown.now p kind ok.0 s) changed.leaves left) in
     current_after process.table c.self.inside.setup c.self.invariant p k kind enabled ok.0 c.push_with.new.state stepped c.push_with.new.self ok.2

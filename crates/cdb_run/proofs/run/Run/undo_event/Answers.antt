@@ -10,7 +10,7 @@ use Rattle.cdb_rules.proofs.TakenBack.{undo_ok_free, undo_leads_back}
 use Rattle.cdb_setup.specs.Parts.{AreInRange}
 use Rattle.cdb_standing.specs.Moves.{IsTakenOut}
 use Rattle.cdb_run.proofs.Found.{undo_result, undo_leaves}
-use Rattle.cdb_run.proofs.Starting.{machine_each}
+use Rattle.cdb_run.proofs.AtStart.{machine_each}
 use Rattle.cdb_run.proofs.run.Run.undo_event.Goals as goal
 
 pub returns-in_err-name-clause-free : goal.returns-in_err-name-clause-free

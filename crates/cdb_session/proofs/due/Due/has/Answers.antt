@@ -10,5 +10,7 @@ pub returns : goal.returns
 returns c =
     let word = c.args.word.now in
     let options = c.words.result.now in
-    let any = any_from_yields_List (λ (it : Bor (List ℕ)). bytes_eq word it.now) _ _ c.any.result c.any.ensures.ran (YieldsList-from_slice options cc) (λ x b q k. search (rules, tests)) in
+    let any =
+    any_from_yields_List (λ (it : Bor (List ℕ)). bytes_eq word it.now) _ _ c.any.result
+    c.any.ensures.ran (YieldsList-from_slice options cc) (λ x b q k. search (rules, tests)) in
     any ∙ any_of_texts (bytes_eq word) options ∙ ap (list_any (bytes_eq word)) c.words.ensures

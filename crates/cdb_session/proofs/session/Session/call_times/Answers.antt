@@ -22,8 +22,12 @@ pub loop-preserved : goal.loop-preserved
 loop-preserved g c =
     let so = c.loop.invariant in
     let part = g.C.Caller.part in
-    let gives = subst (λ (seat : ℕ). GivesOnce {E = NoMemory} (Ok c.in_ok-call.field-0) (part c.loop.self.caller) (entry seat c.args.command.now) c.loop.text.items c.call.new.text.items (part c.call.new.self.caller)) so.seat c.in_ok-call.ensures.gives in
-    let more = repeated_more c.args.self.now.seat c.args.command.now (part c.args.self.now.caller) so.so_far.0 (part c.loop.self.caller) c.loop.text.items so.so_far.2 NoMemory c.in_ok-call.field-0 c.call.new.text.items (part c.call.new.self.caller) gives c.if-branch.false in
+    let gives =
+    subst (λ (seat : ℕ). GivesOnce {E = NoMemory} (Ok c.in_ok-call.field-0) (part c.loop.self.caller) (entry seat c.args.command.now)
+    c.loop.text.items c.call.new.text.items (part c.call.new.self.caller)) so.seat c.in_ok-call.ensures.gives in
+    let more =
+    repeated_more c.args.self.now.seat c.args.command.now (part c.args.self.now.caller) so.so_far.0 (part c.loop.self.caller)
+    c.loop.text.items so.so_far.2 NoMemory c.in_ok-call.field-0 c.call.new.text.items (part c.call.new.self.caller) gives c.if-branch.false in
     record {
       so_far = (so.so_far.0 ++ more.0 ∷ [], length-append so.so_far.0 (more.0 ∷ []) ∙ ap (λ n. n + 1) so.so_far.1, more.1);
       seat = c.call.ensures.seat ∙ so.seat;
@@ -37,9 +41,12 @@ returns-in_err-call-clause-responds g c =
     let so = c.loop.invariant in
     let part = g.C.Caller.part in
     let p = err_from_is_err_and c.from_residual.result c.from_residual.ensures.1 in
-    let gives = subst (λ (seat : ℕ). GivesOnce {E = NoMemory} (Err c.in_err-call.field-0.0) (part c.loop.self.caller) (entry seat c.args.command.now) c.loop.text.items c.call.new.text.items (part c.call.new.self.caller)) so.seat c.in_err-call.ensures.gives in
+    let gives =
+    subst (λ (seat : ℕ). GivesOnce {E = NoMemory} (Err c.in_err-call.field-0.0) (part c.loop.self.caller) (entry seat c.args.command.now)
+    c.loop.text.items c.call.new.text.items (part c.call.new.self.caller)) so.seat c.in_err-call.ensures.gives in
     rw p.1
-    (cut_short g.C.Caller.answers c.args.style.now (seen_by part c.args.self.now) c.args.command.now c.args.times so.so_far.0 (rw so.so_far.1 c.loop-test.true) (part c.loop.self.caller) c.loop.text.items so.so_far.2 NoMemory c.in_err-call.field-0.0 c.call.new.text.items (seen_by part c.call.new.self) gives)
+    (cut_short g.C.Caller.answers c.args.style.now (seen_by part c.args.self.now) c.args.command.now c.args.times so.so_far.0 (rw so.so_far.1 c.loop-test.true)
+    (part c.loop.self.caller) c.loop.text.items so.so_far.2 NoMemory c.in_err-call.field-0.0 c.call.new.text.items (seen_by part c.call.new.self) gives)
 
 pub returns-in_err-call-clause-later : goal.returns-in_err-call-clause-later
 returns-in_err-call-clause-later g c = goes c.loop.self.caller c.call.new.self.caller c.loop.invariant.later c.call.ensures.later
@@ -48,8 +55,12 @@ pub returns-then-branch-clause-responds : goal.returns-then-branch-clause-respon
 returns-then-branch-clause-responds g c =
     let so = c.loop.invariant in
     let part = g.C.Caller.part in
-    let gives = subst (λ (seat : ℕ). GivesOnce {E = NoMemory} (Ok c.in_ok-call.field-0) (part c.loop.self.caller) (entry seat c.args.command.now) c.loop.text.items c.call.new.text.items (part c.call.new.self.caller)) so.seat c.in_ok-call.ensures.gives in
-    last_given g.C.Caller.answers c.args.style.now (seen_by part c.args.self.now) c.args.command.now c.args.times so.so_far.0 (rw so.so_far.1 c.loop-test.true) (part c.loop.self.caller) c.loop.text.items so.so_far.2 NoMemory c.call.new.text (seen_by part c.call.new.self) c.in_ok-call.field-0 gives c.if-branch.true
+    let gives =
+    subst (λ (seat : ℕ). GivesOnce {E = NoMemory} (Ok c.in_ok-call.field-0) (part c.loop.self.caller) (entry seat c.args.command.now)
+    c.loop.text.items c.call.new.text.items (part c.call.new.self.caller)) so.seat c.in_ok-call.ensures.gives in
+    last_given g.C.Caller.answers c.args.style.now (seen_by part c.args.self.now) c.args.command.now c.args.times
+    so.so_far.0 (rw so.so_far.1 c.loop-test.true) (part c.loop.self.caller) c.loop.text.items so.so_far.2
+    NoMemory c.call.new.text (seen_by part c.call.new.self) c.in_ok-call.field-0 gives c.if-branch.true
 
 pub returns-then-branch-clause-later : goal.returns-then-branch-clause-later
 returns-then-branch-clause-later g c = goes c.loop.self.caller c.call.new.self.caller c.loop.invariant.later c.call.ensures.later
@@ -58,4 +69,5 @@ pub returns-clause-responds : goal.returns-clause-responds
 returns-clause-responds g c =
     let so = c.loop.invariant in
     let part = g.C.Caller.part in
-    all_given g.C.Caller.answers c.args.style.now (seen_by part c.args.self.now) c.args.command.now c.args.times so.so_far.0 NoMemory c.loop.text (seen_by part c.loop.self) so.so_far.2 (omega (arith, so.so_far.1, c.loop.auto.counter-end, c.loop-test.false))
+    all_given g.C.Caller.answers c.args.style.now (seen_by part c.args.self.now) c.args.command.now c.args.times so.so_far.0 NoMemory
+    c.loop.text (seen_by part c.loop.self) so.so_far.2 (omega (arith, so.so_far.1, c.loop.auto.counter-end, c.loop-test.false))

@@ -8,4 +8,5 @@ pub returns-in_err-push_prompt-clause-shows : goal.returns-in_err-push_prompt-cl
 returns-in_err-push_prompt-clause-shows g c =
     let p = err_from_is_err_and c.from_residual-in_err-push_prompt.result c.from_residual-in_err-push_prompt.ensures.1 in
     rw p.1
-    (unprompted g.C.Caller.answers c.args.style.now NoMemory NoMemory c.in_ok-text.text p.0 (seen_by g.C.Caller.part c.args.self.now) (seen_by g.C.Caller.part c.respond.new.self) c.args.request.now c.in_ok-text.ensures.responds)
+    (unprompted g.C.Caller.answers c.args.style.now NoMemory NoMemory c.in_ok-text.text p.0 (seen_by g.C.Caller.part c.args.self.now)
+    (seen_by g.C.Caller.part c.respond.new.self) c.args.request.now c.in_ok-text.ensures.responds)

@@ -8,7 +8,9 @@ returns-clause-moves g c =
     record {
       moves = tt;
       left = search rules;
-      all = read_to_end _ (g.R.Source.stream c.args.self.now.input).bytes (g.R.Source.stream c.read.new.self).bytes c.read.result c.read.new.buffer some c.read.ensures.within c.read.ensures.bytes;
+      all =
+          read_to_end _ (g.R.Source.stream c.args.self.now.input).bytes (g.R.Source.stream c.read.new.self).bytes
+          c.read.result c.read.new.buffer some c.read.ensures.within c.read.ensures.bytes;
       held = search rules;
       failed_reads = search rules;
       failed_writes = search rules;

@@ -9,5 +9,6 @@ absorb-requires-clause-rule g c = merges c.gather-all.ensures.rests (rests_of _ 
 pub returns-clause-known : goal.returns-clause-known
 returns-clause-known g c =
     let control = c.take-control.result in
-    let both = known_joined _ (view c.gather-all.result) (view c.watch.inside.pass) _ control c.watch.view_is c.absorb.ensures.rule c.take-control.ensures.taken.1 in
+    let both =
+    known_joined _ (view c.gather-all.result) (view c.watch.inside.pass) _ control c.watch.view_is c.absorb.ensures.rule c.take-control.ensures.taken.1 in
     c.gather-all.ensures.seats control both.0

@@ -6,7 +6,7 @@ use Rattle.cdb_streams.specs.Endings.{whole_ending}
 use Rattle.cdb_streams.specs.Written.{IsWritten, Only}
 use Rattle.cdb_streams.specs.declared.buffer.OutputFault.{OutputFault}
 use Rattle.cdb_streams.specs.declared.sink.Failed.{Failed}
-use Rattle.cdb_shared_session.specs.Keeping.{Keeps}
+use Rattle.cdb_shared_session.specs.KeptOutcomes.{Keeps}
 use Rattle.cdb_shared_session.specs.KeptAlone.{KeptView}
 use Rattle.cdb_shared_session.proofs.KeptEntries.{behind, kept_more, kept_broken}
 use Rattle.cdb_shared_session.proofs.alone.KeptControl.keep.Goals as goal
@@ -20,9 +20,13 @@ returns-in-Ok-write_journal-clause-kept g c = λ first before.
     let counted = subst (λ (r : Result ℕ Failed). Keeps stream first c.self.inside.file 0 r journal) c.in-Ok.is was in
     let all = c.journal-journal.ensures.entries in
     let text = ap (λ (l : List Entry). take (length l - count) (drop count l)) all ∙ behind journal count in
-    let written = subst (λ (r : Result (Unit {0}) OutputFault). IsWritten stream (whole_ending r) c.self.inside.file c.write_journal.new.out (Only (journal_text (drop count journal)))) c.in-Ok-write_journal.is
-    (subst (λ (l : List Entry). IsWritten stream (whole_ending c.write_journal.result) c.self.inside.file c.write_journal.new.out (Only (journal_text l))) text c.write_journal.ensures) in
-    subst (λ (n : ℕ). Keeps stream first c.write_journal.new.out 0 (Ok n) journal) (ap length (sym all)) (kept_more stream first c.self.inside.file c.write_journal.new.out count journal counted written)
+    let written =
+    subst (λ (r : Result (Unit {0}) OutputFault).
+    IsWritten stream (whole_ending r) c.self.inside.file c.write_journal.new.out (Only (journal_text (drop count journal)))) c.in-Ok-write_journal.is
+    (subst (λ (l : List Entry). IsWritten stream (whole_ending c.write_journal.result) c.self.inside.file c.write_journal.new.out (Only (journal_text l)))
+    text c.write_journal.ensures) in
+    subst (λ (n : ℕ). Keeps stream first c.write_journal.new.out 0 (Ok n) journal) (ap length (sym all))
+    (kept_more stream first c.self.inside.file c.write_journal.new.out count journal counted written)
 
 pub returns-in-Err-Write-clause-kept : goal.returns-in-Err-Write-clause-kept
 returns-in-Err-Write-clause-kept g c = λ first before.
@@ -34,6 +38,9 @@ returns-in-Err-Write-clause-kept g c = λ first before.
     let text = ap (λ (l : List Entry). take (length l - count) (drop count l)) c.journal-journal.ensures.entries ∙ behind journal count in
     let result : Result (Unit {0}) OutputFault = Err c.in-Err-Write.field-0 in
     let failed = c.in-Err-Write.is ∙ ap (λ (fault : OutputFault). let r : Result (Unit {0}) OutputFault = Err fault in r) c.in-Err-Write.field-0-is in
-    let written = subst (λ (r : Result (Unit {0}) OutputFault). IsWritten stream (whole_ending r) c.self.inside.file c.write_journal.new.out (Only (journal_text (drop count journal)))) failed
-    (subst (λ (l : List Entry). IsWritten stream (whole_ending c.write_journal.result) c.self.inside.file c.write_journal.new.out (Only (journal_text l))) text c.write_journal.ensures) in
+    let written =
+    subst (λ (r : Result (Unit {0}) OutputFault).
+    IsWritten stream (whole_ending r) c.self.inside.file c.write_journal.new.out (Only (journal_text (drop count journal)))) failed
+    (subst (λ (l : List Entry). IsWritten stream (whole_ending c.write_journal.result) c.self.inside.file c.write_journal.new.out (Only (journal_text l)))
+    text c.write_journal.ensures) in
     kept_broken stream first c.self.inside.file c.write_journal.new.out count _ journal counted written

@@ -32,4 +32,5 @@ returns-clause-answer g c =
     let seats = c.self.invariant.2 ∙ sym so.seat.seats in
     let seen : c.as_slice.result.now ≡ seat.seen = c.as_slice.ensures.value ∙ so.entries in
     asked_now rules answers seat c.args.inquiry c.answer_of.result
-    (subst (λ (run : RunView). IfOk c.answer_of.result (λ text. answers run c.args.inquiry text.items)) (λ i. run_left rules (setup i) (seats i) (seen i)) c.answer_of.ensures)
+    (subst (λ (run : RunView). IfOk c.answer_of.result (λ text. answers run c.args.inquiry text.items))
+    (λ i. run_left rules (setup i) (seats i) (seen i)) c.answer_of.ensures)

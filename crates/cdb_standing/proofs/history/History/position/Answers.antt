@@ -5,7 +5,8 @@ use Rattle.cdb_causal.specs.Names.{IsNamedAt, IsNewName, IsPositionOf}
 use Rattle.cdb_standing.proofs.history.History.position.Goals as goal
 
 -- the one position of a name is that where it was found
-place_is : (history : List Event) (name : StepId) (one : ℕ) → IsPositionOf history name one → (found : Option ℕ) → MatchOption found (IsNewName history name) (λ at. IsNamedAt history at name)
+place_is : (history : List Event) (name : StepId) (one : ℕ) → IsPositionOf history name one
+    → (found : Option ℕ) → MatchOption found (IsNewName history name) (λ at. IsNamedAt history at name)
     → MatchOption found (IsNewName history name) (IsPositionOf history name)
 place_is history name one is None none = none
 place_is history name one is (Some at) named = subst (IsPositionOf history name) (sym (is.only at named)) is

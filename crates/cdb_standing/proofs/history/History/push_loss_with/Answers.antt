@@ -2,7 +2,7 @@ use Rattle.std.proofs.Common.{inr, refl, arith}
 use Rattle.std.proofs.lemmas.Result.{err_from_is_err_and}
 use Rattle.cdb_base.specs.declared.event.Event.TheVariants.{Lost}
 use Rattle.cdb_standing.proofs.Counted.{few, one_event_more}
-use Rattle.cdb_standing.proofs.Undoing.{may_lose, lose_kept, lose_history}
+use Rattle.cdb_standing.proofs.Undos.{may_lose, lose_kept, lose_history}
 use Rattle.cdb_standing.proofs.history.History.push_loss_with.Goals as goal
 
 pub add_loss-requires-clause-sent : goal.add_loss-requires-clause-sent
@@ -14,7 +14,8 @@ invariant_of-self g c =
     let pending = rw (← c.self.view_is) at c.requires.pending in
     let lost = c.add_loss.ensures in
     one_event_more c.self.inside.tables c.self.inside.count c.self.invariant c.add_loss.new.tables (Lost c.args.copy)
-    (lose_kept c.self.inside.tables c.self.invariant.kept c.args.copy pending c.has_copy.ensures c.add_loss.new.tables lost.same lost.to_nine lost.lost lost.next)
+    (lose_kept c.self.inside.tables c.self.invariant.kept c.args.copy pending
+    c.has_copy.ensures c.add_loss.new.tables lost.same lost.to_nine lost.lost lost.next)
     (lose_history c.self.inside.tables c.self.invariant.kept c.args.copy pending c.has_copy.ensures c.add_loss.new.tables lost.same lost.to_nine lost.lost)
 
 pub returns-clause-added : goal.returns-clause-added

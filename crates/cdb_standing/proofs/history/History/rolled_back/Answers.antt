@@ -1,12 +1,13 @@
 use Rattle.cdb_base.specs.declared.name.StepId.TheVariants as named
-use Rattle.cdb_standing.proofs.Merging.{if_ok_mapped}
+use Rattle.cdb_standing.proofs.Merge.{if_ok_mapped}
 use Rattle.cdb_standing.proofs.RollingBack.{step_rolled, loss_rolled}
 use Rattle.cdb_standing.proofs.history.History.rolled_back.Goals as goal
 
 pub returns-in-Step : goal.returns-in-Step
 returns-in-Step c =
     rw (← c.self.view_is, c.in-Step.is)
-    (if_ok_mapped (λ events ordered. step_rolled c.self.inside.tables c.self.invariant.kept (named.Step c.in-Step.step) c.cuts_at.result events.items c.cuts_at.ensures ordered)
+    (if_ok_mapped (λ events ordered.
+    step_rolled c.self.inside.tables c.self.invariant.kept (named.Step c.in-Step.step) c.cuts_at.result events.items c.cuts_at.ensures ordered)
     c.in_order.result c.in_order.ensures)
 
 pub returns-in-Lost : goal.returns-in-Lost

@@ -2,7 +2,7 @@ use Rattle.std.proofs.Common.{◌≡◌, suc, length, ap, arith}
 use Rattle.cdb_standing.specs.Tables.{rows_in, row_of}
 use Rattle.cdb_standing.proofs.Numbered.{steps_counted, are_numbered}
 use Rattle.cdb_standing.proofs.Places.{end_of}
-use Rattle.cdb_standing.proofs.Setting.{row_at, rows_length}
+use Rattle.cdb_standing.proofs.RowUpdates.{row_at, rows_length}
 use Rattle.cdb_standing.proofs.history.History.steps_of.Goals as goal
 
 pub overflow_cast-result : goal.overflow_cast-result
@@ -24,4 +24,8 @@ returns c =
     let e = steps_counted t.next steps (rows_in t.sent.items) sound c.args.p in
     let same : length (row_of steps c.args.p) ≡ length c.index-2.result.now.items = rw (← is) here in
     let long : c.len.result ≡ length (row_of steps c.args.p) = omega arith in
-    rw (← c.self.view_is) (record { count = omega arith; end = rw long (end_of t.next steps (rows_in t.sent.items) sound c.args.p); numbered = are_numbered t.next steps (rows_in t.sent.items) sound c.args.p })
+    rw (← c.self.view_is) (record {
+      count = omega arith;
+      end = rw long (end_of t.next steps (rows_in t.sent.items) sound c.args.p);
+      numbered = are_numbered t.next steps (rows_in t.sent.items) sound c.args.p;
+    })

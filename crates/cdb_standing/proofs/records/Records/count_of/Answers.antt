@@ -16,7 +16,8 @@ pub returns-in_ok-to_vec-in-Some-clause-free : goal.returns-in_ok-to_vec-in-Some
 returns-in_ok-to_vec-in-Some-clause-free g c =
     let listed = c.deref.ensures.value ∙ c.in_ok-to_vec-in-Some.ensures in
     subst (λ h. IsZeroWhereFree h c.args.name c.count_direct.result) (history_seen (rows_in c.self.inside.left.items) c.self.inside.history c.self.view_is)
-    (counted_free c.self.inside.history c.args.name c.in-Some.at (rw c.in-Some.is at c.in_ok-at.ensures) c.count_direct.result (rw listed at c.count_direct.ensures))
+    (counted_free c.self.inside.history c.args.name c.in-Some.at (rw c.in-Some.is at c.in_ok-at.ensures)
+    c.count_direct.result (rw listed at c.count_direct.ensures))
 
 pub returns-in_ok-to_vec-in-Some-clause-none : goal.returns-in_ok-to_vec-in-Some-clause-none
 returns-in_ok-to_vec-in-Some-clause-none g c =
@@ -27,10 +28,14 @@ returns-in_ok-to_vec-in-Some-clause-none g c =
 
 pub returns-in-None-clause-count : goal.returns-in-None-clause-count
 returns-in-None-clause-count g c =
-    let new = subst (λ h. IsNewName h c.args.name) (history_seen (rows_in c.self.inside.left.items) c.self.inside.history c.self.view_is) (rw c.in-None.is at c.in_ok-at.ensures) in
+    let new =
+    subst (λ h. IsNewName h c.args.name) (history_seen (rows_in c.self.inside.left.items) c.self.inside.history c.self.view_is)
+    (rw c.in-None.is at c.in_ok-at.ensures) in
     λ at event there name. absurd (new at (event, there, name))
 
 pub returns-in-None-clause-free : goal.returns-in-None-clause-free
 returns-in-None-clause-free g c =
-    let new = subst (λ h. IsNewName h c.args.name) (history_seen (rows_in c.self.inside.left.items) c.self.inside.history c.self.view_is) (rw c.in-None.is at c.in_ok-at.ensures) in
+    let new =
+    subst (λ h. IsNewName h c.args.name) (history_seen (rows_in c.self.inside.left.items) c.self.inside.history c.self.view_is)
+    (rw c.in-None.is at c.in_ok-at.ensures) in
     λ at named. absurd (new at named)

@@ -9,6 +9,8 @@ loop-position-preserved c =
     let i = c.loop-position.position in
     let cell = c.index-cells-position.result in
     elim c.if-position-cells.branch [
-      | then-position-cells+in_ok-push_register_line w ↦ goes_on (string_bytes c.loop-position.text) _ cells i cell _ w.if-position-cells.true c.index-cells-position.is (ap string_bytes w.text-is ∙ w.in_ok-push_register_line.ensures) c.loop-position.invariant
-      | else-position-cells+in_ok-push_decision_line w ↦ ends (string_bytes c.loop-position.text) _ cells i cell _ c.loop-position-test.true w.if-position-cells.false c.index-cells-position.is (ap string_bytes w.text-is ∙ w.in_ok-push_decision_line.ensures) c.loop-position.invariant
+      | then-position-cells+in_ok-push_register_line w ↦ goes_on (string_bytes c.loop-position.text) _ cells i cell _ w.if-position-cells.true
+          c.index-cells-position.is (ap string_bytes w.text-is ∙ w.in_ok-push_register_line.ensures) c.loop-position.invariant
+      | else-position-cells+in_ok-push_decision_line w ↦ ends (string_bytes c.loop-position.text) _ cells i cell _ c.loop-position-test.true
+          w.if-position-cells.false c.index-cells-position.is (ap string_bytes w.text-is ∙ w.in_ok-push_decision_line.ensures) c.loop-position.invariant
     ]

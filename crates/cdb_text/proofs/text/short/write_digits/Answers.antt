@@ -8,4 +8,5 @@ returns-then-number-lt100-clause-written c = rw (two_digits c.args.number (omega
 
 pub returns-then-number-lt10000-clause-written : goal.returns-then-number-lt10000-clause-written
 returns-then-number-lt10000-clause-written c =
-    rw (last_two c.args.number (omega arith) (omega arith)) (both _ _ _ _ _ _ _ _ c.write_few_digits-next.ensures.written c.write_two_digits-then-number-lt10000.ensures.written)
+    rw (last_two c.args.number (omega arith) (omega arith))
+    (both _ _ _ _ _ _ _ _ c.write_few_digits-next.ensures.written c.write_two_digits-then-number-lt10000.ensures.written)

@@ -13,5 +13,6 @@ some (decision ∷ decisions) more = refl
 
 pub returns : goal.returns
 returns c =
-    subst (λ (text : List ℕ). Writes c.args.from c.write_byte.result c.args.bytes.now c.write_byte.new.bytes text) (some c.args.decisions.now (eqb-false (length c.args.decisions.now) 0 (sym c.if-is_empty.ensures)))
+    subst (λ (text : List ℕ). Writes c.args.from c.write_byte.result c.args.bytes.now c.write_byte.new.bytes text)
+    (some c.args.decisions.now (eqb-false (length c.args.decisions.now) 0 (sym c.if-is_empty.ensures)))
     (c.write_word-next.ensures.written then c.write_each_decision-next.ensures.written then c.write_byte.ensures.written)

@@ -1,0 +1,44 @@
+-- What the seats of a control are told, one reply after the other.
+use Rattle.std.specs.Prelude.{ℕ, ◌==◌, List, [], ◌∷◌, ◌++◌, codes, decimal, if◌then◌else◌}
+use Rattle.std.specs.List.{flat_map}
+use Rattle.cdb_commands.specs.ReplyView.{ReplyView}
+use Rattle.cdb_control.specs.Commands.{reply_of, obey}
+use Rattle.cdb_control.specs.Journal.{Journaled}
+use Rattle.cdb_control.specs.State.{State, first_control_state}
+use Rattle.cdb_control.specs.declared.control.Entry.{Entry}
+use Rattle.cdb_rules.specs.Rules.{Rules}
+use Rattle.cdb_setup.specs.Parts.{Parts}
+use Rattle.cdb_text.specs.Texts.{text_of}
+
+-- a seat, and a reply to it
+pub record SeatReply : Type 0 where
+  pub seat : ℕ
+  pub reply : ReplyView
+
+-- the reply to each entry of a journal from this state on
+abbrev pub told_from : Rules → State → List Entry → List SeatReply
+told_from rules t [] = []
+told_from rules t (e ∷ es) =
+    record { seat = e.seat; reply = reply_of rules t e.seat e.command }
+    ∷ told_from rules (obey rules t e.seat e.command) es
+
+-- from the start on, with this many seats
+abbrev pub told_along : Rules → Parts → ℕ → List Entry → List SeatReply
+told_along rules setup seats journal = told_from rules (first_control_state setup seats) journal
+
+-- in the journal of a control
+abbrev pub told_in : (Parts → Rules) → Journaled → List SeatReply
+told_in rules c = told_along (rules c.setup) c.setup c.seats c.journal
+
+-- the replies to this seat among them
+abbrev pub told_to : ℕ → List SeatReply → List ReplyView
+told_to seat [] = []
+told_to seat (it ∷ others) = if it.seat == seat then (it.reply ∷ told_to seat others) else told_to seat others
+
+-- `S REPLY`
+abbrev pub told_line : ℕ → ReplyView → List ℕ
+told_line seat reply = (decimal seat ++ codes " ") ++ text_of reply
+
+-- one after the other
+abbrev pub told_text : List SeatReply → List ℕ
+told_text all = flat_map (λ it. told_line it.seat it.reply) all

@@ -1,0 +1,67 @@
+-- What replays do.
+use Rattle.std.specs.Prelude.{◌≡◌, ◌⊎◌, ℕ, ◌+◌, ◌*◌, List, [], ◌∷◌, Option, Some, Result, Ok, Err, IfErr, Vec}
+use Rattle.std.specs.Global.{Global}
+use Rattle.cdb_base.specs.Limits.{MAX_ENTRIES}
+use Rattle.cdb_streams.specs.Endings.{play_ending}
+use Rattle.cdb_streams.specs.Streams.{FailsWhere, Stream, itself}
+use Rattle.cdb_streams.specs.Written.{IsWritten}
+use Rattle.cdb_streams.specs.declared.fault.PlayFault.{PlayFault}
+use Rattle.cdb_streams.specs.declared.fault.PlayFault.TheVariants as play
+use Rattle.cdb_agreement.specs.Algorithms.{rules}
+use Rattle.cdb_journal.specs.Journals.{longest_line}
+use Rattle.cdb_journal.specs.Replays.{IsFaultOfReplay, Replays, TellsAgain}
+use Rattle.cdb_setup.specs.declared.fault.SetupFault.{SetupFault}
+use Rattle.cdb_program.specs.Known.{FilesSeen, Seen, after_opening, in_memory}
+use Rattle.cdb_program.specs.Outcomes.{RequestEnd, IsOfPlay}
+use Rattle.cdb_program.specs.FilesRead.{AreFirstBytes, CannotReadFiles, FailsToRead, most_read}
+use Rattle.cdb_program.specs.declared.fault.Fault.{Fault}
+
+-- ---- the files
+
+-- how many bytes of the file of a journal are read: one more than a journal may have
+abbrev pub most_of_journal : ℕ
+most_of_journal = longest_line * MAX_ENTRIES + 1
+
+-- the file of a journal is read, by how that ended
+abbrev pub ReadsJournal : FilesSeen → FilesSeen → List ℕ → Result (Vec ℕ Global) Fault → Type 0
+ReadsJournal old new name (Ok bytes) =
+    (new ≡ after_opening old (name ∷ [])) × AreFirstBytes old most_of_journal name bytes.items
+ReadsJournal old new name (Err fault) = FailsToRead old new (name ∷ []) fault
+
+-- the file of a setup and then that of a journal were read, and gave these bytes
+abbrev pub HasReadBoth : FilesSeen → FilesSeen → List ℕ → List ℕ → List ℕ → List ℕ → Type 0
+HasReadBoth old new setup journal json bytes =
+    (new ≡ after_opening old (setup ∷ journal ∷ [])) × AreFirstBytes old most_read setup json
+    × AreFirstBytes old most_of_journal journal bytes
+
+-- they were read and gave these bytes, or one could not be
+abbrev pub ReadsBoth : FilesSeen → FilesSeen → List ℕ → List ℕ → Result (Vec ℕ Global × Vec ℕ Global) Fault → Type 0
+ReadsBoth old new setup journal (Ok read) = HasReadBoth old new setup journal read.0.items read.1.items
+ReadsBoth old new setup journal (Err fault) = FailsToRead old new (setup ∷ journal ∷ []) fault
+
+-- ---- the replay
+
+-- A replay of a journal on the setup of this text ended so. The journal's reader and the output are seen before and
+-- after.
+pub record IsReplay (json : List ℕ) (replayed : Result (Unit {0}) PlayFault)
+    (journal left old new : Stream) : Type 0 where
+  pub wrote : IsWritten itself (play_ending replayed) old new (Replays rules json journal left)
+  pub again : IsWritten itself (play_ending replayed) old new (TellsAgain rules json journal left)
+  pub fault : IfErr replayed (IsFaultOfReplay json journal left)
+  pub unread : (fault : SetupFault) → replayed ≡ Err (play.Setup fault) → left ≡ journal
+  pub read : FailsWhere itself (replayed ≡ Err play.Read) journal left
+
+-- the journal, of this name and these bytes, is played again on the setup
+abbrev pub ReplaysBytes : List ℕ → List ℕ → List ℕ → Stream → Stream → RequestEnd → Type 0
+ReplaysBytes name json bytes old new outcome =
+    (replayed : Result (Unit {0}) PlayFault) × (left : Option (List ℕ)) × IsOfPlay name replayed outcome
+    × IsReplay json replayed (in_memory (Some bytes)) (in_memory left) old new
+
+-- The file of the setup and then that of the journal are read, and the journal is played again on the setup. Where one
+-- can't be read it is not. Standard input is left as it is.
+abbrev pub ReplaysFiles : List ℕ → List ℕ → Seen → Seen → RequestEnd → Type 0
+ReplaysFiles setup journal old new outcome =
+    (new.input ≡ old.input)
+    × (CannotReadFiles (setup ∷ journal ∷ []) old new outcome
+    ⊎ ((json bytes : List ℕ) × HasReadBoth old.files new.files setup journal json bytes
+    × ReplaysBytes journal json bytes old.output new.output outcome))

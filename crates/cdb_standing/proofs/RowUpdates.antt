@@ -1,0 +1,154 @@
+-- A table with one row set.
+use Rattle.std.proofs.Common.{◌≡◌, ◌≢◌, ℕ, zero, suc, ◌+◌, ◌-◌, ◌<◌, ◌≤◌, List, [], ◌∷◌, ◌++◌, Vec, length, set, slice_get}
+use Rattle.std.proofs.Common.{slice_index_or, Option, Some, None, Bor, refl, sym, ap, ◌∙◌, subst, arith}
+use Rattle.std.proofs.lemmas.Option.{same_Some, none-some, slice_get_past}
+use Rattle.std.specs.Option.{option_copied, MatchOption}
+use Rattle.std.specs.List.{HoldsAt}
+use Rattle.std.specs.Prelude.{vec_len, vec_capacity}
+use Rattle.cdb_standing.specs.Rooms.{HasRoomIn}
+use Rattle.cdb_base.specs.Positions.{nth}
+use Rattle.cdb_standing.specs.Tables.{rows_in, row_of, IsPutOn, IsCopySet, IsRowSet}
+use Rattle.cdb_standing.specs.declared.tables.Copied.{Copied}
+use Rattle.cdb_standing.specs.declared.tables.Sent.{Sent}
+
+module _ {T Z : Type 0} where
+  row_set : (table : List (Vec T Z)) (i : ℕ) (v : Vec T Z) → i < length table → row_of (rows_in (set table i v)) (suc i) ≡ v.items
+  row_set [] i v less = absurd (omega (arith, less))
+  row_set (x ∷ xs) zero v less = refl
+  row_set (x ∷ xs) (suc i) v less = row_set xs i v (omega (arith, less))
+
+  row_set_other : (table : List (Vec T Z)) (i : ℕ) (v : Vec T Z) (q : ℕ) → q ≢ suc i → row_of (rows_in (set table i v)) q ≡ row_of (rows_in table) q
+  row_set_other table i v zero other = refl
+  row_set_other [] i v (suc q) other = refl
+  row_set_other (x ∷ xs) zero v (suc zero) other = absurd (other refl)
+  row_set_other (x ∷ xs) zero v (suc (suc q)) other = refl
+  row_set_other (x ∷ xs) (suc i) v (suc zero) other = refl
+  row_set_other (x ∷ xs) (suc i) v (suc (suc q)) other = row_set_other xs i v (suc q) (λ e. other (ap suc e))
+
+  rows_set_length : (table : List (Vec T Z)) (i : ℕ) (v : Vec T Z) → length (rows_in (set table i v)) ≡ length (rows_in table)
+  rows_set_length [] i v = refl
+  rows_set_length (x ∷ xs) zero v = refl
+  rows_set_length (x ∷ xs) (suc i) v = ap suc (rows_set_length xs i v)
+
+  pub rows_length : (table : List (Vec T Z)) → length (rows_in table) ≡ length table
+  rows_length [] = refl
+  rows_length (x ∷ xs) = ap suc (rows_length xs)
+
+  pub row_at : (table : List (Vec T Z)) (i : ℕ) (v : Vec T Z) → i < length table → v ≡ slice_index_or table i v → row_of (rows_in table) (suc i) ≡ v.items
+  row_at [] i v less is = absurd (omega (arith, less))
+  row_at (x ∷ xs) zero v less is = ap (λ (u : Vec T Z). u.items) (sym is)
+  row_at (x ∷ xs) (suc i) v less is = row_at xs i v (omega (arith, less)) is
+
+  pub rows_same : (table : List (Vec T Z)) (i : ℕ) (v w : Vec T Z) → i < length table
+      → v ≡ slice_index_or table i v → w.items ≡ v.items → rows_in (set table i w) ≡ rows_in table
+  rows_same [] i v w less is same = refl
+  rows_same (x ∷ xs) zero v w less is same = ap (λ l. l ∷ rows_in xs) (same ∙ ap (λ (u : Vec T Z). u.items) is)
+  rows_same (x ∷ xs) (suc i) v w less is same = ap (λ l. x.items ∷ l) (rows_same xs i v w (omega (arith, less)) is same)
+
+  pub row_within : (table : List (Vec T Z)) (i : ℕ) → 0 < length (row_of (rows_in table) (suc i)) → i < length table
+  row_within [] i more = absurd (omega (arith, more))
+  row_within (x ∷ xs) zero more = omega arith
+  row_within (x ∷ xs) (suc i) more = let less = row_within xs i more in omega (arith, less)
+
+  pub room_within : (table : List (Vec T Z)) (i : ℕ) (v : Vec T Z) → slice_get table i ≡ Some v → i < length table
+  room_within [] i v at = absurd (none-some v at)
+  room_within (x ∷ xs) zero v at = omega arith
+  room_within (x ∷ xs) (suc i) v at = let less = room_within xs i v at in omega (arith, less)
+
+  pub room_is : (table : List (Vec T Z)) (i : ℕ) (v w : Vec T Z) → w ≡ slice_index_or table i w → slice_get table i ≡ Some v → w ≡ v
+  room_is [] i v w is at = absurd (none-some v at)
+  room_is (x ∷ xs) zero v w is at = is ∙ same_Some x v at
+  room_is (x ∷ xs) (suc i) v w is at = room_is xs i v w is at
+
+  set_at : (table : List (Vec T Z)) (i : ℕ) (v : Vec T Z) → i < length table → slice_get (set table i v) i ≡ Some v
+  set_at [] i v less = absurd (omega (arith, less))
+  set_at (x ∷ xs) zero v less = refl
+  set_at (x ∷ xs) (suc i) v less = set_at xs i v (omega (arith, less))
+
+  pub room_made : (table : List (Vec T Z)) (i : ℕ) (v : Vec T Z) → i < length table → vec_len v < vec_capacity v → HasRoomIn (set table i v) i
+  room_made table i v less room = record { row = v; at = set_at table i v less; room = room }
+
+  pub put_set : (table : List (Vec T Z)) (i : ℕ) (v w : Vec T Z) (item : T) → i < length table → v ≡ slice_index_or table i v → w.items ≡ v.items ++ item ∷ []
+      → IsPutOn (i + 1) (rows_in table) item (rows_in (set table i w))
+  put_set table i v w item less is more =
+      let e : suc i ≡ i + 1 = omega arith in
+      subst (λ p. IsPutOn p (rows_in table) item (rows_in (set table i w))) e
+      (record {
+        more = row_set table i w less ∙ more ∙ ap (λ l. l ++ item ∷ []) (sym (row_at table i v less is));
+        others = λ q other. row_set_other table i w q other;
+        as_many = rows_set_length table i w;
+      })
+
+  pub taken_set : (table : List (Vec T Z)) (i : ℕ) (v w : Vec T Z) (item : T) → i < length table → v ≡ slice_index_or table i v → v.items ≡ w.items ++ item ∷ []
+      → IsPutOn (i + 1) (rows_in (set table i w)) item (rows_in table)
+  taken_set table i v w item less is more =
+      let e : suc i ≡ i + 1 = omega arith in
+      subst (λ p. IsPutOn p (rows_in (set table i w)) item (rows_in table)) e
+      (record {
+        more = row_at table i v less is ∙ more ∙ ap (λ l. l ++ item ∷ []) (sym (row_set table i w less));
+        others = λ q other. sym (row_set_other table i w q other);
+        as_many = sym (rows_set_length table i w);
+      })
+
+  pub item_at : (table : List (Vec T Z)) (i : ℕ) (v : Vec T Z) (k : ℕ) → i < length table
+      → v ≡ slice_index_or table i v → 1 ≤ k → slice_get v.items (k - 1) ≡ nth (row_of (rows_in table) (i + 1)) k
+  item_at table i v zero less is some = absurd (omega arith)
+  item_at table i v (suc k) less is some =
+      let e : suc k - 1 ≡ k = omega arith in
+      let f : suc i ≡ i + 1 = omega arith in
+      ap (slice_get v.items) e ∙ ap (λ row. slice_get row k) (sym (row_at table i v less is) ∙ ap (row_of (rows_in table)) f)
+
+-- ---- an item that was looked up
+
+pub got : {A : Type 0} (xs : List A) (k : ℕ) (x : A) → k < length xs → x ≡ slice_index_or xs k x → slice_get xs k ≡ Some x
+got [] k x less is = absurd (omega (arith, less))
+got (z ∷ xs) zero x less is = ap Some (sym is)
+got (z ∷ xs) (suc k) x less is = got xs k x (omega (arith, less)) is
+
+pub looked_up : {A : Type 0} (o : Option (Bor A)) (xs : List A) (k : ℕ)
+    → MatchOption o (length xs ≤ k) (λ x. (k < length xs) × HoldsAt (λ y. x.now ≡ y) xs k) → option_copied o ≡ slice_get xs k
+looked_up None xs k past = sym (slice_get_past xs k past)
+looked_up (Some x) xs k at = sym (got xs k x.now at.0 (at.1 x.now))
+
+-- ---- a list with one item set
+
+pub get_set : {A : Type 0} (xs : List A) (j : ℕ) (x y : A) → slice_get xs j ≡ Some x → slice_get (set xs j y) j ≡ Some y
+get_set [] j x y at = absurd (none-some x at)
+get_set (z ∷ xs) zero x y at = refl
+get_set (z ∷ xs) (suc j) x y at = get_set xs j x y at
+
+pub get_set_other : {A : Type 0} (xs : List A) (i j : ℕ) (y : A) → j ≢ i → slice_get (set xs i y) j ≡ slice_get xs j
+get_set_other [] i j y other = refl
+get_set_other (z ∷ xs) zero zero y other = absurd (other refl)
+get_set_other (z ∷ xs) zero (suc j) y other = refl
+get_set_other (z ∷ xs) (suc i) zero y other = refl
+get_set_other (z ∷ xs) (suc i) (suc j) y other = get_set_other xs i j y (λ e. other (ap suc e))
+
+-- ---- one copy set
+
+pub copy_set : {Z : Type 0} (table : List (Vec Sent Z)) (i j t : ℕ) (copied : Copied) (v w : Vec Sent Z)
+    → i < length table → v ≡ slice_index_or table i v → IsRowSet v.items j t copied w.items
+    → IsCopySet (rows_in table) (suc i) (suc j) (suc t) copied (rows_in (set table i w))
+copy_set table i j t copied v w less is put =
+    record {
+      was = put.was;
+      it = put.it;
+      was_sent = ap (λ row. slice_get row j) (row_at table i v less is) ∙ put.was_sent;
+      is_sent = ap (λ row. slice_get row j) (row_set table i w less ∙ put.set) ∙ get_set v.items j put.was put.it put.was_sent;
+      same_step = put.same_step;
+      set = put.became;
+      other_copies = other_copies;
+      other_messages = other_messages;
+      other_rows = λ r other. row_set_other table i w r other;
+      as_many = rows_set_length table i w;
+    }
+  where
+    other_copies : (other : ℕ) → other ≢ suc t → nth (put.it).copies other ≡ nth (put.was).copies other
+    other_copies zero other = refl
+    other_copies (suc r) other = ap (λ l. slice_get l r) put.set_copy ∙ get_set_other (put.was).copies t r copied (λ e. other (ap suc e))
+
+    other_messages : (n : ℕ) → n ≢ suc j → nth (row_of (rows_in (set table i w)) (suc i)) n ≡ nth (row_of (rows_in table) (suc i)) n
+    other_messages zero other = refl
+    other_messages (suc n) other =
+        ap (λ row. slice_get row n) (row_set table i w less ∙ put.set) ∙ get_set_other v.items j n put.it (λ e. other (ap suc e))
+        ∙ ap (λ row. slice_get row n) (sym (row_at table i v less is))

@@ -1,0 +1,84 @@
+-- From where the value of a step came, told by the flows of the events before it.
+use Rattle.std.proofs.Common.{◌≡◌, ℕ, zero, suc, ◌<◌, ◌≤◌, ◌⊎◌, inl, inr, ◌↔◌, Bool, false, IsTrue, true≢false, List}
+use Rattle.std.proofs.Common.{[], ◌∷◌, ◌++◌, Contains, Option, Some, length, slice_get, sym, ap, subst, ◌∙◌, arith}
+use Rattle.std.proofs.lemmas.Bool.{cases_lt}
+use Rattle.std.proofs.lemmas.Option.{same_Some, slice_get_within}
+use Rattle.cdb_causal.proofs.Lists.{push_cases}
+use Rattle.cdb_process.proofs.Members.{contained_in}
+use Rattle.cdb_process.specs.Table.{Table}
+use Rattle.cdb_rules.specs.RunView.{RunView}
+use Rattle.cdb_rules.specs.Runs.{machine_in}
+use Rattle.cdb_trail.specs.Flow.{Spot, slot, Flow, Flows}
+use Rattle.cdb_trail.specs.Played.{AreFirstFlows, IsLastSetter, SetNone}
+use Rattle.cdb_trail.specs.Trails.{flow_at, Takes, Sets, IsFed, TakesInput, IsTrail, begins, goes_on}
+use Rattle.cdb_trail.specs.declared.origins.Origin.{Origin}
+
+module _ {L S : Type 0} (table : Table L) (flows : Flows L S) (run : RunView) (found : List (Flow S)) (first : AreFirstFlows table flows run found) where
+  abbrev SetsAt : ℕ → Spot S → Type 0
+  SetsAt k spot = Sets (machine_in table run) flows run.history k spot
+
+  sets_by : (k : ℕ) (flow : Flow S) (spot : Spot S) → slice_get found k ≡ Some flow → Contains flow.sets spot → SetsAt (suc k) spot
+  sets_by k flow spot at here =
+      subst (λ (f : Flow S). Contains f.sets spot)
+      (same_Some flow (flow_at (machine_in table run) flows run.history (suc k)) (sym at ∙ first k (slice_get_within found k flow at))) here
+
+  -- the last of them that sets the spot from which the next step takes its value feeds that step
+  pub fed_by : (spot : Spot S) (i : ℕ) → Takes (machine_in table run) flows run.history (suc (length found)) spot → IsLastSetter found spot i
+      → IsFed (machine_in table run) flows run.history (suc i) (suc (length found))
+  fed_by spot i takes setter = record {
+    spot = spot;
+    takes = takes;
+    sets = sets_by i setter.flow spot setter.at setter.sets;
+    later = let within = slice_get_within found i setter.flow setter.at in omega (arith, within);
+    last = none_between;
+  }
+    where
+      none_between : (k : ℕ) → suc i < k → k < suc (length found) → SetsAt k spot → ⊥
+      none_between zero high low sets = absurd (omega (arith, high))
+      none_between (suc k) high low sets =
+          setter.last k (flow_at (machine_in table run) flows run.history (suc k)) (omega (arith, high)) (first k (omega (arith, low))) sets
+
+  -- where none of them sets it, the trail of the next step begins with it
+  pub input_by : (spot : Spot S) → Takes (machine_in table run) flows run.history (suc (length found)) spot → SetNone found spot → (q : ℕ) (trail : List ℕ)
+      → IsTrail (machine_in table run) flows run.history q (suc (length found)) trail
+      → TakesInput (machine_in table run) flows run.history q (suc (length found))
+  input_by spot takes none q trail (begins it) = it
+  input_by spot takes none q trail (goes_on {i = i} before fed) = absurd (unset i fed.sets fed.later)
+    where
+      same : fed.spot ≡ spot
+      same = same_Some fed.spot spot (sym fed.takes ∙ takes)
+
+      unset : (k : ℕ) → SetsAt k fed.spot → k < suc (length found) → ⊥
+      unset zero sets low = let it = contained_in [] fed.spot sets in elim it [ ]
+      unset (suc k) sets low =
+          none k (flow_at (machine_in table run) flows run.history (suc k)) (first k (omega (arith, low))) (subst (SetsAt (suc k)) same sets)
+
+  -- and the spot is the slot of that input
+  pub its_slot : (spot : Spot S) → Takes (machine_in table run) flows run.history (suc (length found)) spot → (q : ℕ)
+      → TakesInput (machine_in table run) flows run.history q (suc (length found)) → spot ≡ slot q flows.input
+  its_slot spot takes q it = same_Some spot (slot q flows.input) (sym takes ∙ it.takes)
+
+-- the flow at the next position does not set the spot, and none behind it does
+pub unset_before : {S : Type 0} (flows : List (Flow S)) (spot : Spot S) (n i : ℕ)
+    → n ≡ suc i → (here : Flow S) → slice_get flows i ≡ Some here → (b : Bool) → b ≡ false
+    → IsTrue b ↔ Contains here.sets spot → ((k : ℕ) (flow : Flow S) → n ≤ k → slice_get flows k ≡ Some flow → Contains flow.sets spot → ⊥)
+    → (k : ℕ) (flow : Flow S) → i ≤ k → slice_get flows k ≡ Some flow → Contains flow.sets spot → ⊥
+unset_before {S} flows spot n i next here at b not tells behind k flow low is sets = by (cases_lt i k)
+  where
+    by : (i < k) ⊎ (k ≤ i) → ⊥
+    by (inl more) = behind k flow (omega (arith, more, next)) is sets
+    by (inr less) =
+        let same : k ≡ i = omega (arith, low, less) in
+        let its = same_Some flow here (sym is ∙ ap (slice_get flows) same ∙ at) in
+        true≢false (sym (tells.1 (subst (λ (f : Flow S). Contains f.sets spot) its sets)) ∙ not)
+
+-- an origin more
+pub one_origin_more : (IsIts : ℕ → Option Origin → Type 0) (origins : List (Option Origin)) (n : ℕ) (origin : Option Origin)
+    → length origins ≡ n → IsIts (suc n) origin
+    → ((k : ℕ) (it : Option Origin) → slice_get origins k ≡ Some it → IsIts (suc k) it)
+    → (k : ℕ) (it : Option Origin) → slice_get (origins ++ origin ∷ []) k ≡ Some it → IsIts (suc k) it
+one_origin_more IsIts origins n origin number is each k it stands = by (push_cases origins origin it k stands)
+  where
+    by : ((slice_get origins k ≡ Some it) × (k < length origins)) ⊎ ((origin ≡ it) × (k ≡ length origins)) → IsIts (suc k) it
+    by (inl old) = each k it old.0
+    by (inr (same, last)) = subst (λ m. IsIts (suc m) it) (sym (last ∙ number)) (subst (IsIts (suc n)) same is)
