@@ -73,9 +73,11 @@ module _ (Answers : RunView → Inquiry → List ℕ → Type 0) (style : StyleV
       0,
       text.items,
       [],
-      none_done Answers old.seat old.part new.part (Ask inquiry) (of_answer text.items) none (λ command times e. cc)
-          (λ other asks. let same : inquiry ≡ other = cc in subst (λ i. AnswersNow Answers new.part i text.items) same is),
-      refl,
+      (
+        none_done Answers old.seat old.part new.part (Ask inquiry) (of_answer text.items) none (λ command times e. cc)
+            (λ other asks. let same : inquiry ≡ other = cc in subst (λ i. AnswersNow Answers new.part i text.items) same is),
+        refl,
+      ),
     )
     ask_responds (Err fault) old new inquiry none is = record { got = []; calls = none_got old.seat (Ask inquiry) old.part new.part none; due = refl }
 
@@ -104,12 +106,12 @@ module _ (Answers : RunView → Inquiry → List ℕ → Type 0) (style : StyleV
         → IfOk r (λ text. text.items ≡ own_response style old.lines request) → Responds Answers style seen news r old request new
     own_responses (Ok text) old new (Call command times) same other and_other is = absurd (other command times refl)
     own_responses (Ok text) old new (Ask inquiry) same other and_other is = absurd (and_other inquiry refl)
-    own_responses (Ok text) old new (Watch begins) same other and_other is = (0, [], [], own_done old new same (Watch begins) other and_other, is)
-    own_responses (Ok text) old new (Seat seat) same other and_other is = (0, [], [], own_done old new same (Seat seat) other and_other, is)
-    own_responses (Ok text) old new (Help about) same other and_other is = (0, [], [], own_done old new same (Help about) other and_other, is)
-    own_responses (Ok text) old new Quit same other and_other is = (0, [], [], own_done old new same Quit other and_other, is)
-    own_responses (Ok text) old new (Fault fault) same other and_other is = (0, [], [], own_done old new same (Fault fault) other and_other, is)
-    own_responses (Ok text) old new TooLong same other and_other is = (0, [], [], own_done old new same TooLong other and_other, is)
+    own_responses (Ok text) old new (Watch begins) same other and_other is = (0, [], [], (own_done old new same (Watch begins) other and_other, is))
+    own_responses (Ok text) old new (Seat seat) same other and_other is = (0, [], [], (own_done old new same (Seat seat) other and_other, is))
+    own_responses (Ok text) old new (Help about) same other and_other is = (0, [], [], (own_done old new same (Help about) other and_other, is))
+    own_responses (Ok text) old new Quit same other and_other is = (0, [], [], (own_done old new same Quit other and_other, is))
+    own_responses (Ok text) old new (Fault fault) same other and_other is = (0, [], [], (own_done old new same (Fault fault) other and_other, is))
+    own_responses (Ok text) old new TooLong same other and_other is = (0, [], [], (own_done old new same TooLong other and_other, is))
     own_responses (Err fault) old new request same other and_other is =
         record { got = []; calls = none_got old.seat request old.part new.part (made_none old new same); due = nothing_due request }
 
@@ -182,7 +184,8 @@ module _ (Answers : RunView → Inquiry → List ℕ → Type 0) (style : StyleV
     as_seen r responds = subst (λ (s : SessionView). Responds Answers style seen news r s request new) is_mid responds
 
     -- there is no memory for the response
-    pub unanswered : (E F : Type 0) (e : E) (f : F) → (let r : Result (Vec ℕ Global) E = Err e in Responds Answers style seen news r mid request new)
+    pub unanswered : (E F : Type 0) (e : E) (f : F)
+        → (let r : Result (Vec ℕ Global) E = Err e in Responds Answers style seen news r mid request new)
         → Shows Answers style {E = F} (Err f) old request new
     unanswered E F e f responds =
         let r : Result (Vec ℕ Global) E = Err e in
@@ -202,9 +205,9 @@ module _ (Answers : RunView → Inquiry → List ℕ → Type 0) (style : StyleV
         let effect : Effect = record { seen = seen; news = news; given = s.0; answer = s.1 } in
         inr (
           begun_where_done Answers old.seat old.part new.part request effect s.2
-              (done_behind old.part mid.part new.part none Answers old.seat (request, effect) s.2 s.3),
+              (done_behind old.part mid.part new.part none Answers old.seat (request, effect) s.2 s.3.0),
           effect,
-          looked_before old.part mid.part new.part none (entries_of old.seat request (length s.2)) s.2 s.3.calls old.watched request seen news has,
+          looked_before old.part mid.part new.part none (entries_of old.seat request (length s.2)) s.2 s.3.0.calls old.watched request seen news has,
         )
 
     pub shows : (E F : Type 0) (text all : Vec ℕ Global) → Responds Answers style {E = E} seen news (Ok text) mid request new
@@ -215,13 +218,13 @@ module _ (Answers : RunView → Inquiry → List ℕ → Type 0) (style : StyleV
         let r : Result (Vec ℕ Global) E = Ok text in
         let s = as_seen r responds in
         let effect : Effect = record { seen = seen; news = news; given = s.0; answer = s.1 } in
-        let done = done_behind old.part mid.part new.part none Answers old.seat (request, effect) s.2 s.3 in
+        let done = done_behind old.part mid.part new.part none Answers old.seat (request, effect) s.2 s.3.0 in
         let looked =
-        looked_before old.part mid.part new.part none (entries_of old.seat request (length s.2)) s.2 s.3.calls old.watched request seen news has in (
+        looked_before old.part mid.part new.part none (entries_of old.seat request (length s.2)) s.2 s.3.0.calls old.watched request seen news has in (
           effect,
           s.2,
           subst (HasDone Answers old.seat old.part (request, effect) s.2) (sym same) done,
           subst (λ (part : Part). HasNews part (length old.part.calls) old.part.entries old.watched request seen news) (sym same) looked,
-          is ∙ ap (λ (response : List ℕ). (news ++ response) ++ prompt_after style.prompt request) s.4,
+          is ∙ ap (λ (response : List ℕ). (news ++ response) ++ prompt_after style.prompt request) s.3.1,
           watched,
         )

@@ -114,14 +114,16 @@ module _ (Answers : RunView → Inquiry → List ℕ → Type 0) (style : StyleV
     length got,
     [],
     got,
-    record {
-      calls = so.calls;
-      given = (let e = ap (times_given times) (append-nil got) in omega (arith, e, all, given_more got [] 0 times so.carried_out (omega (arith, all))));
-      fits = omega arith;
-      full = λ low. absurd (omega (arith, low));
-      answer = λ inquiry asks. absurd cc;
-    },
-    so.text_is,
+    (
+      record {
+        calls = so.calls;
+        given = (let e = ap (times_given times) (append-nil got) in omega (arith, e, all, given_more got [] 0 times so.carried_out (omega (arith, all))));
+        fits = omega arith;
+        full = λ low. absurd (omega (arith, low));
+        answer = λ inquiry asks. absurd cc;
+      },
+      so.text_is,
+    ),
   )
 
   module _ (low : length got < times) (now : Part) (before : List ℕ) (so : Repeated now before) where
@@ -139,14 +141,16 @@ module _ (Answers : RunView → Inquiry → List ℕ → Type 0) (style : StyleV
           length (got ++ reply ∷ []),
           [],
           got ++ reply ∷ [],
-          record {
-            calls = once_more (entry old.seat command) got old.part now new.part reply so.calls call;
-            given = sym all;
-            fits = omega arith;
-            full = λ short. absurd (omega (arith, short));
-            answer = λ inquiry asks. absurd cc;
-          },
-          sym (text_more got reply before text.items so.text_is is),
+          (
+            record {
+              calls = once_more (entry old.seat command) got old.part now new.part reply so.calls call;
+              given = sym all;
+              fits = omega arith;
+              full = λ short. absurd (omega (arith, short));
+              answer = λ inquiry asks. absurd cc;
+            },
+            sym (text_more got reply before text.items so.text_is is),
+          ),
         )
     last_given E text new last (inr (none, full, refused, is)) ends =
         let e = ap (times_given times) (append-nil got) in
@@ -155,6 +159,7 @@ module _ (Answers : RunView → Inquiry → List ℕ → Type 0) (style : StyleV
           length got + 1,
           [],
           got,
+          (
           record {
             calls = none_more (replicate (length got) (entry old.seat command)) got old.part now new.part so.calls none;
             given = sym all;
@@ -163,6 +168,7 @@ module _ (Answers : RunView → Inquiry → List ℕ → Type 0) (style : StyleV
             answer = λ inquiry asks. absurd cc;
           },
           is ∙ (λ i. so.text_is i ++ sym (append-nil full_text) i) ∙ sym (texts_more got [] 1 (length got + 1) refl) ∙ f,
+          ),
         )
 
     -- memory is out

@@ -176,7 +176,7 @@ impl<C: Caller> Session<C> {
         requires lines { self.old.lines < 2 ^ 64 - 1 }
         ensures shows { Shows C.answers style.now result (seen_by C.part self.old)
             request.now (seen_by C.part self.new) }
-        ensures seat { self.new.seat ≡ seat_next style.now.chooses self.old.seat request.now }
+        ensures seat { OnOk result (self.new.seat ≡ seat_next style.now.chooses self.old.seat request.now) }
         ensures lines { OnOk result (self.new.lines ≡ self.old.lines + 1) }
         ensures seats { C.seats self.new.caller ≡ C.seats self.old.caller }
         ensures later { Onward C.later self.old.caller self.new.caller }

@@ -85,7 +85,7 @@ loop-read-preserved g c =
       few = c.in_ok-feed.ensures.unfinished;
       bound = omega (arith, c.loop-read-test.true, c.in-Ok-read.ensures.within);
       lines = omega (arith, c.in_ok-feed.ensures.lines, c.loop-read.invariant.lines, long);
-      sits = c.feed.ensures.sits;
+      sits = c.in_ok-feed.ensures.sits;
       later = Onward-trans g.C.Caller.later _ _ _ c.loop-read.invariant.later c.feed.ensures.later;
       arrives =
           subst (λ n. Arrives g.C.Caller.answers c.args.style.now before now
