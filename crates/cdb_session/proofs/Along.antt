@@ -53,6 +53,7 @@ seat_along style s [] = refl
 seat_along style s (exchange ∷ exchanges) = seat_along style (next_along style s exchange) exchanges
 
 -- and it watches from where they left off
-pub watched_along : (style : StyleView) (s : Along) (exchanges : List Exchange) → (along_after style s exchanges).watched ≡ fold watched_next s.watched exchanges
+pub watched_along : (style : StyleView) (s : Along) (exchanges : List Exchange)
+    → (along_after style s exchanges).watched ≡ fold watched_next s.watched exchanges
 watched_along style s [] = refl
 watched_along style s (exchange ∷ exchanges) = watched_along style (next_along style s exchange) exchanges

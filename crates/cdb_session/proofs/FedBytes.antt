@@ -124,7 +124,8 @@ module _ (Answers : RunView → Inquiry → List ℕ → Type 0) (style : StyleV
         old.part new.part [] (no_more new.part) d.exchange d.got (behind now) d.done d.looked now.commands) made d.writes
         d.missing (sym same.0 ∙ d.written) d.fails)
 
-    line_loses : MakesNone old.part new.part ⊎ IsRequestLost Answers style old new unfinished → HasEndedAs Answers style (ended_by (output.NoMemory refused)) moves new
+    line_loses : MakesNone old.part new.part ⊎ IsRequestLost Answers style old new unfinished
+        → HasEndedAs Answers style (ended_by (output.NoMemory refused)) moves new
     line_loses (inl none) = nothing_done moves old unfinished (10 ∷ left) at new none
     line_loses (inr d) =
         let now = before_line moves old unfinished (10 ∷ left) at new.part d.request d.begun.got d.begun.calls [] (no_more new.part) in
@@ -160,7 +161,8 @@ module _ (Answers : RunView → Inquiry → List ℕ → Type 0) (style : StyleV
           old.part new.part [] (no_more new.part) d.exchange d.got (behind now) d.done d.looked now.commands) made d.writes
           d.missing (sym same.0 ∙ d.written) d.fails)
 
-      pub last_loses : MakesNone old.part new.part ⊎ IsRequestLost Answers style old new unfinished → HasEndedAs Answers style (ended_by (output.NoMemory refused)) moves new
+      pub last_loses : MakesNone old.part new.part ⊎ IsRequestLost Answers style old new unfinished
+          → HasEndedAs Answers style (ended_by (output.NoMemory refused)) moves new
       last_loses (inl none) = nothing_done moves old unfinished [] at new none
       last_loses (inr d) =
           let now = before_line moves old unfinished [] at new.part d.request d.begun.got d.begun.calls [] (no_more new.part) in

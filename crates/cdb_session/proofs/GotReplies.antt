@@ -410,7 +410,8 @@ module _ (Answers : RunView → Inquiry → List ℕ → Type 0) (style : StyleV
 
       pub commands_lost : (request : Request) (begun : HasBegun seat old request new) (effect : Effect)
           → HasNews new (length old.calls) old.entries watched request effect.seen effect.news
-          → drop (commands_among exchanges) replies ≡ begun.got ++ [] → HasExchanges Answers style (part_with replies old) exchanges → HasPart exchanges replies new request
+          → drop (commands_among exchanges) replies ≡ begun.got ++ [] → HasExchanges Answers style (part_with replies old) exchanges
+          → HasPart exchanges replies new request
       commands_lost (Call command times) begun effect looked left has =
           let got = begun.got in
           let exchange : Exchange = (Call command (length got), record { seen = effect.seen; news = effect.news; given = length got; answer = [] }) in

@@ -193,7 +193,8 @@ module _ (Answers : RunView → Inquiry → List ℕ → Type 0) (style : StyleV
         inr (
           begun_behind old.part mid.part new.part none old.seat request begun,
           record { seen = seen; news = news; given = 0; answer = [] },
-          looked_before old.part mid.part new.part none (entries_of old.seat request (length begun.got)) begun.got begun.calls old.watched request seen news has,
+          looked_before old.part mid.part new.part none (entries_of old.seat request (length begun.got)) begun.got begun.calls
+              old.watched request seen news has,
         )
 
     -- or for what is shown

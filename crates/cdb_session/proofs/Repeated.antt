@@ -160,14 +160,14 @@ module _ (Answers : RunView → Inquiry → List ℕ → Type 0) (style : StyleV
           [],
           got,
           (
-          record {
-            calls = none_more (replicate (length got) (entry old.seat command)) got old.part now new.part so.calls none;
-            given = sym all;
-            fits = omega arith;
-            full = λ short. full;
-            answer = λ inquiry asks. absurd cc;
-          },
-          is ∙ (λ i. so.text_is i ++ sym (append-nil full_text) i) ∙ sym (texts_more got [] 1 (length got + 1) refl) ∙ f,
+            record {
+              calls = none_more (replicate (length got) (entry old.seat command)) got old.part now new.part so.calls none;
+              given = sym all;
+              fits = omega arith;
+              full = λ short. full;
+              answer = λ inquiry asks. absurd cc;
+            },
+            is ∙ (λ i. so.text_is i ++ sym (append-nil full_text) i) ∙ sym (texts_more got [] 1 (length got + 1) refl) ∙ f,
           ),
         )
 

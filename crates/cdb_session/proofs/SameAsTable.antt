@@ -177,20 +177,26 @@ module _ (Answers : RunView → Inquiry → List ℕ → Type 0) (greeting promp
       ∙ ap (λ text. (table.texts_at s.rules s.seat command s.control effect.given ++ prompt) ++ text)
       (same (watched_next watched (Call command times, effect)) (table.after_line s (Call command times, effect)) exchanges others more.1)
   same watched s ((Ask inquiry, effect) ∷ exchanges) others few =
-      ap (λ text. table_one prompt s (Ask inquiry, effect) ++ text) (same (watched_next watched (Ask inquiry, effect)) (table.after_line s (Ask inquiry, effect)) exchanges others few)
+      ap (λ text. table_one prompt s (Ask inquiry, effect) ++ text)
+      (same (watched_next watched (Ask inquiry, effect)) (table.after_line s (Ask inquiry, effect)) exchanges others few)
   same watched s ((Watch begins, effect) ∷ exchanges) others few =
       ap (λ text. table_one prompt s (Watch begins, effect) ++ text)
       (same (watched_next watched (Watch begins, effect)) (table.after_line s (Watch begins, effect)) exchanges others few)
   same watched s ((Seat chosen, effect) ∷ exchanges) others few =
-      ap (λ text. table_one prompt s (Seat chosen, effect) ++ text) (same (watched_next watched (Seat chosen, effect)) (table.after_line s (Seat chosen, effect)) exchanges others few)
+      ap (λ text. table_one prompt s (Seat chosen, effect) ++ text)
+      (same (watched_next watched (Seat chosen, effect)) (table.after_line s (Seat chosen, effect)) exchanges others few)
   same watched s ((Help about, effect) ∷ exchanges) others few =
-      ap (λ text. table_one prompt s (Help about, effect) ++ text) (same (watched_next watched (Help about, effect)) (table.after_line s (Help about, effect)) exchanges others few)
+      ap (λ text. table_one prompt s (Help about, effect) ++ text)
+      (same (watched_next watched (Help about, effect)) (table.after_line s (Help about, effect)) exchanges others few)
   same watched s ((Quit, effect) ∷ exchanges) others few =
-      ap (λ text. table_one prompt s (Quit, effect) ++ text) (same (watched_next watched (Quit, effect)) (table.after_line s (Quit, effect)) exchanges others few)
+      ap (λ text. table_one prompt s (Quit, effect) ++ text)
+      (same (watched_next watched (Quit, effect)) (table.after_line s (Quit, effect)) exchanges others few)
   same watched s ((Fault fault, effect) ∷ exchanges) others few =
-      ap (λ text. table_one prompt s (Fault fault, effect) ++ text) (same (watched_next watched (Fault fault, effect)) (table.after_line s (Fault fault, effect)) exchanges others few)
+      ap (λ text. table_one prompt s (Fault fault, effect) ++ text)
+      (same (watched_next watched (Fault fault, effect)) (table.after_line s (Fault fault, effect)) exchanges others few)
   same watched s ((TooLong, effect) ∷ exchanges) others few =
-      ap (λ text. table_one prompt s (TooLong, effect) ++ text) (same (watched_next watched (TooLong, effect)) (table.after_line s (TooLong, effect)) exchanges others few)
+      ap (λ text. table_one prompt s (TooLong, effect) ++ text)
+      (same (watched_next watched (TooLong, effect)) (table.after_line s (TooLong, effect)) exchanges others few)
 
   -- the journal has as many of the entries as it has room for behind those that it went on from
   as_many : (before its : List Entry) (part : Part) (exchanges : List Exchange) → part.calls ≡ its
@@ -291,7 +297,8 @@ module _ (Answers : RunView → Inquiry → List ℕ → Type 0) (greeting promp
         → IsThere s asked exchanges count
         → IsTold Answers (came rules c before) count inquiry text → Answers (table.run_in s) inquiry text
     answered_there s asked exchanges count inquiry text at (first, just, answers) =
-        let whole : first ≡ min (length before + count) (length c.journal) = omega (arith, just.since, just.within, just.commands, longer, length-drop (length before) c.journal) in
+        let whole : first ≡ min (length before + count) (length c.journal) =
+        omega (arith, just.since, just.within, just.commands, longer, length-drop (length before) c.journal) in
         let same : take first c.journal ≡ s.control.journal =
         ap (λ n. take n c.journal) whole ∙ take_min (length before + count) c.journal ∙ ap (λ n. take n c.journal) (sym at.counted)
         ∙ first_entries asked (all_asked true s.seat exchanges) c.journal at.all ∙ sym at.come_to in
@@ -367,7 +374,8 @@ module _ (Answers : RunView → Inquiry → List ℕ → Type 0) (greeting promp
       given_there s.rules s.seat command times effect.given s.control
           (all_asked true s.seat (exchanges ++ others)) at.few (told.0.given ∙ ap (times_given times) at.left),
       answered_from (table.after_line s (Call command times, effect)) (asked ++ replicate effect.given (entry s.seat command))
-          exchanges others (count + effect.given) (watched_next watched (Call command times, effect)) (then_there s asked command times effect (exchanges ++ others) count at) told.1,
+          exchanges others (count + effect.given) (watched_next watched (Call command times, effect))
+          (then_there s asked command times effect (exchanges ++ others) count at) told.1,
     )
     answered_from s asked ((Ask inquiry, effect) ∷ exchanges) others count watched at told = (
       answered_there s asked ((Ask inquiry, effect) ∷ (exchanges ++ others)) count inquiry effect.answer at told.0.answered,

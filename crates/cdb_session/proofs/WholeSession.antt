@@ -54,7 +54,8 @@ module _ (Answers : RunView → Inquiry → List ℕ → Type 0) (style : StyleV
 
   -- ---- the first
 
-  module _ (before now : Known) (session : SessionView) (fresh : (session.part.calls ≡ []) × (session.part.replies ≡ [])) (unwatched : session.watched ≡ None) where
+  module _ (before now : Known) (session : SessionView) (fresh : (session.part.calls ≡ []) × (session.part.replies ≡ []))
+      (unwatched : session.watched ≡ None) where
     pub started : (A E : Type 0) (a : A) → session.lines ≡ 0 → session.seat ≡ style.first
         → WritesAll {E = E} (Ok a) before now (style.greeting ++ style.prompt) → Arrives before now session [] 0
     started A E a none is_first says = (

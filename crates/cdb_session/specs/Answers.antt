@@ -35,7 +35,7 @@ module _ (Answers : RunView → Inquiry → List ℕ → Type 0) where
   IsAnsweredAfter part count (Ask inquiry, effect) = IsTold part count inquiry effect.answer
   IsAnsweredAfter part count other = Unit {0}
 
-  -- its command was given as often as it is by the replies behind those to the commands before it, and it shows its news
+  -- and its command was given as often as it is by the replies behind those to the commands before it
   pub record IsDoneAfter (part : Part) (count : ℕ) (watched : Option ℕ) (exchange : Exchange) : Type 0 where
     pub answered : IsAnsweredAfter part count exchange
     pub given : IsGiven exchange (drop count part.replies)

@@ -3,8 +3,8 @@ use Rattle.std.specs.Prelude.{ℕ, ◌+◌, List, [], ◌∷◌}
 use Rattle.cdb_session.specs.declared.request.Request.{Request}
 use Rattle.cdb_session.specs.declared.request.Request.TheVariants.{Call}
 
--- What came of a line: how many entries of the journal were seen at it, if somebody watches, and the news of others among
--- them; how often its command was given; and the answer to it where it asks something of the run.
+-- What came of a line: how many entries of the journal were seen at it, if somebody watches, and the news of others;
+-- how often its command was given; and the answer to it where it asks something of the run.
 pub record Effect : Type 0 where
   pub seen : ℕ
   pub news : List ℕ

@@ -12,7 +12,9 @@ use cdb_base::NoMemory;
 use cdb_base::limits::MAX_SEATS;
 use cdb_control::{CallFault, Command, Control, Reply};
 use cdb_rules::Runs;
-use cdb_session::{Answers, Caller, Console, Inquiry, News, Style, answer_in, begin, greeting_at, run};
+use cdb_session::{
+    Answers, Caller, Console, Inquiry, News, Style, answer_in, begin, greeting_at, run,
+};
 use cdb_streams::{Failed, OutputFault, PlayFault, Sink};
 use std::alloc::Global;
 use std::marker::{Model, PhantomData};

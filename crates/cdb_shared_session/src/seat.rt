@@ -73,7 +73,14 @@ impl<'a, R: Runs, A: Answers<R>, Rt: Wait> Caller for SeatCaller<'a, R, A, Rt> {
             return Ok(News::none(alloc, seen));
         };
         let number = self.seat.number();
-        let text = news_of::<R>(alloc, self.setup, self.seats, number, journal.as_slice(), from)?;
+        let text = news_of::<R>(
+            alloc,
+            self.setup,
+            self.seats,
+            number,
+            journal.as_slice(),
+            from,
+        )?;
         Ok(News { text, seen })
     }
 }

@@ -1,11 +1,9 @@
-use Rattle.std.proofs.Common.{◌≡◌, ℕ, List, [], ◌++◌, drop, length, take, min, ap, ◌∙◌, Vec, Global}
-use Rattle.std.specs.Prelude.{string_bytes}
+use Rattle.std.proofs.Common.{◌≡◌, ℕ, List, ◌++◌, drop, length, take, min, ap, ◌∙◌, Vec, Global}
 use Rattle.std.proofs.lemmas.List.{take_rest}
 use Rattle.cdb_control.specs.Journal.{Journaled}
-use Rattle.cdb_control.specs.declared.control.Entry.{Entry}
 use Rattle.cdb_setup.specs.Parts.{Parts}
 use Rattle.cdb_journal.specs.OpenedFrom.{opened_from}
-use Rattle.cdb_journal.specs.SeatReplies.{news, news_lines, told_in}
+use Rattle.cdb_journal.specs.SeatReplies.{news_lines, told_in}
 use Rattle.cdb_journal.proofs.CarriedOut.{carried_out}
 use Rattle.cdb_journal.proofs.NewsLines.{news_told}
 use Rattle.cdb_journal.proofs.news.news_of.Goals as goal

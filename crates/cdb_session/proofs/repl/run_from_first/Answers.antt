@@ -29,7 +29,8 @@ loop-read-init g c =
       later = stays;
       arrives =
           subst (λ unfinished. Arrives g.C.Caller.answers c.args.style.now before now first unfinished 0) (sym none) (started g.C.Caller.answers
-          c.args.style.now before now first (c.requires.calls, c.requires.replies) c.requires.watched (Unit {0}) (Unit {0}) tt c.requires.lines c.requires.seat c.in-Ok.ensures);
+          c.args.style.now before now first (c.requires.calls, c.requires.replies) c.requires.watched
+          (Unit {0}) (Unit {0}) tt c.requires.lines c.requires.seat c.in-Ok.ensures);
     }
 
 pub returns-in_default-read-clause-all : goal.returns-in_default-read-clause-all

@@ -56,7 +56,8 @@ returns-in-Ok-clause-only c =
     let line = c.args.line.now in
     let no_quit : line ≢ quit_line = search rules in
     only_call line c.if-line-gt-MAX_BYTES.false (not_own line c.in_default.ensures.none no_quit c.in_default-seat_of.ensures.none
-    (no_inquiry line (sym c.in_default-inquiry_of.ensures)) (no_repeat line (sym c.in_default-repeat_of.ensures)) c.in_default-watch_of.ensures.none) (Ok c.in-Ok.command)
+    (no_inquiry line (sym c.in_default-inquiry_of.ensures)) (no_repeat line (sym c.in_default-repeat_of.ensures))
+    c.in_default-watch_of.ensures.none) (Ok c.in-Ok.command)
     (λ command is. (c.in-Ok.ensures.command command).1 is) (λ fault is. (c.in-Ok.ensures.fault fault).1 is) c.in-Ok.command refl
 
 pub returns-in-Err-clause-asks : goal.returns-in-Err-clause-asks
@@ -77,5 +78,6 @@ returns-in-Err-clause-only c =
     let line = c.args.line.now in
     let no_quit : line ≢ quit_line = search rules in
     only_fault line c.if-line-gt-MAX_BYTES.false (not_own line c.in_default.ensures.none no_quit c.in_default-seat_of.ensures.none
-    (no_inquiry line (sym c.in_default-inquiry_of.ensures)) (no_repeat line (sym c.in_default-repeat_of.ensures)) c.in_default-watch_of.ensures.none) (Err c.in-Err.fault)
+    (no_inquiry line (sym c.in_default-inquiry_of.ensures)) (no_repeat line (sym c.in_default-repeat_of.ensures))
+    c.in_default-watch_of.ensures.none) (Err c.in-Err.fault)
     (λ command is. (c.in-Err.ensures.command command).1 is) (λ fault is. (c.in-Err.ensures.fault fault).1 is) c.in-Err.fault refl

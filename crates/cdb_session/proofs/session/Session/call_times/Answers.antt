@@ -47,8 +47,9 @@ returns-in_err-call-clause-responds g c =
     subst (λ (seat : ℕ). GivesOnce {E = NoMemory} (Err c.in_err-call.field-0.0) (part c.loop.self.caller) (entry seat c.args.command.now)
     c.loop.text.items c.call.new.text.items (part c.call.new.self.caller)) so.seat c.in_err-call.ensures.gives in
     rw p.1
-    (λ seen news. cut_short g.C.Caller.answers c.args.style.now seen news (seen_by part c.args.self.now) c.args.command.now c.args.times so.so_far.0 (rw so.so_far.1 c.loop-test.true)
-    (part c.loop.self.caller) c.loop.text.items so.so_far.2 NoMemory c.in_err-call.field-0.0 c.call.new.text.items (seen_by part c.call.new.self) gives)
+    (λ seen news. cut_short g.C.Caller.answers c.args.style.now seen news (seen_by part c.args.self.now) c.args.command.now
+    c.args.times so.so_far.0 (rw so.so_far.1 c.loop-test.true) (part c.loop.self.caller) c.loop.text.items so.so_far.2
+    NoMemory c.in_err-call.field-0.0 c.call.new.text.items (seen_by part c.call.new.self) gives)
 
 pub returns-in_err-call-clause-later : goal.returns-in_err-call-clause-later
 returns-in_err-call-clause-later g c = goes c.loop.self.caller c.call.new.self.caller c.loop.invariant.later c.call.ensures.later

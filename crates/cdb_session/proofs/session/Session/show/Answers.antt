@@ -4,7 +4,7 @@ use Rattle.std.proofs.lemmas.Result.{err_from_is_err_and}
 use Rattle.cdb_base.specs.declared.no_memory.NoMemory.{NoMemory}
 use Rattle.cdb_session.specs.Dialogues.{prompt_after}
 use Rattle.cdb_session.specs.Lines.{SessionView, seen_by}
-use Rattle.cdb_session.specs.News.{HasNews, watches}
+use Rattle.cdb_session.specs.News.{watches}
 use Rattle.cdb_session.proofs.CallChain.{Onward-trans}
 use Rattle.cdb_session.proofs.LineResponse.{unanswered, unshown, shows}
 use Rattle.cdb_session.proofs.session.Session.show.Goals as goal
