@@ -18,8 +18,8 @@ pub enum Question {
     Explain(StepAsked),
     /// How a value came to the step.
     Trail(StepAsked),
-    /// A picture with so many columns to a row, or with 0 all in one row, in which what led to the step stands out;
-    /// without one all does.
+    /// A picture with this number of columns to a row, or with 0 all in one row. What led to the step stands out;
+    /// without a step, everything does.
     Draw {
         columns: u32,
         step: Option<StepAsked>,

@@ -25,7 +25,7 @@ pub enum Request<'a> {
         question: Question,
     },
     /// Draws the run after each command of a script that changed it, on a setup, each into a file of this folder, with
-    /// so many columns to a row. A step is refused.
+    /// this number of columns to a row. A step is refused.
     Frames {
         setup: &'a str,
         script: &'a str,

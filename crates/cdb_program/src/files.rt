@@ -78,8 +78,8 @@ pub trait Files {
     fn write_whole(&mut self, alloc: Global, name: &str, bytes: &[u8]) -> Result<(), OutputFault>
         ensures { WritesWhole (seen self.old) (seen self.new) name.now bytes.now result };
 
-    /// Shows that so many of so many walks are done, in a line that is written over, where standard error is a
-    /// terminal. Of that line nothing is known, and what can't be shown is left out.
+    /// Shows how many of all walks are done, in a line that is written over, where standard error is a terminal.
+    /// Of that line nothing is known, and what can't be shown is left out.
     fn show_progress(&self, done: u32, all: u32);
 
     /// Clears that line.

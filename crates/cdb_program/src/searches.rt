@@ -55,8 +55,8 @@ fn search_for<'a, F: Files + Drop, I: Source + Drop, O: Sink + Drop, E: Sink + D
     of_search(searched, setup)
 }
 
-/// Searches for a run of a setup file in which the goal of this word holds, with this seed and at most so many walks. A
-/// word that names no goal is refused before the file is opened.
+/// Searches for a run of a setup file in which the goal of this word holds, with this seed and at most this number of
+/// walks. A word that names no goal is refused before the file is opened.
 pub fn search_file<'a, F: Files + Drop, I: Source + Drop, O: Sink + Drop, E: Sink + Drop>(
     alloc: Global,
     setup: &'a str,

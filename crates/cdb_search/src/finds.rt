@@ -13,8 +13,8 @@ use rand_core::SeedableRng;
 use rand_xoshiro::Xoshiro256PlusPlus;
 use std::alloc::Global;
 
-/// A run of the setup in which the goal holds, where one of so many walks comes to one. The walks are the same where
-/// the seed is.
+/// A run of the setup in which the goal holds, if one of the walks comes to one. The walks are the same where the seed
+/// is.
 pub(crate) fn find<T: Runs, P: Watch>(
     alloc: Global,
     setup: &Setup,

@@ -48,7 +48,7 @@ pub(crate) fn after_writing(wrote: Result<(), OutputFault>) -> Result<(), Search
     }
 }
 
-/// Walks at random on a setup, at most so many times, until a goal holds, and writes a script that plays the run in
+/// Walks at random on a setup, at most this often, until a goal holds, and writes a script that plays the run in
 /// which it does: each line is answered with its event, and in the end just these events stand, of which the goal
 /// holds. A walk tries at most 400 steps. Everything that can happen can come in it; what it prefers is not said, nor
 /// that it finds anything.
