@@ -12,9 +12,9 @@ ghost use Rattle.cdb_arguments.specs.Plain.{IsLine, question_name};
 ghost use Rattle.cdb_base.specs.Requests.{RequestView, any_text, asked_for, texts};
 
 use crate::command_line::program;
-use crate::limits::{MAX_NUMBER, MAX_TURNS};
 use crate::request::{ArgumentsFault, WordsError};
-use cdb_base::{COLUMNS, NoMemory, Question, Request, StepAsked};
+use cdb_base::limits::{COLUMNS, MAX_NUMBER, MAX_TURNS};
+use cdb_base::{NoMemory, Question, Request, StepAsked};
 use clap::error::ErrorKind;
 use clap::{ArgMatches, Error};
 use std::alloc::{AllocError, Global};
