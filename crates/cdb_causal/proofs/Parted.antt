@@ -37,7 +37,7 @@ module _ {E : Type 0} (IsIn : ℕ → Type 0) where
   -- and where nothing is found, no position of the list is in the set
   pub found_none : {a : ℕ} {xs others : List E} → IsParted IsIn a xs others [] → (i : ℕ) → a ≤ i → i < a + length xs → IsIn i → ⊥
   found_none done i low high is = absurd (omega (arith, low, high))
-  found_none {a} {x ∷ xs} (kept out rest) i low high is = by (cases_eq i a)
+  found_none {a} (kept out rest) i low high is = by (cases_eq i a)
     where
       by : (i ≡ a) ⊎ (i ≡ a → ⊥) → ⊥
       by (inl same) = out (subst IsIn same is)

@@ -49,8 +49,7 @@ module _ (events : List Event) (at : ℕ) where
     one_counted direct =
         let is = IsDirectCause depends events at in
         let number = so_far.3 in
-        let longer = length_push so_far.0 next.0 in
-        (
+        let longer = length_push so_far.0 next.0 in (
           so_far.0 ++ next.0 ∷ [],
           so_far.1,
           rw next.1 (more_in is 1 (take j events) so_far.1 so_far.0 next.0 so_far.2 (subst is place direct)),
