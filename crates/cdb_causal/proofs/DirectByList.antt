@@ -2,7 +2,7 @@
 use Rattle.std.proofs.lemmas.Grind.{common_steps}
 use Rattle.std.proofs.lemmas.Bool.{and_parts, and_from, not-true, not_from_false, false_from_ne_true, cases_Bool}
 use Rattle.std.proofs.lemmas.Option.{gets}
-use Rattle.std.proofs.Common.{◌≡◌, ℕ, zero, suc, ◌+◌, ◌-◌, ◌≤◌, Bool, true, ◌&&◌, not, ◌↔◌, List, [], ◌∷◌, ◌++◌, length, Some, drop, inl, inr}
+use Rattle.std.proofs.Common.{◌≡◌, ℕ, suc, ◌+◌, ◌-◌, Bool, true, ◌&&◌, not, ◌↔◌, List, [], ◌∷◌, ◌++◌, length, Some, drop, inl, inr}
 use Rattle.std.proofs.Common.{refl, sym, ap}
 use Rattle.std.proofs.Common.{◌∙◌, subst, true≢false, arith}
 use Rattle.std.specs.List.{list_any}

@@ -15,6 +15,6 @@ pub mod LastEvent
 pub mod Parted
 -- links, direct causes and direct dependents
 pub mod Effects
-pub mod Links
+pub mod Linked
 pub mod Counts
 pub mod DirectByList

@@ -1,16 +1,16 @@
 -- Lists parted by a set of positions: one element more, and none of the set.
-use Rattle.std.proofs.Common.{◌≡◌, ℕ, suc, ◌+◌, ◌<◌, ◌≤◌, ◌⊎◌, inl, inr, List, [], ◌∷◌, ◌++◌, length, refl, subst, arith}
+use Rattle.std.proofs.Common.{◌≡◌, ℕ, suc, ◌+◌, ◌<◌, ◌≤◌, ⊎_elim, List, [], ◌∷◌, ◌++◌, length, refl, subst, arith}
 use Rattle.std.proofs.lemmas.Bool.{cases_eq}
 use Rattle.cdb_causal.specs.Rollback.{IsParted, done, kept, gone}
 
-module _ {E : Type 0} (IsIn : ℕ → Type 0) where
-  first_in : (a n : ℕ) → n ≡ 0 → IsIn (a + n) → IsIn a
-  first_in a n none is = subst IsIn (let e : a + n ≡ a = omega (arith, none) in e) is
+first_in : (IsIn : ℕ → Type 0) (a n : ℕ) → n ≡ 0 → IsIn (a + n) → IsIn a
+first_in IsIn a n none is = subst IsIn (let e : a + n ≡ a = omega (arith, none) in e) is
 
+module _ {E : Type 0} (IsIn : ℕ → Type 0) where
   -- one element more, which is in the set or not
   pub more_in : (a : ℕ) (xs others found : List E) (x : E) → IsParted IsIn a xs others found
       → IsIn (a + length xs) → IsParted IsIn a (xs ++ x ∷ []) others (found ++ x ∷ [])
-  more_in a [] [] [] x done is = gone (first_in a 0 refl is) done
+  more_in a [] [] [] x done is = gone (first_in IsIn a 0 refl is) done
   more_in a [] [] (_ ∷ _) x none is = elim none [ ]
   more_in a [] (_ ∷ _) found x none is = elim none [ ]
   more_in a (e ∷ xs) others found x (kept not rest) is =
@@ -37,8 +37,5 @@ module _ {E : Type 0} (IsIn : ℕ → Type 0) where
   -- and where nothing is found, no position of the list is in the set
   pub found_none : {a : ℕ} {xs others : List E} → IsParted IsIn a xs others [] → (i : ℕ) → a ≤ i → i < a + length xs → IsIn i → ⊥
   found_none done i low high is = absurd (omega (arith, low, high))
-  found_none {a} (kept out rest) i low high is = by (cases_eq i a)
-    where
-      by : (i ≡ a) ⊎ (i ≡ a → ⊥) → ⊥
-      by (inl same) = out (subst IsIn same is)
-      by (inr other) = found_none rest i (omega (arith, low, other)) (omega (arith, high)) is
+  found_none {a} (kept out rest) i low high is =
+      ⊎_elim (λ same. out (subst IsIn same is)) (λ other. found_none rest i (omega (arith, low, other)) (omega (arith, high)) is) (cases_eq i a)

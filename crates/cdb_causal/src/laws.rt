@@ -92,7 +92,6 @@ pub fn free_without_effects<E>()
 {}
 
 /// Where an event is added at the end, and where a free event is taken out, the others keep their direct causes.
-#[tactic(auto, using(crate::proofs::Counts::causes_stay_with))]
 pub fn direct_causes_stay<E>()
     ensures added { (depends : E → E → Bool) (events : List E) (event : E) →
         KeepCausesWith depends events event }

@@ -1,5 +1,5 @@
 -- How many events depend directly on one, and that there are none exactly where it is free.
-use Rattle.std.proofs.Common.{◌≡◌, ℕ, zero, suc, ◌+◌, ◌<◌, ◌≤◌, List, [], ◌∷◌, ◌++◌, length, take, refl, sym, ap, ◌∙◌, subst, arith}
+use Rattle.std.proofs.Common.{◌≡◌, ◌↔◌, ℕ, zero, suc, ◌+◌, ◌<◌, ◌≤◌, List, [], ◌∷◌, ◌++◌, length, take, refl, sym, ap, ◌∙◌, subst, arith}
 use Rattle.std.proofs.Math.Seq.{length-take-le, take-length}
 use Rattle.std.proofs.lemmas.List.{length_push}
 use Rattle.cdb_base.specs.declared.event.Event.{Event}
@@ -15,55 +15,55 @@ use Rattle.cdb_causal.proofs.Lists.{nth_within}
 use Rattle.cdb_causal.proofs.Parted.{more_in, more_out, none_found, found_none}
 use Rattle.cdb_standing.specs.Recorded.{IsCountOf, IsZeroWhereFree}
 
-take_one_more : {E : Type 0} (xs : List E) (j : ℕ) → j < length xs → (x : E) × (take (j + 1) xs ≡ take j xs ++ x ∷ [])
+take_one_more : {E : Type 0} (xs : List E) (j : ℕ) → j < length xs → (x : E) × (take (suc j) xs ≡ take j xs ++ x ∷ [])
 take_one_more [] j less = absurd (omega (arith, less))
 take_one_more (x ∷ xs) zero less = (x, refl)
 take_one_more (x ∷ xs) (suc j) less = let rest = take_one_more xs j (omega (arith, less)) in (rest.0, ap (λ l. x ∷ l) rest.1)
 
+-- so many of the first events of the list depend directly on the one at the position
+pub record Counts (events : List Event) (at : ℕ) (first : List Event) (count : ℕ) : Type 0 where
+  pub found : List Event
+  pub others : List Event
+  pub parted : IsParted (IsDirectCause depends events at) 1 first others found
+  pub number : count ≡ length found
+
 module _ (events : List Event) (at : ℕ) where
-  -- these are the direct dependents among the first events, so many
-  abbrev IsCounted : List Event → ℕ → List Event → Type 0
-  IsCounted first count found = (others : List Event) × IsParted (IsDirectCause depends events at) 1 first others found × (count ≡ length found)
+  pub none_counted : Counts events at [] 0
+  none_counted = record { found = []; others = []; parted = done; number = refl }
 
-  -- so many of the first j events depend directly on the one at the position
-  abbrev pub CountsAmong : ℕ → ℕ → Type 0
-  CountsAmong j count = (found : List Event) × IsCounted (take j events) count found
-
-  pub none_counted : CountsAmong 0 0
-  none_counted = ([], [], done, refl)
-
-  pub all_counted : (count : ℕ) → CountsAmong (length events) count → CountsDirectDependents depends events at count
-  all_counted count all =
-      let whole = subst (λ first. (found : List Event) × IsCounted first count found) (take-length events) all in
-      (whole.0, (whole.1, whole.2), whole.3)
+  pub all_counted : (count : ℕ) → Counts events at (take (length events) events) count → CountsDirectDependents depends events at count
+  all_counted count all = (all.found, (all.others, rw (take-length events) at all.parted), all.number)
 
   -- one event more
-  module _ (j count : ℕ) (less : j < length events) (so_far : CountsAmong j count) where
+  module _ (j count : ℕ) (less : j < length events) (so_far : Counts events at (take j events) count) where
     next : (x : Event) × (take (j + 1) events ≡ take j events ++ x ∷ [])
-    next = take_one_more events j less
+    next = let more : j + 1 ≡ suc j = omega arith in let it = take_one_more events j less in (it.0, ap (λ n. take n events) more ∙ it.1)
 
     place : j + 1 ≡ 1 + length (take j events)
     place = let taken = length-take-le j events (omega (arith, less)) in omega (arith, taken)
 
-    pub one_counted : IsDirectCause depends events at (j + 1) → CountsAmong (j + 1) (count + 1)
-    one_counted direct =
-        let is = IsDirectCause depends events at in
-        let number = so_far.3 in
-        let longer = length_push so_far.0 next.0 in (
-          so_far.0 ++ next.0 ∷ [],
-          so_far.1,
-          rw next.1 (more_in is 1 (take j events) so_far.1 so_far.0 next.0 so_far.2 (subst is place direct)),
-          omega (arith, number, longer),
-        )
+    abbrev is : ℕ → Type 0
+    is = IsDirectCause depends events at
 
-    pub other_counted : (IsDirectCause depends events at (j + 1) → ⊥) → CountsAmong (j + 1) count
+    pub one_counted : is (j + 1) → Counts events at (take (j + 1) events) (count + 1)
+    one_counted direct =
+        let number = so_far.number in
+        let longer = length_push so_far.found next.0 in
+        record {
+          found = so_far.found ++ next.0 ∷ [];
+          others = so_far.others;
+          parted = rw next.1 (more_in is 1 (take j events) so_far.others so_far.found next.0 so_far.parted (subst is place direct));
+          number = omega (arith, number, longer);
+        }
+
+    pub other_counted : (is (j + 1) → ⊥) → Counts events at (take (j + 1) events) count
     other_counted not =
-        let is = IsDirectCause depends events at in (
-          so_far.0,
-          so_far.1 ++ next.0 ∷ [],
-          rw next.1 (more_out is 1 (take j events) so_far.1 so_far.0 next.0 so_far.2 (λ direct. not (subst is (sym place) direct))),
-          so_far.3,
-        )
+        record {
+          found = so_far.found;
+          others = so_far.others ++ next.0 ∷ [];
+          parted = rw next.1 (more_out is 1 (take j events) so_far.others so_far.found next.0 so_far.parted (λ direct. not (subst is (sym place) direct)));
+          number = so_far.number;
+        }
 
 -- by name
 module _ (history : List Event) (name : StepId) (position : ℕ) (is : IsPositionOf history name position)
@@ -83,7 +83,7 @@ module _ (history : List Event) (name : StepId) (position : ℕ) (is : IsPositio
           let later = direct.link.later in
           let within = nth_within history other direct.link.effect direct.link.at_effect in
           found_none (IsDirectCause depends history position) parted other (omega (arith, later)) (omega (arith, within)) direct
-      no_effect (event ∷ events) others parted zeros = absurd (omega (arith, zeros))
+      no_effect (event ∷ events) others parted zeros other direct = absurd (omega (arith, zeros))
 
       zero_count : HasNoEffect depends history position → count ≡ 0
       zero_count none = counts.2 ∙ ap length (none_found (IsDirectCause depends history position) none counts.1.1)

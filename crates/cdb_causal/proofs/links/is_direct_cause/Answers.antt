@@ -1,4 +1,4 @@
-use Rattle.cdb_causal.proofs.Links.{none_between}
+use Rattle.cdb_causal.proofs.Linked.{none_between}
 use Rattle.cdb_causal.proofs.links.is_direct_cause.Goals as goal
 
 pub loop-k-preserved : goal.loop-k-preserved
