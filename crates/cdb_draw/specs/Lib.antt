@@ -1,5 +1,4 @@
 -- ---- what the public contracts name
-pub mod Limits
 pub mod Pieces
 pub mod Layout
 pub mod Positions

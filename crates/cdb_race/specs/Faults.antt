@@ -64,15 +64,11 @@ abbrev pub IsNotStopped : RaceFault → Type 0
 IsNotStopped (fault.Stopped seat) = ⊥
 IsNotStopped other = Unit {0}
 
--- the fault of starting a thread
-abbrev pub IsFaultOfStart : RaceFault → Type 0
-IsFaultOfStart (fault.Spawn refused) = Unit {0}
-IsFaultOfStart other = ⊥
-
 -- the faults of starting the threads and of joining them
 abbrev pub IsFaultOfThreads : RaceFault → Type 0
 IsFaultOfThreads (fault.NoMemory refused) = Unit {0}
-IsFaultOfThreads other = IsFaultOfStart other
+IsFaultOfThreads (fault.Spawn refused) = Unit {0}
+IsFaultOfThreads other = ⊥
 
 -- Behind these gates: each seat has run, its session ended by its gate, and of the seats whose session a fault ended
 -- the least has this one.

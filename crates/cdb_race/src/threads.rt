@@ -2,7 +2,7 @@
 ghost use Rattle.std.specs.Prelude.{◌≡◌, ◌+◌, ◌<◌, ◌≤◌, length, vec_len, All, IfOk, IfErr, MatchOption, Err};
 ghost use Rattle.cdb_base.specs.Memory.{no_memory};
 ghost use Rattle.cdb_base.specs.Limits.{MAX_SEATS};
-ghost use Rattle.cdb_race.specs.Faults.{fault_in, AreWell, HaveFinished, IsAmongSeats, IsFaultOfStart, IsFaultOfThreads};
+ghost use Rattle.cdb_race.specs.Faults.{fault_in, AreWell, HaveFinished, IsAmongSeats, IsFaultOfThreads};
 ghost use Rattle.cdb_race.specs.Faults.{IsNotStopped, IsRoomFor, IsTold};
 ghost use Rattle.cdb_race.specs.LastFault.{IsLastFault};
 ghost use Rattle.cdb_race.specs.Promises.{IsReady, ArePromises, IsPromise, HasRan, HasEndedAtGate};
@@ -65,7 +65,7 @@ fn start_one<'s, E, T: Runs + Send + 's, G: Gate + Drop + Send + 's, R: Threads 
 ) -> Result<PromisedHandle<Ran<T>, SeatPromise<'s, T, G>>, RaceFault>
     requires { IsReady shared.now plan seat }
     ensures promise { IfOk result (λ handle. IsPromise plan.entry seat gate handle.promise) }
-    ensures fault { IfErr result IsFaultOfStart }
+    ensures fault { IfErr result IsFaultOfThreads }
 {
     let promise = SeatPromise {
         plan,

@@ -33,12 +33,6 @@ IsRefusal kinds (Print text) = (kind : ErrorKind) × IsAmong kind kinds × (word
 IsRefusal kinds (Refuse (fault.Refused text)) = (kind : ErrorKind) × IsAmong kind kinds × (words_status kind ≢ 0)
 IsRefusal kinds action = ⊥
 
--- help, the version or what is wrong with the arguments is this text
-abbrev pub IsOfText : Text → Action → Type 0
-IsOfText text (Print its) = its.now ≡ text
-IsOfText text (Refuse (fault.Refused its)) = its.now ≡ text
-IsOfText text action = ⊥
-
 -- the report that an allocation failed
 abbrev pub IsOutOfMemory : Action → Type 0
 IsOutOfMemory (Refuse (fault.Play (NoMemory refused) name)) = Unit {0}
