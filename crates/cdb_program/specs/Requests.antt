@@ -28,7 +28,7 @@ use Rattle.cdb_program.specs.declared.fault.Fault.{Fault}
 use Rattle.cdb_program.specs.declared.fault.Fault.TheVariants as fault
 use Rattle.cdb_program.specs.declared.request.Action.{Action}
 use Rattle.cdb_program.specs.declared.request.Action.TheVariants.{Perform, Print, Refuse}
-use Rattle.cdb_program.specs.declared.request.TheConstants.{MAX_TURNS}
+use Rattle.cdb_base.specs.Limits.{MAX_TURNS}
 
 -- a race has turns that its threads can count
 abbrev pub HasTurns : RequestView → Type 0

@@ -3,11 +3,11 @@
 ghost use Rattle.std.specs.Prelude.{◌≡◌, ◌≤◌};
 ghost use Rattle.cdb_play.specs.Races.{bytes_of};
 ghost use Rattle.cdb_program.specs.Races.{RacesOn, RacesFiles};
+ghost use Rattle.cdb_base.specs.Limits.{MAX_TURNS};
 ghost use Rattle.cdb_base.specs.Requests.{texts};
 
 use crate::fault::{Fault, of_race};
 use crate::files::{Files, read_each, read_file};
-use crate::request::MAX_TURNS;
 use crate::world::World;
 use cdb_any_run::AnyRun;
 use cdb_play::race_on;

@@ -31,9 +31,6 @@ use std::sync::Wait;
 use std::thread::Threads;
 use std::time::Clock;
 
-/// The most turns of a race.
-pub const MAX_TURNS: u32 = 99_999;
-
 /// What is reported where a step is asked for of frames.
 const NO_STEP: &str = "--frames takes no P\n";
 

@@ -16,6 +16,7 @@ use Rattle.cdb_causal.specs.Rollback.{IsParted, done, kept, gone, IsRolledBack, 
 use Rattle.cdb_causal.proofs.Chains.{parted, rolled_back_split}
 use Rattle.cdb_causal.proofs.LeastSet.{consequences_parted}
 use Rattle.cdb_causal.proofs.Lists.{nth_map}
+use Rattle.cdb_causal.proofs.Parted.{none_found}
 use Rattle.cdb_standing.specs.Cuts.{cut_of, IsCut, AreConsequencesCut}
 use Rattle.cdb_standing.specs.Gathered.{AreInOrder}
 use Rattle.cdb_standing.specs.InOrder.{Marked, Has, IsRising, events_of}
@@ -89,17 +90,11 @@ module _ (IsRemoved : ℕ → Type 0) where
       all more zero x at gone' = inl (same_Some y x at)
       all more (suc i) x at gone' = inr (more.all i x at (subst IsRemoved (sym (next n i)) gone'))
 
-no_removed : {IsRemoved : ℕ → Type 0} → ((i : ℕ) → IsRemoved i → ⊥)
-    → {n : ℕ} {xs left removed : List Event} → IsParted IsRemoved n xs left removed → removed ≡ []
-no_removed none done = refl
-no_removed none (kept stays rest) = no_removed none rest
-no_removed none (gone here rest) = absurd (none _ here)
-
 -- a free event has no consequences
 pub free_alone : (history : List Event) (at : ℕ) (it : Event) → 1 ≤ at → nth history at ≡ Some it
     → IsFree depends history at → rolled_back depends history at ≡ it ∷ []
 free_alone history at it one there free =
-    rolled_back_split depends history at it there ∙ ap (λ l. it ∷ l) (no_removed none (consequences_parted depends history at one).1)
+    rolled_back_split depends history at it there ∙ ap (λ l. it ∷ l) (none_found (IsConsequence depends history at) none (consequences_parted depends history at one).1)
   where
     none : (i : ℕ) → IsConsequence depends history at i → ⊥
     none i (direct link) = free i link

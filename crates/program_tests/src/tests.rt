@@ -12,7 +12,8 @@ mod reading;
 mod streams;
 
 use cdb_base::Request;
-use cdb_program::{Action, MAX_TURNS, World, perform};
+use cdb_base::limits::MAX_TURNS;
+use cdb_program::{Action, World, perform};
 use cdb_session::Streams;
 use files::Folder;
 use std::process::Abort;

@@ -1,6 +1,6 @@
 use Rattle.std.proofs.Common.{arith}
-use Rattle.cdb_page.proofs.ListItems.{item_one, link_told}
-use Rattle.cdb_page.proofs.links.is_linked.Goals as goal
+use Rattle.cdb_causal.proofs.Linked.{item_one, link_told}
+use Rattle.cdb_causal.proofs.links.is_linked.Goals as goal
 
 pub returns-then-i-j : goal.returns-then-i-j
 returns-then-i-j c =

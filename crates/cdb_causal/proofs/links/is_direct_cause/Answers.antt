@@ -1,5 +1,5 @@
-use Rattle.cdb_page.proofs.ListItems.{none_between}
-use Rattle.cdb_page.proofs.links.is_direct_cause.Goals as goal
+use Rattle.cdb_causal.proofs.Linked.{none_between}
+use Rattle.cdb_causal.proofs.links.is_direct_cause.Goals as goal
 
 pub loop-k-preserved : goal.loop-k-preserved
 loop-k-preserved c =
