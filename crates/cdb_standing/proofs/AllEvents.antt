@@ -1,4 +1,5 @@
 -- The events that numbers cut off, gathered.
+use Rattle.std.proofs.lemmas.Bool.{cases_lt}
 use Rattle.std.proofs.Common.{◌≡◌, ◌≢◌, ℕ, zero, suc, ◌+◌, ◌-◌, ◌<◌, ◌≤◌, List, [], ◌∷◌, ◌++◌, length, drop, set, slice_get}
 use Rattle.std.proofs.Common.{slice_index_or, Some, ◌⊎◌, ⊎_elim, refl, sym, ap, ap₂, ◌∙◌, subst, arith}
 use Rattle.std.specs.List.{sum_by}
@@ -118,10 +119,10 @@ module _ (steps : List (List Entry)) (sent : List (List Sent)) (nine : length st
           ap (each_from (of_step sent (suc i)) (suc j)) (drop_from row j entry at)
           ∙ ap (λ m. of_step sent (suc i) (suc j) entry ++ each_from (of_step sent (suc i)) (suc m) (drop m row)) (sym now)
 
-  pub gathered_more : (whole : List Marked) (from : List ℕ) (i n : ℕ) (found new : List Marked)
+  pub gathered_more : (whole : List Marked) {from : List ℕ} {i n : ℕ} {found new : List Marked}
       → length from ≡ 9 → i < 9 → IsGathered steps sent from i found new n
       → IsPermutation whole (found ++ all_from from steps sent) → IsPermutation whole (new ++ all_from (set from i n) steps sent)
-  gathered_more whole from i n found new long few it was =
+  gathered_more whole {from} {i} {n} {found} long few it was =
       let moved = step_moved from i n it.entry long few it.at it.number in
       let done = of_step sent (suc i) (suc (cut_of from (suc i) - 1)) it.entry in
       let rest = all_from (set from i n) steps sent in
@@ -130,9 +131,9 @@ module _ (steps : List (List Entry)) (sent : List (List Sent)) (nine : length st
       (IsPermutation-append found found (all_from from steps sent) (done ++ rest) (IsPermutation-refl found) moved) in
       subst (IsPermutation whole) (sym (append_assoc found done rest) ∙ ap (λ l. l ++ rest) (sym it.more)) one
 
-  pub fewer_left : (from : List ℕ) (i n : ℕ) (found new : List Marked) → length from ≡ 9 → i < 9 → IsGathered steps sent from i found new n
+  pub fewer_left : {from : List ℕ} {i n : ℕ} {found new : List Marked} → length from ≡ 9 → i < 9 → IsGathered steps sent from i found new n
       → sum_by (λ (x : Marked). 1) (all_from (set from i n) steps sent) < sum_by (λ (x : Marked). 1) (all_from from steps sent)
-  fewer_left from i n found new long few it =
+  fewer_left {from} {i} {n} long few it =
       let one : Marked → ℕ = λ x. 1 in
       let p = suc i in
       let k = suc (cut_of from (suc i) - 1) in
@@ -156,12 +157,9 @@ module _ (steps : List (List Entry)) (sent : List (List Sent)) (nine : length st
       (ap (each_from (of_step sent (suc i)) (suc (cut_of from (suc i) - 1)))
       (drop_all (cut_of from (suc i) - 1) row (subst (λ r. length r ≤ cut_of from (suc i) - 1) (sym is) (past i from none (omega arith))))))
     where
-      le_or_lt : (a b : ℕ) → (a ≤ b) ⊎ (b < a)
-      le_or_lt a b = grind arith
-
       past : (i : ℕ) (from : List ℕ) → NoneIsLeft steps from 0 9 → i < 9 → length (row_of steps (suc i)) ≤ cut_of from (suc i) - 1
       past i from none few =
-          ⊎_elim (λ h. h) (λ less. absurd (none i (omega arith) few (few, less))) (le_or_lt (length (row_of steps (suc i))) (cut_of from (suc i) - 1))
+          ⊎_elim (λ less. absurd (none i (omega arith) few (few, less))) (λ h. h) (cases_lt (cut_of from (suc i) - 1) (length (row_of steps (suc i))))
 
   pub nothing_left : (whole : List Marked) (from : List ℕ) (found : List Marked) → NoneIsLeft steps from 0 9
       → IsPermutation whole (found ++ all_from from steps sent) → IsPermutation whole found

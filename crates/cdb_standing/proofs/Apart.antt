@@ -1,4 +1,5 @@
 -- Why a step depends on an earlier one of another process: it receives what that one sends, or both access one register and one of them writes it.
+use Rattle.std.proofs.lemmas.Bool.{or_cases}
 use Rattle.std.proofs.Common.{◌≡◌, ◌≢◌, ℕ, ◌<◌, true, ◌||◌, nat_eq, true≢false, eqb-true, List, Some, ◌⊎◌, inl, inr, ⊎_elim, refl, sym, ◌∙◌, arith}
 use Rattle.cdb_base.specs.declared.event.Event.TheVariants as event
 use Rattle.cdb_base.specs.declared.event.Kind.{Kind}
@@ -11,7 +12,7 @@ use Rattle.cdb_standing.specs.Causes.{writes}
 use Rattle.cdb_standing.specs.Tables.{IsEntry, IsSound}
 use Rattle.cdb_standing.specs.declared.tables.Entry.{Entry}
 use Rattle.cdb_standing.specs.declared.tables.Sent.{Sent}
-use Rattle.cdb_standing.proofs.LaterLinks.{either, is_accessed, Affects, affects_is}
+use Rattle.cdb_standing.proofs.LaterLinks.{is_accessed, Affects, affects_is}
 use Rattle.cdb_standing.proofs.EarliestFound.{affecting, affected}
 
 -- a step of process p of the first kind sends what one of the other kind receives
@@ -54,12 +55,12 @@ module _ {next : ℕ} {steps : List (List Entry)} {sent : List (List Sent)} (sou
       let first = sound.sent_first q mail.m l b p k a sends receives in absurd (omega arith))
       (λ c. inr (turned c))
       (why q other kind (affects_is q other kind e)))
-      (either (kind_affects p kind other) (kind_affects q other kind) others))
-      (either (nat_eq p q) (kind_affects p kind other || kind_affects q other kind) (sym (by_effect (event.Step p k kind) (event.Step q l other)) ∙ linked))
+      (or_cases (kind_affects p kind other) (kind_affects q other kind) others))
+      (or_cases (nat_eq p q) (kind_affects p kind other || kind_affects q other kind) (sym (by_effect (event.Step p k kind) (event.Step q l other)) ∙ linked))
 
   pub conflict_links : (p k q l : ℕ) {kind other : Kind} → AreInConflict kind other → depends (event.Step p k kind) (event.Step q l other) ≡ true
   conflict_links p k q l {kind} {other} c =
       ⊎_elim
-      (λ w. affecting next steps sent sound (event.Step p k kind) (event.Step q l other) (writes_is kind c.n w c.one other c.two p))
-      (λ w. affected next steps sent sound (event.Step p k kind) (event.Step q l other) (writes_is other c.n w c.two kind c.one q))
+      (λ w. affecting (event.Step p k kind) (event.Step q l other) (writes_is kind c.n w c.one other c.two p))
+      (λ w. affected (event.Step p k kind) (event.Step q l other) (writes_is other c.n w c.two kind c.one q))
       c.written

@@ -73,7 +73,7 @@ steps_front history copy p k (kind, h) =
     ⊎_elim (λ q. (kind, has_stands history (Step p k kind) q)) (λ q. ⊎_elim (λ e. absurd (cc)) (λ no. absurd no) q)
     (has_cases history (Lost copy ∷ []) (Step p k kind) (stands_has (history ++ Lost copy ∷ []) (Step p k kind) h))
 
-module _ {B : Type 0} (lefts : List (List (UndoData B))) (history : List Event) (beside : AreBeside lefts history) (copy : CopyName) where
+module _ {B : Type 0} {lefts : List (List (UndoData B))} {history : List Event} (beside : AreBeside lefts history) (copy : CopyName) where
   pub beside_loss : AreBeside lefts (history ++ Lost copy ∷ [])
   beside_loss =
       record {
@@ -104,7 +104,7 @@ some_left lefts history beside p k (at, (it, there, is), free) = by it there is
         let one = w.0 in let many = w.1 in rw (← p_is) (omega arith)
     by (Lost copy) there is = absurd (cc)
 
-module _ {B : Type 0} (low high : List (List (UndoData B))) (p : ℕ) (left : UndoData B) (put : IsPutOn p low left high) where
+module _ {B : Type 0} {low high : List (List (UndoData B))} {p : ℕ} {left : UndoData B} (put : IsPutOn p low left high) where
   other_nth : (xs : List (UndoData B)) (k : ℕ) → k ≢ length xs + 1 → nth (xs ++ left ∷ []) k ≡ nth xs k
   other_nth xs zero other = refl
   other_nth [] (suc zero) other = absurd (other (omega arith))
@@ -122,7 +122,7 @@ module _ {B : Type 0} (low high : List (List (UndoData B))) (p : ℕ) (left : Un
           ∙ ap (λ o. unwrap_or o nothing) (other_nth (row_of low p) l (λ i. other kind (λ j. Step (e j) ((i ∙ sym last) j) kind))))
 
   top_left : (k : ℕ) (kind : Kind) → k ≡ length (row_of low p) + 1 → undo_data_of high (Step p k kind) ≡ left
-  top_left k kind last = ap (λ o. unwrap_or o nothing) (put_joins p low left high put k last)
+  top_left k kind last = ap (λ o. unwrap_or o nothing) (put_joins put k last)
 
   low_length : (q : ℕ) → q ≢ p → length (row_of high q) ≡ length (row_of low q)
   low_length q other = ap length (put.others q other)
@@ -131,7 +131,7 @@ module _ {B : Type 0} (low high : List (List (UndoData B))) (p : ℕ) (left : Un
   high_length = ap length put.more ∙ length-append (row_of low p) (left ∷ [])
 
   -- a step more, which is the next of its process
-  module _ (history : List Event) (k : ℕ) (kind : Kind) (beside : AreBeside low history) (next : IsNextStep history p k) where
+  module _ {history : List Event} {k : ℕ} (kind : Kind) (beside : AreBeside low history) (next : IsNextStep history p k) where
     pub next_left : k ≡ length (row_of low p) + 1
     next_left =
         ⊎_elim
@@ -194,7 +194,7 @@ module _ {B : Type 0} (low high : List (List (UndoData B))) (p : ℕ) (left : Un
         (top_left k kind next_left)
 
   -- the last step of a process less
-  module _ (history new : List Event) (k : ℕ) (kind : Kind) (beside : AreBeside high history)
+  module _ {history : List Event} (new : List Event) (k : ℕ) (kind : Kind) (beside : AreBeside high history)
       (free : IsFreeAlone history (named.Step (record { p = p; k = k })))
       (taken : IsTakenOut history (named.Step (record { p = p; k = k })) (Step p k kind) new)
       (was_last : IsEndOf history p k) (last : IsEndOf new p (k - 1)) where
@@ -259,4 +259,4 @@ module _ {B : Type 0} (lefts : List (List (UndoData B))) (history new : List Eve
       (nth_map _ history at (Lost copy) out.0, ap (recorded_with lefts) out.1 ∙ map-without _ history at)
 
   pub beside_unlost : IsFreeAlone history (named.Lost copy) → AreBeside lefts history → AreBeside lefts new
-  beside_unlost free beside = let out = taken free.0 free.1 in rw out.1 (beside_less lefts history beside copy free.0 out.0)
+  beside_unlost free beside = let out = taken free.0 free.1 in rw out.1 (beside_less beside copy free.0 out.0)

@@ -94,8 +94,7 @@ module _ (one other : Event → Bool) (same : (e : Event) → one e ≡ other e)
   pub counted_before : (xs : List Marked) (i : ℕ) (x : Marked) → IsRising xs → slice_get xs i ≡ Some x
       → count_by (is_one_before x.mark) xs ≡ count_by other (take i (events_of xs))
   counted_before [] i x rising at = absurd (none-some x at)
-  counted_before (z ∷ xs) zero x rising at =
-      sum_none (λ y. cond (is_one_before x.mark y) 1 0) (z ∷ xs) (λ y h. not_before x.mark y (from y h))
+  counted_before (z ∷ xs) zero x rising at = sum_none (λ y. cond (is_one_before x.mark y) 1 0) (z ∷ xs) (λ y h. not_before x.mark y (from y h))
     where
       from : (y : Marked) → Has (z ∷ xs) y → x.mark ≤ y.mark
       from y (inl e) = let p : z.mark ≡ y.mark = ap (λ (m : Marked). m.mark) e in
@@ -118,13 +117,7 @@ tests_same register other =
 
 same_writes : (register : Reg) (e : Event) → writes_register (number_of register) e ≡ is_write_of register e
 same_writes register (event.Step p k (Write other)) = tests_same register other
-same_writes register (event.Step p k (Query leader)) = refl
-same_writes register (event.Step p k (Send m)) = refl
-same_writes register (event.Step p k (Recv s m)) = refl
-same_writes register (event.Step p k (Read other)) = refl
-same_writes register (event.Step p k Local) = refl
-same_writes register (event.Step p k Learn) = refl
-same_writes register (event.Step p k Crash) = refl
+same_writes register (event.Step p k _) = refl
 same_writes register (event.Lost copy) = refl
 
 none_below : (q : ℕ) → cut_of [] q ≡ 0
@@ -142,9 +135,9 @@ module _ (steps : List (List Entry)) (sent : List (List Sent)) (n mark : ℕ) wh
   pub left_none : (i : ℕ) → length steps ≤ i → left i ≡ 0
   left_none i past = ap (λ l. sum_by weight (each_from (λ p row. steps_from sent (cut_of [] p) p row) (suc i) l)) (drop_all i steps past)
 
-  module _ (next : ℕ) (sound : IsSound next steps sent) where
+  module _ {next : ℕ} (sound : IsSound next steps sent) where
     losses_weigh : (p : ℕ) (kind : Kind) → sum_by weight (losses_of sent p kind) ≡ 0
-    losses_weigh p kind = sum_none weight (losses_of sent p kind) (λ x h. let lost = loss_event next steps sent sound p kind x h in rw lost.1 refl)
+    losses_weigh p kind = sum_none weight (losses_of sent p kind) (λ x h. let lost = loss_event sound p kind x h in rw lost.1 refl)
 
     row_weighs : (p k : ℕ) (row : List Entry) → sum_by weight (each_from (of_step sent p) k row) ≡ count_by (is_before mark) (listed written n k row)
     row_weighs p k [] = refl
@@ -163,14 +156,14 @@ module _ (steps : List (List Entry)) (sent : List (List Sent)) (n mark : ℕ) wh
 
     single : (x y : Marked) → Has (all_from [] steps sent) x → Has (all_from [] steps sent) y → x.mark ≡ y.mark → x ≡ y
     single x y in_x in_y same =
-        let of_x = of_stands next steps sent sound (all_only next steps sent sound [] x in_x).3 in
-        let of_y = of_stands next steps sent sound (all_only next steps sent sound [] y in_y).3 in
+        let of_x = of_stands sound (all_only sound [] x in_x).3 in
+        let of_y = of_stands sound (all_only sound [] y in_y).3 in
         let e : x.event ≡ y.event = sound.single y.mark x.event y.event (rw same at of_x) of_y in
         ap₂ (λ mark it. (let z : Marked = record { mark = mark; event = it } in z)) same e
 
     whole : in_order (all_from [] steps sent) ≡ standing steps sent
     whole =
-        all_marked next steps sent sound [] (events_of (in_order (all_from [] steps sent)))
+        all_marked sound
         (record {
           marked = in_order (all_from [] steps sent);
           rising = in_order_rising (all_from [] steps sent);
@@ -180,7 +173,7 @@ module _ (steps : List (List Entry)) (sent : List (List Sent)) (n mark : ℕ) wh
         none_below
 
     pub left_all : left 0 ≡ count_by (is_write_before n mark) (standing steps sent)
-    left_all = sym (sum_in_order weight (all_from [] steps sent) (all_once next steps sent sound [])) ∙ ap (sum_by weight) whole
+    left_all = sym (sum_in_order weight (all_from [] steps sent) (all_once sound [])) ∙ ap (sum_by weight) whole
 
     pub left_more : (i : ℕ) → i < length steps → left i ≡ count_by (is_before mark) (listed written n 1 (row_of steps (suc i))) + left (suc i)
     left_more i less =
@@ -190,19 +183,19 @@ module _ (steps : List (List Entry)) (sent : List (List Sent)) (n mark : ℕ) wh
         (each_from (λ p row. steps_from sent (cut_of [] p) p row) (suc (suc i)) (drop (suc i) steps))
         ∙ ap (λ m. m + left (suc i)) (row_weighs (suc i) 1 (row_of steps (suc i)))
 
-module _ (next : ℕ) (steps : List (List Entry)) (sent : List (List Sent)) (sound : IsSound next steps sent) where
+module _ {next : ℕ} {steps : List (List Entry)} {sent : List (List Sent)} (sound : IsSound next steps sent) where
   -- one process more is counted
-  pub next_counted : (n mark i : ℕ) → i < 9 → (writes : List (List Access)) → AreListed written writes steps → n < 11
+  pub next_counted : (n mark i : ℕ) → i < 9 → {writes : List (List Access)} → AreListed written writes steps → n < 11
       → (list : List Access) → row_of writes (cell (suc i) n) ≡ list → (found : ℕ) → found ≡ count_by (is_before mark) list
       → (found ≤ 65535) × (left steps sent n mark i ≡ found + left steps sent n mark (i + 1))
-  next_counted n mark i nine writes lists eleven list list_is found found_is =
+  next_counted n mark i nine lists eleven list list_is found found_is =
       let is : list ≡ listed written n 1 (row_of steps (suc i)) = sym list_is ∙ lists.each (suc i) n (omega arith) (omega arith) eleven in
       let one : suc i ≡ i + 1 = omega arith in
       let short = count_by-le-length (is_before mark) list in
       let shorter = listed_few written n 1 (row_of steps (suc i)) in
       let long = ap length is in
       let few = sound.few (suc i) in
-      let more = left_more steps sent n mark next sound i (let all = sound.processes in omega arith) in
+      let more = left_more steps sent n mark sound i (let all = sound.processes in omega arith) in
       (omega arith, rw (found_is, is, ← one) more)
 
   -- by name
@@ -211,15 +204,15 @@ module _ (next : ℕ) (steps : List (List Entry)) (sent : List (List Sent)) (sou
       → AreWritesBefore (history_of steps sent) register (named.Step (record { p = p; k = k })) count
   writes_are register p k mark kind at count is zero h = absurd (none-some h.0 h.1)
   writes_are register p k mark kind at count is (suc i) h =
-      let place = named_place next steps sent sound (suc i) (named.Step (record { p = p; k = k })) h in
-      let same = one_name next steps sent sound place.0 mark place.1 (event.Step p k kind) place.3 at place.4 in
+      let place = named_place sound (suc i) (named.Step (record { p = p; k = k })) h in
+      let same = one_name sound place.0 mark place.1 (event.Step p k kind) place.3 at place.4 in
       is
       ∙ ap (λ m. count_by (is_write_before (number_of register) m) (standing steps sent)) (sym same.0)
       ∙ counted_before (writes_register (number_of register)) (is_write_of register)
       (same_writes register) (standing steps sent) i _ (standing_rising steps sent) place.2
 
   pub none_there : (p k : ℕ) → nth (row_of steps p) k ≡ None → (at : ℕ) → IsNamedAt (history_of steps sent) at (named.Step (record { p = p; k = k })) → ⊥
-  none_there p k none at h = let place = named_place next steps sent sound at (named.Step (record { p = p; k = k })) h in by place.1 place.0 place.3 place.4
+  none_there p k none at h = let place = named_place sound at (named.Step (record { p = p; k = k })) h in by place.1 place.0 place.3 place.4
     where
       by : (it : Event) (mark : ℕ) → Stands steps sent mark it → event_name it ≡ named.Step (record { p = p; k = k }) → ⊥
       by (event.Step q l kind) mark there name =

@@ -10,7 +10,7 @@ returns-in-Some c = λ at h other it there.
     let is = c.in-Some.ensures in
     rw (← is.named)
     (exactly_led c.requires.sound is.stands at
-    (the_place t.next (rows_in t.steps.items) (rows_in t.sent.items) c.requires.sound one.mark one.event is.stands at (rw (← is.named) at h))
+    (the_place c.requires.sound one.mark one.event is.stands at (rw (← is.named) at h))
     c.past_of.ensures other it there)
 
 pub returns-in-None : goal.returns-in-None

@@ -8,5 +8,5 @@ pub returns : goal.returns
 returns c =
     let t = c.self.inside.tables in
     if_ok_mapped (λ events ordered.
-    all_in_order t.next (rows_in t.steps.items) (rows_in t.sent.items) c.self.invariant.kept.sound _ events.items ordered (zeros 9) ∙ c.self.view_is)
+    all_in_order c.self.invariant.kept.sound ordered (zeros 9) ∙ c.self.view_is)
     c.in_order.result c.in_order.ensures
