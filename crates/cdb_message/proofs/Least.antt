@@ -47,15 +47,12 @@ module _ (test : MsgName → Bool) (P : MsgName → Type 0) where
     where
       go : (b : Bool) → test first ≡ b → (o : Option MsgName) → MatchOption o (NonePasses names) (IsFirst names)
           → MatchOption (cond b (Some first) o) (NonePasses (first ∷ names)) (IsFirst (first ∷ names))
-      go true is o rest = (
-        is,
-        all.0,
-        (λ passes. not_below_itself first),
-        all-mapped (λ other. is_name_below first other ≡ true) (λ other. test other ≡ true → is_name_below other first ≡ false) names
-            (λ other above passes. below-not_back first other above) rise.0,
-      )
+      go true is o rest =
+          let below = all-mapped (λ other. is_name_below first other ≡ true) (λ other. test other ≡ true → is_name_below other first ≡ false)
+          names (λ other above passes. below-not_back first other above) rise.0 in
+          (is, all.0, ((λ passes. not_below_itself first), below))
       go false is None rest = (is, rest)
-      go false is (Some name) rest = (rest.0, rest.1, (λ passes. absurd (cc)), rest.2)
+      go false is (Some name) rest = (rest.0, rest.1, ((λ passes. absurd (cc)), rest.2))
 
 -- ---- the names of the messages that were sent
 
