@@ -207,12 +207,12 @@ module _ {next p k : ℕ} {kind : Kind} {steps : List (List Entry)} {sent : List
         is_received = is_received;
         sent_is = sent_is;
         is_sent = is_sent;
-        sent_rises = sent_rises;
+        sent_rises = λ s m n i j one other less. sent_rises one other less;
         sent_first = sent_first;
         lost_to =
             λ s m to b copy.
             ⊎_elim (λ old. sound.lost_to s m to b old) (λ new. absurd (let e = new.2 in cc)) (mail.copies s m to (Lost b) copy (λ e. absurd (cc)));
-        sent_lost = sent_lost;
+        sent_lost = λ s m l a to b here there. sent_lost l a here there;
       }
 
   pub step_added : history_of steps' sent' ≡ history_of steps sent ++ event.Step p k kind ∷ []

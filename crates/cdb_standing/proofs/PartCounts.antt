@@ -163,7 +163,7 @@ module _ (steps : List (List Entry)) (sent : List (List Sent)) (n mark : ℕ) wh
 
     whole : in_order (all_from [] steps sent) ≡ standing steps sent
     whole =
-        all_marked sound
+        all_marked sound {cuts = []} {events = events_of (in_order (all_from [] steps sent))}
         (record {
           marked = in_order (all_from [] steps sent);
           rising = in_order_rising (all_from [] steps sent);
