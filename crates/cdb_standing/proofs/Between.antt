@@ -1,8 +1,9 @@
 -- What lies between a step and the last one of a process on which it depends: accesses of the register that both access.
+use Rattle.std.proofs.lemmas.Grind.{common_steps}
 use Rattle.std.proofs.lemmas.Bool.{cases_eq, and_parts, or_cases}
 use Rattle.std.proofs.Common.{◌≡◌, ℕ, ◌<◌, ◌≤◌, Bool, true, false, true≢false, ◌&&◌, ◌||◌, cond, nat_eq, eqb-true, eq-eqb}
 use Rattle.std.proofs.Common.{List, Option, Some, None, ◌⊎◌, inl, inr, ⊎_elim, refl, sym, ap, ◌∙◌, subst, arith}
-use Rattle.std.proofs.lemmas.Option.{none-some}
+use Rattle.std.proofs.lemmas.Option.{none-some, gets}
 use Rattle.std.specs.Option.{option_and_then}
 use Rattle.cdb_base.specs.declared.event.Event.{Event}
 use Rattle.cdb_base.specs.declared.event.Event.TheVariants as event
@@ -39,21 +40,13 @@ pub same_register : {cause : Kind} {p : ℕ} {kind : Kind} {s : ℕ} {other : Ki
 same_register lies = rw (lies.of_cause, lies.of_step) (rw (eq-eqb lies.n lies.n refl) refl)
 
 of_options : (o u : Option ℕ) (n : ℕ) → option_and_then (λ m. cond (is_that u m) (Some m) None) o ≡ Some n → (o ≡ Some n) × (u ≡ Some n)
-of_options None u n e = absurd (none-some n e)
-of_options (Some m) None n e = absurd (none-some n e)
-of_options (Some m) (Some r) n e = by (nat_eq r m) (eqb-true r m) e
-  where
-    by : (t : Bool) → (t ≡ true → r ≡ m) → cond t (Some m) None ≡ Some n → (Some m ≡ Some n) × (Some r ≡ Some n)
-    by true is e = (e, ap Some (is refl) ∙ e)
-    by false is e = absurd (none-some n e)
+of_options o u n h1 = grind (arith, common_steps, gets)
 
 both_access : (cause kind : Kind) (n : ℕ) → register_of_both cause kind ≡ Some n → (accessed cause ≡ Some n) × (accessed kind ≡ Some n)
 both_access cause kind n e = of_options (accessed cause) (accessed kind) n e
 
 and_or : (a b c : Bool) → a ≡ true → (b ≡ true) ⊎ (c ≡ true) → (a && (b || c)) ≡ true
-and_or a b c e (inl f) = rw (e, f) refl
-and_or a true c e (inr f) = rw e refl
-and_or a false c e (inr f) = rw (e, f) refl
+and_or a b c h1 h2 = grind (arith, common_steps, gets)
 
 module _ {next : ℕ} {steps : List (List Entry)} {sent : List (List Sent)} (sound : IsSound next steps sent) where
   -- nothing depends on a loss
@@ -73,7 +66,7 @@ module _ {next : ℕ} {steps : List (List Entry)} {sent : List (List Sent)} (sou
     pub lies_between : (s j x : ℕ) (other : Kind) → IsBetweenHere x (event.Step s j other) → LiesBetween cause p kind s other
     lies_between s j x other b =
         elim (cases_eq q s) [
-          | inl e ↦ (let past = is.last j x other (rw (← e) at b.to_effect) in let later = b.of_cause.later in absurd (omega arith))
+          | inl e ↦ (let past = is.last j x other (rw (← e) at b.to_effect) in absurd (omega arith))
           | inr apart ↦ of_other apart
               (links_apart sound q l c cause s j x other is.is.stands b.of_cause.stands b.of_cause.later apart b.of_cause.linked) (cases_eq s p)
         ]
@@ -93,7 +86,7 @@ module _ {next : ℕ} {steps : List (List Entry)} {sent : List (List Sent)} (sou
             let j_is : j ≡ k = cc in
             let entry = same_at (row_of steps p) k (entry_of x other) (entry_of a kind) (rw (e, j_is) at b.of_cause.stands) at in
             let mark_is : x ≡ a = ap (λ (y : Entry). y.mark) entry in
-            let earlier = b.to_effect.earlier in omega arith
+            omega arith
 
         of_other : (q ≡ s → ⊥) → Linked q cause s other → (s ≡ p) ⊎ (s ≡ p → ⊥) → LiesBetween cause p kind s other
         of_other apart (inl mail) (inl e) =
@@ -106,7 +99,7 @@ module _ {next : ℕ} {steps : List (List Entry)} {sent : List (List Sent)} (sou
         of_other apart (inl mail) (inr further) =
             let e2 = mail.receives in
             elim (from_it further) [
-              | inl again ↦ (let e3 = again.sends in absurd (cc))
+              | inl again ↦ absurd (cc)
               | inr r ↦ absurd (none-some r.n (rw e2 at r.one))
             ]
         of_other apart (inr r) (inl e) =
@@ -234,4 +227,4 @@ module _ {next : ℕ} {steps : List (List Entry)} {sent : List (List Sent)} (sou
       let one = loss_needs sound copy q l c cause at is.is.stands is.is.linked in
       let two = loss_needs sound copy s j x other at b.of_cause.stands b.to_effect.linked in
       let e : s ≡ q = two.0 ∙ sym one.0 in
-      let past = is.last j x other (rw e at b.to_effect) in let later = b.of_cause.later in omega arith
+      let past = is.last j x other (rw e at b.to_effect) in omega arith

@@ -1,20 +1,20 @@
 -- Numbers that are lowered until what they cut off is closed.
+use Rattle.std.proofs.lemmas.Grind.{common_steps}
 use Rattle.std.proofs.lemmas.Bool.{cases_eq, cases_lt}
-use Rattle.std.proofs.Common.{◌≡◌, ◌≢◌, ℕ, zero, suc, ◌+◌, ◌<◌, ◌≤◌, Bool, true, false, cond, nat_eq, nat_lt, ltb-true, ltb-false}
-use Rattle.std.proofs.Common.{true≢false, eqb-true, eq-eqb, List, [], ◌∷◌, length, set, slice_index, length-set, ◌-◌, Option}
+use Rattle.std.proofs.Common.{◌≡◌, ◌≢◌, ℕ, zero, suc, ◌+◌, ◌<◌, ◌≤◌, false}
+use Rattle.std.proofs.Common.{true≢false, List, [], ◌∷◌, length, set, slice_index, length-set, ◌-◌, Option}
 use Rattle.std.proofs.Common.{Some, None, ◌⊎◌, inl, inr, ⊎_elim, refl, sym, ap, ap₂, ◌∙◌, subst, arith}
-use Rattle.std.proofs.lemmas.Option.{same_Some, none-some}
+use Rattle.std.proofs.lemmas.Option.{same_Some, none-some, gets}
 use Rattle.cdb_base.specs.Event.{event_name, is_step_of}
 use Rattle.cdb_base.specs.declared.event.Event.{Event}
 use Rattle.cdb_base.specs.declared.event.Event.TheVariants as event
 use Rattle.cdb_base.specs.declared.event.Kind.{Kind}
-use Rattle.cdb_base.specs.declared.event.Kind.TheVariants.{Query, Send, Recv, Read, Write, Local, Learn, Crash}
+use Rattle.cdb_base.specs.declared.event.Kind.TheVariants.{Send, Read, Write}
 use Rattle.cdb_base.specs.declared.name.CopyName.{CopyName}
-use Rattle.cdb_base.specs.declared.name.StepId.{StepId}
 use Rattle.cdb_base.specs.declared.name.StepId.TheVariants as named
 use Rattle.cdb_base.specs.declared.name.StepName.{StepName}
 use Rattle.cdb_standing.specs.Cuts.{total, cut_of, IsReached, root, onward, IsSoundCut, HasNoneBehind, IsClosedOf, IsClosedAt, IsClosedFrom}
-use Rattle.cdb_standing.specs.Cuts.{IsLower, lowered_to, lowered, AreLowered, AreEnds, AreCuts, IsLookedAt, IsRootIn}
+use Rattle.cdb_standing.specs.Cuts.{IsLower, lowered, AreLowered, AreEnds, AreCuts, IsLookedAt, IsRootIn}
 use Rattle.cdb_standing.specs.Dependents.{found, found_copy, IsDependent, IsDependentOf, process_of, IsFoundOfOthers}
 use Rattle.cdb_standing.specs.Tables.{row_of, entry_of, IsEntry, IsSound}
 use Rattle.cdb_standing.specs.declared.dependents.Found.{Found}
@@ -28,38 +28,13 @@ use Rattle.cdb_standing.proofs.Rows.{nth_within, is_row, same_at}
 -- ---- a number that is lowered
 
 pub lower_cases : (f : Found) (q n : ℕ) → (lowered (Some f) q n ≡ n) ⊎ ((k : ℕ) × (f.name ≡ named.Step (step_named q k)) × (lowered (Some f) q n ≡ k))
-lower_cases f q n = by f.name
-  where
-    by : (name : StepId) → (lowered_to name q n ≡ n) ⊎ ((k : ℕ) × (name ≡ named.Step (step_named q k)) × (lowered_to name q n ≡ k))
-    by (named.Lost copy) = inl refl
-    by (named.Step step) = go (nat_eq step.p q) (nat_lt step.k n) (eqb-true step.p q)
-      where
-        go : (a b : Bool) → (a ≡ true → step.p ≡ q)
-            → (cond a (cond b step.k n) n ≡ n) ⊎ ((k : ℕ) × (named.Step step ≡ named.Step (step_named q k)) × (cond a (cond b step.k n) n ≡ k))
-        go true true is = inr (step.k, ap (λ r. named.Step (step_named r step.k)) (is refl), refl)
-        go true false is = inl refl
-        go false b is = inl refl
+lower_cases f q n = grind (arith, common_steps, gets)
 
 pub lowered_le : (f : Option Found) (q n : ℕ) → lowered f q n ≤ n
-lowered_le None q n = omega arith
-lowered_le (Some f) q n = by f.name
-  where
-    by : (name : StepId) → lowered_to name q n ≤ n
-    by (named.Lost copy) = omega arith
-    by (named.Step step) = go (nat_eq step.p q) (nat_lt step.k n) (ltb-true step.k n)
-      where
-        go : (a b : Bool) → (b ≡ true → step.k < n) → cond a (cond b step.k n) n ≤ n
-        go true true less = let h = less refl in omega arith
-        go true false less = omega arith
-        go false b less = omega arith
+lowered_le f q n = grind (arith, common_steps, gets)
 
 pub lowered_far : (f : Found) (q k n : ℕ) → f.name ≡ named.Step (step_named q k) → lowered (Some f) q n ≤ k
-lowered_far f q k n e = subst (λ name. lowered_to name q n ≤ k) (sym e) (go (nat_eq q q) (nat_lt k n) (eq-eqb q q refl) (ltb-false k n))
-  where
-    go : (a b : Bool) → a ≡ true → (b ≡ false → n ≤ k) → cond a (cond b k n) n ≤ k
-    go true true is_it more = omega arith
-    go true false is_it more = more refl
-    go false b is_it more = absurd (true≢false (sym is_it))
+lowered_far f q k n h1 = grind (arith, common_steps, gets)
 
 module _ {next : ℕ} {steps : List (List Entry)} {sent : List (List Sent)} (sound : IsSound next steps sent) where
   -- a step of the same process depends on one before it
@@ -85,11 +60,7 @@ module _ {next : ℕ} {steps : List (List Entry)} {sent : List (List Sent)} (sou
     This = event.Step p k kind
 
     not_own_step : (r j : ℕ) (other : Kind) → r ≢ p → is_step_of p (event.Step r j other) ≡ false
-    not_own_step r j other not_own = go (nat_eq r p) (eqb-true r p)
-      where
-        go : (t : Bool) → (t ≡ true → r ≡ p) → t ≡ false
-        go true is = absurd (not_own (is refl))
-        go false is = refl
+    not_own_step r j other h1 = grind (arith, common_steps, gets)
 
     not_both : {r j a b : ℕ} {other : Kind} {copy : CopyName} → r ≢ p → IsDependent steps sent This mark b (event.Step r j other)
         → IsDependent steps sent This mark a (event.Lost copy) → copy.to ≡ r → ⊥
@@ -107,7 +78,7 @@ module _ {next : ℕ} {steps : List (List Entry)} {sent : List (List Sent)} (sou
             let g : named.Step (step_named r j) ≡ named.Lost copy = ap (λ (x : Found). x.name) f in
             absurd (cc)
         by (Read register) at one two = let e = two.3 in absurd (cc)
-        by (Write register) at one two = let e = two.3 in absurd (cc)
+        by (Write register) at one two = absurd (cc)
         by _ at one two = absurd one
 
     -- what is found of a process cuts off all of its steps that depend on this one
@@ -176,7 +147,7 @@ module _ {next : ℕ} {steps : List (List Entry)} {sent : List (List Sent)} (sou
   none_behind q cut a mark kind at le l b other there later = let above = number_below sound q (cut - 1) l a b kind other at there (omega arith) in omega arith
 
   pub none_below_two : (q cut mark : ℕ) → cut < 2 → HasNoneBehind steps q cut mark
-  none_below_two q cut mark few l b other there later = let within = nth_within (row_of steps q) l (entry_of b other) there in let low = within.0 in omega arith
+  none_below_two q cut mark few l b other there later = let within = nth_within (row_of steps q) l (entry_of b other) there in omega arith
 
   -- the steps of one process more are cut off
   pub one_more_closed : (one : Event) (mark top r : ℕ) (old new : List ℕ) → r ≡ top + 1
@@ -191,7 +162,7 @@ module _ {next : ℕ} {steps : List (List Entry)} {sent : List (List Sent)} (sou
 
   no_step_of_none : (a : ℕ) (one : Event) (mark : ℕ) (cuts : List ℕ) → IsClosedAt steps sent one mark 0 cuts
   no_step_of_none a one mark cuts b r j other dependent le =
-      let within = nth_within steps r (row_of steps r) (is_row steps r j (entry_of b other) dependent.stands) in let low = within.0 in absurd (omega arith)
+      let within = nth_within steps r (row_of steps r) (is_row steps r j (entry_of b other) dependent.stands) in absurd (omega arith)
 
   pub nothing_open : (one : Event) (mark : ℕ) (cuts : List ℕ) → IsClosedAt steps sent one mark 0 cuts
   nothing_open one mark cuts = no_step_of_none 0 one mark cuts
@@ -204,17 +175,10 @@ cut_at (x ∷ xs) zero = refl
 cut_at (x ∷ xs) (suc i) = cut_at xs i
 
 pub cut_set : (cuts : List ℕ) (i n : ℕ) → i < length cuts → cut_of (set cuts i n) (suc i) ≡ n
-cut_set [] i n less = absurd (omega (arith, less))
-cut_set (x ∷ xs) zero n less = refl
-cut_set (x ∷ xs) (suc i) n less = cut_set xs i n (omega (arith, less))
+cut_set cuts i n h1 = grind (arith, common_steps, gets)
 
 pub cut_set_other : (cuts : List ℕ) (i n q : ℕ) → q ≢ suc i → cut_of (set cuts i n) q ≡ cut_of cuts q
-cut_set_other cuts i n zero other = refl
-cut_set_other [] i n (suc q) other = refl
-cut_set_other (x ∷ xs) zero n (suc zero) other = absurd (other refl)
-cut_set_other (x ∷ xs) zero n (suc (suc q)) other = refl
-cut_set_other (x ∷ xs) (suc i) n (suc zero) other = refl
-cut_set_other (x ∷ xs) (suc i) n (suc (suc q)) other = cut_set_other xs i n (suc q) (λ e. other (ap suc e))
+cut_set_other cuts i n q h1 = grind (arith, common_steps, gets)
 
 pub cut_past : (cuts : List ℕ) (q : ℕ) → length cuts < q → cut_of cuts q ≡ 0
 cut_past cuts zero more = refl
@@ -240,12 +204,10 @@ pub record IsCutting (steps : List (List Entry)) (sent : List (List Sent)) (one 
 
 module _ {next : ℕ} {steps : List (List Entry)} {sent : List (List Sent)} (sound : IsSound next steps sent) where
   past_end : (q l a n : ℕ) (kind : Kind) → IsEntry steps q l a kind → length (row_of steps q) + 1 ≤ l → ⊥
-  past_end q l a n kind at past = let within = nth_within (row_of steps q) l (entry_of a kind) at in let high = within.1 in absurd (omega arith)
+  past_end q l a n kind at past = let within = nth_within (row_of steps q) l (entry_of a kind) at in absurd (omega arith)
 
   pub process_within : (q l a : ℕ) (kind : Kind) → IsEntry steps q l a kind → (1 ≤ q) × (q ≤ 9)
-  process_within q l a kind at =
-      let within = nth_within steps q (row_of steps q) (is_row steps q l (entry_of a kind) at) in
-      let nine = sound.processes in let high = within.1 in (within.0, omega arith)
+  process_within q l a kind at = let within = nth_within steps q (row_of steps q) (is_row steps q l (entry_of a kind) at) in (within.0, omega arith)
 
   module _ (p k mark : ℕ) (kind : Kind) (at : IsEntry steps p k mark kind) (ends : List ℕ)
       (are : AreEnds steps ends) (long : length ends ≡ 9) (i : ℕ) (p_is : i + 1 ≡ p) (within : i < 9) where
@@ -301,7 +263,7 @@ module _ {next : ℕ} {steps : List (List Entry)} {sent : List (List Sent)} (sou
       → IsLookedAt steps sent (i + 1) (slice_index looked i - 1) new → IsLower cuts new
       → IsCutting steps sent one mark (set looked i (slice_index looked i - 1)) new
   cutting_goes_on {one} {mark} {looked} {cuts} new i below_nine few open_one was only looked_at low =
-      let nine_long = was.long in let within : i < length looked = omega arith in
+      let within : i < length looked = omega arith in
       record {
         only = only;
         closed = λ q l a other at le b r j any dependent nine.

@@ -86,7 +86,7 @@ module _ {next : ℕ} {steps : List (List Entry)} {sent : List (List Sent)} (sou
                 | inr other ↦ are.each q l (omega arith) d
               ];
           in_order = are.in_order;
-          few = (let f = are.few in omega arith);
+          few = omega arith;
         }
 
     pub one_more : (found : StepId) → IsDirectOf steps sent effect ahead (top + 1) (Some found)
@@ -107,16 +107,16 @@ module _ {next : ℕ} {steps : List (List Entry)} {sent : List (List Sent)} (sou
               ⊎_elim
               (λ q. ⊎_elim
               (λ r. are.in_order k l name other less r.0 q.0)
-              (λ r. absurd (let low = q.1 in let same = r.1 in omega arith))
+              (λ r. absurd (omega arith))
               (push_cases names found name k at_k))
               (λ q. ⊎_elim
               (λ r.
               let o = are.only k name r.0 in
-              rw (o.4, sym q.0, here.2) (let le = o.2 in omega arith))
-              (λ r. absurd (let here_l = q.1 in let here_k = r.1 in omega arith))
+              rw (o.4, sym q.0, here.2) (omega arith))
+              (λ r. absurd (omega arith))
               (push_cases names found name k at_k))
               (push_cases names found other l at_l);
-          few = (let f = are.few in omega (arith, length_push names found));
+          few = (omega (arith, length_push names found));
         }
       where
         here : (l : ℕ) × IsDirect steps sent effect ahead (top + 1) l × (found ≡ step_named (top + 1) l)

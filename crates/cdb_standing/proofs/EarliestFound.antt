@@ -1,17 +1,18 @@
 -- The first event that depends on another, found in the tables.
+use Rattle.std.proofs.lemmas.Grind.{common_steps}
 use Rattle.std.proofs.lemmas.Bool.{cases_eq, cases_lt, cases_Bool, and_parts, or_cases, or_right, or_left}
 use Rattle.cdb_base.specs.Registers.{same_register-itself}
 use Rattle.cdb_base.specs.declared.register.Reg.{Reg}
 use Rattle.std.proofs.Common.{◌≡◌, ℕ, zero, suc, ◌+◌, ◌<◌, ◌≤◌, Bool, true, false, ◌&&◌, ◌||◌, nat_eq, nat_le, cond, leb-true, leb-false, true≢false}
 use Rattle.std.proofs.Common.{eqb-true, eq-eqb, List, slice_get, Option, Some, None, ◌⊎◌, inl, inr, ⊎_elim, refl, sym, ap, ◌∙◌, subst, arith}
-use Rattle.std.proofs.lemmas.Option.{same_Some, none-some}
+use Rattle.std.proofs.lemmas.Option.{same_Some, none-some, gets}
 use Rattle.std.specs.Option.{option_map, IfSome}
 use Rattle.cdb_base.specs.Event.{event_name, is_step_of}
 use Rattle.cdb_base.specs.Positions.{nth}
 use Rattle.cdb_base.specs.declared.event.Event.{Event}
 use Rattle.cdb_base.specs.declared.event.Event.TheVariants as event
 use Rattle.cdb_base.specs.declared.event.Kind.{Kind}
-use Rattle.cdb_base.specs.declared.event.Kind.TheVariants.{Query, Send, Recv, Read, Write, Local, Learn, Crash}
+use Rattle.cdb_base.specs.declared.event.Kind.TheVariants.{Send, Recv, Read, Write}
 use Rattle.cdb_base.specs.declared.name.CopyName.{CopyName}
 use Rattle.cdb_base.specs.declared.name.StepId.TheVariants as named
 use Rattle.cdb_causal.specs.Dependence.{depends, same_process, sends, receives}
@@ -29,7 +30,7 @@ use Rattle.cdb_standing.specs.declared.tables.Copied.{Copied}
 use Rattle.cdb_standing.specs.declared.tables.Copied.TheVariants.{Waits, Received, Lost}
 use Rattle.cdb_standing.specs.declared.tables.Entry.{Entry}
 use Rattle.cdb_standing.specs.declared.tables.Sent.{Sent}
-use Rattle.cdb_standing.proofs.Rows.{nth_within, nth_some, is_row, same_at}
+use Rattle.cdb_standing.proofs.Rows.{nth_within, nth_some, is_row}
 use Rattle.cdb_standing.proofs.MailRows.{same_copy}
 use Rattle.cdb_standing.proofs.ListedEvents.{listed_only, listed_has, listed_rising}
 use Rattle.cdb_standing.proofs.LaterLinks.{receives_is, sends_is, is_accessed, is_written, Affects, affects_is}
@@ -107,9 +108,7 @@ send_lost s l m to = affecting (event.Step s l (Send m)) (event.Lost (copy_named
 
 -- two steps of one process depend on each other
 pub own_links : (p k l : ℕ) (kind other : Kind) → depends (event.Step p k kind) (event.Step p l other) ≡ true
-own_links p k l kind other =
-    by_effect (event.Step p k kind) (event.Step p l other)
-    ∙ ap (λ b. b || (affects (event.Step p k kind) (event.Step p l other) || affects (event.Step p l other) (event.Step p k kind))) (eq-eqb p p refl)
+own_links p k l kind other = grind (arith, common_steps, gets)
 
 module _ {next : ℕ} {steps : List (List Entry)} {sent : List (List Sent)} (sound : IsSound next steps sent) where
   -- the list of a process and a register
@@ -119,20 +118,11 @@ module _ {next : ℕ} {steps : List (List Entry)} {sent : List (List Sent)} (sou
 
   -- the marks of one process rise with its numbers
   pub mark_le : (p k l a b : ℕ) (kind other : Kind) → IsEntry steps p k a kind → IsEntry steps p l b other → k ≤ l → a ≤ b
-  mark_le p k l a b kind other here there le =
-      elim (cases_eq k l) [
-        | inl e ↦ (let same = same_at (row_of steps p) l (entry_of a kind) (entry_of b other) (rw e at here) there in
-            let m : a ≡ b = ap (λ (x : Entry). x.mark) same in
-            omega arith)
-        | inr apart ↦ (let less = sound.rises p k l a b kind other here there (omega arith) in omega arith)
-      ]
+  mark_le p k l a b kind other h1 h2 h3 = grind (arith, sound.rises p k l a b kind other h1 h2)
 
   pub number_below : (p k l a b : ℕ) (kind other : Kind) → IsEntry steps p k a kind → IsEntry steps p l b other → a < b → k < l
   number_below p k l a b kind other here there less =
-      elim (cases_lt k l) [
-        | inl below ↦ below
-        | inr not ↦ absurd (let le = mark_le p l k b a other kind there here not in omega arith)
-      ]
+      elim (cases_lt k l) [ inl below ↦ below | inr not ↦ absurd (omega (arith, mark_le p l k b a other kind there here not)) ]
 
   -- the loss of a copy depends only on its send, and only that on it
   pub loss_needs : (copy : CopyName) {a : ℕ} (q j b : ℕ) (other : Kind) → IsCopy sent copy.msg.s copy.msg.m copy.to (Lost a) → IsEntry steps q j b other
@@ -195,7 +185,7 @@ module _ {next : ℕ} {steps : List (List Entry)} {sent : List (List Sent)} (sou
             let later = (h.0).later in
             let within = nth_within (row_of steps p) l (entry_of b other) there in
             let above = number_below p k l mark b kind other at there later in
-            let next_one = nth_some (row_of steps p) (k + 1) (omega arith) (let high = within.1 in omega arith) in (
+            let next_one = nth_some (row_of steps p) (k + 1) (omega arith) (omega arith) in (
               found (next_one.0).mark (named.Step (record { p = p; k = k + 1 })),
               step_is p (k + 1) (next_one.0).mark (next_one.0).kind next_one.1,
               mark_le p (k + 1) l (next_one.0).mark b (next_one.0).kind other next_one.1 there (omega arith),
@@ -219,22 +209,11 @@ module _ {next : ℕ} {steps : List (List Entry)} {sent : List (List Sent)} (sou
     -- a step that sends does not stand behind the receive
     backward : (some : Kind) → IsEntry steps p k mark some → (q l b : ℕ) (other : Kind)
         → IsEntry steps q l b other → mark < b → Affects q other some → Reason some b (event.Step q l other)
-    backward some here q l b (Send m) there later is =
-        let got : IsEntry steps p k mark (Recv q m) = subst (λ x. IsEntry steps p k mark x) is here in
-        let first = sound.sent_first q m l b p k mark there got in absurd (omega arith)
-    backward (Read y) here q l b (Write x) there later is = (q, l, Write x, refl, sym is)
-    backward (Write y) here q l b (Write x) there later is = (q, l, Write x, refl, sym is)
-    backward _ here q l b (Write x) there later is = absurd (cc)
-    backward some here q l b _ there later is = absurd is
+    backward some h1 q l b other h2 h3 h4 = grind (arith, common_steps, gets)
 
     lost_after_send : (some : Kind) (b : ℕ) (copy : CopyName) → Stands steps sent b (event.Lost copy)
         → some ≡ Send (copy.msg).m → p ≡ (copy.msg).s → Reason some b (event.Lost copy)
-    lost_after_send some b copy there is p_is =
-        subst (λ x. Reason x b (event.Lost copy)) (sym is) (
-          Lost b,
-          subst (λ s. IsCopy sent s (copy.msg).m copy.to (Lost b)) (sym p_is) there,
-          ap (λ s. Some (found b (named.Lost (copy_named s (copy.msg).m copy.to)))) p_is,
-        )
+    lost_after_send some b copy h1 h2 h3 = grind (arith, common_steps, gets)
 
     pub reason : (b : ℕ) (it : Event) → Dependent b it → is_step_of p it ≡ false → Reason kind b it
     reason b (event.Step q l other) dependent not_own =
@@ -354,7 +333,7 @@ module _ {next : ℕ} {steps : List (List Entry)} {sent : List (List Sent)} (sou
               record {
                 only = λ f e. absurd (none-some f (sym o_is ∙ e));
                 each = λ b it h.
-                    let on = its_access b it h.0 h.1 h.2 in let low = none (access_of b on.0) on.1 in let later = (h.0).later in absurd (omega arith);
+                    let on = its_access b it h.0 h.1 h.2 in let low = none (access_of b on.0) on.1 in absurd (omega arith);
               }
           with_first (Some a) is o_is =
               record {
@@ -396,23 +375,21 @@ module _ {next : ℕ} {steps : List (List Entry)} {sent : List (List Sent)} (sou
   process_from_one mark (event.Lost copy) at = (nth_within (at.it).copies copy.to (Lost mark) at.became).0
 
   process_to_nine : (mark : ℕ) (it : Event) → Stands steps sent mark it → process_of it ≤ 9
-  process_to_nine mark (event.Step q l other) at =
-      let high = (nth_within steps q (row_of steps q) (is_row steps q l (entry_of mark other) at)).1 in let nine = sound.processes in omega arith
-  process_to_nine mark (event.Lost copy) at = sound.lost_to (copy.msg).s (copy.msg).m copy.to mark at
+  process_to_nine mark it h1 = grind (arith, common_steps, gets)
 
   module _ (p k mark : ℕ) (kind : Kind) (at : IsEntry steps p k mark kind) where
     abbrev One : Event
     One = event.Step p k kind
 
     pub none_yet : IsFoundByOthers steps sent p One mark 0 None
-    none_yet = of_none (IsDependent steps sent One mark) _ (λ b it h. let low = process_from_one b it (h.0).stands in let e = h.1 in absurd (omega arith))
+    none_yet = of_none (IsDependent steps sent One mark) _ (λ b it h. let low = process_from_one b it (h.0).stands in absurd (omega arith))
 
     pub one_process_more : (q : ℕ) (first other : Option Found)
         → IsFoundByOthers steps sent p One mark q first → IsFoundOfOthers steps sent p One mark (q + 1) other
         → IsFoundByOthers steps sent p One mark (q + 1) (earlier_of first other)
     one_process_more q first other so_far of_next =
         of_fewer (IsDependent steps sent One mark) _
-        (λ b it h. ⊎_elim (λ e. inr (h.0, e, h.2)) (λ e. inl (h.0, (let le = h.1 in omega arith), h.2)) (cases_eq (process_of it) (q + 1)))
+        (λ b it h. ⊎_elim (λ e. inr (h.0, e, h.2)) (λ e. inl (h.0, (omega arith), h.2)) (cases_eq (process_of it) (q + 1)))
         (of_both (IsDependent steps sent One mark) _ _ first other so_far
         (of_more (IsDependentOf steps sent One mark (q + 1)) (IsDependent steps sent One mark) (λ b it h. h.0) of_next))
 
@@ -436,4 +413,4 @@ module _ {next : ℕ} {steps : List (List Entry)} {sent : List (List Sent)} (sou
       no_one b (event.Step q l kind) h =
           let is = loss_needs copy q l b kind at h.stands (symmetric (event.Step q l kind) (event.Lost copy) ∙ h.linked) in
           let first = sound.sent_lost copy.msg.s copy.msg.m l b copy.to mark (rw (is.0, is.1) at h.stands) at in
-          let later = h.later in absurd (omega arith)
+          absurd (omega arith)

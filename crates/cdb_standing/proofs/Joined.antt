@@ -1,14 +1,15 @@
 -- A step, or the loss of a copy, is added: the tables still agree, and the history has it at the end.
-use Rattle.std.proofs.lemmas.Bool.{cases_eq}
+use Rattle.std.proofs.lemmas.Option.{gets}
+use Rattle.std.proofs.lemmas.Grind.{common_steps}
 use Rattle.std.proofs.Common.{◌≡◌, ◌≢◌, ℕ, suc, ◌+◌, ◌<◌, ◌≤◌, List, [], ◌∷◌, ◌++◌, length, ◌⊎◌}
-use Rattle.std.proofs.Common.{inl, inr, ⊎_elim, sym, ap, ap₂, ◌∙◌, subst, arith, length-append}
+use Rattle.std.proofs.Common.{inl, inr, ⊎_elim, sym, ap, ap₂, ◌∙◌, subst, arith}
 use Rattle.cdb_base.specs.declared.event.Event.{Event}
 use Rattle.cdb_base.specs.declared.event.Event.TheVariants as event
 use Rattle.cdb_base.specs.declared.event.Kind.{Kind}
-use Rattle.cdb_base.specs.declared.event.Kind.TheVariants.{Query, Send, Recv, Read, Write, Local, Learn, Crash}
+use Rattle.cdb_base.specs.declared.event.Kind.TheVariants.{Send, Recv}
 use Rattle.cdb_standing.specs.InOrder.{Marked}
 use Rattle.cdb_standing.specs.Tables.{row_of, copy_named, history_of, entry_of, IsEntry, IsCopy, IsMessage}
-use Rattle.cdb_standing.specs.Tables.{Stands, IsSound, IsCopySet, IsMailedBy, MayMail, IsStepAdded, MayAdd}
+use Rattle.cdb_standing.specs.Tables.{Stands, IsSound, IsCopySet, MayMail, IsStepAdded, MayAdd}
 use Rattle.cdb_standing.specs.declared.tables.Copied.{Copied}
 use Rattle.cdb_standing.specs.declared.tables.Copied.TheVariants.{Waits, Received, Lost}
 use Rattle.cdb_standing.specs.declared.tables.Entry.{Entry}
@@ -27,17 +28,7 @@ Joins steps sent next new steps' sent' =
 
 single_more : {next : ℕ} {steps : List (List Entry)} {sent : List (List Sent)} (new : Event) (steps' : List (List Entry)) (sent' : List (List Sent))
     → IsSound next steps sent → Joins steps sent next new steps' sent' → IsSingleIn steps' sent'
-single_more new steps' sent' sound joins mark one other here there =
-    ⊎_elim
-    (λ a. ⊎_elim
-    (λ b. sound.single mark one other a b)
-    (λ b. let low = sound.below mark one a in let e = b.0 in absurd (omega arith))
-    (joins mark other there))
-    (λ a. ⊎_elim
-    (λ b. let low = sound.below mark other b in let e = a.0 in absurd (omega arith))
-    (λ b. a.1 ∙ sym b.1)
-    (joins mark other there))
-    (joins mark one here)
+single_more new steps' sent' h1 h2 = grind (arith, common_steps, gets)
 
 module _ {next p k : ℕ} {kind : Kind} {steps : List (List Entry)} {sent : List (List Sent)} {steps' : List (List Entry)} {sent' : List (List Sent)}
     (sound : IsSound next steps sent) (may : MayAdd p k kind steps sent) (added : IsStepAdded next p k kind steps sent steps' sent') where
@@ -45,10 +36,7 @@ module _ {next p k : ℕ} {kind : Kind} {steps : List (List Entry)} {sent : List
   mail = grown p k kind sent sent' may.mail added.mailed
 
   entry_cases : (q l a : ℕ) (other : Kind) → IsEntry steps' q l a other → IsEntry steps q l a other ⊎ ((q ≡ p) × (l ≡ k) × (a ≡ next) × (other ≡ kind))
-  entry_cases q l a other at =
-      ⊎_elim (λ old. inl old)
-      (λ new. inr (new.0, new.1 ∙ sym may.number, sym (ap (λ (e : Entry). e.mark) new.2), sym (ap (λ (e : Entry). e.kind) new.2)))
-      (put_cases added.put q l (entry_of a other) at)
+  entry_cases q l a other h1 = grind (arith, put_cases added.put)
 
   entry_keeps : (q l a : ℕ) (other : Kind) → IsEntry steps q l a other → IsEntry steps' q l a other
   entry_keeps q l a other at = put_keeps added.put q l (entry_of a other) at
@@ -71,29 +59,13 @@ module _ {next p k : ℕ} {kind : Kind} {steps : List (List Entry)} {sent : List
   stands_keeps mark (event.Lost copy) at = mail.keeps (copy.msg).s (copy.msg).m copy.to (Lost mark) at (λ e. absurd (cc))
 
   own_last : (l a : ℕ) (other : Kind) → IsEntry steps p l a other → l < k
-  own_last l a other at = let within = nth_within (row_of steps p) l (entry_of a other) at in let e = may.number in let h = within.1 in omega arith
+  own_last l a other at = let within = nth_within (row_of steps p) l (entry_of a other) at in omega arith
 
   few : (q : ℕ) → length (row_of steps' q) ≤ 65535
-  few q =
-      ⊎_elim
-      (λ e. let n : length (row_of steps' q) ≡ length (row_of steps p) + 1 =
-      ap (λ a. length (row_of steps' a)) e ∙ ap length added.put.more ∙ length-append (row_of steps p) (entry_of next kind ∷ []) in
-      let a = may.number in let b = may.few in omega arith)
-      (λ e. subst (λ row. length row ≤ 65535) (sym (added.put.others q e)) (sound.few q))
-      (cases_eq q p)
+  few q = grind (arith, common_steps, gets)
 
   rises : (q l m a b : ℕ) (one other : Kind) → IsEntry steps' q l a one → IsEntry steps' q m b other → l < m → a < b
-  rises q l m a b one other here there less =
-      ⊎_elim
-      (λ x. ⊎_elim
-      (λ y. sound.rises q l m a b one other x y less)
-      (λ y. let low = entry_old q l a one x in let e = y.2 in omega arith)
-      (entry_cases q m b other there))
-      (λ x. ⊎_elim
-      (λ y. let last = own_last m b other (subst (λ r. IsEntry steps r m b other) x.0 y) in let e = x.1 in absurd (omega arith))
-      (λ y. let e = x.1 in let f = y.1 in absurd (omega arith))
-      (entry_cases q m b other there))
-      (entry_cases q l a one here)
+  rises q l m a b one other h1 h2 h3 = grind (arith, entry_cases, own_last, entry_old)
 
   received_is : (s m to l : ℕ) → IsCopy sent' s m to (Received l) → (mark : ℕ) × IsEntry steps' to l mark (Recv s m)
   received_is s m to l copy =
@@ -145,9 +117,8 @@ module _ {next p k : ℕ} {kind : Kind} {steps : List (List Entry)} {sent : List
       (λ x. ⊎_elim
       (λ y. let within = nth_within (row_of sent s) n y.it y.was_sent in
       let e : m ≡ length (row_of sent s) + 1 = subst (λ a. m ≡ length (row_of sent a) + 1) (sym x.0) x.1 in
-      let high = within.1 in
       absurd (omega arith))
-      (λ y. let e = x.1 in let f = y.1 in absurd (omega arith))
+      (λ y. absurd (omega arith))
       (mail.messages s n j other))
       (mail.messages s m i one)
 
@@ -157,7 +128,7 @@ module _ {next p k : ℕ} {kind : Kind} {steps : List (List Entry)} {sent : List
       let next_is : m ≡ length (row_of sent p) + 1 = subst (λ a. MayMail p a sent) e may.mail in
       let within = nth_within (row_of sent s) m copy.it copy.was_sent in
       let same : length (row_of sent s) ≡ length (row_of sent p) = ap (λ a. length (row_of sent a)) s_is in
-      let high = within.1 in absurd (omega arith)
+      absurd (omega arith)
 
   sent_first : (s m l a to i b : ℕ) → IsEntry steps' s l a (Send m) → IsEntry steps' to i b (Recv s m) → a < b
   sent_first s m l a to i b here there =
@@ -168,7 +139,7 @@ module _ {next p k : ℕ} {kind : Kind} {steps : List (List Entry)} {sent : List
       (entry_cases to i b (Recv s m) there))
       (λ x. ⊎_elim
       (λ y. absurd (not_before (sym x.3) x.0 (sound.is_received s m to i b y)))
-      (λ y. absurd (let e = x.3 in let f = y.3 in cc))
+      (λ y. absurd (cc))
       (entry_cases to i b (Recv s m) there))
       (entry_cases s l a (Send m) here)
 
@@ -183,16 +154,10 @@ module _ {next p k : ℕ} {kind : Kind} {steps : List (List Entry)} {sent : List
       (mail.copies s m to (Lost b) there (λ e. absurd (cc)))
 
   below : (mark : ℕ) (it : Event) → Stands steps' sent' mark it → mark < suc next
-  below mark it at =
-      ⊎_elim (λ old. let low = sound.below mark it old in omega arith) (λ new. let e = new.0 in omega arith) (stands_cases mark it at)
+  below mark it at = ⊎_elim (λ old. let low = sound.below mark it old in omega arith) (λ new. omega arith) (stands_cases mark it at)
 
   as_many : length sent' ≡ length sent
-  as_many = mailed_as_many kind added.mailed
-    where
-      mailed_as_many : (some : Kind) → IsMailedBy p k some sent sent' → length sent' ≡ length sent
-      mailed_as_many (Send m) mailed = (mailed.1).as_many
-      mailed_as_many (Recv s m) mailed = mailed.as_many
-      mailed_as_many _ mailed = ap length mailed
+  as_many = grind (arith, common_steps, gets)
 
   pub step_sound : IsSound (suc next) steps' sent'
   step_sound =
@@ -266,7 +231,7 @@ module _ {next s m to : ℕ} {steps : List (List Entry)} {sent : List (List Sent
         lost_to = λ r n q b copy. ⊎_elim (λ old. sound.lost_to r n q b old) (λ new. let e = new.2 in omega arith) (copy_cases copy);
         sent_lost = λ r n l a q b here there.
             ⊎_elim (λ old. sound.sent_lost r n l a q b here old)
-            (λ new. let low = sound.below a (event.Step r l (Send n)) here in let e : b ≡ next = (let f = new.3 in cc) in omega arith)
+            (λ new. let low = sound.below a (event.Step r l (Send n)) here in let e : b ≡ next = (cc) in omega arith)
             (copy_cases there);
       }
 

@@ -1,7 +1,7 @@
 -- The last step of a process on which an event depends.
-use Rattle.std.proofs.Common.{◌≡◌, ◌≢◌, ℕ, ◌+◌, ◌<◌, ◌≤◌, true, true≢false, nat_eq, eqb-true, ◌&&◌, List, Option}
+use Rattle.std.proofs.Common.{◌≡◌, ◌≢◌, ℕ, ◌+◌, ◌<◌, ◌≤◌, true, true≢false, ◌&&◌, List, Option}
 use Rattle.std.proofs.Common.{Some, None, ◌⊎◌, inl, inr, ⊎_elim, refl, sym, ap, ◌∙◌, subst, eq-eqb, arith}
-use Rattle.std.proofs.lemmas.Bool.{cases_lt, ne_eqb, cases_eq, and_parts, or_cases}
+use Rattle.std.proofs.lemmas.Bool.{ne_eqb, cases_eq}
 use Rattle.std.proofs.lemmas.Option.{none-some}
 use Rattle.std.specs.Option.{option_map}
 use Rattle.cdb_base.specs.Positions.{nth}
@@ -11,20 +11,17 @@ use Rattle.cdb_base.specs.declared.event.Kind.{Kind}
 use Rattle.cdb_base.specs.declared.event.Kind.TheVariants.{Send, Recv, Read, Write}
 use Rattle.cdb_base.specs.declared.name.CopyName.{CopyName}
 use Rattle.cdb_base.specs.declared.register.Reg.{Reg}
-use Rattle.cdb_causal.specs.Dependence.{depends, sends, receives}
-use Rattle.cdb_causal.proofs.Effects.{by_effect}
+use Rattle.cdb_causal.specs.Dependence.{depends, sends}
 use Rattle.cdb_standing.specs.Accesses.{number_of, accessed, written, cell, AreListed, IsLastBeforeOrNone}
 use Rattle.cdb_standing.specs.Causes.{sent_by, writes, IsLastByList, IsCause, IsLastCauseOrNone}
 use Rattle.cdb_standing.specs.Tables.{row_of, entry_of, IsEntry, IsCopy, IsSound}
 use Rattle.cdb_standing.specs.declared.tables.Access.{Access}
-use Rattle.cdb_standing.specs.declared.tables.Copied.TheVariants.{Received, Lost}
+use Rattle.cdb_standing.specs.declared.tables.Copied.TheVariants.{Lost}
 use Rattle.cdb_standing.specs.declared.tables.Entry.{Entry}
 use Rattle.cdb_standing.specs.declared.tables.Sent.{Sent}
-use Rattle.cdb_standing.proofs.LaterLinks.{receives_is, sends_is}
 use Rattle.cdb_standing.proofs.Apart.{IsMail, AreInConflict, links_apart, conflict_links}
 use Rattle.cdb_standing.proofs.EarliestFound.{own_links, send_received, send_lost, mark_le, number_below, loss_needs}
 use Rattle.cdb_standing.proofs.Lasts.{is_listed, listed_is}
-use Rattle.cdb_standing.proofs.MailRows.{same_copy}
 use Rattle.cdb_standing.proofs.Rows.{same_at, nth_within, nth_some}
 
 -- what is written is accessed
@@ -109,7 +106,7 @@ module _ {next : ℕ} {steps : List (List Entry)} {sent : List (List Sent)} (sou
                 → IsLastCauseOrNone steps sent This a q (option_map (λ (access : Access). access.k) last)
             of_access None none = λ j b other c.
                 let late = none _ (is_listed lists q n one nine few j b other c.stands (only other (linked_by j b other c))) in
-                let early = c.earlier in absurd (omega arith)
+                absurd (omega arith)
             of_access (Some access) is =
                 let it = listed_is lists q n one nine few access is.0 in (
                   access.mark,
@@ -133,7 +130,7 @@ module _ {next : ℕ} {steps : List (List Entry)} {sent : List (List Sent)} (sou
         })
       where
         only : (other : Kind) → IsMail q other (Recv s m) ⊎ AreInConflict other (Recv s m) → (q ≡ s) × (other ≡ Send m)
-        only other (inl mail) = let e = mail.receives in let f = mail.sends in ((cc), (cc))
+        only other (inl mail) = ((cc), (cc))
         only other (inr c) = absurd (none-some c.n c.two)
 
     pub read_last : (x : Reg) → IsEntry steps p k a (Read x) → {table : List (List Access)} → AreListed written table steps → 1 ≤ q → q ≤ 9 → number_of x < 11
@@ -143,7 +140,7 @@ module _ {next : ℕ} {steps : List (List Entry)} {sent : List (List Sent)} (sou
         (λ other is. let w = written_is other (number_of x) is in record { n = number_of x; one = w.0; two = refl; written = inl w.1 }) found by
       where
         only : (other : Kind) → IsMail q other (Read x) ⊎ AreInConflict other (Read x) → written other ≡ Some (number_of x)
-        only other (inl mail) = absurd (let e = mail.receives in (cc))
+        only other (inl mail) = absurd ((cc))
         only other (inr c) = is_written_too other (number_of x) (⊎_elim (λ w. w) (λ w. absurd (true≢false (sym w))) c.written) (c.one ∙ sym c.two)
 
     pub write_last : (x : Reg) → IsEntry steps p k a (Write x) → {table : List (List Access)}
@@ -154,7 +151,7 @@ module _ {next : ℕ} {steps : List (List Entry)} {sent : List (List Sent)} (sou
         (λ other is. record { n = number_of x; one = is; two = refl; written = inr refl }) found by
       where
         only : (other : Kind) → IsMail q other (Write x) ⊎ AreInConflict other (Write x) → accessed other ≡ Some (number_of x)
-        only other (inl mail) = absurd (let e = mail.receives in (cc))
+        only other (inl mail) = absurd ((cc))
         only other (inr c) = c.one ∙ sym c.two
 
   -- ---- of a loss

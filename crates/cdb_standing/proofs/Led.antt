@@ -1,8 +1,9 @@
 -- Numbers that are raised until what is up to them is closed under causes.
-use Rattle.std.proofs.Common.{◌≡◌, ◌↔◌, ℕ, zero, suc, ◌+◌, ◌<◌, ◌≤◌, Bool, true, false, cond, nat_eq, nat_lt, ltb-true, ltb-false, eqb-true, eq-eqb, List, []}
+use Rattle.std.proofs.lemmas.Grind.{common_steps}
+use Rattle.std.proofs.Common.{◌≡◌, ◌↔◌, ℕ, zero, suc, ◌+◌, ◌<◌, ◌≤◌, List, []}
 use Rattle.std.proofs.Common.{◌∷◌, length, set, slice_index, length-set, replicate, Option, Some, None, ◌⊎◌, inl, inr, ⊎_elim, refl, sym, ◌∙◌, subst, arith}
 use Rattle.std.proofs.lemmas.Bool.{cases_lt, cases_eq}
-use Rattle.std.proofs.lemmas.Option.{same_Some}
+use Rattle.std.proofs.lemmas.Option.{same_Some, gets}
 use Rattle.cdb_base.specs.Event.{event_name}
 use Rattle.cdb_base.specs.Positions.{nth}
 use Rattle.cdb_base.specs.declared.event.Event.{Event}
@@ -32,29 +33,13 @@ use Rattle.cdb_standing.proofs.Rows.{nth_within, same_at}
 -- ---- a number that is raised
 
 pub raised_cases : (p : ℕ) (found : Option ℕ) (q n : ℕ) → (raised p found q n ≡ n) ⊎ ((l : ℕ) × (found ≡ Some l) × (q ≡ p) × (raised p found q n ≡ l))
-raised_cases p None q n = inl refl
-raised_cases p (Some l) q n = by (nat_eq q p) (nat_lt n l) (eqb-true q p)
-  where
-    by : (a b : Bool) → (a ≡ true → q ≡ p) → (cond a (cond b l n) n ≡ n) ⊎ ((m : ℕ) × (Some l ≡ Some m) × (q ≡ p) × (cond a (cond b l n) n ≡ m))
-    by true true is = inr (l, refl, is refl, refl)
-    by true false is = inl refl
-    by false b is = inl refl
+raised_cases p found q n = grind (arith, common_steps, gets)
 
 pub raised_ge : (p : ℕ) (found : Option ℕ) (q n : ℕ) → n ≤ raised p found q n
-raised_ge p None q n = omega arith
-raised_ge p (Some l) q n = by (nat_eq q p) (nat_lt n l) (ltb-true n l)
-  where
-    by : (a b : Bool) → (b ≡ true → n < l) → n ≤ cond a (cond b l n) n
-    by true true less = let h = less refl in omega arith
-    by true false less = omega arith
-    by false b less = omega arith
+raised_ge p found q n = grind (arith, common_steps, gets)
 
 pub raised_far : (p l n : ℕ) → l ≤ raised p (Some l) p n
-raised_far p l n = rw (eq-eqb p p refl) (by (nat_lt n l) (ltb-false n l))
-  where
-    by : (b : Bool) → (b ≡ false → l ≤ n) → l ≤ cond b l n
-    by true le = omega arith
-    by false le = le refl
+raised_far p l n = grind (arith, common_steps, gets)
 
 pub more_room : (xs : List ℕ) (i : ℕ) → i < length xs → slice_index xs i < 65536 → room (set xs i (slice_index xs i + 1)) < room xs
 more_room [] i less few = absurd (omega (arith, less))
@@ -105,12 +90,7 @@ module _ {next : ℕ} {steps : List (List Entry)} {sent : List (List Sent)} (sou
     raise_higher r = rw (are r) (raised_ge q found r (end_of old r))
 
     pub raise_few : AreFew old → ((l : ℕ) → found ≡ Some l → l ≤ 65535) → AreFew new
-    raise_few few short r =
-        rw (are r)
-        (elim (raised_cases q found r (end_of old r)) [
-          | inl e ↦ rw e (few r)
-          | inr h ↦ rw h.3 (short h.0 h.1)
-        ])
+    raise_few h1 h2 = grind (arith, common_steps, gets)
 
     pub raise_sound : (one : Event) (end : ℕ) → IsFoundLed one end q found → IsSoundPast steps sent one end old → IsSoundPast steps sent one end new
     raise_sound one end led was r l a kind at le =
@@ -194,7 +174,7 @@ module _ {next : ℕ} {steps : List (List Entry)} {sent : List (List Sent)} (sou
     longer = set looked i next_one
 
     here_now : (q : ℕ) → q ≡ suc i → end_of longer q ≡ next_one
-    here_now q e = rw e (cut_set looked i next_one (let long = was.long in omega arith))
+    here_now q e = rw e (cut_set looked i next_one (omega arith))
 
     here_before : (q : ℕ) → q ≡ suc i → end_of looked q ≡ slice_index looked i
     here_before q e = rw e (cut_at looked i)

@@ -1,8 +1,9 @@
 -- The lists of accesses, where a step comes or goes.
-use Rattle.std.proofs.Common.{◌≡◌, ◌≢◌, ℕ, zero, suc, ◌+◌, ◌<◌, ◌≤◌, Bool, true, false, cond, nat_eq, true≢false, eqb-true, eq-eqb, List, [], ◌∷◌, ◌++◌}
+use Rattle.std.proofs.lemmas.Grind.{common_steps}
+use Rattle.std.proofs.Common.{◌≡◌, ◌≢◌, ℕ, zero, suc, ◌+◌, ◌<◌, ◌≤◌, Bool, true, false, cond, true≢false, eqb-true, eq-eqb, List, [], ◌∷◌, ◌++◌}
 use Rattle.std.proofs.Common.{length, slice_get, slice_index_or, Option, Some, None, inl, inr, ⊎_elim, refl, sym, ap, ap₂, ◌∙◌, subst, append-nil, arith}
 use Rattle.std.proofs.lemmas.Bool.{cases_lt, cases_eq}
-use Rattle.std.proofs.lemmas.Option.{same_Some, none-some, slice_get_within}
+use Rattle.std.proofs.lemmas.Option.{same_Some, none-some, slice_get_within, gets}
 use Rattle.cdb_base.specs.declared.event.Kind.{Kind}
 use Rattle.cdb_standing.specs.Accesses.{is_that, access_of, listed, cell, AreListed, IsListedAt, IsUnlistedAt, IsRegisterOf, IsRisingBy, IsFirstBehind}
 use Rattle.cdb_standing.specs.InOrder.{Has}
@@ -133,11 +134,7 @@ is_that_none : (o : Option ℕ) (n : ℕ) → o ≡ None → is_that o n ≡ fal
 is_that_none o n e = ap (λ x. is_that x n) e
 
 is_that_other : (o : Option ℕ) (m n : ℕ) → o ≡ Some m → m ≢ n → is_that o n ≡ false
-is_that_other o m n e other = ap (λ x. is_that x n) e ∙ by (nat_eq m n) (eqb-true m n)
-  where
-    by : (b : Bool) → (b ≡ true → m ≡ n) → b ≡ false
-    by true is = absurd (other (is refl))
-    by false is = refl
+is_that_other o m n h1 h2 = grind (arith, common_steps, gets)
 
 module _ (of : Kind → Option ℕ) {mark p : ℕ} (k : ℕ) {kind : Kind} {low high : List (List Entry)} (put : IsPutOn p low (entry_of mark kind) high)
     (number : k ≡ length (row_of low p) + 1) (from_one : 1 ≤ p) (register : IsRegisterOf of kind) where

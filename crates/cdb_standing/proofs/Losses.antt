@@ -1,7 +1,8 @@
 -- The copies that are lost, in the rows and in the history.
-use Rattle.std.proofs.Common.{◌≡◌, ◌↔◌, ◌<◌, ◌≤◌, ℕ, zero, suc, Bool, true, false, List, length, IsTrue, inl, inr, refl, sym, arith}
+use Rattle.std.proofs.lemmas.Grind.{common_steps}
+use Rattle.std.proofs.Common.{◌≡◌, ◌↔◌, ◌<◌, ◌≤◌, ℕ, zero, suc, Bool, List, length, IsTrue, inl, inr, arith}
 use Rattle.std.proofs.lemmas.Bool.{cases_lt}
-use Rattle.std.proofs.lemmas.Option.{none-some, slice_get_within}
+use Rattle.std.proofs.lemmas.Option.{none-some, slice_get_within, gets}
 use Rattle.cdb_base.specs.declared.event.Event.TheVariants as event
 use Rattle.cdb_base.specs.declared.name.CopyName.{CopyName}
 use Rattle.cdb_standing.specs.Comparisons.{LoseSame}
@@ -16,9 +17,7 @@ use Rattle.cdb_standing.proofs.Places.{stands_in, in_stands}
 -- two tests that say the same answer the same
 
 pub told_same : {P Q : Type 0} (a b : Bool) → (IsTrue a ↔ P) → (IsTrue b ↔ Q) → P ↔ Q → a ≡ b
-told_same true b p q same = sym (q.1 (same.0 (p.0 refl)))
-told_same false true p q same = p.1 (same.1 (q.0 refl))
-told_same false false p q same = refl
+told_same a b h1 h2 h3 = grind (arith, common_steps, gets)
 
 -- messages behind both rows were not sent
 
@@ -42,7 +41,7 @@ all_senders sent other end few other_few each (suc i) m to nine =
       | inl less ↦ each i less m to nine
       | inr past ↦ (
         (λ h. let within = nth_within sent (suc i) _ (is_row sent (suc i) m h.it h.was_sent) in absurd (let high = within.1 in omega arith)),
-        (λ h. let within = nth_within other (suc i) _ (is_row other (suc i) m h.it h.was_sent) in absurd (let high = within.1 in omega arith)),
+        (λ h. let within = nth_within other (suc i) _ (is_row other (suc i) m h.it h.was_sent) in absurd (omega arith)),
       )
     ]
 

@@ -1,19 +1,18 @@
 -- How many writes of a register stand before a step.
-use Rattle.std.proofs.Common.{◌≡◌, ℕ, zero, suc, ◌+◌, ◌<◌, ◌≤◌, ◌&&◌, Bool, true, false, cond, nat_lt, nat_eq, eqb-true, eq-eqb, List}
+use Rattle.std.proofs.lemmas.Grind.{common_steps}
+use Rattle.std.proofs.Common.{◌≡◌, ℕ, zero, suc, ◌+◌, ◌<◌, ◌≤◌, ◌&&◌, Bool, true, false, cond, nat_lt, nat_eq, List}
 use Rattle.std.proofs.Common.{[], ◌∷◌, length, take, drop, slice_get, Option, Some, None, inl, inr, refl, sym, ap, ap₂, ◌∙◌, arith}
-use Rattle.std.proofs.lemmas.Bool.{le-ltb, lt-ltb}
 use Rattle.std.proofs.lemmas.List.{drop_all}
 use Rattle.std.proofs.lemmas.List.Sums.{sum_by-cons, sum_by-append, count_by-le-length}
-use Rattle.std.proofs.lemmas.Option.{none-some, same_Some}
+use Rattle.std.proofs.lemmas.Option.{none-some, same_Some, gets}
 use Rattle.std.specs.List.{sum_by, count_by}
 use Rattle.std.specs.List.Sorted.{IsPartitionPoint}
 use Rattle.cdb_base.specs.Event.{event_name}
 use Rattle.cdb_base.specs.Positions.{nth}
-use Rattle.cdb_base.specs.Registers.{same_register, same_register-itself, same_register-true}
+use Rattle.cdb_base.specs.Registers.{same_register}
 use Rattle.cdb_base.specs.declared.event.Event.{Event}
 use Rattle.cdb_base.specs.declared.event.Event.TheVariants as event
 use Rattle.cdb_base.specs.declared.event.Kind.{Kind}
-use Rattle.cdb_base.specs.declared.event.Kind.TheVariants.{Query, Send, Recv, Read, Write, Local, Learn, Crash}
 use Rattle.cdb_base.specs.declared.name.StepId.TheVariants as named
 use Rattle.cdb_base.specs.declared.name.StepName.{StepName}
 use Rattle.cdb_base.specs.declared.register.Reg.{Reg}
@@ -29,10 +28,8 @@ use Rattle.cdb_standing.specs.Tables.{row_of, step_at, history_of, standing, IsE
 use Rattle.cdb_standing.specs.declared.tables.Access.{Access}
 use Rattle.cdb_standing.specs.declared.tables.Entry.{Entry}
 use Rattle.cdb_standing.specs.declared.tables.Sent.{Sent}
-use Rattle.cdb_standing.proofs.LaterLinks.{same_number}
 use Rattle.cdb_standing.proofs.AllEvents.{row_there}
 use Rattle.cdb_standing.proofs.Listed.{standing_rising}
-use Rattle.cdb_standing.proofs.Losses.{told_same}
 use Rattle.cdb_standing.proofs.Merge.{of_stands, loss_event, all_only, all_once}
 use Rattle.cdb_standing.proofs.Ordered.{at_has, in_order_rising, in_order_only, in_order_has}
 use Rattle.cdb_standing.proofs.Places.{step_named, named_place, one_name}
@@ -78,18 +75,10 @@ module _ (one other : Event → Bool) (same : (e : Event) → one e ≡ other e)
   is_one_before mark x = one x.event && nat_lt x.mark mark
 
   not_before : (mark : ℕ) (x : Marked) → mark ≤ x.mark → one_if (is_one_before mark x) ≡ 0
-  not_before mark x high = by (one x.event) (nat_lt x.mark mark) (le-ltb x.mark mark high)
-    where
-      by : (a b : Bool) → b ≡ false → one_if (a && b) ≡ 0
-      by true b e = ap one_if e
-      by false b e = refl
+  not_before mark x h1 = grind (arith, common_steps, gets)
 
   is_before_one : (mark : ℕ) (x : Marked) → x.mark < mark → one_if (is_one_before mark x) ≡ one_if (other x.event)
-  is_before_one mark x low = by (one x.event) (nat_lt x.mark mark) (lt-ltb x.mark mark low) ∙ ap one_if (same x.event)
-    where
-      by : (a b : Bool) → b ≡ true → one_if (a && b) ≡ one_if a
-      by true b e = ap one_if e
-      by false b e = refl
+  is_before_one mark x h1 = grind (arith, common_steps, gets)
 
   pub counted_before : (xs : List Marked) (i : ℕ) (x : Marked) → IsRising xs → slice_get xs i ≡ Some x
       → count_by (is_one_before x.mark) xs ≡ count_by other (take i (events_of xs))
@@ -109,16 +98,10 @@ module _ (one other : Event → Bool) (same : (e : Event) → one e ≡ other e)
       omega arith
 
 tests_same : (register other : Reg) → nat_eq (number_of other) (number_of register) ≡ same_register other register
-tests_same register other =
-    told_same (nat_eq (number_of other) (number_of register)) (same_register other register)
-    ((λ h. same_number other register (eqb-true _ _ h)), (λ e. eq-eqb _ _ (ap number_of e)))
-    ((λ h. same_register-true other register h), (λ e. rw e (same_register-itself register)))
-    ((λ e. e), (λ e. e))
+tests_same register other = grind (arith, common_steps, gets)
 
 same_writes : (register : Reg) (e : Event) → writes_register (number_of register) e ≡ is_write_of register e
-same_writes register (event.Step p k (Write other)) = tests_same register other
-same_writes register (event.Step p k _) = refl
-same_writes register (event.Lost copy) = refl
+same_writes register e = grind (arith, common_steps, gets)
 
 none_below : (q : ℕ) → cut_of [] q ≡ 0
 none_below zero = refl
@@ -195,7 +178,7 @@ module _ {next : ℕ} {steps : List (List Entry)} {sent : List (List Sent)} (sou
       let shorter = listed_few written n 1 (row_of steps (suc i)) in
       let long = ap length is in
       let few = sound.few (suc i) in
-      let more = left_more steps sent n mark sound i (let all = sound.processes in omega arith) in
+      let more = left_more steps sent n mark sound i (omega arith) in
       (omega arith, rw (found_is, is, ← one) more)
 
   -- by name

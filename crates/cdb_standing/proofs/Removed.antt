@@ -1,12 +1,14 @@
 -- The last step of a process, or the loss of a copy, is taken out: the tables still agree, and the history lacks it.
+use Rattle.std.proofs.lemmas.Option.{gets}
+use Rattle.std.proofs.lemmas.Grind.{common_steps}
 use Rattle.std.proofs.lemmas.Bool.{cases_eq}
-use Rattle.std.proofs.Common.{◌≡◌, ◌≢◌, ℕ, ◌+◌, ◌<◌, ◌≤◌, List, [], ◌∷◌, length, Some, ◌⊎◌, inl, inr, ⊎_elim, refl, sym, ap, ap₂, ◌∙◌, subst, arith}
+use Rattle.std.proofs.Common.{◌≡◌, ◌≢◌, ℕ, ◌+◌, ◌<◌, ◌≤◌, List, [], ◌∷◌, length, Some, ◌⊎◌, ⊎_elim, refl, sym, ap, ap₂, ◌∙◌, subst, arith}
 use Rattle.std.proofs.Common.{length-append}
 use Rattle.cdb_base.specs.Positions.{nth}
 use Rattle.cdb_base.specs.declared.event.Event.{Event}
 use Rattle.cdb_base.specs.declared.event.Event.TheVariants as event
 use Rattle.cdb_base.specs.declared.event.Kind.{Kind}
-use Rattle.cdb_base.specs.declared.event.Kind.TheVariants.{Query, Send, Recv, Read, Write, Local, Learn, Crash}
+use Rattle.cdb_base.specs.declared.event.Kind.TheVariants.{Send, Recv}
 use Rattle.cdb_base.specs.declared.name.CopyName.{CopyName}
 use Rattle.cdb_causal.specs.Rollback.{without}
 use Rattle.cdb_standing.specs.Tables.{row_of, copy_named, history_of, standing, entry_of, IsEntry, IsCopy, IsMessage, Stands, IsSound, IsCopySet, IsMailedBack}
@@ -45,7 +47,7 @@ IsLastSent p kind new = (m : ℕ) → kind ≡ Send m → m ≡ length (row_of n
 shrunk : (p : ℕ) (kind : Kind) (old new : List (List Sent)) → IsLastSent p kind new → IsMailedBack p kind old new → IsMailShrunk p kind old new
 shrunk p (Send m) old new last mailed =
     record {
-      copies = λ s n to c copy c_is. (send_copy mailed.1 copy, λ e. absurd (let f = e.0 in cc));
+      copies = λ s n to c copy c_is. (send_copy mailed.1 copy, λ e. absurd (cc));
       stays = λ s n to c copy c_is one other.
           ⊎_elim (λ q. q) (λ q. absurd (other (ap Send (last m refl ∙ sym q.1), q.0))) (send_copy_cases mailed.1 copy);
       messages = λ s n l message. (send_message mailed.1 message, not_last s n l message);
@@ -58,7 +60,7 @@ shrunk p (Send m) old new last mailed =
         let within = nth_within (row_of new s) n message.it message.was_sent in
         let is_last : n ≡ length (row_of new p) + 1 = last n e.0 in
         let same : length (row_of new s) ≡ length (row_of new p) = ap (λ a. length (row_of new a)) e.1 in
-        let high = within.1 in absurd (omega arith)
+        absurd (omega arith)
 shrunk p (Recv s m) old new last put =
     record {
       copies = λ r n to c copy c_is.
@@ -67,12 +69,12 @@ shrunk p (Recv s m) old new last put =
           (λ q. absurd (c_is q.3))
           (set_cases put copy);
       stays = λ r n to c copy c_is one other. set_keeps put copy (λ e. one (ap₂ Recv (sym e.0) (sym e.1), e.2));
-      messages = λ r n l message. (set_message_only put message, λ e. absurd (let f = e.0 in cc));
+      messages = λ r n l message. (set_message_only put message, λ e. absurd (cc));
       stays_sent = λ r n l message other. set_message put message;
     }
   where
     is_at : (r n to : ℕ) → (Recv s m ≡ Recv r n) × (to ≡ p) → (r ≡ s) × (n ≡ m) × (to ≡ p)
-    is_at r n to e = let f = e.0 in ((cc), (cc), e.1)
+    is_at r n to e = ((cc), (cc), e.1)
 shrunk p other old new last mailed = shrunk_same p other old new mailed (λ s m e. absurd (cc)) (λ m e. absurd (cc))
 
 module _ {next mark p k : ℕ} {kind : Kind} {steps : List (List Entry)} {sent : List (List Sent)} {steps' : List (List Entry)} {sent' : List (List Sent)}
@@ -81,26 +83,16 @@ module _ {next mark p k : ℕ} {kind : Kind} {steps : List (List Entry)} {sent :
   entry_was = put_joins taken.put k taken.number
 
   entry_cases : (q l b : ℕ) (other : Kind) → IsEntry steps q l b other → IsEntry steps' q l b other ⊎ ((q ≡ p) × (l ≡ k) × (b ≡ mark) × (other ≡ kind))
-  entry_cases q l b other at =
-      ⊎_elim (λ old. inl old)
-      (λ new. inr (new.0, new.1 ∙ sym taken.number, sym (ap (λ (e : Entry). e.mark) new.2), sym (ap (λ (e : Entry). e.kind) new.2)))
-      (put_cases taken.put q l (entry_of b other) at)
+  entry_cases q l b other h1 = grind (arith, put_cases taken.put)
 
   entry_old : (q l b : ℕ) (other : Kind) → IsEntry steps' q l b other → IsEntry steps q l b other
   entry_old q l b other at = put_keeps taken.put q l (entry_of b other) at
 
   entry_other : (q l b : ℕ) (other : Kind) → IsEntry steps' q l b other → q ≡ p → l ≡ k → ⊥
-  entry_other q l b other at same_p same_k =
-      let within = nth_within (row_of steps' q) l (entry_of b other) at in
-      let same : length (row_of steps' q) ≡ length (row_of steps' p) = ap (λ a. length (row_of steps' a)) same_p in
-      let n = taken.number in let high = within.1 in absurd (omega arith)
+  entry_other q l b other h1 h2 h3 = grind (arith, nth_within)
 
   own_last : (l b : ℕ) (other : Kind) → IsEntry steps p l b other → l ≤ k
-  own_last l b other at =
-      ⊎_elim
-      (λ old. let within = nth_within (row_of steps' p) l (entry_of b other) old in let n = taken.number in let high = within.1 in omega arith)
-      (λ new. let e = new.1 in omega arith)
-      (entry_cases p l b other at)
+  own_last l b other h1 = grind (arith, nth_within, entry_cases p l b other h1)
 
   last_sent : IsLastSent p kind sent'
   last_sent m e = by kind e taken.mailed entry_was
@@ -117,7 +109,7 @@ module _ {next mark p k : ℕ} {kind : Kind} {steps : List (List Entry)} {sent :
           let count : length (row_of sent p) ≡ length (row_of sent' p) + 1 = ap length (mailed.1).more ∙ length-append (row_of sent' p) (mailed.0 ∷ []) in
           ⊎_elim
           (λ is. sym same ∙ is)
-          (λ other. let less : n < length (row_of sent' p) + 1 = (let h = within.1 in omega arith) in
+          (λ other. let less : n < length (row_of sent' p) + 1 = (omega arith) in
           let rise = sound.sent_rises p n (length (row_of sent' p) + 1) k (mailed.0).k message top less in absurd (omega arith))
           (cases_eq n (length (row_of sent' p) + 1))
       by _ e mailed was = absurd (cc)
@@ -162,14 +154,7 @@ module _ {next mark p k : ℕ} {kind : Kind} {steps : List (List Entry)} {sent :
       (λ e. let same : Lost b ≡ Waits = no_copy at e in absurd (cc))
 
   few : (q : ℕ) → length (row_of steps' q) ≤ 65535
-  few q =
-      ⊎_elim
-      (λ e. let n : length (row_of steps p) ≡ length (row_of steps' p) + 1 =
-      ap length taken.put.more ∙ length-append (row_of steps' p) (entry_of mark kind ∷ []) in
-      let same : length (row_of steps' q) ≡ length (row_of steps' p) = ap (λ a. length (row_of steps' a)) e in
-      let h = sound.few p in omega arith)
-      (λ e. subst (λ row. length row ≤ 65535) (taken.put.others q e) (sound.few q))
-      (cases_eq q p)
+  few q = grind (arith, common_steps, gets)
 
   received_is : (s m to l : ℕ) → IsCopy sent' s m to (Received l) → (b : ℕ) × IsEntry steps' to l b (Recv s m)
   received_is s m to l copy =
@@ -202,12 +187,7 @@ module _ {next mark p k : ℕ} {kind : Kind} {steps : List (List Entry)} {sent :
       entry_other s l b (Send m) at e.1 k_is)
 
   as_many : length sent' ≡ length sent
-  as_many = by kind taken.mailed
-    where
-      by : (some : Kind) → IsMailedBack p some sent sent' → length sent' ≡ length sent
-      by (Send m) mailed = sym (mailed.1).as_many
-      by (Recv s m) mailed = mailed.as_many
-      by _ mailed = ap length mailed
+  as_many = grind (arith, common_steps, gets)
 
   single : IsSingleIn steps' sent'
   single b one other here there = sound.single b one other (stands_only b one here).0 (stands_only b other there).0

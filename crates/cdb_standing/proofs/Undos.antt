@@ -8,7 +8,7 @@ use Rattle.cdb_base.specs.Positions.{nth}
 use Rattle.cdb_base.specs.declared.event.Event.{Event}
 use Rattle.cdb_base.specs.declared.event.Event.TheVariants as event
 use Rattle.cdb_base.specs.declared.event.Kind.{Kind}
-use Rattle.cdb_base.specs.declared.event.Kind.TheVariants.{Query, Send, Recv, Read, Write, Local, Learn, Crash}
+use Rattle.cdb_base.specs.declared.event.Kind.TheVariants.{Send, Recv}
 use Rattle.cdb_base.specs.declared.name.CopyName.{CopyName}
 use Rattle.cdb_base.specs.declared.name.StepId.TheVariants as named
 use Rattle.cdb_base.specs.declared.name.StepName.{StepName}
@@ -91,7 +91,7 @@ module _ {next : ℕ} {steps : List (List Entry)} {sent : List (List Sent)} (sou
         let own = own_found sound p k mark_of kind_of entry_at in
         let found = own.each (more.0).mark (event.Step p (k + 1) (more.0).kind) (its_link (more.0) more.1, eq-eqb p p refl) in
         absurd (none_depends (more.0).mark (event.Step p (k + 1) (more.0).kind) more.1 (its_link (more.0) more.1).later (its_link (more.0) more.1).linked))
-        (λ past. let high = within.1 in omega arith)
+        (λ past. omega arith)
         (cases_lt k (length (row_of steps p)))
       where
         its_link : (entry : Entry) → nth (row_of steps p) (k + 1) ≡ Some entry
@@ -104,7 +104,7 @@ module _ {next : ℕ} {steps : List (List Entry)} {sent : List (List Sent)} (sou
             }
 
     pub has_some : 0 < length (row_of steps p)
-    has_some = let within = nth_within (row_of steps p) k (entry_of mark_of kind_of) entry_at in (let low = within.0 in let high = within.1 in omega arith)
+    has_some = let within = nth_within (row_of steps p) k (entry_of mark_of kind_of) entry_at in (omega arith)
 
     pub unneeded : IsUnneeded p kind_of sent
     unneeded = by kind_of entry_at none_depends
@@ -136,7 +136,7 @@ module _ {next : ℕ} {steps : List (List Entry)} {sent : List (List Sent)} (sou
       one = within.0
 
       nine : p ≤ 9
-      nine = let high = within.1 in let n = sound.processes in omega arith
+      nine = omega (arith, within.1, sound.processes)
 
       some_in : (xs : List Access) (x : Access) → Has xs x → 0 < length xs
       some_in [] x h = absurd h
@@ -189,8 +189,7 @@ module _ {t : Tables} (kept : AreKept t) where
     was_last = rw last (end_of kept.sound p)
 
     pub last_left : AreKept new → IsEndOf (history_in new) p (k - 1)
-    last_left kept' l h =
-        let low = end_of kept'.sound p l h in let number = here.number in omega arith
+    last_left kept' l h = omega (arith, end_of kept'.sound p l h, here.number)
 
     pub take_history : IsTakenOut (history_in t) (named.Step (record { p = p; k = k })) (event.Step p k kind) (history_in new)
     take_history at h =

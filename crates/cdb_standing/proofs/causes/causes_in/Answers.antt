@@ -1,11 +1,9 @@
-use Rattle.cdb_standing.specs.Tables.{rows_in}
 use Rattle.cdb_standing.proofs.DirectCauses.{all_direct}
 use Rattle.cdb_standing.proofs.Undos.{the_place}
 use Rattle.cdb_standing.proofs.causes.causes_in.Goals as goal
 
 pub returns-in-Some : goal.returns-in-Some
 returns-in-Some c = λ at h.
-    let t = c.args.tables.now in
     let it = c.in-Some.it in
     all_direct c.requires.sound at
     (the_place c.requires.sound it.mark it.event

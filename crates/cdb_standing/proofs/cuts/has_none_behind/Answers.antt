@@ -7,7 +7,7 @@ use Rattle.cdb_standing.proofs.RowUpdates.{item_at, looked_up, rows_length}
 use Rattle.cdb_standing.proofs.cuts.has_none_behind.Goals as goal
 
 pub returns-then-cut-lt2 : goal.returns-then-cut-lt2
-returns-then-cut-lt2 c = λ _. let t = c.args.tables.now in none_below_two c.requires.sound c.args.q c.args.cut c.args.mark (omega arith)
+returns-then-cut-lt2 c = λ _. none_below_two c.requires.sound c.args.q c.args.cut c.args.mark (omega arith)
 
 pub returns-in-Some : goal.returns-in-Some
 returns-in-Some c = λ le.
@@ -15,7 +15,6 @@ returns-in-Some c = λ le.
     let table = t.steps.items in
     let cut = c.args.cut in
     let entry = c.in-Some.entry.now in
-    let nine = c.requires.sound.processes in
     let many = rows_length table in
     let found : option_copied c.get.result ≡ slice_get c.deref.result.now (cut - 2) =
     looked_up c.get.result c.deref.result.now (cut - 2) c.get.ensures.lookup.3 in

@@ -6,7 +6,6 @@ use Rattle.cdb_standing.proofs.cuts.look_for.Goals as goal
 
 pub returns-then-not-has_none_behind-clause-sound : goal.returns-then-not-has_none_behind-clause-sound
 returns-then-not-has_none_behind-clause-sound c = λ one behind reached was.
-    let t = c.args.tables.now in
     let entry = c.args.entry.now in
     lower_sound c.requires.kept.sound
     c.args.p c.args.k entry.mark entry.kind c.requires.at one behind reached
@@ -14,7 +13,6 @@ returns-then-not-has_none_behind-clause-sound c = λ one behind reached was.
 
 pub returns-then-not-has_none_behind-clause-closed : goal.returns-then-not-has_none_behind-clause-closed
 returns-then-not-has_none_behind-clause-closed c =
-    let t = c.args.tables.now in
     let entry = c.args.entry.now in
     lower_closed c.requires.kept.sound c.args.p c.args.k entry.mark entry.kind c.requires.at
     c.args.q c.of_others.result c.of_others.ensures c.args.cuts.now c.lower.new.cuts c.lower.ensures c.requires.own

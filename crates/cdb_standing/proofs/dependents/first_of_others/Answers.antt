@@ -7,10 +7,7 @@ use Rattle.cdb_standing.proofs.dependents.first_of_others.Goals as goal
 use Rattle.cdb_standing.proofs.dependents.first_of_others.Goals.{in-Some, in_default}
 
 pub loop-i-init : goal.loop-i-init
-loop-i-init c =
-    let t = c.args.tables.now in
-    let entry = c.args.entry.now in
-    none_yet c.requires.kept.sound c.args.p c.args.k entry.mark entry.kind c.requires.at
+loop-i-init c = let entry = c.args.entry.now in none_yet c.requires.kept.sound c.args.p c.args.k entry.mark entry.kind c.requires.at
 
 pub loop-i-preserved : goal.loop-i-preserved
 loop-i-preserved c =

@@ -9,7 +9,6 @@ returns c =
     let t = c.args.tables.now in
     let steps = rows_in t.steps.items in
     let many = rows_length t.steps.items in
-    let nine = c.requires.sound.processes in
     let here = ap length (row_at t.steps.items c.index.result c.index-2.result.now (omega arith) c.index-2.ensures) in
     let is : suc c.index.result ≡ c.args.p = omega arith in
     let same : length (row_of steps c.args.p) ≡ length c.index-2.result.now.items = rw (← is) here in (

@@ -1,11 +1,9 @@
-use Rattle.cdb_standing.specs.Tables.{rows_in}
 use Rattle.cdb_standing.proofs.Led.{exactly_led}
 use Rattle.cdb_standing.proofs.Undos.{the_place}
 use Rattle.cdb_standing.proofs.past.past_in.Goals as goal
 
 pub returns-in-Some : goal.returns-in-Some
 returns-in-Some c = λ at h other it there.
-    let t = c.args.tables.now in
     let one = c.in-Some.it in
     let is = c.in-Some.ensures in
     rw (← is.named)

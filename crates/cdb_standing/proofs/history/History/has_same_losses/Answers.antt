@@ -1,11 +1,8 @@
-use Rattle.cdb_standing.specs.Tables.{rows_in}
 use Rattle.cdb_standing.proofs.Losses.{lose_same_is}
 use Rattle.cdb_standing.proofs.history.History.has_same_losses.Goals as goal
 
 pub returns : goal.returns
 returns c =
-    let t = c.self.inside.tables in
-    let u = c.other.inside.tables in
     let same =
     lose_same_is c.self.invariant.kept.sound c.other.invariant.kept.sound in
     rw (← c.self.view_is, ← c.other.view_is)

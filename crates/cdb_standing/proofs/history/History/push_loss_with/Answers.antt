@@ -30,7 +30,4 @@ returns-in_err-left-clause-failed g c =
     rw p.1 (inr (record { shown = _; shows = refl; left = _; met = c.in_err-left.ensures; leaves = refl }))
 
 pub overflow_add-self : goal.overflow_add-self
-overflow_add-self g c =
-    let few = few c.self.invariant in
-    let next = c.add_loss.ensures.next in
-    omega (arith, few, next)
+overflow_add-self g c = let few = few c.self.invariant in omega (arith, few)

@@ -1,30 +1,23 @@
 use Rattle.cdb_base.specs.declared.event.Event.TheVariants.{Step}
 use Rattle.cdb_base.specs.declared.name.StepId.TheVariants as named
-use Rattle.cdb_standing.specs.Accesses.{accessed, written}
 use Rattle.cdb_standing.specs.Kept.{AreKept}
-use Rattle.cdb_standing.specs.Tables.{rows_in}
 use Rattle.cdb_standing.proofs.Counted.{some, one_event_less}
 use Rattle.cdb_standing.proofs.Undos.{has_some, has_listed, take_kept, take_history, was_last, last_left}
 use Rattle.cdb_standing.proofs.history.History.take_step.Goals as goal
 
 pub take_step-entry-requires-clause-some : goal.take_step-entry-requires-clause-some
-take_step-entry-requires-clause-some c =
-    let t = c.self.inside.tables in
-    has_some c.self.invariant.kept.sound c.args.p c.args.k (rw (← c.self.view_is) at c.requires)
+take_step-entry-requires-clause-some c = has_some c.self.invariant.kept.sound c.args.p c.args.k (rw (← c.self.view_is) at c.requires)
 
 pub take_step-entry-requires-clause-listed : goal.take_step-entry-requires-clause-listed
 take_step-entry-requires-clause-listed c = λ mark kind at.
-    let t = c.self.inside.tables in
     has_listed c.self.invariant.kept.sound c.self.invariant.kept.accesses c.args.p _ mark kind at
 
 pub take_step-entry-requires-clause-written : goal.take_step-entry-requires-clause-written
 take_step-entry-requires-clause-written c = λ mark kind at.
-    let t = c.self.inside.tables in
     has_listed c.self.invariant.kept.sound c.self.invariant.kept.writes c.args.p _ mark kind at
 
 pub invariant_of-self : goal.invariant_of-self
 invariant_of-self c =
-    let t = c.self.inside.tables in
     let name = named.Step (record { p = c.args.p; k = c.args.k }) in
     let entry = c.take_step-entry in
     let free = rw (← c.self.view_is) at c.requires in
@@ -36,7 +29,6 @@ invariant_of-self c =
 
 pub returns : goal.returns
 returns c =
-    let t = c.self.inside.tables in
     let entry = c.take_step-entry in
     let free = rw (← c.self.view_is) at c.requires in
     let kept : AreKept entry.new.tables =

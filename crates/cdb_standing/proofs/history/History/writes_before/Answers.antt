@@ -1,11 +1,9 @@
 use Rattle.std.proofs.Common.{◌≡◌, ◌+◌, sym}
-use Rattle.cdb_standing.specs.Tables.{rows_in}
 use Rattle.cdb_standing.proofs.PartCounts.{writes_are, none_there}
 use Rattle.cdb_standing.proofs.history.History.writes_before.Goals as goal
 
 pub returns-in-Some : goal.returns-in-Some
 returns-in-Some c =
-    let t = c.self.inside.tables in
     let is : c.index.result + 1 ≡ c.args.p = c.index.ensures.value in
     let at = rw is at c.in-Some.ensures in
     rw (← c.self.view_is)
@@ -15,6 +13,5 @@ returns-in-Some c =
 
 pub returns-in-None : goal.returns-in-None
 returns-in-None c =
-    let t = c.self.inside.tables in
     rw (← c.self.view_is) (λ at h. absurd (none_there
     c.self.invariant.kept.sound c.args.p c.args.k (sym (rw c.index.ensures.value at c.in-None.ensures)) at h))
