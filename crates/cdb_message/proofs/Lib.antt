@@ -1,4 +1,4 @@
-pub mod WatermarkLaws
+pub mod StretchLaws
 pub mod Closed
 pub mod Tables
 pub mod PendingFound

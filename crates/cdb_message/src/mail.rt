@@ -64,7 +64,7 @@ impl Mail {
     ghost use Rattle.cdb_message.specs.Mail.{remove_send, remove_receive, remove_loss};
     ghost use Rattle.cdb_message.specs.Mail.{TakesBackSend, TakesBackReceive, TakesBackLoss};
     ghost use Rattle.cdb_message.specs.Mail.{next_pending, HasNonePending, IsLeastPending};
-    ghost use Rattle.cdb_message.specs.Watermarks.{HasNoneOpen};
+    ghost use Rattle.cdb_message.specs.Passed.{HasNoneOpen};
     ghost use Rattle.cdb_message.specs.Search.{first_of_sender, messages_from};
 
     /// The mail of `n` processes, at most 9, none of which has sent or received anything. `NoMemory` if

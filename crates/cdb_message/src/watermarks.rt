@@ -1,79 +1,46 @@
-//! From which message on the look for a pending copy begins.
+//! Which copies the look for a pending one passes over.
 
 ghost use Rattle.std.specs.Prelude.{◌≡◌, ℕ};
 ghost use Rattle.std.specs.Prelude.{◌<◌, ◌≤◌};
-ghost use Rattle.cdb_message.specs.Watermarks.{number_up_to, watermark_of, SetsNumber, SetsWatermark, LowersWatermark};
+ghost use Rattle.cdb_message.specs.Passed.{stretch_from, stretch_of, SetsFrom, SetsStretch};
 ghost use Rattle.cdb_message.specs.Passed.{IsPassed, LeavesOut, RaisesWatermark};
 
 use cdb_base::Proc;
 
-/// A number for each sender.
+/// Of one sender the copies that need not be looked at: those of numbers up to the watermark, and a stretch of others,
+/// above one number and up to another.
+#[derive(Clone, Copy)]
+pub struct Stretch {
+    watermark: u16,
+    low: u16,
+    top: u16,
+}
+
+/// A stretch for each sender.
 #[derive(Clone, Copy)]
 pub struct Row {
-    numbers: [u16; 9],
+    stretches: [Stretch; 9],
 }
 
 impl Row {
-    fn get(&self, s: Proc) -> u16
-        ensures { result ≡ number_up_to self.now s }
+    fn get(&self, s: Proc) -> Stretch
+        ensures { result ≡ stretch_from self.now s }
     {
-        self.numbers[s.index()]
+        self.stretches[s.index()]
     }
 
-    fn set(&mut self, s: Proc, number: u16)
-        ensures { SetsNumber self.old self.new s number }
+    fn set(&mut self, s: Proc, stretch: Stretch)
+        ensures { SetsFrom self.old self.new s stretch }
     {
-        self.numbers[s.index()] = number;
-    }
-}
-
-/// A number for each receiver and sender.
-#[derive(Drop)]
-pub struct Watermarks {
-    rows: [Row; 9],
-}
-
-impl Watermarks {
-    /// Watermarks below the first message.
-    pub fn new() -> Self
-        ensures { (p s : ℕ) → watermark_of result p s ≡ 0 }
-    {
-        let row = Row { numbers: [0; 9] };
-        Watermarks { rows: [row; 9] }
-    }
-
-    /// The watermark of receiver `p` and sender `s`.
-    pub fn get(&self, p: Proc, s: Proc) -> u16
-        ensures { result ≡ watermark_of self.now p s }
-    {
-        self.rows[p.index()].get(s)
-    }
-
-    /// Puts the watermark of receiver `p` and sender `s` at that number.
-    pub fn set(&mut self, p: Proc, s: Proc, number: u16)
-        ensures { SetsWatermark self.old self.new p s number }
-    {
-        let row = &mut self.rows[p.index()];
-        row.set(s, number);
-    }
-
-    /// Puts the watermark of receiver `p` and sender `s` below that number, where it is not.
-    pub fn lower(&mut self, p: Proc, s: Proc, number: u16)
-        ensures { LowersWatermark self.old self.new p s number }
-    {
-        let below = self.get(p, s).min(number.saturating_sub(1));
-        self.set(p, s, below);
+        self.stretches[s.index()] = stretch;
     }
 }
 
-/// For each receiver and sender copies that need not be looked at: those up to its watermark, and a stretch of others,
-/// above one number and up to another. A copy that is taken back leaves those behind it in the stretch, so that they
-/// are not looked at again when it comes again.
+/// For each receiver and sender the copies that need not be looked at. A copy that is taken back leaves those behind it
+/// in the stretch, so that they are not looked at again when it comes again.
 #[derive(Drop)]
 pub struct Passed {
-    watermarks: Watermarks,
-    lows: Watermarks,
-    tops: Watermarks,
+    rows: [Row; 9],
 }
 
 impl Passed {
@@ -81,18 +48,35 @@ impl Passed {
     pub fn new() -> Self
         ensures { (p s m : ℕ) → 1 ≤ m → IsPassed result p s m → ⊥ }
     {
-        Passed {
-            watermarks: Watermarks::new(),
-            lows: Watermarks::new(),
-            tops: Watermarks::new(),
-        }
+        let none = Stretch {
+            watermark: 0,
+            low: 0,
+            top: 0,
+        };
+        let row = Row {
+            stretches: [none; 9],
+        };
+        Passed { rows: [row; 9] }
+    }
+
+    fn get(&self, p: Proc, s: Proc) -> Stretch
+        ensures { result ≡ stretch_of self.now p s }
+    {
+        self.rows[p.index()].get(s)
+    }
+
+    fn set(&mut self, p: Proc, s: Proc, stretch: Stretch)
+        ensures { SetsStretch self.old self.new p s stretch }
+    {
+        let row = &mut self.rows[p.index()];
+        row.set(s, stretch);
     }
 
     /// The watermark of receiver `p` and sender `s`.
     pub fn watermark(&self, p: Proc, s: Proc) -> u16
         ensures { (m : ℕ) → m ≤ result → IsPassed self.now p s m }
     {
-        self.watermarks.get(p, s)
+        self.get(p, s).watermark
     }
 
     /// The number, or the end of the stretch of receiver `p` and sender `s` where that goes on behind the number.
@@ -100,8 +84,8 @@ impl Passed {
         ensures from { number ≤ result }
         ensures passed { (m : ℕ) → number < m → m ≤ result → IsPassed self.now p s m }
     {
-        let top = self.tops.get(p, s);
-        if self.lows.get(p, s) <= number && number < top {
+        let Stretch { low, top, .. } = self.get(p, s);
+        if low <= number && number < top {
             return top;
         }
         number
@@ -111,20 +95,26 @@ impl Passed {
     pub fn set_watermark(&mut self, p: Proc, s: Proc, number: u16)
         ensures { RaisesWatermark self.old self.new p s number }
     {
-        self.watermarks.set(p, s, number);
+        let mut stretch = self.get(p, s);
+        stretch.watermark = number;
+        self.set(p, s, stretch);
     }
 
     /// Leaves out the copy for `p` of the message of `s` with that number.
     pub fn leave_out(&mut self, p: Proc, s: Proc, number: u16)
         ensures { LeavesOut self.old self.new p s number }
     {
-        let watermark = self.watermarks.get(p, s);
-        if watermark < number {
-            self.tops.lower(p, s, number);
+        let mut stretch = self.get(p, s);
+        let below = number.saturating_sub(1);
+        if stretch.watermark < number {
+            stretch.top = stretch.top.min(below);
         } else {
-            self.lows.set(p, s, number);
-            self.tops.set(p, s, watermark);
-            self.watermarks.lower(p, s, number);
+            stretch = Stretch {
+                watermark: below,
+                low: number,
+                top: stretch.watermark,
+            };
         }
+        self.set(p, s, stretch);
     }
 }
