@@ -4,3 +4,4 @@ pub mod Again
 pub mod Read
 pub mod RepliesToSeats
 pub mod CarriedOut
+pub mod NewsLines

@@ -36,7 +36,7 @@ pub state_behind : (rules : Rules) (t : State) (done : List Entry) (e : Entry)
 state_behind rules t [] e = refl
 state_behind rules t (other ∷ done) e = state_behind rules (obey rules t other.seat other.command) done e
 
-told-append : (rules : Rules) (t : State) (done rest : List Entry)
+pub told-append : (rules : Rules) (t : State) (done rest : List Entry)
     → told_from rules t (done ++ rest) ≡ told_from rules t done ++ told_from rules (replay_from rules t done) rest
 told-append rules t [] rest = refl
 told-append rules t (e ∷ done) rest =

@@ -1,5 +1,5 @@
 -- What the seats of a control are told, one reply after the other.
-use Rattle.std.specs.Prelude.{ℕ, ◌==◌, List, [], ◌∷◌, ◌++◌, codes, decimal, if◌then◌else◌}
+use Rattle.std.specs.Prelude.{ℕ, ◌==◌, List, [], ◌∷◌, ◌++◌, codes, decimal, drop, take, if◌then◌else◌}
 use Rattle.std.specs.List.{flat_map}
 use Rattle.cdb_commands.specs.ReplyView.{ReplyView}
 use Rattle.cdb_control.specs.Commands.{reply_of, obey}
@@ -42,3 +42,18 @@ told_line seat reply = (decimal seat ++ codes " ") ++ text_of reply
 -- one after the other
 abbrev pub told_text : List SeatReply → List ℕ
 told_text all = flat_map (λ it. told_line it.seat it.reply) all
+
+-- ---- what a seat is told of the others
+
+-- `[S] REPLY`, of each seat but its own
+abbrev pub news_line : ℕ → SeatReply → List ℕ
+news_line seat it =
+    if it.seat == seat then [] else (codes "[" ++ (decimal it.seat ++ (codes "] " ++ text_of it.reply)))
+
+abbrev pub news_lines : ℕ → List SeatReply → List ℕ
+news_lines seat all = flat_map (news_line seat) all
+
+-- the news for a seat of what a journal has from the one position up to the other
+abbrev pub news : Rules → Parts → ℕ → ℕ → List Entry → ℕ → ℕ → List ℕ
+news rules setup seats seat journal from to =
+    news_lines seat (drop from (told_along rules setup seats (take to journal)))

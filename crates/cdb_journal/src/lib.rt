@@ -9,11 +9,13 @@
 #![tactic(auto)]
 
 pub mod laws;
+mod news;
 mod opening;
 mod reading;
 mod replays;
 mod text;
 
+pub use news::news_of;
 pub use opening::open_from;
 pub use reading::{MOST_JOURNAL, entries_of, read_entries};
 pub use replays::replay;

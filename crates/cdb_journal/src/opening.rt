@@ -55,7 +55,7 @@ fn carry_out<R: Runs>(
 }
 
 /// A control of the setup with 1 to 64 seats on which these entries were carried out.
-fn open_on<R: Runs>(
+pub(crate) fn open_on<R: Runs>(
     alloc: Global,
     setup: Setup,
     seats: u8,

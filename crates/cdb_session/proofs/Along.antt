@@ -1,10 +1,12 @@
 -- A dialogue grows by one response after the other.
 use Rattle.std.proofs.Common.{◌≡◌, ℕ, Bool, List, [], ◌∷◌, ◌++◌, drop, refl, sym, ap, ◌∙◌, append_assoc, append-nil}
+use Rattle.std.specs.Prelude.{fold}
 use Rattle.std.proofs.lemmas.Grind.{fold-append}
 use Rattle.std.proofs.lemmas.List.{drop-drop}
 use Rattle.cdb_commands.specs.ReplyView.{ReplyView}
 use Rattle.cdb_session.specs.Exchanges.{Exchange, commands_among, given_at}
 use Rattle.cdb_control.specs.declared.control.Entry.{Entry}
+use Rattle.cdb_session.specs.News.{watched_next}
 use Rattle.cdb_session.specs.Styles.{StyleView}
 use Rattle.cdb_session.specs.Parts.{asked_of, seat_next, seat_behind, all_asked}
 use Rattle.cdb_session.specs.Replies.{Along, begun_along, next_along, along_after, shown, shown_from, dialogue}
@@ -49,3 +51,9 @@ replies_along style s (exchange ∷ exchanges) =
 pub seat_along : (style : StyleView) (s : Along) (exchanges : List Exchange) → (along_after style s exchanges).seat ≡ seat_behind style.chooses s.seat exchanges
 seat_along style s [] = refl
 seat_along style s (exchange ∷ exchanges) = seat_along style (next_along style s exchange) exchanges
+
+-- and it watches from where they left off
+pub watched_along : (style : StyleView) (s : Along) (exchanges : List Exchange)
+    → (along_after style s exchanges).watched ≡ fold watched_next s.watched exchanges
+watched_along style s [] = refl
+watched_along style s (exchange ∷ exchanges) = watched_along style (next_along style s exchange) exchanges

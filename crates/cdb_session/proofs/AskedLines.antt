@@ -16,7 +16,7 @@ use Rattle.cdb_session.proofs.InquiryLines.{no_quit, repeats_no_other}
 use Rattle.cdb_session.proofs.OneRequest.{only_too_long, repeats}
 use Rattle.cdb_session.specs.Exchanges.{Exchange}
 use Rattle.cdb_session.specs.declared.request.Request.{Request}
-use Rattle.cdb_session.specs.declared.request.Request.TheVariants.{Call, Ask, Seat, Help, Quit, Fault, TooLong}
+use Rattle.cdb_session.specs.declared.request.Request.TheVariants.{Call, Ask, Watch, Seat, Help, Quit, Fault, TooLong}
 
 -- a line that is too long stands for itself
 meant_long : (line : List ℕ) → longest < length line → line_meant line ≡ line
@@ -40,6 +40,10 @@ not_quit : (request : Request) (line : List ℕ) → AsksFor request line → re
 not_quit (Call command times) line asks other is =
     let r = repeats line command times asks.1 (inr (inl is)) in repeats_no_other line quit_line 113 r.0 times r.2 is refl (λ e. omega (arith, e))
 not_quit (Ask inquiry) line asks other is = no_quit line inquiry asks.1 is
+not_quit (Watch true) line asks other is =
+    let first : 119 ≡ 113 = ap (λ bytes. get_or bytes 0 0) (sym asks.1 ∙ is) in absurd (omega (arith, first))
+not_quit (Watch false) line asks other is =
+    let first : 117 ≡ 113 = ap (λ bytes. get_or bytes 0 0) (sym asks.1 ∙ is) in absurd (omega (arith, first))
 not_quit (Seat seat) line asks other is =
     let first : 115 ≡ 113 = ap (λ bytes. get_or bytes 0 0) (sym asks.1.1 ∙ is) in absurd (omega (arith, first))
 not_quit (Help None) line asks other is =

@@ -17,6 +17,7 @@ module _ (first old new : Part) (one : Entry) (has : HasNoLess first old) where
         longer = k.longer;
         calls_in = λ at few. ap (λ n. n - length first.calls) (k.calls_in at few);
         left_by = k.left_by;
+        news = k.news;
       }
 
   called : (reply : ReplyView) → IsCalled old one reply new → IsCalled (since first old) one reply (since first new)

@@ -31,7 +31,7 @@ use Rattle.cdb_session.specs.declared.inquiry.Inquiry.{Inquiry}
 use Rattle.cdb_session.specs.declared.inquiry.Inquiry.TheVariants.{Explain, Trail}
 use Rattle.cdb_session.specs.Laws.{ExactLinesStand}
 use Rattle.cdb_session.specs.Repeats.{repeat_parts}
-use Rattle.cdb_session.specs.Requests.{most_seats, help_line, quit_line, seat_line}
+use Rattle.cdb_session.specs.Requests.{most_seats, help_line, quit_line, seat_line, watch_line}
 use Rattle.cdb_session.specs.Typed.{is_blank, is_comment, is_mark, is_word, parts_of, due, only, full, up_to_comment, with_piece, words_meant, line_meant}
 use Rattle.cdb_session.proofs.Names.{no_name}
 
@@ -264,6 +264,9 @@ exact_lines_stand line (inl (inl (Some word, is))) =
       | topic.Explain ↦
           exact (help_line (Some topic.Explain)) (codes "help" ∷ codes "explain" ∷ []) refl (fixed _ _ refl refl refl, (fixed _ _ refl refl refl, tt))
       | topic.Trail ↦ exact (help_line (Some topic.Trail)) (codes "help" ∷ codes "trail" ∷ []) refl (fixed _ _ refl refl refl, (fixed _ _ refl refl refl, tt))
+      | topic.Watch ↦ exact (help_line (Some topic.Watch)) (codes "help" ∷ codes "watch" ∷ []) refl (fixed _ _ refl refl refl, (fixed _ _ refl refl refl, tt))
+      | topic.Unwatch ↦
+          exact (help_line (Some topic.Unwatch)) (codes "help" ∷ codes "unwatch" ∷ []) refl (fixed _ _ refl refl refl, (fixed _ _ refl refl refl, tt))
       | topic.Help ↦ exact (help_line (Some topic.Help)) (codes "help" ∷ codes "help" ∷ []) refl (fixed _ _ refl refl refl, (fixed _ _ refl refl refl, tt))
       | topic.Quit ↦ exact (help_line (Some topic.Quit)) (codes "help" ∷ codes "quit" ∷ []) refl (fixed _ _ refl refl refl, (fixed _ _ refl refl refl, tt))
       | topic.Seat ↦ exact (help_line (Some topic.Seat)) (codes "help" ∷ codes "seat" ∷ []) refl (fixed _ _ refl refl refl, (fixed _ _ refl refl refl, tt))
@@ -274,7 +277,11 @@ exact_lines_stand line (inl (inr (inr (inl (seat, within, is))))) =
     let range : IsInRange (number seat) = (within.0, omega (arith, within.1)) in
     subst (λ (l : List ℕ). line_meant l ≡ l) (sym is)
     (exact (seat_line seat) (codes "seat" ∷ decimal seat ∷ []) (seat_words seat within) (fixed _ _ refl refl refl, (a_number _ seat range refl, tt)))
-exact_lines_stand line (inl (inr (inr (inr (inr (p, times, is)))))) =
+exact_lines_stand line (inl (inr (inr (inr (inr (inl (p, times, is))))))) =
     exact line (map part_text (repeat_parts p times)) is.0 (fixed _ _ refl refl refl, step_stands (codes "auto" ∷ []) p (Some times) refl refl is.1.1)
+exact_lines_stand line (inl (inr (inr (inr (inr (inr (true, is))))))) =
+    subst (λ (l : List ℕ). line_meant l ≡ l) (sym is) (exact (watch_line true) (codes "watch" ∷ []) refl (fixed _ _ refl refl refl, tt))
+exact_lines_stand line (inl (inr (inr (inr (inr (inr (false, is))))))) =
+    subst (λ (l : List ℕ). line_meant l ≡ l) (sym is) (exact (watch_line false) (codes "unwatch" ∷ []) refl (fixed _ _ refl refl refl, tt))
 exact_lines_stand line (inl (inr (inr (inr (inl (inquiry, is)))))) = exact line (inquiry_word inquiry ∷ is.0) is.1 (inquiry_stands inquiry is.0 is.2)
 exact_lines_stand line (inr (command, is)) = exact line (map part_text (command_parts command)) is.0 (parts_stand command is.1)

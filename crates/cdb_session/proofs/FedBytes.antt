@@ -1,7 +1,7 @@
 -- A session looks at the bytes that it was given, whatever replies will follow.
 use Rattle.std.proofs.Common.{◌⊎◌, inl, inr, ◌≡◌, ◌≢◌, rules, ℕ, ◌+◌, ◌<◌, Bool, true, false, List, [], ◌∷◌}
 use Rattle.std.proofs.Common.{◌++◌, drop, length, take, refl, sym, ap, subst, ◌∙◌, append_assoc, append-nil}
-use Rattle.std.specs.Prelude.{Result, Ok, Err, IsTrue}
+use Rattle.std.specs.Prelude.{Result, Ok, Err, IsTrue, fold, None}
 use Rattle.cdb_base.specs.Memory.{no_memory as refused}
 use Rattle.cdb_commands.specs.ReplyView.{ReplyView}
 use Rattle.cdb_streams.specs.declared.buffer.OutputFault.{OutputFault}
@@ -12,20 +12,21 @@ use Rattle.cdb_session.specs.Unfinished.{IsOver, part_with, ended_well, ended_by
 use Rattle.cdb_session.specs.Requests.{HasNoEnd}
 use Rattle.cdb_session.specs.Moves.{Known, Move, AreWrites, Makes}
 use Rattle.cdb_rules.specs.RunView.{RunView}
-use Rattle.cdb_session.specs.Exchanges.{Outcome, commands_among}
+use Rattle.cdb_session.specs.Exchanges.{commands_among}
+use Rattle.cdb_session.specs.News.{watched_next}
 use Rattle.cdb_session.specs.declared.inquiry.Inquiry.{Inquiry}
 use Rattle.cdb_session.specs.declared.request.Request.{Request}
 use Rattle.cdb_session.specs.declared.request.Request.TheVariants.{Quit}
 use Rattle.cdb_session.proofs.MovesInOrder.{Makes-nothing, Makes-more}
 use Rattle.cdb_session.proofs.WrittenText.{AreWrites-append}
-use Rattle.cdb_session.specs.Styles.{StyleView, Part}
+use Rattle.cdb_session.specs.Styles.{StyleView, Part, MakesNone}
 use Rattle.cdb_session.specs.Replies.{Along, begun_along}
 use Rattle.cdb_session.specs.Parts.{seat_behind}
-use Rattle.cdb_session.proofs.Along.{replies_along, seat_along}
+use Rattle.cdb_session.proofs.Along.{replies_along, seat_along, watched_along}
 use Rattle.cdb_session.specs.Unfinished.{IsAt, MoreMayFollow, StaysAt, IsLineDone, IsLineBroken, IsRequestLost, RespondsToLine, HasEndedAs, Feeds}
 use Rattle.cdb_session.specs.Lines.{SessionView, HasGot, at_line}
 use Rattle.cdb_session.specs.Served.{IsSession}
-use Rattle.cdb_session.proofs.GotReplies.{may_follow, same_replies, same_line, commands_done, commands_lost}
+use Rattle.cdb_session.proofs.GotReplies.{MakesNone-refl, none_got, nothing_lost, may_follow, same_replies, same_line, commands_done, commands_lost}
 use Rattle.cdb_session.proofs.NextState.{more_unfinished, lost_before, line_lost, line_broken, line_responded}
 use Rattle.cdb_session.proofs.NextState.{line_quit, last_lost, last_broken, last_responded, no_last_line}
 
@@ -34,9 +35,6 @@ false_is_not_true b is holds = search rules
 
 true_is_true : (b : Bool) → b ≡ true → IsTrue b
 true_is_true b is = search rules
-
-nothing : Outcome
-nothing = record { given = 0; answer = [] }
 
 no_more : (part : Part) → MoreMayFollow [] part
 no_more part full = refl
@@ -52,6 +50,11 @@ module _ (Answers : RunView → Inquiry → List ℕ → Type 0) (style : StyleV
       (at : IsAt Answers style replies moves part along unfinished left) → drop (commands_among at.exchanges) replies ≡ along.replies
   behind {replies} at = sym (ap (λ (s : Along). s.replies) at.along_is ∙ replies_along style (begun_along style replies) at.exchanges)
 
+  -- it watches from where its lines left off
+  watching : {replies : List ReplyView} {moves : List Move} {part : Part} {along : Along} {unfinished left : List ℕ}
+      (at : IsAt Answers style replies moves part along unfinished left) → along.watched ≡ fold watched_next None at.exchanges
+  watching {replies} at = ap (λ (s : Along). s.watched) at.along_is ∙ watched_along style (begun_along style replies) at.exchanges
+
   -- where no reply follows, the replies are those of the seat
   finish : (returned : Result (Unit {0}) PlayFault) (moves : List Move) (session : SessionView)
       → IsSession Answers style (part_with (session.part.replies ++ []) session.part) returned moves → HasEndedAs Answers style returned moves session
@@ -64,10 +67,6 @@ module _ (Answers : RunView → Inquiry → List ℕ → Type 0) (style : StyleV
         subst (λ (r : List ReplyView). IsAt Answers style r moves old.part (at_line old []) unfinished left)
         (append-nil old.part.replies) (at [] (no_more old.part))
 
-    -- memory is out before a line is looked at
-    pub out_of_memory : HasEndedAs Answers style (ended_by (output.NoMemory refused)) moves old
-    out_of_memory = lost_before Answers style old.part.replies moves old.part (at_line old []) unfinished left as_seen old.part as_seen.commands
-
     -- the replies that a line gets come first
     before_line : (new : Part) (request : Request) (got : List ReplyView) → HasGot old.seat old.part request got new → (more : List ReplyView)
         → MoreMayFollow more new → IsAt Answers style (new.replies ++ more) moves old.part (at_line old (got ++ more)) unfinished left
@@ -76,6 +75,19 @@ module _ (Answers : RunView → Inquiry → List ℕ → Type 0) (style : StyleV
         (same_replies old.seat old.part request got new calls more)
         (at (got ++ more) (may_follow old.seat old.part request got new calls more may))
 
+    -- memory is out, and nothing of a line was done
+    pub nothing_done : (new : SessionView) → MakesNone old.part new.part → HasEndedAs Answers style (ended_by (output.NoMemory refused)) moves new
+    nothing_done new none =
+        let got = none_got old.seat Quit old.part new.part none in
+        let now = before_line new.part Quit [] got [] (no_more new.part) in
+        finish (ended_by (output.NoMemory refused)) moves new
+        (lost_before Answers style (new.part.replies ++ []) moves old.part (at_line old []) unfinished left now new.part
+        (nothing_lost Answers style old.seat now.exchanges (sits now) old.watched (watching now) (new.part.replies ++ []) old.part new.part
+        Quit [] got refl now.commands))
+
+    pub out_of_memory : HasEndedAs Answers style (ended_by (output.NoMemory refused)) moves old
+    out_of_memory = nothing_done old (MakesNone-refl old.part)
+
   -- the same of a line that was held, and of a last line
   module _ (moves : List Move) (old : SessionView) (unfinished left : List ℕ)
       (at : StaysAt Answers style moves old unfinished (10 ∷ left)) (new : SessionView) where
@@ -83,44 +95,44 @@ module _ (Answers : RunView → Inquiry → List ℕ → Type 0) (style : StyleV
         → was_quit ≡ false → StaysAt Answers style (moves ++ made) new kept left
     line_done kept was_quit made d goes_on more may =
         let now = before_line moves old unfinished (10 ∷ left) at new.part d.exchange.0 d.got d.done.calls more may in
-        let same = same_line Answers style old.seat old.part d.exchange d.got new.part d.done more may old.lines in
+        let same = same_line Answers style old.seat old.part d.exchange d.got new.part d.done more may old.lines old.watched in
         let other : d.exchange.0 ≢ Quit = λ is. (let yes : IsTrue was_quit = d.quit_exactly.1 is in absurd (false_is_not_true was_quit goes_on yes)) in
         line_responded Answers style (new.part.replies ++ more) moves old.part (at_line old (d.got ++ more))
-        unfinished left now d.exchange d.asks new.part (commands_done Answers style old.seat now.exchanges (sits now)
-        (new.part.replies ++ more) old.part new.part more may d.exchange d.got (behind now) d.done now.commands) made d.writes
+        unfinished left now d.exchange d.asks new.part (commands_done Answers style old.seat now.exchanges (sits now) old.watched (watching now)
+        (new.part.replies ++ more) old.part new.part more may d.exchange d.got (behind now) d.done d.looked now.commands) made d.writes
         (at_line new more) kept (d.written ∙ same.0)
-        ((λ i. let s : Along = record { seat = d.seat i; replies = more; lines = d.lines i } in s) ∙ sym same.1) d.lines d.emptied other
+        ((λ i. let s : Along = record { seat = d.seat i; replies = more; lines = d.lines i; watched = d.watched i } in s) ∙ sym same.1) d.lines d.emptied other
 
     line_quits : (kept : List ℕ) (was_quit : Bool) (made : List Move) → IsLineDone Answers style old new unfinished kept was_quit made
         → was_quit ≡ true → HasEndedAs Answers style ended_well (moves ++ made) new
     line_quits kept was_quit made d quit_exactly =
         let now = before_line moves old unfinished (10 ∷ left) at new.part d.exchange.0 d.got d.done.calls [] (no_more new.part) in
-        let same = same_line Answers style old.seat old.part d.exchange d.got new.part d.done [] (no_more new.part) old.lines in
+        let same = same_line Answers style old.seat old.part d.exchange d.got new.part d.done [] (no_more new.part) old.lines old.watched in
         finish ended_well (moves ++ made) new
         (line_quit Answers style (new.part.replies ++ []) moves old.part (at_line old (d.got ++ [])) unfinished left now
-        d.exchange d.asks new.part (commands_done Answers style old.seat now.exchanges (sits now) (new.part.replies ++ [])
-        old.part new.part [] (no_more new.part) d.exchange d.got (behind now) d.done now.commands) made d.writes
+        d.exchange d.asks new.part (commands_done Answers style old.seat now.exchanges (sits now) old.watched (watching now) (new.part.replies ++ [])
+        old.part new.part [] (no_more new.part) d.exchange d.got (behind now) d.done d.looked now.commands) made d.writes
         (d.written ∙ same.0) (d.quit_exactly.0 (true_is_true was_quit quit_exactly)))
 
     line_breaks : (made : List Move) → IsLineBroken Answers style old new unfinished made → HasEndedAs Answers style (ended_by output.Write) (moves ++ made) new
     line_breaks made d =
         let now = before_line moves old unfinished (10 ∷ left) at new.part d.exchange.0 d.got d.done.calls [] (no_more new.part) in
-        let same = same_line Answers style old.seat old.part d.exchange d.got new.part d.done [] (no_more new.part) old.lines in
+        let same = same_line Answers style old.seat old.part d.exchange d.got new.part d.done [] (no_more new.part) old.lines old.watched in
         finish (ended_by output.Write) (moves ++ made) new
         (line_broken Answers style (new.part.replies ++ []) moves old.part (at_line old (d.got ++ [])) unfinished left now
-        d.exchange d.asks new.part (commands_done Answers style old.seat now.exchanges (sits now) (new.part.replies ++ [])
-        old.part new.part [] (no_more new.part) d.exchange d.got (behind now) d.done now.commands) made d.writes
+        d.exchange d.asks new.part (commands_done Answers style old.seat now.exchanges (sits now) old.watched (watching now) (new.part.replies ++ [])
+        old.part new.part [] (no_more new.part) d.exchange d.got (behind now) d.done d.looked now.commands) made d.writes
         d.missing (sym same.0 ∙ d.written) d.fails)
 
-    line_loses : (new ≡ old) ⊎ IsRequestLost Answers style old new unfinished → HasEndedAs Answers style (ended_by (output.NoMemory refused)) moves new
-    line_loses (inl same) =
-        subst (HasEndedAs Answers style (ended_by (output.NoMemory refused)) moves) (sym same) (out_of_memory moves old unfinished (10 ∷ left) at)
+    line_loses : MakesNone old.part new.part ⊎ IsRequestLost Answers style old new unfinished
+        → HasEndedAs Answers style (ended_by (output.NoMemory refused)) moves new
+    line_loses (inl none) = nothing_done moves old unfinished (10 ∷ left) at new none
     line_loses (inr d) =
         let now = before_line moves old unfinished (10 ∷ left) at new.part d.request d.begun.got d.begun.calls [] (no_more new.part) in
         finish (ended_by (output.NoMemory refused)) moves new
         (line_lost Answers style (new.part.replies ++ []) moves old.part (at_line old (d.begun.got ++ []))
-        unfinished left now (d.request, nothing) d.asks new.part (commands_lost Answers style old.seat now.exchanges
-        (sits now) (new.part.replies ++ []) old.part new.part d.request d.begun (behind now) now.commands))
+        unfinished left now (d.request, d.effect) d.asks new.part (commands_lost Answers style old.seat now.exchanges (sits now)
+        old.watched (watching now) (new.part.replies ++ []) old.part new.part d.request d.begun d.effect d.looked (behind now) now.commands))
 
   module _ (moves : List Move) (old : SessionView) (unfinished : List ℕ) (at : StaysAt Answers style moves old unfinished []) (over : IsOver moves) where
     pub last_is_none : length unfinished ≡ 0 → HasEndedAs Answers style ended_well moves old
@@ -131,32 +143,33 @@ module _ (Answers : RunView → Inquiry → List ℕ → Type 0) (style : StyleV
           → IsLineDone Answers style old new unfinished kept was_quit made → HasEndedAs Answers style ended_well (moves ++ made) new
       last_is_done kept was_quit made d =
           let now = before_line moves old unfinished [] at new.part d.exchange.0 d.got d.done.calls [] (no_more new.part) in
-          let same = same_line Answers style old.seat old.part d.exchange d.got new.part d.done [] (no_more new.part) old.lines in
+          let same = same_line Answers style old.seat old.part d.exchange d.got new.part d.done [] (no_more new.part) old.lines old.watched in
           finish ended_well (moves ++ made) new
           (last_responded Answers style (new.part.replies ++ []) moves old.part (at_line old (d.got ++ [])) unfinished now over
-          some d.exchange d.asks new.part (commands_done Answers style old.seat now.exchanges (sits now) (new.part.replies ++ [])
-          old.part new.part [] (no_more new.part) d.exchange d.got (behind now) d.done now.commands) made d.writes
+          some d.exchange d.asks new.part (commands_done Answers style old.seat now.exchanges (sits now) old.watched (watching now) (new.part.replies ++ [])
+          old.part new.part [] (no_more new.part) d.exchange d.got (behind now) d.done d.looked now.commands) made d.writes
           (d.written ∙ same.0))
 
       pub last_breaks : (made : List Move) → IsLineBroken Answers style old new unfinished made
           → HasEndedAs Answers style (ended_by output.Write) (moves ++ made) new
       last_breaks made d =
           let now = before_line moves old unfinished [] at new.part d.exchange.0 d.got d.done.calls [] (no_more new.part) in
-          let same = same_line Answers style old.seat old.part d.exchange d.got new.part d.done [] (no_more new.part) old.lines in
+          let same = same_line Answers style old.seat old.part d.exchange d.got new.part d.done [] (no_more new.part) old.lines old.watched in
           finish (ended_by output.Write) (moves ++ made) new
           (last_broken Answers style (new.part.replies ++ []) moves old.part (at_line old (d.got ++ [])) unfinished now over some
-          d.exchange d.asks new.part (commands_done Answers style old.seat now.exchanges (sits now) (new.part.replies ++ [])
-          old.part new.part [] (no_more new.part) d.exchange d.got (behind now) d.done now.commands) made d.writes
+          d.exchange d.asks new.part (commands_done Answers style old.seat now.exchanges (sits now) old.watched (watching now) (new.part.replies ++ [])
+          old.part new.part [] (no_more new.part) d.exchange d.got (behind now) d.done d.looked now.commands) made d.writes
           d.missing (sym same.0 ∙ d.written) d.fails)
 
-      pub last_loses : (new ≡ old) ⊎ IsRequestLost Answers style old new unfinished → HasEndedAs Answers style (ended_by (output.NoMemory refused)) moves new
-      last_loses (inl same) = subst (HasEndedAs Answers style (ended_by (output.NoMemory refused)) moves) (sym same) (out_of_memory moves old unfinished [] at)
+      pub last_loses : MakesNone old.part new.part ⊎ IsRequestLost Answers style old new unfinished
+          → HasEndedAs Answers style (ended_by (output.NoMemory refused)) moves new
+      last_loses (inl none) = nothing_done moves old unfinished [] at new none
       last_loses (inr d) =
           let now = before_line moves old unfinished [] at new.part d.request d.begun.got d.begun.calls [] (no_more new.part) in
           finish (ended_by (output.NoMemory refused)) moves new
           (last_lost Answers style (new.part.replies ++ []) moves old.part (at_line old (d.begun.got ++ [])) unfinished
-          now over some (d.request, nothing) d.asks new.part (commands_lost Answers style old.seat now.exchanges
-          (sits now) (new.part.replies ++ []) old.part new.part d.request d.begun (behind now) now.commands))
+          now over some (d.request, d.effect) d.asks new.part (commands_lost Answers style old.seat now.exchanges (sits now)
+          old.watched (watching now) (new.part.replies ++ []) old.part new.part d.request d.begun d.effect d.looked (behind now) now.commands))
 
   -- from the first of the bytes on, up to those that are left
   abbrev pub Goes : Known → SessionView → List ℕ → List ℕ → Known → SessionView → List ℕ → List ℕ → Type 0

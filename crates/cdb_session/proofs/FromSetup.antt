@@ -48,7 +48,7 @@ module _ (rules : Parts → Rules) (Answers : RunView → Inquiry → List ℕ �
         asked,
         all_answered Answers greeting prompt rules c before exchanges others seats begins few has,
         is
-            ∙ nothing_lost Answers greeting prompt rules c before exchanges others seats begins few has.0,
+            ∙ nothing_lost Answers greeting prompt rules c before exchanges others seats begins few has,
       )
 
   served : (lines : List (List ℕ)) (text : List ℕ) → IsServed Answers (nine greeting prompt) (came rules c before) lines text

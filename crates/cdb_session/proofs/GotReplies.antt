@@ -1,7 +1,7 @@
 -- What one line does to a session, and to what the journal has of it.
 use Rattle.std.proofs.Common.{◌≡◌, ◌≢◌, ◌⊎◌, inl, inr, ℕ, zero, suc, ◌+◌, ◌-◌, ◌<◌, ◌≤◌, Bool, true, false, List, [], ◌∷◌, ◌++◌}
 use Rattle.std.proofs.Common.{drop, length, refl, sym, ap, subst, ◌∙◌, append_assoc, append-nil, arith, length-append, min}
-use Rattle.std.specs.Prelude.{if◌then◌else◌, replicate}
+use Rattle.std.specs.Prelude.{◌||◌, fold, if◌then◌else◌, replicate, is_some, unwrap_or, MatchBool, Option, None, Some}
 use Rattle.std.proofs.lemmas.Bool.{cases_lt}
 use Rattle.std.proofs.lemmas.List.{length-replicate, replicate-append-replicate, nil_from_length}
 use Rattle.cdb_commands.specs.ReplyView.{ReplyView, is_refused}
@@ -11,10 +11,10 @@ use Rattle.cdb_control.specs.declared.control.Entry.{Entry}
 use Rattle.cdb_rules.specs.RunView.{RunView}
 use Rattle.cdb_text.specs.Texts.{text_of}
 use Rattle.cdb_session.specs.Answers.{AnswersNow, AreTold, IsAnsweredAfter, IsDoneAfter, HasExchanges}
-use Rattle.cdb_session.specs.Exchanges.{Exchange, Outcome, given_at, commands_among}
+use Rattle.cdb_session.specs.Exchanges.{Exchange, Effect, given_at, commands_among}
 use Rattle.cdb_session.specs.declared.inquiry.Inquiry.{Inquiry}
 use Rattle.cdb_session.specs.declared.request.Request.{Request}
-use Rattle.cdb_session.specs.declared.request.Request.TheVariants.{Call, Ask, Seat, Help, Quit, Fault, TooLong}
+use Rattle.cdb_session.specs.declared.request.Request.TheVariants.{Call, Ask, Watch, Seat, Help, Quit, Fault, TooLong}
 use Rattle.cdb_session.specs.Repeats.{times_given}
 use Rattle.cdb_session.specs.Requests.{AsksFor, AsksForNoLess}
 use Rattle.cdb_session.specs.Styles.{StyleView, Part, GoesOn, IsFull, AreCalled, MakesNone}
@@ -22,12 +22,13 @@ use Rattle.cdb_session.specs.Replies.{Along, next_along, replies_text, shown}
 use Rattle.cdb_session.specs.Typed.{line_meant}
 use Rattle.cdb_session.specs.Unfinished.{MoreMayFollow, part_with}
 use Rattle.cdb_session.specs.Lines.{HasBegun, HasGot, HasDone}
-use Rattle.cdb_session.specs.Parts.{IsGiven, all_asked, asked_of, entries_of, seat_next, seat_behind, all_of, HasCommands}
+use Rattle.cdb_session.specs.News.{AreNews, HasNews, HasNewsAfter, watched_next, watches}
+use Rattle.cdb_session.specs.Parts.{HaveJust, IsGiven, all_asked, asked_of, entries_of, seat_next, seat_behind, all_of, HasCommands}
 use Rattle.cdb_session.proofs.Along.{all_asked-more}
-use Rattle.cdb_session.proofs.ToldOn.{AsManyLater, all_told_on}
+use Rattle.cdb_session.proofs.ToldOn.{AsManyLater, all_told_on, news_on}
 
 GoesOn-refl : (part : Part) → GoesOn part part
-GoesOn-refl part = record { before = refl; longer = omega arith; calls_in = λ first few. refl; left_by = λ first few. refl }
+GoesOn-refl part = record { before = refl; longer = omega arith; calls_in = λ first few. refl; left_by = λ first few. refl; news = λ from to few. refl }
 
 pub GoesOn-trans : (old now new : Part) → GoesOn old now → GoesOn now new → GoesOn old new
 GoesOn-trans old now new a b =
@@ -36,6 +37,7 @@ GoesOn-trans old now new a b =
       longer = omega (arith, a.longer, b.longer);
       calls_in = λ first few. b.calls_in first (omega (arith, few, a.longer)) ∙ a.calls_in first few;
       left_by = λ first few. b.left_by first (omega (arith, few, a.longer)) ∙ a.left_by first few;
+      news = λ from to few. b.news from to (omega (arith, few, a.longer)) ∙ a.news from to few;
     }
 
 pub MakesNone-refl : (part : Part) → MakesNone part part
@@ -55,6 +57,7 @@ none_called old new same =
 pub no_entry : (seat : ℕ) (request : Request) → entries_of seat request 0 ≡ []
 no_entry seat (Call command times) = refl
 no_entry seat (Ask inquiry) = refl
+no_entry seat (Watch begins) = refl
 no_entry seat (Seat chosen) = refl
 no_entry seat (Help about) = refl
 no_entry seat Quit = refl
@@ -69,34 +72,36 @@ none got few = nil_from_length got (omega (arith, few))
 
 -- ---- a line that asks for no command and nothing of the run
 
-given_nothing : (request : Request) (outcome : Outcome) → ((command : Command) (times : ℕ) → request ≢ Call command times) → IsGiven (request, outcome) []
-given_nothing (Call command times) outcome other = absurd (other command times refl)
-given_nothing (Ask inquiry) outcome other = tt
-given_nothing (Seat chosen) outcome other = tt
-given_nothing (Help about) outcome other = tt
-given_nothing Quit outcome other = tt
-given_nothing (Fault fault) outcome other = tt
-given_nothing TooLong outcome other = tt
+given_nothing : (request : Request) (effect : Effect) → ((command : Command) (times : ℕ) → request ≢ Call command times) → IsGiven (request, effect) []
+given_nothing (Call command times) effect other = absurd (other command times refl)
+given_nothing (Ask inquiry) effect other = tt
+given_nothing (Watch begins) effect other = tt
+given_nothing (Seat chosen) effect other = tt
+given_nothing (Help about) effect other = tt
+given_nothing Quit effect other = tt
+given_nothing (Fault fault) effect other = tt
+given_nothing TooLong effect other = tt
 
-given_not : (request : Request) (outcome : Outcome) → ((command : Command) (times : ℕ) → request ≢ Call command times) → given_at (request, outcome) ≡ 0
-given_not (Call command times) outcome other = absurd (other command times refl)
-given_not (Ask inquiry) outcome other = refl
-given_not (Seat chosen) outcome other = refl
-given_not (Help about) outcome other = refl
-given_not Quit outcome other = refl
-given_not (Fault fault) outcome other = refl
-given_not TooLong outcome other = refl
+given_not : (request : Request) (effect : Effect) → ((command : Command) (times : ℕ) → request ≢ Call command times) → given_at (request, effect) ≡ 0
+given_not (Call command times) effect other = absurd (other command times refl)
+given_not (Ask inquiry) effect other = refl
+given_not (Watch begins) effect other = refl
+given_not (Seat chosen) effect other = refl
+given_not (Help about) effect other = refl
+given_not Quit effect other = refl
+given_not (Fault fault) effect other = refl
+given_not TooLong effect other = refl
 
-pub none_done : (Answers : RunView → Inquiry → List ℕ → Type 0) (seat : ℕ) (old new : Part) (request : Request) (outcome : Outcome)
+pub none_done : (Answers : RunView → Inquiry → List ℕ → Type 0) (seat : ℕ) (old new : Part) (request : Request) (effect : Effect)
     → MakesNone old new → ((command : Command) (times : ℕ) → request ≢ Call command times)
-    → ((inquiry : Inquiry) → request ≡ Ask inquiry → AnswersNow Answers new inquiry outcome.answer)
-    → HasDone Answers seat old (request, outcome) [] new
-none_done Answers seat old new request outcome same other answers =
+    → ((inquiry : Inquiry) → request ≡ Ask inquiry → AnswersNow Answers new inquiry effect.answer)
+    → HasDone Answers seat old (request, effect) [] new
+none_done Answers seat old new request effect same other answers =
     record {
       calls = none_got seat request old new same;
-      given = given_nothing request outcome other;
+      given = given_nothing request effect other;
       fits = omega arith;
-      full = λ low. absurd (omega (arith, low, given_not request outcome other));
+      full = λ low. absurd (omega (arith, low, given_not request effect other));
       answer = answers;
     }
 
@@ -141,34 +146,40 @@ given_same (suc times) (reply ∷ got) more fits last =
     by_reply (times_given times (got ++ more)) (times_given times got) (length got) more (is_refused reply) (given_same times got more) fits last
 
 module _ (Answers : RunView → Inquiry → List ℕ → Type 0) (style : StyleView) where
-  abbrev with_replies : ℕ → ℕ → List ReplyView → Along
-  with_replies seat lines replies = record { seat = seat; replies = replies; lines = lines }
+  abbrev with_replies : ℕ → ℕ → Option ℕ → List ReplyView → Along
+  with_replies seat lines watched replies = record { seat = seat; replies = replies; lines = lines; watched = watched }
 
   -- a line by its replies, and by those and others that follow
-  abbrev SameLine : ℕ → Exchange → List ReplyView → List ReplyView → ℕ → Type 0
-  SameLine seat exchange got more lines =
-      (shown style (with_replies seat lines got) exchange ≡ shown style (with_replies seat lines (got ++ more)) exchange)
-      × (next_along style (with_replies seat lines (got ++ more)) exchange ≡ with_replies (seat_next style.chooses seat exchange.0) (lines + 1) more)
+  abbrev SameLine : ℕ → Exchange → List ReplyView → List ReplyView → ℕ → Option ℕ → Type 0
+  SameLine seat exchange got more lines watched =
+      (shown style (with_replies seat lines watched got) exchange ≡ shown style (with_replies seat lines watched (got ++ more)) exchange)
+      × (next_along style (with_replies seat lines watched (got ++ more)) exchange
+      ≡ with_replies (seat_next style.chooses seat exchange.0) (lines + 1) (watched_next watched exchange) more)
+
+  next_same : (seat : ℕ) (exchange : Exchange) (got more : List ReplyView) (lines : ℕ) (watched : Option ℕ) → length got ≤ 0
+      → with_replies (seat_next style.chooses seat exchange.0) (lines + 1) (watched_next watched exchange) (got ++ more)
+      ≡ with_replies (seat_next style.chooses seat exchange.0) (lines + 1) (watched_next watched exchange) more
+  next_same seat exchange got more lines watched few =
+      ap (λ (front : List ReplyView). with_replies (seat_next style.chooses seat exchange.0) (lines + 1) (watched_next watched exchange) (front ++ more))
+      (none got few)
 
   -- what is shown and what is left does not depend on what follows
   pub same_line : (seat : ℕ) (old : Part) (exchange : Exchange) (got : List ReplyView) (new : Part) → HasDone Answers seat old exchange got new
-      → (more : List ReplyView) → MoreMayFollow more new → (lines : ℕ) → SameLine seat exchange got more lines
-  same_line seat old (Call command times, outcome) got new done more may lines = (
-    ap (λ text. text ++ style.prompt) (texts_same outcome.given got more done.fits (λ low. may (done.full low))),
-    ap (λ (left : List ReplyView). with_replies seat (lines + 1) left) (left_same outcome.given got more done.fits (λ low. may (done.full low))),
+      → (more : List ReplyView) → MoreMayFollow more new → (lines : ℕ) (watched : Option ℕ) → SameLine seat exchange got more lines watched
+  same_line seat old (Call command times, effect) got new done more may lines watched = (
+    ap (λ text. (effect.news ++ text) ++ style.prompt) (texts_same effect.given got more done.fits (λ low. may (done.full low))),
+    ap (with_replies seat (lines + 1) (watched_next watched (Call command times, effect)))
+        (left_same effect.given got more done.fits (λ low. may (done.full low))),
   )
-  same_line seat old (Ask inquiry, outcome) got new done more may lines =
-      (refl, ap (λ (front : List ReplyView). with_replies seat (lines + 1) (front ++ more)) (none got done.fits))
-  same_line seat old (Seat chosen, outcome) got new done more may lines =
-      (refl, ap (λ (front : List ReplyView). with_replies (seat_next style.chooses seat (Seat chosen)) (lines + 1) (front ++ more)) (none got done.fits))
-  same_line seat old (Help about, outcome) got new done more may lines =
-      (refl, ap (λ (front : List ReplyView). with_replies seat (lines + 1) (front ++ more)) (none got done.fits))
-  same_line seat old (Quit, outcome) got new done more may lines =
-      (refl, ap (λ (front : List ReplyView). with_replies seat (lines + 1) (front ++ more)) (none got done.fits))
-  same_line seat old (Fault fault, outcome) got new done more may lines =
-      (refl, ap (λ (front : List ReplyView). with_replies seat (lines + 1) (front ++ more)) (none got done.fits))
-  same_line seat old (TooLong, outcome) got new done more may lines =
-      (refl, ap (λ (front : List ReplyView). with_replies seat (lines + 1) (front ++ more)) (none got done.fits))
+  same_line seat old (Ask inquiry, effect) got new done more may lines watched = (refl, next_same seat (Ask inquiry, effect) got more lines watched done.fits)
+  same_line seat old (Watch begins, effect) got new done more may lines watched =
+      (refl, next_same seat (Watch begins, effect) got more lines watched done.fits)
+  same_line seat old (Seat chosen, effect) got new done more may lines watched = (refl, next_same seat (Seat chosen, effect) got more lines watched done.fits)
+  same_line seat old (Help about, effect) got new done more may lines watched = (refl, next_same seat (Help about, effect) got more lines watched done.fits)
+  same_line seat old (Quit, effect) got new done more may lines watched = (refl, next_same seat (Quit, effect) got more lines watched done.fits)
+  same_line seat old (Fault fault, effect) got new done more may lines watched =
+      (refl, next_same seat (Fault fault, effect) got more lines watched done.fits)
+  same_line seat old (TooLong, effect) got new done more may lines watched = (refl, next_same seat (TooLong, effect) got more lines watched done.fits)
 
   -- ---- the session's entries, at a line of the seat that the lines before chose
 
@@ -178,29 +189,31 @@ module _ (Answers : RunView → Inquiry → List ℕ → Type 0) (style : StyleV
       (rest : List Entry) × (asked_of seat exchange ≡ entries_of seat exchange.0 count ++ rest) × (given_at exchange ≤ count → rest ≡ [])
 
   asked_behind : (seat : ℕ) (exchange : Exchange) (count : ℕ) → count ≤ given_at exchange → AskedBehind seat exchange count
-  asked_behind seat (Call command times, outcome) count fits =
+  asked_behind seat (Call command times, effect) count fits =
       let one = entry seat command in
-      let both : count + (outcome.given - count) ≡ outcome.given = omega (arith, fits) in (
-        replicate (outcome.given - count) one,
-        ap (λ n. replicate n one) (sym both) ∙ sym (replicate-append-replicate count (outcome.given - count) one),
-        λ most. let nothing : outcome.given - count ≡ 0 = omega (arith, most) in ap (λ n. replicate n one) nothing,
+      let both : count + (effect.given - count) ≡ effect.given = omega (arith, fits) in (
+        replicate (effect.given - count) one,
+        ap (λ n. replicate n one) (sym both) ∙ sym (replicate-append-replicate count (effect.given - count) one),
+        λ most. let nothing : effect.given - count ≡ 0 = omega (arith, most) in ap (λ n. replicate n one) nothing,
       )
-  asked_behind seat (Ask inquiry, outcome) count fits = ([], refl, λ most. refl)
-  asked_behind seat (Seat chosen, outcome) count fits = ([], refl, λ most. refl)
-  asked_behind seat (Help about, outcome) count fits = ([], refl, λ most. refl)
-  asked_behind seat (Quit, outcome) count fits = ([], refl, λ most. refl)
-  asked_behind seat (Fault fault, outcome) count fits = ([], refl, λ most. refl)
-  asked_behind seat (TooLong, outcome) count fits = ([], refl, λ most. refl)
+  asked_behind seat (Ask inquiry, effect) count fits = ([], refl, λ most. refl)
+  asked_behind seat (Watch begins, effect) count fits = ([], refl, λ most. refl)
+  asked_behind seat (Seat chosen, effect) count fits = ([], refl, λ most. refl)
+  asked_behind seat (Help about, effect) count fits = ([], refl, λ most. refl)
+  asked_behind seat (Quit, effect) count fits = ([], refl, λ most. refl)
+  asked_behind seat (Fault fault, effect) count fits = ([], refl, λ most. refl)
+  asked_behind seat (TooLong, effect) count fits = ([], refl, λ most. refl)
 
   -- the entries that a line asks for are as many as its commands
   as_many_at : (seat : ℕ) (exchange : Exchange) → length (asked_of seat exchange) ≡ given_at exchange
-  as_many_at seat (Call command times, outcome) = length-replicate outcome.given (entry seat command)
-  as_many_at seat (Ask inquiry, outcome) = refl
-  as_many_at seat (Seat chosen, outcome) = refl
-  as_many_at seat (Help about, outcome) = refl
-  as_many_at seat (Quit, outcome) = refl
-  as_many_at seat (Fault fault, outcome) = refl
-  as_many_at seat (TooLong, outcome) = refl
+  as_many_at seat (Call command times, effect) = length-replicate effect.given (entry seat command)
+  as_many_at seat (Ask inquiry, effect) = refl
+  as_many_at seat (Watch begins, effect) = refl
+  as_many_at seat (Seat chosen, effect) = refl
+  as_many_at seat (Help about, effect) = refl
+  as_many_at seat (Quit, effect) = refl
+  as_many_at seat (Fault fault, effect) = refl
+  as_many_at seat (TooLong, effect) = refl
 
   as_many_asked : (chooses : Bool) (at : ℕ) (its : List Exchange) → length (all_asked chooses at its) ≡ commands_among its
   as_many_asked chooses at [] = refl
@@ -213,11 +226,31 @@ module _ (Answers : RunView → Inquiry → List ℕ → Type 0) (style : StyleV
       )
 
   -- one line more
-  one_told : (Told : ℕ → Exchange → Type 0) (count : ℕ) (its : List Exchange) (exchange : Exchange)
-      → AreTold Told count its → Told (count + commands_among its) exchange → AreTold Told count (its ++ exchange ∷ [])
-  one_told Told count [] exchange told is = (subst (λ n. Told n exchange) (omega arith) is, tt)
-  one_told Told count (first ∷ its) exchange told is =
-      (told.0, one_told Told (count + given_at first) its exchange told.1 (subst (λ n. Told n exchange) (omega arith) is))
+  one_told : (Told : ℕ → Option ℕ → Exchange → Type 0) (count : ℕ) (watched : Option ℕ) (its : List Exchange) (exchange : Exchange)
+      → AreTold Told count watched its → Told (count + commands_among its) (fold watched_next watched its) exchange
+      → AreTold Told count watched (its ++ exchange ∷ [])
+  one_told Told count watched [] exchange told is = (subst (λ n. Told n watched exchange) (omega arith) is, tt)
+  one_told Told count watched (first ∷ its) exchange told is =
+      let next = watched_next watched first in (
+        told.0,
+        one_told Told (count + given_at first) next its exchange told.1 (subst (λ n. Told n (fold watched_next next its) exchange) (omega arith) is),
+      )
+
+  -- what was seen at the lines before stands in the journal
+  seen_next : (part : Part) (count least : ℕ) (watched : Option ℕ) (before after : Bool) (seen : ℕ) (news : List ℕ)
+      → MatchBool (before || after) (AreNews part count least watched seen news) (news ≡ [])
+      → let next : Option ℕ = if after then Some seen else None in unwrap_or next 0 ≤ part.entries
+  seen_next part count least watched before false seen news has = omega arith
+  seen_next part count least watched false true seen news has = has.seen_is.within
+  seen_next part count least watched true true seen news has = has.seen_is.within
+
+  seen_all : (part : Part) (count : ℕ) (watched : Option ℕ) (its : List Exchange) → AreTold (IsDoneAfter Answers part) count watched its
+      → unwrap_or watched 0 ≤ part.entries → unwrap_or (fold watched_next watched its) 0 ≤ part.entries
+  seen_all part count watched [] told low = low
+  seen_all part count watched (exchange ∷ its) told low =
+      seen_all part (count + given_at exchange) (watched_next watched exchange) its told.1
+      (seen_next part count (unwrap_or watched 0) watched (is_some watched) (watches (is_some watched) exchange.0)
+      exchange.1.seen exchange.1.news told.0.news)
 
   -- out of memory nothing was done of a line, or its command was given, once or more often
   abbrev pub HasPart : List Exchange → List ReplyView → Part → Request → Type 0
@@ -226,7 +259,8 @@ module _ (Answers : RunView → Inquiry → List ℕ → Type 0) (style : StyleV
       ⊎ ((begun : Exchange) × HasExchanges Answers style (part_with replies new) (exchanges ++ begun ∷ [])
       × ((line : List ℕ) → AsksFor request (line_meant line) → AsksForNoLess begun line))
 
-  module _ (seat : ℕ) (exchanges : List Exchange) (is_seat : seat ≡ seat_behind style.chooses style.first exchanges) where
+  module _ (seat : ℕ) (exchanges : List Exchange) (is_seat : seat ≡ seat_behind style.chooses style.first exchanges) (watched : Option ℕ)
+      (is_watched : watched ≡ fold watched_next None exchanges) where
     all_of-more : (exchange : Exchange) → all_of style (exchanges ++ exchange ∷ []) ≡ all_of style exchanges ++ asked_of seat exchange
     all_of-more exchange =
         all_asked-more style.chooses style.first exchanges exchange ∙ ap (λ (its : ℕ). all_of style exchanges ++ asked_of its exchange) (sym is_seat)
@@ -281,45 +315,71 @@ module _ (Answers : RunView → Inquiry → List ℕ → Type 0) (style : StyleV
 
     module _ (replies : List ReplyView) (old new : Part) where
       told_later : (request : Request) (got : List ReplyView) → HasGot seat old request got new
-          → HasExchanges Answers style (part_with replies old) exchanges → AreTold (IsDoneAfter Answers (part_with replies new)) 0 exchanges
+          → HasExchanges Answers style (part_with replies old) exchanges → AreTold (IsDoneAfter Answers (part_with replies new)) 0 None exchanges
       told_later request got calls has =
           all_told_on Answers (part_with replies old) (part_with replies new) (on calls.goes_on)
-          refl 0 exchanges (as_many_later old new request got calls has.0) has.1
+          refl 0 None exchanges (as_many_later old new request got calls has.0) has.1
         where
           on : GoesOn old new → GoesOn (part_with replies old) (part_with replies new)
-          on k = record { before = k.before; longer = k.longer; calls_in = k.calls_in; left_by = k.left_by }
+          on k = record { before = k.before; longer = k.longer; calls_in = k.calls_in; left_by = k.left_by; news = k.news }
 
       -- the answer of the run as it stands, after all commands so far
       told_at : (exchange : Exchange) → ((inquiry : Inquiry) → exchange.0 ≡ Ask inquiry → AnswersNow Answers new inquiry exchange.1.answer) → (given_at exchange
           ≡ 0 → length new.calls ≤ commands_among exchanges) → IsAnsweredAfter Answers (part_with replies new) (0 + commands_among exchanges) exchange
-      told_at (Call command times, outcome) answer few = tt
-      told_at (Ask inquiry, outcome) answer few = let now = answer inquiry refl in
-          (new.entries, now.since, omega arith, omega (arith, now.all, few refl), now.answers)
-      told_at (Seat chosen, outcome) answer few = tt
-      told_at (Help about, outcome) answer few = tt
-      told_at (Quit, outcome) answer few = tt
-      told_at (Fault fault, outcome) answer few = tt
-      told_at (TooLong, outcome) answer few = tt
+      told_at (Call command times, effect) answer few = tt
+      told_at (Ask inquiry, effect) answer few = let now = answer inquiry refl in
+          let just : HaveJust (part_with replies new) (0 + commands_among exchanges) new.entries =
+          record { since = now.0.since; within = omega arith; commands = omega (arith, now.0.commands, few refl) } in
+          (new.entries, just, now.1)
+      told_at (Watch begins, effect) answer few = tt
+      told_at (Seat chosen, effect) answer few = tt
+      told_at (Help about, effect) answer few = tt
+      told_at (Quit, effect) answer few = tt
+      told_at (Fault fault, effect) answer few = tt
+      told_at (TooLong, effect) answer few = tt
 
       given_behind : (exchange : Exchange) (got more : List ReplyView) → IsGiven exchange got → length got ≤ given_at exchange → (length got < given_at exchange
           → more ≡ []) → drop (commands_among exchanges) replies ≡ got ++ more → IsGiven exchange (drop (0 + commands_among exchanges) replies)
-      given_behind (Call command times, outcome) got more given fits last left =
+      given_behind (Call command times, effect) got more given fits last left =
           given ∙ sym (given_same times got more (omega (arith, fits, given)) (λ low. last (omega (arith, low, given)))) ∙ ap (times_given times)
           (sym left ∙ ap (λ (n : ℕ). drop n replies) (let e : commands_among exchanges ≡ 0 + commands_among exchanges = omega arith in e))
-      given_behind (Ask inquiry, outcome) got more given fits last left = tt
-      given_behind (Seat chosen, outcome) got more given fits last left = tt
-      given_behind (Help about, outcome) got more given fits last left = tt
-      given_behind (Quit, outcome) got more given fits last left = tt
-      given_behind (Fault fault, outcome) got more given fits last left = tt
-      given_behind (TooLong, outcome) got more given fits last left = tt
+      given_behind (Ask inquiry, effect) got more given fits last left = tt
+      given_behind (Watch begins, effect) got more given fits last left = tt
+      given_behind (Seat chosen, effect) got more given fits last left = tt
+      given_behind (Help about, effect) got more given fits last left = tt
+      given_behind (Quit, effect) got more given fits last left = tt
+      given_behind (Fault fault, effect) got more given fits last left = tt
+      given_behind (TooLong, effect) got more given fits last left = tt
+
+      -- the news follow those of the lines before
+      news_behind : (exchange : Exchange) (got : List ReplyView) → HasGot seat old exchange.0 got new
+          → HasNews new (length old.calls) old.entries watched exchange.0 exchange.1.seen exchange.1.news
+          → HasExchanges Answers style (part_with replies old) exchanges
+          → HasNewsAfter (part_with replies new) (0 + commands_among exchanges) (fold watched_next None exchanges) exchange
+      news_behind exchange got calls looked has =
+          let same : GoesOn new (part_with replies new) =
+          record { before = refl; longer = omega arith; calls_in = λ first few. refl; left_by = λ first few. refl; news = λ from to few. refl } in
+          let least = seen_all (part_with replies old) 0 None exchanges has.1 (omega arith) in
+          news_on new (part_with replies new) same (length old.calls) (0 + commands_among exchanges) old.entries
+          (unwrap_or (fold watched_next None exchanges) 0) least (as_many_now has.0) (fold watched_next None exchanges)
+          exchange.0 exchange.1.seen exchange.1.news
+          (subst (λ (from : Option ℕ). HasNews new (length old.calls) old.entries from exchange.0 exchange.1.seen exchange.1.news) is_watched looked)
+        where
+          as_many_now : HasCommands style old exchanges
+              → min (0 + commands_among exchanges) (length new.calls) ≡ min (length old.calls) (length new.calls)
+          as_many_now (inl all) = omega (arith, ap length all, as_many_asked style.chooses style.first exchanges)
+          as_many_now (inr some) =
+              omega (arith, no_more_than old (inr some), as_many_later old new exchange.0 got calls (inr some) (0 + commands_among exchanges) (omega arith))
 
       -- ---- a line was done
 
       module _ (more : List ReplyView) (may : MoreMayFollow more new) where
         pub commands_done : (exchange : Exchange) (got : List ReplyView) → drop (commands_among exchanges) replies ≡ got ++ more
-            → HasDone Answers seat old exchange got new → HasExchanges Answers style (part_with replies old) exchanges
+            → HasDone Answers seat old exchange got new
+            → HasNews new (length old.calls) old.entries watched exchange.0 exchange.1.seen exchange.1.news
+            → HasExchanges Answers style (part_with replies old) exchanges
             → HasExchanges Answers style (part_with replies new) (exchanges ++ exchange ∷ [])
-        commands_done exchange got left done has =
+        commands_done exchange got left done looked has =
             let few : given_at exchange ≡ 0 → length new.calls ≤ commands_among exchanges = (λ nothing.
             let short = none got (omega (arith, done.fits, nothing)) in
             let same : new.calls ≡ old.calls =
@@ -327,11 +387,15 @@ module _ (Answers : RunView → Inquiry → List ℕ → Type 0) (style : StyleV
             ∙ ap (λ (made : List Entry). old.calls ++ made) (no_entry seat exchange.0) ∙ append-nil old.calls in
             omega (arith, ap length same, no_more_than old has.0)) in (
               has_more old new exchange got done.calls done.fits done.full has.0,
-              one_told (IsDoneAfter Answers (part_with replies new)) 0 exchanges exchange (told_later exchange.0 got done.calls has)
-                  (told_at exchange done.answer few, given_behind exchange got more done.given done.fits (λ low. may (done.full low)) left),
+              one_told (IsDoneAfter Answers (part_with replies new)) 0 None exchanges exchange (told_later exchange.0 got done.calls has)
+                  (record {
+                    answered = told_at exchange done.answer few;
+                    given = given_behind exchange got more done.given done.fits (λ low. may (done.full low)) left;
+                    news = news_behind exchange got done.calls looked has;
+                  }),
             )
 
-      nothing_lost : (request : Request) (got : List ReplyView) → HasGot seat old request got new → got ≡ []
+      pub nothing_lost : (request : Request) (got : List ReplyView) → HasGot seat old request got new → got ≡ []
           → HasExchanges Answers style (part_with replies old) exchanges → HasExchanges Answers style (part_with replies new) exchanges
       nothing_lost request got calls nothing has =
           let same : new.calls ≡ old.calls =
@@ -344,11 +408,13 @@ module _ (Answers : RunView → Inquiry → List ℕ → Type 0) (style : StyleV
             told_later request got calls has,
           )
 
-      pub commands_lost : (request : Request) (begun : HasBegun seat old request new) → drop (commands_among exchanges) replies ≡ begun.got ++ []
-          → HasExchanges Answers style (part_with replies old) exchanges → HasPart exchanges replies new request
-      commands_lost (Call command times) begun left has =
+      pub commands_lost : (request : Request) (begun : HasBegun seat old request new) (effect : Effect)
+          → HasNews new (length old.calls) old.entries watched request effect.seen effect.news
+          → drop (commands_among exchanges) replies ≡ begun.got ++ [] → HasExchanges Answers style (part_with replies old) exchanges
+          → HasPart exchanges replies new request
+      commands_lost (Call command times) begun effect looked left has =
           let got = begun.got in
-          let exchange : Exchange = (Call command (length got), record { given = length got; answer = [] }) in
+          let exchange : Exchange = (Call command (length got), record { seen = effect.seen; news = effect.news; given = length got; answer = [] }) in
           let done : HasDone Answers seat old exchange got new =
           record {
             calls = begun.calls;
@@ -358,13 +424,14 @@ module _ (Answers : RunView → Inquiry → List ℕ → Type 0) (style : StyleV
                 λ low. absurd (omega (arith, low));
             answer = λ inquiry asks. absurd cc;
           } in
-          inr (exchange, commands_done [] (λ full. refl) exchange got left done has, λ line asks. (times, begun.due.0, asks))
-      commands_lost (Ask inquiry) begun left has = inl (nothing_lost (Ask inquiry) begun.got begun.calls begun.due has)
-      commands_lost (Seat chosen) begun left has = inl (nothing_lost (Seat chosen) begun.got begun.calls begun.due has)
-      commands_lost (Help about) begun left has = inl (nothing_lost (Help about) begun.got begun.calls begun.due has)
-      commands_lost Quit begun left has = inl (nothing_lost Quit begun.got begun.calls begun.due has)
-      commands_lost (Fault fault) begun left has = inl (nothing_lost (Fault fault) begun.got begun.calls begun.due has)
-      commands_lost TooLong begun left has = inl (nothing_lost TooLong begun.got begun.calls begun.due has)
+          inr (exchange, commands_done [] (λ full. refl) exchange got left done looked has, λ line asks. (times, begun.due.0, asks))
+      commands_lost (Ask inquiry) begun effect looked left has = inl (nothing_lost (Ask inquiry) begun.got begun.calls begun.due has)
+      commands_lost (Watch begins) begun effect looked left has = inl (nothing_lost (Watch begins) begun.got begun.calls begun.due has)
+      commands_lost (Seat chosen) begun effect looked left has = inl (nothing_lost (Seat chosen) begun.got begun.calls begun.due has)
+      commands_lost (Help about) begun effect looked left has = inl (nothing_lost (Help about) begun.got begun.calls begun.due has)
+      commands_lost Quit begun effect looked left has = inl (nothing_lost Quit begun.got begun.calls begun.due has)
+      commands_lost (Fault fault) begun effect looked left has = inl (nothing_lost (Fault fault) begun.got begun.calls begun.due has)
+      commands_lost TooLong begun effect looked left has = inl (nothing_lost TooLong begun.got begun.calls begun.due has)
 
 -- ---- what was done was begun
 
@@ -388,13 +455,14 @@ all_given (suc times) (reply ∷ got) fits = whole (is_refused reply) got (times
     whole false got here rest fits = let e = rest (omega (arith, fits)) in omega (arith, e)
 
 pub begun_where_done : (Answers : RunView → Inquiry → List ℕ → Type 0) (seat : ℕ) (old new : Part) (request : Request)
-    (outcome : Outcome) (got : List ReplyView) → HasDone Answers seat old (request, outcome) got new → HasBegun seat old request new
-begun_where_done Answers seat old new (Call command times) outcome got done =
+    (effect : Effect) (got : List ReplyView) → HasDone Answers seat old (request, effect) got new → HasBegun seat old request new
+begun_where_done Answers seat old new (Call command times) effect got done =
     let fits : length got ≤ times_given times got = omega (arith, done.fits, done.given) in
     record { got = got; calls = done.calls; due = (let few = no_more_given times got in omega (arith, fits, few), all_given times got fits) }
-begun_where_done Answers seat old new (Ask inquiry) outcome got done = record { got = got; calls = done.calls; due = none got done.fits }
-begun_where_done Answers seat old new (Seat chosen) outcome got done = record { got = got; calls = done.calls; due = none got done.fits }
-begun_where_done Answers seat old new (Help about) outcome got done = record { got = got; calls = done.calls; due = none got done.fits }
-begun_where_done Answers seat old new Quit outcome got done = record { got = got; calls = done.calls; due = none got done.fits }
-begun_where_done Answers seat old new (Fault fault) outcome got done = record { got = got; calls = done.calls; due = none got done.fits }
-begun_where_done Answers seat old new TooLong outcome got done = record { got = got; calls = done.calls; due = none got done.fits }
+begun_where_done Answers seat old new (Ask inquiry) effect got done = record { got = got; calls = done.calls; due = none got done.fits }
+begun_where_done Answers seat old new (Watch begins) effect got done = record { got = got; calls = done.calls; due = none got done.fits }
+begun_where_done Answers seat old new (Seat chosen) effect got done = record { got = got; calls = done.calls; due = none got done.fits }
+begun_where_done Answers seat old new (Help about) effect got done = record { got = got; calls = done.calls; due = none got done.fits }
+begun_where_done Answers seat old new Quit effect got done = record { got = got; calls = done.calls; due = none got done.fits }
+begun_where_done Answers seat old new (Fault fault) effect got done = record { got = got; calls = done.calls; due = none got done.fits }
+begun_where_done Answers seat old new TooLong effect got done = record { got = got; calls = done.calls; due = none got done.fits }

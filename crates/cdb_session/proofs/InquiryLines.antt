@@ -1,5 +1,5 @@
 -- The lines that ask something of the run.
-use Rattle.std.proofs.Common.{◌≡◌, ◌≢◌, inl, inr, ℕ, ◌<◌, List, [], ◌∷◌, length, get_or, decimal, refl, sym, ap, subst, ◌∙◌, arith}
+use Rattle.std.proofs.Common.{◌≡◌, ◌≢◌, inl, inr, Bool, true, false, ℕ, ◌<◌, List, [], ◌∷◌, length, get_or, decimal, refl, sym, ap, subst, ◌∙◌, arith}
 use Rattle.std.specs.Prelude.{codes, map, Option, None, Some, option_map}
 use Rattle.std.specs.List.{AllByRecursion, join_with_byte}
 use Rattle.std.specs.Str.{bytes_eq}
@@ -15,7 +15,7 @@ use Rattle.cdb_text.proofs.Numbers.{number_again, number_says}
 use Rattle.cdb_session.specs.Inquiries.{AreStepWords, IsInquiryLine, inquiry_word, numbers_of, step_asked}
 use Rattle.cdb_session.specs.InquiryWords.{step_with, last_step, numbered_step, step_in, with_count, repeat_in, inquiry_in}
 use Rattle.cdb_session.specs.Repeats.{IsRepeatLine, repeat_parts}
-use Rattle.cdb_session.specs.Requests.{help_line, quit_line, seat_line}
+use Rattle.cdb_session.specs.Requests.{help_line, quit_line, seat_line, watch_line}
 use Rattle.cdb_session.specs.declared.inquiry.Inquiry.{Inquiry}
 use Rattle.cdb_session.specs.declared.inquiry.Inquiry.TheVariants.{Explain, Trail}
 use Rattle.cdb_session.specs.declared.topic.Topic.{Topic}
@@ -50,6 +50,10 @@ no_quit line inquiry is same = begins_so line quit_line 113 inquiry is same refl
 
 pub no_seat : (line : List ℕ) (inquiry : Inquiry) → IsInquiryLine inquiry line → (seat : ℕ) → line ≡ seat_line seat → ⊥
 no_seat line inquiry is seat same = begins_so line (seat_line seat) 115 inquiry is same refl (λ e. omega (arith, e)) (λ e. omega (arith, e))
+
+pub no_watch : (line : List ℕ) (inquiry : Inquiry) → IsInquiryLine inquiry line → (begins : Bool) → line ≡ watch_line begins → ⊥
+no_watch line inquiry is true same = begins_so line (watch_line true) 119 inquiry is same refl (λ e. omega (arith, e)) (λ e. omega (arith, e))
+no_watch line inquiry is false same = begins_so line (watch_line false) 117 inquiry is same refl (λ e. omega (arith, e)) (λ e. omega (arith, e))
 
 -- ---- what is read in its words
 

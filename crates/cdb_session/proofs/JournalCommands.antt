@@ -14,7 +14,7 @@ use Rattle.cdb_session.specs.Table.{Session, begun, after_line, control_behind, 
 use Rattle.cdb_session.specs.Laws.{JournalHasTheCommands}
 use Rattle.cdb_session.specs.Parts.{all_asked}
 use Rattle.cdb_session.specs.Exchanges.{Exchange}
-use Rattle.cdb_session.specs.declared.request.Request.TheVariants.{Call, Ask, Seat, Help, Quit, Fault, TooLong}
+use Rattle.cdb_session.specs.declared.request.Request.TheVariants.{Call, Ask, Watch, Seat, Help, Quit, Fault, TooLong}
 
 -- the positions are taken one after the other, up to the last
 pick : (most : ℕ) (b : Bool) (c d : Journaled) (one : Entry) (others : List Entry) → (b ≡ true → most ≤ length c.journal) → d.journal ≡ c.journal ++ one ∷ []
@@ -57,10 +57,11 @@ grown_all rules seat command c (suc count) others few =
 pub grown : (s : Session) (exchanges : List Exchange) → length s.control.journal ≤ MAX_ENTRIES
     → (session_after s exchanges).control.journal ≡ take MAX_ENTRIES (s.control.journal ++ all_asked true s.seat exchanges)
 grown s [] few = sym (ap (take MAX_ENTRIES) (append-nil s.control.journal) ∙ take_all MAX_ENTRIES s.control.journal few)
-grown s ((Call command times, outcome) ∷ exchanges) few =
-    let more = grown_all s.rules s.seat command s.control outcome.given (all_asked true s.seat exchanges) few in
-    grown (after_line s (Call command times, outcome)) exchanges more.1 ∙ more.0
+grown s ((Call command times, effect) ∷ exchanges) few =
+    let more = grown_all s.rules s.seat command s.control effect.given (all_asked true s.seat exchanges) few in
+    grown (after_line s (Call command times, effect)) exchanges more.1 ∙ more.0
 grown s ((Ask inquiry, answer) ∷ exchanges) few = grown (after_line s (Ask inquiry, answer)) exchanges few
+grown s ((Watch begins, answer) ∷ exchanges) few = grown (after_line s (Watch begins, answer)) exchanges few
 grown s ((Seat chosen, answer) ∷ exchanges) few = grown (after_line s (Seat chosen, answer)) exchanges few
 grown s ((Help about, answer) ∷ exchanges) few = grown (after_line s (Help about, answer)) exchanges few
 grown s ((Quit, answer) ∷ exchanges) few = grown (after_line s (Quit, answer)) exchanges few

@@ -1,5 +1,5 @@
 -- A line asks for one thing.
-use Rattle.std.proofs.Common.{◌≡◌, inl, inr, ℕ, ◌<◌, ◌≤◌, List, length, get_or, refl, sym, ap, ◌∙◌, arith}
+use Rattle.std.proofs.Common.{◌≡◌, inl, inr, Bool, true, false, ℕ, ◌<◌, ◌≤◌, List, length, get_or, refl, sym, ap, ◌∙◌, arith}
 use Rattle.std.specs.Prelude.{Option, Result, Ok, Err}
 use Rattle.cdb_commands.specs.declared.command.Command.{Command}
 use Rattle.cdb_commands.specs.declared.command.Command.TheVariants.{Auto}
@@ -8,13 +8,13 @@ use Rattle.cdb_setup.specs.Parts.{IsWithin}
 use Rattle.cdb_text.specs.Faults.{IsFaultOf}
 use Rattle.cdb_text.specs.Grammar.{IsLineOf}
 use Rattle.cdb_text.specs.declared.fault.LineFault.{LineFault}
-use Rattle.cdb_session.specs.Requests.{AsksFor, Means, IsOwn, most_seats, help_line, quit_line, seat_line}
+use Rattle.cdb_session.specs.Requests.{AsksFor, Means, IsOwn, most_seats, help_line, quit_line, seat_line, watch_line}
 use Rattle.cdb_session.specs.Repeats.{IsRepeatLine}
 use Rattle.cdb_session.specs.declared.topic.Topic.{Topic}
 use Rattle.cdb_session.specs.declared.request.Request.{Request}
-use Rattle.cdb_session.specs.declared.request.Request.TheVariants.{Call, Ask, Seat, Help, Quit, Fault, TooLong}
+use Rattle.cdb_session.specs.declared.request.Request.TheVariants.{Call, Ask, Watch, Seat, Help, Quit, Fault, TooLong}
 use Rattle.cdb_session.proofs.HelpLines.{begins_with_h, same_topic}
-use Rattle.cdb_session.proofs.InquiryLines.{no_help, no_quit, no_seat, one_inquiry, one_repeat, repeats_no_other, repeats_no_inquiry}
+use Rattle.cdb_session.proofs.InquiryLines.{no_help, no_quit, no_seat, no_watch, one_inquiry, one_repeat, repeats_no_other, repeats_no_inquiry}
 use Rattle.cdb_session.proofs.SeatLines.{digit}
 use Rattle.cdb_session.specs.Inquiries.{IsInquiryLine}
 use Rattle.cdb_session.specs.declared.inquiry.Inquiry.{Inquiry}
@@ -33,6 +33,7 @@ module _ (line : List ℕ) where
   pub only_too_long : longest < length line → (other : Request) → AsksFor other line → other ≡ TooLong
   only_too_long long (Call command times) asks = absurd (omega (arith, long, asks.0))
   only_too_long long (Ask inquiry) asks = absurd (omega (arith, long, asks.0))
+  only_too_long long (Watch begins) asks = absurd (omega (arith, long, asks.0))
   only_too_long long (Seat seat) asks = absurd (omega (arith, long, asks.0))
   only_too_long long (Help about) asks = absurd (omega (arith, long, asks.0))
   only_too_long long Quit asks = absurd (omega (arith, long, asks.0))
@@ -45,6 +46,10 @@ module _ (line : List ℕ) where
         absurd (let r = repeats line command times asks.1 (inl (about, is)) in
         repeats_no_other line (help_line about) 104 r.0 times r.2 is (begins_with_h about) (λ e. omega (arith, e)))
     only_help about is (Ask inquiry) asks = absurd (no_help line inquiry asks.1 about is)
+    only_help about is (Watch true) asks =
+        absurd (let e : 104 ≡ 119 = sym (begins_with_h about) ∙ first line (help_line about) (watch_line true) is asks.1 in omega (arith, e))
+    only_help about is (Watch false) asks =
+        absurd (let e : 104 ≡ 117 = sym (begins_with_h about) ∙ first line (help_line about) (watch_line false) is asks.1 in omega (arith, e))
     only_help about is (Seat seat) asks =
         absurd (let e : 104 ≡ 115 = sym (begins_with_h about) ∙ first line (help_line about) (seat_line seat) is asks.1.1 in omega (arith, e))
     only_help about is (Help another) asks = ap (λ (o : Option Topic). Help o) (same_topic another about (sym asks.1 ∙ is))
@@ -57,6 +62,10 @@ module _ (line : List ℕ) where
         absurd (let r = repeats line command times asks.1 (inr (inr (inl (seat, within, is)))) in
         repeats_no_other line (seat_line seat) 115 r.0 times r.2 is refl (λ e. omega (arith, e)))
     only_seat seat within is (Ask inquiry) asks = absurd (no_seat line inquiry asks.1 seat is)
+    only_seat seat within is (Watch true) asks =
+        absurd (let e : 115 ≡ 119 = first line (seat_line seat) (watch_line true) is asks.1 in omega (arith, e))
+    only_seat seat within is (Watch false) asks =
+        absurd (let e : 115 ≡ 117 = first line (seat_line seat) (watch_line false) is asks.1 in omega (arith, e))
     only_seat seat within is (Seat another) asks =
         let same : another ≡ seat = omega (arith, digit line seat within is, digit line another asks.1.0 asks.1.1) in ap (λ n. Seat n) same
     only_seat seat within is (Help about) asks =
@@ -69,6 +78,7 @@ module _ (line : List ℕ) where
     only_inquiry inquiry is (Call command times) asks =
         absurd (let r = repeats line command times asks.1 (inr (inr (inr (inl (inquiry, is))))) in repeats_no_inquiry line inquiry r.0 times is r.2)
     only_inquiry inquiry is (Ask another) asks = ap (λ (i : Inquiry). Ask i) (one_inquiry line another inquiry asks.1 is)
+    only_inquiry inquiry is (Watch begins) asks = absurd (no_watch line inquiry is begins asks.1)
     only_inquiry inquiry is (Seat seat) asks = absurd (no_seat line inquiry is seat asks.1.1)
     only_inquiry inquiry is (Help about) asks = absurd (no_help line inquiry is about asks.1)
     only_inquiry inquiry is Quit asks = absurd (no_quit line inquiry is asks.1)
@@ -77,22 +87,45 @@ module _ (line : List ℕ) where
 
     pub only_repeat : (p times : ℕ) → IsRepeatLine p times line → (other : Request) → AsksFor other line → other ≡ Call (Auto p) times
     only_repeat p times is (Call command count) asks =
-        let r = repeats line command count asks.1 (inr (inr (inr (inr (p, times, is))))) in
+        let r = repeats line command count asks.1 (inr (inr (inr (inr (inl (p, times, is)))))) in
         let same = one_repeat line r.0 count p times r.2 is in
         (λ i. Call (r.1 i) (same.1 i)) ∙ ap (λ (q : ℕ). Call (Auto q) times) same.0
     only_repeat p times is (Ask inquiry) asks = absurd (repeats_no_inquiry line inquiry p times asks.1 is)
+    only_repeat p times is (Watch true) asks = absurd (repeats_no_other line (watch_line true) 119 p times is asks.1 refl (λ e. omega (arith, e)))
+    only_repeat p times is (Watch false) asks = absurd (repeats_no_other line (watch_line false) 117 p times is asks.1 refl (λ e. omega (arith, e)))
     only_repeat p times is (Seat seat) asks = absurd (repeats_no_other line (seat_line seat) 115 p times is asks.1.1 refl (λ e. omega (arith, e)))
     only_repeat p times is (Help about) asks =
         absurd (repeats_no_other line (help_line about) 104 p times is asks.1 (begins_with_h about) (λ e. omega (arith, e)))
     only_repeat p times is Quit asks = absurd (repeats_no_other line quit_line 113 p times is asks.1 refl (λ e. omega (arith, e)))
-    only_repeat p times is (Fault fault) asks = absurd (asks.1.0 (inr (inr (inr (inr (p, times, is))))))
+    only_repeat p times is (Fault fault) asks = absurd (asks.1.0 (inr (inr (inr (inr (inl (p, times, is)))))))
     only_repeat p times is TooLong asks = absurd (omega (arith, few, asks))
+
+    same_watch : (begins other : Bool) → line ≡ watch_line begins → line ≡ watch_line other → other ≡ begins
+    same_watch true true is is_other = refl
+    same_watch true false is is_other =
+        absurd (let e : 119 ≡ 117 = first line (watch_line true) (watch_line false) is is_other in omega (arith, e))
+    same_watch false true is is_other =
+        absurd (let e : 117 ≡ 119 = first line (watch_line false) (watch_line true) is is_other in omega (arith, e))
+    same_watch false false is is_other = refl
+
+    pub only_watch : (begins : Bool) → line ≡ watch_line begins → (other : Request) → AsksFor other line → other ≡ Watch begins
+    only_watch begins is (Call command times) asks =
+        absurd (let r = repeats line command times asks.1 (inr (inr (inr (inr (inr (begins, is)))))) in
+        let e = only_repeat r.0 times r.2 (Watch begins) (few, is) in cc)
+    only_watch begins is (Ask inquiry) asks = absurd (no_watch line inquiry asks.1 begins is)
+    only_watch begins is (Watch another) asks = ap (λ (b : Bool). Watch b) (same_watch begins another is asks.1)
+    only_watch begins is (Seat seat) asks = absurd (let e = only_seat seat asks.1.0 asks.1.1 (Watch begins) (few, is) in cc)
+    only_watch begins is (Help about) asks = absurd (let e = only_help about asks.1 (Watch begins) (few, is) in cc)
+    only_watch true is Quit asks = absurd (let e : 119 ≡ 113 = first line (watch_line true) quit_line is asks.1 in omega (arith, e))
+    only_watch false is Quit asks = absurd (let e : 117 ≡ 113 = first line (watch_line false) quit_line is asks.1 in omega (arith, e))
+    only_watch begins is (Fault fault) asks = absurd (asks.1.0 (inr (inr (inr (inr (inr (begins, is)))))))
+    only_watch begins is TooLong asks = absurd (omega (arith, few, asks))
 
     module _ (other_line : ¬ IsOwn line) (read : Result Command LineFault)
         (command_is : (c : Command) → IsLineOf c line → read ≡ Ok c) (fault_is : (f : LineFault) → IsFaultOf f line → read ≡ Err f) where
       once : (another : Command) (times : ℕ) → Means (Call another times) line → (read ≡ Ok another) × (times ≡ 1)
       once another times (inl one) = (command_is another one.1, one.2)
-      once another times (inr (p, is, repeat)) = absurd (other_line (inr (inr (inr (inr (p, times, repeat))))))
+      once another times (inr (p, is, repeat)) = absurd (other_line (inr (inr (inr (inr (inl (p, times, repeat)))))))
 
       pub only_call : (command : Command) → read ≡ Ok command → (other : Request) → AsksFor other line → other ≡ Call command 1
       only_call command is (Call another times) asks =
@@ -100,6 +133,7 @@ module _ (line : List ℕ) where
           let same : another ≡ command = (let e = it.0 in cc) in
           λ i. Call (same i) (it.1 i)
       only_call command is (Ask inquiry) asks = absurd (other_line (inr (inr (inr (inl (inquiry, asks.1))))))
+      only_call command is (Watch begins) asks = absurd (other_line (inr (inr (inr (inr (inr (begins, asks.1)))))))
       only_call command is (Seat seat) asks = absurd (other_line (inr (inr (inl (seat, asks.1.0, asks.1.1)))))
       only_call command is (Help about) asks = absurd (other_line (inl (about, asks.1)))
       only_call command is Quit asks = absurd (other_line (inr (inl asks.1)))
@@ -109,6 +143,7 @@ module _ (line : List ℕ) where
       pub only_fault : (fault : LineFault) → read ≡ Err fault → (other : Request) → AsksFor other line → other ≡ Fault (record { line = line; fault = fault })
       only_fault fault is (Call command times) asks = absurd (let e = (once command times asks.1).0 in cc)
       only_fault fault is (Ask inquiry) asks = absurd (other_line (inr (inr (inr (inl (inquiry, asks.1))))))
+      only_fault fault is (Watch begins) asks = absurd (other_line (inr (inr (inr (inr (inr (begins, asks.1)))))))
       only_fault fault is (Seat seat) asks = absurd (other_line (inr (inr (inl (seat, asks.1.0, asks.1.1)))))
       only_fault fault is (Help about) asks = absurd (other_line (inl (about, asks.1)))
       only_fault fault is Quit asks = absurd (other_line (inr (inl asks.1)))

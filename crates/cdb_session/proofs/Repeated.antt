@@ -102,24 +102,28 @@ repeated_more seat command old got now before so E last text new (inr (none, ful
 
 -- ---- the end
 
-module _ (Answers : RunView → Inquiry → List ℕ → Type 0) (style : StyleView) (old : SessionView) (command : Command) (times : ℕ) (got : List ReplyView) where
+module _ (Answers : RunView → Inquiry → List ℕ → Type 0) (style : StyleView) (seen : ℕ) (news : List ℕ) (old : SessionView) (command : Command) (times : ℕ)
+    (got : List ReplyView) where
   abbrev Repeated : Part → List ℕ → Type 0
   Repeated now text = HasRepeated old.seat command old.part got now text
 
   -- it was given as often as it was to be
   pub all_given : (E : Type 0) (text : Vec ℕ Global) (new : SessionView) → Repeated new.part text.items
-      → length got ≡ times → Responds Answers style {E = E} (Ok text) old (Call command times) new
+      → length got ≡ times → Responds Answers style {E = E} seen news (Ok text) old (Call command times) new
   all_given E text new so all = (
-    record { given = length got; answer = [] },
+    length got,
+    [],
     got,
-    record {
-      calls = so.calls;
-      given = (let e = ap (times_given times) (append-nil got) in omega (arith, e, all, given_more got [] 0 times so.carried_out (omega (arith, all))));
-      fits = omega arith;
-      full = λ low. absurd (omega (arith, low));
-      answer = λ inquiry asks. absurd cc;
-    },
-    so.text_is,
+    (
+      record {
+        calls = so.calls;
+        given = (let e = ap (times_given times) (append-nil got) in omega (arith, e, all, given_more got [] 0 times so.carried_out (omega (arith, all))));
+        fits = omega arith;
+        full = λ low. absurd (omega (arith, low));
+        answer = λ inquiry asks. absurd cc;
+      },
+      so.text_is,
+    ),
   )
 
   module _ (low : length got < times) (now : Part) (before : List ℕ) (so : Repeated now before) where
@@ -128,37 +132,43 @@ module _ (Answers : RunView → Inquiry → List ℕ → Type 0) (style : StyleV
 
     -- the last time it was refused, or found the journal full
     pub last_given : (E : Type 0) (text : Vec ℕ Global) (new : SessionView) (last : Bool) → GivesOnce {E = E} (Ok last) now
-        (entry old.seat command) before text.items new.part → last ≡ true → Responds Answers style {E = E} (Ok text) old (Call command times) new
+        (entry old.seat command) before text.items new.part → last ≡ true → Responds Answers style {E = E} seen news (Ok text) old (Call command times) new
     last_given E text new last (inl (reply, call, refused, is)) ends =
         let is_last : is_refused reply ≡ true = sym refused ∙ ends in
         let one : times_given (suc left.0) (reply ∷ []) ≡ 1 = rw is_last refl in
         let all : times_given times (got ++ reply ∷ []) ≡ length (got ++ reply ∷ []) =
         omega (arith, given_more got (reply ∷ []) (suc left.0) times so.carried_out left.1, one, one_longer got reply) in (
-          record { given = length (got ++ reply ∷ []); answer = [] },
+          length (got ++ reply ∷ []),
+          [],
           got ++ reply ∷ [],
-          record {
-            calls = once_more (entry old.seat command) got old.part now new.part reply so.calls call;
-            given = sym all;
-            fits = omega arith;
-            full = λ short. absurd (omega (arith, short));
-            answer = λ inquiry asks. absurd cc;
-          },
-          sym (text_more got reply before text.items so.text_is is),
+          (
+            record {
+              calls = once_more (entry old.seat command) got old.part now new.part reply so.calls call;
+              given = sym all;
+              fits = omega arith;
+              full = λ short. absurd (omega (arith, short));
+              answer = λ inquiry asks. absurd cc;
+            },
+            sym (text_more got reply before text.items so.text_is is),
+          ),
         )
     last_given E text new last (inr (none, full, refused, is)) ends =
         let e = ap (times_given times) (append-nil got) in
         let all : times_given times got ≡ length got + 1 = omega (arith, e, given_more got [] (suc left.0) times so.carried_out left.1) in
         let f = ap (replies_text (length got + 1)) (append-nil got) in (
-          record { given = length got + 1; answer = [] },
+          length got + 1,
+          [],
           got,
-          record {
-            calls = none_more (replicate (length got) (entry old.seat command)) got old.part now new.part so.calls none;
-            given = sym all;
-            fits = omega arith;
-            full = λ short. full;
-            answer = λ inquiry asks. absurd cc;
-          },
-          is ∙ (λ i. so.text_is i ++ sym (append-nil full_text) i) ∙ sym (texts_more got [] 1 (length got + 1) refl) ∙ f,
+          (
+            record {
+              calls = none_more (replicate (length got) (entry old.seat command)) got old.part now new.part so.calls none;
+              given = sym all;
+              fits = omega arith;
+              full = λ short. full;
+              answer = λ inquiry asks. absurd cc;
+            },
+            is ∙ (λ i. so.text_is i ++ sym (append-nil full_text) i) ∙ sym (texts_more got [] 1 (length got + 1) refl) ∙ f,
+          ),
         )
 
     -- memory is out

@@ -1,7 +1,8 @@
 -- With a control of its own, a session shows what the table of exchanges says.
 use Rattle.std.proofs.Common.{◌≡◌, inl, inr, ℕ, zero, suc, ◌+◌, ◌-◌, ◌<◌, ◌≤◌, ◌==◌, Bool, true, false, List, [], ◌∷◌, ◌++◌, length}
 use Rattle.std.proofs.Common.{take, drop, min, refl, sym, ap, subst, ◌∙◌, append_assoc, append-nil, arith, length-append}
-use Rattle.std.specs.Prelude.{if◌then◌else◌, replicate}
+use Rattle.std.specs.Prelude.{if◌then◌else◌, replicate, is_some, unwrap_or, MatchBool, Option, None, Some}
+use Rattle.std.specs.List.{AllByRecursion}
 use Rattle.std.proofs.lemmas.Bool.Decides.{Decides-eqb}
 use Rattle.std.proofs.lemmas.Grind.{fold-append}
 use Rattle.std.proofs.Math.Seq.{drop-append_seam, take-append_seam, take-append-add}
@@ -15,14 +16,15 @@ use Rattle.cdb_control.specs.Journal.{Journaled, Begins, entry, extended, reply_
 use Rattle.cdb_control.specs.State.{State, first_control_state}
 use Rattle.cdb_control.specs.declared.control.Entry.{Entry}
 use Rattle.cdb_session.specs.Table as table
-use Rattle.cdb_session.specs.Exchanges.{Exchange, Outcome, given_at}
-use Rattle.cdb_session.specs.declared.request.Request.TheVariants.{Call, Ask, Seat, Help, Quit, Fault, TooLong}
+use Rattle.cdb_session.specs.Exchanges.{Exchange, Effect, given_at}
+use Rattle.cdb_session.specs.News.{AreNews, looks, watched_next}
+use Rattle.cdb_session.specs.declared.request.Request.TheVariants.{Call, Ask, Watch, Seat, Help, Quit, Fault, TooLong}
 use Rattle.cdb_rules.specs.RunView.{RunView}
 use Rattle.cdb_rules.specs.Rules.{Rules}
 use Rattle.cdb_session.specs.declared.inquiry.Inquiry.{Inquiry}
 use Rattle.cdb_setup.specs.Parts.{Parts}
-use Rattle.cdb_session.specs.Replies.{Along, shown_from, dialogue, reply_text, next_replies, replies_text}
-use Rattle.cdb_session.specs.Dialogues.{shown_by, shown_from_by}
+use Rattle.cdb_session.specs.Replies.{Along, shown_from, response, next_along, dialogue, reply_text, next_replies, replies_text}
+use Rattle.cdb_session.specs.Dialogues.{prompt_after, shown_by, shown_from_by}
 use Rattle.cdb_session.specs.Alone.{all_replies_from, whole_part, nine}
 use Rattle.cdb_session.specs.Answers.{AreTold, HasExchanges, IsDoneAfter, IsTold, run_left}
 use Rattle.cdb_session.specs.Parts.{all_asked, all_of, asked_of, seat_next, HasCommands}
@@ -145,32 +147,56 @@ module _ (rules : Parts → Rules) (seat : ℕ) (command : Command) where
 
 module _ (Answers : RunView → Inquiry → List ℕ → Type 0) (greeting prompt : List ℕ) where
   -- the session with the replies to what these lines ask for
-  abbrev along_of : table.Session → List Exchange → Along
-  along_of s exchanges = record { seat = s.seat; replies = replies_at s.rules s.control (all_asked true s.seat exchanges); lines = s.lines }
+  abbrev along_of : Option ℕ → table.Session → List Exchange → Along
+  along_of watched s exchanges =
+      record { seat = s.seat; replies = replies_at s.rules s.control (all_asked true s.seat exchanges); lines = s.lines; watched = watched }
 
-  same : (s : table.Session) (exchanges others : List Exchange) → length s.control.journal ≤ MAX_ENTRIES
-      → shown_from (nine greeting prompt) (along_of s (exchanges ++ others)) exchanges ≡ table_shown prompt s exchanges
-  same s [] others few = refl
-  same s ((Call command times, outcome) ∷ exchanges) others few =
+  -- what is shown of them, but for news
+  abbrev plain_from : Along → List Exchange → List ℕ
+  plain_from s exchanges =
+      shown_from_by (response (nine greeting prompt)) (next_along (nine greeting prompt)) prompt s exchanges
+
+  abbrev IsQuiet : Exchange → Type 0
+  IsQuiet exchange = exchange.1.news ≡ []
+
+  quiet : (s : Along) (exchanges : List Exchange) → AllByRecursion IsQuiet exchanges → shown_from (nine greeting prompt) s exchanges ≡ plain_from s exchanges
+  quiet s [] are = refl
+  quiet s (exchange ∷ exchanges) are =
+      λ i. ((are.0 i ++ response (nine greeting prompt) s exchange) ++ prompt_after prompt exchange.0)
+      ++ quiet (next_along (nine greeting prompt) s exchange) exchanges are.1 i
+
+  same : (watched : Option ℕ) (s : table.Session) (exchanges others : List Exchange) → length s.control.journal ≤ MAX_ENTRIES
+      → plain_from (along_of watched s (exchanges ++ others)) exchanges ≡ table_shown prompt s exchanges
+  same watched s [] others few = refl
+  same watched s ((Call command times, effect) ∷ exchanges) others few =
       let asked = all_asked true s.seat (exchanges ++ others) in
-      let its = steps s.rules s.seat command outcome.given s.control asked few in
-      let more = grown_all s.rules s.seat command s.control outcome.given [] few in
-      (λ i. let a : Along = record { seat = s.seat; replies = its.1 i; lines = s.lines + 1 } in
-      (its.0 i ++ prompt) ++ shown_from (nine greeting prompt) a exchanges)
-      ∙ ap (λ text. (table.texts_at s.rules s.seat command s.control outcome.given ++ prompt) ++ text)
-      (same (table.after_line s (Call command times, outcome)) exchanges others more.1)
-  same s ((Ask inquiry, outcome) ∷ exchanges) others few =
-      ap (λ text. table_one prompt s (Ask inquiry, outcome) ++ text) (same (table.after_line s (Ask inquiry, outcome)) exchanges others few)
-  same s ((Seat chosen, outcome) ∷ exchanges) others few =
-      ap (λ text. table_one prompt s (Seat chosen, outcome) ++ text) (same (table.after_line s (Seat chosen, outcome)) exchanges others few)
-  same s ((Help about, outcome) ∷ exchanges) others few =
-      ap (λ text. table_one prompt s (Help about, outcome) ++ text) (same (table.after_line s (Help about, outcome)) exchanges others few)
-  same s ((Quit, outcome) ∷ exchanges) others few =
-      ap (λ text. table_one prompt s (Quit, outcome) ++ text) (same (table.after_line s (Quit, outcome)) exchanges others few)
-  same s ((Fault fault, outcome) ∷ exchanges) others few =
-      ap (λ text. table_one prompt s (Fault fault, outcome) ++ text) (same (table.after_line s (Fault fault, outcome)) exchanges others few)
-  same s ((TooLong, outcome) ∷ exchanges) others few =
-      ap (λ text. table_one prompt s (TooLong, outcome) ++ text) (same (table.after_line s (TooLong, outcome)) exchanges others few)
+      let its = steps s.rules s.seat command effect.given s.control asked few in
+      let more = grown_all s.rules s.seat command s.control effect.given [] few in
+      (λ i. let a : Along = record { seat = s.seat; replies = its.1 i; lines = s.lines + 1; watched = watched_next watched (Call command times, effect) } in
+      (its.0 i ++ prompt) ++ plain_from a exchanges)
+      ∙ ap (λ text. (table.texts_at s.rules s.seat command s.control effect.given ++ prompt) ++ text)
+      (same (watched_next watched (Call command times, effect)) (table.after_line s (Call command times, effect)) exchanges others more.1)
+  same watched s ((Ask inquiry, effect) ∷ exchanges) others few =
+      ap (λ text. table_one prompt s (Ask inquiry, effect) ++ text)
+      (same (watched_next watched (Ask inquiry, effect)) (table.after_line s (Ask inquiry, effect)) exchanges others few)
+  same watched s ((Watch begins, effect) ∷ exchanges) others few =
+      ap (λ text. table_one prompt s (Watch begins, effect) ++ text)
+      (same (watched_next watched (Watch begins, effect)) (table.after_line s (Watch begins, effect)) exchanges others few)
+  same watched s ((Seat chosen, effect) ∷ exchanges) others few =
+      ap (λ text. table_one prompt s (Seat chosen, effect) ++ text)
+      (same (watched_next watched (Seat chosen, effect)) (table.after_line s (Seat chosen, effect)) exchanges others few)
+  same watched s ((Help about, effect) ∷ exchanges) others few =
+      ap (λ text. table_one prompt s (Help about, effect) ++ text)
+      (same (watched_next watched (Help about, effect)) (table.after_line s (Help about, effect)) exchanges others few)
+  same watched s ((Quit, effect) ∷ exchanges) others few =
+      ap (λ text. table_one prompt s (Quit, effect) ++ text)
+      (same (watched_next watched (Quit, effect)) (table.after_line s (Quit, effect)) exchanges others few)
+  same watched s ((Fault fault, effect) ∷ exchanges) others few =
+      ap (λ text. table_one prompt s (Fault fault, effect) ++ text)
+      (same (watched_next watched (Fault fault, effect)) (table.after_line s (Fault fault, effect)) exchanges others few)
+  same watched s ((TooLong, effect) ∷ exchanges) others few =
+      ap (λ text. table_one prompt s (TooLong, effect) ++ text)
+      (same (watched_next watched (TooLong, effect)) (table.after_line s (TooLong, effect)) exchanges others few)
 
   -- the journal has as many of the entries as it has room for behind those that it went on from
   as_many : (before its : List Entry) (part : Part) (exchanges : List Exchange) → part.calls ≡ its
@@ -200,24 +226,42 @@ module _ (Answers : RunView → Inquiry → List ℕ → Type 0) (greeting promp
       ∙ ap (drop (length front)) (all_replies-append of t before its) ∙ drop-append_seam front (all_replies_from of (replay_from of t before) its) in
       shown ∙ ap (all_replies_from of (replay_from of t before)) (as_many before its (came rules c before) exchanges calls many (omega (arith, few, many)) has)
 
+  -- the first of the lines
+  told_first : (Told : ℕ → Option ℕ → Exchange → Type 0) (count : ℕ) (watched : Option ℕ) (exchanges others : List Exchange)
+      → AreTold Told count watched (exchanges ++ others) → AreTold Told count watched exchanges
+  told_first Told count watched [] others told = tt
+  told_first Told count watched (exchange ∷ exchanges) others told =
+      (told.0, told_first Told (count + given_at exchange) (watched_next watched exchange) exchanges others told.1)
+
+  -- nobody else has entries
+  no_news : (rules : Parts → Rules) (c : Journaled) (before : List Entry) (count least : ℕ) (watched : Option ℕ) (looked : Bool) (seen : ℕ) (news : List ℕ)
+      → MatchBool looked (AreNews (came rules c before) count least watched seen news) (news ≡ []) → news ≡ []
+  no_news rules c before count least None true seen news are = are.news_are
+  no_news rules c before count least (Some from) true seen news are = are.news_are
+  no_news rules c before count least watched false seen news none = none
+
+  all_quiet : (rules : Parts → Rules) (c : Journaled) (before : List Entry) (count : ℕ) (watched : Option ℕ) (exchanges : List Exchange)
+      → AreTold (IsDoneAfter Answers (came rules c before)) count watched exchanges → AllByRecursion IsQuiet exchanges
+  all_quiet rules c before count watched [] told = tt
+  all_quiet rules c before count watched (exchange ∷ exchanges) told = (
+    no_news rules c before count (unwrap_or watched 0) watched (looks (is_some watched) exchange.0) exchange.1.seen exchange.1.news told.0.news,
+    all_quiet rules c before (count + given_at exchange) (watched_next watched exchange) exchanges told.1,
+  )
+
   pub nothing_lost : (rules : Parts → Rules) (c : Journaled) (before : List Entry) (exchanges others : List Exchange)
       → c.seats ≡ MAX_SEATS → Begins before c.journal → length c.journal ≤ MAX_ENTRIES
-      → HasCommands (nine greeting prompt) (came rules c before) (exchanges ++ others)
+      → HasExchanges Answers (nine greeting prompt) (came rules c before) (exchanges ++ others)
       → dialogue (nine greeting prompt) (came rules c before).replies exchanges
       ≡ table.dialogue Answers greeting prompt (table.begun rules c.setup before) exchanges
   nothing_lost rules c before exchanges others seats begins few has =
       ap (λ (replies : List ReplyView). dialogue (nine greeting prompt) replies exchanges)
-      (came_replies rules c before (exchanges ++ others) seats begins few has)
+      (came_replies rules c before (exchanges ++ others) seats begins few has.0)
       ∙ ap (λ text. (greeting ++ prompt) ++ text)
-      (same (table.begun rules c.setup before) exchanges others (omega (arith, few, ap length begins.1, length-append before begins.0)))
+      (quiet (along_of None (table.begun rules c.setup before) (exchanges ++ others)) exchanges
+      (all_quiet rules c before 0 None exchanges (told_first (IsDoneAfter Answers (came rules c before)) 0 None exchanges others has.1))
+      ∙ same None (table.begun rules c.setup before) exchanges others (omega (arith, few, ap length begins.1, length-append before begins.0)))
 
   -- ---- what the run was asked
-
-  -- the first of the lines
-  told_first : (Told : ℕ → Exchange → Type 0) (count : ℕ) (exchanges others : List Exchange)
-      → AreTold Told count (exchanges ++ others) → AreTold Told count exchanges
-  told_first Told count [] others told = tt
-  told_first Told count (exchange ∷ exchanges) others told = (told.0, told_first Told (count + given_at exchange) exchanges others told.1)
 
   -- a journal that has as many as it can of what was asked for so far, and of more
   first_entries : (asked rest journal : List Entry) → journal ≡ take MAX_ENTRIES (asked ++ rest) → take (length asked) journal ≡ take MAX_ENTRIES asked
@@ -246,14 +290,15 @@ module _ (Answers : RunView → Inquiry → List ℕ → Type 0) (greeting promp
       all : c.journal ≡ take MAX_ENTRIES (asked ++ all_asked true s.seat exchanges)
       left : drop count (came rules c before).replies ≡ replies_at s.rules s.control (all_asked true s.seat exchanges)
 
-    abbrev AreToldOf : ℕ → List Exchange → Type 0
-    AreToldOf count exchanges = AreTold (IsDoneAfter Answers (came rules c before)) count exchanges
+    abbrev AreToldOf : ℕ → Option ℕ → List Exchange → Type 0
+    AreToldOf count watched exchanges = AreTold (IsDoneAfter Answers (came rules c before)) count watched exchanges
 
     answered_there : (s : table.Session) (asked : List Entry) (exchanges : List Exchange) (count : ℕ) (inquiry : Inquiry) (text : List ℕ)
         → IsThere s asked exchanges count
         → IsTold Answers (came rules c before) count inquiry text → Answers (table.run_in s) inquiry text
-    answered_there s asked exchanges count inquiry text at (first, low, few, is, answers) =
-        let whole : first ≡ min (length before + count) (length c.journal) = omega (arith, low, few, is, longer, length-drop (length before) c.journal) in
+    answered_there s asked exchanges count inquiry text at (first, just, answers) =
+        let whole : first ≡ min (length before + count) (length c.journal) =
+        omega (arith, just.since, just.within, just.commands, longer, length-drop (length before) c.journal) in
         let same : take first c.journal ≡ s.control.journal =
         ap (λ n. take n c.journal) whole ∙ take_min (length before + count) c.journal ∙ ap (λ n. take n c.journal) (sym at.counted)
         ∙ first_entries asked (all_asked true s.seat exchanges) c.journal at.all ∙ sym at.come_to in
@@ -277,14 +322,14 @@ module _ (Answers : RunView → Inquiry → List ℕ → Type 0) (greeting promp
         let others = same_setup_all its seat command (table.control_behind its seat command control) count in
         (others.0 ∙ first.0, others.1 ∙ first.1)
 
-    then_there : (s : table.Session) (asked : List Entry) (command : Command) (times : ℕ) (outcome : Outcome) (exchanges : List Exchange) (count : ℕ)
-        → IsThere s asked ((Call command times, outcome) ∷ exchanges) count
-        → IsThere (table.after_line s (Call command times, outcome)) (asked ++ replicate outcome.given (entry s.seat command)) exchanges (count + outcome.given)
-    then_there s asked command times outcome exchanges count at =
-        let made : List Entry = replicate outcome.given (entry s.seat command) in
-        let kept = same_setup_all s.rules s.seat command s.control outcome.given in
-        let more = grown_all s.rules s.seat command s.control outcome.given [] at.few in
-        let now = table.control_behind_all s.rules s.seat command s.control outcome.given in
+    then_there : (s : table.Session) (asked : List Entry) (command : Command) (times : ℕ) (effect : Effect) (exchanges : List Exchange) (count : ℕ)
+        → IsThere s asked ((Call command times, effect) ∷ exchanges) count
+        → IsThere (table.after_line s (Call command times, effect)) (asked ++ replicate effect.given (entry s.seat command)) exchanges (count + effect.given)
+    then_there s asked command times effect exchanges count at =
+        let made : List Entry = replicate effect.given (entry s.seat command) in
+        let kept = same_setup_all s.rules s.seat command s.control effect.given in
+        let more = grown_all s.rules s.seat command s.control effect.given [] at.few in
+        let now = table.control_behind_all s.rules s.seat command s.control effect.given in
         let come : now.journal ≡ take MAX_ENTRIES (asked ++ made) =
         sym (take_all MAX_ENTRIES now.journal more.1) ∙ ap (take MAX_ENTRIES) (sym (append-nil now.journal))
         ∙ more.0 ∙ ap (λ (its : List Entry). take MAX_ENTRIES (s.control.journal ++ its)) (append-nil made)
@@ -295,19 +340,19 @@ module _ (Answers : RunView → Inquiry → List ℕ → Type 0) (greeting promp
           seats_are = kept.1 ∙ at.seats_are;
           few = more.1;
           come_to = come;
-          counted = omega (arith, length-append asked made, length-replicate outcome.given (entry s.seat command), at.counted);
+          counted = omega (arith, length-append asked made, length-replicate effect.given (entry s.seat command), at.counted);
           all = at.all ∙ ap (take MAX_ENTRIES) (sym (append_assoc asked made (all_asked true s.seat exchanges)));
           left =
-              sym (drop-drop outcome.given count (came rules c before).replies) ∙ ap (drop outcome.given) at.left
-              ∙ (steps s.rules s.seat command outcome.given s.control (all_asked true s.seat exchanges) at.few).1;
+              sym (drop-drop effect.given count (came rules c before).replies) ∙ ap (drop effect.given) at.left
+              ∙ (steps s.rules s.seat command effect.given s.control (all_asked true s.seat exchanges) at.few).1;
         }
 
     -- after a line that asks for no command
-    unmoved : (s : table.Session) (asked : List Entry) (request : Request) (outcome : Outcome) (exchanges : List Exchange) (count : ℕ)
-        → IsThere s asked ((request, outcome) ∷ exchanges) count
-        → table.control_after s (request, outcome) ≡ s.control → asked_of s.seat (request, outcome) ≡ []
-        → IsThere (table.after_line s (request, outcome)) asked exchanges (count + 0)
-    unmoved s asked request outcome exchanges count at same none =
+    unmoved : (s : table.Session) (asked : List Entry) (request : Request) (effect : Effect) (exchanges : List Exchange) (count : ℕ)
+        → IsThere s asked ((request, effect) ∷ exchanges) count
+        → table.control_after s (request, effect) ≡ s.control → asked_of s.seat (request, effect) ≡ []
+        → IsThere (table.after_line s (request, effect)) asked exchanges (count + 0)
+    unmoved s asked request effect exchanges count at same none =
         let others = all_asked true (seat_next true s.seat request) exchanges in
         record {
           rules_are = at.rules_are;
@@ -322,44 +367,50 @@ module _ (Answers : RunView → Inquiry → List ℕ → Type 0) (greeting promp
               ∙ (λ i. replies_at s.rules (sym same i) (none i ++ others));
         }
 
-    answered_from : (s : table.Session) (asked : List Entry) (exchanges others : List Exchange) (count : ℕ)
-        → IsThere s asked (exchanges ++ others) count → AreToldOf count exchanges → table.AreAnswered Answers s exchanges
-    answered_from s asked [] others count at told = tt
-    answered_from s asked ((Call command times, outcome) ∷ exchanges) others count at told = (
-      given_there s.rules s.seat command times outcome.given s.control
-          (all_asked true s.seat (exchanges ++ others)) at.few (told.0.1 ∙ ap (times_given times) at.left),
-      answered_from (table.after_line s (Call command times, outcome)) (asked ++ replicate outcome.given (entry s.seat command))
-          exchanges others (count + outcome.given) (then_there s asked command times outcome (exchanges ++ others) count at) told.1,
+    answered_from : (s : table.Session) (asked : List Entry) (exchanges others : List Exchange) (count : ℕ) (watched : Option ℕ)
+        → IsThere s asked (exchanges ++ others) count → AreToldOf count watched exchanges → table.AreAnswered Answers s exchanges
+    answered_from s asked [] others count watched at told = tt
+    answered_from s asked ((Call command times, effect) ∷ exchanges) others count watched at told = (
+      given_there s.rules s.seat command times effect.given s.control
+          (all_asked true s.seat (exchanges ++ others)) at.few (told.0.given ∙ ap (times_given times) at.left),
+      answered_from (table.after_line s (Call command times, effect)) (asked ++ replicate effect.given (entry s.seat command))
+          exchanges others (count + effect.given) (watched_next watched (Call command times, effect))
+          (then_there s asked command times effect (exchanges ++ others) count at) told.1,
     )
-    answered_from s asked ((Ask inquiry, outcome) ∷ exchanges) others count at told = (
-      answered_there s asked ((Ask inquiry, outcome) ∷ (exchanges ++ others)) count inquiry outcome.answer at told.0.0,
-      answered_from (table.after_line s (Ask inquiry, outcome)) asked exchanges others (count + 0)
-          (unmoved s asked (Ask inquiry) outcome (exchanges ++ others) count at refl refl) told.1,
+    answered_from s asked ((Ask inquiry, effect) ∷ exchanges) others count watched at told = (
+      answered_there s asked ((Ask inquiry, effect) ∷ (exchanges ++ others)) count inquiry effect.answer at told.0.answered,
+      answered_from (table.after_line s (Ask inquiry, effect)) asked exchanges others (count + 0) (watched_next watched (Ask inquiry, effect))
+          (unmoved s asked (Ask inquiry) effect (exchanges ++ others) count at refl refl) told.1,
     )
-    answered_from s asked ((Seat chosen, outcome) ∷ exchanges) others count at told = (
+    answered_from s asked ((Watch begins, effect) ∷ exchanges) others count watched at told = (
       tt,
-      answered_from (table.after_line s (Seat chosen, outcome)) asked exchanges others (count + 0)
-          (unmoved s asked (Seat chosen) outcome (exchanges ++ others) count at refl refl) told.1,
+      answered_from (table.after_line s (Watch begins, effect)) asked exchanges others (count + 0) (watched_next watched (Watch begins, effect))
+          (unmoved s asked (Watch begins) effect (exchanges ++ others) count at refl refl) told.1,
     )
-    answered_from s asked ((Help about, outcome) ∷ exchanges) others count at told = (
+    answered_from s asked ((Seat chosen, effect) ∷ exchanges) others count watched at told = (
       tt,
-      answered_from (table.after_line s (Help about, outcome)) asked exchanges others (count + 0)
-          (unmoved s asked (Help about) outcome (exchanges ++ others) count at refl refl) told.1,
+      answered_from (table.after_line s (Seat chosen, effect)) asked exchanges others (count + 0) (watched_next watched (Seat chosen, effect))
+          (unmoved s asked (Seat chosen) effect (exchanges ++ others) count at refl refl) told.1,
     )
-    answered_from s asked ((Quit, outcome) ∷ exchanges) others count at told = (
+    answered_from s asked ((Help about, effect) ∷ exchanges) others count watched at told = (
       tt,
-      answered_from (table.after_line s (Quit, outcome)) asked exchanges others (count + 0)
-          (unmoved s asked Quit outcome (exchanges ++ others) count at refl refl) told.1,
+      answered_from (table.after_line s (Help about, effect)) asked exchanges others (count + 0) (watched_next watched (Help about, effect))
+          (unmoved s asked (Help about) effect (exchanges ++ others) count at refl refl) told.1,
     )
-    answered_from s asked ((Fault fault, outcome) ∷ exchanges) others count at told = (
+    answered_from s asked ((Quit, effect) ∷ exchanges) others count watched at told = (
       tt,
-      answered_from (table.after_line s (Fault fault, outcome)) asked exchanges others (count + 0)
-          (unmoved s asked (Fault fault) outcome (exchanges ++ others) count at refl refl) told.1,
+      answered_from (table.after_line s (Quit, effect)) asked exchanges others (count + 0) (watched_next watched (Quit, effect))
+          (unmoved s asked Quit effect (exchanges ++ others) count at refl refl) told.1,
     )
-    answered_from s asked ((TooLong, outcome) ∷ exchanges) others count at told = (
+    answered_from s asked ((Fault fault, effect) ∷ exchanges) others count watched at told = (
       tt,
-      answered_from (table.after_line s (TooLong, outcome)) asked exchanges others (count + 0)
-          (unmoved s asked TooLong outcome (exchanges ++ others) count at refl refl) told.1,
+      answered_from (table.after_line s (Fault fault, effect)) asked exchanges others (count + 0) (watched_next watched (Fault fault, effect))
+          (unmoved s asked (Fault fault) effect (exchanges ++ others) count at refl refl) told.1,
+    )
+    answered_from s asked ((TooLong, effect) ∷ exchanges) others count watched at told = (
+      tt,
+      answered_from (table.after_line s (TooLong, effect)) asked exchanges others (count + 0) (watched_next watched (TooLong, effect))
+          (unmoved s asked TooLong effect (exchanges ++ others) count at refl refl) told.1,
     )
 
   pub all_answered : (rules : Parts → Rules) (c : Journaled) (before : List Entry) (exchanges others : List Exchange)
@@ -376,7 +427,7 @@ module _ (Answers : RunView → Inquiry → List ℕ → Type 0) (greeting promp
       is ∙ ap (λ (more : List Entry). before ++ more) many_are ∙ sym (ap (λ m. take m (before ++ all_of (nine greeting prompt) (exchanges ++ others))) room
       ∙ take-append-add before (all_of (nine greeting prompt) (exchanges ++ others)) n) in
       let fits_before : length before ≤ MAX_ENTRIES = omega (arith, few, many) in
-      answered_from rules c before seats (omega (arith, many)) (table.begun rules c.setup before) before exchanges others 0
+      answered_from rules c before seats (omega (arith, many)) (table.begun rules c.setup before) before exchanges others 0 None
       (record {
         rules_are = refl;
         setup_is = refl;
@@ -387,4 +438,4 @@ module _ (Answers : RunView → Inquiry → List ℕ → Type 0) (greeting promp
         all = all;
         left = came_replies rules c before (exchanges ++ others) seats (its, is) few has.0;
       })
-      (told_first (IsDoneAfter Answers (came rules c before)) 0 exchanges others has.1)
+      (told_first (IsDoneAfter Answers (came rules c before)) 0 None exchanges others has.1)

@@ -1,7 +1,7 @@
 -- The lines that choose a seat.
 use Rattle.std.proofs.Common.{◌≡◌, ◌≢◌, inl, inr, ℕ, ◌+◌, ◌-◌, ◌<◌, ◌≤◌, List, [], ◌∷◌, ◌++◌, length}
 use Rattle.std.proofs.Common.{take, drop, get_or, sym, ap, ◌∙◌, arith, drop-cons, take-append-drop}
-use Rattle.std.specs.Prelude.{codes, Option}
+use Rattle.std.specs.Prelude.{codes, Bool, Option}
 use Rattle.std.proofs.lemmas.Fmt.{decimal_digit}
 use Rattle.std.proofs.lemmas.List.{length-drop, nil_from_length}
 use Rattle.cdb_setup.specs.Parts.{IsWithin}
@@ -9,7 +9,7 @@ use Rattle.cdb_session.specs.declared.topic.Topic.{Topic}
 use Rattle.cdb_session.specs.Inquiries.{IsInquiryLine}
 use Rattle.cdb_session.specs.declared.inquiry.Inquiry.{Inquiry}
 use Rattle.cdb_session.specs.Repeats.{IsRepeatLine}
-use Rattle.cdb_session.specs.Requests.{IsOwn, help_line, quit_line, seat_line, most_seats}
+use Rattle.cdb_session.specs.Requests.{IsOwn, help_line, quit_line, seat_line, watch_line, most_seats}
 
 -- such a line has one digit
 pub one_digit : (seat : ℕ) → IsWithin 1 most_seats seat → seat_line seat ≡ codes "seat " ++ (48 + seat) ∷ []
@@ -47,9 +47,10 @@ module _ (line : List ℕ) (seat : ℕ) (within : IsWithin 1 most_seats seat) (i
 -- a line that is none of these is not one of the session's own
 pub not_own : (line : List ℕ) → ((about : Option Topic) → ¬ (line ≡ help_line about)) → line ≢ quit_line
     → ((seat : ℕ) → IsWithin 1 most_seats seat → ¬ (line ≡ seat_line seat)) → ((inquiry : Inquiry) → ¬ IsInquiryLine inquiry line)
-    → ((p times : ℕ) → ¬ IsRepeatLine p times line) → ¬ IsOwn line
-not_own line help quit seat inquiry repeat (inl is) = help is.0 is.1
-not_own line help quit seat inquiry repeat (inr (inl is)) = quit is
-not_own line help quit seat inquiry repeat (inr (inr (inl is))) = seat is.0 is.1 is.2
-not_own line help quit seat inquiry repeat (inr (inr (inr (inl is)))) = inquiry is.0 is.1
-not_own line help quit seat inquiry repeat (inr (inr (inr (inr is)))) = repeat is.0 is.1 is.2
+    → ((p times : ℕ) → ¬ IsRepeatLine p times line) → ((begins : Bool) → ¬ (line ≡ watch_line begins)) → ¬ IsOwn line
+not_own line help quit seat inquiry repeat watch (inl is) = help is.0 is.1
+not_own line help quit seat inquiry repeat watch (inr (inl is)) = quit is
+not_own line help quit seat inquiry repeat watch (inr (inr (inl is))) = seat is.0 is.1 is.2
+not_own line help quit seat inquiry repeat watch (inr (inr (inr (inl is)))) = inquiry is.0 is.1
+not_own line help quit seat inquiry repeat watch (inr (inr (inr (inr (inl is))))) = repeat is.0 is.1 is.2
+not_own line help quit seat inquiry repeat watch (inr (inr (inr (inr (inr is))))) = watch is.0 is.1

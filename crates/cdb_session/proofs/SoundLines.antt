@@ -410,6 +410,8 @@ by_topic topic.Show words is = show_taken words is
 by_topic topic.Decisions words is = none_taken (codes "decisions" ∷ []) words (inr (command.Decisions, (refl, (tt, tt)))) is
 by_topic topic.Explain words is = asked_taken (codes "explain") Explain (λ s. refl) (λ s. refl) words is
 by_topic topic.Trail words is = asked_taken (codes "trail") Trail (λ s. refl) (λ s. refl) words is
+by_topic topic.Watch words is = none_taken (codes "watch" ∷ []) words (inl (inl (inr (inr (inr (inr (inr (true, refl)))))))) is
+by_topic topic.Unwatch words is = none_taken (codes "unwatch" ∷ []) words (inl (inl (inr (inr (inr (inr (inr (false, refl)))))))) is
 by_topic topic.Help words is = help_taken words is
 by_topic topic.Quit words is = none_taken (codes "quit" ∷ []) words (inl (inl (inr (inl refl)))) is
 by_topic topic.Seat words is = seat_taken words is
@@ -435,6 +437,6 @@ sound_lines_are_taken line is =
     elim (all_taken (words_of line) is) [
       | inl (inl own) ↦ inl (subst IsOwn (join_with_byte-slice_split 32 line) own)
       | inl (inr (inl (inquiry, others, are, its))) ↦ inl (inr (inr (inr (inl (inquiry, (others, are, its))))))
-      | inl (inr (inr (p, times, are, range))) ↦ inl (inr (inr (inr (inr (p, times, (are, range))))))
+      | inl (inr (inr (p, times, are, range))) ↦ inl (inr (inr (inr (inr (inl (p, times, (are, range)))))))
       | inr command ↦ inr command
     ]

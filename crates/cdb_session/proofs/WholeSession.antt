@@ -1,7 +1,7 @@
 -- A session from its first line to its last.
 use Rattle.std.proofs.Common.{◌≡◌, ◌≢◌, inl, inr, ℕ, ◌+◌, ◌<◌, ◌≤◌, Bool, true, false, List, [], ◌∷◌, ◌++◌}
 use Rattle.std.proofs.Common.{length, refl, sym, ap, subst, ◌∙◌, append-nil, arith, length-append}
-use Rattle.std.specs.Prelude.{Result, Ok, Err}
+use Rattle.std.specs.Prelude.{Result, Ok, Err, None}
 use Rattle.cdb_base.specs.Memory.{no_memory}
 use Rattle.cdb_streams.specs.declared.buffer.OutputFault.{OutputFault}
 use Rattle.cdb_streams.specs.declared.buffer.OutputFault.TheVariants as output
@@ -54,7 +54,8 @@ module _ (Answers : RunView → Inquiry → List ℕ → Type 0) (style : StyleV
 
   -- ---- the first
 
-  module _ (before now : Known) (session : SessionView) (fresh : (session.part.calls ≡ []) × (session.part.replies ≡ [])) where
+  module _ (before now : Known) (session : SessionView) (fresh : (session.part.calls ≡ []) × (session.part.replies ≡ []))
+      (unwatched : session.watched ≡ None) where
     pub started : (A E : Type 0) (a : A) → session.lines ≡ 0 → session.seat ≡ style.first
         → WritesAll {E = E} (Ok a) before now (style.greeting ++ style.prompt) → Arrives before now session [] 0
     started A E a none is_first says = (
@@ -62,7 +63,7 @@ module _ (Answers : RunView → Inquiry → List ℕ → Type 0) (style : StyleV
       says.1,
       λ more may.
           let first : begun_along style (session.part.replies ++ more) ≡ at_line session more =
-          λ i. record { seat = sym is_first i; replies = fresh.1 i ++ more; lines = sym none i } in
+          λ i. record { seat = sym is_first i; replies = fresh.1 i ++ more; lines = sym none i; watched = sym unwatched i } in
           subst (λ (s : Along). IsAt Answers style (session.part.replies ++ more) says.0 session.part s [] [])
           first (prompted Answers style (session.part.replies ++ more) session.part fresh.0 says.0 says.2 says.3),
       ap length (nothing_read says.0 says.2),

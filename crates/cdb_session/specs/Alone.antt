@@ -17,7 +17,7 @@ all_replies_from rules t [] = []
 all_replies_from rules t (e ∷ es) =
     reply_of rules t e.seat e.command ∷ all_replies_from rules (obey rules t e.seat e.command) es
 
--- all of the journal of a control
+-- all of the journal of a control, which nobody else has entries in
 abbrev pub whole_part : (Parts → Rules) → Journaled → Part
 whole_part rules c =
     record {
@@ -27,6 +27,7 @@ whole_part rules c =
       entries = length c.journal;
       calls_in = λ first. first;
       left_by = λ first. run_left rules c.setup c.seats (take first c.journal);
+      news = λ from to. [];
     }
 
 abbrev pub all_seats : Journaled → Seats

@@ -1,12 +1,13 @@
--- Of which run a question is answered.
-use Rattle.std.specs.Prelude.{◌≡◌, ℕ, ◌+◌, ◌≤◌, min, List, [], ◌∷◌, drop, length}
+-- Of which run a question is answered, and what was done of all lines.
+use Rattle.std.specs.Prelude.{ℕ, ◌+◌, List, [], ◌∷◌, drop, length, Option, None}
 use Rattle.cdb_control.specs.Journal.{replay}
 use Rattle.cdb_control.specs.declared.control.Entry.{Entry}
 use Rattle.cdb_rules.specs.RunView.{RunView}
 use Rattle.cdb_rules.specs.Rules.{Rules}
 use Rattle.cdb_setup.specs.Parts.{Parts}
 use Rattle.cdb_session.specs.Exchanges.{Exchange, given_at}
-use Rattle.cdb_session.specs.Parts.{HasCommands, IsGiven}
+use Rattle.cdb_session.specs.News.{HasNewsAfter, watched_next}
+use Rattle.cdb_session.specs.Parts.{HasCommands, HaveJust, IsGiven}
 use Rattle.cdb_session.specs.Styles.{StyleView, Part}
 use Rattle.cdb_session.specs.declared.inquiry.Inquiry.{Inquiry}
 use Rattle.cdb_session.specs.declared.request.Request.TheVariants.{Ask}
@@ -16,35 +17,36 @@ abbrev pub run_left : (Parts → Rules) → Parts → ℕ → List Entry → Run
 run_left rules setup seats journal =
     record { setup = setup; history = (replay (rules setup) setup seats journal).history }
 
--- of each of these lines, before which so many commands were given, this holds
-abbrev pub AreTold : (ℕ → Exchange → Type 0) → ℕ → List Exchange → Type 0
-AreTold Told count [] = Unit {0}
-AreTold Told count (exchange ∷ exchanges) = Told count exchange × AreTold Told (count + given_at exchange) exchanges
+-- of each of these lines, before which so many commands were given and somebody watched from there on, this holds
+abbrev pub AreTold : (ℕ → Option ℕ → Exchange → Type 0) → ℕ → Option ℕ → List Exchange → Type 0
+AreTold Told count watched [] = Unit {0}
+AreTold Told count watched (exchange ∷ exchanges) =
+    Told count watched exchange × AreTold Told (count + given_at exchange) (watched_next watched exchange) exchanges
 
 -- of a run, what is asked of it and a text, whether the text is the answer
 module _ (Answers : RunView → Inquiry → List ℕ → Type 0) where
-  -- The text answers what is asked of the run that some first entries of the journal leave: those before the session,
-  -- and among the others just the first count of its commands; all of them, where the journal had no room for so many.
+  -- the text answers what is asked of the run that the first entries leave, with just these commands
   abbrev pub IsTold : Part → ℕ → Inquiry → List ℕ → Type 0
   IsTold part count inquiry text =
-      (first : ℕ) × (part.before ≤ first) × (first ≤ part.entries)
-      × (part.calls_in first ≡ min count (length part.calls)) × Answers (part.left_by first) inquiry text
+      (first : ℕ) × HaveJust part count first × Answers (part.left_by first) inquiry text
 
   -- what a line asks of the run is answered so
   abbrev pub IsAnsweredAfter : Part → ℕ → Exchange → Type 0
-  IsAnsweredAfter part count (Ask inquiry, outcome) = IsTold part count inquiry outcome.answer
+  IsAnsweredAfter part count (Ask inquiry, effect) = IsTold part count inquiry effect.answer
   IsAnsweredAfter part count other = Unit {0}
 
   -- and its command was given as often as it is by the replies behind those to the commands before it
-  abbrev pub IsDoneAfter : Part → ℕ → Exchange → Type 0
-  IsDoneAfter part count exchange = IsAnsweredAfter part count exchange × IsGiven exchange (drop count part.replies)
+  pub record IsDoneAfter (part : Part) (count : ℕ) (watched : Option ℕ) (exchange : Exchange) : Type 0 where
+    pub answered : IsAnsweredAfter part count exchange
+    pub given : IsGiven exchange (drop count part.replies)
+    pub news : HasNewsAfter part count watched exchange
 
-  -- the journal has the commands of these lines, each as often as it is to be given, and the questions are answered so
+  -- the journal has the commands of these lines, each as often as it is to be given, the questions are answered so, and
+  -- whoever watches is shown the news
   abbrev pub HasExchanges : StyleView → Part → List Exchange → Type 0
-  HasExchanges style part exchanges = HasCommands style part exchanges × AreTold (IsDoneAfter part) 0 exchanges
+  HasExchanges style part exchanges = HasCommands style part exchanges × AreTold (IsDoneAfter part) 0 None exchanges
 
   -- the text answers what is asked of the run that the journal leaves as it stands
-  pub record AnswersNow (part : Part) (inquiry : Inquiry) (text : List ℕ) : Type 0 where
-    pub since : part.before ≤ part.entries
-    pub all : part.calls_in part.entries ≡ length part.calls
-    pub answers : Answers (part.left_by part.entries) inquiry text
+  abbrev pub AnswersNow : Part → Inquiry → List ℕ → Type 0
+  AnswersNow part inquiry text =
+      HaveJust part (length part.calls) part.entries × Answers (part.left_by part.entries) inquiry text

@@ -47,6 +47,11 @@ fault_response line chooses faulty =
 abbrev pub long_line_text : ℕ → List ℕ
 long_line_text line = as_line (codes "line " ++ decimal line ++ codes " too long")
 
+-- whoever watches is told so, and who watches no longer
+abbrev pub watch_text : Bool → List ℕ
+watch_text true = as_line (codes "watching")
+watch_text false = as_line (codes "not watching")
+
 -- what `help` lists, with the line that chooses a seat or without it
 abbrev pub seats_help : Bool → List ℕ
 seats_help true = SEATS.now

@@ -12,6 +12,7 @@ pub mod Styles
 pub mod Dialogues
 pub mod Greetings
 pub mod Parts
+pub mod News
 pub mod Answers
 pub mod Replies
 pub mod Table

@@ -1,39 +1,49 @@
 -- What one line does.
 use Rattle.std.specs.Prelude.{◌≡◌, ◌⊎◌, ℕ, ◌<◌, ◌≤◌, Bool, true, List, [], ◌++◌, length, Result, Ok, Err, Vec}
+use Rattle.std.specs.Prelude.{Option}
 use Rattle.std.specs.Global.{Global}
 use Rattle.cdb_commands.specs.ReplyView.{ReplyView, is_refused}
 use Rattle.cdb_control.specs.declared.control.Entry.{Entry}
 use Rattle.cdb_rules.specs.RunView.{RunView}
 use Rattle.cdb_session.specs.Answers.{AnswersNow}
-use Rattle.cdb_session.specs.Exchanges.{Exchange, Outcome, given_at}
+use Rattle.cdb_session.specs.Exchanges.{Effect, Exchange, given_at}
 use Rattle.cdb_session.specs.declared.inquiry.Inquiry.{Inquiry}
 use Rattle.cdb_session.specs.declared.request.Request.{Request}
 use Rattle.cdb_session.specs.declared.request.Request.TheVariants.{Call, Ask}
 use Rattle.cdb_session.specs.Styles.{StyleView, Part, IsFull, IsCalled, AreCalled, MakesNone}
 use Rattle.cdb_session.specs.Dialogues.{full_text}
+use Rattle.cdb_session.specs.News.{HasNews, watched_next}
 use Rattle.cdb_session.specs.Parts.{IsGiven, entries_of}
 use Rattle.cdb_session.specs.Repeats.{times_given}
 use Rattle.cdb_text.specs.Texts.{text_of}
 use Rattle.cdb_session.specs.Replies.{Along, response, shown}
 use Rattle.cdb_session.specs.declared.session.Session.{Session}
 
--- A session between two lines: what the journal has of it, its seat, and how many lines there were.
+-- A session between two lines: what the journal has of it, its seat, how many lines there were, and from which entry on
+-- those of others are still to be shown, if somebody watches.
 pub record SessionView : Type 0 where
   pub part : Part
   pub seat : ℕ
   pub lines : ℕ
+  pub watched : Option ℕ
 
 -- what is seen of a session, by what is seen of its caller
 abbrev pub seen_by : {C : Type 0} → (C → Part) → Session C → SessionView
-seen_by part s = record { part = part s.caller; seat = s.seat; lines = s.lines }
+seen_by part s = record { part = part s.caller; seat = s.seat; lines = s.lines; watched = s.watched }
 
 -- a session that got these replies at its next line
 abbrev pub at_line : SessionView → List ReplyView → Along
-at_line session got = record { seat = session.seat; replies = got; lines = session.lines }
+at_line session got =
+    record { seat = session.seat; replies = got; lines = session.lines; watched = session.watched }
 
 -- the session has given the command that the line asks for, if it asks for one, and got each time one of these replies
 abbrev pub HasGot : ℕ → Part → Request → List ReplyView → Part → Type 0
 HasGot seat old request got new = AreCalled old (entries_of seat request (length got)) got new
+
+-- the news were looked at before all else, and after all commands so far
+abbrev pub HasLooked : SessionView → Exchange → SessionView → Type 0
+HasLooked old exchange new =
+    HasNews new.part (length old.part.calls) old.part.entries old.watched exchange.0 exchange.1.seen exchange.1.news
 
 -- what was given of it was to be given
 abbrev pub IsToBeGiven : Request → List ReplyView → Type 0
@@ -70,16 +80,22 @@ module _ (Answers : RunView → Inquiry → List ℕ → Type 0) where
     pub answer : IsAnsweredAt exchange new
 
   module _ (style : StyleView) where
-    -- The response to a line that asks for this. Out of memory it may have been begun.
-    abbrev pub Responds : {E : Type 0} → Result (Vec ℕ Global) E → SessionView → Request → SessionView → Type 0
-    Responds (Ok text) old request new =
-        (outcome : Outcome) × (got : List ReplyView) × HasDone old.seat old.part (request, outcome) got new.part
-        × (text.items ≡ response style (at_line old got) (request, outcome))
-    Responds (Err fault) old request new = HasBegun old.seat old.part request new.part
+    -- The response to a line that asks for this, at which this much was seen and this text was the news. Out of memory
+    -- it may have been begun.
+    abbrev pub Responds : {E : Type 0} → ℕ → List ℕ → Result (Vec ℕ Global) E → SessionView → Request → SessionView
+        → Type 0
+    Responds seen news (Ok text) old request new =
+        (given : ℕ) × (answer : List ℕ) × (got : List ReplyView)
+        × (let exchange : Exchange = (request, record { seen = seen; news = news; given = given; answer = answer }) in
+        HasDone old.seat old.part exchange got new.part × (text.items ≡ response style (at_line old got) exchange))
+    Responds seen news (Err fault) old request new = HasBegun old.seat old.part request new.part
 
     -- what is shown then
     abbrev pub Shows : {E : Type 0} → Result (Vec ℕ Global) E → SessionView → Request → SessionView → Type 0
     Shows (Ok text) old request new =
-        (outcome : Outcome) × (got : List ReplyView) × HasDone old.seat old.part (request, outcome) got new.part
-        × (text.items ≡ shown style (at_line old got) (request, outcome))
-    Shows (Err fault) old request new = HasBegun old.seat old.part request new.part
+        (effect : Effect) × (got : List ReplyView) × HasDone old.seat old.part (request, effect) got new.part
+        × HasLooked old (request, effect) new × (text.items ≡ shown style (at_line old got) (request, effect))
+        × (new.watched ≡ watched_next old.watched (request, effect))
+    Shows (Err fault) old request new =
+        MakesNone old.part new.part
+        ⊎ (HasBegun old.seat old.part request new.part × (effect : Effect) × HasLooked old (request, effect) new)

@@ -1,23 +1,31 @@
 -- The entries that the lines of a session ask for.
-use Rattle.std.specs.Prelude.{◌≡◌, ◌⊎◌, ℕ, Bool, List, [], ◌∷◌, ◌++◌, fold, replicate, if◌then◌else◌}
+use Rattle.std.specs.Prelude.{◌≡◌, ◌⊎◌, ℕ, ◌≤◌, min, Bool, List, [], ◌∷◌, ◌++◌, fold, length, replicate, if◌then◌else◌}
 use Rattle.cdb_commands.specs.ReplyView.{ReplyView}
 use Rattle.cdb_control.specs.Journal.{entry}
 use Rattle.cdb_control.specs.declared.control.Entry.{Entry}
 use Rattle.cdb_session.specs.Exchanges.{Exchange}
 use Rattle.cdb_session.specs.Repeats.{times_given}
 use Rattle.cdb_session.specs.declared.request.Request.{Request}
-use Rattle.cdb_session.specs.declared.request.Request.TheVariants.{Call, Ask, Seat, Help, Quit, Fault, TooLong}
+use Rattle.cdb_session.specs.declared.request.Request.TheVariants.{Call, Ask, Watch, Seat, Help, Quit, Fault, TooLong}
 use Rattle.cdb_session.specs.Styles.{StyleView, Part, IsFull}
+
+-- These first entries of the journal are those before the session, and among the others just the first count of its
+-- commands; all of them, where the journal had no room for so many.
+pub record HaveJust (part : Part) (count first : ℕ) : Type 0 where
+  pub since : part.before ≤ first
+  pub within : first ≤ part.entries
+  pub commands : part.calls_in first ≡ min count (length part.calls)
 
 -- a command was given as often as it is by the replies that follow
 abbrev pub IsGiven : Exchange → List ReplyView → Type 0
-IsGiven (Call command times, outcome) replies = outcome.given ≡ times_given times replies
+IsGiven (Call command times, effect) replies = effect.given ≡ times_given times replies
 IsGiven other replies = Unit {0}
 
 -- the entries of a line of this seat whose command was given so often
 abbrev pub entries_of : ℕ → Request → ℕ → List Entry
 entries_of seat (Call command times) count = replicate count (entry seat command)
 entries_of seat (Ask inquiry) count = []
+entries_of seat (Watch begins) count = []
 entries_of seat (Seat chosen) count = []
 entries_of seat (Help about) count = []
 entries_of seat Quit count = []
@@ -31,6 +39,7 @@ asked_of seat exchange = entries_of seat exchange.0 exchange.1.given
 abbrev pub seat_next : Bool → ℕ → Request → ℕ
 seat_next chooses seat (Call command times) = seat
 seat_next chooses seat (Ask inquiry) = seat
+seat_next chooses seat (Watch begins) = seat
 seat_next chooses seat (Seat chosen) = if chooses then chosen else seat
 seat_next chooses seat (Help about) = seat
 seat_next chooses seat Quit = seat

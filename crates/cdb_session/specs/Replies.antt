@@ -1,27 +1,30 @@
 -- The responses of a session by the replies to its commands, whatever else its journal has.
-use Rattle.std.specs.Prelude.{ℕ, zero, suc, ◌+◌, List, [], ◌∷◌, ◌++◌, codes, drop, fold, if◌then◌else◌}
+use Rattle.std.specs.Prelude.{ℕ, zero, suc, ◌+◌, List, [], ◌∷◌, ◌++◌, codes, drop, fold, if◌then◌else◌, Option, None}
 use Rattle.cdb_commands.specs.ReplyView.{ReplyView}
 use Rattle.cdb_text.specs.Texts.{text_of}
 use Rattle.cdb_text.specs.declared.fault.LineFault.TheVariants.{Word}
-use Rattle.cdb_session.specs.Dialogues.{full_text, faulty_line_text, fault_response, long_line_text}
+use Rattle.cdb_session.specs.Dialogues.{full_text, faulty_line_text, fault_response, long_line_text, watch_text}
 use Rattle.cdb_session.specs.Dialogues.{help_response, shown_by, shown_from_by}
 use Rattle.cdb_session.specs.Dialogues.{dialogue_by}
 use Rattle.cdb_session.specs.Due.{stands}
 use Rattle.cdb_session.specs.Exchanges.{Exchange, given_at}
+use Rattle.cdb_session.specs.News.{watched_next}
 use Rattle.cdb_session.specs.Parts.{seat_next}
 use Rattle.cdb_session.specs.Requests.{seat_line}
 use Rattle.cdb_session.specs.Styles.{StyleView}
 use Rattle.cdb_session.specs.Topics.{topic_word}
 use Rattle.cdb_session.specs.declared.due.Due.TheVariants.{Command}
 use Rattle.cdb_session.specs.declared.request.Request.{Request}
-use Rattle.cdb_session.specs.declared.request.Request.TheVariants.{Call, Ask, Seat, Help, Quit, Fault, TooLong}
+use Rattle.cdb_session.specs.declared.request.Request.TheVariants.{Call, Ask, Watch, Seat, Help, Quit, Fault, TooLong}
 use Rattle.cdb_session.specs.declared.topic.Topic.TheVariants as topic
 
--- A session between two lines: its seat, the replies to the commands that follow, and how many lines there were.
+-- A session between two lines: its seat, the replies to the commands that follow, how many lines there were, and from
+-- which entry on those of others are still to be shown, if somebody watches.
 pub record Along : Type 0 where
   pub seat : ℕ
   pub replies : List ReplyView
   pub lines : ℕ
+  pub watched : Option ℕ
 
 -- A command has the text of its reply. Where the replies have ended, the journal is full.
 abbrev pub reply_text : List ReplyView → List ℕ
@@ -41,12 +44,13 @@ replies_text (suc count) replies = reply_text replies ++ replies_text count (nex
 module _ (style : StyleView) where
   -- before the first line of a session whose commands get these replies
   abbrev pub begun_along : List ReplyView → Along
-  begun_along replies = record { seat = style.first; replies = replies; lines = 0 }
+  begun_along replies = record { seat = style.first; replies = replies; lines = 0; watched = None }
 
   -- the response to a line that asks for no command and nothing of the run, after this many lines
   abbrev pub own_response : ℕ → Request → List ℕ
   own_response lines (Call command times) = []
   own_response lines (Ask inquiry) = []
+  own_response lines (Watch begins) = watch_text begins
   own_response lines (Seat seat) =
       if style.chooses
       then (seat_line seat ++ codes "\n")
@@ -58,13 +62,18 @@ module _ (style : StyleView) where
 
   -- The response at a line. Where no line chooses a seat, one that does has a wrong word.
   abbrev pub response : Along → Exchange → List ℕ
-  response s (Call command times, outcome) = replies_text outcome.given s.replies
-  response s (Ask inquiry, outcome) = outcome.answer
-  response s (Seat seat, outcome) = own_response s.lines (Seat seat)
-  response s (Help about, outcome) = own_response s.lines (Help about)
-  response s (Quit, outcome) = []
-  response s (Fault fault, outcome) = own_response s.lines (Fault fault)
-  response s (TooLong, outcome) = own_response s.lines TooLong
+  response s (Call command times, effect) = replies_text effect.given s.replies
+  response s (Ask inquiry, effect) = effect.answer
+  response s (Watch begins, effect) = own_response s.lines (Watch begins)
+  response s (Seat seat, effect) = own_response s.lines (Seat seat)
+  response s (Help about, effect) = own_response s.lines (Help about)
+  response s (Quit, effect) = []
+  response s (Fault fault, effect) = own_response s.lines (Fault fault)
+  response s (TooLong, effect) = own_response s.lines TooLong
+
+  -- the news come before it
+  abbrev pub news_and_response : Along → Exchange → List ℕ
+  news_and_response s exchange = exchange.1.news ++ response s exchange
 
   -- the session after the line
   abbrev pub next_along : Along → Exchange → Along
@@ -73,20 +82,21 @@ module _ (style : StyleView) where
         seat = seat_next style.chooses s.seat exchange.0;
         replies = drop (given_at exchange) s.replies;
         lines = s.lines + 1;
+        watched = watched_next s.watched exchange;
       }
 
   -- ---- all lines
 
   abbrev pub shown : Along → Exchange → List ℕ
-  shown s exchange = shown_by response next_along style.prompt s exchange
+  shown s exchange = shown_by news_and_response next_along style.prompt s exchange
 
   abbrev pub shown_from : Along → List Exchange → List ℕ
-  shown_from s exchanges = shown_from_by response next_along style.prompt s exchanges
+  shown_from s exchanges = shown_from_by news_and_response next_along style.prompt s exchanges
 
   -- all that is shown in a session whose commands get these replies, at these lines
   abbrev pub dialogue : List ReplyView → List Exchange → List ℕ
   dialogue replies exchanges =
-      dialogue_by response next_along style.prompt style.greeting (begun_along replies) exchanges
+      dialogue_by news_and_response next_along style.prompt style.greeting (begun_along replies) exchanges
 
   -- the session after these lines
   abbrev pub along_after : Along → List Exchange → Along

@@ -1,6 +1,6 @@
 -- What the lines of a session ask for.
 use Rattle.std.specs.Prelude.{◌≡◌, ◌⊎◌, ℕ, ◌<◌, ◌≤◌, List, [], ◌∷◌, ◌++◌, length, codes}
-use Rattle.std.specs.Prelude.{decimal, Option, None, Some, if◌then◌else◌, false}
+use Rattle.std.specs.Prelude.{decimal, Option, None, Some, if◌then◌else◌, Bool, true, false}
 use Rattle.std.specs.List.{AllZip, slice_split, All}
 use Rattle.std.specs.Str.{bytes_eq}
 use Rattle.std.specs.Prelude.{nat_eq}
@@ -18,7 +18,7 @@ use Rattle.cdb_session.specs.Typed.{line_meant}
 use Rattle.cdb_session.specs.declared.inquiry.Inquiry.{Inquiry}
 use Rattle.cdb_session.specs.declared.topic.Topic.{Topic}
 use Rattle.cdb_session.specs.declared.request.Request.{Request}
-use Rattle.cdb_session.specs.declared.request.Request.TheVariants.{Call, Ask, Seat, Help, Quit, Fault, TooLong}
+use Rattle.cdb_session.specs.declared.request.Request.TheVariants.{Call, Ask, Watch, Seat, Help, Quit, Fault, TooLong}
 
 -- how many seats a session has, numbered from 1
 abbrev pub most_seats : ℕ
@@ -40,6 +40,11 @@ help_line (Some topic) = codes "help " ++ topic_word topic
 abbrev pub quit_line : List ℕ
 quit_line = codes "quit"
 
+-- `watch`, or `unwatch`
+abbrev pub watch_line : Bool → List ℕ
+watch_line true = codes "watch"
+watch_line false = codes "unwatch"
+
 -- `seat S`
 abbrev pub seat_line : ℕ → List ℕ
 seat_line seat = codes "seat " ++ decimal seat
@@ -51,7 +56,8 @@ IsOwn line =
     ⊎ ((line ≡ quit_line)
     ⊎ (((seat : ℕ) × IsWithin 1 most_seats seat × (line ≡ seat_line seat))
     ⊎ (((inquiry : Inquiry) × IsInquiryLine inquiry line)
-    ⊎ ((p : ℕ) × (times : ℕ) × IsRepeatLine p times line))))
+    ⊎ (((p : ℕ) × (times : ℕ) × IsRepeatLine p times line)
+    ⊎ ((begins : Bool) × (line ≡ watch_line begins))))))
 
 -- ---- what a line asks for
 
@@ -60,6 +66,7 @@ abbrev pub Means : Request → List ℕ → Type 0
 Means (Call command times) line =
     ((¬ IsOwn line) × IsLineOf command line × (times ≡ 1)) ⊎ ((p : ℕ) × (command ≡ Auto p) × IsRepeatLine p times line)
 Means (Ask inquiry) line = IsInquiryLine inquiry line
+Means (Watch begins) line = line ≡ watch_line begins
 Means (Seat seat) line = IsWithin 1 most_seats seat × (line ≡ seat_line seat)
 Means (Help about) line = line ≡ help_line about
 Means Quit line = line ≡ quit_line
@@ -77,7 +84,7 @@ Asks exchange line = AsksFor exchange.0 (line_meant line)
 
 -- the line asks for that, or for its command more often
 abbrev pub AsksForNoLess : Exchange → List ℕ → Type 0
-AsksForNoLess (Call command times, outcome) line =
+AsksForNoLess (Call command times, effect) line =
     (all : ℕ) × (times ≤ all) × AsksFor (Call command all) (line_meant line)
 AsksForNoLess other line = Asks other line
 

@@ -12,6 +12,7 @@ since begun now =
       entries = now.entries;
       calls_in = λ first. now.calls_in first - length begun.calls;
       left_by = now.left_by;
+      news = now.news;
     }
 
 -- ---- what the code keeps for itself: a caller, and what it was when its session began

@@ -23,8 +23,8 @@ abbrev pub prompt_at : Bool → ℕ → List ℕ → List ℕ
 prompt_at numbered seat prompt = if numbered then (decimal seat ++ prompt) else prompt
 
 -- What a journal has of a session: its entries, in order; the replies to them, each at its position in the journal; how
--- many entries the journal had before the session, and how many it has in all; and of so many of its first entries how
--- many are of the session, and the run that they leave.
+-- many entries the journal had before the session, and how many it has in all; of so many of its first entries how many
+-- are of the session, and the run that they leave; and of two positions the news of others between them.
 pub record Part : Type 0 where
   pub calls : List Entry
   pub replies : List ReplyView
@@ -32,6 +32,7 @@ pub record Part : Type 0 where
   pub entries : ℕ
   pub calls_in : ℕ → ℕ
   pub left_by : ℕ → RunView
+  pub news : ℕ → ℕ → List ℕ
 
 abbrev pub IsFull : Part → Type 0
 IsFull part = part.entries ≡ MAX_ENTRIES
@@ -42,6 +43,7 @@ pub record GoesOn (old new : Part) : Type 0 where
   pub longer : old.entries ≤ new.entries
   pub calls_in : (first : ℕ) → first ≤ old.entries → new.calls_in first ≡ old.calls_in first
   pub left_by : (first : ℕ) → first ≤ old.entries → new.left_by first ≡ old.left_by first
+  pub news : (from to : ℕ) → to ≤ old.entries → new.news from to ≡ old.news from to
 
 -- the session made this entry, and got this reply
 pub record IsCalled (old : Part) (one : Entry) (reply : ReplyView) (new : Part) : Type 0 where

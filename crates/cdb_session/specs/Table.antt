@@ -12,13 +12,14 @@ use Rattle.cdb_rules.specs.RunView.{RunView}
 use Rattle.cdb_rules.specs.Rules.{Rules}
 use Rattle.cdb_setup.specs.Parts.{Parts}
 use Rattle.cdb_text.specs.Texts.{text_of}
-use Rattle.cdb_session.specs.Dialogues.{full_text, fault_response, long_line_text, help_response, dialogue_by}
+use Rattle.cdb_session.specs.Dialogues.{full_text, fault_response, long_line_text, help_response}
+use Rattle.cdb_session.specs.Dialogues.{dialogue_by, watch_text}
 use Rattle.cdb_session.specs.Answers.{run_left}
 use Rattle.cdb_session.specs.Exchanges.{Exchange}
 use Rattle.cdb_session.specs.Parts.{seat_next}
 use Rattle.cdb_session.specs.Requests.{AreAsked, seat_line}
 use Rattle.cdb_session.specs.declared.inquiry.Inquiry.{Inquiry}
-use Rattle.cdb_session.specs.declared.request.Request.TheVariants.{Call, Ask, Seat, Help, Quit, Fault, TooLong}
+use Rattle.cdb_session.specs.declared.request.Request.TheVariants.{Call, Ask, Watch, Seat, Help, Quit, Fault, TooLong}
 
 -- A session between two lines: the rules of its run, its control, whose state is the replay of its journal, the seat
 -- that the next command is of, and how many lines there were.
@@ -71,17 +72,18 @@ module _ (rules : Parts → Rules) (seat : ℕ) (command : Command) where
 
 -- the response at a line
 abbrev pub response_to : Session → Exchange → List ℕ
-response_to s (Call command times, outcome) = texts_at s.rules s.seat command s.control outcome.given
-response_to s (Ask inquiry, outcome) = outcome.answer
-response_to s (Seat seat, outcome) = seat_line seat ++ codes "\n"
-response_to s (Help about, outcome) = help_response (s.lines + 1) true about
-response_to s (Quit, outcome) = []
-response_to s (Fault faulty, outcome) = fault_response (s.lines + 1) true faulty
-response_to s (TooLong, outcome) = long_line_text (s.lines + 1)
+response_to s (Call command times, effect) = texts_at s.rules s.seat command s.control effect.given
+response_to s (Ask inquiry, effect) = effect.answer
+response_to s (Watch begins, effect) = watch_text begins
+response_to s (Seat seat, effect) = seat_line seat ++ codes "\n"
+response_to s (Help about, effect) = help_response (s.lines + 1) true about
+response_to s (Quit, effect) = []
+response_to s (Fault faulty, effect) = fault_response (s.lines + 1) true faulty
+response_to s (TooLong, effect) = long_line_text (s.lines + 1)
 
 -- the control after it
 abbrev pub control_after : Session → Exchange → Journaled
-control_after s (Call command times, outcome) = control_behind_all s.rules s.seat command s.control outcome.given
+control_after s (Call command times, effect) = control_behind_all s.rules s.seat command s.control effect.given
 control_after s other = s.control
 
 -- the session after the line
@@ -109,8 +111,8 @@ module _ (Answers : RunView → Inquiry → List ℕ → Type 0) where
   -- A command is given as often as it can be. What a line asks of the run is answered by the one that the control has
   -- come to.
   abbrev pub IsAnsweredIn : Session → Exchange → Type 0
-  IsAnsweredIn s (Call command times, outcome) = outcome.given ≡ given_to s.rules s.seat command s.control times
-  IsAnsweredIn s (Ask inquiry, outcome) = Answers (run_in s) inquiry outcome.answer
+  IsAnsweredIn s (Call command times, effect) = effect.given ≡ given_to s.rules s.seat command s.control times
+  IsAnsweredIn s (Ask inquiry, effect) = Answers (run_in s) inquiry effect.answer
   IsAnsweredIn s other = Unit {0}
 
   abbrev pub AreAnswered : Session → List Exchange → Type 0

@@ -9,7 +9,7 @@ use Rattle.cdb_session.specs.Moves.{Known, Move, read_in, written_in, AreWrites,
 use Rattle.cdb_session.specs.Moves.{Makes}
 use Rattle.cdb_rules.specs.RunView.{RunView}
 use Rattle.cdb_session.specs.Answers.{HasExchanges}
-use Rattle.cdb_session.specs.Exchanges.{Exchange}
+use Rattle.cdb_session.specs.Exchanges.{Effect, Exchange}
 use Rattle.cdb_session.specs.declared.inquiry.Inquiry.{Inquiry}
 use Rattle.cdb_session.specs.declared.request.Request.{Request}
 use Rattle.cdb_session.specs.declared.request.Request.TheVariants.{Quit}
@@ -18,9 +18,10 @@ use Rattle.cdb_streams.specs.declared.buffer.OutputFault.TheVariants as output
 use Rattle.cdb_streams.specs.declared.fault.PlayFault.{PlayFault}
 use Rattle.cdb_streams.specs.Faults.{of_output}
 use Rattle.cdb_setup.specs.Format.{longest}
-use Rattle.cdb_session.specs.Styles.{StyleView, Part, IsFull}
+use Rattle.cdb_session.specs.Styles.{StyleView, Part, IsFull, MakesNone}
 use Rattle.cdb_session.specs.Replies.{Along, begun_along, along_after, shown, dialogue}
-use Rattle.cdb_session.specs.Lines.{SessionView, HasDone, HasBegun, at_line}
+use Rattle.cdb_session.specs.Lines.{SessionView, HasDone, HasBegun, HasLooked, at_line}
+use Rattle.cdb_session.specs.News.{watched_next}
 use Rattle.cdb_session.specs.Parts.{seat_next}
 use Rattle.cdb_session.specs.Served.{IsAnswered, IsSession}
 use Rattle.cdb_session.specs.Sessions.{most_input, RespondsInTime}
@@ -93,9 +94,11 @@ module _ (Answers : RunView → Inquiry → List ℕ → Type 0) (style : StyleV
     pub writes : AreWrites made
     pub got : List ReplyView
     pub done : HasDone Answers old.seat old.part exchange got new.part
+    pub looked : HasLooked old exchange new
     pub written : written_in made ≡ shown style (at_line old got) exchange
     pub lines : new.lines ≡ old.lines + 1
     pub seat : new.seat ≡ seat_next style.chooses old.seat exchange.0
+    pub watched : new.watched ≡ watched_next old.watched exchange
     pub emptied : left ≡ []
     pub quit_exactly : IsTrue was_quit ↔ (exchange.0 ≡ Quit)
 
@@ -106,6 +109,7 @@ module _ (Answers : RunView → Inquiry → List ℕ → Type 0) (style : StyleV
     pub writes : AreWrites made
     pub got : List ReplyView
     pub done : HasDone Answers old.seat old.part exchange got new.part
+    pub looked : HasLooked old exchange new
     pub missing : List ℕ
     pub written : shown style (at_line old got) exchange ≡ written_in made ++ missing
     pub fails : EndsWith FailsToWrite made
@@ -115,10 +119,12 @@ module _ (Answers : RunView → Inquiry → List ℕ → Type 0) (style : StyleV
     pub request : Request
     pub asks : AsksFor request (line_meant unfinished)
     pub begun : HasBegun old.seat old.part request new.part
+    pub effect : Effect
+    pub looked : HasLooked old (request, effect) new
 
   -- nothing of the response was written, and memory is out
   pub record IsLineLost (old new : SessionView) (unfinished : List ℕ) (made : List Move) : Type 0 where
-    pub lost : (new ≡ old) ⊎ IsRequestLost old new unfinished
+    pub lost : MakesNone old.part new.part ⊎ IsRequestLost old new unfinished
     pub none : made ≡ []
 
   abbrev pub RespondsAs : Result Bool OutputFault → SessionView → SessionView → List ℕ → List ℕ → List Move → Type 0

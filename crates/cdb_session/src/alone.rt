@@ -5,7 +5,7 @@ ghost use Rattle.cdb_base.specs.Limits.{MAX_SEATS};
 ghost use Rattle.cdb_session.specs.Debugs.{Debugs, IsBegun, IsFaultOfBeginning};
 
 use crate::answers::{Answers, answer_in};
-use crate::caller::Caller;
+use crate::caller::{Caller, News};
 use crate::console::Console;
 use crate::greeting::{greeting_at, greeting_text};
 use crate::inquiry::Inquiry;
@@ -54,6 +54,10 @@ impl<R: Runs, A: Answers<R>> Caller for OwnControl<R, A> {
     fn ask(&mut self, alloc: Global, inquiry: Inquiry) -> Result<Vec<u8>, NoMemory> {
         answer_in::<R, A>(alloc, &self.control, inquiry)
     }
+
+    fn look(&mut self, alloc: Global, _from: Option<usize>) -> Result<News, NoMemory> {
+        Ok(News::none(alloc, self.control.journal().len()))
+    }
 }
 
 /// A control of the setup of this text with 1 to 64 seats, which goes on from a journal, and the setup in words.
@@ -82,7 +86,8 @@ pub fn begin<R: Runs>(
 /// A session on a run of the setup, which goes on from a journal of whichever seats; one without bytes has no entries.
 /// Each line has its response before more input is asked for: a command of the seat that the session is at,
 /// `auto P N`, which is `auto P` N times, N from 1 to 999,999, or until it is refused or the journal is full,
-/// `explain P [K]` and `trail P [K]`, which ask something of the run and make no entry, `help`, `seat S`, or `quit`,
+/// `explain P [K]` and `trail P [K]`, which ask something of the run and make no entry, `watch` and `unwatch`, of which
+/// there are no news since nobody else has a seat, `help`, `seat S`, or `quit`,
 /// which ends it; a line that is none of these has its fault. The prompt is shown before each line, and the setup in
 /// words before the first prompt; where the prompt has no
 /// bytes, neither is. The end of the input, which is asked for once, ends the session too,

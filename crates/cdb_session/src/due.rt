@@ -227,6 +227,8 @@ fn line_of(first: Topic, words: &[&[u8]]) -> &'static [Due]
         | Topic::Forget
         | Topic::Resume
         | Topic::Decisions
+        | Topic::Watch
+        | Topic::Unwatch
         | Topic::Quit => &[Due::Command],
     }
 }

@@ -29,7 +29,7 @@ pub(crate) fn respond_to_line<C: Caller, T: Console>(
     ensures unfinished { RespondsToLine C.answers style.now result (T.known console.old) (T.known console.new)
         (seen_by C.part session.old) (seen_by C.part session.new)
         unfinished.old.items unfinished.new.items }
-    ensures sits { MaySit style.now (C.seats session.new.caller) session.new.seat }
+    ensures sits { OnOk result (MaySit style.now (C.seats session.new.caller) session.new.seat) }
     ensures later { Onward C.later session.old.caller session.new.caller }
 {
     let line = line_meant(alloc, unfinished.as_slice())?;
@@ -58,7 +58,7 @@ pub(crate) fn feed<C: Caller, T: Console>(
         unfinished.old.items unfinished.new.items bytes.now }
     ensures unfinished { OnOk result (length unfinished.new.items ≤ longest + 1) }
     ensures lines { OnOk result (session.new.lines ≤ session.old.lines + length bytes.now) }
-    ensures sits { MaySit style.now (C.seats session.new.caller) session.new.seat }
+    ensures sits { OnOk result (MaySit style.now (C.seats session.new.caller) session.new.seat) }
     ensures later { Onward C.later session.old.caller session.new.caller }
 {
     let mut rest = bytes;

@@ -31,7 +31,7 @@ mod unfinished;
 
 pub use alone::{begin, debug};
 pub use answers::{Answers, answer_in, answer_of};
-pub use caller::Caller;
+pub use caller::{Caller, News};
 pub use console::{Console, write_all};
 pub use greeting::{greeting_at, greeting_text};
 pub use help::{COMMANDS, OTHERS, SEATS};

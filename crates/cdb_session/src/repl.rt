@@ -1,6 +1,6 @@
 //! A session from its first line to its last.
 
-ghost use Rattle.std.specs.Prelude.{◌≡◌, [], ◌-◌, ◌<◌, ◌^◌, ◌++◌};
+ghost use Rattle.std.specs.Prelude.{◌≡◌, [], ◌-◌, ◌<◌, ◌^◌, ◌++◌, None};
 ghost use Rattle.cdb_session.specs.Lines.{seen_by};
 ghost use Rattle.cdb_session.specs.Served.{HoldsSession};
 ghost use Rattle.cdb_session.specs.Since.{since};
@@ -104,6 +104,7 @@ fn run_from_first<C: Caller, T: Console>(
     requires replies { (C.part session.old.caller).replies ≡ [] }
     requires lines { session.old.lines ≡ 0 }
     requires seat { session.old.seat ≡ style.now.first }
+    requires watched { session.old.watched ≡ None }
     ensures all { RespondsToAll C.answers style.now result (T.known console.old) (T.known console.new)
         (seen_by C.part session.new) }
     ensures later { Onward C.later session.old.caller session.new.caller }

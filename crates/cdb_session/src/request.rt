@@ -1,10 +1,12 @@
 //! What a line of a session asks for.
 
-ghost use Rattle.std.specs.Prelude.{◌≡◌, ◌↔◌, ℕ, Option, IfSome, IfNone, IsTrue};
+ghost use Rattle.std.specs.Prelude.{◌≡◌, ◌↔◌, ℕ, Bool, Option, IfSome, IfNone, IsTrue};
 ghost use Rattle.cdb_setup.specs.Parts.{IsWithin};
 ghost use Rattle.cdb_session.specs.declared.request.Request.{Request as RequestName};
 ghost use Rattle.cdb_session.specs.declared.topic.Topic.{Topic as TopicName};
-ghost use Rattle.cdb_session.specs.Requests.{AsksFor, help_line, quit_line, seat_line, most_seats};
+ghost use Rattle.cdb_session.specs.Requests.{AsksFor, help_line, quit_line, seat_line};
+ghost use Rattle.cdb_session.specs.Requests.{most_seats, watch_line};
+ghost use Rattle.cdb_session.specs.News.{watches};
 
 use crate::inquiry::{Inquiry, inquiry_of, repeat_of};
 use crate::topic::Topic;
@@ -35,6 +37,8 @@ pub enum Request<'a> {
     Call(Command, u32),
     /// The answer to this, of the run as it stands.
     Ask(Inquiry),
+    /// What others do is shown from now on, or no longer.
+    Watch(bool),
     /// The lines that follow are this seat's, from 1 to 9.
     Seat(u8),
     /// The help, or what it says about a word.
@@ -52,6 +56,16 @@ impl Request<'_> {
         ensures { IsTrue result ↔ (self.now ≡ Request.Quit) }
     {
         matches!(self, Request::Quit)
+    }
+
+    /// Whether somebody watches after the line, where somebody did before it or nobody.
+    pub(crate) fn watches(&self, before: bool) -> bool
+        ensures { result ≡ watches before self.now }
+    {
+        match self {
+            Request::Watch(begins) => *begins,
+            _ => before,
+        }
     }
 }
 
@@ -74,6 +88,20 @@ fn seat_of(line: &[u8]) -> Option<u8>
     } else {
         None
     }
+}
+
+/// Whether a line begins to watch, or ends it.
+fn watch_of(line: &[u8]) -> Option<bool>
+    ensures some { IfSome result (λ begins. line.now ≡ watch_line begins) }
+    ensures none { IfNone result ((begins : Bool) → ¬ (line.now ≡ watch_line begins)) }
+{
+    if line == b"watch".as_slice() {
+        return Some(true);
+    }
+    if line == b"unwatch".as_slice() {
+        return Some(false);
+    }
+    None
 }
 
 /// How many bytes stand before the word that the help is asked about.
@@ -109,6 +137,9 @@ pub fn request_of(line: &[u8]) -> Request<'_>
     }
     if line == b"quit".as_slice() {
         return Request::Quit;
+    }
+    if let Some(begins) = watch_of(line) {
+        return Request::Watch(begins);
     }
     if let Some(seat) = seat_of(line) {
         return Request::Seat(seat);

@@ -3,6 +3,7 @@
 ghost use Rattle.std.specs.Prelude.{◌++◌, codes};
 ghost use Rattle.cdb_text.specs.Pushes.{Pushes};
 ghost use Rattle.cdb_session.specs.Dialogues.{fault_of_line_text, fault_response, faulty_line_text, long_line_text};
+ghost use Rattle.cdb_session.specs.Dialogues.{watch_text};
 ghost use Rattle.cdb_session.specs.Due.{stands};
 ghost use Rattle.cdb_session.specs.Requests.{seat_line};
 
@@ -16,6 +17,16 @@ pub(crate) fn push_seat(text: &mut String, seat: u8) -> Result<(), AllocError>
     ensures { Pushes result text.old text.new (seat_line seat ++ codes "\n") }
 {
     writeln!(text, "seat {seat}")
+}
+
+/// `watching`, or `not watching`.
+pub(crate) fn push_watch(text: &mut String, begins: bool) -> Result<(), AllocError>
+    ensures { Pushes result text.old text.new (watch_text begins) }
+{
+    if begins {
+        return text.push_str("watching\n");
+    }
+    text.push_str("not watching\n")
 }
 
 /// Adds `line L fault N Name`.

@@ -1,6 +1,6 @@
 //! A session: what its lines have led to.
 
-ghost use Rattle.std.specs.Prelude.{◌≡◌, ◌+◌, ◌-◌, ◌<◌, ◌≤◌, ◌^◌, ◌++◌, ℕ, codes, true, IfOk, OnOk};
+ghost use Rattle.std.specs.Prelude.{◌≡◌, ◌+◌, ◌-◌, ◌<◌, ◌≤◌, ◌^◌, ◌++◌, ℕ, List, None, codes, length, true, IfOk, OnOk};
 ghost use Rattle.cdb_commands.specs.ReplyView.{is_refused, reply_view};
 ghost use Rattle.cdb_text.specs.Pushes.{Pushes};
 ghost use Rattle.cdb_text.specs.Texts.{text_of};
@@ -10,13 +10,14 @@ ghost use Rattle.cdb_setup.specs.Parts.{IsWithin};
 ghost use Rattle.cdb_session.specs.Replies.{own_response};
 ghost use Rattle.cdb_control.specs.Journal.{entry};
 ghost use Rattle.cdb_session.specs.Lines.{GivesOnce, Responds, Shows, seen_by};
+ghost use Rattle.cdb_session.specs.News.{HasNews};
 ghost use Rattle.cdb_session.specs.Parts.{seat_next};
-ghost use Rattle.cdb_session.specs.Styles.{MaySit, Onward};
+ghost use Rattle.cdb_session.specs.Styles.{MakesNone, MaySit, Onward};
 
-use crate::caller::Caller;
+use crate::caller::{Caller, News};
 use crate::help::{push_about, push_help};
 use crate::request::Request;
-use crate::response::{push_faulty, push_no_command, push_seat, push_too_long};
+use crate::response::{push_faulty, push_no_command, push_seat, push_too_long, push_watch};
 use crate::style::Style;
 use crate::topic::Topic;
 use cdb_base::NoMemory;
@@ -25,23 +26,26 @@ use cdb_text::reply_text;
 use itoa::Buffer;
 use std::alloc::{AllocError, Global};
 
-/// A session between two lines: who carries its commands out, the seat of the next one, and how many lines there were.
+/// A session between two lines: who carries its commands out, the seat of the next one, how many lines there were, and
+/// from which entry of the journal on those of others are still to be shown, if somebody watches.
 #[derive(Drop)]
 pub struct Session<C> {
     pub caller: C,
     pub seat: u8,
     pub lines: u64,
+    pub watched: Option<usize>,
 }
 
 impl<C: Caller> Session<C> {
     /// A session before its first line.
     pub fn new(caller: C, style: &Style<'_>) -> Self
-        ensures { result ≡ record { caller = caller; seat = style.now.first; lines = 0 } }
+        ensures { result ≡ record { caller = caller; seat = style.now.first; lines = 0; watched = None } }
     {
         Session {
             caller,
             seat: style.first,
             lines: 0,
+            watched: None,
         }
     }
 
@@ -58,6 +62,7 @@ impl<C: Caller> Session<C> {
             text.new.items (C.part self.new.caller) }
         ensures seat { self.new.seat ≡ self.old.seat }
         ensures lines { self.new.lines ≡ self.old.lines }
+        ensures watched { self.new.watched ≡ self.old.watched }
         ensures seats { C.seats self.new.caller ≡ C.seats self.old.caller }
         ensures later { C.later self.old.caller self.new.caller }
     {
@@ -77,10 +82,11 @@ impl<C: Caller> Session<C> {
         times: u32,
     ) -> Result<Vec<u8>, NoMemory>
         requires { MaySit style.now (C.seats self.old.caller) self.old.seat }
-        ensures responds { Responds C.answers style.now result (seen_by C.part self.old)
-            (Request.Call command.now times) (seen_by C.part self.new) }
+        ensures responds { (seen : ℕ) (news : List ℕ) → Responds C.answers style.now seen news result
+            (seen_by C.part self.old) (Request.Call command.now times) (seen_by C.part self.new) }
         ensures seat { self.new.seat ≡ self.old.seat }
         ensures lines { self.new.lines ≡ self.old.lines }
+        ensures watched { self.new.watched ≡ self.old.watched }
         ensures seats { C.seats self.new.caller ≡ C.seats self.old.caller }
         ensures later { Onward C.later self.old.caller self.new.caller }
     {
@@ -123,10 +129,11 @@ impl<C: Caller> Session<C> {
         requires sits { MaySit style.now (C.seats self.old.caller) self.old.seat }
         requires chosen { (k : ℕ) → request.now ≡ Request.Seat k → IsWithin 1 most_seats k }
         requires lines { self.old.lines < 2 ^ 64 - 1 }
-        ensures responds { Responds C.answers style.now result (seen_by C.part self.old)
-            request.now (seen_by C.part self.new) }
+        ensures responds { (seen : ℕ) (news : List ℕ) → Responds C.answers style.now seen news result
+            (seen_by C.part self.old) request.now (seen_by C.part self.new) }
         ensures seat { self.new.seat ≡ seat_next style.now.chooses self.old.seat request.now }
         ensures lines { self.new.lines ≡ self.old.lines }
+        ensures watched { self.new.watched ≡ self.old.watched }
         ensures seats { C.seats self.new.caller ≡ C.seats self.old.caller }
         ensures later { Onward C.later self.old.caller self.new.caller }
     {
@@ -137,8 +144,27 @@ impl<C: Caller> Session<C> {
         }
     }
 
-    /// Does what a line asks for, and returns what is shown then: the response, and the prompt unless the line was
-    /// `quit`. After an error the session is not to go on.
+    /// Looks at the journal where somebody watches before the line or after it.
+    fn look(&mut self, alloc: Global, request: &Request<'_>) -> Result<News, NoMemory>
+        ensures none { MakesNone (C.part self.old.caller) (C.part self.new.caller) }
+        ensures news { IfOk result (λ news. HasNews (C.part self.new.caller) (length (C.part self.new.caller).calls)
+            (C.part self.new.caller).entries self.old.watched request.now news.seen news.text.items) }
+        ensures seat { self.new.seat ≡ self.old.seat }
+        ensures lines { self.new.lines ≡ self.old.lines }
+        ensures watched { self.new.watched ≡ self.old.watched }
+        ensures seats { C.seats self.new.caller ≡ C.seats self.old.caller }
+        ensures later { Onward C.later self.old.caller self.new.caller }
+    {
+        let before = self.watched.is_some();
+        if before || request.watches(before) {
+            self.caller.look(alloc, self.watched)
+        } else {
+            Ok(News::none(alloc, 0))
+        }
+    }
+
+    /// Does what a line asks for, and returns what is shown then: the news of others where somebody watches, the
+    /// response, and the prompt unless the line was `quit`. After an error the session is not to go on.
     pub(crate) fn show(
         &mut self,
         alloc: Global,
@@ -150,13 +176,17 @@ impl<C: Caller> Session<C> {
         requires lines { self.old.lines < 2 ^ 64 - 1 }
         ensures shows { Shows C.answers style.now result (seen_by C.part self.old)
             request.now (seen_by C.part self.new) }
-        ensures seat { self.new.seat ≡ seat_next style.now.chooses self.old.seat request.now }
+        ensures seat { OnOk result (self.new.seat ≡ seat_next style.now.chooses self.old.seat request.now) }
         ensures lines { OnOk result (self.new.lines ≡ self.old.lines + 1) }
         ensures seats { C.seats self.new.caller ≡ C.seats self.old.caller }
         ensures later { Onward C.later self.old.caller self.new.caller }
     {
-        let mut text = self.respond(alloc, style, request)?;
+        let News { mut text, seen } = self.look(alloc, request)?;
+        let response = self.respond(alloc, style, request)?;
+        text.extend_from_slice(response.as_slice())?;
         push_prompt(&mut text, style, request)?;
+        let watches = request.watches(self.watched.is_some());
+        self.watched = if watches { Some(seen) } else { None };
         self.lines += 1;
         Ok(text)
     }
@@ -211,6 +241,7 @@ fn push_own_response(
         Request::Seat(seat) => push_chosen(text, style, lines + 1, *seat),
         Request::Help(about) => push_help_response(alloc, text, style, lines + 1, *about),
         Request::Quit | Request::Call(_, _) | Request::Ask(_) => Ok(()),
+        Request::Watch(begins) => push_watch(text, *begins),
         Request::Fault(faulty) => push_faulty(alloc, text, lines + 1, style.chooses, faulty),
         Request::TooLong => push_too_long(text, lines + 1),
     }

@@ -2,7 +2,7 @@
 
 ghost use Rattle.std.specs.Prelude.{◌≡◌};
 
-use crate::caller::Caller;
+use crate::caller::{Caller, News};
 use crate::inquiry::Inquiry;
 use cdb_base::NoMemory;
 use cdb_control::{CallFault, Command, Reply};
@@ -56,5 +56,9 @@ impl<C: Caller> Caller for Since<C> {
 
     fn ask(&mut self, alloc: Global, inquiry: Inquiry) -> Result<Vec<u8>, NoMemory> {
         self.caller.ask(alloc, inquiry)
+    }
+
+    fn look(&mut self, alloc: Global, from: Option<usize>) -> Result<News, NoMemory> {
+        self.caller.look(alloc, from)
     }
 }

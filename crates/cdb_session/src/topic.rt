@@ -21,6 +21,8 @@ pub enum Topic {
     Decisions,
     Explain,
     Trail,
+    Watch,
+    Unwatch,
     Help,
     Quit,
     Seat,
@@ -28,7 +30,7 @@ pub enum Topic {
 
 impl Topic {
     /// Each of them.
-    const ALL: [Topic; 18] = [
+    const ALL: [Topic; 20] = [
         Topic::Step,
         Topic::Auto,
         Topic::Lose,
@@ -44,6 +46,8 @@ impl Topic {
         Topic::Decisions,
         Topic::Explain,
         Topic::Trail,
+        Topic::Watch,
+        Topic::Unwatch,
         Topic::Help,
         Topic::Quit,
         Topic::Seat,
@@ -69,6 +73,8 @@ impl Topic {
             Topic::Decisions => b"decisions",
             Topic::Explain => b"explain",
             Topic::Trail => b"trail",
+            Topic::Watch => b"watch",
+            Topic::Unwatch => b"unwatch",
             Topic::Help => b"help",
             Topic::Quit => b"quit",
             Topic::Seat => b"seat",

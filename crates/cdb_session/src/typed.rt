@@ -10,7 +10,7 @@ use cdb_base::limits::MAX_BYTES;
 use std::alloc::{AllocError, Global};
 
 /// The words that may begin a line.
-pub(crate) const FIRST: [&[u8]; 18] = [
+pub(crate) const FIRST: [&[u8]; 20] = [
     b"step",
     b"auto",
     b"lose",
@@ -26,6 +26,8 @@ pub(crate) const FIRST: [&[u8]; 18] = [
     b"decisions",
     b"explain",
     b"trail",
+    b"watch",
+    b"unwatch",
     b"help",
     b"quit",
     b"seat",

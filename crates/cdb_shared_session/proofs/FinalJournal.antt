@@ -1,13 +1,14 @@
 -- What the final journal has of a seat.
 use Rattle.std.proofs.Common.{◌≡◌, inl, inr, ℕ, ◌-◌, ◌≤◌, List, ◌++◌, drop, length, map, take, min, refl, sym, ap, ◌∙◌, arith, length-append}
 use Rattle.std.proofs.lemmas.List.{take-append-le}
-use Rattle.std.specs.Prelude.{Result, Ok, Err}
+use Rattle.std.specs.Prelude.{Result, Ok, Err, None}
 use Rattle.cdb_base.specs.Limits.{MAX_ENTRIES}
 use Rattle.cdb_commands.specs.ReplyView.{ReplyView}
 use Rattle.cdb_control.proofs.Own.{replies_of-same}
 use Rattle.cdb_control.specs.Journal.{Journaled, entry, own, replies_of}
 use Rattle.cdb_control.specs.declared.control.Entry.{Entry}
 use Rattle.cdb_rules.specs.RunView.{RunView}
+use Rattle.cdb_journal.specs.SeatReplies.{news_lines, told_along}
 use Rattle.cdb_rules.specs.Rules.{Rules}
 use Rattle.cdb_session.specs.Moves.{Move, read_in, written_in}
 use Rattle.cdb_session.specs.Parts.{HasCommands}
@@ -65,13 +66,15 @@ module _ (rules : Parts → Rules) (Answers : RunView → Inquiry → List ℕ �
     longer = omega (arith, ap length known.begins.1, length-append seat.seen known.begins.0);
     calls_in = λ at few. (λ i. length (own (sym is i) (first_known at few i)) - length first.calls);
     left_by = λ at few. (λ i. run_left rules (known.setup i) (known.seats i) (first_known at few i));
+    news = λ from to few.
+        (λ i. news_lines (sym is i) (drop from (told_along (rules (known.setup i)) (known.setup i) (known.seats i) (first_known to few i))));
   }
 
   has_known : (exchanges : List Exchange) → HasExchanges Answers style by_seat exchanges → HasExchanges Answers style by_journal exchanges
   has_known exchanges has = (
     commands_known exchanges has.0,
     all_told_on Answers by_seat by_journal goes_on (ap (drop (length first.replies)) (sym replies_known))
-        0 exchanges (λ m low. ap (λ (calls : List Entry). min m (length calls)) (sym came_known)) has.1,
+        0 None exchanges (λ m low. ap (λ (calls : List Entry). min m (length calls)) (sym came_known)) has.1,
   )
 
   same_text : (exchanges : List Exchange) (text : List ℕ) → text ≡ dialogue style by_seat.replies exchanges → text ≡ dialogue style by_journal.replies exchanges

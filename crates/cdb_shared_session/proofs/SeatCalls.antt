@@ -1,7 +1,8 @@
 -- What one call adds to what the journal has of a seat.
-use Rattle.std.proofs.Common.{◌≡◌, ◌↔◌, ℕ, ◌≤◌, true, List, [], ◌∷◌, ◌++◌, length, map, take, Vec, Global, refl, sym, ap, subst, ◌∙◌, arith, length-append}
+use Rattle.std.proofs.Common.{◌≡◌, ◌↔◌, ℕ, ◌≤◌, true, List, [], ◌∷◌, ◌++◌, drop, length, map, take, Vec, Global}
+use Rattle.std.proofs.Common.{refl, sym, ap, subst, ◌∙◌, arith, length-append}
 use Rattle.std.proofs.lemmas.List.{take-append-le, take_all}
-use Rattle.std.specs.Prelude.{Result, Ok, Err, IfOk, IfErr, OnErr}
+use Rattle.std.specs.Prelude.{Result, Ok, Err, IfOk, IfErr, OnErr, Option}
 use Rattle.cdb_base.specs.Limits.{MAX_ENTRIES}
 use Rattle.cdb_commands.specs.ReplyView.{ReplyView, reply_view}
 use Rattle.cdb_commands.specs.declared.command.Command.{Command}
@@ -11,6 +12,7 @@ use Rattle.cdb_control.specs.declared.control.CallFault.{CallFault}
 use Rattle.cdb_control.specs.declared.control.Entry.{Entry}
 use Rattle.cdb_control.specs.declared.control.CallFault.TheVariants.{JournalFull, NoMemory}
 use Rattle.cdb_control.proofs.Own.{Begins-refl}
+use Rattle.cdb_journal.specs.SeatReplies.{news_lines, told_along}
 use Rattle.cdb_rules.specs.Rules.{Rules}
 use Rattle.cdb_setup.specs.Parts.{Parts, IsWithin}
 use Rattle.cdb_shared.specs.Seats.{SeatView, IsLater, IsCall, SameCalls, SeesFull}
@@ -18,6 +20,8 @@ use Rattle.cdb_shared.specs.Sessions.{calls_of}
 use Rattle.cdb_shared.proofs.Steps.{calls_of-call, calls_of-fault, replies_to-call, replies_to-fault, IsLater-trans}
 use Rattle.cdb_session.specs.Styles.{GoesOn, MakesNone, Calls, Onward, stays, goes}
 use Rattle.cdb_session.specs.Answers.{run_left, AnswersNow}
+use Rattle.cdb_session.specs.News.{AreNews, news_up_to}
+use Rattle.cdb_session.specs.Parts.{HaveJust}
 use Rattle.cdb_session.specs.declared.inquiry.Inquiry.{Inquiry}
 use Rattle.cdb_rules.specs.RunView.{RunView}
 use Rattle.cdb_shared_session.specs.SeatParts.{part_seen}
@@ -47,6 +51,8 @@ module _ (rules : Parts → Rules) where
         longer = omega (arith, ap length later.begins.1, length-append old.seen later.begins.0);
         calls_in = λ first few. (λ i. length (own (later.number i) (first_seen first few i)));
         left_by = λ first few. (λ i. run_left rules (later.setup i) (later.seats i) (first_seen first few i));
+        news = λ from to few.
+            (λ i. news_lines (later.number i) (drop from (told_along (rules (later.setup i)) (later.setup i) (later.seats i) (first_seen to few i))));
       }
 
   -- a seat before a call that was answered had not seen a full journal
@@ -93,6 +99,14 @@ map-length : {A B : Type 0} (f : A → B) (xs : List A) → length (map f xs) �
 map-length f [] = refl
 map-length f (x ∷ xs) = let rest = map-length f xs in omega (arith, rest)
 
+-- the journal that the seat has seen has all its commands
+just_now : (rules : Parts → Rules) (seat : SeatView) → let part = part_seen rules seat in HaveJust part (length part.calls) part.entries
+just_now rules seat =
+    let all : take (length seat.seen) seat.seen ≡ seat.seen = take_all (length seat.seen) seat.seen (omega arith) in
+    let counted : length (own seat.number (take (length seat.seen) seat.seen)) ≡ length (map (entry seat.number) (calls_of seat)) =
+    ap (λ (seen : List Entry). length (own seat.number seen)) all ∙ sym (map-length (entry seat.number) (calls_of seat)) in
+    record { since = omega arith; within = omega arith; commands = omega (arith, counted) }
+
 -- the answer of the run that the seat has seen
 pub asked_now : {E : Type 0} (rules : Parts → Rules) (Answers : RunView → Inquiry → List ℕ → Type 0)
     (seat : SeatView) (inquiry : Inquiry) (r : Result (Vec ℕ Global) E)
@@ -100,9 +114,17 @@ pub asked_now : {E : Type 0} (rules : Parts → Rules) (Answers : RunView → In
     → IfOk r (λ text. AnswersNow Answers (part_seen rules seat) inquiry text.items)
 asked_now rules Answers seat inquiry (Ok text) is =
     let all : take (length seat.seen) seat.seen ≡ seat.seen = take_all (length seat.seen) seat.seen (omega arith) in
-    record {
-      since = omega arith;
-      all = ap (λ (seen : List Entry). length (own seat.number seen)) all ∙ sym (map-length (entry seat.number) (calls_of seat));
-      answers = subst (λ (seen : List Entry). Answers (run_left rules seat.setup seat.seats seen) inquiry text.items) (sym all) is;
-    }
+    (just_now rules seat, subst (λ (seen : List Entry). Answers (run_left rules seat.setup seat.seats seen) inquiry text.items) (sym all) is)
 asked_now rules Answers seat inquiry (Err fault) is = tt
+
+-- the news up to the end of the journal that the seat has seen
+pub seen_now : (rules : Parts → Rules) (seat : SeatView) (from : Option ℕ) (seen : ℕ) (text : List ℕ) → seen ≡ length seat.seen
+    → text ≡ news_up_to (part_seen rules seat) from (length seat.seen)
+    → let part = part_seen rules seat in AreNews part (length part.calls) part.entries from seen text
+seen_now rules seat from seen text is news =
+    let part = part_seen rules seat in
+    record {
+      no_less = omega (arith, is);
+      seen_is = subst (HaveJust part (length part.calls)) (sym is) (just_now rules seat);
+      news_are = news ∙ ap (news_up_to part from) (sym is);
+    }

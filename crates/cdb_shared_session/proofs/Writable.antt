@@ -26,7 +26,7 @@ use Rattle.cdb_session.specs.Served.{IsSession}
 use Rattle.cdb_session.specs.Since.{since}
 use Rattle.cdb_session.specs.Styles.{Part, StyleView}
 use Rattle.cdb_session.specs.declared.request.Request.{Request}
-use Rattle.cdb_session.specs.declared.request.Request.TheVariants.{Call, Ask, Seat, Help, Quit, Fault, TooLong}
+use Rattle.cdb_session.specs.declared.request.Request.TheVariants.{Call, Ask, Watch, Seat, Help, Quit, Fault, TooLong}
 use Rattle.cdb_setup.specs.Parts.{Parts}
 use Rattle.cdb_streams.specs.Lines.{lines_of}
 use Rattle.cdb_streams.specs.declared.fault.PlayFault.{PlayFault}
@@ -53,6 +53,7 @@ asked_has_line : (request : Request) (line : List ℕ) → AsksFor request line 
 asked_has_line (Call command times) line (few, inl once) = once.1.1
 asked_has_line (Call command times) line (few, inr (p, is, repeat)) = subst HasNumbersInRange (sym is) (tt, (repeat.1.1.0, tt))
 asked_has_line (Ask inquiry) line asks = tt
+asked_has_line (Watch begins) line asks = tt
 asked_has_line (Seat chosen) line asks = tt
 asked_has_line (Help about) line asks = tt
 asked_has_line Quit line asks = tt
@@ -60,13 +61,14 @@ asked_has_line (Fault why) line asks = tt
 asked_has_line TooLong line asks = tt
 
 begun_has_line : (exchange : Exchange) (line : List ℕ) → AsksForNoLess exchange line → HasLine exchange.0
-begun_has_line (Call command times, outcome) line (all, few, asks) = asked_has_line (Call command all) (line_meant line) asks
-begun_has_line (Ask inquiry, outcome) line asks = tt
-begun_has_line (Seat chosen, outcome) line asks = tt
-begun_has_line (Help about, outcome) line asks = tt
-begun_has_line (Quit, outcome) line asks = tt
-begun_has_line (Fault why, outcome) line asks = tt
-begun_has_line (TooLong, outcome) line asks = tt
+begun_has_line (Call command times, effect) line (all, few, asks) = asked_has_line (Call command all) (line_meant line) asks
+begun_has_line (Ask inquiry, effect) line asks = tt
+begun_has_line (Watch begins, effect) line asks = tt
+begun_has_line (Seat chosen, effect) line asks = tt
+begun_has_line (Help about, effect) line asks = tt
+begun_has_line (Quit, effect) line asks = tt
+begun_has_line (Fault why, effect) line asks = tt
+begun_has_line (TooLong, effect) line asks = tt
 
 abbrev HaveLine : List Exchange → Type 0
 HaveLine exchanges = AllByRecursion (λ exchange. HasLine exchange.0) exchanges
@@ -89,6 +91,7 @@ both_have_lines (e ∷ first) more a b = (a.0, both_have_lines first more a.1 b)
 entries_have_line : (seat : ℕ) (request : Request) (count : ℕ) → HasLine request → HaveLines (entries_of seat request count)
 entries_have_line seat (Call command times) count has = all-replicate (λ e. HasNumbersInRange e.command) count (entry seat command) has
 entries_have_line seat (Ask inquiry) count has = tt
+entries_have_line seat (Watch begins) count has = tt
 entries_have_line seat (Seat chosen) count has = tt
 entries_have_line seat (Help about) count has = tt
 entries_have_line seat Quit count has = tt

@@ -1,6 +1,7 @@
 -- What a journal has of a seat, and the style of its session.
 use Rattle.std.specs.Prelude.{ℕ, ◌&&◌, nat_lt, Bool, false, List, length, map, take}
 use Rattle.cdb_control.specs.Journal.{Journaled, entry, own, replies_of}
+use Rattle.cdb_journal.specs.SeatReplies.{news}
 use Rattle.cdb_rules.specs.Rules.{Rules}
 use Rattle.cdb_setup.specs.Parts.{Parts}
 use Rattle.cdb_session.specs.Answers.{run_left}
@@ -19,6 +20,7 @@ part_in rules c seat =
       entries = length c.journal;
       calls_in = λ first. length (own seat (take first c.journal));
       left_by = λ first. run_left rules c.setup c.seats (take first c.journal);
+      news = news (rules c.setup) c.setup c.seats seat c.journal;
     }
 
 -- in the journal that the seat has seen
@@ -31,6 +33,7 @@ part_seen rules seat =
       entries = length seat.seen;
       calls_in = λ first. length (own seat.number (take first seat.seen));
       left_by = λ first. run_left rules seat.setup seat.seats (take first seat.seen);
+      news = news (rules seat.setup) seat.setup seat.seats seat.number seat.seen;
     }
 
 -- the seats that a command of it may be of: this one

@@ -12,7 +12,9 @@ use cdb_base::NoMemory;
 use cdb_base::limits::MAX_SEATS;
 use cdb_control::{CallFault, Command, Control, Reply};
 use cdb_rules::Runs;
-use cdb_session::{Answers, Caller, Console, Inquiry, Style, answer_in, begin, greeting_at, run};
+use cdb_session::{
+    Answers, Caller, Console, Inquiry, News, Style, answer_in, begin, greeting_at, run,
+};
 use cdb_streams::{Failed, OutputFault, PlayFault, Sink};
 use std::alloc::Global;
 use std::marker::{Model, PhantomData};
@@ -75,6 +77,10 @@ impl<R: Runs, A: Answers<R>, J: Sink + Drop> Caller for KeptControl<R, A, J> {
 
     fn ask(&mut self, alloc: Global, inquiry: Inquiry) -> Result<Vec<u8>, NoMemory> {
         answer_in::<R, A>(alloc, &self.control, inquiry)
+    }
+
+    fn look(&mut self, alloc: Global, _from: Option<usize>) -> Result<News, NoMemory> {
+        Ok(News::none(alloc, self.control.journal().len()))
     }
 }
 

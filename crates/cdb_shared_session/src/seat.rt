@@ -9,8 +9,9 @@ ghost use Rattle.cdb_shared_session.specs.SeatParts.{is_numbered};
 use crate::endpoint::{Endpoint, Finished, Opener};
 use cdb_base::NoMemory;
 use cdb_control::{CallFault, Command, Reply};
+use cdb_journal::news_of;
 use cdb_rules::Runs;
-use cdb_session::{Answers, Caller, Console, Inquiry, Style, answer_of, greeting_at, run};
+use cdb_session::{Answers, Caller, Console, Inquiry, News, Style, answer_of, greeting_at, run};
 use cdb_setup::Setup;
 use cdb_shared::{Seat, Shared};
 use cdb_streams::PlayFault;
@@ -63,6 +64,24 @@ impl<'a, R: Runs, A: Answers<R>, Rt: Wait> Caller for SeatCaller<'a, R, A, Rt> {
     fn ask(&mut self, alloc: Global, inquiry: Inquiry) -> Result<Vec<u8>, NoMemory> {
         let journal = self.shared.journal(self.rt, alloc, &mut self.seat)?;
         answer_of::<R, A>(alloc, self.setup, self.seats, journal.as_slice(), inquiry)
+    }
+
+    fn look(&mut self, alloc: Global, from: Option<usize>) -> Result<News, NoMemory> {
+        let journal = self.shared.journal(self.rt, alloc, &mut self.seat)?;
+        let seen = journal.len();
+        let Some(from) = from else {
+            return Ok(News::none(alloc, seen));
+        };
+        let number = self.seat.number();
+        let text = news_of::<R>(
+            alloc,
+            self.setup,
+            self.seats,
+            number,
+            journal.as_slice(),
+            from,
+        )?;
+        Ok(News { text, seen })
     }
 }
 

@@ -323,10 +323,11 @@ pub type Ended<R, P, J> = (
 /// Promise: With several seats one journal explains the responses to each: it has the commands of each seat's lines, in
 /// order and each once, or the first of them and is full; each seat got the replies to them there, in full before it
 /// was asked for more; no entry is of another seat. What a line of a seat asks of the run is answered of the run that a
-/// beginning of the journal leaves, which has of the seat just the commands of the lines before. A seat is opened in
-/// its own thread; one that can't be opened has no entry, and ends with that fault. A seat that fails ends alone; only
-/// after out of memory the journal may have one command more than had its reply. The file has the journal at the end,
-/// or a beginning of it where it could not be written or memory was out.
+/// beginning of the journal leaves, which has of the seat just the commands of the lines before. A seat that watches is
+/// shown the reply to each entry of others once, in order, and none to its own. A seat is opened in its own thread; one
+/// that can't be opened has no entry, and ends with that fault. A seat that fails ends alone; only after out of memory
+/// the journal may have one command more than had its reply. The file has the journal at the end, or a beginning of it
+/// where it could not be written or memory was out.
 pub fn debug_seats<
     R: Runs + Send,
     A: Answers<R> + Send,

@@ -71,7 +71,7 @@ loop-line-preserved g c =
     record {
       few = omega (arith, ap length done.emptied);
       lines = omega (arith, c.loop-line.invariant.lines, done.lines, cut, parts);
-      sits = c.respond_to_line.ensures.sits;
+      sits = c.in_ok-respond_to_line.ensures.sits;
       later = Onward-trans g.C.Caller.later _ _ _ c.loop-line.invariant.later c.respond_to_line.ensures.later;
       goes =
           responds g.C.Caller.answers c.args.style.now before (seen_by g.C.Caller.part c.args.session.now) c.args.unfinished.now.items

@@ -10,7 +10,7 @@ use Rattle.cdb_session.proofs.repl.run_from_first.Goals as goal
 pub returns-in_default-clause-all : goal.returns-in_default-clause-all
 returns-in_default-clause-all g c =
     not_started g.C.Caller.answers c.args.style.now _ _ (seen_by g.C.Caller.part c.args.session.now)
-    (c.requires.calls, c.requires.replies) (Unit {0}) (Unit {0}) tt c.in_default.ensures
+    (c.requires.calls, c.requires.replies) c.requires.watched (Unit {0}) (Unit {0}) tt c.in_default.ensures
 
 pub returns-in_default-clause-later : goal.returns-in_default-clause-later
 returns-in_default-clause-later g c = stays
@@ -29,7 +29,8 @@ loop-read-init g c =
       later = stays;
       arrives =
           subst (λ unfinished. Arrives g.C.Caller.answers c.args.style.now before now first unfinished 0) (sym none) (started g.C.Caller.answers
-          c.args.style.now before now first (c.requires.calls, c.requires.replies) (Unit {0}) (Unit {0}) tt c.requires.lines c.requires.seat c.in-Ok.ensures);
+          c.args.style.now before now first (c.requires.calls, c.requires.replies) c.requires.watched
+          (Unit {0}) (Unit {0}) tt c.requires.lines c.requires.seat c.in-Ok.ensures);
     }
 
 pub returns-in_default-read-clause-all : goal.returns-in_default-read-clause-all
@@ -85,7 +86,7 @@ loop-read-preserved g c =
       few = c.in_ok-feed.ensures.unfinished;
       bound = omega (arith, c.loop-read-test.true, c.in-Ok-read.ensures.within);
       lines = omega (arith, c.in_ok-feed.ensures.lines, c.loop-read.invariant.lines, long);
-      sits = c.feed.ensures.sits;
+      sits = c.in_ok-feed.ensures.sits;
       later = Onward-trans g.C.Caller.later _ _ _ c.loop-read.invariant.later c.feed.ensures.later;
       arrives =
           subst (λ n. Arrives g.C.Caller.answers c.args.style.now before now

@@ -1,13 +1,17 @@
 use Rattle.std.proofs.Common.{inl, inr, rules, ◌≢◌, refl, sym}
 use Rattle.std.specs.Prelude.{Ok, Err}
 use Rattle.cdb_session.specs.Requests.{quit_line}
-use Rattle.cdb_session.proofs.OneRequest.{only_help, only_inquiry, only_repeat, only_seat, only_call, only_fault}
+use Rattle.cdb_session.proofs.OneRequest.{only_help, only_inquiry, only_repeat, only_seat, only_watch, only_call, only_fault}
 use Rattle.cdb_session.proofs.InquiryLines.{inquiry_says, no_inquiry, no_repeat, repeat_says}
 use Rattle.cdb_session.proofs.SeatLines.{not_own}
 use Rattle.cdb_session.proofs.request.request_of.Goals as goal
 
 pub returns-in-Some-clause-only : goal.returns-in-Some-clause-only
 returns-in-Some-clause-only c = only_help c.args.line.now c.if-line-gt-MAX_BYTES.false c.in-Some.about c.in-Some.ensures.some
+
+pub returns-in-Some-watch_of-clause-only : goal.returns-in-Some-watch_of-clause-only
+returns-in-Some-watch_of-clause-only c =
+    only_watch c.args.line.now c.if-line-gt-MAX_BYTES.false c.in-Some-watch_of.begins c.in-Some-watch_of.ensures.some
 
 pub returns-in-Some-seat_of-clause-only : goal.returns-in-Some-seat_of-clause-only
 returns-in-Some-seat_of-clause-only c =
@@ -41,7 +45,7 @@ returns-in-Ok-clause-asks c =
       c.if-line-gt-MAX_BYTES.false,
       inl (
         not_own line c.in_default.ensures.none no_quit c.in_default-seat_of.ensures.none (no_inquiry line
-            (sym c.in_default-inquiry_of.ensures)) (no_repeat line (sym c.in_default-repeat_of.ensures)),
+            (sym c.in_default-inquiry_of.ensures)) (no_repeat line (sym c.in_default-repeat_of.ensures)) c.in_default-watch_of.ensures.none,
         (c.in-Ok.ensures.command c.in-Ok.command).0 refl,
         refl,
       ),
@@ -52,7 +56,8 @@ returns-in-Ok-clause-only c =
     let line = c.args.line.now in
     let no_quit : line ≢ quit_line = search rules in
     only_call line c.if-line-gt-MAX_BYTES.false (not_own line c.in_default.ensures.none no_quit c.in_default-seat_of.ensures.none
-    (no_inquiry line (sym c.in_default-inquiry_of.ensures)) (no_repeat line (sym c.in_default-repeat_of.ensures))) (Ok c.in-Ok.command)
+    (no_inquiry line (sym c.in_default-inquiry_of.ensures)) (no_repeat line (sym c.in_default-repeat_of.ensures))
+    c.in_default-watch_of.ensures.none) (Ok c.in-Ok.command)
     (λ command is. (c.in-Ok.ensures.command command).1 is) (λ fault is. (c.in-Ok.ensures.fault fault).1 is) c.in-Ok.command refl
 
 pub returns-in-Err-clause-asks : goal.returns-in-Err-clause-asks
@@ -62,7 +67,7 @@ returns-in-Err-clause-asks c =
       c.if-line-gt-MAX_BYTES.false,
       (
         not_own line c.in_default.ensures.none no_quit c.in_default-seat_of.ensures.none (no_inquiry line
-            (sym c.in_default-inquiry_of.ensures)) (no_repeat line (sym c.in_default-repeat_of.ensures)),
+            (sym c.in_default-inquiry_of.ensures)) (no_repeat line (sym c.in_default-repeat_of.ensures)) c.in_default-watch_of.ensures.none,
         (c.in-Err.ensures.fault c.in-Err.fault).0 refl,
         refl,
       ),
@@ -73,5 +78,6 @@ returns-in-Err-clause-only c =
     let line = c.args.line.now in
     let no_quit : line ≢ quit_line = search rules in
     only_fault line c.if-line-gt-MAX_BYTES.false (not_own line c.in_default.ensures.none no_quit c.in_default-seat_of.ensures.none
-    (no_inquiry line (sym c.in_default-inquiry_of.ensures)) (no_repeat line (sym c.in_default-repeat_of.ensures))) (Err c.in-Err.fault)
+    (no_inquiry line (sym c.in_default-inquiry_of.ensures)) (no_repeat line (sym c.in_default-repeat_of.ensures))
+    c.in_default-watch_of.ensures.none) (Err c.in-Err.fault)
     (λ command is. (c.in-Err.ensures.command command).1 is) (λ fault is. (c.in-Err.ensures.fault fault).1 is) c.in-Err.fault refl

@@ -14,6 +14,7 @@ loop-init g c =
       so_far = ([], refl, rw c.new-text.ensures.items (begun_repeat c.args.self.now.seat c.args.command.now part));
       seat = refl;
       lines = refl;
+      watched = refl;
       seats = refl;
       later = stays;
     }
@@ -32,6 +33,7 @@ loop-preserved g c =
       so_far = (so.so_far.0 ++ more.0 ∷ [], length-append so.so_far.0 (more.0 ∷ []) ∙ ap (λ n. n + 1) so.so_far.1, more.1);
       seat = c.call.ensures.seat ∙ so.seat;
       lines = c.call.ensures.lines ∙ so.lines;
+      watched = c.call.ensures.watched ∙ so.watched;
       seats = c.call.ensures.seats ∙ so.seats;
       later = goes c.loop.self.caller c.call.new.self.caller so.later c.call.ensures.later;
     }
@@ -45,8 +47,9 @@ returns-in_err-call-clause-responds g c =
     subst (λ (seat : ℕ). GivesOnce {E = NoMemory} (Err c.in_err-call.field-0.0) (part c.loop.self.caller) (entry seat c.args.command.now)
     c.loop.text.items c.call.new.text.items (part c.call.new.self.caller)) so.seat c.in_err-call.ensures.gives in
     rw p.1
-    (cut_short g.C.Caller.answers c.args.style.now (seen_by part c.args.self.now) c.args.command.now c.args.times so.so_far.0 (rw so.so_far.1 c.loop-test.true)
-    (part c.loop.self.caller) c.loop.text.items so.so_far.2 NoMemory c.in_err-call.field-0.0 c.call.new.text.items (seen_by part c.call.new.self) gives)
+    (λ seen news. cut_short g.C.Caller.answers c.args.style.now seen news (seen_by part c.args.self.now) c.args.command.now
+    c.args.times so.so_far.0 (rw so.so_far.1 c.loop-test.true) (part c.loop.self.caller) c.loop.text.items so.so_far.2
+    NoMemory c.in_err-call.field-0.0 c.call.new.text.items (seen_by part c.call.new.self) gives)
 
 pub returns-in_err-call-clause-later : goal.returns-in_err-call-clause-later
 returns-in_err-call-clause-later g c = goes c.loop.self.caller c.call.new.self.caller c.loop.invariant.later c.call.ensures.later
@@ -58,7 +61,7 @@ returns-then-branch-clause-responds g c =
     let gives =
     subst (λ (seat : ℕ). GivesOnce {E = NoMemory} (Ok c.in_ok-call.field-0) (part c.loop.self.caller) (entry seat c.args.command.now)
     c.loop.text.items c.call.new.text.items (part c.call.new.self.caller)) so.seat c.in_ok-call.ensures.gives in
-    last_given g.C.Caller.answers c.args.style.now (seen_by part c.args.self.now) c.args.command.now c.args.times
+    λ seen news. last_given g.C.Caller.answers c.args.style.now seen news (seen_by part c.args.self.now) c.args.command.now c.args.times
     so.so_far.0 (rw so.so_far.1 c.loop-test.true) (part c.loop.self.caller) c.loop.text.items so.so_far.2
     NoMemory c.call.new.text (seen_by part c.call.new.self) c.in_ok-call.field-0 gives c.if-branch.true
 
@@ -69,5 +72,5 @@ pub returns-clause-responds : goal.returns-clause-responds
 returns-clause-responds g c =
     let so = c.loop.invariant in
     let part = g.C.Caller.part in
-    all_given g.C.Caller.answers c.args.style.now (seen_by part c.args.self.now) c.args.command.now c.args.times so.so_far.0 NoMemory
+    λ seen news. all_given g.C.Caller.answers c.args.style.now seen news (seen_by part c.args.self.now) c.args.command.now c.args.times so.so_far.0 NoMemory
     c.loop.text (seen_by part c.loop.self) so.so_far.2 (omega (arith, so.so_far.1, c.loop.auto.counter-end, c.loop-test.false))

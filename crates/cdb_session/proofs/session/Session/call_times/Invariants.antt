@@ -10,6 +10,7 @@ invariant-loop g l = record {
       × HasRepeated l.initial.self.seat l.command (g.C.Caller.part l.initial.self.caller) got (g.C.Caller.part l.self.caller) l.text.items;
   seat : l.self.seat ≡ l.initial.self.seat;
   lines : l.self.lines ≡ l.initial.self.lines;
+  watched : l.self.watched ≡ l.initial.self.watched;
   seats : g.C.Caller.seats l.self.caller ≡ g.C.Caller.seats l.initial.self.caller;
   later : Onward g.C.Caller.later l.initial.self.caller l.self.caller;
 }
