@@ -1,5 +1,6 @@
 pub mod OnAndOn
 mod TooMany
+mod JournalFaults
 pub mod ListItems
 pub mod PageSteps
 pub mod PageTrace
