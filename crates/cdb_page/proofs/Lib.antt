@@ -1,6 +1,5 @@
 pub mod OnAndOn
 mod TooMany
-mod JournalFaults
 pub mod ListItems
 pub mod PageSteps
 pub mod PageTrace

@@ -207,7 +207,7 @@ same_file (Some its) None its_rest rest is = absurd (omega (arith, ap first_of i
 same_file (Some its) (Some file) its_rest rest is =
     let behind = ap rest_of is in
     let same = same_known its.bytes file.bytes its_rest rest (ap rest_of behind) in
-    let whole = (λ (bytes : Option (List ℕ)) (failures : ℕ). Some (record { bytes = bytes; failures = failures })) in
+    let whole : Option (List ℕ) → ℕ → Option Stream = λ bytes failures. Some (record { bytes = bytes; failures = failures }) in
     (ap (λ bytes. whole bytes its.failures) same.0 ∙ ap (λ failures. whole file.bytes failures) (ap first_of behind), same.1)
 
 -- what holds the same at its beginning was made with the same, and then it holds the same too

@@ -151,7 +151,7 @@ impl<'a, J: Sink + Drop, P: Rewritten + Drop> LivePage<'a, J, P> {
         journal: Option<J>,
         mut page: P,
     ) -> Result<Self, NoMemory>
-        requires new { IfSome (P.versions page).texts (λ texts. texts ≡ []) }
+        requires { IfSome (P.versions page).texts (λ texts. texts ≡ []) }
         ensures made { IfOk result (IsMadeWith (option_map J.stream journal) setup.now from.now) }
         ensures empty { IfOk result (λ it. it.taken ≡ []) }
     {
