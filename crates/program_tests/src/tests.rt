@@ -9,6 +9,7 @@ mod files;
 mod one_seat;
 mod person;
 mod reading;
+mod several_seats;
 mod streams;
 
 use cdb_base::Request;

@@ -30,8 +30,7 @@ fn main(rt: HostRuntime) -> ExitCode {
     };
     let is_terminal = rt.stdin().is_terminal();
     let words = words_of(&rt);
-    let arguments = words.as_ref().map_or(0, |words| words.len());
-    let _ = eprint!(&rt; "{}", hint_at(is_terminal, arguments));
+    let _ = eprint!(&rt; "{}", hint_at(is_terminal, &words));
     let status = begin(&rt, rt.alloc(), prompt_at(is_terminal), words, &mut world);
     ExitCode::from(status)
 }

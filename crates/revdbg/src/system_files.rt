@@ -4,7 +4,7 @@ ghost use Rattle.std.specs.Prelude.{◌≡◌};
 ghost use Rattle.std.specs.IoError.{error_kind};
 ghost use Rattle.revdbg.specs.System.{read_fault_of};
 
-use crate::seats::{pair_of, path_of, prompt_at};
+use crate::seats::{is_of_seat, pair_of, path_of, prompt_at};
 use cdb_base::NoMemory;
 use cdb_page::Rewritten;
 use cdb_program::Files;
@@ -43,17 +43,9 @@ impl<'a> SystemFiles<'a> {
 
     /// Whether this is the name of a file that was made, or that a seat reads from or writes to.
     fn is_taken(&self, name: &str) -> bool {
-        for taken in &self.taken {
-            if taken.as_str() == name {
-                return true;
-            }
-            if let Some((input, output)) = pair_of(taken.as_str()) {
-                if input == name || output == name {
-                    return true;
-                }
-            }
-        }
-        false
+        self.taken
+            .iter()
+            .any(|taken| is_of_seat(taken.as_str(), name))
     }
 }
 
@@ -141,20 +133,23 @@ fn replace_file(
     }
 }
 
-/// A file of a page, which is written anew.
+/// A file of a page, which is written anew, and whether that failed last.
 #[derive(Drop)]
 pub struct SystemPage {
     rt: HostRuntime,
     name: String,
+    failed: bool,
 }
 
 impl Rewritten for SystemPage {
     ghost use Rattle.std.specs.Prelude.{None};
 
-    ghost versions = { λ _. None };
+    ghost versions = { λ page. record { texts = None; failed = page.failed } };
 
     fn rewrite(&mut self, alloc: Global, text: &[u8]) -> Result<(), OutputFault> {
-        replace_file(&self.rt, alloc, self.name.as_str(), text)
+        let replaced = replace_file(&self.rt, alloc, self.name.as_str(), text);
+        self.failed = replaced == Err(OutputFault::Write);
+        replaced
     }
 }
 
@@ -230,6 +225,7 @@ impl<'a> Files for SystemFiles<'a> {
 
     fn make_file(&mut self, alloc: Global, name: &str) -> Result<Output<File>, ReadFault> {
         let taken = String::from_str(alloc, name)?;
+        self.taken.reserve(1)?;
         let made = if self.is_taken(name) {
             Err(io::Error::from(ErrorKind::AlreadyExists))
         } else {
@@ -237,7 +233,7 @@ impl<'a> Files for SystemFiles<'a> {
         };
         match made {
             Ok(file) => {
-                self.taken.push(taken).map_err(AllocError::from)?;
+                self.taken.push_reserved(taken);
                 Ok(Output::new(file))
             }
             Err(error) => {
@@ -251,10 +247,13 @@ impl<'a> Files for SystemFiles<'a> {
     }
 
     fn make_page(&mut self, alloc: Global, name: &str) -> Result<SystemPage, ReadFault> {
+        let page_name = String::from_str(alloc, name)?;
         self.make_file(alloc, name)?;
-        let rt = *self.rt;
-        let name = String::from_str(alloc, name)?;
-        Ok(SystemPage { rt, name })
+        Ok(SystemPage {
+            rt: *self.rt,
+            name: page_name,
+            failed: false,
+        })
     }
 
     fn take_folder(&mut self, _alloc: Global, name: &str) -> Result<(), ReadFault> {

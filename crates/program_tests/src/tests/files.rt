@@ -64,9 +64,9 @@ fn content_of(name: &str) -> Option<&'static [u8]> {
 pub struct Paper;
 
 impl Rewritten for Paper {
-    ghost use Rattle.std.specs.Prelude.{None};
+    ghost use Rattle.std.specs.Prelude.{None, false};
 
-    ghost versions = { λ _. None };
+    ghost versions = { λ _. record { texts = None; failed = false } };
 
     fn rewrite(&mut self, _alloc: Global, _text: &[u8]) -> Result<(), OutputFault> {
         Ok(())

@@ -58,7 +58,7 @@ returns-clause-does g c =
         begun = made;
         ended = ended;
         session = session;
-        page = (debugged_page journal c.args.prompt.now json begun json begun _ _ first ended made session, c.outcome.ensures.keeps_up);
+        page = (debugged_page c.args.prompt.now json begun _ _ first ended session, c.outcome.ensures.keeps_up);
         ends = rw (← c.outcome.ensures.is) c.of_paged.ensures;
       },
     ))

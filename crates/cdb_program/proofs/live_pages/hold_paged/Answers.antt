@@ -62,7 +62,7 @@ returns-in-Ok-clause-sessions g c =
     let made : IsNewPage journal json begun first = rw (← c.as_slice-json.ensures.value, ← c.as_slice-begun.ensures.value) c.in_ok-live.ensures.page in
     let held = rw (c.as_slice-json.ensures.value, c.as_slice-begun.ensures.value) at c.in-Ok.ensures.sessions in
     let shown = c.outcome_of.result in
-    let its = kept_by journal json begun first c.in-Ok.kept _ shown made held.keeps c.outcome_of.ensures.keeps_up c.outcome_of.ensures.is in
+    let its = kept_by first c.in-Ok.kept _ shown held.keeps c.outcome_of.ensures.keeps_up c.outcome_of.ensures.is in
     let files_before = g.F.Files.seen c.world.inside.files in
     let session =
     holds_seen rules IsAnswer g.F.Seat.Seat.Console.known opens stream_of g.O.Sink.stream
