@@ -181,8 +181,8 @@ impl AnyRun {
 
     /// Removes an event with its consequences, adds what was removed to the end of a list, the last first, and
     /// returns how many events that are; or returns the first refusal that holds: `NoProcess` or `NoStep`. After a
-    /// refusal and after `NoMemory` run and list are as they were. A refusal takes no memory. What it adds may be given to
-    /// `again`.
+    /// refusal and after `NoMemory` run and list are as they were. A refusal takes no memory. What it adds may be given
+    /// to `again`.
     pub fn rollback_event(
         &mut self,
         alloc: Global,

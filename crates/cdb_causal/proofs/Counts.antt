@@ -1,7 +1,8 @@
 -- An event is free exactly where it is a direct cause of none, and the other events keep their direct causes when one is added
 -- and when a free one goes.
 use Rattle.std.proofs.lemmas.Bool.{cases_eq}
-use Rattle.std.proofs.Common.{◌≡◌, ℕ, zero, suc, ◌<◌, ◌≤◌, ◌≢◌, Bool, ◌⊎◌, inl, inr, ⊎_elim, ◌↔◌, List, [], ◌∷◌, ◌++◌, length, refl, sym, ap, ◌∙◌, subst, arith, lt_irrefl}
+use Rattle.std.proofs.Common.{◌≡◌, ℕ, zero, suc, ◌<◌, ◌≤◌, ◌≢◌, Bool, ◌⊎◌, inl, inr, ⊎_elim, ◌↔◌, List}
+use Rattle.std.proofs.Common.{[], ◌∷◌, ◌++◌, length, refl, sym, ap, ◌∙◌, subst, arith, lt_irrefl}
 use Rattle.std.proofs.Common.{suc-le-suc, le_of_suc-le-suc}
 use Rattle.cdb_base.specs.Positions.{nth}
 use Rattle.cdb_causal.specs.Causality.{IsLink, IsFree, IsDirectCause}

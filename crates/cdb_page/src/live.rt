@@ -54,8 +54,8 @@ fn run_of_journal(alloc: Global, setup: &[u8], journal: &[u8]) -> Result<Trace, 
 /// The page of the run that a journal leaves on the setup of a text.
 ///
 /// # Errors
-/// `TooManyEvents` where that has more than 5,000 events; `Play` where there is no such run, as of `begin`, and where an
-/// allocation fails.
+/// `TooManyEvents` where that has more than 5,000 events; `Play` where there is no such run, as of `begin`, and where
+/// an allocation fails.
 fn page_of_journal(alloc: Global, setup: &[u8], journal: &[u8]) -> Result<Vec<u8>, ExplainFault>
     ensures page { IfOk result (λ page. IsPageOfJournal setup.now journal.now page.items) }
     ensures fault { IfErr result (IsFaultOfJournalPage setup.now journal.now) }

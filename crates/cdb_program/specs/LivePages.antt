@@ -44,7 +44,8 @@ abbrev pub IsNewPage : Option (List ℕ) → List ℕ → List ℕ → Live → 
 IsNewPage journal json from it =
     IsNewFile journal it.journal_before × (it.json ≡ json) × (it.from ≡ from) × (it.taken ≡ [])
 
--- The page later: it has kept up with the journal. So its file of the journal, where it has one, holds all that it took.
+-- The page later: it has kept up with the journal. So its file of the journal, where it has one,
+-- holds all that it took.
 abbrev pub IsKeptPage : Live → Live → Type 0
 IsKeptPage first it = IsMadeWith first.journal_before first.json first.from it × KeepsUp it
 

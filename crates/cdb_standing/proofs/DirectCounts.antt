@@ -72,7 +72,8 @@ module _ (history : List Event) (name : StepId) (position : ℕ) (is : IsPositio
   counted at named = rw (is.only at named) counts
 
   pub counted_free : IsZeroWhereFree history name count
-  counted_free at named = rw (is.only at named) ((λ zeros. free.1 (no_effect counts.0 counts.1.0 counts.1.1 (sym counts.2 ∙ zeros))), (λ is_free. zero_count (free.0 is_free)))
+  counted_free at named =
+      rw (is.only at named) ((λ zeros. free.1 (no_effect counts.0 counts.1.0 counts.1.1 (sym counts.2 ∙ zeros))), (λ is_free. zero_count (free.0 is_free)))
     where
       free : IsFree depends history position ↔ HasNoEffect depends history position
       free = free_without_effects depends history position

@@ -149,7 +149,8 @@ module _ (of : Kind → Option ℕ) {mark p : ℕ} (k : ℕ) {kind : Kind} {low 
   others : (q n : ℕ) → q ≢ p → listed of n 1 (row_of high q) ≡ listed of n 1 (row_of low q)
   others q n other = ap (listed of n 1) (put.others q other)
 
-  pub list_more : {old : List (List Access)} (new : List (List Access)) → AreListed of old low → IsListedAt (of kind) p (access_of mark k) old new → AreListed of new high
+  pub list_more : {old : List (List Access)} (new : List (List Access)) → AreListed of old low
+      → IsListedAt (of kind) p (access_of mark k) old new → AreListed of new high
   list_more {old} new lists more = by (of kind) refl more
     where
       by : (o : Option ℕ) → of kind ≡ o → IsListedAt o p (access_of mark k) old new → AreListed of new high

@@ -94,7 +94,8 @@ module _ (IsRemoved : ℕ → Type 0) where
 pub free_alone : (history : List Event) (at : ℕ) (it : Event) → 1 ≤ at → nth history at ≡ Some it
     → IsFree depends history at → rolled_back depends history at ≡ it ∷ []
 free_alone history at it one there free =
-    rolled_back_split depends history at it there ∙ ap (λ l. it ∷ l) (none_found (IsConsequence depends history at) none (consequences_parted depends history at one).1)
+    rolled_back_split depends history at it there
+    ∙ ap (λ l. it ∷ l) (none_found (IsConsequence depends history at) none (consequences_parted depends history at one).1)
   where
     none : (i : ℕ) → IsConsequence depends history at i → ⊥
     none i (direct link) = free i link

@@ -87,8 +87,8 @@ impl<P: Process> Run<P> {
 
     /// Removes an event with its consequences, adds what was removed to the end of a list, the last first, and
     /// returns how many events that are; or returns the first refusal that holds: `NoProcess` or `NoStep`. After a
-    /// refusal and after `NoMemory` run and list are as they were. A refusal takes no memory. What it adds may be given to
-    /// `again`.
+    /// refusal and after `NoMemory` run and list are as they were. A refusal takes no memory. What it adds may be given
+    /// to `again`.
     ///
     /// Promise: A rollback removes an event with exactly its consequences, the least set that holds the event and each
     /// that depends on one of them; what it removed, taken again in order, leads to the state before. Memory that is

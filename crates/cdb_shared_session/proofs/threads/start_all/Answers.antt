@@ -57,7 +57,8 @@ loop-seat-preserved g c =
           let there : its ≡ get_or c.args.openers.items (vec_len c.args.openers - 1 - length c.loop-seat.handles.items) opener =
           sym (get_or-middle c.pop-in-Some.new.self.items was.left_openers.0 c.args.openers.items its opener _ all_openers at_opener) in
           let one =
-          subst (λ (x : SeatView × g.row.P.Denot). IsSeatPromise x.0 x.1 c.in_ok-handle.handle.promise) (λ i. (here i, there i)) c.in_ok-handle.ensures.promise in
+          subst (λ (x : SeatView × g.row.P.Denot). IsSeatPromise x.0 x.1 c.in_ok-handle.handle.promise)
+          (λ i. (here i, there i)) c.in_ok-handle.ensures.promise in
           each_push (λ (i : ℕ) (h : PromisedHandle (SeatResult g.row.R.Denot g.row.P-Seat.Denot) (SeatPromise g.row.R.Denot g.row.A.Denot g.row.P.Denot)).
           IsSeatPromise (get_or all (vec_len c.args.seats - 1 - i) before) (get_or c.args.openers.items (vec_len c.args.openers - 1 - i) opener) h.promise)
           c.loop-seat.handles.items c.push_reserved.new.self.items c.in_ok-handle.handle

@@ -28,12 +28,14 @@ pub returns-in-Read : goal.returns-in-Read
 returns-in-Read c =
     let apart = eqb-false c.args.p c.args.q (sym c.eq.ensures ∙ c.if-eq.false) in
     rw c.in-Read.is
-    (read_last c.requires.kept.sound c.args.p c.args.k c.args.ahead c.args.q apart c.in-Read.register (rw c.in-Read.is at c.requires.at) c.requires.kept.writes (omega arith) (omega arith)
+    (read_last c.requires.kept.sound c.args.p c.args.k c.args.ahead c.args.q apart c.in-Read.register
+    (rw c.in-Read.is at c.requires.at) c.requires.kept.writes (omega arith) (omega arith)
     (omega arith) c.by_list.result (rw c.number_of.ensures.value at c.by_list.ensures))
 
 pub returns-in-Write : goal.returns-in-Write
 returns-in-Write c =
     let apart = eqb-false c.args.p c.args.q (sym c.eq.ensures ∙ c.if-eq.false) in
     rw c.in-Write.is
-    (write_last c.requires.kept.sound c.args.p c.args.k c.args.ahead c.args.q apart c.in-Write.register (rw c.in-Write.is at c.requires.at) c.requires.kept.accesses (omega arith) (omega arith) (omega arith)
+    (write_last c.requires.kept.sound c.args.p c.args.k c.args.ahead c.args.q apart c.in-Write.register
+    (rw c.in-Write.is at c.requires.at) c.requires.kept.accesses (omega arith) (omega arith) (omega arith)
     c.by_list-in-Write.result (rw c.number_of-in-Write.ensures.value at c.by_list-in-Write.ensures))

@@ -13,7 +13,8 @@ loop-i-preserved c =
     let so_far = c.loop-i.invariant.counted in
     elim c.if-is_direct_cause.branch [
       | then-is_direct_cause w ↦ record {
-        counted = rw w.count-is (one_counted events c.args.at c.loop-i.i c.loop-i.count (omega arith) so_far (c.is_direct_cause.ensures.0 w.if-is_direct_cause.true));
+        counted =
+            rw w.count-is (one_counted events c.args.at c.loop-i.i c.loop-i.count (omega arith) so_far (c.is_direct_cause.ensures.0 w.if-is_direct_cause.true));
         few = omega arith;
       }
       | else-is_direct_cause w ↦ record {
