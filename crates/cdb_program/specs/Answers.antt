@@ -6,6 +6,7 @@ use Rattle.cdb_base.specs.declared.question.StepAsked.{StepAsked}
 use Rattle.cdb_explain.specs.Asked.{StandsNoStep}
 use Rattle.cdb_explain.specs.Explanations.{IsStepExplained}
 use Rattle.cdb_rules.specs.RunView.{RunView}
+use Rattle.cdb_session.specs.Exchanges.{Answer}
 use Rattle.cdb_session.specs.declared.inquiry.Inquiry.{Inquiry}
 use Rattle.cdb_session.specs.declared.inquiry.Inquiry.TheVariants.{Explain, Trail}
 use Rattle.cdb_trail.specs.Written.{IsTrailToStep, TakesNoValue}
@@ -27,6 +28,6 @@ abbrev pub IsTrailed : RunView → StepAsked → List ℕ → Type 0
 IsTrailed run step text =
     IsTrailToStep run step.p step.k text ⊎ (TellsNoStep run step text ⊎ TellsNoValue run step text)
 
-abbrev pub IsAnswer : RunView → Inquiry → List ℕ → Type 0
+abbrev pub IsAnswer : RunView → Inquiry → Answer → Type 0
 IsAnswer run (Explain step) = IsExplained run step
 IsAnswer run (Trail step) = IsTrailed run step

@@ -12,7 +12,7 @@ use Rattle.cdb_session.specs.Unfinished.{IsOver, part_with, ended_well, ended_by
 use Rattle.cdb_session.specs.Requests.{HasNoEnd}
 use Rattle.cdb_session.specs.Moves.{Known, Move, AreWrites, Makes}
 use Rattle.cdb_rules.specs.RunView.{RunView}
-use Rattle.cdb_session.specs.Exchanges.{Outcome, commands_among}
+use Rattle.cdb_session.specs.Exchanges.{Answer, commands_among}
 use Rattle.cdb_session.specs.declared.inquiry.Inquiry.{Inquiry}
 use Rattle.cdb_session.specs.declared.request.Request.{Request}
 use Rattle.cdb_session.specs.declared.request.Request.TheVariants.{Quit}
@@ -25,7 +25,7 @@ use Rattle.cdb_session.proofs.Along.{replies_along, seat_along}
 use Rattle.cdb_session.specs.Unfinished.{IsAt, MoreMayFollow, StaysAt, IsLineDone, IsLineBroken, IsRequestLost, RespondsToLine, HasEndedAs, Feeds}
 use Rattle.cdb_session.specs.Lines.{SessionView, HasGot, at_line}
 use Rattle.cdb_session.specs.Served.{IsSession}
-use Rattle.cdb_session.proofs.GotReplies.{may_follow, same_replies, same_line, commands_done, commands_lost}
+use Rattle.cdb_session.proofs.GotReplies.{given_so, may_follow, same_replies, same_line, commands_done, commands_lost}
 use Rattle.cdb_session.proofs.NextState.{more_unfinished, lost_before, line_lost, line_broken, line_responded}
 use Rattle.cdb_session.proofs.NextState.{line_quit, last_lost, last_broken, last_responded, no_last_line}
 
@@ -35,13 +35,10 @@ false_is_not_true b is holds = search rules
 true_is_true : (b : Bool) → b ≡ true → IsTrue b
 true_is_true b is = search rules
 
-nothing : Outcome
-nothing = record { given = 0; answer = [] }
-
 no_more : (part : Part) → MoreMayFollow [] part
 no_more part full = refl
 
-module _ (Answers : RunView → Inquiry → List ℕ → Type 0) (style : StyleView) where
+module _ (Answers : RunView → Inquiry → Answer → Type 0) (style : StyleView) where
   -- the seat of a session is that which its lines chose last
   sits : {replies : List ReplyView} {moves : List Move} {part : Part} {along : Along} {unfinished left : List ℕ}
       (at : IsAt Answers style replies moves part along unfinished left) → along.seat ≡ seat_behind style.chooses style.first at.exchanges
@@ -119,7 +116,7 @@ module _ (Answers : RunView → Inquiry → List ℕ → Type 0) (style : StyleV
         let now = before_line moves old unfinished (10 ∷ left) at new.part d.request d.begun.got d.begun.calls [] (no_more new.part) in
         finish (ended_by (output.NoMemory refused)) moves new
         (line_lost Answers style (new.part.replies ++ []) moves old.part (at_line old (d.begun.got ++ []))
-        unfinished left now (d.request, nothing) d.asks new.part (commands_lost Answers style old.seat now.exchanges
+        unfinished left now (d.request, given_so 0) d.asks new.part (commands_lost Answers style old.seat now.exchanges
         (sits now) (new.part.replies ++ []) old.part new.part d.request d.begun (behind now) now.commands))
 
   module _ (moves : List Move) (old : SessionView) (unfinished : List ℕ) (at : StaysAt Answers style moves old unfinished []) (over : IsOver moves) where
@@ -155,7 +152,7 @@ module _ (Answers : RunView → Inquiry → List ℕ → Type 0) (style : StyleV
           let now = before_line moves old unfinished [] at new.part d.request d.begun.got d.begun.calls [] (no_more new.part) in
           finish (ended_by (output.NoMemory refused)) moves new
           (last_lost Answers style (new.part.replies ++ []) moves old.part (at_line old (d.begun.got ++ [])) unfinished
-          now over some (d.request, nothing) d.asks new.part (commands_lost Answers style old.seat now.exchanges
+          now over some (d.request, given_so 0) d.asks new.part (commands_lost Answers style old.seat now.exchanges
           (sits now) (new.part.replies ++ []) old.part new.part d.request d.begun (behind now) now.commands))
 
   -- from the first of the bytes on, up to those that are left

@@ -1,7 +1,7 @@
 -- What one line does to a session, and to what the journal has of it.
 use Rattle.std.proofs.Common.{◌≡◌, ◌≢◌, ◌⊎◌, inl, inr, ℕ, zero, suc, ◌+◌, ◌-◌, ◌<◌, ◌≤◌, Bool, true, false, List, [], ◌∷◌, ◌++◌}
 use Rattle.std.proofs.Common.{drop, length, refl, sym, ap, subst, ◌∙◌, append_assoc, append-nil, arith, length-append, min}
-use Rattle.std.specs.Prelude.{if◌then◌else◌, replicate}
+use Rattle.std.specs.Prelude.{if◌then◌else◌, replicate, Ok}
 use Rattle.std.proofs.lemmas.Bool.{cases_lt}
 use Rattle.std.proofs.lemmas.List.{length-replicate, replicate-append-replicate, nil_from_length}
 use Rattle.cdb_commands.specs.ReplyView.{ReplyView, is_refused}
@@ -11,7 +11,7 @@ use Rattle.cdb_control.specs.declared.control.Entry.{Entry}
 use Rattle.cdb_rules.specs.RunView.{RunView}
 use Rattle.cdb_text.specs.Texts.{text_of}
 use Rattle.cdb_session.specs.Answers.{AnswersNow, AreTold, IsAnsweredAfter, IsDoneAfter, HasExchanges}
-use Rattle.cdb_session.specs.Exchanges.{Exchange, Outcome, given_at, commands_among}
+use Rattle.cdb_session.specs.Exchanges.{Answer, Exchange, Outcome, commands_among, given_at}
 use Rattle.cdb_session.specs.declared.inquiry.Inquiry.{Inquiry}
 use Rattle.cdb_session.specs.declared.request.Request.{Request}
 use Rattle.cdb_session.specs.declared.request.Request.TheVariants.{Call, Ask, Seat, Help, Quit, Fault, TooLong}
@@ -87,7 +87,11 @@ given_not Quit outcome other = refl
 given_not (Fault fault) outcome other = refl
 given_not TooLong outcome other = refl
 
-pub none_done : (Answers : RunView → Inquiry → List ℕ → Type 0) (seat : ℕ) (old new : Part) (request : Request) (outcome : Outcome)
+-- a line whose command was given so often
+abbrev pub given_so : ℕ → Outcome
+given_so count = record { given = count; answer = Ok []; saved = true }
+
+pub none_done : (Answers : RunView → Inquiry → Answer → Type 0) (seat : ℕ) (old new : Part) (request : Request) (outcome : Outcome)
     → MakesNone old new → ((command : Command) (times : ℕ) → request ≢ Call command times)
     → ((inquiry : Inquiry) → request ≡ Ask inquiry → AnswersNow Answers new inquiry outcome.answer)
     → HasDone Answers seat old (request, outcome) [] new
@@ -140,7 +144,7 @@ given_same (suc times) [] more fits last = ap (times_given (suc times)) (last (o
 given_same (suc times) (reply ∷ got) more fits last =
     by_reply (times_given times (got ++ more)) (times_given times got) (length got) more (is_refused reply) (given_same times got more) fits last
 
-module _ (Answers : RunView → Inquiry → List ℕ → Type 0) (style : StyleView) where
+module _ (Answers : RunView → Inquiry → Answer → Type 0) (style : StyleView) where
   abbrev with_replies : ℕ → ℕ → List ReplyView → Along
   with_replies seat lines replies = record { seat = seat; replies = replies; lines = lines }
 
@@ -348,7 +352,7 @@ module _ (Answers : RunView → Inquiry → List ℕ → Type 0) (style : StyleV
           → HasExchanges Answers style (part_with replies old) exchanges → HasPart exchanges replies new request
       commands_lost (Call command times) begun left has =
           let got = begun.got in
-          let exchange : Exchange = (Call command (length got), record { given = length got; answer = [] }) in
+          let exchange : Exchange = (Call command (length got), given_so (length got)) in
           let done : HasDone Answers seat old exchange got new =
           record {
             calls = begun.calls;
@@ -387,7 +391,7 @@ all_given (suc times) (reply ∷ got) fits = whole (is_refused reply) got (times
     whole true got here rest fits = let few : length got ≡ 0 = omega (arith, fits) in omega (arith, few)
     whole false got here rest fits = let e = rest (omega (arith, fits)) in omega (arith, e)
 
-pub begun_where_done : (Answers : RunView → Inquiry → List ℕ → Type 0) (seat : ℕ) (old new : Part) (request : Request)
+pub begun_where_done : (Answers : RunView → Inquiry → Answer → Type 0) (seat : ℕ) (old new : Part) (request : Request)
     (outcome : Outcome) (got : List ReplyView) → HasDone Answers seat old (request, outcome) got new → HasBegun seat old request new
 begun_where_done Answers seat old new (Call command times) outcome got done =
     let fits : length got ≤ times_given times got = omega (arith, done.fits, done.given) in

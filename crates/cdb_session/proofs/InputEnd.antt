@@ -3,7 +3,7 @@ use Rattle.std.proofs.Common.{◌≡◌, ℕ, ◌<◌, List, [], ◌∷◌, leng
 use Rattle.std.specs.Prelude.{Result, Ok, Err}
 use Rattle.std.specs.Io.{ReadsAtMost}
 use Rattle.std.specs.Io.KnownBytes.{Consumes, IsAtEnd, ReadConsumes}
-use Rattle.cdb_session.specs.Moves.{Move, Read, ReadFailed, Wrote, WriteFailed, read_in, FindsTheEnd, AreAllOf, move_of_read, move_of_write}
+use Rattle.cdb_session.specs.Moves.{Move, Read, ReadFailed, Saving, Wrote, WriteFailed, Saves, read_in, FindsTheEnd, AreAllOf, move_of_read, move_of_write}
 
 -- the one move is a read of nothing
 only_move : (move : Move) → FindsTheEnd (move ∷ []) → move ≡ Read []
@@ -42,3 +42,10 @@ read_to_end E old new (Ok count) buffer some within consumes finds =
 pub write_is_no_end : (E : Type 0) (A : Type 0) (result : Result ℕ E) (piece : List ℕ) → FindsTheEnd (move_of_write result piece ∷ []) → A
 write_is_no_end E A (Ok count) piece finds = absurd (write_is_no_read (take count piece) (only_move _ finds))
 write_is_no_end E A (Err e) piece finds = absurd (failed_write_is_no_read (only_move _ finds))
+
+-- nor is a file
+file_is_no_read : (saving : Saving) → Saves saving ≡ Read [] → ⊥
+file_is_no_read saving e = cc
+
+pub file_is_no_end : (A : Type 0) (saving : Saving) → FindsTheEnd (Saves saving ∷ []) → A
+file_is_no_end A saving finds = absurd (file_is_no_read saving (only_move _ finds))

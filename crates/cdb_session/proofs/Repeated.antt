@@ -15,9 +15,10 @@ use Rattle.cdb_session.specs.Lines.{SessionView, HasBegun, Responds, GivesOnce}
 use Rattle.cdb_session.specs.Repeats.{times_given}
 use Rattle.cdb_session.specs.Replies.{replies_text}
 use Rattle.cdb_session.specs.Styles.{StyleView, Part, AreCalled, IsCalled, MakesNone}
+use Rattle.cdb_session.specs.Exchanges.{Answer}
 use Rattle.cdb_session.specs.declared.inquiry.Inquiry.{Inquiry}
 use Rattle.cdb_session.specs.declared.request.Request.TheVariants.{Call}
-use Rattle.cdb_session.proofs.GotReplies.{GoesOn-trans, MakesNone-refl, none_called}
+use Rattle.cdb_session.proofs.GotReplies.{GoesOn-trans, MakesNone-refl, given_so, none_called}
 
 abbrev IsCarriedOut : ReplyView → Type 0
 IsCarriedOut reply = is_refused reply ≡ false
@@ -102,7 +103,7 @@ repeated_more seat command old got now before so E last text new (inr (none, ful
 
 -- ---- the end
 
-module _ (Answers : RunView → Inquiry → List ℕ → Type 0) (style : StyleView) (old : SessionView) (command : Command) (times : ℕ) (got : List ReplyView) where
+module _ (Answers : RunView → Inquiry → Answer → Type 0) (style : StyleView) (old : SessionView) (command : Command) (times : ℕ) (got : List ReplyView) where
   abbrev Repeated : Part → List ℕ → Type 0
   Repeated now text = HasRepeated old.seat command old.part got now text
 
@@ -110,7 +111,7 @@ module _ (Answers : RunView → Inquiry → List ℕ → Type 0) (style : StyleV
   pub all_given : (E : Type 0) (text : Vec ℕ Global) (new : SessionView) → Repeated new.part text.items
       → length got ≡ times → Responds Answers style {E = E} (Ok text) old (Call command times) new
   all_given E text new so all = (
-    record { given = length got; answer = [] },
+    given_so (length got),
     got,
     record {
       calls = so.calls;
@@ -134,7 +135,7 @@ module _ (Answers : RunView → Inquiry → List ℕ → Type 0) (style : StyleV
         let one : times_given (suc left.0) (reply ∷ []) ≡ 1 = rw is_last refl in
         let all : times_given times (got ++ reply ∷ []) ≡ length (got ++ reply ∷ []) =
         omega (arith, given_more got (reply ∷ []) (suc left.0) times so.carried_out left.1, one, one_longer got reply) in (
-          record { given = length (got ++ reply ∷ []); answer = [] },
+          given_so (length (got ++ reply ∷ [])),
           got ++ reply ∷ [],
           record {
             calls = once_more (entry old.seat command) got old.part now new.part reply so.calls call;
@@ -149,7 +150,7 @@ module _ (Answers : RunView → Inquiry → List ℕ → Type 0) (style : StyleV
         let e = ap (times_given times) (append-nil got) in
         let all : times_given times got ≡ length got + 1 = omega (arith, e, given_more got [] (suc left.0) times so.carried_out left.1) in
         let f = ap (replies_text (length got + 1)) (append-nil got) in (
-          record { given = length got + 1; answer = [] },
+          given_so (length got + 1),
           got,
           record {
             calls = none_more (replicate (length got) (entry old.seat command)) got old.part now new.part so.calls none;

@@ -15,7 +15,7 @@ use Rattle.cdb_control.specs.Journal.{Journaled, Begins, entry, extended, reply_
 use Rattle.cdb_control.specs.State.{State, first_control_state}
 use Rattle.cdb_control.specs.declared.control.Entry.{Entry}
 use Rattle.cdb_session.specs.Table as table
-use Rattle.cdb_session.specs.Exchanges.{Exchange, Outcome, given_at}
+use Rattle.cdb_session.specs.Exchanges.{Answer, Exchange, Outcome, given_at}
 use Rattle.cdb_session.specs.declared.request.Request.TheVariants.{Call, Ask, Seat, Help, Quit, Fault, TooLong}
 use Rattle.cdb_rules.specs.RunView.{RunView}
 use Rattle.cdb_rules.specs.Rules.{Rules}
@@ -23,6 +23,7 @@ use Rattle.cdb_session.specs.declared.inquiry.Inquiry.{Inquiry}
 use Rattle.cdb_setup.specs.Parts.{Parts}
 use Rattle.cdb_session.specs.Replies.{Along, shown_from, dialogue, reply_text, next_replies, replies_text}
 use Rattle.cdb_session.specs.Dialogues.{shown_by, shown_from_by}
+use Rattle.cdb_session.specs.Moves.{says}
 use Rattle.cdb_session.specs.Alone.{all_replies_from, whole_part, nine}
 use Rattle.cdb_session.specs.Answers.{AreTold, HasExchanges, IsDoneAfter, IsTold, run_left}
 use Rattle.cdb_session.specs.Parts.{all_asked, all_of, asked_of, seat_next, HasCommands}
@@ -143,7 +144,7 @@ module _ (rules : Parts → Rules) (seat : ℕ) (command : Command) where
             ]
       ]
 
-module _ (Answers : RunView → Inquiry → List ℕ → Type 0) (greeting prompt : List ℕ) where
+module _ (Answers : RunView → Inquiry → Answer → Type 0) (greeting prompt : List ℕ) where
   -- the session with the replies to what these lines ask for
   abbrev along_of : table.Session → List Exchange → Along
   along_of s exchanges = record { seat = s.seat; replies = replies_at s.rules s.control (all_asked true s.seat exchanges); lines = s.lines }
@@ -156,8 +157,8 @@ module _ (Answers : RunView → Inquiry → List ℕ → Type 0) (greeting promp
       let its = steps s.rules s.seat command outcome.given s.control asked few in
       let more = grown_all s.rules s.seat command s.control outcome.given [] few in
       (λ i. let a : Along = record { seat = s.seat; replies = its.1 i; lines = s.lines + 1 } in
-      (its.0 i ++ prompt) ++ shown_from (nine greeting prompt) a exchanges)
-      ∙ ap (λ text. (table.texts_at s.rules s.seat command s.control outcome.given ++ prompt) ++ text)
+      (says (its.0 i) ++ says prompt) ++ shown_from (nine greeting prompt) a exchanges)
+      ∙ ap (λ outputs. (says (table.texts_at s.rules s.seat command s.control outcome.given) ++ says prompt) ++ outputs)
       (same (table.after_line s (Call command times, outcome)) exchanges others more.1)
   same s ((Ask inquiry, outcome) ∷ exchanges) others few =
       ap (λ text. table_one prompt s (Ask inquiry, outcome) ++ text) (same (table.after_line s (Ask inquiry, outcome)) exchanges others few)
@@ -208,7 +209,7 @@ module _ (Answers : RunView → Inquiry → List ℕ → Type 0) (greeting promp
   nothing_lost rules c before exchanges others seats begins few has =
       ap (λ (replies : List ReplyView). dialogue (nine greeting prompt) replies exchanges)
       (came_replies rules c before (exchanges ++ others) seats begins few has)
-      ∙ ap (λ text. (greeting ++ prompt) ++ text)
+      ∙ ap (λ outputs. says (greeting ++ prompt) ++ outputs)
       (same (table.begun rules c.setup before) exchanges others (omega (arith, few, ap length begins.1, length-append before begins.0)))
 
   -- ---- what the run was asked
@@ -249,17 +250,17 @@ module _ (Answers : RunView → Inquiry → List ℕ → Type 0) (greeting promp
     abbrev AreToldOf : ℕ → List Exchange → Type 0
     AreToldOf count exchanges = AreTold (IsDoneAfter Answers (came rules c before)) count exchanges
 
-    answered_there : (s : table.Session) (asked : List Entry) (exchanges : List Exchange) (count : ℕ) (inquiry : Inquiry) (text : List ℕ)
+    answered_there : (s : table.Session) (asked : List Entry) (exchanges : List Exchange) (count : ℕ) (inquiry : Inquiry) (answer : Answer)
         → IsThere s asked exchanges count
-        → IsTold Answers (came rules c before) count inquiry text → Answers (table.run_in s) inquiry text
-    answered_there s asked exchanges count inquiry text at (first, low, few, is, answers) =
+        → IsTold Answers (came rules c before) count inquiry answer → Answers (table.run_in s) inquiry answer
+    answered_there s asked exchanges count inquiry answer at (first, low, few, is, answers) =
         let whole : first ≡ min (length before + count) (length c.journal) = omega (arith, low, few, is, longer, length-drop (length before) c.journal) in
         let same : take first c.journal ≡ s.control.journal =
         ap (λ n. take n c.journal) whole ∙ take_min (length before + count) c.journal ∙ ap (λ n. take n c.journal) (sym at.counted)
         ∙ first_entries asked (all_asked true s.seat exchanges) c.journal at.all ∙ sym at.come_to in
         let run : run_left rules c.setup c.seats (take first c.journal) ≡ table.run_in s =
         λ i. run_left (sym at.rules_are i) (sym at.setup_is i) ((seats ∙ sym at.seats_are) i) (same i) in
-        subst (λ (r : RunView). Answers r inquiry text) run answers
+        subst (λ (r : RunView). Answers r inquiry answer) run answers
 
     -- after a command
     same_setup : (full : Bool) (kept other : Journaled) → other.setup ≡ kept.setup

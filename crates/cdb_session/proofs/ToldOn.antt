@@ -4,7 +4,7 @@ use Rattle.cdb_commands.specs.ReplyView.{ReplyView}
 use Rattle.cdb_session.specs.Parts.{IsGiven}
 use Rattle.cdb_rules.specs.RunView.{RunView}
 use Rattle.cdb_session.specs.Answers.{AreTold, IsTold, IsAnsweredAfter, IsDoneAfter}
-use Rattle.cdb_session.specs.Exchanges.{Exchange, commands_among, given_at}
+use Rattle.cdb_session.specs.Exchanges.{Answer, Exchange, commands_among, given_at}
 use Rattle.cdb_session.specs.Styles.{Part, GoesOn}
 use Rattle.cdb_session.specs.declared.inquiry.Inquiry.{Inquiry}
 use Rattle.cdb_session.specs.declared.request.Request.TheVariants.{Call, Ask, Seat, Help, Quit, Fault, TooLong}
@@ -13,11 +13,11 @@ use Rattle.cdb_session.specs.declared.request.Request.TheVariants.{Call, Ask, Se
 abbrev pub AsManyLater : Part → Part → ℕ → Type 0
 AsManyLater old new most = (n : ℕ) → n ≤ most → min n (length new.calls) ≡ min n (length old.calls)
 
-module _ (Answers : RunView → Inquiry → List ℕ → Type 0) where
+module _ (Answers : RunView → Inquiry → Answer → Type 0) where
   -- what was told of the journal so far is told of it later
-  told_on : (old new : Part) → GoesOn old new → (count : ℕ) (inquiry : Inquiry) (text : List ℕ)
-      → min count (length new.calls) ≡ min count (length old.calls) → IsTold Answers old count inquiry text → IsTold Answers new count inquiry text
-  told_on old new on count inquiry text many (first, low, few, which, answers) =
+  told_on : (old new : Part) → GoesOn old new → (count : ℕ) (inquiry : Inquiry) (answer : Answer)
+      → min count (length new.calls) ≡ min count (length old.calls) → IsTold Answers old count inquiry answer → IsTold Answers new count inquiry answer
+  told_on old new on count inquiry answer many (first, low, few, which, answers) =
       let run = on.left_by first few in
       (first, omega (arith, low, on.before), omega (arith, few, on.longer), on.calls_in first few ∙ which ∙ sym many, rw run answers)
 

@@ -1,12 +1,18 @@
 -- What a line asks for, with what came of it.
-use Rattle.std.specs.Prelude.{ℕ, ◌+◌, List, [], ◌∷◌}
+use Rattle.std.specs.Prelude.{ℕ, ◌+◌, Bool, List, [], ◌∷◌, Result}
 use Rattle.cdb_session.specs.declared.request.Request.{Request}
 use Rattle.cdb_session.specs.declared.request.Request.TheVariants.{Call}
 
--- how often the command of a line was given, and the answer to it where it asks something of the run
+-- the text that is asked for, or one that says why there is none
+abbrev pub Answer : Type 0
+Answer = Result (List ℕ) (List ℕ)
+
+-- how often the command of a line was given; and where it asks something of the run, the answer to it, and whether that
+-- was saved, where it was to be
 pub record Outcome : Type 0 where
   pub given : ℕ
-  pub answer : List ℕ
+  pub answer : Answer
+  pub saved : Bool
 
 abbrev pub Exchange : Type 0
 Exchange = Request × Outcome

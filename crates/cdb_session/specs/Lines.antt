@@ -1,21 +1,25 @@
 -- What one line does.
-use Rattle.std.specs.Prelude.{◌≡◌, ◌⊎◌, ℕ, ◌<◌, ◌≤◌, Bool, true, List, [], ◌++◌, length, Result, Ok, Err, Vec}
+use Rattle.std.specs.Prelude.{◌≡◌, ◌⊎◌, ℕ, ◌<◌, ◌≤◌, Bool, true, List, [], ◌∷◌, ◌++◌, length, if◌then◌else◌}
+use Rattle.std.specs.Prelude.{Option, None, Some, Result, Ok, Err, Vec}
 use Rattle.std.specs.Global.{Global}
 use Rattle.cdb_commands.specs.ReplyView.{ReplyView, is_refused}
 use Rattle.cdb_control.specs.declared.control.Entry.{Entry}
 use Rattle.cdb_rules.specs.RunView.{RunView}
 use Rattle.cdb_session.specs.Answers.{AnswersNow}
-use Rattle.cdb_session.specs.Exchanges.{Exchange, Outcome, given_at}
+use Rattle.cdb_session.specs.Exchanges.{Answer, Exchange, Outcome, given_at}
 use Rattle.cdb_session.specs.declared.inquiry.Inquiry.{Inquiry}
 use Rattle.cdb_session.specs.declared.request.Request.{Request}
 use Rattle.cdb_session.specs.declared.request.Request.TheVariants.{Call, Ask}
 use Rattle.cdb_session.specs.Styles.{StyleView, Part, IsFull, IsCalled, AreCalled, MakesNone}
 use Rattle.cdb_session.specs.Dialogues.{full_text}
+use Rattle.cdb_session.specs.Moves.{Output, file, says}
 use Rattle.cdb_session.specs.Parts.{IsGiven, entries_of}
 use Rattle.cdb_session.specs.Repeats.{times_given}
 use Rattle.cdb_text.specs.Texts.{text_of}
-use Rattle.cdb_session.specs.Replies.{Along, response, shown}
+use Rattle.cdb_session.specs.Replies.{Along, response}
 use Rattle.cdb_session.specs.declared.session.Session.{Session}
+use Rattle.cdb_session.specs.declared.shown.NewFile.{NewFile}
+use Rattle.cdb_session.specs.declared.shown.Shown.{Shown}
 
 -- A session between two lines: what the journal has of it, its seat, and how many lines there were.
 pub record SessionView : Type 0 where
@@ -54,7 +58,16 @@ GivesOnce (Ok last) old one before text new =
     ⊎ (MakesNone old new × IsFull new × (last ≡ true) × (text ≡ before ++ full_text))
 GivesOnce (Err fault) old one before text new = MakesNone old new ⊎ ((reply : ReplyView) × IsCalled old one reply new)
 
-module _ (Answers : RunView → Inquiry → List ℕ → Type 0) where
+-- what is put out, where its file was written and where it could not be
+abbrev pub outputs_with : Option NewFile → List ℕ → List ℕ → Bool → List Output
+outputs_with None text failed saved = says text
+outputs_with (Some its) text failed saved =
+    file (record { name = its.name; text = its.text.items; done = saved }) ∷ says (if saved then text else failed)
+
+abbrev pub outputs_of : Shown → Bool → List Output
+outputs_of shown saved = outputs_with shown.file shown.text.items shown.failed.items saved
+
+module _ (Answers : RunView → Inquiry → Answer → Type 0) where
   -- where the line asks something of the run, this answers it
   abbrev pub IsAnsweredAt : Exchange → Part → Type 0
   IsAnsweredAt exchange part =
@@ -70,16 +83,19 @@ module _ (Answers : RunView → Inquiry → List ℕ → Type 0) where
     pub answer : IsAnsweredAt exchange new
 
   module _ (style : StyleView) where
-    -- The response to a line that asks for this. Out of memory it may have been begun.
+    -- The response to a line that asks for this, as a text. Out of memory it may have been begun.
     abbrev pub Responds : {E : Type 0} → Result (Vec ℕ Global) E → SessionView → Request → SessionView → Type 0
     Responds (Ok text) old request new =
         (outcome : Outcome) × (got : List ReplyView) × HasDone old.seat old.part (request, outcome) got new.part
         × (text.items ≡ response style (at_line old got) (request, outcome))
     Responds (Err fault) old request new = HasBegun old.seat old.part request new.part
 
-    -- what is shown then
-    abbrev pub Shows : {E : Type 0} → Result (Vec ℕ Global) E → SessionView → Request → SessionView → Type 0
-    Shows (Ok text) old request new =
-        (outcome : Outcome) × (got : List ReplyView) × HasDone old.seat old.part (request, outcome) got new.part
-        × (text.items ≡ shown style (at_line old got) (request, outcome))
-    Shows (Err fault) old request new = HasBegun old.seat old.part request new.part
+  -- This is put out at a line that asks for this, whether its file is written or not. Out of memory it may have been
+  -- begun.
+  abbrev pub Shows : (Along → Exchange → List Output) → {E : Type 0}
+      → Result Shown E → SessionView → Request → SessionView → Type 0
+  Shows outputs (Ok shown) old request new =
+      (saved : Bool) → (outcome : Outcome) × (got : List ReplyView)
+      × HasDone old.seat old.part (request, outcome) got new.part
+      × (outputs_of shown saved ≡ outputs (at_line old got) (request, outcome))
+  Shows outputs (Err fault) old request new = HasBegun old.seat old.part request new.part

@@ -1,12 +1,13 @@
 //! Who answers what is asked of a run.
 
-ghost use Rattle.std.specs.Prelude.{◌≡◌, ◌<◌, ◌≤◌, ℕ, List, [], IfOk, OnOk, length};
+ghost use Rattle.std.specs.Prelude.{◌≡◌, ◌<◌, ◌≤◌, [], IfOk, OnOk, length};
 ghost use Rattle.cdb_base.specs.Limits.{MAX_ENTRIES, MAX_SEATS};
 ghost use Rattle.cdb_control.specs.Journal.{AreOfSeats, extended};
 ghost use Rattle.cdb_rules.specs.ByRules.{IsInOrder};
 ghost use Rattle.cdb_rules.specs.RunView.{RunView};
 ghost use Rattle.cdb_session.specs.Alone.{HasJournal};
-ghost use Rattle.cdb_session.specs.Answers.{run_left};
+ghost use Rattle.cdb_session.specs.Answers.{answer_seen, run_left};
+ghost use Rattle.cdb_session.specs.Exchanges.{Answer};
 ghost use Rattle.cdb_session.specs.declared.inquiry.Inquiry.{Inquiry as InquiryName};
 ghost use Rattle.cdb_setup.specs.Parts.{IsWithin};
 
@@ -19,13 +20,17 @@ use std::alloc::Global;
 
 /// Who answers what is asked of a run of this type.
 pub trait Answers<R: Runs> {
-    // Of a run, what is asked of it and a text, whether the text is the answer.
-    ghost answers: { RunView → InquiryName → List ℕ → Type 0 };
+    // Of a run, what is asked of it and an answer, whether it is that answer.
+    ghost answers: { RunView → InquiryName → Answer → Type 0 };
 
-    /// The answer to what is asked of a run.
-    fn answer(alloc: Global, run: &Trace, inquiry: Inquiry) -> Result<Vec<u8>, NoMemory>
+    /// The answer to what is asked of a run: the text, or one that says why there is none.
+    fn answer(
+        alloc: Global,
+        run: &Trace,
+        inquiry: Inquiry<'_>,
+    ) -> Result<Result<Vec<u8>, Vec<u8>>, NoMemory>
         requires { IsInOrder R.rules run.now }
-        ensures { IfOk result (λ text. answers run.now inquiry text.items) };
+        ensures { IfOk result (λ answer. answers run.now inquiry (answer_seen answer)) };
 }
 
 /// Carries out the command of an entry, for its seat.
@@ -113,13 +118,13 @@ pub fn answer_of<R: Runs, A: Answers<R>>(
     setup: &Setup,
     seats: u8,
     entries: &[Entry],
-    inquiry: Inquiry,
-) -> Result<Vec<u8>, NoMemory>
+    inquiry: Inquiry<'_>,
+) -> Result<Result<Vec<u8>, Vec<u8>>, NoMemory>
     requires some { (1 ≤ seats) × (seats ≤ MAX_SEATS) }
     requires seats { AreOfSeats seats entries.now }
     requires few { length entries.now ≤ MAX_ENTRIES }
     ensures { IfOk result
-        (λ text. A.answers (run_left R.rules setup.now seats entries.now) inquiry text.items) }
+        (λ answer. A.answers (run_left R.rules setup.now seats entries.now) inquiry (answer_seen answer)) }
 {
     let setup = setup.copy(alloc)?;
     let run = run_left::<R>(alloc, setup, seats, entries)?;
@@ -130,10 +135,10 @@ pub fn answer_of<R: Runs, A: Answers<R>>(
 pub fn answer_in<R: Runs, A: Answers<R>>(
     alloc: Global,
     control: &Control<R>,
-    inquiry: Inquiry,
-) -> Result<Vec<u8>, NoMemory>
-    ensures answer { IfOk result (λ text. A.answers
-        (run_left R.rules control.now.setup control.now.seats control.now.journal) inquiry text.items) }
+    inquiry: Inquiry<'_>,
+) -> Result<Result<Vec<u8>, Vec<u8>>, NoMemory>
+    ensures answer { IfOk result (λ answer. A.answers
+        (run_left R.rules control.now.setup control.now.seats control.now.journal) inquiry (answer_seen answer)) }
     ensures limit { length control.now.journal ≤ MAX_ENTRIES }
 {
     let (setup, seats) = (control.run().setup(), control.seats());

@@ -7,7 +7,7 @@ ghost use Rattle.cdb_text.specs.Texts.{text_of};
 ghost use Rattle.cdb_session.specs.Dialogues.{full_text, help_response, prompt_after};
 ghost use Rattle.cdb_session.specs.Requests.{most_seats, seat_line};
 ghost use Rattle.cdb_setup.specs.Parts.{IsWithin};
-ghost use Rattle.cdb_session.specs.Replies.{own_response};
+ghost use Rattle.cdb_session.specs.Replies.{own_response, responded, shown};
 ghost use Rattle.cdb_control.specs.Journal.{entry};
 ghost use Rattle.cdb_session.specs.Lines.{GivesOnce, Responds, Shows, seen_by};
 ghost use Rattle.cdb_session.specs.Parts.{seat_next};
@@ -15,8 +15,10 @@ ghost use Rattle.cdb_session.specs.Styles.{MaySit, Onward};
 
 use crate::caller::Caller;
 use crate::help::{push_about, push_help};
+use crate::inquiry::Inquiry;
 use crate::request::Request;
 use crate::response::{push_faulty, push_no_command, push_seat, push_too_long};
+use crate::shown::{Shown, answered};
 use crate::style::Style;
 use crate::topic::Topic;
 use cdb_base::NoMemory;
@@ -113,17 +115,36 @@ impl<C: Caller> Session<C> {
         own_response(alloc, style, self.lines, request)
     }
 
-    /// Does what a line asks for, and returns the response. After an error the session is not to go on.
-    fn respond(
+    /// Asks something of the run, and returns what is put out then.
+    fn ask<'a>(
         &mut self,
         alloc: Global,
         style: &Style<'_>,
-        request: &Request<'_>,
-    ) -> Result<Vec<u8>, NoMemory>
+        inquiry: Inquiry<'a>,
+    ) -> Result<Shown<'a>, NoMemory>
+        requires { self.old.lines < 2 ^ 64 - 1 }
+        ensures responds { Shows C.answers (responded style.now) result (seen_by C.part self.old)
+            (Request.Ask inquiry) (seen_by C.part self.new) }
+        ensures seat { self.new.seat ≡ self.old.seat }
+        ensures lines { self.new.lines ≡ self.old.lines }
+        ensures seats { C.seats self.new.caller ≡ C.seats self.old.caller }
+        ensures later { C.later self.old.caller self.new.caller }
+    {
+        let answer = self.caller.ask(alloc, inquiry)?;
+        answered(alloc, self.lines + 1, inquiry, answer)
+    }
+
+    /// Does what a line asks for, and returns what is put out then. After an error the session is not to go on.
+    fn respond<'a>(
+        &mut self,
+        alloc: Global,
+        style: &Style<'_>,
+        request: &Request<'a>,
+    ) -> Result<Shown<'a>, NoMemory>
         requires sits { MaySit style.now (C.seats self.old.caller) self.old.seat }
         requires chosen { (k : ℕ) → request.now ≡ Request.Seat k → IsWithin 1 most_seats k }
         requires lines { self.old.lines < 2 ^ 64 - 1 }
-        ensures responds { Responds C.answers style.now result (seen_by C.part self.old)
+        ensures responds { Shows C.answers (responded style.now) result (seen_by C.part self.old)
             request.now (seen_by C.part self.new) }
         ensures seat { self.new.seat ≡ seat_next style.now.chooses self.old.seat request.now }
         ensures lines { self.new.lines ≡ self.old.lines }
@@ -131,34 +152,41 @@ impl<C: Caller> Session<C> {
         ensures later { Onward C.later self.old.caller self.new.caller }
     {
         match request {
-            Request::Call(command, times) => self.call_times(alloc, style, command, *times),
-            Request::Ask(inquiry) => self.caller.ask(alloc, *inquiry),
-            _ => self.respond_itself(alloc, style, request),
+            Request::Call(command, times) => {
+                let text = self.call_times(alloc, style, command, *times)?;
+                Ok(Shown::of(alloc, text))
+            }
+            Request::Ask(inquiry) => self.ask(alloc, style, *inquiry),
+            _ => {
+                let text = self.respond_itself(alloc, style, request)?;
+                Ok(Shown::of(alloc, text))
+            }
         }
     }
 
-    /// Does what a line asks for, and returns what is shown then: the response, and the prompt unless the line was
+    /// Does what a line asks for, and returns what is put out then: the response, and the prompt unless the line was
     /// `quit`. After an error the session is not to go on.
-    pub(crate) fn show(
+    pub(crate) fn show<'a>(
         &mut self,
         alloc: Global,
         style: &Style<'_>,
-        request: &Request<'_>,
-    ) -> Result<Vec<u8>, NoMemory>
+        request: &Request<'a>,
+    ) -> Result<Shown<'a>, NoMemory>
         requires sits { MaySit style.now (C.seats self.old.caller) self.old.seat }
         requires chosen { (k : ℕ) → request.now ≡ Request.Seat k → IsWithin 1 most_seats k }
         requires lines { self.old.lines < 2 ^ 64 - 1 }
-        ensures shows { Shows C.answers style.now result (seen_by C.part self.old)
+        ensures shows { Shows C.answers (shown style.now) result (seen_by C.part self.old)
             request.now (seen_by C.part self.new) }
         ensures seat { self.new.seat ≡ seat_next style.now.chooses self.old.seat request.now }
         ensures lines { OnOk result (self.new.lines ≡ self.old.lines + 1) }
         ensures seats { C.seats self.new.caller ≡ C.seats self.old.caller }
         ensures later { Onward C.later self.old.caller self.new.caller }
     {
-        let mut text = self.respond(alloc, style, request)?;
-        push_prompt(&mut text, style, request)?;
+        let mut shown = self.respond(alloc, style, request)?;
+        push_prompt(&mut shown.text, style, request)?;
+        push_prompt(&mut shown.failed, style, request)?;
         self.lines += 1;
-        Ok(text)
+        Ok(shown)
     }
 }
 

@@ -21,6 +21,7 @@ pub enum Topic {
     Decisions,
     Explain,
     Trail,
+    Draw,
     Help,
     Quit,
     Seat,
@@ -28,7 +29,7 @@ pub enum Topic {
 
 impl Topic {
     /// Each of them.
-    const ALL: [Topic; 18] = [
+    const ALL: [Topic; 19] = [
         Topic::Step,
         Topic::Auto,
         Topic::Lose,
@@ -44,6 +45,7 @@ impl Topic {
         Topic::Decisions,
         Topic::Explain,
         Topic::Trail,
+        Topic::Draw,
         Topic::Help,
         Topic::Quit,
         Topic::Seat,
@@ -69,6 +71,7 @@ impl Topic {
             Topic::Decisions => b"decisions",
             Topic::Explain => b"explain",
             Topic::Trail => b"trail",
+            Topic::Draw => b"draw",
             Topic::Help => b"help",
             Topic::Quit => b"quit",
             Topic::Seat => b"seat",

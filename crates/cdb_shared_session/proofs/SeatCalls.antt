@@ -17,7 +17,8 @@ use Rattle.cdb_shared.specs.Seats.{SeatView, IsLater, IsCall, SameCalls, SeesFul
 use Rattle.cdb_shared.specs.Sessions.{calls_of}
 use Rattle.cdb_shared.proofs.Steps.{calls_of-call, calls_of-fault, replies_to-call, replies_to-fault, IsLater-trans}
 use Rattle.cdb_session.specs.Styles.{GoesOn, MakesNone, Calls, Onward, stays, goes}
-use Rattle.cdb_session.specs.Answers.{run_left, AnswersNow}
+use Rattle.cdb_session.specs.Answers.{run_left, answer_seen, AnswersNow}
+use Rattle.cdb_session.specs.Exchanges.{Answer}
 use Rattle.cdb_session.specs.declared.inquiry.Inquiry.{Inquiry}
 use Rattle.cdb_rules.specs.RunView.{RunView}
 use Rattle.cdb_shared_session.specs.SeatParts.{part_seen}
@@ -94,15 +95,15 @@ map-length f [] = refl
 map-length f (x ∷ xs) = let rest = map-length f xs in omega (arith, rest)
 
 -- the answer of the run that the seat has seen
-pub asked_now : {E : Type 0} (rules : Parts → Rules) (Answers : RunView → Inquiry → List ℕ → Type 0)
-    (seat : SeatView) (inquiry : Inquiry) (r : Result (Vec ℕ Global) E)
-    → IfOk r (λ text. Answers (run_left rules seat.setup seat.seats seat.seen) inquiry text.items)
-    → IfOk r (λ text. AnswersNow Answers (part_seen rules seat) inquiry text.items)
-asked_now rules Answers seat inquiry (Ok text) is =
+pub asked_now : {E : Type 0} (rules : Parts → Rules) (Answers : RunView → Inquiry → Answer → Type 0)
+    (seat : SeatView) (inquiry : Inquiry) (r : Result (Result (Vec ℕ Global) (Vec ℕ Global)) E)
+    → IfOk r (λ answer. Answers (run_left rules seat.setup seat.seats seat.seen) inquiry (answer_seen answer))
+    → IfOk r (λ answer. AnswersNow Answers (part_seen rules seat) inquiry (answer_seen answer))
+asked_now rules Answers seat inquiry (Ok answer) is =
     let all : take (length seat.seen) seat.seen ≡ seat.seen = take_all (length seat.seen) seat.seen (omega arith) in
     record {
       since = omega arith;
       all = ap (λ (seen : List Entry). length (own seat.number seen)) all ∙ sym (map-length (entry seat.number) (calls_of seat));
-      answers = subst (λ (seen : List Entry). Answers (run_left rules seat.setup seat.seats seen) inquiry text.items) (sym all) is;
+      answers = subst (λ (seen : List Entry). Answers (run_left rules seat.setup seat.seats seen) inquiry (answer_seen answer)) (sym all) is;
     }
 asked_now rules Answers seat inquiry (Err fault) is = tt
