@@ -27,7 +27,7 @@ use Rattle.cdb_setup.specs.Parts.{IsWithin}
 use Rattle.cdb_session.specs.declared.topic.Topic.{Topic}
 use Rattle.cdb_session.specs.declared.topic.Topic.TheVariants as topic
 use Rattle.cdb_base.specs.declared.question.StepAsked.{StepAsked}
-use Rattle.cdb_session.specs.Inquiries.{AreAnyStepWords, AreInquiryWords, inquiry_word, is_file_name, numbers_of}
+use Rattle.cdb_session.specs.Inquiries.{AreAnyStepWords, AreInquiryWords, has_other_meaning, inquiry_word, is_file_name, numbers_of}
 use Rattle.cdb_session.specs.declared.inquiry.Inquiry.{Inquiry}
 use Rattle.cdb_session.specs.declared.inquiry.Inquiry.TheVariants.{Explain, Trail, Draw}
 use Rattle.cdb_session.specs.Laws.{ExactLinesStand}
@@ -244,18 +244,21 @@ is_not : (b : Bool) → not b ≡ true → b ≡ false
 is_not true e = cc
 is_not false e = refl
 
+neither : (one other : Bool) → (one || other) ≡ false → (one ≡ false) × (other ≡ false)
+neither true other e = cc
+neither false other e = (refl, e)
+
 -- the name of a file, where no word is due
 a_file : (before : List (List ℕ)) (name : List ℕ) → is_file_name name ≡ true → due before ≡ [] → Stands before name
 a_file before name is none =
     let word = and_parts _ _ is in
     let few = and_parts _ _ word.1 in
     let blanks = and_parts _ _ few.1 in
-    let comment = and_parts _ _ blanks.1 in
-    let digits = and_parts _ _ comment.1 in
-    let no_name : is_name name ≡ false = is_not (is_name name) digits.1 in
+    let other = neither _ _ (is_not (has_other_meaning name) blanks.1) in
+    let no_name : is_name name ≡ false = (neither _ _ other.1).1 in
     record {
       solid = no_blanks name (is_not (list_any is_blank name) blanks.0);
-      goes_on = is_not (is_comment name) comment.0;
+      goes_on = other.0;
       alone = rw no_name refl;
       word_is = word.0;
       whole = ap (λ (options : List (List ℕ)). full options name) none;

@@ -104,9 +104,9 @@ module _ (Answers : RunView → Inquiry → Answer → Type 0) (style : StyleVie
       → (saved : Bool) → outputs_with its other another saved ≡ outputs_with its text failed saved ++ says more
   more_with None text failed other another more is is_failed saved = ap says is ∙ says-append text more
   more_with (Some its) text failed other another more is is_failed true =
-      ap (λ behind. file (record { name = its.name; text = its.text.items; done = true }) ∷ behind) (ap says is ∙ says-append text more)
+      ap (λ behind. file (record { name = its.name.now; text = its.text.items; done = true }) ∷ behind) (ap says is ∙ says-append text more)
   more_with (Some its) text failed other another more is is_failed false =
-      ap (λ behind. file (record { name = its.name; text = its.text.items; done = false }) ∷ behind) (ap says is_failed ∙ says-append failed more)
+      ap (λ behind. file (record { name = its.name.now; text = its.text.items; done = false }) ∷ behind) (ap says is_failed ∙ says-append failed more)
 
   pub prompt_shows : {E : Type 0} (its more : Shown) (old new : SessionView) (request : Request) → Shows Answers (responded style) {E = E} (Ok its) old request new
       → IsMore its more (prompt_after style.prompt request) → Shows Answers (shown style) {E = E} (Ok more) old request new

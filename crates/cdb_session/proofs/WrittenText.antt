@@ -1,7 +1,7 @@
 -- A text that is handed over piece by piece.
-use Rattle.std.proofs.Common.{◌≡◌, ℕ, ◌+◌, ◌-◌, List, [], ◌∷◌, ◌++◌, length, take, drop, map-append, refl, sym, ap, subst, ◌∙◌, append-nil, append_assoc, take-append-drop}
+use Rattle.std.proofs.Common.{◌≡◌, ℕ, ◌+◌, ◌-◌, List, [], ◌∷◌, ◌++◌, length, take, drop, refl, sym, ap, subst, ◌∙◌, append-nil, append_assoc, take-append-drop}
 use Rattle.std.specs.Prelude.{Result, Ok, Err}
-use Rattle.std.proofs.lemmas.List.{take_rest}
+use Rattle.std.proofs.lemmas.List.{map-append, take_rest}
 use Rattle.std.proofs.Math.Seq.{take-add}
 use Rattle.cdb_session.specs.Moves.{WritesAll, Known, Move, Output, Saving, Wrote, Saves, byte, file, says, written_in, written_by, AsksForInput, AreWrites}
 use Rattle.cdb_session.specs.Moves.{FailsToWrite, Makes}

@@ -1,5 +1,6 @@
 -- What a line asks of the run as it stands.
-use Rattle.std.specs.Prelude.{◌≡◌, ℕ, ◌&&◌, Bool, true, not, nat_le, List, [], ◌∷◌, length, codes, map, Option, None, Some}
+use Rattle.std.specs.Prelude.{◌≡◌, ℕ, ◌&&◌, ◌||◌, Bool, true, not, nat_le, List, [], ◌∷◌, length, codes, map}
+use Rattle.std.specs.Prelude.{Option, None, Some}
 use Rattle.std.specs.List.{AllByRecursion, list_any}
 use Rattle.cdb_base.specs.declared.question.StepAsked.{StepAsked}
 use Rattle.cdb_text.specs.Commands.{CommandPart, number}
@@ -23,12 +24,14 @@ abbrev pub AreAnyStepWords : Option StepAsked → List (List ℕ) → Type 0
 AreAnyStepWords None words = words ≡ []
 AreAnyStepWords (Some step) words = AreStepWords step words
 
--- A word that names a file: 1 to 4,095 bytes without a blank. What stands for something else in a line as it is typed
--- is none: `to`, a number, a name as it is printed, and what begins with `#`.
+-- what stands for something else in a line as it is typed: a comment, a number, or a name as it is printed
+abbrev pub has_other_meaning : List ℕ → Bool
+has_other_meaning word = is_comment word || (is_digits word || is_name word)
+
+-- A word that names a file: 1 to 4,095 bytes without a blank, that stand for nothing else.
 abbrev pub is_file_name : List ℕ → Bool
 is_file_name word =
-    is_word word && (nat_le (length word) 4095 && (not (list_any is_blank word)
-    && (not (is_comment word) && (not (is_digits word) && not (is_name word)))))
+    is_word word && (nat_le (length word) 4095 && (not (list_any is_blank word) && not (has_other_meaning word)))
 
 -- `explain P [K]`, `trail P [K]`, or `draw FILE [P [K]]`
 abbrev pub inquiry_word : Inquiry → List ℕ

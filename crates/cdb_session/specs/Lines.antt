@@ -62,7 +62,7 @@ GivesOnce (Err fault) old one before text new = MakesNone old new ⊎ ((reply : 
 abbrev pub outputs_with : Option NewFile → List ℕ → List ℕ → Bool → List Output
 outputs_with None text failed saved = says text
 outputs_with (Some its) text failed saved =
-    file (record { name = its.name; text = its.text.items; done = saved }) ∷ says (if saved then text else failed)
+    file (record { name = its.name.now; text = its.text.items; done = saved }) ∷ says (if saved then text else failed)
 
 abbrev pub outputs_of : Shown → Bool → List Output
 outputs_of shown saved = outputs_with shown.file shown.text.items shown.failed.items saved

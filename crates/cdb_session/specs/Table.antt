@@ -12,7 +12,8 @@ use Rattle.cdb_rules.specs.RunView.{RunView}
 use Rattle.cdb_rules.specs.Rules.{Rules}
 use Rattle.cdb_setup.specs.Parts.{Parts}
 use Rattle.cdb_text.specs.Texts.{text_of}
-use Rattle.cdb_session.specs.Dialogues.{full_text, fault_response, long_line_text, answer_text, help_response, dialogue_by}
+use Rattle.cdb_session.specs.Dialogues.{full_text, fault_response, long_line_text, answer_text, help_response}
+use Rattle.cdb_session.specs.Dialogues.{dialogue_by}
 use Rattle.cdb_session.specs.Answers.{run_left}
 use Rattle.cdb_session.specs.Exchanges.{Answer, Exchange}
 use Rattle.cdb_session.specs.Moves.{Output}

@@ -14,6 +14,7 @@ ghost use Rattle.cdb_setup.specs.Parts.{IsWithin};
 use crate::inquiry::Inquiry;
 use cdb_base::NoMemory;
 use cdb_control::{CallFault, Control, Entry, OpenFault};
+use cdb_explain::trace_of;
 use cdb_rules::{Runs, Trace};
 use cdb_setup::Setup;
 use std::alloc::Global;
@@ -27,10 +28,11 @@ pub trait Answers<R: Runs> {
     fn answer(
         alloc: Global,
         run: &Trace,
-        inquiry: Inquiry<'_>,
+        inquiry: &Inquiry<'_>,
     ) -> Result<Result<Vec<u8>, Vec<u8>>, NoMemory>
-        requires { IsInOrder R.rules run.now }
-        ensures { IfOk result (λ answer. answers run.now inquiry (answer_seen answer)) };
+        requires valid { IsInOrder R.rules run.now }
+        requires few { length run.now.history ≤ MAX_ENTRIES }
+        ensures { IfOk result (λ answer. answers run.now inquiry.now (answer_seen answer)) };
 }
 
 /// Carries out the command of an entry, for its seat.
@@ -105,10 +107,10 @@ fn run_left<R: Runs>(
     requires few { length entries.now ≤ MAX_ENTRIES }
     ensures left { IfOk result (λ run. run ≡ run_left R.rules setup seats entries.now) }
     ensures valid { IfOk result (IsInOrder R.rules) }
+    ensures few { IfOk result (λ run. length run.history ≤ MAX_ENTRIES) }
 {
     let control = control_with::<R>(alloc, setup, seats, entries)?;
-    let (setup, history) = control.into_run().into_parts();
-    Trace::new(alloc, setup, history)
+    trace_of(alloc, control)
 }
 
 /// The answer to what is asked of the run that a journal leaves, of a control with this setup and 1 to 64 seats: its
@@ -118,13 +120,13 @@ pub fn answer_of<R: Runs, A: Answers<R>>(
     setup: &Setup,
     seats: u8,
     entries: &[Entry],
-    inquiry: Inquiry<'_>,
+    inquiry: &Inquiry<'_>,
 ) -> Result<Result<Vec<u8>, Vec<u8>>, NoMemory>
     requires some { (1 ≤ seats) × (seats ≤ MAX_SEATS) }
     requires seats { AreOfSeats seats entries.now }
     requires few { length entries.now ≤ MAX_ENTRIES }
     ensures { IfOk result
-        (λ answer. A.answers (run_left R.rules setup.now seats entries.now) inquiry (answer_seen answer)) }
+        (λ answer. A.answers (run_left R.rules setup.now seats entries.now) inquiry.now (answer_seen answer)) }
 {
     let setup = setup.copy(alloc)?;
     let run = run_left::<R>(alloc, setup, seats, entries)?;
@@ -135,10 +137,10 @@ pub fn answer_of<R: Runs, A: Answers<R>>(
 pub fn answer_in<R: Runs, A: Answers<R>>(
     alloc: Global,
     control: &Control<R>,
-    inquiry: Inquiry<'_>,
+    inquiry: &Inquiry<'_>,
 ) -> Result<Result<Vec<u8>, Vec<u8>>, NoMemory>
     ensures answer { IfOk result (λ answer. A.answers
-        (run_left R.rules control.now.setup control.now.seats control.now.journal) inquiry (answer_seen answer)) }
+        (run_left R.rules control.now.setup control.now.seats control.now.journal) inquiry.now (answer_seen answer)) }
     ensures limit { length control.now.journal ≤ MAX_ENTRIES }
 {
     let (setup, seats) = (control.run().setup(), control.seats());

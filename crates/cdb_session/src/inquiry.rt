@@ -5,7 +5,7 @@ ghost use Rattle.std.specs.Str.Parse.{AllDigits, digits_value};
 ghost use Rattle.cdb_text.specs.Grammar.{words_of};
 ghost use Rattle.cdb_text.specs.Readers.{number_of};
 ghost use Rattle.cdb_text.specs.Words.{words_left};
-ghost use Rattle.cdb_session.specs.Inquiries.{is_file_name};
+ghost use Rattle.cdb_session.specs.Inquiries.{has_other_meaning, is_file_name};
 ghost use Rattle.cdb_session.specs.InquiryWords.{any_step_in, drawing_in, inquiry_in, repeat_in, step_in};
 
 use crate::typed::{is_blank, is_comment, is_digits, is_name, is_word};
@@ -16,7 +16,7 @@ use std::marker::Model;
 const MOST_NAME: usize = 4095;
 
 /// The name of a file as a line gives it: 1 to 4,095 bytes, none of them a blank.
-#[derive(Clone, Copy)]
+#[derive(Drop)]
 pub struct FileName<'a> {
     pub bytes: &'a [u8],
 }
@@ -30,7 +30,7 @@ impl<'a> Model for FileName<'a> {
 }
 
 /// What a line asks of the run as it stands.
-#[derive(Clone, Copy)]
+#[derive(Drop)]
 pub enum Inquiry<'a> {
     /// What led to the step.
     Explain(StepAsked),
@@ -106,6 +106,13 @@ fn any_step_of(words: Option<&[u8]>) -> Option<Option<StepAsked>>
     }
 }
 
+/// Whether a word stands for something else than a file: a comment, a number, or a name as it is printed.
+fn has_other_meaning(word: &[u8]) -> bool
+    ensures { result ≡ has_other_meaning word.now }
+{
+    is_comment(word) || is_digits(word) || is_name(word)
+}
+
 /// Whether a word names a file.
 pub(crate) fn is_file_name(word: &[u8]) -> bool
     ensures { result ≡ is_file_name word.now }
@@ -113,9 +120,7 @@ pub(crate) fn is_file_name(word: &[u8]) -> bool
     is_word(word)
         && word.len() <= MOST_NAME
         && !word.iter().any(|byte| is_blank(*byte))
-        && !is_comment(word)
-        && !is_digits(word)
-        && !is_name(word)
+        && !has_other_meaning(word)
 }
 
 /// The picture that the words behind `draw` ask for.

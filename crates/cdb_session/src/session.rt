@@ -120,11 +120,11 @@ impl<C: Caller> Session<C> {
         &mut self,
         alloc: Global,
         style: &Style<'_>,
-        inquiry: Inquiry<'a>,
+        inquiry: &Inquiry<'a>,
     ) -> Result<Shown<'a>, NoMemory>
         requires { self.old.lines < 2 ^ 64 - 1 }
         ensures responds { Shows C.answers (responded style.now) result (seen_by C.part self.old)
-            (Request.Ask inquiry) (seen_by C.part self.new) }
+            (Request.Ask inquiry.now) (seen_by C.part self.new) }
         ensures seat { self.new.seat ≡ self.old.seat }
         ensures lines { self.new.lines ≡ self.old.lines }
         ensures seats { C.seats self.new.caller ≡ C.seats self.old.caller }
@@ -156,7 +156,7 @@ impl<C: Caller> Session<C> {
                 let text = self.call_times(alloc, style, command, *times)?;
                 Ok(Shown::of(alloc, text))
             }
-            Request::Ask(inquiry) => self.ask(alloc, style, *inquiry),
+            Request::Ask(inquiry) => self.ask(alloc, style, inquiry),
             _ => {
                 let text = self.respond_itself(alloc, style, request)?;
                 Ok(Shown::of(alloc, text))

@@ -8,7 +8,7 @@ ghost use Rattle.cdb_session.specs.Lines.{outputs_of};
 ghost use Rattle.cdb_session.specs.Moves.{WritesAll, file, says};
 
 use crate::console::{Console, write_all};
-use crate::inquiry::{FileName, Inquiry};
+use crate::inquiry::Inquiry;
 use cdb_base::NoMemory;
 use cdb_streams::Failed;
 use itoa::Buffer;
@@ -17,7 +17,7 @@ use std::alloc::{AllocError, Global};
 /// A text for a new file, and the file's name.
 #[derive(Drop)]
 pub struct NewFile<'a> {
-    pub name: FileName<'a>,
+    pub name: &'a [u8],
     pub text: Vec<u8>,
 }
 
@@ -50,7 +50,7 @@ impl<'a> Shown<'a> {
     {
         match &self.file {
             None => write_all(console, self.text.as_slice()),
-            Some(new) => match console.save(new.name.bytes, new.text.as_slice()) {
+            Some(new) => match console.save(new.name, new.text.as_slice()) {
                 Ok(()) => write_all(console, self.text.as_slice()),
                 Err(Failed) => write_all(console, self.failed.as_slice()),
             },
@@ -85,14 +85,15 @@ fn failed_text(alloc: Global, line: u64, name: &[u8]) -> Result<Vec<u8>, AllocEr
 fn drawn(
     alloc: Global,
     line: u64,
-    name: FileName<'_>,
+    name: &[u8],
     picture: Vec<u8>,
 ) -> Result<Shown<'_>, NoMemory>
     ensures { IfOk result (λ shown. (saved : Bool) → outputs_of shown saved
-        ≡ file (record { name = name; text = picture.items; done = saved }) ∷ says (saving_text line name saved)) }
+        ≡ file (record { name = name.now; text = picture.items; done = saved })
+        ∷ says (saving_text line name.now saved)) }
 {
-    let text = drawn_text(alloc, name.bytes)?;
-    let failed = failed_text(alloc, line, name.bytes)?;
+    let text = drawn_text(alloc, name)?;
+    let failed = failed_text(alloc, line, name)?;
     Ok(Shown {
         file: Some(NewFile {
             name,
@@ -104,19 +105,19 @@ fn drawn(
 }
 
 /// What is put out at the line of this number, which asks this of the run: the answer, a picture in a file.
-pub(crate) fn answered(
+pub(crate) fn answered<'a>(
     alloc: Global,
     line: u64,
-    inquiry: Inquiry<'_>,
+    inquiry: &Inquiry<'a>,
     answer: Result<Vec<u8>, Vec<u8>>,
-) -> Result<Shown<'_>, NoMemory>
+) -> Result<Shown<'a>, NoMemory>
     ensures { IfOk result (λ shown. (saved : Bool) → outputs_of shown saved
-        ≡ map file (savings_of inquiry (answer_seen answer) saved)
-        ++ says (answer_text line inquiry (answer_seen answer) saved)) }
+        ≡ map file (savings_of inquiry.now (answer_seen answer) saved)
+        ++ says (answer_text line inquiry.now (answer_seen answer) saved)) }
 {
     match answer {
         Ok(text) => match inquiry {
-            Inquiry::Draw(name, _) => drawn(alloc, line, name, text),
+            Inquiry::Draw(name, _) => drawn(alloc, line, name.bytes, text),
             _ => Ok(Shown::of(alloc, text)),
         },
         Err(reason) => Ok(Shown::of(alloc, reason)),

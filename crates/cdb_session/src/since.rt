@@ -57,7 +57,7 @@ impl<C: Caller> Caller for Since<C> {
     fn ask(
         &mut self,
         alloc: Global,
-        inquiry: Inquiry<'_>,
+        inquiry: &Inquiry<'_>,
     ) -> Result<Result<Vec<u8>, Vec<u8>>, NoMemory> {
         self.caller.ask(alloc, inquiry)
     }

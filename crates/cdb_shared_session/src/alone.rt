@@ -76,7 +76,7 @@ impl<R: Runs, A: Answers<R>, J: Sink + Drop> Caller for KeptControl<R, A, J> {
     fn ask(
         &mut self,
         alloc: Global,
-        inquiry: Inquiry<'_>,
+        inquiry: &Inquiry<'_>,
     ) -> Result<Result<Vec<u8>, Vec<u8>>, NoMemory> {
         answer_in::<R, A>(alloc, &self.control, inquiry)
     }

@@ -63,7 +63,7 @@ impl<'a, R: Runs, A: Answers<R>, Rt: Wait> Caller for SeatCaller<'a, R, A, Rt> {
     fn ask(
         &mut self,
         alloc: Global,
-        inquiry: Inquiry<'_>,
+        inquiry: &Inquiry<'_>,
     ) -> Result<Result<Vec<u8>, Vec<u8>>, NoMemory> {
         let journal = self.shared.journal(self.rt, alloc, &mut self.seat)?;
         answer_of::<R, A>(alloc, self.setup, self.seats, journal.as_slice(), inquiry)
