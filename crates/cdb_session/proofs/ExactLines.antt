@@ -252,12 +252,12 @@ neither false other e = (refl, e)
 a_file : (before : List (List ℕ)) (name : List ℕ) → is_file_name name ≡ true → due before ≡ [] → Stands before name
 a_file before name is none =
     let word = and_parts _ _ is in
-    let few = and_parts _ _ word.1 in
-    let blanks = and_parts _ _ few.1 in
-    let other = neither _ _ (is_not (has_other_meaning name) blanks.1) in
+    let parts = and_parts _ _ word.1 in
+    let blanks = and_parts _ _ parts.0 in
+    let other = neither _ _ (is_not (has_other_meaning name) parts.1) in
     let no_name : is_name name ≡ false = (neither _ _ other.1).1 in
     record {
-      solid = no_blanks name (is_not (list_any is_blank name) blanks.0);
+      solid = no_blanks name (is_not (list_any is_blank name) blanks.1);
       goes_on = other.0;
       alone = rw no_name refl;
       word_is = word.0;

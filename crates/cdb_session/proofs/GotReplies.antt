@@ -12,6 +12,7 @@ use Rattle.cdb_rules.specs.RunView.{RunView}
 use Rattle.cdb_text.specs.Texts.{text_of}
 use Rattle.cdb_session.specs.Answers.{AnswersNow, AreTold, IsAnsweredAfter, IsDoneAfter, HasExchanges}
 use Rattle.cdb_session.specs.Exchanges.{Answer, Exchange, Outcome, commands_among, given_at}
+use Rattle.cdb_session.specs.Moves.{says}
 use Rattle.cdb_session.specs.declared.inquiry.Inquiry.{Inquiry}
 use Rattle.cdb_session.specs.declared.request.Request.{Request}
 use Rattle.cdb_session.specs.declared.request.Request.TheVariants.{Call, Ask, Seat, Help, Quit, Fault, TooLong}
@@ -158,7 +159,7 @@ module _ (Answers : RunView → Inquiry → Answer → Type 0) (style : StyleVie
   pub same_line : (seat : ℕ) (old : Part) (exchange : Exchange) (got : List ReplyView) (new : Part) → HasDone Answers seat old exchange got new
       → (more : List ReplyView) → MoreMayFollow more new → (lines : ℕ) → SameLine seat exchange got more lines
   same_line seat old (Call command times, outcome) got new done more may lines = (
-    ap (λ text. text ++ style.prompt) (texts_same outcome.given got more done.fits (λ low. may (done.full low))),
+    ap (λ text. says text ++ says style.prompt) (texts_same outcome.given got more done.fits (λ low. may (done.full low))),
     ap (λ (left : List ReplyView). with_replies seat (lines + 1) left) (left_same outcome.given got more done.fits (λ low. may (done.full low))),
   )
   same_line seat old (Ask inquiry, outcome) got new done more may lines =

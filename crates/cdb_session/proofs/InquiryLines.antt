@@ -130,7 +130,7 @@ drawn name others None inquiry reads e is = cc
 drawn name others (Some step) inquiry reads e is =
     let same : Draw name step ≡ inquiry = cc in
     subst (λ (i : Inquiry). (inquiry_word i ≡ codes "draw") × AreInquiryWords i (name ∷ others)) same
-    (refl, (is, (others, (refl, any_step_says others step reads))))
+    (refl, (is, others, refl, any_step_says others step reads))
 
 draws_say : (words : List (List ℕ)) (inquiry : Inquiry) → drawing_in words ≡ Some inquiry → (inquiry_word inquiry ≡ codes "draw") × AreInquiryWords inquiry words
 unfolding drawing_in
@@ -140,6 +140,15 @@ draws_say (name ∷ others) inquiry e =
       | inl is ↦ drawn name others (any_step_in others) inquiry refl (rw is at e) is
       | inr other ↦ let never = rw other at e in cc
     ]
+
+-- words that a line has are at least one
+any_of_some : (words : List (List ℕ)) → words ≢ [] → any_step_in words ≡ option_map Some (step_in words)
+unfolding any_step_in
+any_of_some [] some = absurd (some refl)
+any_of_some (word ∷ words) some = refl
+
+pub any_of_line : (line : List ℕ) (found : Option StepAsked) → found ≡ step_in (words_of line) → option_map Some found ≡ any_step_in (words_of line)
+any_of_line line found is = ap (option_map Some) is ∙ sym (any_of_some (words_of line) (some_word line))
 
 -- ---- what the line asks
 

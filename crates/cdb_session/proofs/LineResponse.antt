@@ -48,10 +48,10 @@ module _ (Answers : RunView → Inquiry → Answer → Type 0) (style : StyleVie
   abbrev pub IsText : Shown → List ℕ → Type 0
   IsText its text = (saved : Bool) → outputs_of its saved ≡ says text
 
-  pub call_shows : {E F : Type 0} (text : Vec ℕ Global) (its : Shown) (old new : SessionView) (command : Command) (times : ℕ)
+  pub call_shows : (E F : Type 0) (text : Vec ℕ Global) (its : Shown) (old new : SessionView) (command : Command) (times : ℕ)
       → Responds Answers style {E = E} (Ok text) old (Call command times) new → IsText its text.items
       → Shows Answers (responded style) {E = F} (Ok its) old (Call command times) new
-  call_shows text its old new command times (outcome, got, done, is) put = λ saved. (outcome, got, done, put saved ∙ ap says is)
+  call_shows E F text its old new command times (outcome, got, done, is) put = λ saved. (outcome, got, done, put saved ∙ ap says is)
 
   -- a line that asks for no command and nothing of the run
   nothing_due : (request : Request) → IsToBeGiven request []
@@ -76,20 +76,20 @@ module _ (Answers : RunView → Inquiry → Answer → Type 0) (style : StyleVie
     pub own_begins : (request : Request) → HasBegun old.seat old.part request new.part
     own_begins request = record { got = []; calls = none_got old.seat request old.part new.part made_none; due = nothing_due request }
 
-  pub own_shows : {E : Type 0} (text : List ℕ) (its : Shown) (old new : SessionView) (request : Request) → new.part ≡ old.part
+  pub own_shows : (E : Type 0) (text : List ℕ) (its : Shown) (old new : SessionView) (request : Request) → new.part ≡ old.part
       → ((command : Command) (times : ℕ) → request ≢ Call command times) → ((inquiry : Inquiry) → request ≢ Ask inquiry)
       → text ≡ own_response style old.lines request → IsText its text → Shows Answers (responded style) {E = E} (Ok its) old request new
-  own_shows text its old new (Call command times) same other and_other is put = absurd (other command times refl)
-  own_shows text its old new (Ask inquiry) same other and_other is put = absurd (and_other inquiry refl)
-  own_shows text its old new (Seat seat) same other and_other is put =
+  own_shows E text its old new (Call command times) same other and_other is put = absurd (other command times refl)
+  own_shows E text its old new (Ask inquiry) same other and_other is put = absurd (and_other inquiry refl)
+  own_shows E text its old new (Seat seat) same other and_other is put =
       λ saved. (given_so 0, [], own_done old new same (Seat seat) other and_other, put saved ∙ ap says is)
-  own_shows text its old new (Help about) same other and_other is put =
+  own_shows E text its old new (Help about) same other and_other is put =
       λ saved. (given_so 0, [], own_done old new same (Help about) other and_other, put saved ∙ ap says is)
-  own_shows text its old new Quit same other and_other is put =
+  own_shows E text its old new Quit same other and_other is put =
       λ saved. (given_so 0, [], own_done old new same Quit other and_other, put saved ∙ ap says is)
-  own_shows text its old new (Fault fault) same other and_other is put =
+  own_shows E text its old new (Fault fault) same other and_other is put =
       λ saved. (given_so 0, [], own_done old new same (Fault fault) other and_other, put saved ∙ ap says is)
-  own_shows text its old new TooLong same other and_other is put =
+  own_shows E text its old new TooLong same other and_other is put =
       λ saved. (given_so 0, [], own_done old new same TooLong other and_other, put saved ∙ ap says is)
 
   -- ---- the prompt
@@ -108,9 +108,9 @@ module _ (Answers : RunView → Inquiry → Answer → Type 0) (style : StyleVie
   more_with (Some its) text failed other another more is is_failed false =
       ap (λ behind. file (record { name = its.name.now; text = its.text.items; done = false }) ∷ behind) (ap says is_failed ∙ says-append failed more)
 
-  pub prompt_shows : {E : Type 0} (its more : Shown) (old new : SessionView) (request : Request) → Shows Answers (responded style) {E = E} (Ok its) old request new
-      → IsMore its more (prompt_after style.prompt request) → Shows Answers (shown style) {E = E} (Ok more) old request new
-  prompt_shows its more old new request s m = λ saved.
+  pub prompt_shows : (E F : Type 0) (its more : Shown) (old new : SessionView) (request : Request) → Shows Answers (responded style) {E = E} (Ok its) old request new
+      → IsMore its more (prompt_after style.prompt request) → Shows Answers (shown style) {E = F} (Ok more) old request new
+  prompt_shows E F its more old new request s m = λ saved.
       let here = s saved in
       let prompt : List ℕ = prompt_after style.prompt request in (
         here.0,

@@ -23,7 +23,7 @@ use Rattle.cdb_session.specs.declared.inquiry.Inquiry.{Inquiry}
 use Rattle.cdb_setup.specs.Parts.{Parts}
 use Rattle.cdb_session.specs.Replies.{Along, shown_from, dialogue, reply_text, next_replies, replies_text}
 use Rattle.cdb_session.specs.Dialogues.{shown_by, shown_from_by}
-use Rattle.cdb_session.specs.Moves.{says}
+use Rattle.cdb_session.specs.Moves.{Output, says}
 use Rattle.cdb_session.specs.Alone.{all_replies_from, whole_part, nine}
 use Rattle.cdb_session.specs.Answers.{AreTold, HasExchanges, IsDoneAfter, IsTold, run_left}
 use Rattle.cdb_session.specs.Parts.{all_asked, all_of, asked_of, seat_next, HasCommands}
@@ -45,10 +45,10 @@ one_less n most low = omega (arith, low)
 none_left : (n most : ℕ) → n ≡ most → most - n ≡ 0
 none_left n most is = omega (arith, is)
 
-abbrev table_one : List ℕ → table.Session → Exchange → List ℕ
+abbrev table_one : List ℕ → table.Session → Exchange → List Output
 table_one prompt = shown_by table.response_to table.after_line prompt
 
-abbrev table_shown : List ℕ → table.Session → List Exchange → List ℕ
+abbrev table_shown : List ℕ → table.Session → List Exchange → List Output
 table_shown prompt = shown_from_by table.response_to table.after_line prompt
 
 -- what came to the journal of a control that went on from these entries

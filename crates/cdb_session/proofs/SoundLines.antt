@@ -382,9 +382,9 @@ asked_taken first make word_is words_are (word ∷ second ∷ words) is =
 file : (word : List ℕ) → may_stand true due.File word ≡ true → is_file_name word ≡ true
 file word is = alone (is_file_name word) is
 
-draws : (name : List ℕ) → is_file_name name ≡ true → (step : Option StepAsked) (others : List (List ℕ)) → AreAnyStepWords step others
+draws : (name : List ℕ) → is_file_name name ≡ true → (asked : Option StepAsked) (others : List (List ℕ)) → AreAnyStepWords asked others
     → IsTaken (codes "draw" ∷ name ∷ others)
-draws name named step others its = inl (inr (inl (Draw name step, name ∷ others, refl, (named, (others, (refl, its))))))
+draws name named asked others its = inl (inr (inl (Draw name asked, name ∷ others, refl, (named, others, refl, its))))
 
 draw_taken : (words : List (List ℕ)) → IsSound (with_file words) words → IsTaken (codes "draw" ∷ words)
 draw_taken [] is = absurd cc

@@ -28,10 +28,13 @@ AreAnyStepWords (Some step) words = AreStepWords step words
 abbrev pub has_other_meaning : List ℕ → Bool
 has_other_meaning word = is_comment word || (is_digits word || is_name word)
 
--- A word that names a file: 1 to 4,095 bytes without a blank, that stand for nothing else.
+-- at most 4,095 bytes, none of them a blank
+abbrev pub is_one_piece : List ℕ → Bool
+is_one_piece word = nat_le (length word) 4095 && not (list_any is_blank word)
+
+-- a word that names a file, and stands for nothing else
 abbrev pub is_file_name : List ℕ → Bool
-is_file_name word =
-    is_word word && (nat_le (length word) 4095 && (not (list_any is_blank word) && not (has_other_meaning word)))
+is_file_name word = is_word word && (is_one_piece word && not (has_other_meaning word))
 
 -- `explain P [K]`, `trail P [K]`, or `draw FILE [P [K]]`
 abbrev pub inquiry_word : Inquiry → List ℕ

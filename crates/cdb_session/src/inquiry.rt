@@ -5,7 +5,7 @@ ghost use Rattle.std.specs.Str.Parse.{AllDigits, digits_value};
 ghost use Rattle.cdb_text.specs.Grammar.{words_of};
 ghost use Rattle.cdb_text.specs.Readers.{number_of};
 ghost use Rattle.cdb_text.specs.Words.{words_left};
-ghost use Rattle.cdb_session.specs.Inquiries.{has_other_meaning, is_file_name};
+ghost use Rattle.cdb_session.specs.Inquiries.{has_other_meaning, is_file_name, is_one_piece};
 ghost use Rattle.cdb_session.specs.InquiryWords.{any_step_in, drawing_in, inquiry_in, repeat_in, step_in};
 
 use crate::typed::{is_blank, is_comment, is_digits, is_name, is_word};
@@ -102,8 +102,18 @@ fn any_step_of(words: Option<&[u8]>) -> Option<Option<StepAsked>>
 {
     match words {
         None => Some(None),
-        Some(_) => Some(Some(step_of(words)?)),
+        Some(line) => match step_of(Some(line)) {
+            Some(step) => Some(Some(step)),
+            None => None,
+        },
     }
+}
+
+/// Whether a word is not too long to name a file, and has no blank.
+fn is_one_piece(word: &[u8]) -> bool
+    ensures { result ≡ is_one_piece word.now }
+{
+    word.len() <= MOST_NAME && !word.iter().any(|byte| is_blank(*byte))
 }
 
 /// Whether a word stands for something else than a file: a comment, a number, or a name as it is printed.
@@ -117,10 +127,7 @@ fn has_other_meaning(word: &[u8]) -> bool
 pub(crate) fn is_file_name(word: &[u8]) -> bool
     ensures { result ≡ is_file_name word.now }
 {
-    is_word(word)
-        && word.len() <= MOST_NAME
-        && !word.iter().any(|byte| is_blank(*byte))
-        && !has_other_meaning(word)
+    is_word(word) && is_one_piece(word) && !has_other_meaning(word)
 }
 
 /// The picture that the words behind `draw` ask for.

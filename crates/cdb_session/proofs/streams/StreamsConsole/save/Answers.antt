@@ -3,8 +3,8 @@ use Rattle.std.proofs.KnownBytes.{Appends-nil, Consumes-nil}
 use Rattle.cdb_session.proofs.InputEnd.{file_is_no_end}
 use Rattle.cdb_session.proofs.streams.StreamsConsole.save.Goals as goal
 
-pub returns-clause-moves : goal.returns-clause-moves
-returns-clause-moves g c = record {
+pub returns : goal.returns
+returns g c = record {
   moves = tt;
   left = Consumes-nil _;
   all = file_is_no_end _ _;
