@@ -46,5 +46,5 @@ returns-clause-unfinished g c =
     let asks = subst (AsksFor c.request_of-request.result) meant c.request_of-request.ensures.asks in
     line_is_done g.C.Caller.answers c.args.style.now _ _ (seen_by g.C.Caller.part c.args.session.now)
     (seen_by g.C.Caller.part c.show.new.self) c.args.unfinished.now.items c.clear.new.self.items c.request_of-request.result
-    asks NoMemory c.in_ok-show.field-0 (Unit {0}) _ tt c.is_quit.result c.in_ok-show.ensures.shows c.in_ok-put.ensures.0 c.in_ok-put.ensures.1
+    asks NoMemory c.in_ok-show.field-0 (Unit {0}) (Unit {0}) tt c.is_quit.result c.in_ok-show.ensures.shows c.in_ok-put.ensures.0 c.in_ok-put.ensures.1
     c.in_ok-show.ensures.lines c.in_ok-show.ensures.seat c.clear.ensures.items c.is_quit.ensures

@@ -21,6 +21,7 @@ returns-in_err-push_prompt-2-clause-shows g c =
 
 pub returns-clause-shows : goal.returns-clause-shows
 returns-clause-shows g c =
-    prompt_shows g.C.Caller.answers c.args.style.now NoMemory NoMemory c.in_ok-shown.shown _ (seen_by g.C.Caller.part c.args.self.now)
+    prompt_shows g.C.Caller.answers c.args.style.now NoMemory NoMemory c.in_ok-shown.shown
+    (record { file = c.in_ok-shown.shown.file; text = c.push_prompt.new.text; failed = c.push_prompt-2.new.text }) (seen_by g.C.Caller.part c.args.self.now)
     (seen_by g.C.Caller.part c.respond.new.self) c.args.request.now c.in_ok-shown.ensures.responds
     (record { file = refl; text_is = c.in_ok-push_prompt.ensures; failed_is = c.in_ok-push_prompt-2.ensures })

@@ -5,11 +5,13 @@ use Rattle.cdb_session.proofs.streams.StreamsConsole.save.Goals as goal
 
 pub returns : goal.returns
 returns g c = record {
-  moves = tt;
-  left = Consumes-nil _;
-  all = file_is_no_end _ _;
-  held = Appends-nil _;
-  saved = c.save.ensures;
-  failed_reads = refl;
-  failed_writes = refl;
+  moves = record {
+    moves = tt;
+    left = Consumes-nil _;
+    all = file_is_no_end _ _;
+    held = Appends-nil _;
+    saved = c.save.ensures;
+    failed_reads = refl;
+    failed_writes = refl;
+  };
 }
