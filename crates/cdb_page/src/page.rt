@@ -47,7 +47,7 @@ fn page_of(alloc: Global, run: &Trace, refresh: Refresh) -> Result<Vec<u8>, NoMe
     requires few { length run.now.history ≤ most_entries }
     ensures { IfOk result (λ text. IsPage refresh run.now text.items) }
 {
-    let picture = picture_of(alloc, run, COLUMNS)?;
+    let picture = picture_of(alloc, run, COLUMNS, None)?;
     let entries = entries_of(alloc, run)?;
     let text = text_of_entries(alloc, entries.as_slice())?;
     joined(alloc, refresh, picture.as_slice(), text.as_slice())

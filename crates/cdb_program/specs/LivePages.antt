@@ -15,7 +15,7 @@ use Rattle.cdb_streams.specs.declared.source.ReadFault.TheVariants as reading
 use Rattle.cdb_program.specs.Answers.{IsAnswer}
 use Rattle.cdb_program.specs.Beginnings.{AreOfBeginning}
 use Rattle.cdb_program.specs.DebugSessions.{console_of}
-use Rattle.cdb_program.specs.Known.{FilesSeen, Seen, after_opening, after_failing, any_name}
+use Rattle.cdb_program.specs.Known.{FilesSeen, HasNoSession, Seen, after_opening, after_failing, any_name}
 use Rattle.cdb_program.specs.Outcomes.{RequestEnd, IsOfKept}
 use Rattle.cdb_program.specs.FilesRead.{CannotReadFiles}
 use Rattle.cdb_program.specs.Reports.{IsReported}
@@ -87,7 +87,7 @@ pub record DebugsBytesPaged (journal : Option (List ℕ))
 abbrev pub DebugsFilePaged : List ℕ → Option (List ℕ) → Option (List ℕ)
     → List ℕ → List ℕ → Seen → Seen → RequestEnd → Type 0
 DebugsFilePaged setup from journal page prompt old new outcome =
-    (CannotReadFiles (setup ∷ (any_name from ++ files_for journal page)) old new outcome × (new.input ≡ old.input))
+    (CannotReadFiles (setup ∷ (any_name from ++ files_for journal page)) old new outcome × HasNoSession old new)
     ⊎ ((json begun : List ℕ) × (new.files ≡ after_opening old.files (setup ∷ (any_name from ++ files_for journal page)))
     × AreOfBeginning old.files setup from json begun × DebugsBytesPaged journal json begun prompt old new outcome)
 
@@ -120,10 +120,10 @@ pub record HoldsPaged (setup : List ℕ) (seats : List (List ℕ))
   pub reported : IsReported page_end error new.error page_status
   pub status_is : status ≡ first_status its_status page_status
 
--- there were sessions of these seats, or not; standard input is left as it is
+-- there were sessions of these seats, or not; none took place here
 abbrev pub PerformsPaged : List ℕ → List (List ℕ) → Option (List ℕ)
     → Option (List ℕ) → List ℕ → Seen → Seen → ℕ → Type 0
 PerformsPaged setup seats from journal page old new status =
-    (new.input ≡ old.input)
+    HasNoSession old new
     × (RefusesSeats setup seats from (files_for journal page) old new status
     ⊎ HoldsPaged setup seats from journal page old new status)

@@ -61,6 +61,7 @@ pub fn race_files<
     ensures does { RacesFiles setup.entry.now turns (texts scripts.now)
         world.old world.new result }
     ensures error { world.new.error ≡ world.old.error }
+    ensures saved { world.new.saved ≡ world.old.saved }
 {
     let json = read_file(alloc, &mut world.files, setup)?;
     let contents = read_each(alloc, &mut world.files, scripts)?;

@@ -8,9 +8,9 @@ use crate::seats::{is_of_seat, pair_of, path_of, prompt_at};
 use cdb_base::NoMemory;
 use cdb_page::Rewritten;
 use cdb_program::Files;
-use cdb_session::Streams;
+use cdb_session::{NewFiles, Streams};
 use cdb_shared_session::{Endpoint, Opener};
-use cdb_streams::{Input, Output, OutputFault, ReadFault, read_up_to};
+use cdb_streams::{Failed, Input, Output, OutputFault, ReadFault, read_up_to};
 use std::alloc::{AllocError, Global};
 use std::fs::{File, Metadata};
 use std::io::{ErrorKind, IsTerminal, Write};
@@ -20,7 +20,33 @@ use std::{fs, io};
 const SHOWN_EACH: u32 = 50;
 
 /// What the session of a seat reads from and writes to.
-type SeatConsole = Streams<Input<File>, Output<File>>;
+type SeatConsole = Streams<Input<File>, Output<File>, SystemNewFiles>;
+
+/// New files of the system.
+#[derive(Drop)]
+pub struct SystemNewFiles {
+    rt: HostRuntime,
+}
+
+impl SystemNewFiles {
+    /// New files of the system.
+    pub fn new(rt: &HostRuntime) -> Self {
+        SystemNewFiles { rt: *rt }
+    }
+}
+
+impl NewFiles for SystemNewFiles {
+    ghost use Rattle.std.specs.Prelude.{None};
+
+    ghost saved = { λ _. None };
+
+    fn save(&mut self, name: &[u8], text: &[u8]) -> Result<(), Failed> {
+        match str::from_utf8(name) {
+            Ok(name) => write_first(&self.rt, name, text).map_err(|_| Failed),
+            Err(_) => Err(Failed),
+        }
+    }
+}
 
 /// The files of the system, of which `-` is standard input. Nothing is known of them but how many could not be read.
 #[derive(Drop)]
@@ -81,7 +107,8 @@ fn seat_of(rt: &HostRuntime, name: &str) -> io::Result<Endpoint<SeatConsole>> {
         None => terminal(rt, name)?,
     };
     let prompt = prompt_at(input.is_terminal()).as_bytes();
-    let console = Streams::new(Input::new(input), Output::new(output));
+    let files = SystemNewFiles::new(rt);
+    let console = Streams::new(Input::new(input), Output::new(output), files);
     Ok(Endpoint { console, prompt })
 }
 
@@ -107,6 +134,16 @@ fn empty_folder(rt: &HostRuntime, name: &str) -> io::Result<()> {
             }
         }
     }
+}
+
+/// Writes a file that was not there. After an error it is not there again.
+fn write_first(rt: &HostRuntime, name: &str, bytes: &[u8]) -> io::Result<()> {
+    let mut file = File::create_new(rt, name)?;
+    let written = file.write_all(bytes);
+    if written.is_err() {
+        let _ = fs::remove_file(rt, name);
+    }
+    written
 }
 
 /// Writes a file under another name, in the place of what has that, and gives it its own once it is whole.
@@ -189,6 +226,8 @@ impl<'a> Files for SystemFiles<'a> {
     type Made = Output<File>;
 
     type Page = SystemPage;
+
+    type New = SystemNewFiles;
 
     ghost use Rattle.std.specs.Prelude.{[], None};
 
