@@ -57,8 +57,8 @@ pub no_seat : (line : List ℕ) (inquiry : Inquiry) → IsInquiryLine inquiry li
 no_seat line inquiry is seat same = begins_so line (seat_line seat) 115 inquiry is same refl (λ e. omega (arith, e)) (λ e. omega (arith, e)) (λ e. omega (arith, e))
 
 pub no_watch : (line : List ℕ) (inquiry : Inquiry) → IsInquiryLine inquiry line → (begins : Bool) → line ≡ watch_line begins → ⊥
-no_watch line inquiry is true same = begins_so line (watch_line true) 119 inquiry is same refl (λ e. omega (arith, e)) (λ e. omega (arith, e))
-no_watch line inquiry is false same = begins_so line (watch_line false) 117 inquiry is same refl (λ e. omega (arith, e)) (λ e. omega (arith, e))
+no_watch line inquiry is true same = begins_so line (watch_line true) 119 inquiry is same refl (λ e. omega (arith, e)) (λ e. omega (arith, e)) (λ e. omega (arith, e))
+no_watch line inquiry is false same = begins_so line (watch_line false) 117 inquiry is same refl (λ e. omega (arith, e)) (λ e. omega (arith, e)) (λ e. omega (arith, e))
 
 -- ---- what is read in its words
 

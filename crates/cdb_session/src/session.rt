@@ -342,11 +342,11 @@ fn with_news<'a>(
     style: &Style<'_>,
     request: &Request<'_>,
 ) -> Result<Shown<'a>, AllocError>
-    ensures file { IfOk result (λ all. all.file ≡ response.file) }
+    ensures file { IfOk result (λ all. all.file ≡ response.entry.file) }
     ensures text { IfOk result (λ all. all.text.items
-        ≡ (news.now ++ response.text.items) ++ prompt_after style.now.prompt request.now) }
+        ≡ (news.now ++ response.entry.text.items) ++ prompt_after style.now.prompt request.now) }
     ensures failed { IfOk result (λ all. all.failed.items
-        ≡ (news.now ++ response.failed.items) ++ prompt_after style.now.prompt request.now) }
+        ≡ (news.now ++ response.entry.failed.items) ++ prompt_after style.now.prompt request.now) }
 {
     Ok(Shown {
         text: between(alloc, news, response.text.as_slice(), style, request)?,

@@ -82,12 +82,7 @@ fn failed_text(alloc: Global, line: u64, name: &[u8]) -> Result<Vec<u8>, AllocEr
 }
 
 /// A picture for a file that the line of this number names.
-fn drawn(
-    alloc: Global,
-    line: u64,
-    name: &[u8],
-    picture: Vec<u8>,
-) -> Result<Shown<'_>, NoMemory>
+fn drawn(alloc: Global, line: u64, name: &[u8], picture: Vec<u8>) -> Result<Shown<'_>, NoMemory>
     ensures { IfOk result (λ shown. (news : List ℕ) (saved : Bool) → outputs_of news shown saved
         ≡ file (record { name = name.now; text = picture.items; done = saved })
         ∷ says (news ++ saving_text line name.now saved)) }
