@@ -1,4 +1,4 @@
-use Rattle.std.proofs.Common.{Bool, true, false, List, ℕ, [], ◌∷◌, sym, subst}
+use Rattle.std.proofs.Common.{true, false, List, ℕ, [], ◌∷◌, sym, subst}
 use Rattle.std.specs.Prelude.{Option}
 use Rattle.cdb_session.specs.Lines.{outputs_with}
 use Rattle.cdb_session.specs.Moves.{Makes, Saves, Saving, WritesAll, says}
