@@ -3,7 +3,7 @@
 use Rattle.std.specs.Prelude.{◌≡◌, ◌⊎◌, ℕ, List, Option, Ok, Err}
 use Rattle.cdb_agreement.specs.Algorithms.{rules}
 use Rattle.cdb_base.specs.declared.question.StepAsked.{StepAsked}
-use Rattle.cdb_base.specs.declared.question.TheConstants.{COLUMNS}
+use Rattle.cdb_base.specs.Limits.{COLUMNS}
 use Rattle.cdb_draw.specs.Drawn.{IsPictureFor, IsTooMuch}
 use Rattle.cdb_explain.specs.Asked.{IsMissing, StandsNoStep}
 use Rattle.cdb_explain.specs.Explanations.{IsStepExplained}

@@ -10,7 +10,8 @@ ghost use Rattle.cdb_session.specs.Answers.{answer_seen};
 
 use crate::fault::Fault;
 use cdb_any_run::AnyRun;
-use cdb_base::{COLUMNS, NoMemory, StepAsked};
+use cdb_base::limits::COLUMNS;
+use cdb_base::{NoMemory, StepAsked};
 use cdb_draw::picture_for;
 use cdb_explain::{ExplainFault, explain_step, position_of_step};
 use cdb_rules::Trace;
