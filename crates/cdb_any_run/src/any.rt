@@ -1,7 +1,7 @@
 //! A run of the algorithm that its setup names, and what is asked of it by numbers and names.
 
 ghost use Rattle.std.specs.Prelude.{◌≡◌, ◌≤◌, ◌↔◌, None, Some, IsTrue, IfNone, IsOk, IfOk};
-ghost use Rattle.std.specs.Prelude.{OnOk, OnErr, true, option_map, vec_capacity};
+ghost use Rattle.std.specs.Prelude.{All, OnOk, OnErr, true, option_map, vec_capacity};
 ghost use Rattle.std.specs.Vec.{vec_items};
 ghost use Rattle.cdb_base.specs.Results.{MapsTo};
 ghost use Rattle.cdb_agreement.specs.Algorithms.{rules};
@@ -19,7 +19,7 @@ ghost use Rattle.cdb_rules.specs.EventRefs.{name_given};
 ghost use Rattle.cdb_rules.specs.Refusals.{IsOfRun};
 ghost use Rattle.cdb_rules.specs.Runs.{step_name, loss_name, IsNumberAmong, RollsBackOnto, result_of_undo};
 ghost use Rattle.cdb_rules.specs.Runs.{result_of_rollback, causes_in, with_result, after_undo, after_rollback};
-ghost use Rattle.cdb_rules.specs.Runs.{CanUndo, IsJustTaken, IsExactRollback, AreCausesOf};
+ghost use Rattle.cdb_rules.specs.Runs.{CanUndo, IsJustTaken, IsExactRollback, AreCausesOf, RemovesOfRun};
 ghost use Rattle.cdb_rules.specs.Step.{is_among};
 ghost use Rattle.cdb_rules.specs.Views.{seen_as};
 
@@ -94,6 +94,15 @@ impl AnyRun {
         ensures memory { OnErr result (IsOk (first_step_by rules self.old p)) }
     {
         by_machine!(&mut self.run, run => run.step_first(alloc, p))
+    }
+
+    /// Whether a run of this setup can have the event, which `again` asks of whoever calls it: a step of one of its
+    /// processes, with a number that a step can have, where a query names one of them; or in version 2 the loss of a
+    /// copy for one of them.
+    pub fn is_of_run(&self, event: &Event) -> bool
+        ensures { IsTrue result ↔ IsOfRun self.now.setup event.now }
+    {
+        by_machine!(&self.run, run => run.is_of_run(event))
     }
 
     /// Takes an undone event of the run again, at the end of the history, or returns the first
@@ -172,7 +181,8 @@ impl AnyRun {
 
     /// Removes an event with its consequences, adds what was removed to the end of a list, the last first, and
     /// returns how many events that are; or returns the first refusal that holds: `NoProcess` or `NoStep`. After a
-    /// refusal and after `NoMemory` run and list are as they were. A refusal takes no memory.
+    /// refusal and after `NoMemory` run and list are as they were. A refusal takes no memory. What it adds may be given
+    /// to `again`.
     pub fn rollback_event(
         &mut self,
         alloc: Global,
@@ -183,6 +193,7 @@ impl AnyRun {
             removed.new.items result }
         ensures exact { OnOk result (IsExactRollback self.old (name_given event) self.new) }
         ensures again { OnOk result (RollbackLeadsBack self.old (name_given event) self.new) }
+        ensures of_run { RemovesOfRun self.old (name_given event) }
         ensures capacity { vec_capacity removed.old ≤ vec_capacity removed.new }
         ensures err { OnErr result (self.new ≡ self.old) }
     {
@@ -191,7 +202,7 @@ impl AnyRun {
 
     /// Removes the `k`-th step of process `p` with its consequences, and returns what was
     /// removed, the last first; or returns the first refusal that holds: `NoProcess` or `NoStep`. After a
-    /// refusal and after `NoMemory` the run is as it was.
+    /// refusal and after `NoMemory` the run is as it was. What it returns may be given to `again`.
     pub fn rollback(
         &mut self,
         alloc: Global,
@@ -203,6 +214,8 @@ impl AnyRun {
         ensures after { OnOk result (self.new ≡ after_rollback self.old (step_name p k)) }
         ensures exact { OnOk result (IsExactRollback self.old (step_name p k) self.new) }
         ensures again { LeadsBack self.new result self.old }
+        ensures of_run { IfOk result
+            (λ r. IfOk r (λ removed. All (IsOfRun self.old.setup) removed.items)) }
         ensures err { OnErr result (self.new ≡ self.old) }
         ensures memory { OnErr result (IsOk (result_of_rollback self.old (step_name p k))) }
     {
@@ -212,7 +225,7 @@ impl AnyRun {
     /// Removes the loss of the copy for process `p` of the `m`-th message of process `s` with its
     /// consequences, and returns what was removed, the last first; or returns the first refusal
     /// that holds: `NoProcess` of `s` or `p`, or `NoStep`. After a refusal and after `NoMemory` the run
-    /// is as it was.
+    /// is as it was. What it returns may be given to `again`.
     pub fn rollback_lost(
         &mut self,
         alloc: Global,
@@ -225,6 +238,8 @@ impl AnyRun {
         ensures after { OnOk result (self.new ≡ after_rollback self.old (loss_name s m p)) }
         ensures exact { OnOk result (IsExactRollback self.old (loss_name s m p) self.new) }
         ensures again { LeadsBack self.new result self.old }
+        ensures of_run { IfOk result
+            (λ r. IfOk r (λ removed. All (IsOfRun self.old.setup) removed.items)) }
         ensures err { OnErr result (self.new ≡ self.old) }
         ensures memory { OnErr result (IsOk (result_of_rollback self.old (loss_name s m p))) }
     {

@@ -10,7 +10,7 @@ use Rattle.cdb_base.specs.Requests.{RequestView, Ask, Text}
 use Rattle.cdb_base.specs.declared.question.Question.{Question}
 use Rattle.cdb_base.specs.declared.question.Question.TheVariants.{Explain, Trail, Draw, Slice}
 use Rattle.cdb_base.specs.declared.question.StepAsked.{StepAsked}
-use Rattle.cdb_base.specs.declared.question.TheConstants.{COLUMNS}
+use Rattle.cdb_base.specs.Limits.{COLUMNS}
 use Rattle.cdb_arguments.specs.RequestsOfRows.{IsAnyStepIn, IsNumber, IsNumberOf}
 use Rattle.cdb_arguments.specs.CommandLine.{program}
 use Rattle.cdb_arguments.specs.Plain.{IsSubcommandLine, IsUsual, WritesNumber, WritesStep, question_name, step_asked}

@@ -3,13 +3,12 @@ use Rattle.std.specs.Prelude.{◌≡◌, ◌≢◌, ℕ, ◌≤◌, List, [], �
 use Rattle.std.specs.List.{AllByRecursion}
 use Rattle.std.specs.Str.Parse.{IsNumeral, digits_value, without_leading_plus}
 use Rattle.clap.specs.Lexer.{usize_max}
-use Rattle.cdb_arguments.specs.declared.limits.TheConstants.{MAX_NUMBER, MAX_TURNS}
+use Rattle.cdb_base.specs.Limits.{COLUMNS, MAX_NUMBER, MAX_TURNS}
 use Rattle.cdb_base.specs.Requests.{RequestView, Script, Play, Race, Ask, Frames, Debug}
 use Rattle.cdb_base.specs.Requests.{Replay, Search, Shrink, Same, Clocks, Page, Text}
 use Rattle.cdb_base.specs.declared.question.Question.{Question}
 use Rattle.cdb_base.specs.declared.question.Question.TheVariants.{Explain, Trail, Draw, Slice}
 use Rattle.cdb_base.specs.declared.question.StepAsked.{StepAsked}
-use Rattle.cdb_base.specs.declared.question.TheConstants.{COLUMNS}
 
 -- a text that does not begin with a hyphen, so that it is no option
 abbrev pub IsPlain : Text → Type 0

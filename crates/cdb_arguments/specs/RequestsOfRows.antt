@@ -4,7 +4,7 @@ use Rattle.std.specs.Prelude.{None, unwrap_or, Result, IfOk, IfErr, IsSome}
 use Rattle.clap.specs.Words.{Kinds, IsAmong, Row, first_of, all_of, kind_of}
 use Rattle.clap.specs.declared.error.kind.ErrorKind.{ErrorKind}
 use Rattle.clap.specs.declared.error.kind.ErrorKind.TheVariants.{DisplayHelp, DisplayVersion}
-use Rattle.cdb_arguments.specs.declared.limits.TheConstants.{MAX_NUMBER, MAX_TURNS}
+use Rattle.cdb_base.specs.Limits.{COLUMNS, MAX_NUMBER, MAX_TURNS}
 use Rattle.cdb_arguments.specs.declared.request.ArgumentsFault.{ArgumentsFault}
 use Rattle.cdb_arguments.specs.declared.request.ArgumentsFault.TheVariants.{Words, NoMemory}
 use Rattle.cdb_arguments.specs.Plain.{WritesCount, WritesNumber, question_name}
@@ -14,7 +14,6 @@ use Rattle.cdb_base.specs.Requests.{Search, Shrink, Same, Clocks, Page, Text, as
 use Rattle.cdb_base.specs.declared.question.Question.{Question}
 use Rattle.cdb_base.specs.declared.question.Question.TheVariants.{Explain, Trail, Draw, Slice}
 use Rattle.cdb_base.specs.declared.question.StepAsked.{StepAsked}
-use Rattle.cdb_base.specs.declared.question.TheConstants.{COLUMNS}
 use Rattle.cdb_base.specs.declared.request.Request.{Request}
 
 -- one of the subcommands, or none

@@ -2,10 +2,8 @@
 #![tactic(auto)]
 
 mod command_line;
-mod limits;
 mod reading;
 mod request;
 
-pub use limits::{MAX_NUMBER, MAX_TURNS};
 pub use reading::{ask_status, asked};
 pub use request::ArgumentsFault;

@@ -1,6 +1,6 @@
 //! Reading the words of the command line.
 
-ghost use Rattle.std.specs.Prelude.{◌≡◌, OnOk, IfOk, IfErr, Some, [], true, map, codes};
+ghost use Rattle.std.specs.Prelude.{◌≡◌, ◌≢◌, OnOk, IfOk, IfErr, Some, [], true, map, codes};
 ghost use Rattle.clap.specs.Words.{Kinds, Text, HasKind, fault_of, first_of, found_of, kind_of};
 ghost use Rattle.clap.specs.Words.{rows_of, subcommand_of, subcommand_rows_of, takes};
 ghost use Rattle.cdb_base.specs.Memory.{no_memory};
@@ -12,9 +12,9 @@ ghost use Rattle.cdb_arguments.specs.Plain.{IsLine, question_name};
 ghost use Rattle.cdb_base.specs.Requests.{RequestView, any_text, asked_for, texts};
 
 use crate::command_line::program;
-use crate::limits::{MAX_NUMBER, MAX_TURNS};
 use crate::request::{ArgumentsFault, WordsError};
-use cdb_base::{COLUMNS, NoMemory, Question, Request, StepAsked};
+use cdb_base::limits::{COLUMNS, MAX_NUMBER, MAX_TURNS};
+use cdb_base::{NoMemory, Question, Request, StepAsked};
 use clap::error::ErrorKind;
 use clap::{ArgMatches, Error};
 use std::alloc::{AllocError, Global};
@@ -38,6 +38,7 @@ fn matches_of<'a>(alloc: Global, words: &'a [&'a str]) -> Result<ArgMatches<'a>,
 /// What an error of `clap` is here: out of memory apart from the other errors.
 fn ask_fault(error: WordsError) -> ArgumentsFault
     ensures memory { kind_of error.0 ≡ ErrorKind.OutOfMemory → result ≡ ArgumentsFault.NoMemory no_memory }
+    ensures other { kind_of error.0 ≢ ErrorKind.OutOfMemory → result ≡ ArgumentsFault.Words error.0 }
     ensures words { (kinds : Kinds) → HasKind kinds error.0 → IsOfKinds kinds result }
 {
     match NoMemory::of(&error) {

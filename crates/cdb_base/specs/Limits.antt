@@ -1,4 +1,4 @@
--- The limits of a run and of a session.
+-- The limits of a run, of a session and of what is asked for.
 use Rattle.std.specs.Prelude.{ℕ}
 
 -- the most processes that a run has
@@ -32,3 +32,15 @@ MAX_SEATS = 64
 -- the most entries of a journal
 abbrev pub MAX_ENTRIES : ℕ
 MAX_ENTRIES = 999999
+
+-- the most turns of a race
+abbrev pub MAX_TURNS : ℕ
+MAX_TURNS = 99999
+
+-- the greatest number that names a process, a step or a round in an argument
+abbrev pub MAX_NUMBER : ℕ
+MAX_NUMBER = 999999
+
+-- the columns of a row of a picture where none are asked for
+abbrev pub COLUMNS : ℕ
+COLUMNS = 20

@@ -27,7 +27,7 @@ pub use name::{CopyName, MsgName, Proc, StepId, StepName};
 pub use no_memory::{LibraryError, NoMemory};
 pub use payload::Payload;
 pub use proc_view::ProcView;
-pub use question::{COLUMNS, Question, StepAsked};
+pub use question::{Question, StepAsked};
 pub use refusal::Refusal;
 pub use register::{Cell, Reg};
 pub use request::Request;

@@ -8,9 +8,6 @@ pub struct StepAsked {
     pub k: Option<u32>,
 }
 
-/// As many columns of a picture as fit a page that lies.
-pub const COLUMNS: u32 = 20;
-
 /// What is asked of a run.
 #[derive(Clone, Copy)]
 pub enum Question {

@@ -1,11 +1,14 @@
--- An event is free exactly where it is a direct cause of none, and the other events keep their direct causes when it goes.
+-- An event is free exactly where it is a direct cause of none, and the other events keep their direct causes when one is added
+-- and when a free one goes.
 use Rattle.std.proofs.lemmas.Bool.{cases_eq}
-use Rattle.std.proofs.Common.{◌≡◌, ℕ, zero, suc, ◌<◌, ◌≤◌, ◌≢◌, Bool, ◌⊎◌, inl, inr, ⊎_elim, ◌↔◌, List, [], ◌∷◌, refl, sym, ap, ◌∙◌, subst, arith, lt_irrefl}
+use Rattle.std.proofs.Common.{◌≡◌, ℕ, zero, suc, ◌<◌, ◌≤◌, ◌≢◌, Bool, ◌⊎◌, inl, inr, ⊎_elim, ◌↔◌, List}
+use Rattle.std.proofs.Common.{[], ◌∷◌, ◌++◌, length, refl, sym, ap, ◌∙◌, subst, arith, lt_irrefl}
 use Rattle.std.proofs.Common.{suc-le-suc, le_of_suc-le-suc}
 use Rattle.cdb_base.specs.Positions.{nth}
 use Rattle.cdb_causal.specs.Causality.{IsLink, IsFree, IsDirectCause}
-use Rattle.cdb_causal.specs.Laws.{HasNoEffect, OthersKeepCauses}
+use Rattle.cdb_causal.specs.Laws.{HasNoEffect, KeepCausesWith, OthersKeepCauses}
 use Rattle.cdb_causal.specs.Rollback.{without, position_before}
+use Rattle.cdb_causal.proofs.Lists.{nth_front, nth_in_front}
 use Rattle.cdb_causal.proofs.Walks.{link_at, linked_or_not}
 
 nth-without : {E : Type 0} (history : List E) (i k : ℕ) → nth (without history (suc i)) k ≡ nth history (position_before (suc i) k)
@@ -103,3 +106,33 @@ module _ {E : Type 0} (depends : E → E → Bool) where
   pub direct_causes_stay : (history : List E) (at : ℕ) → 1 ≤ at → IsFree depends history at → OthersKeepCauses depends history at
   direct_causes_stay history zero from_one = absurd (omega (arith, from_one))
   direct_causes_stay history (suc i) from_one = causes_stay history i
+
+  module _ (history : List E) (event : E) where
+    abbrev longer : List E
+    longer = history ++ event ∷ []
+
+    link_longer : (k l : ℕ) → IsLink depends history k l → IsLink depends longer k l
+    link_longer k l one =
+        link_at depends longer k l one.cause one.effect (nth_front history event one.cause k one.at_cause)
+        (nth_front history event one.effect l one.at_effect) one.later one.linked
+
+    link_shorter : (k l : ℕ) → l ≤ length history → IsLink depends longer k l → IsLink depends history k l
+    link_shorter k l within one =
+        let later = one.later in
+        link_at depends history k l one.cause one.effect (nth_in_front history event one.cause k (omega (arith, within, later)) one.at_cause)
+        (nth_in_front history event one.effect l within one.at_effect) later one.linked
+
+    -- where an event is added, the others keep their direct causes
+    pub causes_stay_with : KeepCausesWith depends history event
+    causes_stay_with k l within = (
+      (λ d. record {
+        link = link_shorter k l within d.link;
+        nothing_between = λ m one two. d.nothing_between m (link_longer k m one) (link_longer m l two);
+      }),
+      (λ d. record {
+        link = link_longer k l d.link;
+        nothing_between = λ m one two.
+            let later = two.later in
+            d.nothing_between m (link_shorter k m (omega (arith, within, later)) one) (link_shorter m l within two);
+      }),
+    )

@@ -1,8 +1,8 @@
 -- The direct causes of the last event of a list, by the events between.
 use Rattle.std.proofs.lemmas.Grind.{common_steps}
 use Rattle.std.proofs.lemmas.Bool.{and_parts, and_from, not-true, not_from_false, false_from_ne_true, cases_Bool}
-use Rattle.std.proofs.lemmas.Option.{gets, none-some}
-use Rattle.std.proofs.Common.{◌≡◌, ℕ, zero, suc, ◌+◌, ◌-◌, ◌≤◌, Bool, true, ◌&&◌, not, ◌↔◌, List, [], ◌∷◌, ◌++◌, length, Some, drop, inl, inr}
+use Rattle.std.proofs.lemmas.Option.{gets}
+use Rattle.std.proofs.Common.{◌≡◌, ℕ, suc, ◌+◌, ◌-◌, Bool, true, ◌&&◌, not, ◌↔◌, List, [], ◌∷◌, ◌++◌, length, Some, drop, inl, inr}
 use Rattle.std.proofs.Common.{refl, sym, ap}
 use Rattle.std.proofs.Common.{◌∙◌, subst, true≢false, arith}
 use Rattle.std.specs.List.{list_any}
@@ -10,7 +10,7 @@ use Rattle.cdb_base.specs.Positions.{nth}
 use Rattle.cdb_causal.specs.Causality.{IsDirectCause}
 use Rattle.cdb_causal.specs.DirectDependents.{is_direct}
 use Rattle.cdb_causal.specs.Laws.{CausesLast, IsDirectBehind}
-use Rattle.cdb_causal.proofs.Lists.{nth_drop, nth_front, nth_within, push_back}
+use Rattle.cdb_causal.proofs.Lists.{nth_drop, nth_front, nth_in_front, nth_within, push_back}
 use Rattle.cdb_causal.proofs.Walks.{link_at, linked_events}
 
 module _ {E : Type 0} where
@@ -24,10 +24,6 @@ module _ {E : Type 0} where
 
   at_any : (test : E → Bool) (xs : List E) (i : ℕ) (x : E) → nth xs (suc i) ≡ Some x → test x ≡ true → list_any test xs ≡ true
   at_any test xs i x h1 h2 = grind (arith, common_steps, gets)
-
-  nth_in_front : (xs : List E) (y x : E) (k : ℕ) → k ≤ length xs → nth (xs ++ y ∷ []) k ≡ Some x → nth xs k ≡ Some x
-  nth_in_front xs y x zero h1 h2 = absurd (none-some x h2)
-  nth_in_front xs y x (suc k) h1 h2 = grind (arith, common_steps, gets)
 
 module _ {E : Type 0} (depends : E → E → Bool) (history : List E) (at : ℕ) (cause : E) (stands : nth history at ≡ Some cause) (event : E) where
   abbrev longer : List E

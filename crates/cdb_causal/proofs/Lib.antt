@@ -11,8 +11,10 @@ pub mod Paths
 pub mod Undone
 pub mod PastLaws
 pub mod Slices
--- direct causes and direct dependents
+pub mod LastEvent
+pub mod Parted
+-- links, direct causes and direct dependents
 pub mod Effects
+pub mod Linked
 pub mod Counts
-pub mod Dependents
 pub mod DirectByList

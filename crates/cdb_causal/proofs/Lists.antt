@@ -40,6 +40,10 @@ pub nth_front : {A : Type 0} (xs : List A) (y x : A) (k : ℕ) → nth xs k ≡ 
 nth_front xs y x zero stands = absurd (none-some x stands)
 nth_front xs y x (suc k) stands = push_front xs y x k stands
 
+pub nth_in_front : {A : Type 0} (xs : List A) (y x : A) (k : ℕ) → k ≤ length xs → nth (xs ++ y ∷ []) k ≡ Some x → nth xs k ≡ Some x
+nth_in_front xs y x zero h1 h2 = absurd (none-some x h2)
+nth_in_front xs y x (suc k) h1 h2 = grind (arith, common_steps, gets)
+
 pub nth_within : {A : Type 0} (xs : List A) (k : ℕ) (x : A) → nth xs k ≡ Some x → k ≤ length xs
 nth_within xs zero x stands = absurd (none-some x stands)
 nth_within xs (suc k) x stands = slice_get_within xs k x stands

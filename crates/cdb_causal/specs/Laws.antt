@@ -1,13 +1,13 @@
 -- The words of the laws: of which lists they speak, under any dependence of any type of events, and what they say of
 -- these.
-use Rattle.std.specs.Prelude.{◌≡◌, ℕ, ◌+◌, ◌≤◌, Bool, true, false, List, [], ◌∷◌, ◌++◌, ◌↔◌, length, Option, Some}
+use Rattle.std.specs.Prelude.{◌≡◌, ℕ, ◌+◌, ◌≤◌, Bool, true, List, [], ◌∷◌, ◌++◌, ◌↔◌, length, Option, Some}
 use Rattle.cdb_base.specs.Positions.{nth}
 use Rattle.cdb_causal.specs.Causality.{IsFree, IsConsequence, IsDirectCause}
-use Rattle.cdb_causal.specs.DirectDependents.{is_direct, as_number, direct_dependents}
+use Rattle.cdb_causal.specs.DirectDependents.{is_direct}
 use Rattle.cdb_causal.specs.Exchange.{IsExchanged, IsEachOnce, HaveSameEvents, KeepsOrder}
 use Rattle.cdb_causal.specs.Past.{HasLedTo}
 use Rattle.cdb_causal.specs.Reach.{reached}
-use Rattle.cdb_causal.specs.Rollback.{IsParted, IsRolledBack, events_before, events_behind}
+use Rattle.cdb_causal.specs.Rollback.{IsParted, IsRolledBack, events_behind}
 use Rattle.cdb_causal.specs.Rollback.{without, position_before, remaining, rolled_back}
 
 -- ---- of what
@@ -38,10 +38,6 @@ OfFree E Holds =
     (depends : E → E → Bool) (history : List E) (at : ℕ) (event : E)
     → nth history at ≡ Some event → IsFree depends history at
     → Holds depends history at event
-
--- of each event and each list of events behind it
-abbrev pub OfCauses : (E : Type 0) → ((E → E → Bool) → E → List E → Type 0) → Type 0
-OfCauses E Holds = (depends : E → E → Bool) (cause : E) (behind : List E) → Holds depends cause behind
 
 -- of each two lists
 abbrev pub OfTwo : (E : Type 0) → ((E → E → Bool) → List E → List E → Type 0) → Type 0
@@ -88,6 +84,12 @@ OthersKeepCauses depends history at =
     (k l : ℕ) → IsDirectCause depends (without history at) k l
     ↔ IsDirectCause depends history (position_before at k) (position_before at l)
 
+-- with an event added at the end the others have the direct causes that they had
+abbrev pub KeepCausesWith : {E : Type 0} → (E → E → Bool) → List E → E → Type 0
+KeepCausesWith depends history event =
+    (k l : ℕ) → l ≤ length history
+    → IsDirectCause depends (history ++ event ∷ []) k l ↔ IsDirectCause depends history k l
+
 -- the event at a position is a direct cause of the one that is added at the end
 abbrev pub CausesLast : {E : Type 0} → (E → E → Bool) → List E → ℕ → E → Type 0
 CausesLast depends history at event = IsDirectCause depends (history ++ event ∷ []) at (length history + 1)
@@ -105,27 +107,6 @@ IsToldByList {E} depends history at cause =
 -- position i is a direct cause of one that has led to position j
 abbrev pub LeadsThrough : {E : Type 0} → (E → E → Bool) → List E → ℕ → ℕ → Type 0
 LeadsThrough depends history i j = (k : ℕ) × IsDirectCause depends history i k × HasLedTo depends history j k
-
--- the cause is a direct cause of none of the events behind it
-abbrev pub IsDirectOfNone : {E : Type 0} → (E → E → Bool) → E → List E → Type 0
-IsDirectOfNone depends cause behind = direct_dependents depends cause behind ≡ 0
-
--- none of the events depends on the cause
-abbrev pub NoneDepends : {E : Type 0} → (E → E → Bool) → E → List E → Type 0
-NoneDepends {E} depends cause events = (at : ℕ) (event : E) → nth events at ≡ Some event → depends cause event ≡ false
-
--- the event that is added is one direct dependent more of the cause, if it is one
-abbrev pub CountsAdded : {E : Type 0} → (E → E → Bool) → E → List E → E → Type 0
-CountsAdded depends cause events event =
-    direct_dependents depends cause (events ++ event ∷ [])
-    ≡ direct_dependents depends cause events + as_number (is_direct depends cause events event)
-
--- without the event at a position there is one less, if it was one
-abbrev pub CountsTakenOut : {E : Type 0} → (E → E → Bool) → E → List E → ℕ → E → Type 0
-CountsTakenOut depends cause events at gone =
-    direct_dependents depends cause events
-    ≡ as_number (is_direct depends cause (events_before events at) gone)
-    + direct_dependents depends cause (without events at)
 
 -- where the event at a position is rolled back alone it is free, and all else remains
 abbrev pub IsFreeIfAlone : {E : Type 0} → (E → E → Bool) → List E → ℕ → Type 0

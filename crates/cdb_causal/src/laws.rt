@@ -5,10 +5,10 @@ ghost use Rattle.std.specs.Prelude.{Bool, List, [], ◌∷◌, ◌++◌, ◌↔�
 ghost use Rattle.cdb_causal.specs.Causality.{IsFree};
 ghost use Rattle.cdb_causal.specs.Dependence.{depends as depends_of};
 ghost use Rattle.cdb_causal.specs.Exchange.{IsExchanged, IsEachOnce, HaveSameEvents, KeepsOrder};
-ghost use Rattle.cdb_causal.specs.Laws.{OfPositions, OfRollbacks, OfEvents, OfFree, OfCauses, OfTwo, OfExchanged};
+ghost use Rattle.cdb_causal.specs.Laws.{OfPositions, OfRollbacks, OfEvents, OfFree, OfTwo, OfExchanged};
 ghost use Rattle.cdb_causal.specs.Laws.{HaveSameOrder, ReachTheSame, IsTransitive, IsMutual, IsRollback};
-ghost use Rattle.cdb_causal.specs.Laws.{AreConsequences, HasNoEffect, OthersKeepCauses, IsToldByList, IsDirectOfNone};
-ghost use Rattle.cdb_causal.specs.Laws.{NoneDepends, CountsAdded, CountsTakenOut, IsFreeIfAlone, MayGoLastFirst};
+ghost use Rattle.cdb_causal.specs.Laws.{AreConsequences, HasNoEffect, KeepCausesWith, OthersKeepCauses, IsToldByList};
+ghost use Rattle.cdb_causal.specs.Laws.{IsFreeIfAlone, MayGoLastFirst};
 ghost use Rattle.cdb_causal.specs.Reach.{IsCommuting, IsSymmetric};
 ghost use Rattle.cdb_causal.specs.Rollback.{without, rolled_back, consequences};
 
@@ -91,9 +91,11 @@ pub fn free_without_effects<E>()
         IsFree depends history at ↔ HasNoEffect depends history at) }
 {}
 
-/// Where a free event is taken out, the others keep their direct causes.
+/// Where an event is added at the end, and where a free event is taken out, the others keep their direct causes.
 pub fn direct_causes_stay<E>()
-    ensures { OfPositions E (λ depends events at.
+    ensures added { (depends : E → E → Bool) (events : List E) (event : E) →
+        KeepCausesWith depends events event }
+    ensures taken_out { OfPositions E (λ depends events at.
         IsFree depends events at → OthersKeepCauses depends events at) }
 {}
 
@@ -101,23 +103,6 @@ pub fn direct_causes_stay<E>()
 /// the list of what stands between.
 pub fn direct_by_list<E>()
     ensures { OfEvents E (λ depends history at cause. IsToldByList depends history at cause) }
-{}
-
-/// An event that is added is one direct dependent more of each of its direct causes, and a free
-/// event that is taken out is one less. The counts of all other events stay.
-#[tactic(auto, using(crate::proofs::Dependents::dependents_added))]
-pub fn direct_dependents_counted<E>()
-    ensures added { OfCauses E (λ depends cause behind. (event : E) →
-        CountsAdded depends cause behind event) }
-    ensures taken_out { OfFree E (λ depends events at gone. (cause : E) →
-        CountsTakenOut depends cause events at gone) }
-{}
-
-/// An event with no direct dependent has no dependent at all, and conversely: of the events that
-/// depend on it, the first depends on it directly.
-pub fn no_direct_dependent<E>()
-    ensures { OfCauses E (λ depends cause behind.
-        IsDirectOfNone depends cause behind ↔ NoneDepends depends cause behind) }
 {}
 
 /// A rollback may be made one undo at a time, from the last consequence back. An event without

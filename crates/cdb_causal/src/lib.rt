@@ -8,6 +8,8 @@
 
 pub mod dependence;
 pub mod laws;
+pub mod links;
 pub mod past;
 
 pub use dependence::depends;
+pub use links::{is_direct_cause, is_linked};

@@ -20,7 +20,7 @@ use Rattle.cdb_causal.specs.Exchange.{IsExchanged}
 use Rattle.cdb_causal.specs.Names.{IsFirstDependent}
 use Rattle.cdb_causal.specs.Rollback.{IsParted, IsRolledBack, without, remaining, rolled_back}
 use Rattle.cdb_causal.proofs.Chains.{parted}
-use Rattle.cdb_causal.proofs.Dependents.{last_free, without_push_back}
+use Rattle.cdb_causal.proofs.LastEvent.{last_free, without_push_back}
 use Rattle.cdb_causal.proofs.Exchanges.{free_to_end, rollback_to_end}
 use Rattle.cdb_causal.proofs.Lists.{push_back}
 use Rattle.cdb_commands.specs.ReplyView.{ReplyView}

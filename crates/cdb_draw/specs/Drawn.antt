@@ -61,6 +61,12 @@ abbrev pub IsFaultOfPicture : RunView → Option StepAsked → ExplainFault → 
 IsFaultOfPicture run step TooManyEvents = IsTooMuch run step
 IsFaultOfPicture run step fault = IsFaultOfStep (IsMissing run.history step) ⊥ fault
 
+-- the same of a picture in memory, for which no writer fails
+abbrev pub IsFaultOfHeld : RunView → Option StepAsked → ExplainFault → Type 0
+IsFaultOfHeld run step (Play (play.NoMemory refused)) = Unit {0}
+IsFaultOfHeld run step (Play fault) = ⊥
+IsFaultOfHeld run step fault = IsFaultOfPicture run step fault
+
 -- the run that the script leaves is crowded and no step is asked for, or the step does not stand in it; else as a fault
 -- of a play
 abbrev pub IsFaultOfDraw : (Parts → Rules) → List ℕ → Option StepAsked → Stream → Stream → ExplainFault → Type 0

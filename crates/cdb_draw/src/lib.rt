@@ -24,4 +24,4 @@ pub use frames::Frames;
 pub use laws::arrows_keep_off_marks;
 pub use layout::MOST_DRAWN;
 pub use memory::picture_of;
-pub use script::draw;
+pub use script::{draw, picture_for};

@@ -1,6 +1,6 @@
 //! Pictures as texts in memory.
 
-ghost use Rattle.std.specs.Prelude.{◌≡◌, ◌≤◌, length, IfOk, None};
+ghost use Rattle.std.specs.Prelude.{◌≡◌, ◌≤◌, length, IfOk, IfSome};
 ghost use Rattle.cdb_agreement.specs.Algorithms.{rules};
 ghost use Rattle.cdb_draw.specs.Layout.{IsGrid};
 ghost use Rattle.cdb_draw.specs.Picture.{IsPicture, picture_text};
@@ -80,14 +80,19 @@ pub(crate) fn held_picture(
     }
 }
 
-/// The picture of a run of at most 999,999 events, all in full, with `columns` columns to a row; with 0 all are in one
-/// row. Only out of memory is an error.
-pub fn picture_of(alloc: Global, run: &Trace, columns: u32) -> Result<Vec<u8>, NoMemory>
+/// The picture that `draw_run` writes of a run of at most 999,999 events. Only out of memory is an error.
+pub fn picture_of(
+    alloc: Global,
+    run: &Trace,
+    columns: u32,
+    position: Option<usize>,
+) -> Result<Vec<u8>, NoMemory>
     requires valid { IsInOrder rules run.now }
     requires few { length run.now.history ≤ MAX_ENTRIES }
-    ensures { IfOk result (λ text. IsPicture rules run.now columns None text.items) }
+    requires stands { IfSome position (λ at. (1 ≤ at) × (at ≤ length run.now.history)) }
+    ensures { IfOk result (λ text. IsPicture rules run.now columns position text.items) }
 {
-    let weights = weights_for(alloc, run, None)?;
+    let weights = weights_for(alloc, run, position)?;
     let grid = grid_of(run.setup(), columns as usize, run.events().len());
     held_picture(alloc, grid, run, weights.as_slice())
 }

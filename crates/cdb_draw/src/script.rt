@@ -2,7 +2,7 @@
 
 ghost use Rattle.std.specs.Prelude.{◌≡◌, ◌<◌, ◌≤◌, length, Err, Some, IfErr, IfOk, IfSome};
 ghost use Rattle.cdb_agreement.specs.Algorithms.{rules};
-ghost use Rattle.cdb_draw.specs.Drawn.{draw_ending, Draws, IsFaultOfDraw, IsFaultOfPicture};
+ghost use Rattle.cdb_draw.specs.Drawn.{draw_ending, Draws, IsFaultOfDraw, IsFaultOfHeld, IsFaultOfPicture};
 ghost use Rattle.cdb_draw.specs.Drawn.{IsPictureFor, IsPictureOfPast, IsPositionFor};
 ghost use Rattle.cdb_explain.specs.Asked.{IsMissing};
 ghost use Rattle.cdb_explain.specs.StepFaults.{IsFaultOfStep};
@@ -16,9 +16,10 @@ ghost use Rattle.cdb_setup.specs.declared.fault.SetupFault.{SetupFault as SetupF
 
 use crate::draws::draw_run;
 use crate::layout::MOST_DRAWN;
+use crate::memory::picture_of;
 use cdb_any_run::AnyRun;
 use cdb_base::limits::MAX_ENTRIES;
-use cdb_base::{Event, StepAsked};
+use cdb_base::{Event, NoMemory, StepAsked};
 use cdb_explain::{ExplainFault, position_of_step, run_left_by};
 use cdb_rules::Trace;
 use cdb_slice::past_of;
@@ -84,6 +85,49 @@ fn write_drawing<W: Sink>(
     };
     draw_past(alloc, run, columns, position, out)?;
     Ok(())
+}
+
+/// The picture that `draw_past` writes.
+fn picture_of_past(
+    alloc: Global,
+    run: &Trace,
+    columns: u32,
+    position: usize,
+) -> Result<Vec<u8>, NoMemory>
+    requires valid { IsInOrder rules run.now }
+    requires few { length run.now.history ≤ MAX_ENTRIES }
+    requires from_one { 1 ≤ position }
+    requires to_len { position ≤ length run.now.history }
+    ensures { IfOk result (λ text. IsPictureOfPast rules run.now columns (Some position) text.items) }
+{
+    let past = past_of::<AnyRun>(alloc, run, position)?;
+    picture_of(alloc, &past, columns, Some(past.events().len()))
+}
+
+/// The picture that `draw` writes of a run of at most 999,999 events.
+///
+/// # Errors
+/// `NoStep` where the step doesn't stand, `TooManyEvents` where none is asked for of more than 5,000 events, and
+/// `NoMemory` where an allocation fails.
+pub fn picture_for(
+    alloc: Global,
+    run: &Trace,
+    columns: u32,
+    step: Option<StepAsked>,
+) -> Result<Vec<u8>, ExplainFault>
+    requires valid { IsInOrder rules run.now }
+    requires few { length run.now.history ≤ MAX_ENTRIES }
+    ensures picture { IfOk result (λ text. IsPictureFor rules run.now columns step text.items) }
+    ensures fault { IfErr result (IsFaultOfHeld run.now step) }
+{
+    let position = position_for(run.events(), step)?;
+    if run.events().len() <= MOST_DRAWN {
+        return Ok(picture_of(alloc, run, columns, position)?);
+    }
+    let Some(position) = position else {
+        return Err(ExplainFault::TooManyEvents);
+    };
+    Ok(picture_of_past(alloc, run, columns, position)?)
 }
 
 /// Draws the run that a script leaves, and writes the picture as SVG, with `columns` columns to a row; with 0 all are

@@ -5,8 +5,7 @@ ghost use Rattle.std.specs.List.{after_first, before_first};
 ghost use Rattle.cdb_goal.specs.Words.{HasNoColon, IsNumbersOf, IsWordOf, WritesNumber, is_colon};
 ghost use Rattle.cdb_goal.specs.declared.goal.Goal.{Goal as GoalName};
 
-/// The greatest number that the word of a goal has.
-const MAX_NUMBER: u32 = 999_999;
+use cdb_base::limits::MAX_NUMBER;
 
 /// What is looked for among the runs of a setup. The numbers are as a user gave them.
 #[derive(Clone, Copy, Debug, PartialEq, Eq)]

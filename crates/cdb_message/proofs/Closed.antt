@@ -1,5 +1,6 @@
 -- Which copies are received or lost after a receive, a loss, or one that was taken back, and so what may be passed over.
 use Rattle.std.proofs.Common.{◌≡◌, ◌≢◌, ℕ, ◌≤◌, Bool, true, false, not, ◌&&◌, ◌||◌, refl, ap, ◌∙◌, inl, inr, arith}
+use Rattle.std.proofs.lemmas.Bool.{or_right}
 use Rattle.std.proofs.lemmas.Grind.{common_steps}
 use Rattle.std.proofs.lemmas.Option.{gets}
 use Rattle.std.specs.Ordering.{eq_by_cmp}
@@ -17,17 +18,13 @@ use Rattle.cdb_message.proofs.Sets.{name_cmp_total, name_cmp-IsAntisymmetric, co
 
 -- ---- sets
 
-either-true : (a b : Bool) → b ≡ true → (a || b) ≡ true
-either-true true b h = refl
-either-true false b h = h
-
 both-true : (a b : Bool) → (a ≡ true → ⊥) → b ≡ true → (not a && b) ≡ true
 both-true true b never h = absurd (never refl)
 both-true false b never h = h
 
 module _ {K : Type 0} {R : K → K → Ordering} (total : IsTotalOrder R) (antisymmetric : finite.IsAntisymmetric R) where
   stays-insert : (s : finite.FinSet R) (k q : K) → finite.contains s q ≡ true → finite.contains (finite.insert s k) q ≡ true
-  stays-insert s k q h = finite.contains-insert total s k q ∙ either-true (eq_by_cmp R q k) (finite.contains s q) h
+  stays-insert s k q h = finite.contains-insert total s k q ∙ or_right (eq_by_cmp R q k) (finite.contains s q) h
 
   stays-remove : (s : finite.FinSet R) (k q : K) → q ≢ k → finite.contains s q ≡ true → finite.contains (finite.remove s k) q ≡ true
   stays-remove s k q other h =

@@ -1,41 +1,18 @@
 -- The pending message that is found first is the least.
 use Rattle.std.proofs.Common.{◌≡◌, ℕ, zero, suc, ◌+◌, ◌<◌, ◌≤◌, Bool, true, false, ◌&&◌, cond, List, [], ◌∷◌, ◌++◌, length, Option, None, Some, map, filter}
-use Rattle.std.proofs.Common.{find, refl, sym, subst, ◌∙◌, arith, inl, inr, nat_le}
+use Rattle.std.proofs.Common.{find, refl, sym, ◌∙◌, arith, inl, inr, nat_le}
 use Rattle.std.specs.Prelude.{MatchOption}
 use Rattle.std.specs.List.{AllByRecursion, range_with_len, flat_map}
-use Rattle.std.proofs.lemmas.Bool.{cases_eq}
+use Rattle.std.proofs.lemmas.Bool.{cases_eq, and_parts, and_from}
 use Rattle.std.proofs.lemmas.Bool.Decides.{nat_tests}
-use Rattle.std.proofs.lemmas.Option.{none-some, same_Some}
 use Rattle.cdb_base.specs.declared.name.MsgName.{MsgName}
-use Rattle.cdb_message.specs.Mail.{MailState, message_name, sent_by, sent_names, messages_of, is_sent, is_open, is_above, copies_for, next_pending, IsPending}
+use Rattle.cdb_message.specs.Mail.{MailState, message_name, sent_by, sent_names, messages_of, is_sent, is_open, is_above, next_pending}
 use Rattle.cdb_message.specs.Mail.{IsLeastPending, HasNonePending}
 use Rattle.cdb_message.specs.Names.{is_name_below}
-use Rattle.cdb_message.proofs.RisingNumbers.{Rise, all-mapped, all-joined, all_nine, below-not_back, copies-rise, not_below_itself}
+use Rattle.cdb_message.proofs.RisingNumbers.{Rise, all-mapped, all-joined, all_nine, below-not_back, names-rise, not_below_itself}
 use Rattle.cdb_message.proofs.Sent.{is_sent_within, unsent_by_none}
 
 -- ---- lists
-
-all-passed : {A : Type 0} (P : A → Type 0) (test : A → Bool) (xs : List A) → AllByRecursion P xs
-    → AllByRecursion (λ x. P x × (test x ≡ true)) (filter test xs)
-all-passed P test [] all = tt
-all-passed P test (x ∷ xs) all = go (test x) refl (all-passed P test xs all.1)
-  where
-    go : (b : Bool) → test x ≡ b → AllByRecursion (λ y. P y × (test y ≡ true)) (filter test xs)
-        → AllByRecursion (λ y. P y × (test y ≡ true)) (cond b (x ∷ filter test xs) (filter test xs))
-    go true is rest = ((all.0, is), rest)
-    go false is rest = rest
-
--- what holds of those that pass holds of each that passes
-unfiltered : {A : Type 0} (P : A → Type 0) (test : A → Bool) (xs : List A) → AllByRecursion P (filter test xs)
-    → AllByRecursion (λ x. test x ≡ true → P x) xs
-unfiltered P test [] all = tt
-unfiltered P test (x ∷ xs) all = go (test x) refl (unfiltered P test xs) all
-  where
-    go : (b : Bool) → test x ≡ b → (AllByRecursion P (filter test xs) → AllByRecursion (λ y. test y ≡ true → P y) xs)
-        → AllByRecursion P (cond b (x ∷ filter test xs) (filter test xs))
-        → (test x ≡ true → P x) × AllByRecursion (λ y. test y ≡ true → P y) xs
-    go true is rest given = ((λ passes. given.0), rest given.1)
-    go false is rest given = ((λ passes. absurd (cc)), rest given)
 
 all-left : {A : Type 0} (P : A → Type 0) (xs ys : List A) → AllByRecursion P (xs ++ ys) → AllByRecursion P xs
 all-left P [] ys all = tt
@@ -47,42 +24,35 @@ all-right P (x ∷ xs) ys all = all-right P xs ys all.1
 
 -- ---- what is found
 
-found-all : {A : Type 0} (P : A → Type 0) (test : A → Bool) (xs : List A) (x : A) → AllByRecursion P xs → find test xs ≡ Some x → P x × (test x ≡ true)
-found-all P test [] x all found = absurd (none-some x found)
-found-all P test (y ∷ ys) x all found = go (test y) refl (λ more. found-all P test ys x all.1 more) found
+find-filter : (p q : MsgName → Bool) (names : List MsgName) → find q (filter p names) ≡ find (λ name. p name && q name) names
+find-filter p q [] = refl
+find-filter p q (name ∷ names) = go (p name) (find-filter p q names)
   where
-    go : (b : Bool) → test y ≡ b → (find test ys ≡ Some x → P x × (test x ≡ true)) → cond b (Some y) (find test ys) ≡ Some x → P x × (test x ≡ true)
-    go true is rest h = subst (λ z. P z × (test z ≡ true)) (same_Some y x h) (all.0, is)
-    go false is rest h = rest h
+    go : (b : Bool) → find q (filter p names) ≡ find (λ other. p other && q other) names
+        → find q (cond b (name ∷ filter p names) (filter p names)) ≡ cond (b && q name) (Some name) (find (λ other. p other && q other) names)
+    go true again = rw again refl
+    go false again = again
 
-found-none : {A : Type 0} (test : A → Bool) (xs : List A) → find test xs ≡ None → AllByRecursion (λ x. test x ≡ false) xs
-found-none test [] none = tt
-found-none test (x ∷ xs) none = go (test x) refl (found-none test xs) none
-  where
-    go : (b : Bool) → test x ≡ b → (find test xs ≡ None → AllByRecursion (λ y. test y ≡ false) xs) → cond b (Some x) (find test xs) ≡ None
-        → (test x ≡ false) × AllByRecursion (λ y. test y ≡ false) xs
-    go true is rest h = absurd (none-some x (sym h))
-    go false is rest h = (is, rest h)
+-- of a list in order the least that passes
+module _ (test : MsgName → Bool) (P : MsgName → Type 0) where
+  abbrev IsFirst : List MsgName → MsgName → Type 0
+  IsFirst names name = (test name ≡ true) × P name × AllByRecursion (λ other. test other ≡ true → is_name_below other name ≡ false) names
 
--- in a list in order none that passes is below the one found
-found-least : (test : MsgName → Bool) (names : List MsgName) (name : MsgName) → Rise names → find test names ≡ Some name
-    → AllByRecursion (λ other. test other ≡ true → is_name_below other name ≡ false) names
-found-least test [] name rise found = tt
-found-least test (first ∷ names) name rise found = go (test first) refl (found-least test names name rise.1) found
-  where
-    go : (b : Bool) → test first ≡ b
-        → (find test names ≡ Some name → AllByRecursion (λ other. test other ≡ true → is_name_below other name ≡ false) names)
-        → cond b (Some first) (find test names) ≡ Some name
-        → (test first ≡ true → is_name_below first name ≡ false) × AllByRecursion (λ other. test other ≡ true → is_name_below other name ≡ false) names
-    go true is rest h =
-        subst (λ least. (test first ≡ true → is_name_below first least ≡ false)
-        × AllByRecursion (λ other. test other ≡ true → is_name_below other least ≡ false) names)
-        (same_Some first name h) (
-          (λ passes. not_below_itself first),
-          all-mapped (λ other. is_name_below first other ≡ true) (λ other. test other ≡ true → is_name_below other first ≡ false) names
-              (λ other above passes. below-not_back first other above) rise.0,
-        )
-    go false is rest h = ((λ passes. absurd (cc)), rest h)
+  abbrev NonePasses : List MsgName → Type 0
+  NonePasses names = AllByRecursion (λ name. test name ≡ false) names
+
+  first_found : (names : List MsgName) → AllByRecursion P names → Rise names → MatchOption (find test names) (NonePasses names) (IsFirst names)
+  first_found [] all rise = tt
+  first_found (first ∷ names) all rise = go (test first) refl (find test names) (first_found names all.1 rise.1)
+    where
+      go : (b : Bool) → test first ≡ b → (o : Option MsgName) → MatchOption o (NonePasses names) (IsFirst names)
+          → MatchOption (cond b (Some first) o) (NonePasses (first ∷ names)) (IsFirst (first ∷ names))
+      go true is o rest =
+          let below = all-mapped (λ other. is_name_below first other ≡ true) (λ other. test other ≡ true → is_name_below other first ≡ false)
+          names (λ other above passes. below-not_back first other above) rise.0 in
+          (is, all.0, ((λ passes. not_below_itself first), below))
+      go false is None rest = (is, rest)
+      go false is (Some name) rest = (rest.0, rest.1, ((λ passes. absurd (cc)), rest.2))
 
 -- ---- the names of the messages that were sent
 
@@ -150,23 +120,24 @@ module _ (mail : MailState) where
 
   -- ---- the least
 
-  module _ (p : ℕ) where
-    copies-pending : AllByRecursion (IsPending mail p) (copies_for mail p)
-    copies-pending = all-passed WasSent (is_open mail p) (sent_names mail) names-sent
+  module _ (p : ℕ) (after : Option MsgName) (few : length mail.sent ≤ 9) where
+    abbrev is_next : MsgName → Bool
+    is_next name = is_open mail p name && is_above after name
 
-    at_pending : (P : MsgName → Type 0) → length mail.sent ≤ 9 → AllByRecursion P (copies_for mail p) → (name : MsgName) → IsPending mail p name → P name
-    at_pending P few all name pending =
-        at_sent (λ n. is_open mail p n ≡ true → P n) few (unfiltered P (is_open mail p) (sent_names mail) all) name pending.0 pending.1
-
-    pub least_pending : (after : Option MsgName) → length mail.sent ≤ 9 → (o : Option MsgName) → o ≡ next_pending mail p after
+    of_first : (o : Option MsgName) → MatchOption o (NonePasses is_next WasSent (sent_names mail)) (IsFirst is_next WasSent (sent_names mail))
         → MatchOption o (HasNonePending mail p after) (IsLeastPending mail p after)
-    least_pending after few None none =
-        at_pending (λ n. is_above after n ≡ false) few (found-none (is_above after) (copies_for mail p) (sym none))
-    least_pending after few (Some name) is =
-        let one = found-all (IsPending mail p) (is_above after) (copies_for mail p) name copies-pending (sym is) in
+    of_first None none = λ name pending. rw pending.1 at (at_sent (λ n. is_next n ≡ false) few none name pending.0)
+    of_first (Some name) first =
+        let passes = and_parts (is_open mail p name) (is_above after name) first.0 in
         record {
-          pending = one.0;
-          above = one.1;
-          least = λ other pending above. at_pending (λ n. is_above after n ≡ true → is_name_below n name ≡ false) few
-              (found-least (is_above after) (copies_for mail p) name (copies-rise mail p) (sym is)) other pending above;
+          pending = (first.1, passes.0);
+          above = passes.1;
+          least = λ other pending above.
+              at_sent (λ n. is_next n ≡ true → is_name_below n name ≡ false) few first.2 other pending.0
+              (and_from (is_open mail p other) (is_above after other) pending.1 above);
         }
+
+    pub least_pending : (o : Option MsgName) → o ≡ next_pending mail p after → MatchOption o (HasNonePending mail p after) (IsLeastPending mail p after)
+    least_pending o is =
+        of_first o (rw (is, find-filter (is_open mail p) (is_above after) (sent_names mail))
+        (first_found is_next WasSent (sent_names mail) names-sent (names-rise mail)))

@@ -1,10 +1,10 @@
--- The names of the messages that were sent, and of those still to be received, stand in order.
-use Rattle.std.proofs.Common.{◌≡◌, ℕ, zero, suc, ◌+◌, ◌<◌, Bool, true, false, cond, List, [], ◌∷◌, ◌++◌, length, map, filter, refl, arith}
+-- The names of the messages that were sent stand in order.
+use Rattle.std.proofs.Common.{◌≡◌, ℕ, zero, suc, ◌+◌, ◌<◌, true, false, List, [], ◌∷◌, ◌++◌, length, map, refl, arith}
 use Rattle.std.specs.List.{AllByRecursion, range_with_len, flat_map}
 use Rattle.std.proofs.lemmas.Bool.Decides.{nat_tests}
 use Rattle.cdb_base.specs.Processes.{all_processes}
 use Rattle.cdb_base.specs.declared.name.MsgName.{MsgName}
-use Rattle.cdb_message.specs.Mail.{MailState, message_name, sent_by, sent_names, messages_of, is_open, copies_for}
+use Rattle.cdb_message.specs.Mail.{MailState, message_name, sent_by, sent_names, messages_of}
 use Rattle.cdb_message.specs.Names.{is_name_below}
 
 -- ---- the order of names
@@ -31,20 +31,6 @@ all-mapped P Q (x ∷ xs) step all = (step x all.0, all-mapped P Q xs step all.1
 pub all-joined : {A : Type 0} (P : A → Type 0) (xs ys : List A) → AllByRecursion P xs → AllByRecursion P ys → AllByRecursion P (xs ++ ys)
 all-joined P [] ys left right = right
 all-joined P (x ∷ xs) ys left right = (left.0, all-joined P xs ys left.1 right)
-
-kept : {A : Type 0} (P : List A → Type 0) (b : Bool) (x : A) (xs : List A) → P (x ∷ xs) → P xs → P (cond b (x ∷ xs) xs)
-kept P true x xs with_it without = with_it
-kept P false x xs with_it without = without
-
-all-filtered : {A : Type 0} (P : A → Type 0) (test : A → Bool) (xs : List A) → AllByRecursion P xs → AllByRecursion P (filter test xs)
-all-filtered P test [] all = tt
-all-filtered P test (x ∷ xs) all = let rest = all-filtered P test xs all.1 in kept (AllByRecursion P) (test x) x (filter test xs) (all.0, rest) rest
-
-rise-filtered : (test : MsgName → Bool) (names : List MsgName) → Rise names → Rise (filter test names)
-rise-filtered test [] rise = tt
-rise-filtered test (name ∷ names) rise =
-    let rest = rise-filtered test names rise.1 in
-    kept Rise (test name) name (filter test names) (all-filtered (λ other. is_name_below name other ≡ true) test names rise.0, rest) rest
 
 rise-joined : (names more : List MsgName) → Rise names → Rise more → AllByRecursion (λ name. AreAbove name more) names → Rise (names ++ more)
 rise-joined [] more rise rise_more between = rise_more
@@ -94,5 +80,5 @@ module _ (mail : MailState) where
   unfolding all_processes
   all_nine = refl
 
-  pub copies-rise : (p : ℕ) → Rise (copies_for mail p)
-  copies-rise p = rise-filtered (is_open mail p) (sent_names mail) (rw all_nine (senders-rise 1 9))
+  pub names-rise : Rise (sent_names mail)
+  names-rise = rw all_nine (senders-rise 1 9)

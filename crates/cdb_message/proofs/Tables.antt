@@ -3,7 +3,7 @@ use Rattle.std.proofs.lemmas.Grind.{common_steps}
 use Rattle.std.proofs.lemmas.Option.{gets}
 use Rattle.std.proofs.Common.{◌≡◌, inl, inr, ℕ, zero, suc, ◌+◌, ◌<◌, ◌≤◌, ◌==◌, Bool, true, false, not, ◌&&◌, ◌||◌, nat_le, List, [], ◌∷◌, map}
 use Rattle.std.proofs.Common.{filter, refl, sym, ◌∙◌, ap, arith}
-use Rattle.std.proofs.lemmas.Bool.{cases_eq}
+use Rattle.std.proofs.lemmas.Bool.{cases_eq, and_parts}
 use Rattle.std.proofs.lemmas.Bool.Decides.{nat_tests}
 use Rattle.std.specs.List.{list_any, flat_map, range_with_len}
 use Rattle.std.proofs.lemmas.List.Folds.{list_any-append}
@@ -153,16 +153,12 @@ below_count : (m : ℕ) → nat_le m 65535 ≡ true → m < 0 + count_numbers
 unfolding count_numbers
 below_count m low = grind (arith, nat_tests)
 
-both : (a b : Bool) → (a && b) ≡ true → (a ≡ true) × (b ≡ true)
-both true b h = (refl, h)
-both false b h = absurd (cc)
-
 one_name : (k : MsgName) → eq_by_cmp name_cmp k (message_name k.s k.m) ≡ true
 one_name k = (eq_by_cmp_equiv name_cmp_total).refl k
 
 is_listed_name : (k : MsgName) → is_name k ≡ true → list_any (eq_by_cmp name_cmp k) all_names ≡ true
 is_listed_name k named =
-    let parts = both (is_process k.s) (nat_le k.m 65535) named in
+    let parts = and_parts (is_process k.s) (nat_le k.m 65535) named in
     joined_at (eq_by_cmp name_cmp k) names_of_number k.m
     (processes_at (eq_by_cmp name_cmp k) (λ s. message_name s k.m) k.s (one_name k) parts.0)
     count_numbers 0 (omega arith) (below_count k.m parts.1)
@@ -187,7 +183,7 @@ module _ (k : CopyName) (named : is_copy k ≡ true) where
 
   is_here : list_any is_this (copies_of_name k.msg) ≡ true
   is_here =
-      let parts = both (is_name k.msg) (is_process k.to) named in
+      let parts = and_parts (is_name k.msg) (is_process k.to) named in
       processes_at is_this (copy_name k.msg) k.to ((eq_by_cmp_equiv copy_cmp_total).refl k) parts.1
 
   among : (names : List MsgName) → list_any (eq_by_cmp name_cmp k.msg) names ≡ true → list_any is_this (flat_map copies_of_name names) ≡ true
@@ -201,7 +197,7 @@ module _ (k : CopyName) (named : is_copy k ≡ true) where
       go rest false e h = rw (rest h) (or-true (list_any is_this (copies_of_name x)))
 
   is_listed_copy : list_any is_this all_copies ≡ true
-  is_listed_copy = among all_names (is_listed_name k.msg (both (is_name k.msg) (is_process k.to) named).0)
+  is_listed_copy = among all_names (is_listed_name k.msg (and_parts (is_name k.msg) (is_process k.to) named).0)
 
 same_copy : (j k : CopyName) → is_copy j ≡ true → is_copy k ≡ true → copy_table.cell j ≡ copy_table.cell k → j ≡ k
 same_copy j k h1 h2 h3 = grind (arith, common_steps, gets)

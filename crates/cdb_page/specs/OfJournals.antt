@@ -9,6 +9,7 @@ use Rattle.cdb_explain.specs.declared.fault.ExplainFault.{ExplainFault}
 use Rattle.cdb_explain.specs.declared.fault.ExplainFault.TheVariants.{Play, TooManyEvents}
 use Rattle.cdb_journal.specs.OpenedFrom.{IsOpenedFrom}
 use Rattle.cdb_rules.specs.RunView.{RunView}
+use Rattle.cdb_session.specs.Debugs.{IsFaultOfBeginning}
 use Rattle.cdb_setup.specs.Format.{Encodes}
 use Rattle.cdb_setup.specs.Parts.{Parts}
 use Rattle.cdb_page.specs.Written.{IsPageOfFew}
@@ -25,9 +26,8 @@ abbrev pub IsPageOfJournal : List ℕ → List ℕ → List ℕ → Type 0
 IsPageOfJournal json journal text =
     (run : RunView) × IsRunOfJournal json journal run × IsPageOfFew EachTwoSeconds run text
 
--- why there is none: the run has more events than are drawn; or there is no such run, or memory or the file's writer
--- failed
+-- why there is none: the run has more events than are drawn; or there is no such run, or memory is out
 abbrev pub IsFaultOfJournalPage : List ℕ → List ℕ → ExplainFault → Type 0
 IsFaultOfJournalPage json journal TooManyEvents = (run : RunView) × IsRunOfJournal json journal run × IsCrowded run
-IsFaultOfJournalPage json journal (Play fault) = Unit {0}
+IsFaultOfJournalPage json journal (Play fault) = IsFaultOfBeginning json journal MAX_SEATS fault
 IsFaultOfJournalPage json journal other = ⊥

@@ -3,7 +3,7 @@ use Rattle.std.specs.Prelude.{◌≡◌, ℕ, List, [], ◌++◌, codes, decimal
 use Rattle.std.specs.List.{flat_map}
 use Rattle.cdb_agreement.specs.Algorithms.{rules}
 use Rattle.cdb_draw.specs.Picture.{IsPicture}
-use Rattle.cdb_base.specs.declared.question.TheConstants.{COLUMNS}
+use Rattle.cdb_base.specs.Limits.{COLUMNS}
 use Rattle.cdb_rules.specs.RunView.{RunView}
 use Rattle.cdb_trail.specs.declared.origins.Origin.{Origin}
 use Rattle.cdb_trail.specs.declared.origins.Origin.TheVariants.{Step, Input}

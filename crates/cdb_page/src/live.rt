@@ -1,13 +1,13 @@
 //! A page that keeps up with a journal.
 
-ghost use Rattle.std.specs.Prelude.{◌≡◌, ◌↔◌, ◌≤◌, ℕ, List, [], ◌++◌, length, IfErr, IfOk, IfSome, IsTrue};
+ghost use Rattle.std.specs.Prelude.{◌≡◌, ◌↔◌, ◌<◌, ◌≤◌, [], ◌++◌, length, IfErr, IfOk, IfSome, IsTrue, option_map};
 ghost use Rattle.std.specs.Io.{WritesAtMost};
 ghost use Rattle.cdb_agreement.specs.Algorithms.{rules};
-ghost use Rattle.cdb_base.specs.Limits.{MAX_ENTRIES as most_entries};
-ghost use Rattle.cdb_page.specs.Live.{EndsLine, KeepsUp, HasFileTaken, IsMadeWith};
-ghost use Rattle.cdb_page.specs.Live.{Shows, ShowsLines, files_of, taken_of};
+ghost use Rattle.cdb_base.specs.Limits.{MAX_ENTRIES as most_entries, MAX_SEATS as max_seats};
+ghost use Rattle.cdb_page.specs.Live.{EndsLine, HasFileTaken, IsMadeWith, KeepsUp, Shows, ShowsLines, taken_of};
 ghost use Rattle.cdb_page.specs.OfJournals.{IsFaultOfJournalPage, IsPageOfJournal, IsRunOfJournal};
 ghost use Rattle.cdb_rules.specs.ByRules.{IsInOrder};
+ghost use Rattle.cdb_session.specs.Debugs.{IsFaultOfBeginning};
 ghost use Rattle.cdb_streams.specs.Streams.{counted, is_failure};
 
 use crate::page::page_of_few;
@@ -16,18 +16,19 @@ use cdb_any_run::AnyRun;
 use cdb_base::NoMemory;
 use cdb_base::limits::MAX_SEATS;
 use cdb_explain::{ExplainFault, trace_of};
-use cdb_journal::{MOST_JOURNAL, open_from};
+use cdb_journal::MOST_JOURNAL;
 use cdb_rules::Trace;
-use cdb_setup::Setup;
+use cdb_session::begin;
 use cdb_streams::{Failed, OutputFault, PlayFault, Sink};
 use std::alloc::Global;
 use std::marker::Model;
+use std::snapshot::Snapshot;
 
 /// A file that is written anew as a whole, again and again.
 pub trait Rewritten {
     ghost use Rattle.cdb_page.specs.Live.{Rewrites, Versions};
 
-    /// The texts that it has had, in order, where these are known.
+    /// The texts that it has had, in order, where these are known, and whether the last one could not be written.
     ghost versions: { Self → Versions };
 
     /// Puts a text in the place of the one that the file has; who reads it finds one of the two, whole.
@@ -43,9 +44,9 @@ fn run_of_journal(alloc: Global, setup: &[u8], journal: &[u8]) -> Result<Trace, 
     ensures run { IfOk result (IsRunOfJournal setup.now journal.now) }
     ensures valid { IfOk result (IsInOrder rules) }
     ensures few { IfOk result (λ run. length run.history ≤ most_entries) }
+    ensures fault { IfErr result (IsFaultOfBeginning setup.now journal.now max_seats) }
 {
-    let setup = Setup::read(alloc, setup)?;
-    let control = open_from::<AnyRun>(alloc, setup, MAX_SEATS, journal)?;
+    let (control, _) = begin::<AnyRun>(alloc, setup, journal, MAX_SEATS)?;
     let run = trace_of(alloc, control)?;
     Ok(run)
 }
@@ -53,7 +54,8 @@ fn run_of_journal(alloc: Global, setup: &[u8], journal: &[u8]) -> Result<Trace, 
 /// The page of the run that a journal leaves on the setup of a text.
 ///
 /// # Errors
-/// `TooManyEvents` where that has more than 5,000 events; `Play` where there is no such run, or an allocation fails.
+/// `TooManyEvents` where that has more than 5,000 events; `Play` where there is no such run, as of `begin`, and where
+/// an allocation fails.
 fn page_of_journal(alloc: Global, setup: &[u8], journal: &[u8]) -> Result<Vec<u8>, ExplainFault>
     ensures page { IfOk result (λ page. IsPageOfJournal setup.now journal.now page.items) }
     ensures fault { IfErr result (IsFaultOfJournalPage setup.now journal.now) }
@@ -65,7 +67,7 @@ fn page_of_journal(alloc: Global, setup: &[u8], journal: &[u8]) -> Result<Vec<u8
 /// Puts that page in the place of what the file has.
 ///
 /// # Errors
-/// Those of `page_of_journal`, and `Play` where the file can't be written: it has what it had.
+/// Those of `page_of_journal`, and `Play(Write)` where the file can't be written: it has what it had.
 fn show<P: Rewritten>(
     alloc: Global,
     setup: &[u8],
@@ -100,6 +102,7 @@ pub struct LivePage<'a, J: Sink + Drop, P: Rewritten + Drop> {
     from: &'a [u8],
     taken: Vec<u8>,
     failures: u64,
+    journal_before: Snapshot<Option<J>>,
     journal: Option<J>,
     page: P,
     outcome: Result<(), ExplainFault>,
@@ -116,6 +119,7 @@ impl<'a, J: Sink + Drop, P: Rewritten + Drop> Model for LivePage<'a, J, P> {
       from = it.from.now;
       taken = it.taken.items;
       failures = it.failures;
+      journal_before = option_map J.stream it.journal_before.value;
       journal = option_map J.stream it.journal;
       versions = P.versions it.page;
       outcome = it.outcome;
@@ -126,6 +130,7 @@ impl<'a, J: Sink + Drop, P: Rewritten + Drop> Model for LivePage<'a, J, P> {
       from = it.from.now;
       taken = it.taken.items;
       failures = it.failures;
+      journal_before = option_map J.stream it.journal_before.value;
       journal = option_map J.stream it.journal;
       versions = P.versions it.page;
       outcome = it.outcome;
@@ -133,9 +138,9 @@ impl<'a, J: Sink + Drop, P: Rewritten + Drop> Model for LivePage<'a, J, P> {
 }
 
 impl<'a, J: Sink + Drop, P: Rewritten + Drop> LivePage<'a, J, P> {
-    /// A page of the run of a setup, which goes on from a journal, in a file that has had no text; the file of the
-    /// journal, where there is one, is empty. The page of the journal from which it goes on is written at once, and
-    /// room is made for the longest journal.
+    /// A page of the run of a setup, which goes on from a journal, in a file that has had no text; and the file of the
+    /// new journal, where there is one. The page of the journal from which it goes on is written at once, and room is
+    /// made for the longest journal.
     ///
     /// # Errors
     /// `NoMemory` where there is no such room; the files are as they were.
@@ -146,9 +151,8 @@ impl<'a, J: Sink + Drop, P: Rewritten + Drop> LivePage<'a, J, P> {
         journal: Option<J>,
         mut page: P,
     ) -> Result<Self, NoMemory>
-        requires empty { HasFileTaken J.stream journal [] }
-        requires new { IfSome (P.versions page) (λ texts. texts ≡ []) }
-        ensures made { IfOk result (IsMadeWith journal setup.now from.now) }
+        requires { IfSome (P.versions page).texts (λ texts. texts ≡ []) }
+        ensures made { IfOk result (IsMadeWith (option_map J.stream journal) setup.now from.now) }
         ensures empty { IfOk result (λ it. it.taken ≡ []) }
     {
         let taken = Vec::with_capacity(alloc, MOST_JOURNAL)?;
@@ -159,6 +163,7 @@ impl<'a, J: Sink + Drop, P: Rewritten + Drop> LivePage<'a, J, P> {
             from,
             taken,
             failures: 0,
+            journal_before: Snapshot::of(&journal),
             journal,
             page,
             outcome,
@@ -168,7 +173,8 @@ impl<'a, J: Sink + Drop, P: Rewritten + Drop> LivePage<'a, J, P> {
     /// How the last writing of the page ended: the page is that of all that was taken, or this is why it is not.
     ///
     /// Promise: Each text that the file of a live page has had is a whole page, of the run that the first lines of the
-    /// journal leave, and where nothing failed the last one is that of all that was taken.
+    /// journal leave, and where nothing failed the last one is that of all that was taken. The file of the journal took
+    /// the same, behind what it held.
     pub fn outcome(&self) -> Result<(), ExplainFault>
         ensures is { result ≡ self.now.outcome }
         ensures keeps_up { KeepsUp self.now }
@@ -180,9 +186,8 @@ impl<'a, J: Sink + Drop, P: Rewritten + Drop> LivePage<'a, J, P> {
 /// Takes a beginning of a piece: as much of it as the file takes, where there is one.
 fn pass_on<J: Sink>(piece: &[u8], file: &mut Option<J>) -> Result<usize, Failed>
     ensures within { WritesAtMost result piece.now }
-    ensures same { files_of file.new ≡ files_of file.old }
-    ensures file { (text : List ℕ) → HasFileTaken J.stream file.old text →
-        HasFileTaken J.stream file.new (text ++ taken_of result piece.now) }
+    ensures file { HasFileTaken (option_map J.stream file.old) (option_map J.stream file.new)
+        (taken_of result piece.now) }
 {
     match file {
         Some(file) => file.write(piece),
@@ -193,10 +198,9 @@ fn pass_on<J: Sink>(piece: &[u8], file: &mut Option<J>) -> Result<usize, Failed>
 /// Takes a beginning of a piece, as much of it as the file takes, where there is one; the file of the journal comes
 /// first, and memory before it.
 fn take<J: Sink>(piece: &[u8], taken: &mut Vec<u8>, file: &mut Option<J>) -> Result<usize, Failed>
-    requires { HasFileTaken J.stream file.old taken.old.items }
     ensures within { WritesAtMost result piece.now }
-    ensures same { files_of file.new ≡ files_of file.old }
-    ensures file { HasFileTaken J.stream file.new taken.new.items }
+    ensures file { HasFileTaken (option_map J.stream file.old) (option_map J.stream file.new)
+        (taken_of result piece.now) }
     ensures taken { taken.new.items ≡ taken.old.items ++ taken_of result piece.now }
 {
     let before = taken.len();
@@ -229,7 +233,7 @@ fn failures_after(failures: u64, failed: bool) -> u64
     }
 }
 
-/// Puts the page of the run that a journal of whole lines leaves in the place of what the file has.
+/// Puts the page of the run that a journal leaves in the place of what the file has.
 ///
 /// # Errors
 /// `Play(Write)` where the last line is not whole, as the rest of it is to come; else those of `show`.
@@ -239,6 +243,7 @@ fn show_lines<P: Rewritten>(
     journal: &[u8],
     file: &mut P,
 ) -> Result<(), ExplainFault>
+    requires { 0 < length journal.now }
     ensures { ShowsLines setup.now journal.now (P.versions file.old) (P.versions file.new) result }
 {
     if !ends_line(journal) {

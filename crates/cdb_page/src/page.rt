@@ -12,7 +12,8 @@ ghost use Rattle.cdb_rules.specs.ByRules.{IsInOrder};
 use crate::entries::entries_of;
 use crate::parts::{CONTROLS, HEAD, LOOKS, Refresh, SCRIPT, refresh_line};
 use crate::text::text_of_entries;
-use cdb_base::{COLUMNS, NoMemory};
+use cdb_base::NoMemory;
+use cdb_base::limits::COLUMNS;
 use cdb_draw::{MOST_DRAWN, picture_of};
 use cdb_explain::ExplainFault;
 use cdb_rules::Trace;
@@ -46,7 +47,7 @@ fn page_of(alloc: Global, run: &Trace, refresh: Refresh) -> Result<Vec<u8>, NoMe
     requires few { length run.now.history ≤ most_entries }
     ensures { IfOk result (λ text. IsPage refresh run.now text.items) }
 {
-    let picture = picture_of(alloc, run, COLUMNS)?;
+    let picture = picture_of(alloc, run, COLUMNS, None)?;
     let entries = entries_of(alloc, run)?;
     let text = text_of_entries(alloc, entries.as_slice())?;
     joined(alloc, refresh, picture.as_slice(), text.as_slice())

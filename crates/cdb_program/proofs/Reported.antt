@@ -30,23 +30,24 @@ does_but_error (Page setup script) old new error outcome does = does
 -- what is not one of sessions is performed where it is done
 pub record IsDoneAlone (asked : RequestView) : Type 0 where
   pub no_session : IsNoSession asked
-  pub performs : (prompt : Text) (old new : Seen) (status : ℕ) → IsDone (Does asked) old new status → PerformsAsked prompt asked old new status
+  pub performs : (prompt : Text) (old new : Seen) (status : ℕ) → IsDone (Does asked) old new status → new.saved ≡ old.saved
+      → PerformsAsked prompt asked old new status
 
 pub done_alone : (it : Request)
     → ((setup : Bor Text) (seats : Vec (Bor Text) Global) (from journal page : Option (Bor Text)) → it ≡ request.Debug setup seats from journal page → ⊥)
     → IsDoneAlone (asked_for it)
-done_alone request.Script other = record { no_session = tt; performs = λ prompt old new status done. done }
-done_alone (request.Play setup script) other = record { no_session = tt; performs = λ prompt old new status done. done }
-done_alone (request.Race setup turns scripts) other = record { no_session = tt; performs = λ prompt old new status done. done }
-done_alone (request.Ask setup script question) other = record { no_session = tt; performs = λ prompt old new status done. done }
-done_alone (request.Frames setup script folder columns step) other = record { no_session = tt; performs = λ prompt old new status done. done }
+done_alone request.Script other = record { no_session = tt; performs = λ prompt old new status done saved. (done, saved) }
+done_alone (request.Play setup script) other = record { no_session = tt; performs = λ prompt old new status done saved. (done, saved) }
+done_alone (request.Race setup turns scripts) other = record { no_session = tt; performs = λ prompt old new status done saved. (done, saved) }
+done_alone (request.Ask setup script question) other = record { no_session = tt; performs = λ prompt old new status done saved. (done, saved) }
+done_alone (request.Frames setup script folder columns step) other = record { no_session = tt; performs = λ prompt old new status done saved. (done, saved) }
 done_alone (request.Debug setup seats from journal page) other = absurd (other setup seats from journal page refl)
-done_alone (request.Replay setup journal) other = record { no_session = tt; performs = λ prompt old new status done. done }
-done_alone (request.Search setup goal seed walks) other = record { no_session = tt; performs = λ prompt old new status done. done }
-done_alone (request.Shrink setup script goal) other = record { no_session = tt; performs = λ prompt old new status done. done }
-done_alone (request.Same setup first second) other = record { no_session = tt; performs = λ prompt old new status done. done }
-done_alone (request.Clocks setup script) other = record { no_session = tt; performs = λ prompt old new status done. done }
-done_alone (request.Page setup script) other = record { no_session = tt; performs = λ prompt old new status done. done }
+done_alone (request.Replay setup journal) other = record { no_session = tt; performs = λ prompt old new status done saved. (done, saved) }
+done_alone (request.Search setup goal seed walks) other = record { no_session = tt; performs = λ prompt old new status done saved. (done, saved) }
+done_alone (request.Shrink setup script goal) other = record { no_session = tt; performs = λ prompt old new status done saved. (done, saved) }
+done_alone (request.Same setup first second) other = record { no_session = tt; performs = λ prompt old new status done saved. (done, saved) }
+done_alone (request.Clocks setup script) other = record { no_session = tt; performs = λ prompt old new status done saved. (done, saved) }
+done_alone (request.Page setup script) other = record { no_session = tt; performs = λ prompt old new status done saved. (done, saved) }
 
 -- ---- sessions
 

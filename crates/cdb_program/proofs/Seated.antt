@@ -7,6 +7,7 @@ use Rattle.cdb_session.specs.Moves.{Known}
 use Rattle.cdb_journal.specs.OpenedFrom.{IsOpenedFrom}
 use Rattle.cdb_shared_session.specs.Openings.{SeatSeen}
 use Rattle.cdb_rules.specs.RunView.{RunView}
+use Rattle.cdb_session.specs.Exchanges.{Answer}
 use Rattle.cdb_session.specs.declared.inquiry.Inquiry.{Inquiry}
 use Rattle.cdb_shared_session.specs.SharedSessions.{HasEnded, IsFinished}
 use Rattle.cdb_shared_session.specs.KeptOutcomes.{kept_outcome}
@@ -174,7 +175,7 @@ module _ {T : Type 0} (known : T → Known) where
   same_outcomes (its ∷ finished) = ap (λ (l : List (Result (Unit {0}) PlayFault)). its.outcome ∷ l) (same_outcomes finished)
 
 -- sessions that took place, by what is known of their seats, of what each read and wrote, and of the streams
-module _ {P T J O E : Type 0} (rules : Parts → Rules) (Answers : RunView → Inquiry → List ℕ → Type 0) (known : T → Known)
+module _ {P T J O E : Type 0} (rules : Parts → Rules) (Answers : RunView → Inquiry → Answer → Type 0) (known : T → Known)
     (opens : P → Result SeatSeen ReadFault → Type 0) (file_stream : J → Stream) (output_stream : O → Stream) (error_stream : E → Stream) where
   pub holds_seen : (files : FilesSeen) (names : List (List ℕ)) (json from : List ℕ) (openers : List P)
       (file : Option J) (output output_after : O) (error error_after : E) (ended : ℕ × Option (Kept J))

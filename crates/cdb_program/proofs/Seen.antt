@@ -5,6 +5,7 @@ use Rattle.cdb_rules.specs.Rules.{Rules}
 use Rattle.cdb_setup.specs.Parts.{Parts}
 use Rattle.cdb_session.specs.Moves.{Known}
 use Rattle.cdb_rules.specs.RunView.{RunView}
+use Rattle.cdb_session.specs.Exchanges.{Answer}
 use Rattle.cdb_session.specs.declared.inquiry.Inquiry.{Inquiry}
 use Rattle.cdb_shared_session.specs.KeptAlone.{DebugsKept}
 use Rattle.cdb_shared_session.specs.declared.keeping.Kept.{Kept}
@@ -115,7 +116,7 @@ shrink_seen reader writer json goal shrunk script rest old new wrote fault same 
 }
 
 -- the same of a session whose journal was kept
-debugged_seen : {J : Type 0} (stream : J → Stream) (rules_of : Parts → Rules) (Answers : RunView → Inquiry → List ℕ → Type 0)
+debugged_seen : {J : Type 0} (stream : J → Stream) (rules_of : Parts → Rules) (Answers : RunView → Inquiry → Answer → Type 0)
     (prompt json from : List ℕ) (old new : Known) (file : J) (ended : Result (Unit {0}) PlayFault × Kept J)
     → DebugsKept stream rules_of Answers prompt json from old new file ended
     → DebugsKept itself rules_of Answers prompt json from old new (stream file) (ended.0, seen_kept stream ended.1)
@@ -142,7 +143,7 @@ debugged_seen stream rules_of Answers prompt json from old new file (returned, k
     )
 
 -- so of texts that are equal to these
-pub debugged_of : {J : Type 0} (stream : J → Stream) (rules_of : Parts → Rules) (Answers : RunView → Inquiry → List ℕ → Type 0)
+pub debugged_of : {J : Type 0} (stream : J → Stream) (rules_of : Parts → Rules) (Answers : RunView → Inquiry → Answer → Type 0)
     (texts others : List ℕ × List ℕ × List ℕ) → others ≡ texts → (old new : Known) (file : J) (ended : Result (Unit {0}) PlayFault × Kept J)
     → DebugsKept stream rules_of Answers others.0 others.1 others.2 old new file ended
     → DebugsKept itself rules_of Answers texts.0 texts.1 texts.2 old new (stream file) (ended.0, seen_kept stream ended.1)

@@ -1,16 +1,19 @@
 -- What a session answers that is asked of its run: what the subcommand prints of the run, or reports where it prints
 -- nothing.
-use Rattle.std.specs.Prelude.{◌≡◌, ◌⊎◌, ℕ, List}
+use Rattle.std.specs.Prelude.{◌≡◌, ◌⊎◌, ℕ, List, Option, Ok, Err}
 use Rattle.cdb_agreement.specs.Algorithms.{rules}
 use Rattle.cdb_base.specs.declared.question.StepAsked.{StepAsked}
-use Rattle.cdb_explain.specs.Asked.{StandsNoStep}
+use Rattle.cdb_base.specs.Limits.{COLUMNS}
+use Rattle.cdb_draw.specs.Drawn.{IsPictureFor, IsTooMuch}
+use Rattle.cdb_explain.specs.Asked.{IsMissing, StandsNoStep}
 use Rattle.cdb_explain.specs.Explanations.{IsStepExplained}
 use Rattle.cdb_rules.specs.RunView.{RunView}
+use Rattle.cdb_session.specs.Exchanges.{Answer}
 use Rattle.cdb_session.specs.declared.inquiry.Inquiry.{Inquiry}
-use Rattle.cdb_session.specs.declared.inquiry.Inquiry.TheVariants.{Explain, Trail}
+use Rattle.cdb_session.specs.declared.inquiry.Inquiry.TheVariants.{Explain, Trail, Draw}
 use Rattle.cdb_trail.specs.Written.{IsTrailToStep, TakesNoValue}
 use Rattle.cdb_program.specs.Reports.{fault_text}
-use Rattle.cdb_program.specs.declared.fault.Fault.TheVariants.{NoStep, NoValue}
+use Rattle.cdb_program.specs.declared.fault.Fault.TheVariants.{NoStep, NoValue, TooManyEvents}
 
 -- no such step stands
 abbrev pub TellsNoStep : RunView → StepAsked → List ℕ → Type 0
@@ -20,13 +23,24 @@ TellsNoStep run step text = StandsNoStep run.history step.p step.k × (text ≡ 
 abbrev pub TellsNoValue : RunView → StepAsked → List ℕ → Type 0
 TellsNoValue run step text = TakesNoValue run step.p step.k × (text ≡ fault_text NoValue)
 
-abbrev pub IsExplained : RunView → StepAsked → List ℕ → Type 0
-IsExplained run step text = IsStepExplained rules run step.p step.k text ⊎ TellsNoStep run step text
+-- no picture is drawn, since the step is missing, or has to be named
+abbrev pub TellsNoPicture : RunView → Option StepAsked → List ℕ → Type 0
+TellsNoPicture run step text =
+    (IsMissing run.history step × (text ≡ fault_text NoStep)) ⊎ (IsTooMuch run step × (text ≡ fault_text TooManyEvents))
 
-abbrev pub IsTrailed : RunView → StepAsked → List ℕ → Type 0
-IsTrailed run step text =
-    IsTrailToStep run step.p step.k text ⊎ (TellsNoStep run step text ⊎ TellsNoValue run step text)
+abbrev pub IsExplained : RunView → StepAsked → Answer → Type 0
+IsExplained run step (Ok text) = IsStepExplained rules run step.p step.k text
+IsExplained run step (Err reason) = TellsNoStep run step reason
 
-abbrev pub IsAnswer : RunView → Inquiry → List ℕ → Type 0
+abbrev pub IsTrailed : RunView → StepAsked → Answer → Type 0
+IsTrailed run step (Ok text) = IsTrailToStep run step.p step.k text
+IsTrailed run step (Err reason) = TellsNoStep run step reason ⊎ TellsNoValue run step reason
+
+abbrev pub IsDrawn : RunView → Option StepAsked → Answer → Type 0
+IsDrawn run step (Ok picture) = IsPictureFor rules run COLUMNS step picture
+IsDrawn run step (Err reason) = TellsNoPicture run step reason
+
+abbrev pub IsAnswer : RunView → Inquiry → Answer → Type 0
 IsAnswer run (Explain step) = IsExplained run step
 IsAnswer run (Trail step) = IsTrailed run step
+IsAnswer run (Draw name step) = IsDrawn run step

@@ -9,18 +9,19 @@ use Rattle.cdb_streams.specs.declared.fault.PlayFault.{PlayFault}
 use Rattle.cdb_agreement.specs.Algorithms.{rules}
 use Rattle.cdb_program.specs.Answers.{IsAnswer}
 use Rattle.cdb_program.specs.Beginnings.{AreOfBeginning}
-use Rattle.cdb_program.specs.Known.{Seen, after_opening, any_name}
+use Rattle.cdb_program.specs.Known.{HasNoSession, Seen, after_opening, any_name}
 use Rattle.cdb_program.specs.Outcomes.{RequestEnd, IsOfPlay, IsOfKept}
 use Rattle.cdb_program.specs.FilesRead.{CannotReadFiles}
 use Rattle.cdb_program.specs.SeatStreams.{IsEmpty}
 
--- What is known of standard input and standard output, over which a session takes place. In which order it reads from
--- the one and writes to the other, neither of them knows.
+-- What is known of standard input and standard output, over which a session takes place, and of the new files. In which
+-- order it reads, writes and saves, none of them knows.
 abbrev pub console_of : Seen → Known
 console_of seen = record {
   moves = None;
   left = seen.input.bytes;
   held = seen.output.bytes;
+  saved = seen.saved;
   failed_reads = seen.input.failures;
   failed_writes = seen.output.failures;
 }
@@ -36,7 +37,7 @@ DebugsBytes json journal prompt old new outcome =
 -- can't be read, no input is.
 abbrev pub DebugsFile : List ℕ → Option (List ℕ) → List ℕ → Seen → Seen → RequestEnd → Type 0
 DebugsFile setup from prompt old new outcome =
-    (CannotReadFiles (setup ∷ any_name from) old new outcome × (new.input ≡ old.input))
+    (CannotReadFiles (setup ∷ any_name from) old new outcome × HasNoSession old new)
     ⊎ ((json journal : List ℕ) × (new.files ≡ after_opening old.files (setup ∷ any_name from))
     × AreOfBeginning old.files setup from json journal
     × DebugsBytes json journal prompt old new outcome)
@@ -52,6 +53,6 @@ DebugsBytesKept json journal prompt old new outcome =
 -- is read.
 abbrev pub DebugsFileKept : List ℕ → Option (List ℕ) → List ℕ → List ℕ → Seen → Seen → RequestEnd → Type 0
 DebugsFileKept setup from file prompt old new outcome =
-    (CannotReadFiles (setup ∷ (any_name from ++ file ∷ [])) old new outcome × (new.input ≡ old.input))
+    (CannotReadFiles (setup ∷ (any_name from ++ file ∷ [])) old new outcome × HasNoSession old new)
     ⊎ ((json journal : List ℕ) × (new.files ≡ after_opening old.files (setup ∷ (any_name from ++ file ∷ [])))
     × AreOfBeginning old.files setup from json journal × DebugsBytesKept json journal prompt old new outcome)

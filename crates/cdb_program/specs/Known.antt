@@ -1,6 +1,7 @@
 -- What is known of the outside of the program.
-use Rattle.std.specs.Prelude.{ℕ, List, [], ◌∷◌, ◌++◌, Option, Some, None, option_map, bytes_eq}
+use Rattle.std.specs.Prelude.{◌≡◌, ℕ, List, [], ◌∷◌, ◌++◌, Option, Some, None, option_map, bytes_eq}
 use Rattle.std.specs.List.{find}
+use Rattle.cdb_session.specs.Moves.{Saving}
 use Rattle.cdb_shared_session.specs.Openings.{SeatSeen}
 use Rattle.cdb_streams.specs.Streams.{Stream, one_more}
 
@@ -15,12 +16,17 @@ pub record FilesSeen : Type 0 where
   pub seats : List (List ℕ × Option SeatSeen)
   pub written : Option (List (List ℕ × List ℕ))
 
--- all of the outside
+-- all of the outside, and what a session was to write to new files, in order, where that is known
 pub record Seen : Type 0 where
   pub files : FilesSeen
   pub input : Stream
   pub output : Stream
   pub error : Stream
+  pub saved : Option (List Saving)
+
+-- no session took place here: no input was read, and nothing was to be saved
+abbrev pub HasNoSession : Seen → Seen → Type 0
+HasNoSession old new = (new.input ≡ old.input) × (new.saved ≡ old.saved)
 
 -- bytes in memory, of which no read fails
 abbrev pub in_memory : Option (List ℕ) → Stream

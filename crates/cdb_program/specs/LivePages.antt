@@ -15,18 +15,18 @@ use Rattle.cdb_streams.specs.declared.source.ReadFault.TheVariants as reading
 use Rattle.cdb_program.specs.Answers.{IsAnswer}
 use Rattle.cdb_program.specs.Beginnings.{AreOfBeginning}
 use Rattle.cdb_program.specs.DebugSessions.{console_of}
-use Rattle.cdb_program.specs.Known.{FilesSeen, Seen, after_opening, after_failing, any_name}
+use Rattle.cdb_program.specs.Known.{FilesSeen, HasNoSession, Seen, after_opening, after_failing, any_name}
 use Rattle.cdb_program.specs.Outcomes.{RequestEnd, IsOfKept}
 use Rattle.cdb_program.specs.FilesRead.{CannotReadFiles}
 use Rattle.cdb_program.specs.Reports.{IsReported}
-use Rattle.cdb_program.specs.SeatStreams.{CanOpenSeat, HasSeated, RefusesSeats}
+use Rattle.cdb_program.specs.SeatStreams.{CanOpenSeat, HasSeated, IsNewFile, RefusesSeats}
 use Rattle.cdb_program.specs.declared.fault.Fault.TheVariants.{Page}
 
 -- ---- the file of a page, and the page in it
 
 -- it has had no text yet, as far as that is known
 abbrev pub HasHadNone : Versions → Type 0
-HasHadNone versions = IfSome versions (λ texts. texts ≡ [])
+HasHadNone versions = IfSome versions.texts (λ texts. texts ≡ [])
 
 -- One file of a page is made, by how that ended. Where an allocation failed it counts as not opened.
 abbrev pub MakesPage : {P : Type 0} → (P → Versions) → FilesSeen → FilesSeen → List ℕ → Result P ReadFault → Type 0
@@ -38,14 +38,16 @@ MakesPage versions old new name (Err (reading.NoMemory refused)) = new ≡ old
 abbrev pub files_for : Option (List ℕ) → List ℕ → List (List ℕ)
 files_for journal page = any_name journal ++ page ∷ []
 
--- the page of a run on this setup, from that journal on; there is a file of the journal where one was named, and
--- nothing was kept yet
+-- the page of a run on this setup, from that journal on; there is a file of the new journal where one was named, at
+-- first empty, and nothing was taken yet
 abbrev pub IsNewPage : Option (List ℕ) → List ℕ → List ℕ → Live → Type 0
-IsNewPage journal json from it = IsMadeWith journal json from it × (it.taken ≡ [])
+IsNewPage journal json from it =
+    IsNewFile journal it.journal_before × (it.json ≡ json) × (it.from ≡ from) × (it.taken ≡ [])
 
--- the page later: it has kept up with the journal
-abbrev pub IsKeptPage : Option (List ℕ) → List ℕ → List ℕ → Live → Type 0
-IsKeptPage journal json from it = IsMadeWith journal json from it × KeepsUp it
+-- The page later: it has kept up with the journal. So its file of the journal, where it has one,
+-- holds all that it took.
+abbrev pub IsKeptPage : Live → Live → Type 0
+IsKeptPage first it = IsMadeWith first.journal_before first.json first.from it × KeepsUp it
 
 -- ---- how it ended
 
@@ -68,15 +70,16 @@ IsOfPaged debugged kept shown outcome =
 
 -- ---- a session here
 
--- A session took place over standard input and output, and all the time the page was a whole one, of the run that the
--- first lines of the journal leave; at the end it is that of the whole journal, or why it is not is told.
+-- A session took place over standard input and output. The page took its journal, and so did the file of the journal
+-- where one was named. All the time the page was a whole one, of the run that the first lines of the journal leave; at
+-- the end it is that of the whole journal, or why it is not is told.
 pub record DebugsBytesPaged (journal : Option (List ℕ))
     (json from prompt : List ℕ) (old new : Seen) (outcome : RequestEnd) : Type 0 where
   pub first : Live
   pub begun : IsNewPage journal json from first
   pub ended : Result (Unit {0}) PlayFault × Kept Live
   pub session : DebugsKept stream_of rules IsAnswer prompt json from (console_of old) (console_of new) first ended
-  pub page : IsKeptPage journal json from ended.1.file
+  pub page : IsKeptPage first ended.1.file
   pub ends : IsOfPaged ended.0 (ended.1).outcome (ended.1.file).outcome outcome
 
 -- The file of the setup is read, and that of the journal if one is named, those of the new journal and of the page are
@@ -84,7 +87,7 @@ pub record DebugsBytesPaged (journal : Option (List ℕ))
 abbrev pub DebugsFilePaged : List ℕ → Option (List ℕ) → Option (List ℕ)
     → List ℕ → List ℕ → Seen → Seen → RequestEnd → Type 0
 DebugsFilePaged setup from journal page prompt old new outcome =
-    (CannotReadFiles (setup ∷ (any_name from ++ files_for journal page)) old new outcome × (new.input ≡ old.input))
+    (CannotReadFiles (setup ∷ (any_name from ++ files_for journal page)) old new outcome × HasNoSession old new)
     ⊎ ((json begun : List ℕ) × (new.files ≡ after_opening old.files (setup ∷ (any_name from ++ files_for journal page)))
     × AreOfBeginning old.files setup from json begun × DebugsBytesPaged journal json begun prompt old new outcome)
 
@@ -94,8 +97,8 @@ DebugsFilePaged setup from journal page prompt old new outcome =
 abbrev pub first_status : ℕ → ℕ → ℕ
 first_status first second = if first == 0 then second else first
 
--- There were sessions of these seats, and all the time the page was as for a session here. What failed was reported, of
--- the sessions and the journal as without a page, and then of the page.
+-- There were sessions of these seats, and all the time the page and its files were as for a session here. What failed
+-- was reported, of the sessions and the journal as without a page, and then of the page.
 pub record HoldsPaged (setup : List ℕ) (seats : List (List ℕ))
     (from journal : Option (List ℕ)) (page : List ℕ) (old new : Seen) (status : ℕ)
     : Type 0 where
@@ -110,17 +113,17 @@ pub record HoldsPaged (setup : List ℕ) (seats : List (List ℕ))
   pub sessions : RunsSessions rules IsAnswer (λ known. known)
       (CanOpenSeat old.files) stream_of itself itself json begun seats (Some first)
       old.output new.output old.error error (its_status, Some kept)
-  pub is : IsKeptPage journal json begun kept.file
+  pub is : IsKeptPage first kept.file
   pub page_end : RequestEnd
   pub ends : IsOfPage (kept.file).outcome page_end
   pub page_status : ℕ
   pub reported : IsReported page_end error new.error page_status
   pub status_is : status ≡ first_status its_status page_status
 
--- there were sessions of these seats, or not; standard input is left as it is
+-- there were sessions of these seats, or not; none took place here
 abbrev pub PerformsPaged : List ℕ → List (List ℕ) → Option (List ℕ)
     → Option (List ℕ) → List ℕ → Seen → Seen → ℕ → Type 0
 PerformsPaged setup seats from journal page old new status =
-    (new.input ≡ old.input)
+    HasNoSession old new
     × (RefusesSeats setup seats from (files_for journal page) old new status
     ⊎ HoldsPaged setup seats from journal page old new status)

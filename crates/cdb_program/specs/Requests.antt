@@ -13,7 +13,7 @@ use Rattle.cdb_program.specs.Clocks.{ClocksFiles}
 use Rattle.cdb_program.specs.Comparisons.{ComparesFiles}
 use Rattle.cdb_program.specs.DebugSessions.{DebugsFile, DebugsFileKept}
 use Rattle.cdb_program.specs.FrameFiles.{FramesFiles}
-use Rattle.cdb_program.specs.Known.{Seen}
+use Rattle.cdb_program.specs.Known.{HasNoSession, Seen}
 use Rattle.cdb_program.specs.LivePages.{DebugsFilePaged, PerformsPaged}
 use Rattle.cdb_program.specs.Outcomes.{RequestEnd}
 use Rattle.cdb_program.specs.PageFiles.{PagesFiles}
@@ -28,7 +28,7 @@ use Rattle.cdb_program.specs.declared.fault.Fault.{Fault}
 use Rattle.cdb_program.specs.declared.fault.Fault.TheVariants as fault
 use Rattle.cdb_program.specs.declared.request.Action.{Action}
 use Rattle.cdb_program.specs.declared.request.Action.TheVariants.{Perform, Print, Refuse}
-use Rattle.cdb_program.specs.declared.request.TheConstants.{MAX_TURNS}
+use Rattle.cdb_base.specs.Limits.{MAX_TURNS}
 
 -- a race has turns that its threads can count
 abbrev pub HasTurns : RequestView → Type 0
@@ -40,9 +40,9 @@ abbrev pub IsNoSession : RequestView → Type 0
 IsNoSession (Debug setup seats from journal page) = ⊥
 IsNoSession asked = Unit {0}
 
--- no file is opened, and standard input is left as it is
+-- no file is opened, no input is read, and nothing is saved
 abbrev pub ReadsNothing : Seen → Seen → Type 0
-ReadsNothing old new = (new.files ≡ old.files) × (new.input ≡ old.input)
+ReadsNothing old new = (new.files ≡ old.files) × HasNoSession old new
 
 -- the outcome is the fault whose text is this line
 abbrev pub IsRefusal : Text → RequestEnd → Type 0
@@ -119,11 +119,12 @@ PerformsSessions setup [] from journal page prompt old new status =
 PerformsSessions setup (seat ∷ seats) from journal page prompt old new status =
     PerformsSeats setup (seat ∷ seats) from journal page old new status
 
--- what was asked for was done, a session here with this prompt, and how it ended was reported
+-- what was asked for was done, a session here with this prompt, and how it ended was reported; nothing was saved where
+-- none was asked for
 abbrev pub PerformsAsked : Text → RequestView → Seen → Seen → ℕ → Type 0
 PerformsAsked prompt (Debug setup seats from journal page) old new status =
     PerformsSessions setup seats from journal page prompt old new status
-PerformsAsked prompt asked old new status = IsDone (Does asked) old new status
+PerformsAsked prompt asked old new status = IsDone (Does asked) old new status × (new.saved ≡ old.saved)
 
 -- what an action performs has turns
 abbrev pub MayPerform : Action → Type 0

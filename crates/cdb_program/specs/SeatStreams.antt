@@ -12,7 +12,7 @@ use Rattle.cdb_streams.specs.declared.source.ReadFault.TheVariants as reading
 use Rattle.cdb_agreement.specs.Algorithms.{rules}
 use Rattle.cdb_program.specs.Answers.{IsAnswer}
 use Rattle.cdb_program.specs.Beginnings.{AreOfBeginning}
-use Rattle.cdb_program.specs.Known.{FilesSeen, Seen, seat_of, after_opening, after_failing, any_name}
+use Rattle.cdb_program.specs.Known.{FilesSeen, HasNoSession, Seen, seat_of, after_opening, after_failing, any_name}
 use Rattle.cdb_program.specs.FilesRead.{FailsToRead}
 use Rattle.cdb_program.specs.Reports.{IsReported}
 use Rattle.cdb_program.specs.declared.fault.Fault.{Fault}
@@ -98,8 +98,8 @@ HoldsSeats setup seats from file old new status =
     itself itself itself json journal seats made old.output new.output old.error
     new.error (status, kept))
 
--- there were sessions of these seats, or not; standard input is left as it is
+-- there were sessions of these seats, or not; none took place here
 abbrev pub PerformsShared : List ℕ → List (List ℕ) → Option (List ℕ) → Option (List ℕ) → Seen → Seen → ℕ → Type 0
 PerformsShared setup seats from file old new status =
-    (new.input ≡ old.input)
+    HasNoSession old new
     × (RefusesSeats setup seats from (any_name file) old new status ⊎ HoldsSeats setup seats from file old new status)

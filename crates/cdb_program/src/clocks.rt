@@ -20,6 +20,7 @@ pub fn clock_files<'a, F: Files + Drop, I: Source + Drop, O: Sink + Drop, E: Sin
 ) -> Result<(), Fault<'a>>
     ensures does { ClocksFiles setup.entry.now script.entry.now world.old world.new result }
     ensures error { world.new.error ≡ world.old.error }
+    ensures saved { world.new.saved ≡ world.old.saved }
 {
     let (json, bytes) = read_two(alloc, &mut world.files, setup, script)?;
     let written = write_clocks::<AnyRun, O>(

@@ -22,6 +22,7 @@ pub fn compare_files<'a, F: Files + Drop, I: Source + Drop, O: Sink + Drop, E: S
     ensures does { ComparesFiles setup.entry.now first.entry.now second.entry.now
         world.old world.new result }
     ensures error { world.new.error ≡ world.old.error }
+    ensures saved { world.new.saved ≡ world.old.saved }
 {
     let (json, one, other) = read_three(alloc, &mut world.files, setup, first, second)?;
     let told = same::<AnyRun, O>(

@@ -12,6 +12,7 @@ use crate::fault::Fault;
 use cdb_base::NoMemory;
 use cdb_base::limits::MAX_BYTES;
 use cdb_page::Rewritten;
+use cdb_session::NewFiles;
 use cdb_shared_session::Opener;
 use cdb_streams::{OutputFault, PlayFault, ReadFault, Sink};
 use std::alloc::Global;
@@ -29,6 +30,9 @@ pub trait Files {
 
     /// A file of a page, which is written anew as a whole.
     type Page: Rewritten + Drop;
+
+    /// What takes the new files of a session.
+    type New: NewFiles + Drop;
 
     /// What is known of the files: their bytes, the names of those that were opened, how many could not be read, and
     /// what the seat of a name has when its streams are open.

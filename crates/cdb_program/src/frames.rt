@@ -104,6 +104,7 @@ pub fn frame_files<'a, F: Files + Drop, I: Source + Drop, O: Sink + Drop, E: Sin
     ensures does { FramesFiles setup.entry.now script.entry.now folder.entry.now columns
         world.old world.new result }
     ensures error { world.new.error ≡ world.old.error }
+    ensures saved { world.new.saved ≡ world.old.saved }
 {
     let (json, bytes) = read_two(alloc, &mut world.files, setup, script)?;
     let mut commands = Bytes::new(bytes.as_slice());

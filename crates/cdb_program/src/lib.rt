@@ -24,5 +24,5 @@ mod world;
 pub use answers::Printed;
 pub use fault::Fault;
 pub use files::Files;
-pub use request::{Action, MAX_TURNS, perform};
+pub use request::{Action, perform};
 pub use world::World;

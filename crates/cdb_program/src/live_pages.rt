@@ -3,7 +3,7 @@
 ghost use Rattle.std.specs.Prelude.{◌≡◌, ◌≤◌, ◌∷◌, [], length, IfOk, IfErr, IfSome};
 ghost use Rattle.cdb_base.specs.Requests.{any_text, texts};
 ghost use Rattle.cdb_page.specs.Live.{KeepsUp};
-ghost use Rattle.cdb_program.specs.Known.{after_opening};
+ghost use Rattle.cdb_program.specs.Known.{HasNoSession, after_opening};
 ghost use Rattle.cdb_program.specs.LivePages.{DebugsFilePaged, HasHadNone, HoldsPaged, IsNewPage, IsOfPage};
 ghost use Rattle.cdb_program.specs.LivePages.{IsOfPaged, PerformsPaged, files_for, first_status};
 ghost use Rattle.cdb_program.specs.FilesRead.{FailsToRead};
@@ -178,7 +178,7 @@ fn hold_paged<
         (files_for (any_text journal.entry) page.entry.now) world.old.files world.new.files) }
     ensures output { IfErr result (λ _. world.new.output ≡ world.old.output) }
     ensures error { IfErr result (λ _. world.new.error ≡ world.old.error) }
-    ensures input { world.new.input ≡ world.old.input }
+    ensures none { HasNoSession world.old world.new }
 {
     if seats.len() > usize::from(MAX_SEATS) {
         return Err(Fault::TooManySeats);

@@ -22,6 +22,7 @@ pub fn play_input<F: Files + Drop, I: Source + Drop, O: Sink + Drop, E: Sink + D
 ) -> Result<(), Fault<'static>>
     ensures does { PlaysInput world.old world.new result }
     ensures error { world.new.error ≡ world.old.error }
+    ensures saved { world.new.saved ≡ world.old.saved }
 {
     let streams = &mut world.streams;
     let played = play::<AnyRun, I, O>(alloc, ONE_PROCESS, &mut streams.input, &mut streams.output);
@@ -37,6 +38,7 @@ pub fn play_files<'a, F: Files + Drop, I: Source + Drop, O: Sink + Drop, E: Sink
 ) -> Result<(), Fault<'a>>
     ensures does { PlaysFiles setup.entry.now script.entry.now world.old world.new result }
     ensures error { world.new.error ≡ world.old.error }
+    ensures saved { world.new.saved ≡ world.old.saved }
 {
     let (json, bytes) = read_two(alloc, &mut world.files, setup, script)?;
     let mut commands = HeldBytes::new(alloc, bytes);

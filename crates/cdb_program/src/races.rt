@@ -3,11 +3,11 @@
 ghost use Rattle.std.specs.Prelude.{◌≡◌, ◌≤◌};
 ghost use Rattle.cdb_play.specs.Races.{bytes_of};
 ghost use Rattle.cdb_program.specs.Races.{RacesOn, RacesFiles};
+ghost use Rattle.cdb_base.specs.Limits.{MAX_TURNS};
 ghost use Rattle.cdb_base.specs.Requests.{texts};
 
 use crate::fault::{Fault, of_race};
 use crate::files::{Files, read_each, read_file};
-use crate::request::MAX_TURNS;
 use crate::world::World;
 use cdb_any_run::AnyRun;
 use cdb_play::race_on;
@@ -61,6 +61,7 @@ pub fn race_files<
     ensures does { RacesFiles setup.entry.now turns (texts scripts.now)
         world.old world.new result }
     ensures error { world.new.error ≡ world.old.error }
+    ensures saved { world.new.saved ≡ world.old.saved }
 {
     let json = read_file(alloc, &mut world.files, setup)?;
     let contents = read_each(alloc, &mut world.files, scripts)?;

@@ -58,6 +58,7 @@ pub fn replay_files<'a, F: Files + Drop, I: Source + Drop, O: Sink + Drop, E: Si
 ) -> Result<(), Fault<'a>>
     ensures does { ReplaysFiles setup.entry.now journal.entry.now world.old world.new result }
     ensures error { world.new.error ≡ world.old.error }
+    ensures saved { world.new.saved ≡ world.old.saved }
 {
     let (json, bytes) = read_both(alloc, &mut world.files, setup, journal)?;
     let mut entries = HeldBytes::new(alloc, bytes);

@@ -31,9 +31,6 @@ use std::sync::Wait;
 use std::thread::Threads;
 use std::time::Clock;
 
-/// The most turns of a race.
-pub const MAX_TURNS: u32 = 99_999;
-
 /// What is reported where a step is asked for of frames.
 const NO_STEP: &str = "--frames takes no P\n";
 
@@ -64,6 +61,7 @@ fn draw_frames<'a, F: Files + Drop, I: Source + Drop, O: Sink + Drop, E: Sink + 
     ensures does { DrawsFrames setup.entry.now script.entry.now folder.entry.now columns step
         world.old world.new result }
     ensures error { world.new.error ≡ world.old.error }
+    ensures saved { world.new.saved ≡ world.old.saved }
 {
     match step {
         Some(_) => Err(Fault::Refused(NO_STEP)),
@@ -89,6 +87,7 @@ fn carry_out<
     requires other { IsNoSession (asked_for request.now) }
     ensures does { Does (asked_for request.entry.now) world.old world.new result }
     ensures error { world.new.error ≡ world.old.error }
+    ensures saved { world.new.saved ≡ world.old.saved }
 {
     match request {
         Request::Script => play_input(alloc, world),
@@ -143,7 +142,8 @@ fn perform_one<
 >(threads: &R, alloc: Global, request: &Request<'_>, world: &mut World<F, I, O, E>) -> u8
     requires turns { HasTurns (asked_for request.now) }
     requires other { IsNoSession (asked_for request.now) }
-    ensures { IsDone (Does (asked_for request.now)) world.old world.new result }
+    ensures done { IsDone (Does (asked_for request.now)) world.old world.new result }
+    ensures saved { world.new.saved ≡ world.old.saved }
 {
     let outcome = carry_out(threads, alloc, request, world);
     report(outcome, &mut world.error)

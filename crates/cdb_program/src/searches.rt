@@ -36,6 +36,7 @@ fn search_for<'a, F: Files + Drop, I: Source + Drop, O: Sink + Drop, E: Sink + D
 ) -> Result<(), Fault<'a>>
     ensures does { SearchesFor setup.entry.now goal walks world.old world.new result }
     ensures error { world.new.error ≡ world.old.error }
+    ensures saved { world.new.saved ≡ world.old.saved }
 {
     let json = read_file(alloc, &mut world.files, setup)?;
     let progress = Progress {
@@ -67,6 +68,7 @@ pub fn search_file<'a, F: Files + Drop, I: Source + Drop, O: Sink + Drop, E: Sin
 ) -> Result<(), Fault<'a>>
     ensures does { SearchesFile setup.entry.now goal.now walks world.old world.new result }
     ensures error { world.new.error ≡ world.old.error }
+    ensures saved { world.new.saved ≡ world.old.saved }
 {
     match Goal::read(goal) {
         Some(goal) => search_for(alloc, setup, goal, seed, walks, world),
@@ -85,6 +87,7 @@ fn shrink_to<'a, F: Files + Drop, I: Source + Drop, O: Sink + Drop, E: Sink + Dr
     ensures does { ShrinksTo setup.entry.now script.entry.now goal
         world.old world.new result }
     ensures error { world.new.error ≡ world.old.error }
+    ensures saved { world.new.saved ≡ world.old.saved }
 {
     let (json, bytes) = read_two(alloc, &mut world.files, setup, script)?;
     let mut commands = Bytes::new(bytes.as_slice());
@@ -110,6 +113,7 @@ pub fn shrink_files<'a, F: Files + Drop, I: Source + Drop, O: Sink + Drop, E: Si
     ensures does { ShrinksFiles setup.entry.now script.entry.now goal.now
         world.old world.new result }
     ensures error { world.new.error ≡ world.old.error }
+    ensures saved { world.new.saved ≡ world.old.saved }
 {
     match Goal::read(goal) {
         Some(goal) => shrink_to(alloc, setup, script, goal, world),

@@ -1,7 +1,7 @@
 //! Sessions of several seats, of what is outside.
 
 ghost use Rattle.std.specs.Prelude.{◌≡◌, ◌≤◌, ◌∷◌, [], length, option_map, vec_len, IfOk, IfErr};
-ghost use Rattle.cdb_program.specs.Known.{after_opening, any_name};
+ghost use Rattle.cdb_program.specs.Known.{HasNoSession, after_opening, any_name};
 ghost use Rattle.cdb_program.specs.FilesRead.{FailsToRead};
 ghost use Rattle.cdb_base.specs.Requests.{any_text, texts};
 ghost use Rattle.cdb_program.specs.SeatStreams.{AreOpenersOf, HoldsSeats, IsEmpty, IsFaultOfSeats};
@@ -143,7 +143,7 @@ fn hold_seats<
         (any_name (any_text file.entry)) world.old.files world.new.files) }
     ensures output { IfErr result (λ _. world.new.output ≡ world.old.output) }
     ensures error { IfErr result (λ _. world.new.error ≡ world.old.error) }
-    ensures input { world.new.input ≡ world.old.input }
+    ensures none { HasNoSession world.old world.new }
 {
     if seats.len() > usize::from(MAX_SEATS) {
         return Err(Fault::TooManySeats);

@@ -11,8 +11,8 @@ use std::marker::Model;
 #[derive(Drop)]
 pub struct World<F: Files + Drop, I: Source + Drop, O: Sink + Drop, E: Sink + Drop> {
     pub files: F,
-    /// Standard input and standard output, over which a session can take place.
-    pub streams: Streams<I, O>,
+    /// Standard input and standard output, over which a session can take place, and where it writes new files.
+    pub streams: Streams<I, O, F::New>,
     pub error: E,
 }
 
@@ -24,6 +24,7 @@ impl<F: Files + Drop, I: Source + Drop, O: Sink + Drop, E: Sink + Drop> Model
       files = F.seen world.files;
       input = I.stream world.streams.input;
       output = O.stream world.streams.output;
+      saved = F.New.saved world.streams.files;
       error = E.stream world.error;
     } };
 }

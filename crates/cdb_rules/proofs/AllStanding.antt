@@ -17,7 +17,7 @@ use Rattle.cdb_causal.specs.Dependence.{depends}
 use Rattle.cdb_causal.specs.Exchange.{IsIn}
 use Rattle.cdb_causal.specs.Names.{IsNamedAt, IsNewName, IsFirstDependent}
 use Rattle.cdb_causal.specs.Rollback.{without, remaining, rolled_back}
-use Rattle.cdb_causal.proofs.Dependents.{last_free, without_push_back}
+use Rattle.cdb_causal.proofs.LastEvent.{last_free, without_push_back}
 use Rattle.cdb_causal.proofs.Lists.{push_back, push_cases}
 use Rattle.cdb_message.specs.Mail.{is_sent, is_received, is_lost}
 use Rattle.cdb_rules.specs.Mail.{mail_of}

@@ -1,8 +1,15 @@
--- What stands last in a valid history was enabled before it, and is an event of the run.
+-- What stands last in a valid history was enabled before it, and what stands in one and what a rollback removes are events of the run.
 use Rattle.std.proofs.lemmas.Grind.{common_steps}
-use Rattle.std.proofs.lemmas.Option.{gets}
-use Rattle.std.proofs.Common.{◌≡◌, ◌==◌, ℕ, suc, ◌≤◌, true, not, arith, List, [], ◌∷◌, ◌++◌, length, slice_get, Some, IsSome}
-use Rattle.std.proofs.Common.{option_and_then, ap, ◌∙◌, subst}
+use Rattle.std.proofs.lemmas.List.{take-append-drop}
+use Rattle.std.proofs.lemmas.List.Elements.{All-from_recursion}
+use Rattle.std.proofs.lemmas.Option.{gets, none-some}
+use Rattle.std.proofs.Common.{◌≡◌, ◌==◌, ℕ, zero, suc, ◌+◌, ◌≤◌, true, not, arith, List, [], ◌∷◌, ◌++◌, length, slice_get, Some, IsSome}
+use Rattle.std.proofs.Common.{take, drop, option_and_then, Result, Ok, Err, refl, sym, ap, ◌∙◌, subst}
+use Rattle.std.specs.List.{AllByRecursion}
+use Rattle.cdb_base.specs.Positions.{nth}
+use Rattle.cdb_base.specs.declared.name.StepId.{StepId}
+use Rattle.cdb_base.specs.declared.refusal.Refusal.{Refusal}
+use Rattle.cdb_causal.proofs.Lists.{all_nth}
 use Rattle.std.proofs.lemmas.Bool.Decides.{nat_tests}
 use Rattle.cdb_base.specs.Event.{event_name}
 use Rattle.cdb_base.specs.declared.event.Event.{Event}
@@ -17,7 +24,11 @@ use Rattle.cdb_rules.specs.Mail.{mail_of}
 use Rattle.cdb_rules.specs.Refusals.{IsOfRun, NamesProcess}
 use Rattle.cdb_rules.specs.State.{Machine, ProcessState}
 use Rattle.cdb_rules.specs.Step.{after, is_among, state_of, IsValid, IsEnabled}
-use Rattle.cdb_rules.specs.Undo.{names_processes}
+use Rattle.cdb_rules.specs.RunView.{RunView}
+use Rattle.cdb_rules.specs.Runs.{rollback_in, removed_by_rollback, IsInOrder, RemovesOfRun}
+use Rattle.cdb_rules.specs.Undo.{names_processes, result_alone, with_removed}
+use Rattle.cdb_rules.proofs.Beginnings.{one_more}
+use Rattle.cdb_rules.proofs.Removed.{rolled_back-parted}
 use Rattle.cdb_rules.proofs.Commutes.{lost_from}
 use Rattle.cdb_rules.proofs.FirstStates.{length-first_states}
 use Rattle.cdb_rules.proofs.Histories.{reached_state}
@@ -94,3 +105,24 @@ module _ {L : Type 0} (table : Table L) (setup : Parts) (range : AreInRange setu
   next_of_run history event valid =
       let named = valid_named machine (history ++ event ∷ []) valid (suc (length history)) event (at_end history event) in
       of_run history event valid (subst (λ (n : ℕ). names_processes n (event_name event) ≡ true) number named.among)
+
+  -- so is each event that stands
+  all_of_run : (history : List Event) → IsValid machine history → AllByRecursion (IsOfRun setup) history
+  all_of_run history valid = all_nth (IsOfRun setup) history each
+    where
+      each : (at : ℕ) (event : Event) → nth history at ≡ Some event → IsOfRun setup event
+      each zero event stands = absurd (none-some event stands)
+      each (suc i) event stands =
+          let first = reached_front_some _ _ (take (i + 1) history) (drop (i + 1) history)
+          (subst (IsValid machine) (sym (take-append-drop (i + 1) history)) valid) in
+          next_of_run (take i history) event (subst (IsValid machine) (sym (one_more history i event stands)) first)
+
+-- and each that a rollback removes
+pub removed_of_run : {L : Type 0} (table : Table L) (run : RunView) → AreInRange run.setup → IsInOrder table run → (name : StepId) → RemovesOfRun run name
+removed_of_run table run range valid name = All-from_recursion (IsOfRun run.setup) (removed_by_rollback run name) (removed (rollback_in run name) refl)
+  where
+    removed : (r : Result (List Event × List Event) Refusal) → rollback_in run name ≡ r
+        → AllByRecursion (IsOfRun run.setup) (with_removed [] (result_alone r))
+    removed (Ok done) is =
+        (rolled_back-parted (IsOfRun run.setup) run.setup.processes run.history name done is).gone (all_of_run table run.setup range run.history valid)
+    removed (Err why) is = tt

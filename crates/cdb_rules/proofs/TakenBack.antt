@@ -11,7 +11,7 @@ use Rattle.cdb_causal.specs.Laws.{IsRollback}
 use Rattle.cdb_causal.specs.Names.{IsNamedAt}
 use Rattle.cdb_causal.specs.Rollback.{rolled_back, remaining}
 use Rattle.cdb_causal.proofs.Chains.{parted}
-use Rattle.cdb_causal.proofs.Dependents.{last_free, without_push_back}
+use Rattle.cdb_causal.proofs.LastEvent.{last_free, without_push_back}
 use Rattle.cdb_causal.proofs.Lists.{push_back}
 use Rattle.cdb_causal.proofs.Reaches.{reached_push}
 use Rattle.cdb_rules.specs.RunView.{RunView}

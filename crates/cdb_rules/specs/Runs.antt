@@ -1,6 +1,6 @@
 -- What a contract says of a run: of its setup and its standing events, with the table of its machine.
 use Rattle.std.specs.Prelude.{◌≡◌, ℕ, ◌≤◌, List, [], ◌∷◌, ◌++◌, Bool, Option, option_map, Result}
-use Rattle.std.specs.Prelude.{Ok, IfOk, OnOk, OnErr, IsOk, MatchOption, false, reverse}
+use Rattle.std.specs.Prelude.{Ok, IfOk, OnOk, OnErr, IsOk, MatchOption, false, reverse, All}
 use Rattle.cdb_base.specs.Event.{event_name}
 use Rattle.cdb_base.specs.Positions.{nth}
 use Rattle.cdb_base.specs.declared.act.Act.{Act}
@@ -22,7 +22,7 @@ use Rattle.cdb_rules.specs.RunView.{RunView}
 use Rattle.cdb_rules.specs.Decisions.{decisions_of}
 use Rattle.cdb_rules.specs.Machines.{machine_of}
 use Rattle.cdb_rules.specs.Mail.{mail_of}
-use Rattle.cdb_rules.specs.Refusals.{step_result, loss_result, again_result, with_taken}
+use Rattle.cdb_rules.specs.Refusals.{step_result, loss_result, again_result, with_taken, IsOfRun}
 use Rattle.cdb_rules.specs.State.{Machine, ProcessState, RunState}
 use Rattle.cdb_rules.specs.Step.{fold, is_among, state_of, IsEnabled, IsValid}
 use Rattle.cdb_rules.specs.declared.progress.Progress.{Progress}
@@ -169,6 +169,10 @@ IsExactRollback run name left =
 -- what it removes, the last first; nothing where it is refused
 abbrev pub removed_by_rollback : RunView → StepId → List Event
 removed_by_rollback run name = with_removed [] (result_of_rollback run name)
+
+-- each event that it removes is one of the run, so it may be taken again
+abbrev pub RemovesOfRun : RunView → StepId → Type 0
+RemovesOfRun run name = All (IsOfRun run.setup) (removed_by_rollback run name)
 
 -- the names are those of the direct causes of the event of that name, in order
 abbrev pub AreCausesOf : RunView → StepId → List StepId → Type 0

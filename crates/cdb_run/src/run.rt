@@ -1,7 +1,7 @@
 //! A run, with one current state and a record of each standing event.
 
 ghost use Rattle.std.specs.Prelude.{◌≡◌, ◌≤◌, ◌↔◌, [], length, true, None, Some, is_some};
-ghost use Rattle.std.specs.Prelude.{IsSome, IfSome, IsOk, IfOk, OnOk, OnErr, IfNone};
+ghost use Rattle.std.specs.Prelude.{IsTrue, IsSome, IfSome, IsOk, IfOk, OnOk, OnErr, IfNone};
 ghost use Rattle.std.specs.Option.{option_copied};
 ghost use Rattle.std.specs.Result.{result_err, result_ok};
 ghost use Rattle.cdb_message.specs.Mail.{next_pending, payload_of, is_lost};
@@ -14,10 +14,11 @@ ghost use Rattle.cdb_rules.specs.Runs.{steps_in, queries_in, local_in, mail_in, 
 ghost use Rattle.cdb_rules.specs.Runs.{cell_in, writes_in, decisions_in, result_of_step, result_of_again};
 ghost use Rattle.cdb_rules.specs.Runs.{result_of_loss, with_event, with_result, IsJustTaken};
 
-use crate::among::process_among;
+use crate::among::{names_process, process_among};
 use crate::plan::{plan, plan_again, plan_loss, plan_loss_again};
 use crate::progress::decided;
 use crate::state::State;
+use cdb_base::limits::MAX_STEPS;
 use cdb_base::{
     Act, Cell, CopyName, Event, Kind, MsgName, NoMemory, Payload, Proc, Refusal, Reg, Val,
 };
@@ -263,6 +264,21 @@ impl<P: Process> Run<P> {
     {
         let planned = self.plan_first(p);
         self.take_planned(alloc, planned)
+    }
+
+    /// Whether a run of this setup can have the event, which `again` asks of whoever calls it: a step of one of its
+    /// processes, with a number that a step can have, where a query names one of them; or in version 2 the loss of a
+    /// copy for one of them.
+    pub fn is_of_run(&self, event: &Event) -> bool
+        ensures { IsTrue result ↔ IsOfRun self.now.setup event.now }
+    {
+        let n = self.setup.n();
+        match event {
+            Event::Step { p, k, kind } => {
+                p.number() <= n && 1 <= *k && *k <= MAX_STEPS && names_process(n, kind)
+            }
+            Event::Lost(copy) => self.setup.version() == 2 && copy.to.number() <= n,
+        }
     }
 
     /// What taking an undone event again returns.

@@ -6,6 +6,7 @@ use Rattle.std.proofs.lemmas.List.{drop-drop}
 use Rattle.cdb_commands.specs.ReplyView.{ReplyView}
 use Rattle.cdb_session.specs.Exchanges.{Exchange, commands_among, given_at}
 use Rattle.cdb_control.specs.declared.control.Entry.{Entry}
+use Rattle.cdb_session.specs.Moves.{says}
 use Rattle.cdb_session.specs.News.{watched_next}
 use Rattle.cdb_session.specs.Styles.{StyleView}
 use Rattle.cdb_session.specs.Parts.{asked_of, seat_next, seat_behind, all_asked}
@@ -27,8 +28,8 @@ pub dialogue-more : (style : StyleView) (replies : List ReplyView) (exchanges : 
     → dialogue style replies (exchanges ++ exchange ∷ [])
     ≡ dialogue style replies exchanges ++ shown style (along_after style (begun_along style replies) exchanges) exchange
 dialogue-more style replies exchanges exchange =
-    ap (λ text. (style.greeting ++ style.prompt) ++ text) (shown_from-more style (begun_along style replies) exchanges exchange)
-    ∙ sym (append_assoc (style.greeting ++ style.prompt) (shown_from style (begun_along style replies) exchanges)
+    ap (λ outputs. says (style.greeting ++ style.prompt) ++ outputs) (shown_from-more style (begun_along style replies) exchanges exchange)
+    ∙ sym (append_assoc (says (style.greeting ++ style.prompt)) (shown_from style (begun_along style replies) exchanges)
     (shown style (along_after style (begun_along style replies) exchanges) exchange))
 
 -- so does what the lines ask for

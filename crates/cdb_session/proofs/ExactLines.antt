@@ -3,7 +3,7 @@ use Rattle.std.proofs.Common.{◌≡◌, inl, inr, ℕ, suc, ◌==◌, ◌<◌, 
 use Rattle.std.proofs.Common.{◌++◌, length, map, fold, get_or, decimal, append_assoc, append-nil, refl, sym, ap, subst, ◌∙◌, arith}
 use Rattle.std.specs.Prelude.{codes, Option, Some, None}
 use Rattle.std.specs.Char.{digit_value}
-use Rattle.std.specs.List.{AllByRecursion, list_all, filter, starts_with, slice_split, onto_first, join_with_byte, position_or_len}
+use Rattle.std.specs.List.{AllByRecursion, list_all, list_any, filter, starts_with, slice_split, onto_first, join_with_byte, position_or_len}
 use Rattle.std.specs.Str.Parse.{AllDigits}
 use Rattle.std.proofs.lemmas.Bool.{cases_Bool, and_parts}
 use Rattle.std.proofs.lemmas.Bool.Decides.{nat_tests}
@@ -26,13 +26,14 @@ use Rattle.cdb_setup.specs.Format.{longest}
 use Rattle.cdb_setup.specs.Parts.{IsWithin}
 use Rattle.cdb_session.specs.declared.topic.Topic.{Topic}
 use Rattle.cdb_session.specs.declared.topic.Topic.TheVariants as topic
-use Rattle.cdb_session.specs.Inquiries.{AreStepWords, inquiry_word, numbers_of, step_asked}
+use Rattle.cdb_base.specs.declared.question.StepAsked.{StepAsked}
+use Rattle.cdb_session.specs.Inquiries.{AreAnyStepWords, AreInquiryWords, has_other_meaning, inquiry_word, is_file_name, numbers_of}
 use Rattle.cdb_session.specs.declared.inquiry.Inquiry.{Inquiry}
-use Rattle.cdb_session.specs.declared.inquiry.Inquiry.TheVariants.{Explain, Trail}
+use Rattle.cdb_session.specs.declared.inquiry.Inquiry.TheVariants.{Explain, Trail, Draw}
 use Rattle.cdb_session.specs.Laws.{ExactLinesStand}
 use Rattle.cdb_session.specs.Repeats.{repeat_parts}
 use Rattle.cdb_session.specs.Requests.{most_seats, help_line, quit_line, seat_line, watch_line}
-use Rattle.cdb_session.specs.Typed.{is_blank, is_comment, is_mark, is_word, parts_of, due, only, full, up_to_comment, with_piece, words_meant, line_meant}
+use Rattle.cdb_session.specs.Typed.{is_blank, is_comment, is_mark, is_name, is_word, parts_of, due, only, full, up_to_comment, with_piece, words_meant, line_meant}
 use Rattle.cdb_session.proofs.Names.{no_name}
 
 -- ---- words of which each byte is a letter or a digit
@@ -74,8 +75,17 @@ no_comment (byte ∷ word) is = let e = plain_is_no_mark byte is.0 in grind (ari
 
 -- ---- words that stand for themselves, behind others
 
+abbrev IsSolid : List ℕ → Type 0
+IsSolid word = AllByRecursion (λ byte. is_blank byte ≡ false) word
+
+plain_is_solid : (word : List ℕ) → IsPlain word → IsSolid word
+plain_is_solid [] is = tt
+plain_is_solid (byte ∷ word) is = (plain_is_no_blank byte is.0, plain_is_solid word is.1)
+
 record Stands (before : List (List ℕ)) (word : List ℕ) : Type 0 where
-  plain : IsPlain word
+  solid : IsSolid word
+  goes_on : is_comment word ≡ false
+  alone : parts_of word ≡ word ∷ []
   word_is : is_word word ≡ true
   whole : full (due before) word ≡ word
 
@@ -87,39 +97,35 @@ all_stand : (before words : List (List ℕ)) → AllStand before words → fold 
 all_stand before [] all = sym (append-nil before)
 all_stand before (word ∷ words) all =
     let its = all.0 in
-    let goes_on = no_comment word its.plain in
-    let one : with_piece before word ≡ before ++ word ∷ [] = rw (one_part word its.plain, its.word_is, its.whole) refl in
-    ap (λ b. fold with_piece before (cond b [] (word ∷ up_to_comment words))) goes_on
+    let one : with_piece before word ≡ before ++ word ∷ [] = rw (its.alone, its.word_is, its.whole) refl in
+    ap (λ b. fold with_piece before (cond b [] (word ∷ up_to_comment words))) its.goes_on
     ∙ ap (λ (ws : List (List ℕ)). fold with_piece ws (up_to_comment words)) one
     ∙ all_stand (before ++ word ∷ []) words all.1 ∙ append_assoc before (word ∷ []) words
 
 -- ---- such a line
 
-split_alike : (line : List ℕ) → AllByRecursion IsPlain (words_of line) → slice_split is_blank line ≡ words_of line
+split_alike : (line : List ℕ) → AllByRecursion IsSolid (words_of line) → slice_split is_blank line ≡ words_of line
 split_alike [] all = refl
 split_alike (byte ∷ line) all =
     elim (cases_Bool (nat_eq byte 32)) [
-      | inl e ↦ let plain = rw e at all in rw e (ap (λ (words : List (List ℕ)). [] ∷ words) (split_alike line plain.1))
-      | inr e ↦
-          let plain = onto_plain byte (words_of line) (rw e at all) in
-          let blank = plain_is_no_blank byte plain.0 in
-          rw (blank, e) (ap (onto_first byte) (split_alike line plain.1))
+      | inl e ↦ let solid = rw e at all in rw e (ap (λ (words : List (List ℕ)). [] ∷ words) (split_alike line solid.1))
+      | inr e ↦ let solid = onto_solid byte (words_of line) (rw e at all) in rw (solid.0, e) (ap (onto_first byte) (split_alike line solid.1))
     ]
   where
-    onto_plain : (byte : ℕ) (words : List (List ℕ)) → AllByRecursion IsPlain (onto_first byte words) → (is_plain byte ≡ true) × AllByRecursion IsPlain words
-    onto_plain byte [] all = (all.0.0, tt)
-    onto_plain byte (word ∷ words) all = (all.0.0, (all.0.1, all.1))
+    onto_solid : (byte : ℕ) (words : List (List ℕ)) → AllByRecursion IsSolid (onto_first byte words) → (is_blank byte ≡ false) × AllByRecursion IsSolid words
+    onto_solid byte [] all = (all.0.0, tt)
+    onto_solid byte (word ∷ words) all = (all.0.0, (all.0.1, all.1))
 
-are_plain : (before words : List (List ℕ)) → AllStand before words → AllByRecursion IsPlain words
-are_plain before [] all = tt
-are_plain before (word ∷ words) all = (all.0.plain, are_plain (before ++ word ∷ []) words all.1)
+are_solid : (before words : List (List ℕ)) → AllStand before words → AllByRecursion IsSolid words
+are_solid before [] all = tt
+are_solid before (word ∷ words) all = (all.0.solid, are_solid (before ++ word ∷ []) words all.1)
 
 exact : (line : List ℕ) (words : List (List ℕ)) → words_of line ≡ words → AllStand [] words → line_meant line ≡ line
 unfolding line_meant words_meant
 exact line words are all =
-    let plain = subst (AllByRecursion IsPlain) (sym are) (are_plain [] words all) in
+    let solid = subst (AllByRecursion IsSolid) (sym are) (are_solid [] words all) in
     let meant : words_meant line ≡ words =
-    ap (λ (pieces : List (List ℕ)). fold with_piece [] (up_to_comment pieces)) (split_alike line plain ∙ are) ∙ all_stand [] words all in
+    ap (λ (pieces : List (List ℕ)). fold with_piece [] (up_to_comment pieces)) (split_alike line solid ∙ are) ∙ all_stand [] words all in
     elim (cases_Bool (nat_lt longest (length line))) [
       | inl e ↦ rw e refl
       | inr e ↦ rw e (ap (join_with_byte 32) (meant ∙ sym are) ∙ join_with_byte-slice_split 32 line)
@@ -127,8 +133,17 @@ exact line words are all =
 
 -- ---- the words of the commands
 
+plainly : (before : List (List ℕ)) (word : List ℕ) → IsPlain word → is_word word ≡ true → full (due before) word ≡ word → Stands before word
+plainly before word plain is whole = record {
+  solid = plain_is_solid word plain;
+  goes_on = no_comment word plain;
+  alone = one_part word plain;
+  word_is = is;
+  whole = whole;
+}
+
 fixed : (before : List (List ℕ)) (word : List ℕ) → list_all is_plain word ≡ true → is_word word ≡ true → full (due before) word ≡ word → Stands before word
-fixed before word plain is whole = record { plain = tested word plain; word_is = is; whole = whole }
+fixed before word plain is whole = plainly before word (tested word plain) is whole
 
 -- a letter is no digit
 another : (byte letter : ℕ) → byte ≤ 57 → nat_lt 57 letter ≡ true → nat_eq byte letter ≡ false
@@ -160,11 +175,8 @@ digits_stand : (before : List (List ℕ)) (word : List ℕ) → 0 < length word 
 digits_stand before [] some digits lettered = absurd (omega (arith, some))
 digits_stand before (byte ∷ word) some digits lettered =
     let low = low_digit byte digits.0 in
-    record {
-      plain = digits_are_plain (byte ∷ word) digits;
-      word_is = (let e = not_t byte low in rw (e, some_bytes (length word)) refl);
-      whole = ap (λ (options : List (List ℕ)). only options (byte ∷ word)) (begins_none (due before) byte word low lettered);
-    }
+    plainly before (byte ∷ word) (digits_are_plain (byte ∷ word) digits) (let e = not_t byte low in rw (e, some_bytes (length word)) refl)
+    (ap (λ (options : List (List ℕ)). only options (byte ∷ word)) (begins_none (due before) byte word low lettered))
 
 a_number : (before : List (List ℕ)) (n : ℕ) → IsInRange (number n) → list_all is_lettered (due before) ≡ true → Stands before (decimal n)
 a_number before n range lettered =
@@ -175,11 +187,8 @@ a_number before n range lettered =
 a_register : (before : List (List ℕ)) (x : Reg) → IsInRange (register x) → due before ≡ [] → Stands before (part_text (register x))
 a_register before (R p) range none =
     let fits : p < 2 ^ 64 = omega (arith, range.1) in
-    record {
-      plain = (refl, digits_are_plain (decimal p) (digits_decimal (numerals_by_value (AllDigits 10) tells_digits) p fits));
-      word_is = (let e = some_bytes (length (decimal p)) in rw e refl);
-      whole = ap (λ (options : List (List ℕ)). full options (part_text (register (R p)))) none;
-    }
+    plainly before (part_text (register (R p))) (refl, digits_are_plain (decimal p) (digits_decimal (numerals_by_value (AllDigits 10) tells_digits) p fits))
+    (let e = some_bytes (length (decimal p)) in rw e refl) (ap (λ (options : List (List ℕ)). full options (part_text (register (R p)))) none)
 a_register before Dec range none = fixed before (codes "dec") refl refl (ap (λ (options : List (List ℕ)). full options (codes "dec")) none)
 
 parts_stand : (command : Command) → HasNumbersInRange command → AllStand [] (map part_text (command_parts command))
@@ -223,11 +232,60 @@ step_stands : (before : List (List ℕ)) (p : ℕ) (k : Option ℕ) → list_all
 step_stands before p None lettered after r = (a_number before p r.0 lettered, tt)
 step_stands before p (Some k) lettered after r = (a_number before p r.0 lettered, (a_number (before ++ decimal p ∷ []) k r.1.0 after, tt))
 
-inquiry_stands : (inquiry : Inquiry) (others : List (List ℕ)) → AreStepWords (step_asked inquiry) others → AllStand [] (inquiry_word inquiry ∷ others)
+no_blanks : (word : List ℕ) → list_any is_blank word ≡ false → IsSolid word
+no_blanks [] e = tt
+no_blanks (byte ∷ word) e =
+    elim (cases_Bool (is_blank byte)) [
+      | inl is ↦ let never = rw is at e in cc
+      | inr is ↦ (is, no_blanks word (rw is at e))
+    ]
+
+is_not : (b : Bool) → not b ≡ true → b ≡ false
+is_not true e = cc
+is_not false e = refl
+
+neither : (one other : Bool) → (one || other) ≡ false → (one ≡ false) × (other ≡ false)
+neither true other e = cc
+neither false other e = (refl, e)
+
+-- the name of a file, where no word is due
+a_file : (before : List (List ℕ)) (name : List ℕ) → is_file_name name ≡ true → due before ≡ [] → Stands before name
+a_file before name is none =
+    let word = and_parts _ _ is in
+    let parts = and_parts _ _ word.1 in
+    let blanks = and_parts _ _ parts.0 in
+    let other = neither _ _ (is_not (has_other_meaning name) parts.1) in
+    let no_name : is_name name ≡ false = (neither _ _ other.1).1 in
+    record {
+      solid = no_blanks name (is_not (list_any is_blank name) blanks.1);
+      goes_on = other.0;
+      alone = rw no_name refl;
+      word_is = word.0;
+      whole = ap (λ (options : List (List ℕ)). full options name) none;
+    }
+
+any_step_stands : (before : List (List ℕ)) (step : Option StepAsked) (others : List (List ℕ))
+    → ((words : List (List ℕ)) → list_all is_lettered (due (before ++ words)) ≡ true) → AreAnyStepWords step others → AllStand before others
+any_step_stands before None others lettered is = subst (AllStand before) (sym is) tt
+any_step_stands before (Some step) others lettered is =
+    subst (AllStand before) (sym is.are)
+    (step_stands before step.p step.k (subst (λ (words : List (List ℕ)). list_all is_lettered (due words) ≡ true) (append-nil before) (lettered []))
+    (lettered (decimal step.p ∷ [])) is.in_range)
+
+none_due : (name : List ℕ) (words : List (List ℕ)) → list_all is_lettered (due (codes "draw" ∷ name ∷ words)) ≡ true
+none_due name [] = refl
+none_due name (word ∷ words) = refl
+
+inquiry_stands : (inquiry : Inquiry) (others : List (List ℕ)) → AreInquiryWords inquiry others → AllStand [] (inquiry_word inquiry ∷ others)
 inquiry_stands (Explain step) others is =
     (fixed _ _ refl refl refl, subst (AllStand (codes "explain" ∷ [])) (sym is.are) (step_stands (codes "explain" ∷ []) step.p step.k refl refl is.in_range))
 inquiry_stands (Trail step) others is =
     (fixed _ _ refl refl refl, subst (AllStand (codes "trail" ∷ [])) (sym is.are) (step_stands (codes "trail" ∷ []) step.p step.k refl refl is.in_range))
+inquiry_stands (Draw name step) others (named, steps, are, its) = (
+  fixed _ _ refl refl refl,
+  subst (AllStand (codes "draw" ∷ [])) (sym are)
+      (a_file (codes "draw" ∷ []) name named refl, any_step_stands (codes "draw" ∷ name ∷ []) step steps (none_due name) its),
+)
 
 -- ---- all such lines
 
@@ -264,6 +322,7 @@ exact_lines_stand line (inl (inl (Some word, is))) =
       | topic.Explain ↦
           exact (help_line (Some topic.Explain)) (codes "help" ∷ codes "explain" ∷ []) refl (fixed _ _ refl refl refl, (fixed _ _ refl refl refl, tt))
       | topic.Trail ↦ exact (help_line (Some topic.Trail)) (codes "help" ∷ codes "trail" ∷ []) refl (fixed _ _ refl refl refl, (fixed _ _ refl refl refl, tt))
+      | topic.Draw ↦ exact (help_line (Some topic.Draw)) (codes "help" ∷ codes "draw" ∷ []) refl (fixed _ _ refl refl refl, (fixed _ _ refl refl refl, tt))
       | topic.Watch ↦ exact (help_line (Some topic.Watch)) (codes "help" ∷ codes "watch" ∷ []) refl (fixed _ _ refl refl refl, (fixed _ _ refl refl refl, tt))
       | topic.Unwatch ↦
           exact (help_line (Some topic.Unwatch)) (codes "help" ∷ codes "unwatch" ∷ []) refl (fixed _ _ refl refl refl, (fixed _ _ refl refl refl, tt))

@@ -12,7 +12,7 @@ use Rattle.cdb_session.specs.Unfinished.{IsOver, part_with, ended_well, ended_by
 use Rattle.cdb_session.specs.Requests.{HasNoEnd}
 use Rattle.cdb_session.specs.Moves.{Known, Move, AreWrites, Makes}
 use Rattle.cdb_rules.specs.RunView.{RunView}
-use Rattle.cdb_session.specs.Exchanges.{commands_among}
+use Rattle.cdb_session.specs.Exchanges.{Answer, commands_among}
 use Rattle.cdb_session.specs.News.{watched_next}
 use Rattle.cdb_session.specs.declared.inquiry.Inquiry.{Inquiry}
 use Rattle.cdb_session.specs.declared.request.Request.{Request}
@@ -39,7 +39,7 @@ true_is_true b is = search rules
 no_more : (part : Part) → MoreMayFollow [] part
 no_more part full = refl
 
-module _ (Answers : RunView → Inquiry → List ℕ → Type 0) (style : StyleView) where
+module _ (Answers : RunView → Inquiry → Answer → Type 0) (style : StyleView) where
   -- the seat of a session is that which its lines chose last
   sits : {replies : List ReplyView} {moves : List Move} {part : Part} {along : Along} {unfinished left : List ℕ}
       (at : IsAt Answers style replies moves part along unfinished left) → along.seat ≡ seat_behind style.chooses style.first at.exchanges

@@ -9,6 +9,7 @@ use Rattle.cdb_journal.specs.OpenedFrom.{IsFaultOfOpening, IsOpenedFrom, opened_
 use Rattle.cdb_journal.proofs.RepliesToSeats.{read_few}
 use Rattle.cdb_rules.specs.RunView.{RunView}
 use Rattle.cdb_rules.specs.Rules.{Rules}
+use Rattle.cdb_session.specs.Exchanges.{Answer}
 use Rattle.cdb_session.specs.declared.inquiry.Inquiry.{Inquiry}
 use Rattle.cdb_setup.specs.Faults.{IfFault}
 use Rattle.cdb_setup.specs.Format.{Encodes, longest}
@@ -25,7 +26,7 @@ use Rattle.cdb_streams.specs.declared.script.ScriptFault.TheVariants as bad
 use Rattle.cdb_session.specs.Alone.{whole_part, IsLaterControl, nine}
 use Rattle.cdb_session.specs.Debugs as table
 use Rattle.cdb_session.specs.Greetings.{greeting_at, greeting_text}
-use Rattle.cdb_session.specs.Moves.{Known, Move, read_in, written_in}
+use Rattle.cdb_session.specs.Moves.{Known, Move, Output, read_in, written_in}
 use Rattle.cdb_session.specs.Answers.{HasExchanges}
 use Rattle.cdb_session.specs.Requests.{ended_lines}
 use Rattle.cdb_session.specs.Since.{since}
@@ -38,12 +39,12 @@ use Rattle.cdb_session.proofs.OwnControl.{later_control}
 
 -- ---- by its journal, and by the table
 
-module _ (rules : Parts → Rules) (Answers : RunView → Inquiry → List ℕ → Type 0) (greeting prompt : List ℕ) (given : Parts) (before : List Entry)
+module _ (rules : Parts → Rules) (Answers : RunView → Inquiry → Answer → Type 0) (greeting prompt : List ℕ) (given : Parts) (before : List Entry)
     (c : Journaled) (of : c.setup ≡ given) (seats : c.seats ≡ MAX_SEATS) (begins : Begins before c.journal) (few : length c.journal ≤ MAX_ENTRIES) where
-  answered : (lines : List (List ℕ)) (text : List ℕ) → IsAnswered Answers (nine greeting prompt) (came rules c before) lines text
-      → IsDialogue Answers greeting prompt (begun rules given before) lines text
-  answered lines text (exchanges, others, asked, is, has) =
-      subst (λ (parts : Parts). IsDialogue Answers greeting prompt (begun rules parts before) lines text) of (
+  answered : (lines : List (List ℕ)) (outputs : List Output) → IsAnswered Answers (nine greeting prompt) (came rules c before) lines outputs
+      → IsDialogue Answers greeting prompt (begun rules given before) lines outputs
+  answered lines outputs (exchanges, others, asked, is, has) =
+      subst (λ (parts : Parts). IsDialogue Answers greeting prompt (begun rules parts before) lines outputs) of (
         exchanges,
         asked,
         all_answered Answers greeting prompt rules c before exchanges others seats begins few has,
@@ -51,10 +52,10 @@ module _ (rules : Parts → Rules) (Answers : RunView → Inquiry → List ℕ �
             ∙ nothing_lost Answers greeting prompt rules c before exchanges others seats begins few has,
       )
 
-  served : (lines : List (List ℕ)) (text : List ℕ) → IsServed Answers (nine greeting prompt) (came rules c before) lines text
-      → IsDialogue Answers greeting prompt (begun rules given before) lines text
-  served lines text (exchanges, asked, is, has) =
-      answered lines text (exchanges, [], asked, is, subst (HasExchanges Answers (nine greeting prompt) (came rules c before)) (sym (append-nil exchanges)) has)
+  served : (lines : List (List ℕ)) (outputs : List Output) → IsServed Answers (nine greeting prompt) (came rules c before) lines outputs
+      → IsDialogue Answers greeting prompt (begun rules given before) lines outputs
+  served lines outputs (exchanges, asked, is, has) =
+      answered lines outputs (exchanges, [], asked, is, subst (HasExchanges Answers (nine greeting prompt) (came rules c before)) (sym (append-nil exchanges)) has)
 
   ends : (returned : Result (Unit {0}) PlayFault) (moves : List Move) → EndsAs (IsAnswered Answers (nine greeting prompt) (came rules c before))
       (IsServed Answers (nine greeting prompt) (came rules c before)) (IsCutShort Answers (nine greeting prompt) (came rules c before)) returned moves
@@ -67,11 +68,11 @@ module _ (rules : Parts → Rules) (Answers : RunView → Inquiry → List ℕ �
     record {
       lines = e.0.lines;
       others = e.0.others;
-      text = e.0.text;
+      outputs = e.0.outputs;
       missing = e.0.missing;
       begins =
           e.0.begins;
-      responded = served e.0.lines e.0.text e.0.responded;
+      responded = served e.0.lines e.0.outputs e.0.responded;
       written = e.0.written;
     },
     e.1,
@@ -131,7 +132,7 @@ journal_failed json journal seats given encodes bad.TooLong is = ((given, encode
 journal_failed json journal seats given encodes (bad.NoMemory refused) is = encodes.0
 
 -- from a control that goes on from a journal to one that the session has left
-pub debugged : (rules : Parts → Rules) (Answers : RunView → Inquiry → List ℕ → Type 0) (prompt json journal : List ℕ) (old new : Known) (given : Parts)
+pub debugged : (rules : Parts → Rules) (Answers : RunView → Inquiry → Answer → Type 0) (prompt json journal : List ℕ) (old new : Known) (given : Parts)
     → Encodes json given → (first last : Journaled) → IsOpenedFrom given MAX_SEATS journal first → Onward IsLaterControl first last
     → (returned : Result (Unit {0}) PlayFault) → HoldsSession Answers (nine (greeting_at prompt (greeting_text given)) prompt)
     (since (whole_part rules first) (whole_part rules last)) returned old new → table.Debugs rules Answers prompt json journal returned old new

@@ -1,7 +1,7 @@
 -- What one line does to a session, and to what the journal has of it.
 use Rattle.std.proofs.Common.{◌≡◌, ◌≢◌, ◌⊎◌, inl, inr, ℕ, zero, suc, ◌+◌, ◌-◌, ◌<◌, ◌≤◌, Bool, true, false, List, [], ◌∷◌, ◌++◌}
 use Rattle.std.proofs.Common.{drop, length, refl, sym, ap, subst, ◌∙◌, append_assoc, append-nil, arith, length-append, min}
-use Rattle.std.specs.Prelude.{◌||◌, fold, if◌then◌else◌, replicate, is_some, unwrap_or, MatchBool, Option, None, Some}
+use Rattle.std.specs.Prelude.{◌||◌, fold, if◌then◌else◌, replicate, is_some, unwrap_or, MatchBool, Option, None, Some, Ok}
 use Rattle.std.proofs.lemmas.Bool.{cases_lt}
 use Rattle.std.proofs.lemmas.List.{length-replicate, replicate-append-replicate, nil_from_length}
 use Rattle.cdb_commands.specs.ReplyView.{ReplyView, is_refused}
@@ -11,7 +11,8 @@ use Rattle.cdb_control.specs.declared.control.Entry.{Entry}
 use Rattle.cdb_rules.specs.RunView.{RunView}
 use Rattle.cdb_text.specs.Texts.{text_of}
 use Rattle.cdb_session.specs.Answers.{AnswersNow, AreTold, IsAnsweredAfter, IsDoneAfter, HasExchanges}
-use Rattle.cdb_session.specs.Exchanges.{Exchange, Effect, given_at, commands_among}
+use Rattle.cdb_session.specs.Exchanges.{Answer, Exchange, Effect, given_at, commands_among}
+use Rattle.cdb_session.specs.Moves.{says}
 use Rattle.cdb_session.specs.declared.inquiry.Inquiry.{Inquiry}
 use Rattle.cdb_session.specs.declared.request.Request.{Request}
 use Rattle.cdb_session.specs.declared.request.Request.TheVariants.{Call, Ask, Watch, Seat, Help, Quit, Fault, TooLong}
@@ -92,7 +93,7 @@ given_not Quit effect other = refl
 given_not (Fault fault) effect other = refl
 given_not TooLong effect other = refl
 
-pub none_done : (Answers : RunView → Inquiry → List ℕ → Type 0) (seat : ℕ) (old new : Part) (request : Request) (effect : Effect)
+pub none_done : (Answers : RunView → Inquiry → Answer → Type 0) (seat : ℕ) (old new : Part) (request : Request) (effect : Effect)
     → MakesNone old new → ((command : Command) (times : ℕ) → request ≢ Call command times)
     → ((inquiry : Inquiry) → request ≡ Ask inquiry → AnswersNow Answers new inquiry effect.answer)
     → HasDone Answers seat old (request, effect) [] new
@@ -145,7 +146,7 @@ given_same (suc times) [] more fits last = ap (times_given (suc times)) (last (o
 given_same (suc times) (reply ∷ got) more fits last =
     by_reply (times_given times (got ++ more)) (times_given times got) (length got) more (is_refused reply) (given_same times got more) fits last
 
-module _ (Answers : RunView → Inquiry → List ℕ → Type 0) (style : StyleView) where
+module _ (Answers : RunView → Inquiry → Answer → Type 0) (style : StyleView) where
   abbrev with_replies : ℕ → ℕ → Option ℕ → List ReplyView → Along
   with_replies seat lines watched replies = record { seat = seat; replies = replies; lines = lines; watched = watched }
 
@@ -167,7 +168,7 @@ module _ (Answers : RunView → Inquiry → List ℕ → Type 0) (style : StyleV
   pub same_line : (seat : ℕ) (old : Part) (exchange : Exchange) (got : List ReplyView) (new : Part) → HasDone Answers seat old exchange got new
       → (more : List ReplyView) → MoreMayFollow more new → (lines : ℕ) (watched : Option ℕ) → SameLine seat exchange got more lines watched
   same_line seat old (Call command times, effect) got new done more may lines watched = (
-    ap (λ text. (effect.news ++ text) ++ style.prompt) (texts_same effect.given got more done.fits (λ low. may (done.full low))),
+    ap (λ text. says (effect.news ++ text) ++ says style.prompt) (texts_same effect.given got more done.fits (λ low. may (done.full low))),
     ap (with_replies seat (lines + 1) (watched_next watched (Call command times, effect)))
         (left_same effect.given got more done.fits (λ low. may (done.full low))),
   )
@@ -414,7 +415,7 @@ module _ (Answers : RunView → Inquiry → List ℕ → Type 0) (style : StyleV
           → HasPart exchanges replies new request
       commands_lost (Call command times) begun effect looked left has =
           let got = begun.got in
-          let exchange : Exchange = (Call command (length got), record { seen = effect.seen; news = effect.news; given = length got; answer = [] }) in
+          let exchange : Exchange = (Call command (length got), record effect { given = length got; answer = Ok [] }) in
           let done : HasDone Answers seat old exchange got new =
           record {
             calls = begun.calls;
@@ -454,7 +455,7 @@ all_given (suc times) (reply ∷ got) fits = whole (is_refused reply) got (times
     whole true got here rest fits = let few : length got ≡ 0 = omega (arith, fits) in omega (arith, few)
     whole false got here rest fits = let e = rest (omega (arith, fits)) in omega (arith, e)
 
-pub begun_where_done : (Answers : RunView → Inquiry → List ℕ → Type 0) (seat : ℕ) (old new : Part) (request : Request)
+pub begun_where_done : (Answers : RunView → Inquiry → Answer → Type 0) (seat : ℕ) (old new : Part) (request : Request)
     (effect : Effect) (got : List ReplyView) → HasDone Answers seat old (request, effect) got new → HasBegun seat old request new
 begun_where_done Answers seat old new (Call command times) effect got done =
     let fits : length got ≤ times_given times got = omega (arith, done.fits, done.given) in

@@ -43,6 +43,7 @@ its_topic (Some word) = elim word as (λ (t : Topic). topic_in (help_line (Some 
   | topic.Decisions ↦ refl
   | topic.Explain ↦ refl
   | topic.Trail ↦ refl
+  | topic.Draw ↦ refl
   | topic.Watch ↦ refl
   | topic.Unwatch ↦ refl
   | topic.Help ↦ refl

@@ -3,7 +3,9 @@ use Rattle.std.proofs.Common.{◌≡◌, ℕ, ◌<◌, List, [], ◌∷◌, leng
 use Rattle.std.specs.Prelude.{Result, Ok, Err}
 use Rattle.std.specs.Io.{ReadsAtMost}
 use Rattle.std.specs.Io.KnownBytes.{Consumes, IsAtEnd, ReadConsumes}
-use Rattle.cdb_session.specs.Moves.{Move, Read, ReadFailed, Wrote, WriteFailed, read_in, FindsTheEnd, AreAllOf, move_of_read, move_of_write}
+use Rattle.cdb_session.specs.Moves.{Move, Read, ReadFailed, Saving, Wrote, WriteFailed, Saves, Continues, read_in, saved_in, FindsTheEnd, AreAllOf}
+use Rattle.cdb_session.specs.Moves.{move_of_read, move_of_write}
+use Rattle.cdb_session.proofs.MovesInOrder.{Continues-nothing}
 
 -- the one move is a read of nothing
 only_move : (move : Move) → FindsTheEnd (move ∷ []) → move ≡ Read []
@@ -42,3 +44,21 @@ read_to_end E old new (Ok count) buffer some within consumes finds =
 pub write_is_no_end : (E : Type 0) (A : Type 0) (result : Result ℕ E) (piece : List ℕ) → FindsTheEnd (move_of_write result piece ∷ []) → A
 write_is_no_end E A (Ok count) piece finds = absurd (write_is_no_read (take count piece) (only_move _ finds))
 write_is_no_end E A (Err e) piece finds = absurd (failed_write_is_no_read (only_move _ finds))
+
+-- neither saves anything
+pub read_saves_none : (E : Type 0) (known : Option (List Saving)) (result : Result ℕ E) (buffer : List ℕ)
+    → Continues known known (saved_in (move_of_read result buffer ∷ []))
+read_saves_none E known (Ok count) buffer = Continues-nothing known
+read_saves_none E known (Err e) buffer = Continues-nothing known
+
+pub write_saves_none : (E : Type 0) (known : Option (List Saving)) (result : Result ℕ E) (piece : List ℕ)
+    → Continues known known (saved_in (move_of_write result piece ∷ []))
+write_saves_none E known (Ok count) piece = Continues-nothing known
+write_saves_none E known (Err e) piece = Continues-nothing known
+
+-- nor is a file
+file_is_no_read : (saving : Saving) → Saves saving ≡ Read [] → ⊥
+file_is_no_read saving e = cc
+
+pub file_is_no_end : (A : Type 0) (saving : Saving) → FindsTheEnd (Saves saving ∷ []) → A
+file_is_no_end A saving finds = absurd (file_is_no_read saving (only_move _ finds))

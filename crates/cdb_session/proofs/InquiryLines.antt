@@ -12,12 +12,12 @@ use Rattle.cdb_text.specs.Grammar.{IsInRange, part_text, words_of}
 use Rattle.cdb_text.specs.Readers.{number_of}
 use Rattle.cdb_text.proofs.Cut.{some_word}
 use Rattle.cdb_text.proofs.Numbers.{number_again, number_says}
-use Rattle.cdb_session.specs.Inquiries.{AreStepWords, IsInquiryLine, inquiry_word, numbers_of, step_asked}
-use Rattle.cdb_session.specs.InquiryWords.{step_with, last_step, numbered_step, step_in, with_count, repeat_in, inquiry_in}
+use Rattle.cdb_session.specs.Inquiries.{AreAnyStepWords, AreInquiryWords, AreStepWords, IsInquiryLine, inquiry_word, is_file_name, numbers_of}
+use Rattle.cdb_session.specs.InquiryWords.{step_with, last_step, numbered_step, step_in, with_count, repeat_in, any_step_in, drawing_in, inquiry_in}
 use Rattle.cdb_session.specs.Repeats.{IsRepeatLine, repeat_parts}
 use Rattle.cdb_session.specs.Requests.{help_line, quit_line, seat_line, watch_line}
 use Rattle.cdb_session.specs.declared.inquiry.Inquiry.{Inquiry}
-use Rattle.cdb_session.specs.declared.inquiry.Inquiry.TheVariants.{Explain, Trail}
+use Rattle.cdb_session.specs.declared.inquiry.Inquiry.TheVariants.{Explain, Trail, Draw}
 use Rattle.cdb_session.specs.declared.topic.Topic.{Topic}
 use Rattle.cdb_session.proofs.HelpLines.{begins_with_h}
 
@@ -34,26 +34,31 @@ first_byte line (Explain step) (others, is, words) =
     ∙ first_of_words (codes "explain") others (omega arith)
 first_byte line (Trail step) (others, is, words) =
     ap (λ bytes. get_or bytes 0 0) (sym (join_with_byte-slice_split 32 line) ∙ ap (join_with_byte 32) is) ∙ first_of_words (codes "trail") others (omega arith)
+first_byte line (Draw name step) (others, is, words) =
+    ap (λ bytes. get_or bytes 0 0) (sym (join_with_byte-slice_split 32 line) ∙ ap (join_with_byte 32) is) ∙ first_of_words (codes "draw") others (omega arith)
 
 -- no line of another kind begins with that byte
 begins_so : (line other : List ℕ) (byte : ℕ) (inquiry : Inquiry) → IsInquiryLine inquiry line
-    → line ≡ other → get_or other 0 0 ≡ byte → byte ≢ 101 → byte ≢ 116 → ⊥
-begins_so line other byte (Explain step) is same first no_e no_t =
+    → line ≡ other → get_or other 0 0 ≡ byte → byte ≢ 101 → byte ≢ 116 → byte ≢ 100 → ⊥
+begins_so line other byte (Explain step) is same first no_e no_t no_d =
     no_e (sym first ∙ ap (λ bytes. get_or bytes 0 0) (sym same) ∙ first_byte line (Explain step) is)
-begins_so line other byte (Trail step) is same first no_e no_t = no_t (sym first ∙ ap (λ bytes. get_or bytes 0 0) (sym same) ∙ first_byte line (Trail step) is)
+begins_so line other byte (Trail step) is same first no_e no_t no_d =
+    no_t (sym first ∙ ap (λ bytes. get_or bytes 0 0) (sym same) ∙ first_byte line (Trail step) is)
+begins_so line other byte (Draw name step) is same first no_e no_t no_d =
+    no_d (sym first ∙ ap (λ bytes. get_or bytes 0 0) (sym same) ∙ first_byte line (Draw name step) is)
 
 pub no_help : (line : List ℕ) (inquiry : Inquiry) → IsInquiryLine inquiry line → (about : Option Topic) → line ≡ help_line about → ⊥
-no_help line inquiry is about same = begins_so line (help_line about) 104 inquiry is same (begins_with_h about) (λ e. omega (arith, e)) (λ e. omega (arith, e))
+no_help line inquiry is about same = begins_so line (help_line about) 104 inquiry is same (begins_with_h about) (λ e. omega (arith, e)) (λ e. omega (arith, e)) (λ e. omega (arith, e))
 
 pub no_quit : (line : List ℕ) (inquiry : Inquiry) → IsInquiryLine inquiry line → line ≡ quit_line → ⊥
-no_quit line inquiry is same = begins_so line quit_line 113 inquiry is same refl (λ e. omega (arith, e)) (λ e. omega (arith, e))
+no_quit line inquiry is same = begins_so line quit_line 113 inquiry is same refl (λ e. omega (arith, e)) (λ e. omega (arith, e)) (λ e. omega (arith, e))
 
 pub no_seat : (line : List ℕ) (inquiry : Inquiry) → IsInquiryLine inquiry line → (seat : ℕ) → line ≡ seat_line seat → ⊥
-no_seat line inquiry is seat same = begins_so line (seat_line seat) 115 inquiry is same refl (λ e. omega (arith, e)) (λ e. omega (arith, e))
+no_seat line inquiry is seat same = begins_so line (seat_line seat) 115 inquiry is same refl (λ e. omega (arith, e)) (λ e. omega (arith, e)) (λ e. omega (arith, e))
 
 pub no_watch : (line : List ℕ) (inquiry : Inquiry) → IsInquiryLine inquiry line → (begins : Bool) → line ≡ watch_line begins → ⊥
-no_watch line inquiry is true same = begins_so line (watch_line true) 119 inquiry is same refl (λ e. omega (arith, e)) (λ e. omega (arith, e))
-no_watch line inquiry is false same = begins_so line (watch_line false) 117 inquiry is same refl (λ e. omega (arith, e)) (λ e. omega (arith, e))
+no_watch line inquiry is true same = begins_so line (watch_line true) 119 inquiry is same refl (λ e. omega (arith, e)) (λ e. omega (arith, e)) (λ e. omega (arith, e))
+no_watch line inquiry is false same = begins_so line (watch_line false) 117 inquiry is same refl (λ e. omega (arith, e)) (λ e. omega (arith, e)) (λ e. omega (arith, e))
 
 -- ---- what is read in its words
 
@@ -93,45 +98,104 @@ step_says (first ∷ []) step e = words_say first (number_of first) step refl e
 step_says (first ∷ second ∷ []) step e = both_say first second (number_of first) (number_of second) step refl refl e
 step_says (first ∷ second ∷ third ∷ words) step e = cc
 
+-- ---- a file, and maybe a step
+
+none_named : (p : ℕ) (k : Option ℕ) → [] ≡ map part_text (numbers_of p k) → ⊥
+none_named p None e = cc
+none_named p (Some k) e = cc
+
+any_read_again : (step : Option StepAsked) (words : List (List ℕ)) → AreAnyStepWords step words → any_step_in words ≡ Some step
+unfolding any_step_in
+any_read_again None words is = ap any_step_in is
+any_read_again (Some step) [] is = let never = is.are in absurd (none_named step.p step.k never)
+any_read_again (Some step) (word ∷ words) is = ap (option_map Some) (read_again step (word ∷ words) is)
+
+named_so : (words : List (List ℕ)) (found : Option StepAsked) (step : Option StepAsked) → step_in words ≡ found → option_map Some found ≡ Some step
+    → AreAnyStepWords step words
+named_so words None step reads e = cc
+named_so words (Some its) None reads e = cc
+named_so words (Some its) (Some step) reads e = let same : its ≡ step = cc in step_says words step (reads ∙ ap Some same)
+
+any_step_says : (words : List (List ℕ)) (step : Option StepAsked) → any_step_in words ≡ Some step → AreAnyStepWords step words
+unfolding any_step_in
+any_step_says [] None e = refl
+any_step_says [] (Some step) e = cc
+any_step_says (word ∷ words) step e = named_so (word ∷ words) (step_in (word ∷ words)) step refl e
+
+draws_again : (name : List ℕ) (step : Option StepAsked) (words : List (List ℕ)) → AreInquiryWords (Draw name step) words
+    → drawing_in words ≡ Some (Draw name step)
+unfolding drawing_in
+draws_again name step words (named, others, are, its) =
+    ap drawing_in are ∙ (rw named (ap (option_map (Draw name)) (any_read_again step others its)))
+
+drawn : (name : List ℕ) (others : List (List ℕ)) (found : Option (Option StepAsked)) (inquiry : Inquiry) → any_step_in others ≡ found
+    → option_map (Draw name) found ≡ Some inquiry → is_file_name name ≡ true → (inquiry_word inquiry ≡ codes "draw") × AreInquiryWords inquiry (name ∷ others)
+drawn name others None inquiry reads e is = cc
+drawn name others (Some step) inquiry reads e is =
+    let same : Draw name step ≡ inquiry = cc in
+    subst (λ (i : Inquiry). (inquiry_word i ≡ codes "draw") × AreInquiryWords i (name ∷ others)) same
+    (refl, (is, others, refl, any_step_says others step reads))
+
+draws_say : (words : List (List ℕ)) (inquiry : Inquiry) → drawing_in words ≡ Some inquiry → (inquiry_word inquiry ≡ codes "draw") × AreInquiryWords inquiry words
+unfolding drawing_in
+draws_say [] inquiry e = cc
+draws_say (name ∷ others) inquiry e =
+    elim (cases_Bool (is_file_name name)) [
+      | inl is ↦ drawn name others (any_step_in others) inquiry refl (rw is at e) is
+      | inr other ↦ let never = rw other at e in cc
+    ]
+
+-- words that a line has are at least one
+any_of_some : (words : List (List ℕ)) → words ≢ [] → any_step_in words ≡ option_map Some (step_in words)
+unfolding any_step_in
+any_of_some [] some = absurd (some refl)
+any_of_some (word ∷ words) some = refl
+
+pub any_of_line : (line : List ℕ) (found : Option StepAsked) → found ≡ step_in (words_of line) → option_map Some found ≡ any_step_in (words_of line)
+any_of_line line found is = ap (option_map Some) is ∙ sym (any_of_some (words_of line) (some_word line))
+
 -- ---- what the line asks
 
 pub inquiry_again : (line : List ℕ) (inquiry : Inquiry) → IsInquiryLine inquiry line → inquiry_in (words_of line) ≡ Some inquiry
 unfolding inquiry_in
 inquiry_again line (Explain step) (others, is, words) = ap inquiry_in is ∙ ap (option_map Explain) (read_again step others words)
 inquiry_again line (Trail step) (others, is, words) = ap inquiry_in is ∙ ap (option_map Trail) (read_again step others words)
+inquiry_again line (Draw name step) (others, is, words) = ap inquiry_in is ∙ draws_again name step others words
 
 pub one_inquiry : (line : List ℕ) (one other : Inquiry) → IsInquiryLine one line → IsInquiryLine other line → one ≡ other
 one_inquiry line one other is is_other = let e = sym (inquiry_again line one is) ∙ inquiry_again line other is_other in cc
 
-explains : (others : List (List ℕ)) (found : Option StepAsked) (inquiry : Inquiry) → step_in others ≡ found
-    → option_map Explain found ≡ Some inquiry → (inquiry_word inquiry ≡ codes "explain") × AreStepWords (step_asked inquiry) others
-explains others None inquiry reads e = cc
-explains others (Some step) inquiry reads e =
-    let same : Explain step ≡ inquiry = cc in
-    subst (λ (i : Inquiry). (inquiry_word i ≡ codes "explain") × AreStepWords (step_asked i) others) same (refl, step_says others step reads)
+-- what such words ask, which make an inquiry of a step
+steps_say : (make : StepAsked → Inquiry) (first : List ℕ) → ((s : StepAsked) → inquiry_word (make s) ≡ first)
+    → ((s : StepAsked) (others : List (List ℕ)) → AreStepWords s others → AreInquiryWords (make s) others)
+    → (others : List (List ℕ)) (found : Option StepAsked) (inquiry : Inquiry) → step_in others ≡ found → option_map make found ≡ Some inquiry
+    → (inquiry_word inquiry ≡ first) × AreInquiryWords inquiry others
+steps_say make first word_is words_are others None inquiry reads e = cc
+steps_say make first word_is words_are others (Some step) inquiry reads e =
+    let same : make step ≡ inquiry = cc in
+    subst (λ (i : Inquiry). (inquiry_word i ≡ first) × AreInquiryWords i others) same (word_is step, words_are step others (step_says others step reads))
 
-trails : (others : List (List ℕ)) (found : Option StepAsked) (inquiry : Inquiry) → step_in others ≡ found
-    → option_map Trail found ≡ Some inquiry → (inquiry_word inquiry ≡ codes "trail") × AreStepWords (step_asked inquiry) others
-trails others None inquiry reads e = cc
-trails others (Some step) inquiry reads e =
-    let same : Trail step ≡ inquiry = cc in
-    subst (λ (i : Inquiry). (inquiry_word i ≡ codes "trail") × AreStepWords (step_asked i) others) same (refl, step_says others step reads)
+begins_with : (word : List ℕ) (others : List (List ℕ)) (inquiry : Inquiry) (first : List ℕ) → bytes_eq word first ≡ true
+    → (inquiry_word inquiry ≡ first) × AreInquiryWords inquiry others
+    → (rest : List (List ℕ)) × (word ∷ others ≡ inquiry_word inquiry ∷ rest) × AreInquiryWords inquiry rest
+begins_with word others inquiry first is its = (others, ap (λ (w : List ℕ). w ∷ others) ((bytes_eq-Decides word first).0 is ∙ sym its.0), its.1)
 
 words_ask : (words : List (List ℕ)) (inquiry : Inquiry) → inquiry_in words ≡ Some inquiry
-    → (others : List (List ℕ)) × (words ≡ inquiry_word inquiry ∷ others) × AreStepWords (step_asked inquiry) others
+    → (others : List (List ℕ)) × (words ≡ inquiry_word inquiry ∷ others) × AreInquiryWords inquiry others
 unfolding inquiry_in
 words_ask [] inquiry e = cc
 words_ask (word ∷ others) inquiry e =
     elim (cases_Bool (bytes_eq word (codes "explain"))) [
-      | inl is ↦
-          let its = explains others (step_in others) inquiry refl (rw is at e) in
-          (others, ap (λ (w : List ℕ). w ∷ others) ((bytes_eq-Decides word (codes "explain")).0 is ∙ sym its.0), its.1)
+      | inl is ↦ begins_with word others inquiry (codes "explain") is (steps_say Explain (codes "explain") (λ s. refl) (λ s words its. its) others (step_in others) inquiry refl (rw is at e))
       | inr other ↦
           elim (cases_Bool (bytes_eq word (codes "trail"))) [
             | inl is ↦
-                let its = trails others (step_in others) inquiry refl (rw (other, is) at e) in
-                (others, ap (λ (w : List ℕ). w ∷ others) ((bytes_eq-Decides word (codes "trail")).0 is ∙ sym its.0), its.1)
-            | inr neither ↦ let never = rw (other, neither) at e in cc
+                begins_with word others inquiry (codes "trail") is (steps_say Trail (codes "trail") (λ s. refl) (λ s words its. its) others (step_in others) inquiry refl (rw (other, is) at e))
+            | inr neither ↦
+                elim (cases_Bool (bytes_eq word (codes "draw"))) [
+                  | inl is ↦ begins_with word others inquiry (codes "draw") is (draws_say others inquiry (rw (other, neither, is) at e))
+                  | inr none ↦ let never = rw (other, neither, none) at e in cc
+                ]
           ]
     ]
 
@@ -165,6 +229,9 @@ pub repeats_no_inquiry : (line : List ℕ) (inquiry : Inquiry) (p times : ℕ) �
 repeats_no_inquiry line (Explain step) p times is repeats = let e : 101 ≡ 97 = sym (first_byte line (Explain step) is) ∙ first_of_repeat line p times repeats in
     omega (arith, e)
 repeats_no_inquiry line (Trail step) p times is repeats = let e : 116 ≡ 97 = sym (first_byte line (Trail step) is) ∙ first_of_repeat line p times repeats in
+    omega (arith, e)
+repeats_no_inquiry line (Draw name step) p times is repeats =
+    let e : 100 ≡ 97 = sym (first_byte line (Draw name step) is) ∙ first_of_repeat line p times repeats in
     omega (arith, e)
 
 pub repeat_again : (line : List ℕ) (p times : ℕ) → IsRepeatLine p times line → repeat_in (words_of line) ≡ Some (p, times)

@@ -5,7 +5,8 @@ use Rattle.std.specs.Io.KnownBytes.{Appends, Consumes}
 use Rattle.std.proofs.KnownBytes.{Appends-nil, Appends-trans, Consumes-nil, Consumes-trans}
 use Rattle.std.proofs.lemmas.Grind.{flat_map-append, fold-append}
 use Rattle.cdb_streams.specs.Streams.{counted}
-use Rattle.cdb_session.specs.Moves.{Known, Move, Read, ReadFailed, Wrote, WriteFailed, given_by, written_by, read_in, written_in, AsksForInput}
+use Rattle.cdb_session.specs.Moves.{Known, Move, Read, ReadFailed, Wrote, WriteFailed, Saves, given_by, said_by, saved_by, written_by, read_in}
+use Rattle.cdb_session.specs.Moves.{said_in, saved_in, written_in, AsksForInput}
 use Rattle.cdb_session.specs.Moves.{AreWrites, EndsWith, FindsTheEnd, Continues, AreAllOf, Makes, count_on, is_failed_read, is_failed_write}
 
 -- such a property holds at each move that asks, of those before it
@@ -60,17 +61,19 @@ nothing_read (Read bytes ∷ made) are = absurd (are.0 tt)
 nothing_read (ReadFailed ∷ made) are = absurd (are.0 tt)
 nothing_read (Wrote bytes ∷ made) are = nothing_read made are.1
 nothing_read (WriteFailed ∷ made) are = nothing_read made are.1
+nothing_read (Saves saving ∷ made) are = nothing_read made are.1
 
--- moves that are known, one list after the other
-Continues-nothing : (moves : Option (List Move)) → Continues moves moves []
+-- what is known, one list after the other
+pub Continues-nothing : {A : Type 0} (known : Option (List A)) → Continues known known []
 Continues-nothing None = tt
-Continues-nothing (Some moves) = sym (append-nil moves)
+Continues-nothing (Some known) = sym (append-nil known)
 
-Continues-more : (old now new : Option (List Move)) (made more : List Move) → Continues old now made → Continues now new more → Continues old new (made ++ more)
+Continues-more : {A : Type 0} (old now new : Option (List A)) (made more : List A) → Continues old now made → Continues now new more
+    → Continues old new (made ++ more)
 Continues-more None now new made more e f = tt
 Continues-more (Some old) None new made more e f = absurd e
 Continues-more (Some old) (Some now) None made more e f = absurd f
-Continues-more (Some old) (Some now) (Some new) made more e f = f ∙ ap (λ moves. moves ++ more) e ∙ append_assoc old made more
+Continues-more (Some old) (Some now) (Some new) made more e f = f ∙ ap (λ its. its ++ more) e ∙ append_assoc old made more
 
 -- the count of such moves goes on
 count_more : (is_such : Move → Bool) (old now new : ℕ) (made more : List Move)
@@ -136,6 +139,7 @@ Makes-nothing known = record {
   left = Consumes-nil known.left;
   all = no_end _;
   held = Appends-nil known.held;
+  saved = Continues-nothing known.saved;
   failed_reads = refl;
   failed_writes = refl;
 }
@@ -147,8 +151,11 @@ Makes-more old now new made more e f = record {
       subst (Consumes old.left new.left) (sym (read-append made more)) (Consumes-trans old.left now.left new.left (read_in made) (read_in more) e.left f.left);
   all = all_read old.left now.left made more e.left e.all f.all;
   held =
-      subst (Appends old.held new.held) (sym (written-append made more))
-      (Appends-trans old.held now.held new.held (written_in made) (written_in more) e.held f.held);
+      subst (Appends old.held new.held) (sym (flat_map-append said_by made more))
+      (Appends-trans old.held now.held new.held (said_in made) (said_in more) e.held f.held);
+  saved =
+      subst (Continues old.saved new.saved) (sym (flat_map-append saved_by made more))
+      (Continues-more old.saved now.saved new.saved (saved_in made) (saved_in more) e.saved f.saved);
   failed_reads = count_more is_failed_read old.failed_reads now.failed_reads new.failed_reads made more e.failed_reads f.failed_reads;
   failed_writes = count_more is_failed_write old.failed_writes now.failed_writes new.failed_writes made more e.failed_writes f.failed_writes;
 }

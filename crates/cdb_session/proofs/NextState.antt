@@ -15,10 +15,10 @@ use Rattle.cdb_setup.specs.Format.{longest}
 use Rattle.cdb_session.specs.Unfinished.{IsOver, with_ends, unfinished_of, part_with, ended_well, ended_by}
 use Rattle.cdb_session.specs.Typed.{line_meant}
 use Rattle.cdb_session.specs.Requests.{HasNoEnd, Asks, AsksFor, AsksForNoLess, AreAsked, HaveQuit, IsQuit, ended_lines, up_to_quit}
-use Rattle.cdb_session.specs.Moves.{Move, Read, ReadFailed, read_in, written_in, AsksForInput, AreWrites, FailsToWrite, EndsWith}
+use Rattle.cdb_session.specs.Moves.{Move, Output, Read, ReadFailed, says, read_in, written_in, AsksForInput, AreWrites, FailsToWrite, EndsWith}
 use Rattle.cdb_session.specs.Sessions.{most_input, HasEnded, IsOpen, HasResponded, RespondsInTime, by_quit, at_end, at_most}
 use Rattle.cdb_rules.specs.RunView.{RunView}
-use Rattle.cdb_session.specs.Exchanges.{Exchange}
+use Rattle.cdb_session.specs.Exchanges.{Answer, Exchange}
 use Rattle.cdb_session.specs.declared.inquiry.Inquiry.{Inquiry}
 use Rattle.cdb_session.specs.declared.request.Request.TheVariants.{Quit}
 use Rattle.cdb_session.proofs.AskedLines.{asks_whole, is_not_quit, AreOthers, AllZip-more, AreOthers-more}
@@ -91,7 +91,7 @@ over_more moves made writes (inr most) =
     at_most (subst (λ bytes. most_input ≤ length bytes)
     (sym (read-append moves made ∙ ap (λ more. read_in moves ++ more) (nothing_read made writes) ∙ append-nil (read_in moves))) most)
 
-module _ (Answers : RunView → Inquiry → List ℕ → Type 0) (style : StyleView) (replies : List ReplyView) where
+module _ (Answers : RunView → Inquiry → Answer → Type 0) (style : StyleView) (replies : List ReplyView) where
   module _ (moves : List Move) (part : Part) (along : Along) (unfinished left : List ℕ) (at : IsAt Answers style replies moves part along unfinished left) where
     -- bytes that end no line are held
     pub more_unfinished : (more behind kept : List ℕ) → left ≡ more ++ behind → HasNoEnd more
@@ -261,7 +261,7 @@ module _ (Answers : RunView → Inquiry → List ℕ → Type 0) (style : StyleV
 
     -- the writing failed
     broken : (others : List (List ℕ)) → lines_of (read_in moves) ≡ (at.lines ++ at.line ∷ []) ++ others
-        → (missing : List ℕ) → shown style along exchange ≡ written_in made ++ missing → EndsWith FailsToWrite made
+        → (missing : List Output) → shown style along exchange ≡ written_in made ++ missing → EndsWith FailsToWrite made
         → (new : Part) → HasExchanges Answers style (part_with replies new) (at.exchanges ++ exchange ∷ [])
         → IsSession Answers style (part_with replies new) (ended_by output.Write) (moves ++ made)
     broken others begins missing said fails new has =
@@ -271,7 +271,7 @@ module _ (Answers : RunView → Inquiry → List ℕ → Type 0) (style : StyleV
             record {
               lines = at.lines ++ at.line ∷ [];
               others = others;
-              text = dialogue style replies (at.exchanges ++ exchange ∷ []);
+              outputs = dialogue style replies (at.exchanges ++ exchange ∷ []);
               missing = missing;
               begins = ap lines_of same_read ∙ begins;
               responded = (at.exchanges ++ exchange ∷ [], asked_with at.exchanges at.lines exchange at.line at.asked at.goes_on whole_line, refl, has);
@@ -307,7 +307,7 @@ module _ (Answers : RunView → Inquiry → List ℕ → Type 0) (style : StyleV
         (all at.line (whole_line moves part along unfinished (10 ∷ left) at exchange asks [] tt)) (lines_of left) now_lines has
 
     module _ (has : HasExchanges Answers style (part_with replies new) (at.exchanges ++ exchange ∷ [])) (made : List Move) (writes : AreWrites made) where
-      pub line_broken : (missing : List ℕ) → shown style along exchange ≡ written_in made ++ missing
+      pub line_broken : (missing : List Output) → shown style along exchange ≡ written_in made ++ missing
           → EndsWith FailsToWrite made → IsSession Answers style (part_with replies new) (ended_by output.Write) (moves ++ made)
       line_broken missing said fails =
           broken moves part along unfinished (10 ∷ left) at exchange asks made writes (lines_of left) now_lines missing said fails new has
@@ -382,7 +382,7 @@ module _ (Answers : RunView → Inquiry → List ℕ → Type 0) (style : StyleV
           [] (last_lines some ∙ sym (append-nil (at.lines ++ at.line ∷ []))) has
 
       module _ (has : HasExchanges Answers style (part_with replies new) (at.exchanges ++ exchange ∷ [])) (made : List Move) (writes : AreWrites made) where
-        pub last_broken : (missing : List ℕ) → shown style along exchange ≡ written_in made ++ missing
+        pub last_broken : (missing : List Output) → shown style along exchange ≡ written_in made ++ missing
             → EndsWith FailsToWrite made → IsSession Answers style (part_with replies new) (ended_by output.Write) (moves ++ made)
         last_broken missing said fails =
             broken moves part along unfinished [] at exchange asks made writes []
@@ -427,7 +427,7 @@ module _ (Answers : RunView → Inquiry → List ℕ → Type 0) (style : StyleV
   -- ---- before the first line
 
   module _ (part : Part) (new : part.calls ≡ []) (made : List Move) (writes : AreWrites made) where
-    pub prompted : written_in made ≡ style.greeting ++ style.prompt → IsAt Answers style replies made part (begun_along style replies) [] []
+    pub prompted : written_in made ≡ says (style.greeting ++ style.prompt) → IsAt Answers style replies made part (begun_along style replies) [] []
     prompted said =
         record {
           lines = [];
@@ -439,7 +439,7 @@ module _ (Answers : RunView → Inquiry → List ℕ → Type 0) (style : StyleV
           unfinished_is = sym unfinished_of_nothing;
           asked = tt;
           goes_on = tt;
-          written = said ∙ sym (append-nil (style.greeting ++ style.prompt));
+          written = said ∙ sym (append-nil (says (style.greeting ++ style.prompt)));
           along_is = refl;
           few = omega (arith, ap length (nothing_read made writes));
           commands = (inl new, tt);
@@ -448,7 +448,7 @@ module _ (Answers : RunView → Inquiry → List ℕ → Type 0) (style : StyleV
               [] made (nothing_asked (HasResponded (IsAnswered Answers style (part_with replies final)))) writes;
         }
 
-    pub not_prompted : (missing : List ℕ) → style.greeting ++ style.prompt ≡ written_in made ++ missing
+    pub not_prompted : (missing : List Output) → says (style.greeting ++ style.prompt) ≡ written_in made ++ missing
         → EndsWith FailsToWrite made → IsSession Answers style (part_with replies part) (ended_by output.Write) made
     not_prompted missing said fails =
         record {
@@ -459,11 +459,11 @@ module _ (Answers : RunView → Inquiry → List ℕ → Type 0) (style : StyleV
             record {
               lines = [];
               others = lines_of (read_in made);
-              text = dialogue style replies [];
+              outputs = dialogue style replies [];
               missing = missing;
               begins = refl;
               responded = ([], tt, refl, (inl new, tt));
-              written = append-nil (style.greeting ++ style.prompt) ∙ said;
+              written = append-nil (says (style.greeting ++ style.prompt)) ∙ said;
             },
             fails,
           );

@@ -15,6 +15,7 @@ use Rattle.cdb_session.specs.Lines.{SessionView, HasBegun, Responds, GivesOnce}
 use Rattle.cdb_session.specs.Repeats.{times_given}
 use Rattle.cdb_session.specs.Replies.{replies_text}
 use Rattle.cdb_session.specs.Styles.{StyleView, Part, AreCalled, IsCalled, MakesNone}
+use Rattle.cdb_session.specs.Exchanges.{Answer, Effect}
 use Rattle.cdb_session.specs.declared.inquiry.Inquiry.{Inquiry}
 use Rattle.cdb_session.specs.declared.request.Request.TheVariants.{Call}
 use Rattle.cdb_session.proofs.GotReplies.{GoesOn-trans, MakesNone-refl, none_called}
@@ -102,17 +103,17 @@ repeated_more seat command old got now before so E last text new (inr (none, ful
 
 -- ---- the end
 
-module _ (Answers : RunView → Inquiry → List ℕ → Type 0) (style : StyleView) (seen : ℕ) (news : List ℕ) (old : SessionView) (command : Command) (times : ℕ)
+module _ (Answers : RunView → Inquiry → Answer → Type 0) (style : StyleView) (effect : Effect) (old : SessionView) (command : Command) (times : ℕ)
     (got : List ReplyView) where
   abbrev Repeated : Part → List ℕ → Type 0
   Repeated now text = HasRepeated old.seat command old.part got now text
 
   -- it was given as often as it was to be
   pub all_given : (E : Type 0) (text : Vec ℕ Global) (new : SessionView) → Repeated new.part text.items
-      → length got ≡ times → Responds Answers style {E = E} seen news (Ok text) old (Call command times) new
+      → length got ≡ times → Responds Answers style {E = E} effect (Ok text) old (Call command times) new
   all_given E text new so all = (
     length got,
-    [],
+    Ok [],
     got,
     (
       record {
@@ -132,14 +133,14 @@ module _ (Answers : RunView → Inquiry → List ℕ → Type 0) (style : StyleV
 
     -- the last time it was refused, or found the journal full
     pub last_given : (E : Type 0) (text : Vec ℕ Global) (new : SessionView) (last : Bool) → GivesOnce {E = E} (Ok last) now
-        (entry old.seat command) before text.items new.part → last ≡ true → Responds Answers style {E = E} seen news (Ok text) old (Call command times) new
+        (entry old.seat command) before text.items new.part → last ≡ true → Responds Answers style {E = E} effect (Ok text) old (Call command times) new
     last_given E text new last (inl (reply, call, refused, is)) ends =
         let is_last : is_refused reply ≡ true = sym refused ∙ ends in
         let one : times_given (suc left.0) (reply ∷ []) ≡ 1 = rw is_last refl in
         let all : times_given times (got ++ reply ∷ []) ≡ length (got ++ reply ∷ []) =
         omega (arith, given_more got (reply ∷ []) (suc left.0) times so.carried_out left.1, one, one_longer got reply) in (
           length (got ++ reply ∷ []),
-          [],
+          Ok [],
           got ++ reply ∷ [],
           (
             record {
@@ -157,7 +158,7 @@ module _ (Answers : RunView → Inquiry → List ℕ → Type 0) (style : StyleV
         let all : times_given times got ≡ length got + 1 = omega (arith, e, given_more got [] (suc left.0) times so.carried_out left.1) in
         let f = ap (replies_text (length got + 1)) (append-nil got) in (
           length got + 1,
-          [],
+          Ok [],
           got,
           (
             record {

@@ -1,7 +1,7 @@
 -- With a control of its own, a session shows what the table of exchanges says.
 use Rattle.std.proofs.Common.{◌≡◌, inl, inr, ℕ, zero, suc, ◌+◌, ◌-◌, ◌<◌, ◌≤◌, ◌==◌, Bool, true, false, List, [], ◌∷◌, ◌++◌, length}
 use Rattle.std.proofs.Common.{take, drop, min, refl, sym, ap, subst, ◌∙◌, append_assoc, append-nil, arith, length-append}
-use Rattle.std.specs.Prelude.{if◌then◌else◌, replicate, is_some, unwrap_or, MatchBool, Option, None, Some}
+use Rattle.std.specs.Prelude.{if◌then◌else◌, map, replicate, is_some, unwrap_or, MatchBool, Option, None, Some}
 use Rattle.std.specs.List.{AllByRecursion}
 use Rattle.std.proofs.lemmas.Bool.Decides.{Decides-eqb}
 use Rattle.std.proofs.lemmas.Grind.{fold-append}
@@ -16,7 +16,7 @@ use Rattle.cdb_control.specs.Journal.{Journaled, Begins, entry, extended, reply_
 use Rattle.cdb_control.specs.State.{State, first_control_state}
 use Rattle.cdb_control.specs.declared.control.Entry.{Entry}
 use Rattle.cdb_session.specs.Table as table
-use Rattle.cdb_session.specs.Exchanges.{Exchange, Effect, given_at}
+use Rattle.cdb_session.specs.Exchanges.{Answer, Exchange, Effect, given_at}
 use Rattle.cdb_session.specs.News.{AreNews, looks, watched_next}
 use Rattle.cdb_session.specs.declared.request.Request.TheVariants.{Call, Ask, Watch, Seat, Help, Quit, Fault, TooLong}
 use Rattle.cdb_rules.specs.RunView.{RunView}
@@ -24,7 +24,8 @@ use Rattle.cdb_rules.specs.Rules.{Rules}
 use Rattle.cdb_session.specs.declared.inquiry.Inquiry.{Inquiry}
 use Rattle.cdb_setup.specs.Parts.{Parts}
 use Rattle.cdb_session.specs.Replies.{Along, shown_from, response, next_along, dialogue, reply_text, next_replies, replies_text}
-use Rattle.cdb_session.specs.Dialogues.{prompt_after, shown_by, shown_from_by}
+use Rattle.cdb_session.specs.Dialogues.{prompt_after, saved_at, shown_by, shown_from_by}
+use Rattle.cdb_session.specs.Moves.{Output, file, says}
 use Rattle.cdb_session.specs.Alone.{all_replies_from, whole_part, nine}
 use Rattle.cdb_session.specs.Answers.{AreTold, HasExchanges, IsDoneAfter, IsTold, run_left}
 use Rattle.cdb_session.specs.Parts.{all_asked, all_of, asked_of, seat_next, HasCommands}
@@ -46,10 +47,10 @@ one_less n most low = omega (arith, low)
 none_left : (n most : ℕ) → n ≡ most → most - n ≡ 0
 none_left n most is = omega (arith, is)
 
-abbrev table_one : List ℕ → table.Session → Exchange → List ℕ
+abbrev table_one : List ℕ → table.Session → Exchange → List Output
 table_one prompt = shown_by table.response_to table.after_line prompt
 
-abbrev table_shown : List ℕ → table.Session → List Exchange → List ℕ
+abbrev table_shown : List ℕ → table.Session → List Exchange → List Output
 table_shown prompt = shown_from_by table.response_to table.after_line prompt
 
 -- what came to the journal of a control that went on from these entries
@@ -145,14 +146,14 @@ module _ (rules : Parts → Rules) (seat : ℕ) (command : Command) where
             ]
       ]
 
-module _ (Answers : RunView → Inquiry → List ℕ → Type 0) (greeting prompt : List ℕ) where
+module _ (Answers : RunView → Inquiry → Answer → Type 0) (greeting prompt : List ℕ) where
   -- the session with the replies to what these lines ask for
   abbrev along_of : Option ℕ → table.Session → List Exchange → Along
   along_of watched s exchanges =
       record { seat = s.seat; replies = replies_at s.rules s.control (all_asked true s.seat exchanges); lines = s.lines; watched = watched }
 
   -- what is shown of them, but for news
-  abbrev plain_from : Along → List Exchange → List ℕ
+  abbrev plain_from : Along → List Exchange → List Output
   plain_from s exchanges =
       shown_from_by (response (nine greeting prompt)) (next_along (nine greeting prompt)) prompt s exchanges
 
@@ -162,7 +163,7 @@ module _ (Answers : RunView → Inquiry → List ℕ → Type 0) (greeting promp
   quiet : (s : Along) (exchanges : List Exchange) → AllByRecursion IsQuiet exchanges → shown_from (nine greeting prompt) s exchanges ≡ plain_from s exchanges
   quiet s [] are = refl
   quiet s (exchange ∷ exchanges) are =
-      λ i. ((are.0 i ++ response (nine greeting prompt) s exchange) ++ prompt_after prompt exchange.0)
+      λ i. ((map file (saved_at exchange) ++ says (are.0 i ++ response (nine greeting prompt) s exchange)) ++ says (prompt_after prompt exchange.0))
       ++ quiet (next_along (nine greeting prompt) s exchange) exchanges are.1 i
 
   same : (watched : Option ℕ) (s : table.Session) (exchanges others : List Exchange) → length s.control.journal ≤ MAX_ENTRIES
@@ -173,8 +174,8 @@ module _ (Answers : RunView → Inquiry → List ℕ → Type 0) (greeting promp
       let its = steps s.rules s.seat command effect.given s.control asked few in
       let more = grown_all s.rules s.seat command s.control effect.given [] few in
       (λ i. let a : Along = record { seat = s.seat; replies = its.1 i; lines = s.lines + 1; watched = watched_next watched (Call command times, effect) } in
-      (its.0 i ++ prompt) ++ plain_from a exchanges)
-      ∙ ap (λ text. (table.texts_at s.rules s.seat command s.control effect.given ++ prompt) ++ text)
+      (says (its.0 i) ++ says prompt) ++ plain_from a exchanges)
+      ∙ ap (λ outputs. (says (table.texts_at s.rules s.seat command s.control effect.given) ++ says prompt) ++ outputs)
       (same (watched_next watched (Call command times, effect)) (table.after_line s (Call command times, effect)) exchanges others more.1)
   same watched s ((Ask inquiry, effect) ∷ exchanges) others few =
       ap (λ text. table_one prompt s (Ask inquiry, effect) ++ text)
@@ -256,7 +257,7 @@ module _ (Answers : RunView → Inquiry → List ℕ → Type 0) (greeting promp
   nothing_lost rules c before exchanges others seats begins few has =
       ap (λ (replies : List ReplyView). dialogue (nine greeting prompt) replies exchanges)
       (came_replies rules c before (exchanges ++ others) seats begins few has.0)
-      ∙ ap (λ text. (greeting ++ prompt) ++ text)
+      ∙ ap (λ outputs. says (greeting ++ prompt) ++ outputs)
       (quiet (along_of None (table.begun rules c.setup before) (exchanges ++ others)) exchanges
       (all_quiet rules c before 0 None exchanges (told_first (IsDoneAfter Answers (came rules c before)) 0 None exchanges others has.1))
       ∙ same None (table.begun rules c.setup before) exchanges others (omega (arith, few, ap length begins.1, length-append before begins.0)))
@@ -293,10 +294,10 @@ module _ (Answers : RunView → Inquiry → List ℕ → Type 0) (greeting promp
     abbrev AreToldOf : ℕ → Option ℕ → List Exchange → Type 0
     AreToldOf count watched exchanges = AreTold (IsDoneAfter Answers (came rules c before)) count watched exchanges
 
-    answered_there : (s : table.Session) (asked : List Entry) (exchanges : List Exchange) (count : ℕ) (inquiry : Inquiry) (text : List ℕ)
+    answered_there : (s : table.Session) (asked : List Entry) (exchanges : List Exchange) (count : ℕ) (inquiry : Inquiry) (answer : Answer)
         → IsThere s asked exchanges count
-        → IsTold Answers (came rules c before) count inquiry text → Answers (table.run_in s) inquiry text
-    answered_there s asked exchanges count inquiry text at (first, just, answers) =
+        → IsTold Answers (came rules c before) count inquiry answer → Answers (table.run_in s) inquiry answer
+    answered_there s asked exchanges count inquiry answer at (first, just, answers) =
         let whole : first ≡ min (length before + count) (length c.journal) =
         omega (arith, just.since, just.within, just.commands, longer, length-drop (length before) c.journal) in
         let same : take first c.journal ≡ s.control.journal =
@@ -304,7 +305,7 @@ module _ (Answers : RunView → Inquiry → List ℕ → Type 0) (greeting promp
         ∙ first_entries asked (all_asked true s.seat exchanges) c.journal at.all ∙ sym at.come_to in
         let run : run_left rules c.setup c.seats (take first c.journal) ≡ table.run_in s =
         λ i. run_left (sym at.rules_are i) (sym at.setup_is i) ((seats ∙ sym at.seats_are) i) (same i) in
-        subst (λ (r : RunView). Answers r inquiry text) run answers
+        subst (λ (r : RunView). Answers r inquiry answer) run answers
 
     -- after a command
     same_setup : (full : Bool) (kept other : Journaled) → other.setup ≡ kept.setup

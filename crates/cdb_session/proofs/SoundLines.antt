@@ -23,11 +23,11 @@ use Rattle.cdb_text.specs.Readers.{number_of}
 use Rattle.cdb_text.specs.Readers as reading
 use Rattle.cdb_text.proofs.Numbers.{number_says}
 use Rattle.cdb_base.specs.declared.question.StepAsked.{StepAsked}
-use Rattle.cdb_session.specs.Inquiries.{AreStepWords, inquiry_word, step_asked}
+use Rattle.cdb_session.specs.Inquiries.{AreAnyStepWords, AreInquiryWords, AreStepWords, inquiry_word, is_file_name}
 use Rattle.cdb_session.specs.InquiryWords.{step_with}
 use Rattle.cdb_session.specs.declared.inquiry.Inquiry.{Inquiry}
-use Rattle.cdb_session.specs.declared.inquiry.Inquiry.TheVariants.{Explain, Trail}
-use Rattle.cdb_session.specs.Due.{amiss_in, with_process, behind, behind_act, behind_first, behind_stop, copy, dues_of}
+use Rattle.cdb_session.specs.declared.inquiry.Inquiry.TheVariants.{Explain, Trail, Draw}
+use Rattle.cdb_session.specs.Due.{amiss_in, with_file, with_process, behind, behind_act, behind_first, behind_stop, copy, dues_of}
 use Rattle.cdb_session.specs.Due.{event, first_amiss, is_number, may_stand, nothing, registers, seats}
 use Rattle.cdb_session.specs.Laws.{SoundLinesAreTaken}
 use Rattle.cdb_session.specs.Repeats.{repeat_parts}
@@ -145,7 +145,7 @@ numbers (its ∷ dues) all (word ∷ words) is =
 
 -- the words ask something of the run
 abbrev AskInWords : List (List ℕ) → Type 0
-AskInWords words = (inquiry : Inquiry) × (others : List (List ℕ)) × (words ≡ inquiry_word inquiry ∷ others) × AreStepWords (step_asked inquiry) others
+AskInWords words = (inquiry : Inquiry) × (others : List (List ℕ)) × (words ≡ inquiry_word inquiry ∷ others) × AreInquiryWords inquiry others
 
 -- the words repeat a command
 abbrev RepeatInWords : List (List ℕ) → Type 0
@@ -355,15 +355,15 @@ help_taken (word ∷ words) is =
 
 -- `explain P [K]`, or `trail P [K]`
 asked_taken : (first : List ℕ) (make : StepAsked → Inquiry) → ((s : StepAsked) → first ≡ inquiry_word (make s))
-    → ((s : StepAsked) → s ≡ step_asked (make s)) → (words : List (List ℕ)) → IsSound (with_process due.Step words) words → IsTaken (first ∷ words)
-asked_taken first make word_is step_is [] is = absurd cc
-asked_taken first make word_is step_is (word ∷ []) is =
+    → ((s : StepAsked) (others : List (List ℕ)) → AreStepWords s others → AreInquiryWords (make s) others) → (words : List (List ℕ)) → IsSound (with_process due.Step words) words → IsTaken (first ∷ words)
+asked_taken first make word_is words_are [] is = absurd cc
+asked_taken first make word_is words_are (word ∷ []) is =
     let here = next due.Process [] word [] is in
     let p = a_number word (process word here.0) in
     let s = step_with p.0 None in
     let its : AreStepWords s (word ∷ []) = record { are = ap (λ (w : List ℕ). w ∷ []) p.2; in_range = (p.1, tt) } in
-    inl (inr (inl (make s, word ∷ [], ap (λ (w : List ℕ). w ∷ word ∷ []) (word_is s), subst (λ (t : StepAsked). AreStepWords t (word ∷ [])) (step_is s) its)))
-asked_taken first make word_is step_is (word ∷ second ∷ words) is =
+    inl (inr (inl (make s, word ∷ [], ap (λ (w : List ℕ). w ∷ word ∷ []) (word_is s), words_are s (word ∷ []) its)))
+asked_taken first make word_is words_are (word ∷ second ∷ words) is =
     let here = next due.Process (due.Step ∷ []) word (second ∷ words) is in
     let there = next due.Step [] second words here.1 in
     let p = a_number word (process word here.0) in
@@ -375,8 +375,34 @@ asked_taken first make word_is step_is (word ∷ second ∷ words) is =
       make s,
       word ∷ second ∷ [],
       ap (λ (w : List ℕ). w ∷ word ∷ second ∷ []) (word_is s),
-      subst (λ (t : StepAsked). AreStepWords t (word ∷ second ∷ [])) (step_is s) its,
+      words_are s (word ∷ second ∷ []) its,
     )))) there.1
+
+-- `draw FILE [P [K]]`
+file : (word : List ℕ) → may_stand true due.File word ≡ true → is_file_name word ≡ true
+file word is = alone (is_file_name word) is
+
+draws : (name : List ℕ) → is_file_name name ≡ true → (asked : Option StepAsked) (others : List (List ℕ)) → AreAnyStepWords asked others
+    → IsTaken (codes "draw" ∷ name ∷ others)
+draws name named asked others its = inl (inr (inl (Draw name asked, name ∷ others, refl, (named, others, refl, its))))
+
+draw_taken : (words : List (List ℕ)) → IsSound (with_file words) words → IsTaken (codes "draw" ∷ words)
+draw_taken [] is = absurd cc
+draw_taken (name ∷ []) is = draws name (file name (next due.File [] name [] is).0) None [] refl
+draw_taken (name ∷ word ∷ []) is =
+    let named = next due.File (due.Process ∷ []) name (word ∷ []) is in
+    let here = next due.Process [] word [] named.1 in
+    let p = a_number word (process word here.0) in
+    draws name (file name named.0) (Some (step_with p.0 None)) (word ∷ []) (record { are = ap (λ (w : List ℕ). w ∷ []) p.2; in_range = (p.1, tt) })
+draw_taken (name ∷ word ∷ second ∷ words) is =
+    let named = next due.File (due.Process ∷ due.Step ∷ []) name (word ∷ second ∷ words) is in
+    let here = next due.Process (due.Step ∷ []) word (second ∷ words) named.1 in
+    let there = next due.Step [] second words here.1 in
+    let p = a_number word (process word here.0) in
+    let k = a_number second (step second there.0) in
+    none_taken (codes "draw" ∷ name ∷ word ∷ second ∷ []) words
+    (draws name (file name named.0) (Some (step_with p.0 (Some k.0))) (word ∷ second ∷ [])
+    (record { are = (λ i. p.2 i ∷ k.2 i ∷ []); in_range = (p.1, (k.1, tt)) })) there.1
 
 -- `auto P`, or `auto P N`
 auto_taken : (words : List (List ℕ)) → IsSound (with_process due.Count words) words → IsTaken (codes "auto" ∷ words)
@@ -408,8 +434,9 @@ by_topic topic.Unbreak words is =
 by_topic topic.Resume words is = none_taken (codes "resume" ∷ []) words (inr (command.Resume, (refl, (tt, tt)))) is
 by_topic topic.Show words is = show_taken words is
 by_topic topic.Decisions words is = none_taken (codes "decisions" ∷ []) words (inr (command.Decisions, (refl, (tt, tt)))) is
-by_topic topic.Explain words is = asked_taken (codes "explain") Explain (λ s. refl) (λ s. refl) words is
-by_topic topic.Trail words is = asked_taken (codes "trail") Trail (λ s. refl) (λ s. refl) words is
+by_topic topic.Explain words is = asked_taken (codes "explain") Explain (λ s. refl) (λ s others its. its) words is
+by_topic topic.Trail words is = asked_taken (codes "trail") Trail (λ s. refl) (λ s others its. its) words is
+by_topic topic.Draw words is = draw_taken words is
 by_topic topic.Watch words is = none_taken (codes "watch" ∷ []) words (inl (inl (inr (inr (inr (inr (inr (true, refl)))))))) is
 by_topic topic.Unwatch words is = none_taken (codes "unwatch" ∷ []) words (inl (inl (inr (inr (inr (inr (inr (false, refl)))))))) is
 by_topic topic.Help words is = help_taken words is

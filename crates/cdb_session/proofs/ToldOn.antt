@@ -6,7 +6,7 @@ use Rattle.cdb_session.specs.News.{AreNews, HasNews, looks, news_up_to, watched_
 use Rattle.cdb_session.specs.Parts.{HaveJust, IsGiven}
 use Rattle.cdb_rules.specs.RunView.{RunView}
 use Rattle.cdb_session.specs.Answers.{AreTold, IsTold, IsAnsweredAfter, IsDoneAfter}
-use Rattle.cdb_session.specs.Exchanges.{Exchange, commands_among, given_at}
+use Rattle.cdb_session.specs.Exchanges.{Answer, Exchange, commands_among, given_at}
 use Rattle.cdb_session.specs.Styles.{Part, GoesOn}
 use Rattle.cdb_session.specs.declared.inquiry.Inquiry.{Inquiry}
 use Rattle.cdb_session.specs.declared.request.Request.{Request}
@@ -47,11 +47,11 @@ module _ (old new : Part) (on : GoesOn old new) where
         → HasNews new later less watched request seen news
     news_on request seen news has = are_on (looks (is_some watched) request) seen news has
 
-module _ (Answers : RunView → Inquiry → List ℕ → Type 0) (old new : Part) (on : GoesOn old new) where
+module _ (Answers : RunView → Inquiry → Answer → Type 0) (old new : Part) (on : GoesOn old new) where
   -- what was told of the journal so far is told of it later
-  told_on : (count : ℕ) (inquiry : Inquiry) (text : List ℕ) → min count (length new.calls) ≡ min count (length old.calls)
-      → IsTold Answers old count inquiry text → IsTold Answers new count inquiry text
-  told_on count inquiry text many (first, just, answers) =
+  told_on : (count : ℕ) (inquiry : Inquiry) (answer : Answer) → min count (length new.calls) ≡ min count (length old.calls)
+      → IsTold Answers old count inquiry answer → IsTold Answers new count inquiry answer
+  told_on count inquiry answer many (first, just, answers) =
       let run = on.left_by first just.within in
       (first, just_on old new on count count first many just, rw run answers)
 

@@ -8,10 +8,11 @@ use Rattle.cdb_streams.specs.declared.buffer.OutputFault.TheVariants as output
 use Rattle.cdb_streams.specs.declared.fault.PlayFault.{PlayFault}
 use Rattle.cdb_streams.specs.declared.fault.PlayFault.TheVariants as fault
 use Rattle.cdb_session.specs.Unfinished.{IsOver, ended_well, ended_by}
-use Rattle.cdb_session.specs.Moves.{WritesAll, Known, Move, Read, ReadFailed, read_in, Makes}
+use Rattle.cdb_session.specs.Moves.{WritesAll, Known, Move, Read, ReadFailed, says, read_in, Makes}
 use Rattle.cdb_session.specs.Sessions.{most_input, IsOpen}
 use Rattle.cdb_session.proofs.MovesInOrder.{Makes-nothing, Makes-more, read-append, nothing_read}
 use Rattle.cdb_rules.specs.RunView.{RunView}
+use Rattle.cdb_session.specs.Exchanges.{Answer}
 use Rattle.cdb_session.specs.declared.inquiry.Inquiry.{Inquiry}
 use Rattle.cdb_session.specs.Styles.{StyleView}
 use Rattle.cdb_session.specs.Replies.{Along, begun_along}
@@ -20,7 +21,7 @@ use Rattle.cdb_session.specs.Lines.{SessionView, at_line}
 use Rattle.cdb_session.proofs.FedBytes.{as_seen, last_is_none, last_is_done, last_breaks, last_loses}
 use Rattle.cdb_session.proofs.NextState.{open_more, open_writes, more_read, read_failed, prompted, not_prompted}
 
-module _ (Answers : RunView → Inquiry → List ℕ → Type 0) (style : StyleView) where
+module _ (Answers : RunView → Inquiry → Answer → Type 0) (style : StyleView) where
   -- all that was read is answered, as far as it has ended
   abbrev pub Arrives : Known → Known → SessionView → List ℕ → ℕ → Type 0
   Arrives before now session unfinished read =
@@ -57,7 +58,7 @@ module _ (Answers : RunView → Inquiry → List ℕ → Type 0) (style : StyleV
   module _ (before now : Known) (session : SessionView) (fresh : (session.part.calls ≡ []) × (session.part.replies ≡ []))
       (unwatched : session.watched ≡ None) where
     pub started : (A E : Type 0) (a : A) → session.lines ≡ 0 → session.seat ≡ style.first
-        → WritesAll {E = E} (Ok a) before now (style.greeting ++ style.prompt) → Arrives before now session [] 0
+        → WritesAll {E = E} (Ok a) before now (says (style.greeting ++ style.prompt)) → Arrives before now session [] 0
     started A E a none is_first says = (
       says.0,
       says.1,
@@ -70,7 +71,7 @@ module _ (Answers : RunView → Inquiry → List ℕ → Type 0) (style : StyleV
       open_writes [] says.0 tt says.2,
     )
 
-    pub not_started : (A E : Type 0) (e : E) → WritesAll {A = A} (Err e) before now (style.greeting ++ style.prompt)
+    pub not_started : (A E : Type 0) (e : E) → WritesAll {A = A} (Err e) before now (says (style.greeting ++ style.prompt))
         → RespondsToAll Answers style (ended_by output.Write) before now session
     not_started A E e says = (says.0, says.1, not_prompted Answers style session.part.replies session.part fresh.0 says.0 says.2 says.3.0 says.3.1 says.3.2)
 

@@ -1,16 +1,22 @@
 -- Of which run a question is answered, and what was done of all lines.
-use Rattle.std.specs.Prelude.{ℕ, ◌+◌, List, [], ◌∷◌, drop, length, Option, None}
+use Rattle.std.specs.Prelude.{ℕ, ◌+◌, List, [], ◌∷◌, drop, length, Option, None, Result, Ok, Err, Vec}
+use Rattle.std.specs.Global.{Global}
 use Rattle.cdb_control.specs.Journal.{replay}
 use Rattle.cdb_control.specs.declared.control.Entry.{Entry}
 use Rattle.cdb_rules.specs.RunView.{RunView}
 use Rattle.cdb_rules.specs.Rules.{Rules}
 use Rattle.cdb_setup.specs.Parts.{Parts}
-use Rattle.cdb_session.specs.Exchanges.{Exchange, given_at}
+use Rattle.cdb_session.specs.Exchanges.{Answer, Exchange, given_at}
 use Rattle.cdb_session.specs.News.{HasNewsAfter, watched_next}
 use Rattle.cdb_session.specs.Parts.{HasCommands, HaveJust, IsGiven}
 use Rattle.cdb_session.specs.Styles.{StyleView, Part}
 use Rattle.cdb_session.specs.declared.inquiry.Inquiry.{Inquiry}
 use Rattle.cdb_session.specs.declared.request.Request.TheVariants.{Ask}
+
+-- an answer, by its bytes
+abbrev pub answer_seen : Result (Vec ℕ Global) (Vec ℕ Global) → Answer
+answer_seen (Ok text) = Ok text.items
+answer_seen (Err text) = Err text.items
 
 -- the run that a journal leaves, of a control with this setup and this number of seats
 abbrev pub run_left : (Parts → Rules) → Parts → ℕ → List Entry → RunView
@@ -23,12 +29,12 @@ AreTold Told count watched [] = Unit {0}
 AreTold Told count watched (exchange ∷ exchanges) =
     Told count watched exchange × AreTold Told (count + given_at exchange) (watched_next watched exchange) exchanges
 
--- of a run, what is asked of it and a text, whether the text is the answer
-module _ (Answers : RunView → Inquiry → List ℕ → Type 0) where
-  -- the text answers what is asked of the run that the first entries leave, with just these commands
-  abbrev pub IsTold : Part → ℕ → Inquiry → List ℕ → Type 0
-  IsTold part count inquiry text =
-      (first : ℕ) × HaveJust part count first × Answers (part.left_by first) inquiry text
+-- of a run, what is asked of it and an answer, whether it is that answer
+module _ (Answers : RunView → Inquiry → Answer → Type 0) where
+  -- this answers what is asked of the run that the first entries leave, with just these commands
+  abbrev pub IsTold : Part → ℕ → Inquiry → Answer → Type 0
+  IsTold part count inquiry answer =
+      (first : ℕ) × HaveJust part count first × Answers (part.left_by first) inquiry answer
 
   -- what a line asks of the run is answered so
   abbrev pub IsAnsweredAfter : Part → ℕ → Exchange → Type 0
@@ -46,7 +52,7 @@ module _ (Answers : RunView → Inquiry → List ℕ → Type 0) where
   abbrev pub HasExchanges : StyleView → Part → List Exchange → Type 0
   HasExchanges style part exchanges = HasCommands style part exchanges × AreTold (IsDoneAfter part) 0 None exchanges
 
-  -- the text answers what is asked of the run that the journal leaves as it stands
-  abbrev pub AnswersNow : Part → Inquiry → List ℕ → Type 0
-  AnswersNow part inquiry text =
-      HaveJust part (length part.calls) part.entries × Answers (part.left_by part.entries) inquiry text
+  -- this answers what is asked of the run that the journal leaves as it stands
+  abbrev pub AnswersNow : Part → Inquiry → Answer → Type 0
+  AnswersNow part inquiry answer =
+      HaveJust part (length part.calls) part.entries × Answers (part.left_by part.entries) inquiry answer

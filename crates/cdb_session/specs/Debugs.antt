@@ -15,6 +15,7 @@ use Rattle.cdb_streams.specs.declared.fault.PlayFault.{PlayFault}
 use Rattle.cdb_streams.specs.declared.fault.PlayFault.TheVariants as fault
 use Rattle.cdb_streams.specs.declared.script.ScriptFault.TheVariants as script
 use Rattle.cdb_session.specs.Greetings.{greeting_at, greeting_text}
+use Rattle.cdb_session.specs.Exchanges.{Answer}
 use Rattle.cdb_session.specs.declared.inquiry.Inquiry.{Inquiry}
 use Rattle.cdb_session.specs.Moves.{Known, Move, read_in, written_in, Makes}
 use Rattle.cdb_session.specs.Sessions.{IsSessionBy}
@@ -37,7 +38,7 @@ IsFaultOfBeginning json from seats (fault.ScriptTooLong number) =
 IsFaultOfBeginning json from seats (fault.NoMemory refused) = length json ≤ longest
 IsFaultOfBeginning json from seats other = ⊥
 
-module _ (Answers : RunView → Inquiry → List ℕ → Type 0) (greeting prompt : List ℕ) (start : Session) where
+module _ (Answers : RunView → Inquiry → Answer → Type 0) (greeting prompt : List ℕ) (start : Session) where
   -- the first of the lines have their responses in full, and the others not at all
   pub record IsCutShort (moves : List Move) : Type 0 where
     pub lines : List (List ℕ)
@@ -51,7 +52,7 @@ module _ (Answers : RunView → Inquiry → List ℕ → Type 0) (greeting promp
       IsSessionBy (IsDialogue Answers greeting prompt start)
       (IsDialogue Answers greeting prompt start) IsCutShort returned moves
 
-module _ (rules : Parts → Rules) (Answers : RunView → Inquiry → List ℕ → Type 0) (prompt json from : List ℕ) where
+module _ (rules : Parts → Rules) (Answers : RunView → Inquiry → Answer → Type 0) (prompt json from : List ℕ) where
   -- such a session on the setup that the text of JSON encodes, which goes on from the journal
   abbrev pub IsSessionOn : {A : Type 0} → Result A PlayFault → List Move → Type 0
   IsSessionOn returned moves =

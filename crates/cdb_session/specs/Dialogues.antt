@@ -1,6 +1,6 @@
 -- The responses of a session, along its lines.
-use Rattle.std.specs.Prelude.{ℕ, ◌==◌, Bool, true, false, List, [], ◌∷◌, ◌++◌, codes}
-use Rattle.std.specs.Prelude.{decimal, drop, if◌then◌else◌, Option, None, Some}
+use Rattle.std.specs.Prelude.{ℕ, ◌==◌, Bool, true, false, List, [], ◌∷◌, ◌++◌, codes, map}
+use Rattle.std.specs.Prelude.{decimal, drop, if◌then◌else◌, Option, None, Some, Ok, Err}
 use Rattle.std.specs.List.{before_first, flat_map}
 use Rattle.std.specs.Str.{bytes_eq}
 use Rattle.std.specs.Str.Lines.{lines}
@@ -11,14 +11,17 @@ use Rattle.cdb_text.specs.LineFaults.{line_fault_text}
 use Rattle.cdb_text.specs.declared.fault.LineFault.{LineFault}
 use Rattle.cdb_text.specs.declared.fault.LineFault.TheVariants.{Empty, Word}
 use Rattle.cdb_session.specs.Due.{Amiss, amiss_in, amiss_text, stands}
-use Rattle.cdb_session.specs.Exchanges.{Exchange}
+use Rattle.cdb_session.specs.Exchanges.{Answer, Exchange}
 use Rattle.cdb_session.specs.FaultyLines.{FaultyLineView}
 use Rattle.cdb_session.specs.declared.due.Due.TheVariants.{Command}
+use Rattle.cdb_session.specs.Moves.{Output, Saving, file, says}
 use Rattle.cdb_session.specs.Topics.{topic_word}
+use Rattle.cdb_session.specs.declared.inquiry.Inquiry.{Inquiry}
+use Rattle.cdb_session.specs.declared.inquiry.Inquiry.TheVariants.{Draw}
 use Rattle.cdb_session.specs.declared.help.TheConstants.{COMMANDS, SEATS, OTHERS}
 use Rattle.cdb_session.specs.declared.request.Request.{Request}
 use Rattle.cdb_session.specs.declared.topic.Topic.{Topic}
-use Rattle.cdb_session.specs.declared.request.Request.TheVariants.{Quit}
+use Rattle.cdb_session.specs.declared.request.Request.TheVariants.{Ask, Quit}
 
 -- ---- the texts
 
@@ -52,6 +55,22 @@ abbrev pub watch_text : Bool → List ℕ
 watch_text true = as_line (codes "watching")
 watch_text false = as_line (codes "not watching")
 
+-- `drawn FILE`, or `line L cannot write FILE`
+abbrev pub saving_text : ℕ → List ℕ → Bool → List ℕ
+saving_text line name true = as_line (codes "drawn " ++ name)
+saving_text line name false = as_line (codes "line " ++ decimal line ++ codes " cannot write " ++ name)
+
+-- the response to a line of this number that asks this of the run; what is to be saved is not shown
+abbrev pub answer_text : ℕ → Inquiry → Answer → Bool → List ℕ
+answer_text line (Draw name step) (Ok picture) saved = saving_text line name saved
+answer_text line inquiry (Ok text) saved = text
+answer_text line inquiry (Err reason) saved = reason
+
+-- and what is to be saved then
+abbrev pub savings_of : Inquiry → Answer → Bool → List Saving
+savings_of (Draw name step) (Ok picture) saved = record { name = name; text = picture; done = saved } ∷ []
+savings_of inquiry answer saved = []
+
 -- what `help` lists, with the line that chooses a seat or without it
 abbrev pub seats_help : Bool → List ℕ
 seats_help true = SEATS.now
@@ -83,6 +102,11 @@ help_response line seats (Some topic) = or_word_fault line topic (lines_about to
 
 -- ---- all lines
 
+-- what is saved at a line
+abbrev pub saved_at : Exchange → List Saving
+saved_at (Ask inquiry, effect) = savings_of inquiry effect.answer effect.saved
+saved_at other = []
+
 -- The prompt stands before each line, and so after each response but that to `quit`.
 abbrev pub prompt_after : List ℕ → Request → List ℕ
 prompt_after prompt Quit = []
@@ -90,13 +114,17 @@ prompt_after prompt request = prompt
 
 -- a session of which this is the response at a line, and this the session after it
 module _ {S : Type 0} (respond : S → Exchange → List ℕ) (next : S → Exchange → S) (prompt : List ℕ) where
-  abbrev pub shown_by : S → Exchange → List ℕ
-  shown_by s exchange = respond s exchange ++ prompt_after prompt exchange.0
+  -- what is saved comes before the response
+  abbrev pub responded_by : S → Exchange → List Output
+  responded_by s exchange = map file (saved_at exchange) ++ says (respond s exchange)
 
-  abbrev pub shown_from_by : S → List Exchange → List ℕ
+  abbrev pub shown_by : S → Exchange → List Output
+  shown_by s exchange = responded_by s exchange ++ says (prompt_after prompt exchange.0)
+
+  abbrev pub shown_from_by : S → List Exchange → List Output
   shown_from_by s [] = []
   shown_from_by s (exchange ∷ exchanges) = shown_by s exchange ++ shown_from_by (next s exchange) exchanges
 
-  -- all that is shown in a session from this start, at these lines: the greeting stands before the first prompt
-  abbrev pub dialogue_by : List ℕ → S → List Exchange → List ℕ
-  dialogue_by greeting start exchanges = (greeting ++ prompt) ++ shown_from_by start exchanges
+  -- all that is put out in a session from this start, at these lines: the greeting stands before the first prompt
+  abbrev pub dialogue_by : List ℕ → S → List Exchange → List Output
+  dialogue_by greeting start exchanges = says (greeting ++ prompt) ++ shown_from_by start exchanges

@@ -1,16 +1,17 @@
 -- What is due in a line, and what is said where something else stands there.
-use Rattle.std.specs.Prelude.{ℕ, ◌==◌, ◌||◌, ◌&&◌, Bool, true, false, not, nat_le, List, [], ◌∷◌, ◌++◌}
+use Rattle.std.specs.Prelude.{ℕ, ◌==◌, ◌||◌, ◌&&◌, Bool, false, not, nat_le, List, [], ◌∷◌, ◌++◌}
 use Rattle.std.specs.Prelude.{length, take, map, codes, slice_index, if◌then◌else◌, Option, None, Some}
 use Rattle.std.specs.List.{list_any}
 use Rattle.std.specs.Char.{is_ascii_graphic}
 use Rattle.std.specs.Str.{bytes_eq}
 use Rattle.cdb_text.specs.Grammar.{words_of}
+use Rattle.cdb_session.specs.Inquiries.{is_file_name}
 use Rattle.cdb_session.specs.Topics.{topic_of}
 use Rattle.cdb_session.specs.Typed.{acts, first_words, is_digits, second_words}
 use Rattle.cdb_session.specs.declared.due.Due.{Due}
 use Rattle.cdb_session.specs.declared.due.Due.TheVariants.{Command, Process, ProcessOrLost, ProcessOrView}
 use Rattle.cdb_session.specs.declared.due.Due.TheVariants.{Act, Stop, Message, Step, Round, Breakpoint}
-use Rattle.cdb_session.specs.declared.due.Due.TheVariants.{Register, Seat, Count, Nothing}
+use Rattle.cdb_session.specs.declared.due.Due.TheVariants.{Register, Seat, Count, File, Nothing}
 use Rattle.cdb_session.specs.declared.topic.Topic.{Topic}
 use Rattle.cdb_session.specs.declared.topic.Topic.TheVariants as topic
 
@@ -30,23 +31,8 @@ due_text Breakpoint = codes "a breakpoint"
 due_text Register = codes "r1 to r9 or dec"
 due_text Seat = codes "a seat from 1 to 9"
 due_text Count = codes "a count"
+due_text File = codes "a file"
 due_text Nothing = codes "nothing more"
-
-abbrev pub takes_number : Due → Bool
-takes_number Command = false
-takes_number Process = true
-takes_number ProcessOrLost = true
-takes_number ProcessOrView = true
-takes_number Act = false
-takes_number Stop = false
-takes_number Message = true
-takes_number Step = true
-takes_number Round = true
-takes_number Breakpoint = true
-takes_number Register = false
-takes_number Seat = false
-takes_number Count = true
-takes_number Nothing = false
 
 abbrev pub registers : List (List ℕ)
 registers =
@@ -57,7 +43,7 @@ abbrev pub seats : List (List ℕ)
 seats =
     codes "1" ∷ codes "2" ∷ codes "3" ∷ codes "4" ∷ codes "5" ∷ codes "6" ∷ codes "7" ∷ codes "8" ∷ codes "9" ∷ []
 
--- the words that may stand there, besides numbers
+-- the words that may stand there, besides numbers and names
 abbrev pub words_at : Due → List (List ℕ)
 words_at Command = first_words
 words_at Process = []
@@ -72,17 +58,35 @@ words_at Breakpoint = []
 words_at Register = registers
 words_at Seat = seats
 words_at Count = []
+words_at File = []
 words_at Nothing = []
 
 -- one to six digits, the first not 0
 abbrev pub is_number : List ℕ → Bool
 is_number word = is_digits word && (nat_le (length word) 6 && not (slice_index word 0 == 48))
 
+-- the word is a number where one may stand, or the name of a file
+abbrev pub names : Due → List ℕ → Bool
+names Command word = false
+names Process word = is_number word
+names ProcessOrLost word = is_number word
+names ProcessOrView word = is_number word
+names Act word = false
+names Stop word = false
+names Message word = is_number word
+names Step word = is_number word
+names Round word = is_number word
+names Breakpoint word = is_number word
+names Register word = false
+names Seat word = false
+names Count word = is_number word
+names File word = is_file_name word
+names Nothing word = false
+
 -- the word may stand there; `seat` only where a line may choose one
 abbrev pub may_stand : Bool → Due → List ℕ → Bool
 may_stand chooses due word =
-    (takes_number due && is_number word)
-    || (list_any (bytes_eq word) (words_at due) && (chooses || not (bytes_eq word (codes "seat"))))
+    names due word || (list_any (bytes_eq word) (words_at due) && (chooses || not (bytes_eq word (codes "seat"))))
 
 -- ---- what is due in a line, word by word, by the words before each
 
@@ -117,6 +121,12 @@ abbrev pub with_process : Due → List (List ℕ) → List Due
 with_process due [] = Process ∷ []
 with_process due (process ∷ words) = Process ∷ maybe due words
 
+-- behind `draw`: `FILE [P [K]]`
+abbrev pub with_file : List (List ℕ) → List Due
+with_file [] = File ∷ []
+with_file (file ∷ []) = File ∷ []
+with_file (file ∷ process ∷ words) = File ∷ Process ∷ maybe Step words
+
 -- behind the first word
 abbrev pub behind : Topic → List (List ℕ) → List Due
 behind topic.Step (process ∷ act ∷ words) = Process ∷ Act ∷ behind_act act words
@@ -136,6 +146,7 @@ behind topic.Show words = ProcessOrView ∷ []
 behind topic.Decisions words = []
 behind topic.Explain words = with_process Step words
 behind topic.Trail words = with_process Step words
+behind topic.Draw words = with_file words
 behind topic.Watch words = []
 behind topic.Unwatch words = []
 behind topic.Help words = maybe Command words

@@ -1,15 +1,21 @@
 -- What a line asks for, with what came of it.
-use Rattle.std.specs.Prelude.{ℕ, ◌+◌, List, [], ◌∷◌}
+use Rattle.std.specs.Prelude.{ℕ, ◌+◌, Bool, List, [], ◌∷◌, Result}
 use Rattle.cdb_session.specs.declared.request.Request.{Request}
 use Rattle.cdb_session.specs.declared.request.Request.TheVariants.{Call}
 
+-- the text that is asked for, or one that says why there is none
+abbrev pub Answer : Type 0
+Answer = Result (List ℕ) (List ℕ)
+
 -- What came of a line: how many entries of the journal were seen at it, if somebody watches, and the news of others;
--- how often its command was given; and the answer to it where it asks something of the run.
+-- how often its command was given; and where it asks something of the run, the answer to it, and whether that was
+-- saved, where it was to be.
 pub record Effect : Type 0 where
   pub seen : ℕ
   pub news : List ℕ
   pub given : ℕ
-  pub answer : List ℕ
+  pub answer : Answer
+  pub saved : Bool
 
 abbrev pub Exchange : Type 0
 Exchange = Request × Effect

@@ -1,11 +1,13 @@
 -- What a line asks of the run as it stands.
-use Rattle.std.specs.Prelude.{◌≡◌, ℕ, List, [], ◌∷◌, codes, map, Option, None, Some}
-use Rattle.std.specs.List.{AllByRecursion}
+use Rattle.std.specs.Prelude.{◌≡◌, ℕ, ◌&&◌, ◌||◌, Bool, true, not, nat_le, List, [], ◌∷◌, length, codes, map}
+use Rattle.std.specs.Prelude.{Option, None, Some}
+use Rattle.std.specs.List.{AllByRecursion, list_any}
 use Rattle.cdb_base.specs.declared.question.StepAsked.{StepAsked}
 use Rattle.cdb_text.specs.Commands.{CommandPart, number}
 use Rattle.cdb_text.specs.Grammar.{IsInRange, part_text, words_of}
 use Rattle.cdb_session.specs.declared.inquiry.Inquiry.{Inquiry}
-use Rattle.cdb_session.specs.declared.inquiry.Inquiry.TheVariants.{Explain, Trail}
+use Rattle.cdb_session.specs.declared.inquiry.Inquiry.TheVariants.{Explain, Trail, Draw}
+use Rattle.cdb_session.specs.Typed.{is_blank, is_comment, is_digits, is_name, is_word}
 
 -- the numbers that name a step: P, or P and K
 abbrev pub numbers_of : ℕ → Option ℕ → List CommandPart
@@ -17,17 +19,37 @@ pub record AreStepWords (step : StepAsked) (words : List (List ℕ)) : Type 0 wh
   pub are : words ≡ map part_text (numbers_of step.p step.k)
   pub in_range : AllByRecursion IsInRange (numbers_of step.p step.k)
 
--- `explain P [K]`, or `trail P [K]`
+-- those, or none
+abbrev pub AreAnyStepWords : Option StepAsked → List (List ℕ) → Type 0
+AreAnyStepWords None words = words ≡ []
+AreAnyStepWords (Some step) words = AreStepWords step words
+
+-- what stands for something else in a line as it is typed: a comment, a number, or a name as it is printed
+abbrev pub has_other_meaning : List ℕ → Bool
+has_other_meaning word = is_comment word || (is_digits word || is_name word)
+
+-- at most 4,095 bytes, none of them a blank
+abbrev pub is_one_piece : List ℕ → Bool
+is_one_piece word = nat_le (length word) 4095 && not (list_any is_blank word)
+
+-- a word that names a file, and stands for nothing else
+abbrev pub is_file_name : List ℕ → Bool
+is_file_name word = is_word word && (is_one_piece word && not (has_other_meaning word))
+
+-- `explain P [K]`, `trail P [K]`, or `draw FILE [P [K]]`
 abbrev pub inquiry_word : Inquiry → List ℕ
 inquiry_word (Explain step) = codes "explain"
 inquiry_word (Trail step) = codes "trail"
+inquiry_word (Draw name step) = codes "draw"
 
-abbrev pub step_asked : Inquiry → StepAsked
-step_asked (Explain step) = step
-step_asked (Trail step) = step
+-- the words behind that one
+abbrev pub AreInquiryWords : Inquiry → List (List ℕ) → Type 0
+AreInquiryWords (Explain step) words = AreStepWords step words
+AreInquiryWords (Trail step) words = AreStepWords step words
+AreInquiryWords (Draw name step) words =
+    (is_file_name name ≡ true) × (others : List (List ℕ)) × (words ≡ name ∷ others) × AreAnyStepWords step others
 
 -- the line asks that
 abbrev pub IsInquiryLine : Inquiry → List ℕ → Type 0
 IsInquiryLine inquiry line =
-    (others : List (List ℕ)) × (words_of line ≡ inquiry_word inquiry ∷ others)
-    × AreStepWords (step_asked inquiry) others
+    (others : List (List ℕ)) × (words_of line ≡ inquiry_word inquiry ∷ others) × AreInquiryWords inquiry others

@@ -3,8 +3,9 @@ use Rattle.std.specs.Prelude.{ℕ, List, [], ◌∷◌, codes, Option, None, Som
 use Rattle.std.specs.Str.{bytes_eq}
 use Rattle.cdb_base.specs.declared.question.StepAsked.{StepAsked}
 use Rattle.cdb_text.specs.Readers.{number_of}
+use Rattle.cdb_session.specs.Inquiries.{is_file_name}
 use Rattle.cdb_session.specs.declared.inquiry.Inquiry.{Inquiry}
-use Rattle.cdb_session.specs.declared.inquiry.Inquiry.TheVariants.{Explain, Trail}
+use Rattle.cdb_session.specs.declared.inquiry.Inquiry.TheVariants.{Explain, Trail, Draw}
 
 abbrev pub step_with : ℕ → Option ℕ → StepAsked
 step_with p k = record { p = p; k = k }
@@ -35,10 +36,22 @@ unfoldable pub repeat_in : List (List ℕ) → Option (ℕ × ℕ)
 repeat_in [] = None
 repeat_in (word ∷ others) = if bytes_eq word (codes "auto") then with_count (step_in others) else None
 
+-- the step that the words name, none where there are no words
+unfoldable pub any_step_in : List (List ℕ) → Option (Option StepAsked)
+any_step_in [] = Some None
+any_step_in (word ∷ words) = option_map Some (step_in (word ∷ words))
+
+-- the picture that the words name, if they do: a file, and maybe a step
+unfoldable pub drawing_in : List (List ℕ) → Option Inquiry
+drawing_in [] = None
+drawing_in (name ∷ others) = if is_file_name name then option_map (Draw name) (any_step_in others) else None
+
 -- what the words ask of the run, if they do
 unfoldable pub inquiry_in : List (List ℕ) → Option Inquiry
 inquiry_in [] = None
 inquiry_in (word ∷ others) =
     if bytes_eq word (codes "explain")
     then option_map Explain (step_in others)
-    else (if bytes_eq word (codes "trail") then option_map Trail (step_in others) else None)
+    else (if bytes_eq word (codes "trail")
+    then option_map Trail (step_in others)
+    else (if bytes_eq word (codes "draw") then drawing_in others else None))

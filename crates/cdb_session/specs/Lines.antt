@@ -1,23 +1,26 @@
 -- What one line does.
-use Rattle.std.specs.Prelude.{◌≡◌, ◌⊎◌, ℕ, ◌<◌, ◌≤◌, Bool, true, List, [], ◌++◌, length, Result, Ok, Err, Vec}
-use Rattle.std.specs.Prelude.{Option}
+use Rattle.std.specs.Prelude.{◌≡◌, ◌⊎◌, ℕ, ◌<◌, ◌≤◌, Bool, true, List, [], ◌∷◌, ◌++◌, length, if◌then◌else◌}
+use Rattle.std.specs.Prelude.{Option, None, Some, Result, Ok, Err, Vec}
 use Rattle.std.specs.Global.{Global}
 use Rattle.cdb_commands.specs.ReplyView.{ReplyView, is_refused}
 use Rattle.cdb_control.specs.declared.control.Entry.{Entry}
 use Rattle.cdb_rules.specs.RunView.{RunView}
 use Rattle.cdb_session.specs.Answers.{AnswersNow}
-use Rattle.cdb_session.specs.Exchanges.{Effect, Exchange, given_at}
+use Rattle.cdb_session.specs.Exchanges.{Answer, Effect, Exchange, given_at}
 use Rattle.cdb_session.specs.declared.inquiry.Inquiry.{Inquiry}
 use Rattle.cdb_session.specs.declared.request.Request.{Request}
 use Rattle.cdb_session.specs.declared.request.Request.TheVariants.{Call, Ask}
 use Rattle.cdb_session.specs.Styles.{StyleView, Part, IsFull, IsCalled, AreCalled, MakesNone}
 use Rattle.cdb_session.specs.Dialogues.{full_text}
+use Rattle.cdb_session.specs.Moves.{Output, file, says}
 use Rattle.cdb_session.specs.News.{HasNews, watched_next}
 use Rattle.cdb_session.specs.Parts.{IsGiven, entries_of}
 use Rattle.cdb_session.specs.Repeats.{times_given}
 use Rattle.cdb_text.specs.Texts.{text_of}
-use Rattle.cdb_session.specs.Replies.{Along, response, shown}
+use Rattle.cdb_session.specs.Replies.{Along, responded, response, shown}
 use Rattle.cdb_session.specs.declared.session.Session.{Session}
+use Rattle.cdb_session.specs.declared.shown.NewFile.{NewFile}
+use Rattle.cdb_session.specs.declared.shown.Shown.{Shown}
 
 -- A session between two lines: what the journal has of it, its seat, how many lines there were, and from which entry on
 -- those of others are still to be shown, if somebody watches.
@@ -64,7 +67,17 @@ GivesOnce (Ok last) old one before text new =
     ⊎ (MakesNone old new × IsFull new × (last ≡ true) × (text ≡ before ++ full_text))
 GivesOnce (Err fault) old one before text new = MakesNone old new ⊎ ((reply : ReplyView) × IsCalled old one reply new)
 
-module _ (Answers : RunView → Inquiry → List ℕ → Type 0) where
+-- what is put out, where its file was written and where it could not be
+abbrev pub outputs_with : Option NewFile → List ℕ → List ℕ → Bool → List Output
+outputs_with None text failed saved = says text
+outputs_with (Some its) text failed saved =
+    file (record { name = its.name.now; text = its.text.items; done = saved }) ∷ says (if saved then text else failed)
+
+-- and with these news before what is said
+abbrev pub outputs_of : List ℕ → Shown → Bool → List Output
+outputs_of news shown saved = outputs_with shown.file (news ++ shown.text.items) (news ++ shown.failed.items) saved
+
+module _ (Answers : RunView → Inquiry → Answer → Type 0) where
   -- where the line asks something of the run, this answers it
   abbrev pub IsAnsweredAt : Exchange → Part → Type 0
   IsAnsweredAt exchange part =
@@ -80,21 +93,30 @@ module _ (Answers : RunView → Inquiry → List ℕ → Type 0) where
     pub answer : IsAnsweredAt exchange new
 
   module _ (style : StyleView) where
-    -- The response to a line that asks for this, at which this much was seen and this text was the news. Out of memory
-    -- it may have been begun.
-    abbrev pub Responds : {E : Type 0} → ℕ → List ℕ → Result (Vec ℕ Global) E → SessionView → Request → SessionView
-        → Type 0
-    Responds seen news (Ok text) old request new =
-        (given : ℕ) × (answer : List ℕ) × (got : List ReplyView)
-        × (let exchange : Exchange = (request, record { seen = seen; news = news; given = given; answer = answer }) in
+    -- The response to a line that asks for this, as a text, whatever else came of the line. Out of memory it may have
+    -- been begun.
+    abbrev pub Responds : {E : Type 0} → Effect → Result (Vec ℕ Global) E → SessionView → Request → SessionView → Type 0
+    Responds effect (Ok text) old request new =
+        (given : ℕ) × (answer : Answer) × (got : List ReplyView)
+        × (let exchange : Exchange = (request, record effect { given = given; answer = answer }) in
         HasDone old.seat old.part exchange got new.part × (text.items ≡ response style (at_line old got) exchange))
-    Responds seen news (Err fault) old request new = HasBegun old.seat old.part request new.part
+    Responds effect (Err fault) old request new = HasBegun old.seat old.part request new.part
 
-    -- what is shown then
-    abbrev pub Shows : {E : Type 0} → Result (Vec ℕ Global) E → SessionView → Request → SessionView → Type 0
-    Shows (Ok text) old request new =
-        (effect : Effect) × (got : List ReplyView) × HasDone old.seat old.part (request, effect) got new.part
-        × HasLooked old (request, effect) new × (text.items ≡ shown style (at_line old got) (request, effect))
+    -- and what is put out with it, without the prompt
+    abbrev pub PutsOut : {E : Type 0} → Effect → Result Shown E → SessionView → Request → SessionView → Type 0
+    PutsOut effect (Ok its) old request new =
+        (given : ℕ) × (answer : Answer) × (got : List ReplyView)
+        × (let exchange : Exchange = (request, record effect { given = given; answer = answer }) in
+        HasDone old.seat old.part exchange got new.part
+        × (outputs_of effect.news its effect.saved ≡ responded style (at_line old got) exchange))
+    PutsOut effect (Err fault) old request new = HasBegun old.seat old.part request new.part
+
+    -- what is put out then, whether its file is written or not
+    abbrev pub Shows : {E : Type 0} → Result Shown E → SessionView → Request → SessionView → Type 0
+    Shows (Ok its) old request new =
+        (saved : Bool) → (effect : Effect) × (got : List ReplyView)
+        × HasDone old.seat old.part (request, effect) got new.part × HasLooked old (request, effect) new
+        × (outputs_of [] its saved ≡ shown style (at_line old got) (request, effect))
         × (new.watched ≡ watched_next old.watched (request, effect))
     Shows (Err fault) old request new =
         MakesNone old.part new.part

@@ -4,10 +4,10 @@ use Rattle.cdb_commands.specs.ReplyView.{ReplyView}
 use Rattle.cdb_text.specs.Texts.{text_of}
 use Rattle.cdb_text.specs.declared.fault.LineFault.TheVariants.{Word}
 use Rattle.cdb_session.specs.Dialogues.{full_text, faulty_line_text, fault_response, long_line_text, watch_text}
-use Rattle.cdb_session.specs.Dialogues.{help_response, shown_by, shown_from_by}
-use Rattle.cdb_session.specs.Dialogues.{dialogue_by}
+use Rattle.cdb_session.specs.Dialogues.{answer_text, help_response, responded_by, shown_by, shown_from_by, dialogue_by}
 use Rattle.cdb_session.specs.Due.{stands}
 use Rattle.cdb_session.specs.Exchanges.{Exchange, given_at}
+use Rattle.cdb_session.specs.Moves.{Output}
 use Rattle.cdb_session.specs.News.{watched_next}
 use Rattle.cdb_session.specs.Parts.{seat_next}
 use Rattle.cdb_session.specs.Requests.{seat_line}
@@ -63,7 +63,7 @@ module _ (style : StyleView) where
   -- The response at a line. Where no line chooses a seat, one that does has a wrong word.
   abbrev pub response : Along → Exchange → List ℕ
   response s (Call command times, effect) = replies_text effect.given s.replies
-  response s (Ask inquiry, effect) = effect.answer
+  response s (Ask inquiry, effect) = answer_text (s.lines + 1) inquiry effect.answer effect.saved
   response s (Watch begins, effect) = own_response s.lines (Watch begins)
   response s (Seat seat, effect) = own_response s.lines (Seat seat)
   response s (Help about, effect) = own_response s.lines (Help about)
@@ -87,14 +87,17 @@ module _ (style : StyleView) where
 
   -- ---- all lines
 
-  abbrev pub shown : Along → Exchange → List ℕ
+  abbrev pub responded : Along → Exchange → List Output
+  responded s exchange = responded_by news_and_response next_along style.prompt s exchange
+
+  abbrev pub shown : Along → Exchange → List Output
   shown s exchange = shown_by news_and_response next_along style.prompt s exchange
 
-  abbrev pub shown_from : Along → List Exchange → List ℕ
+  abbrev pub shown_from : Along → List Exchange → List Output
   shown_from s exchanges = shown_from_by news_and_response next_along style.prompt s exchanges
 
-  -- all that is shown in a session whose commands get these replies, at these lines
-  abbrev pub dialogue : List ReplyView → List Exchange → List ℕ
+  -- all that is put out in a session whose commands get these replies, at these lines
+  abbrev pub dialogue : List ReplyView → List Exchange → List Output
   dialogue replies exchanges =
       dialogue_by news_and_response next_along style.prompt style.greeting (begun_along replies) exchanges
 

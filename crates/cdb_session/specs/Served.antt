@@ -3,28 +3,28 @@ use Rattle.std.specs.Prelude.{◌≡◌, ℕ, ◌≤◌, List, ◌++◌, length,
 use Rattle.std.specs.List.{AllZip}
 use Rattle.cdb_streams.specs.Lines.{lines_of}
 use Rattle.cdb_streams.specs.declared.fault.PlayFault.{PlayFault}
-use Rattle.cdb_session.specs.Moves.{Known, Move, Makes, read_in, written_in}
+use Rattle.cdb_session.specs.Moves.{Known, Move, Makes, Output, read_in, written_in}
 use Rattle.cdb_rules.specs.RunView.{RunView}
 use Rattle.cdb_session.specs.Answers.{HasExchanges}
-use Rattle.cdb_session.specs.Exchanges.{Exchange}
+use Rattle.cdb_session.specs.Exchanges.{Answer, Exchange}
 use Rattle.cdb_session.specs.Replies.{dialogue}
 use Rattle.cdb_session.specs.Requests.{AreAsked, AsksForNoLess}
 use Rattle.cdb_session.specs.Sessions.{IsSessionBy}
 use Rattle.cdb_session.specs.Styles.{StyleView, Part}
 use Rattle.cdb_session.specs.declared.inquiry.Inquiry.{Inquiry}
 
-module _ (Answers : RunView → Inquiry → List ℕ → Type 0) (style : StyleView) (part : Part) where
-  -- the text has the responses to these lines, whose commands the journal has, and after them maybe those of further
+module _ (Answers : RunView → Inquiry → Answer → Type 0) (style : StyleView) (part : Part) where
+  -- these are the responses to these lines, whose commands the journal has, and after them maybe those of further
   -- lines
-  abbrev pub IsAnswered : List (List ℕ) → List ℕ → Type 0
-  IsAnswered lines text =
-      (exchanges others : List Exchange) × AreAsked exchanges lines × (text ≡ dialogue style part.replies exchanges)
+  abbrev pub IsAnswered : List (List ℕ) → List Output → Type 0
+  IsAnswered lines outputs =
+      (exchanges others : List Exchange) × AreAsked exchanges lines × (outputs ≡ dialogue style part.replies exchanges)
       × HasExchanges Answers style part (exchanges ++ others)
 
   -- so it is, without further ones
-  abbrev pub IsServed : List (List ℕ) → List ℕ → Type 0
-  IsServed lines text =
-      (exchanges : List Exchange) × AreAsked exchanges lines × (text ≡ dialogue style part.replies exchanges)
+  abbrev pub IsServed : List (List ℕ) → List Output → Type 0
+  IsServed lines outputs =
+      (exchanges : List Exchange) × AreAsked exchanges lines × (outputs ≡ dialogue style part.replies exchanges)
       × HasExchanges Answers style part exchanges
 
   -- the journal has the commands of these lines, and of the next line's command as often as it was given until then

@@ -4,8 +4,8 @@ use Rattle.std.specs.List.{AllByRecursion}
 use Rattle.cdb_streams.specs.Lines.{lines_of}
 use Rattle.cdb_streams.specs.declared.fault.PlayFault.{PlayFault}
 use Rattle.cdb_streams.specs.declared.fault.PlayFault.TheVariants as fault
-use Rattle.cdb_session.specs.Moves.{Move, Read, ReadFailed, read_in, written_in, AsksForInput, FailsToWrite, EndsWith}
-use Rattle.cdb_session.specs.Moves.{FindsTheEnd}
+use Rattle.cdb_session.specs.Moves.{Move, Read, ReadFailed, Output, read_in, written_in, AsksForInput, FailsToWrite}
+use Rattle.cdb_session.specs.Moves.{EndsWith, FindsTheEnd}
 use Rattle.cdb_session.specs.Requests.{ended_lines, HaveQuit}
 
 -- the most bytes that a session reads, which no input has in practice
@@ -22,8 +22,8 @@ pub data HasEnded (moves : List Move) : Type 0 where
 abbrev pub IsOpen : List Move → Type 0
 IsOpen moves = AllByRecursion (λ move. move ≢ Read []) moves
 
--- of a session that responds to these lines with this text
-module _ (Responds : List (List ℕ) → List ℕ → Type 0) where
+-- of a session that responds to these lines with this
+module _ (Responds : List (List ℕ) → List Output → Type 0) where
   -- all lines that have ended have their responses in full, and none of them is `quit`; and there may be more
   pub record HasResponded (moves : List Move) : Type 0 where
     pub responded : Responds (ended_lines (read_in moves)) (written_in moves)
@@ -45,15 +45,15 @@ module _ (Responds : List (List ℕ) → List ℕ → Type 0) where
   pub record IsBroken (moves : List Move) : Type 0 where
     pub lines : List (List ℕ)
     pub others : List (List ℕ)
-    pub text : List ℕ
-    pub missing : List ℕ
+    pub outputs : List Output
+    pub missing : List Output
     pub begins : lines_of (read_in moves) ≡ lines ++ others
-    pub responded : Responds lines text
-    pub written : text ≡ written_in moves ++ missing
+    pub responded : Responds lines outputs
+    pub written : outputs ≡ written_in moves ++ missing
 
--- What may be said besides, once the session has ended: so it has served these lines with this text, and so it was cut
+-- What may be said besides, once the session has ended: so it has served these lines with this, and so it was cut
 -- short.
-module _ (Responds Serves : List (List ℕ) → List ℕ → Type 0) (IsCutShort : List Move → Type 0) where
+module _ (Responds Serves : List (List ℕ) → List Output → Type 0) (IsCutShort : List Move → Type 0) where
   -- the moves by what the session returned
   abbrev pub EndsAs : {A : Type 0} → Result A PlayFault → List Move → Type 0
   EndsAs (Ok done) moves = IsWhole Serves moves

@@ -12,10 +12,11 @@ use Rattle.cdb_rules.specs.RunView.{RunView}
 use Rattle.cdb_rules.specs.Rules.{Rules}
 use Rattle.cdb_setup.specs.Parts.{Parts}
 use Rattle.cdb_text.specs.Texts.{text_of}
-use Rattle.cdb_session.specs.Dialogues.{full_text, fault_response, long_line_text, help_response}
+use Rattle.cdb_session.specs.Dialogues.{full_text, fault_response, long_line_text, answer_text, help_response}
 use Rattle.cdb_session.specs.Dialogues.{dialogue_by, watch_text}
 use Rattle.cdb_session.specs.Answers.{run_left}
-use Rattle.cdb_session.specs.Exchanges.{Exchange}
+use Rattle.cdb_session.specs.Exchanges.{Answer, Exchange}
+use Rattle.cdb_session.specs.Moves.{Output}
 use Rattle.cdb_session.specs.Parts.{seat_next}
 use Rattle.cdb_session.specs.Requests.{AreAsked, seat_line}
 use Rattle.cdb_session.specs.declared.inquiry.Inquiry.{Inquiry}
@@ -73,7 +74,7 @@ module _ (rules : Parts → Rules) (seat : ℕ) (command : Command) where
 -- the response at a line
 abbrev pub response_to : Session → Exchange → List ℕ
 response_to s (Call command times, effect) = texts_at s.rules s.seat command s.control effect.given
-response_to s (Ask inquiry, effect) = effect.answer
+response_to s (Ask inquiry, effect) = answer_text (s.lines + 1) inquiry effect.answer effect.saved
 response_to s (Watch begins, effect) = watch_text begins
 response_to s (Seat seat, effect) = seat_line seat ++ codes "\n"
 response_to s (Help about, effect) = help_response (s.lines + 1) true about
@@ -106,8 +107,8 @@ session_after s exchanges = fold after_line s exchanges
 abbrev pub run_in : Session → RunView
 run_in s = run_left s.rules s.control.setup s.control.seats s.control.journal
 
--- of a run, what is asked of it and a text, whether the text is the answer
-module _ (Answers : RunView → Inquiry → List ℕ → Type 0) where
+-- of a run, what is asked of it and an answer, whether it is that answer
+module _ (Answers : RunView → Inquiry → Answer → Type 0) where
   -- A command is given as often as it can be. What a line asks of the run is answered by the one that the control has
   -- come to.
   abbrev pub IsAnsweredIn : Session → Exchange → Type 0
@@ -120,12 +121,12 @@ module _ (Answers : RunView → Inquiry → List ℕ → Type 0) where
   AreAnswered s (exchange ∷ exchanges) = IsAnsweredIn s exchange × AreAnswered (after_line s exchange) exchanges
 
   module _ (greeting prompt : List ℕ) where
-    -- all that is shown in a session from this start at these lines
-    abbrev pub dialogue : Session → List Exchange → List ℕ
+    -- all that is put out in a session from this start at these lines
+    abbrev pub dialogue : Session → List Exchange → List Output
     dialogue start exchanges = dialogue_by response_to after_line prompt greeting start exchanges
 
-    -- the text is that of a session from this start with these lines, of which it responds to those up to `quit`
-    abbrev pub IsDialogue : Session → List (List ℕ) → List ℕ → Type 0
-    IsDialogue start lines text =
+    -- this is put out in a session from this start with these lines, of which it responds to those up to `quit`
+    abbrev pub IsDialogue : Session → List (List ℕ) → List Output → Type 0
+    IsDialogue start lines outputs =
         (exchanges : List Exchange) × AreAsked exchanges lines
-        × AreAnswered start exchanges × (text ≡ dialogue start exchanges)
+        × AreAnswered start exchanges × (outputs ≡ dialogue start exchanges)

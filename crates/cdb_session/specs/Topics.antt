@@ -4,7 +4,7 @@ use Rattle.std.specs.Str.{bytes_eq}
 use Rattle.cdb_session.specs.declared.topic.Topic.{Topic}
 use Rattle.cdb_session.specs.declared.topic.Topic.TheVariants.{Step, Auto, Lose, Undo, Redo, Forget, Rollback}
 use Rattle.cdb_session.specs.declared.topic.Topic.TheVariants.{Why, Break, Unbreak, Resume, Show, Decisions}
-use Rattle.cdb_session.specs.declared.topic.Topic.TheVariants.{Explain, Trail, Watch, Unwatch, Help, Quit, Seat}
+use Rattle.cdb_session.specs.declared.topic.Topic.TheVariants.{Explain, Trail, Draw, Watch, Unwatch, Help, Quit, Seat}
 
 abbrev pub topic_word : Topic → List ℕ
 topic_word Step = codes "step"
@@ -22,6 +22,7 @@ topic_word Show = codes "show"
 topic_word Decisions = codes "decisions"
 topic_word Explain = codes "explain"
 topic_word Trail = codes "trail"
+topic_word Draw = codes "draw"
 topic_word Watch = codes "watch"
 topic_word Unwatch = codes "unwatch"
 topic_word Help = codes "help"
@@ -32,7 +33,7 @@ topic_word Seat = codes "seat"
 abbrev pub topics : List Topic
 topics =
     Step ∷ Auto ∷ Lose ∷ Undo ∷ Redo ∷ Forget ∷ Rollback ∷ Why ∷ Break ∷ Unbreak ∷ Resume ∷ Show ∷ Decisions
-    ∷ Explain ∷ Trail ∷ Watch ∷ Unwatch ∷ Help ∷ Quit ∷ Seat ∷ []
+    ∷ Explain ∷ Trail ∷ Draw ∷ Watch ∷ Unwatch ∷ Help ∷ Quit ∷ Seat ∷ []
 
 -- the one that this word is
 unfoldable pub topic_of : List ℕ → Option Topic

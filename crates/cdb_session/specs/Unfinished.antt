@@ -5,11 +5,11 @@ use Rattle.std.specs.List.{AllZip, AllByRecursion, flat_map}
 use Rattle.cdb_commands.specs.ReplyView.{ReplyView}
 use Rattle.cdb_session.specs.Requests.{HasNoEnd, Asks, AsksFor, IsQuit}
 use Rattle.cdb_session.specs.Typed.{line_meant}
-use Rattle.cdb_session.specs.Moves.{Known, Move, read_in, written_in, AreWrites, FailsToWrite, EndsWith, FindsTheEnd}
-use Rattle.cdb_session.specs.Moves.{Makes}
+use Rattle.cdb_session.specs.Moves.{Known, Move, Output, read_in, written_in, AreWrites, FailsToWrite, EndsWith}
+use Rattle.cdb_session.specs.Moves.{FindsTheEnd, Makes}
 use Rattle.cdb_rules.specs.RunView.{RunView}
 use Rattle.cdb_session.specs.Answers.{HasExchanges}
-use Rattle.cdb_session.specs.Exchanges.{Effect, Exchange}
+use Rattle.cdb_session.specs.Exchanges.{Answer, Effect, Exchange}
 use Rattle.cdb_session.specs.declared.inquiry.Inquiry.{Inquiry}
 use Rattle.cdb_session.specs.declared.request.Request.{Request}
 use Rattle.cdb_session.specs.declared.request.Request.TheVariants.{Quit}
@@ -53,7 +53,7 @@ part_with replies part = record part { replies = replies }
 abbrev pub MoreMayFollow : List ReplyView → Part → Type 0
 MoreMayFollow more part = IsFull part → more ≡ []
 
-module _ (Answers : RunView → Inquiry → List ℕ → Type 0) (style : StyleView) where
+module _ (Answers : RunView → Inquiry → Answer → Type 0) (style : StyleView) where
   -- so far the session has responded in time, whatever its journal will have of it beside these commands
   abbrev pub RespondsOnTime : List ReplyView → List Exchange → List Move → Type 0
   RespondsOnTime replies exchanges moves =
@@ -110,7 +110,7 @@ module _ (Answers : RunView → Inquiry → List ℕ → Type 0) (style : StyleV
     pub got : List ReplyView
     pub done : HasDone Answers old.seat old.part exchange got new.part
     pub looked : HasLooked old exchange new
-    pub missing : List ℕ
+    pub missing : List Output
     pub written : shown style (at_line old got) exchange ≡ written_in made ++ missing
     pub fails : EndsWith FailsToWrite made
 

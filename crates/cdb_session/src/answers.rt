@@ -1,31 +1,38 @@
 //! Who answers what is asked of a run.
 
-ghost use Rattle.std.specs.Prelude.{◌≡◌, ◌<◌, ◌≤◌, ℕ, List, [], IfOk, OnOk, length};
+ghost use Rattle.std.specs.Prelude.{◌≡◌, ◌<◌, ◌≤◌, [], IfOk, OnOk, length};
 ghost use Rattle.cdb_base.specs.Limits.{MAX_ENTRIES, MAX_SEATS};
 ghost use Rattle.cdb_control.specs.Journal.{AreOfSeats, extended};
 ghost use Rattle.cdb_rules.specs.ByRules.{IsInOrder};
 ghost use Rattle.cdb_rules.specs.RunView.{RunView};
 ghost use Rattle.cdb_session.specs.Alone.{HasJournal};
-ghost use Rattle.cdb_session.specs.Answers.{run_left};
+ghost use Rattle.cdb_session.specs.Answers.{answer_seen, run_left};
+ghost use Rattle.cdb_session.specs.Exchanges.{Answer};
 ghost use Rattle.cdb_session.specs.declared.inquiry.Inquiry.{Inquiry as InquiryName};
 ghost use Rattle.cdb_setup.specs.Parts.{IsWithin};
 
 use crate::inquiry::Inquiry;
 use cdb_base::NoMemory;
 use cdb_control::{CallFault, Control, Entry, OpenFault};
+use cdb_explain::trace_of;
 use cdb_rules::{Runs, Trace};
 use cdb_setup::Setup;
 use std::alloc::Global;
 
 /// Who answers what is asked of a run of this type.
 pub trait Answers<R: Runs> {
-    // Of a run, what is asked of it and a text, whether the text is the answer.
-    ghost answers: { RunView → InquiryName → List ℕ → Type 0 };
+    // Of a run, what is asked of it and an answer, whether it is that answer.
+    ghost answers: { RunView → InquiryName → Answer → Type 0 };
 
-    /// The answer to what is asked of a run.
-    fn answer(alloc: Global, run: &Trace, inquiry: Inquiry) -> Result<Vec<u8>, NoMemory>
-        requires { IsInOrder R.rules run.now }
-        ensures { IfOk result (λ text. answers run.now inquiry text.items) };
+    /// The answer to what is asked of a run: the text, or one that says why there is none.
+    fn answer(
+        alloc: Global,
+        run: &Trace,
+        inquiry: &Inquiry<'_>,
+    ) -> Result<Result<Vec<u8>, Vec<u8>>, NoMemory>
+        requires valid { IsInOrder R.rules run.now }
+        requires few { length run.now.history ≤ MAX_ENTRIES }
+        ensures { IfOk result (λ answer. answers run.now inquiry.now (answer_seen answer)) };
 }
 
 /// Carries out the command of an entry, for its seat.
@@ -100,10 +107,10 @@ fn run_left<R: Runs>(
     requires few { length entries.now ≤ MAX_ENTRIES }
     ensures left { IfOk result (λ run. run ≡ run_left R.rules setup seats entries.now) }
     ensures valid { IfOk result (IsInOrder R.rules) }
+    ensures few { IfOk result (λ run. length run.history ≤ MAX_ENTRIES) }
 {
     let control = control_with::<R>(alloc, setup, seats, entries)?;
-    let (setup, history) = control.into_run().into_parts();
-    Trace::new(alloc, setup, history)
+    trace_of(alloc, control)
 }
 
 /// The answer to what is asked of the run that a journal leaves, of a control with this setup and 1 to 64 seats: its
@@ -113,13 +120,13 @@ pub fn answer_of<R: Runs, A: Answers<R>>(
     setup: &Setup,
     seats: u8,
     entries: &[Entry],
-    inquiry: Inquiry,
-) -> Result<Vec<u8>, NoMemory>
+    inquiry: &Inquiry<'_>,
+) -> Result<Result<Vec<u8>, Vec<u8>>, NoMemory>
     requires some { (1 ≤ seats) × (seats ≤ MAX_SEATS) }
     requires seats { AreOfSeats seats entries.now }
     requires few { length entries.now ≤ MAX_ENTRIES }
     ensures { IfOk result
-        (λ text. A.answers (run_left R.rules setup.now seats entries.now) inquiry text.items) }
+        (λ answer. A.answers (run_left R.rules setup.now seats entries.now) inquiry.now (answer_seen answer)) }
 {
     let setup = setup.copy(alloc)?;
     let run = run_left::<R>(alloc, setup, seats, entries)?;
@@ -130,10 +137,10 @@ pub fn answer_of<R: Runs, A: Answers<R>>(
 pub fn answer_in<R: Runs, A: Answers<R>>(
     alloc: Global,
     control: &Control<R>,
-    inquiry: Inquiry,
-) -> Result<Vec<u8>, NoMemory>
-    ensures answer { IfOk result (λ text. A.answers
-        (run_left R.rules control.now.setup control.now.seats control.now.journal) inquiry text.items) }
+    inquiry: &Inquiry<'_>,
+) -> Result<Result<Vec<u8>, Vec<u8>>, NoMemory>
+    ensures answer { IfOk result (λ answer. A.answers
+        (run_left R.rules control.now.setup control.now.seats control.now.journal) inquiry.now (answer_seen answer)) }
     ensures limit { length control.now.journal ≤ MAX_ENTRIES }
 {
     let (setup, seats) = (control.run().setup(), control.seats());

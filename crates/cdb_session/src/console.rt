@@ -2,11 +2,11 @@
 
 ghost use Rattle.std.specs.Prelude.{◌≡◌, ◌<◌, ◌++◌, ◌∷◌, [], length};
 ghost use Rattle.std.specs.Io.{ReadsAtMost, WritesAtMost};
-ghost use Rattle.cdb_session.specs.Moves.{Known, Makes, move_of_read, move_of_write, WritesAll};
+ghost use Rattle.cdb_session.specs.Moves.{Known, Makes, Saves, move_of_read, move_of_write, saving_of, says, WritesAll};
 
 use cdb_streams::Failed;
 
-/// What gives the lines of a session, and takes the responses.
+/// What gives the lines of a session, and takes the responses and new files.
 pub trait Console {
     /// What is known of it: what was read from it and written to it.
     ghost known: { Self → Known };
@@ -26,11 +26,16 @@ pub trait Console {
         ensures within { WritesAtMost result piece.now }
         ensures moves { Makes (known self.old) (known self.new)
             (move_of_write result piece.now ∷ []) };
+
+    /// Writes a text to a new file of this name. After an error there is no such file, or one that was there before.
+    fn save(&mut self, name: &[u8], text: &[u8]) -> Result<(), Failed>
+        ensures moves { Makes (known self.old) (known self.new)
+            (Saves (saving_of result name.now text.now) ∷ []) };
 }
 
 /// Writes all the bytes. A write that takes none of them is a failure, and none is tried again.
 pub fn write_all<T: Console>(console: &mut T, bytes: &[u8]) -> Result<(), Failed>
-    ensures { WritesAll result (T.known console.old) (T.known console.new) bytes.now }
+    ensures { WritesAll result (T.known console.old) (T.known console.new) (says bytes.now) }
 {
     let mut done = 0;
     while done < bytes.len() {

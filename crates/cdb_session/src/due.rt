@@ -5,10 +5,11 @@ ghost use Rattle.std.specs.List.{list_any};
 ghost use Rattle.std.specs.Str.{bytes_eq};
 ghost use Rattle.cdb_text.specs.Grammar.{words_of};
 ghost use Rattle.cdb_text.specs.Pushes.{Pushes};
-ghost use Rattle.cdb_session.specs.Due.{due_text, takes_number, words_at, is_number, may_stand};
-ghost use Rattle.cdb_session.specs.Due.{event, with_process, behind, dues_of};
+ghost use Rattle.cdb_session.specs.Due.{due_text, names, words_at, is_number, may_stand};
+ghost use Rattle.cdb_session.specs.Due.{event, with_file, with_process, behind, dues_of};
 ghost use Rattle.cdb_session.specs.Due.{ends, stands, first_amiss, amiss_in, shown_byte, shown_word, amiss_text};
 
+use crate::inquiry::is_file_name;
 use crate::topic::Topic;
 use crate::typed::{ACTS, FIRST, LOST, STOPS, VIEWS, is_digits};
 use std::alloc::{AllocError, Global};
@@ -34,6 +35,8 @@ pub enum Due {
     Seat,
     /// How often.
     Count,
+    /// The name of a file.
+    File,
     /// The line is to end.
     Nothing,
 }
@@ -75,13 +78,14 @@ impl Due {
             Due::Register => "r1 to r9 or dec",
             Due::Seat => "a seat from 1 to 9",
             Due::Count => "a count",
+            Due::File => "a file",
             Due::Nothing => "nothing more",
         }
     }
 
-    /// Whether a number may stand there.
-    fn takes_number(self) -> bool
-        ensures { result ≡ takes_number self }
+    /// Whether the word is a number where one may stand, or the name of a file.
+    fn names(self, word: &[u8]) -> bool
+        ensures { result ≡ names self word.now }
     {
         match self {
             Due::Process
@@ -91,12 +95,13 @@ impl Due {
             | Due::Step
             | Due::Round
             | Due::Breakpoint
-            | Due::Count => true,
+            | Due::Count => is_number(word),
+            Due::File => is_file_name(word),
             Due::Command | Due::Act | Due::Stop | Due::Register | Due::Seat | Due::Nothing => false,
         }
     }
 
-    /// The words that may stand there, besides numbers.
+    /// The words that may stand there, besides numbers and names.
     fn words(self) -> &'static [&'static [u8]]
         ensures { map (λ it. it.now) result.now ≡ words_at self }
     {
@@ -114,6 +119,7 @@ impl Due {
             | Due::Round
             | Due::Breakpoint
             | Due::Count
+            | Due::File
             | Due::Nothing => &[],
         }
     }
@@ -129,8 +135,7 @@ impl Due {
     fn allows(self, chooses: bool, word: &[u8]) -> bool
         ensures { result ≡ may_stand chooses self word.now }
     {
-        (self.takes_number() && is_number(word))
-            || (self.has(word) && (chooses || word != b"seat".as_slice()))
+        self.names(word) || (self.has(word) && (chooses || word != b"seat".as_slice()))
     }
 }
 
@@ -207,6 +212,17 @@ fn asked(words: &[&[u8]]) -> &'static [Due]
     }
 }
 
+/// What is due in a line that begins with `draw`, where these are its other words.
+fn drawing(words: &[&[u8]]) -> &'static [Due]
+    ensures { result.now ≡ Due.Command ∷ with_file (map (λ it. it.now) words.now) }
+{
+    match words {
+        [] | [_] => &[Due::Command, Due::File],
+        [_, _] => &[Due::Command, Due::File, Due::Process],
+        _ => &[Due::Command, Due::File, Due::Process, Due::Step],
+    }
+}
+
 /// What is due in a line that begins so, where these are its other words.
 fn line_of(first: Topic, words: &[&[u8]]) -> &'static [Due]
     ensures { result.now ≡ Due.Command ∷ behind first (map (λ it. it.now) words.now) }
@@ -220,6 +236,7 @@ fn line_of(first: Topic, words: &[&[u8]]) -> &'static [Due]
         Topic::Unbreak => &[Due::Command, Due::Breakpoint],
         Topic::Show => &[Due::Command, Due::ProcessOrView],
         Topic::Explain | Topic::Trail => asked(words),
+        Topic::Draw => drawing(words),
         Topic::Help if !words.is_empty() => &[Due::Command, Due::Command],
         Topic::Seat => &[Due::Command, Due::Seat],
         Topic::Help

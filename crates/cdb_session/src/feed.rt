@@ -7,7 +7,7 @@ ghost use Rattle.cdb_session.specs.Unfinished.{RespondsToLine, Feeds};
 ghost use Rattle.cdb_setup.specs.Format.{longest};
 
 use crate::caller::Caller;
-use crate::console::{Console, write_all};
+use crate::console::Console;
 use crate::request::request_of;
 use crate::session::Session;
 use crate::style::Style;
@@ -34,8 +34,7 @@ pub(crate) fn respond_to_line<C: Caller, T: Console>(
 {
     let line = line_meant(alloc, unfinished.as_slice())?;
     let request = request_of(line.as_slice());
-    let text = session.show(alloc, style, &request)?;
-    write_all(console, text.as_slice())?;
+    session.show(alloc, style, &request)?.put(console)?;
     unfinished.clear();
     Ok(request.is_quit())
 }

@@ -49,6 +49,7 @@ pub const SEATS: &str = "  seat 1 .. seat 9      makes the lines after it those 
 pub const OTHERS: &str = "  auto P N              does auto P N times, until it is refused
   explain P [K]         prints what led to step K of P, or to its last step
   trail P [K]           prints how a value came to that step
+  draw FILE [P [K]]     draws the run, or what led to that step, in a new file
   watch                 shows from now on what other seats do, before each response
   unwatch               shows it no longer
   help                  lists the commands

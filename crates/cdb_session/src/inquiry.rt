@@ -5,17 +5,39 @@ ghost use Rattle.std.specs.Str.Parse.{AllDigits, digits_value};
 ghost use Rattle.cdb_text.specs.Grammar.{words_of};
 ghost use Rattle.cdb_text.specs.Readers.{number_of};
 ghost use Rattle.cdb_text.specs.Words.{words_left};
-ghost use Rattle.cdb_session.specs.InquiryWords.{inquiry_in, repeat_in, step_in};
+ghost use Rattle.cdb_session.specs.Inquiries.{has_other_meaning, is_file_name, is_one_piece};
+ghost use Rattle.cdb_session.specs.InquiryWords.{any_step_in, drawing_in, inquiry_in, repeat_in, step_in};
 
+use crate::typed::{is_blank, is_comment, is_digits, is_name, is_word};
 use cdb_base::StepAsked;
+use std::marker::Model;
+
+/// The most bytes of a file's name, as many as the system takes.
+const MOST_NAME: usize = 4095;
+
+/// The name of a file as a line gives it: 1 to 4,095 bytes, none of them a blank.
+#[derive(Drop)]
+pub struct FileName<'a> {
+    pub bytes: &'a [u8],
+}
+
+impl<'a> Model for FileName<'a> {
+    ghost use Rattle.std.specs.Prelude.{ℕ, List};
+
+    ghost Value = { List ℕ };
+
+    ghost view = { λ name. name.bytes.now };
+}
 
 /// What a line asks of the run as it stands.
-#[derive(Clone, Copy)]
-pub enum Inquiry {
+#[derive(Drop)]
+pub enum Inquiry<'a> {
     /// What led to the step.
     Explain(StepAsked),
     /// How a value came to the step.
     Trail(StepAsked),
+    /// The picture of the run, or of what led to the step, in a new file of this name.
+    Draw(FileName<'a>, Option<StepAsked>),
 }
 
 /// The first word of a line, and what is left after the space that follows it.
@@ -73,6 +95,54 @@ fn step_of(words: Option<&[u8]>) -> Option<StepAsked>
     }
 }
 
+/// The step that the words behind a file's name ask for, none where there are no words.
+#[tactic(auto, unfolding(crate::specs::InquiryWords::any_step_in))]
+fn any_step_of(words: Option<&[u8]>) -> Option<Option<StepAsked>>
+    ensures { result ≡ any_step_in (words_left words.entry) }
+{
+    match words {
+        None => Some(None),
+        Some(line) => match step_of(Some(line)) {
+            Some(step) => Some(Some(step)),
+            None => None,
+        },
+    }
+}
+
+/// Whether a word is not too long to name a file, and has no blank.
+fn is_one_piece(word: &[u8]) -> bool
+    ensures { result ≡ is_one_piece word.now }
+{
+    word.len() <= MOST_NAME && !word.iter().any(|byte| is_blank(*byte))
+}
+
+/// Whether a word stands for something else than a file: a comment, a number, or a name as it is printed.
+fn has_other_meaning(word: &[u8]) -> bool
+    ensures { result ≡ has_other_meaning word.now }
+{
+    is_comment(word) || is_digits(word) || is_name(word)
+}
+
+/// Whether a word names a file.
+pub(crate) fn is_file_name(word: &[u8]) -> bool
+    ensures { result ≡ is_file_name word.now }
+{
+    is_word(word) && is_one_piece(word) && !has_other_meaning(word)
+}
+
+/// The picture that the words behind `draw` ask for.
+#[tactic(auto, unfolding(crate::specs::InquiryWords::drawing_in))]
+fn drawing_of(words: Option<&[u8]>) -> Option<Inquiry<'_>>
+    ensures { result ≡ drawing_in (words_left words.entry) }
+{
+    let (bytes, others) = first_word(words?);
+    if !is_file_name(bytes) {
+        return None;
+    }
+    let step = any_step_of(others)?;
+    Some(Inquiry::Draw(FileName { bytes }, step))
+}
+
 /// The process and the count of a line `auto P N`.
 #[tactic(auto, unfolding(crate::specs::InquiryWords::repeat_in))]
 pub(crate) fn repeat_of(line: &[u8]) -> Option<(u32, u32)>
@@ -88,7 +158,7 @@ pub(crate) fn repeat_of(line: &[u8]) -> Option<(u32, u32)>
 
 /// What a line asks of the run, if it does.
 #[tactic(auto, unfolding(crate::specs::InquiryWords::inquiry_in))]
-pub(crate) fn inquiry_of(line: &[u8]) -> Option<Inquiry>
+pub(crate) fn inquiry_of(line: &[u8]) -> Option<Inquiry<'_>>
     ensures { result ≡ inquiry_in (words_of line.now) }
 {
     let (word, others) = first_word(line);
@@ -97,6 +167,9 @@ pub(crate) fn inquiry_of(line: &[u8]) -> Option<Inquiry>
     }
     if word == b"trail".as_slice() {
         return Some(Inquiry::Trail(step_of(others)?));
+    }
+    if word == b"draw".as_slice() {
+        return drawing_of(others);
     }
     None
 }

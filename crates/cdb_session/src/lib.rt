@@ -3,7 +3,7 @@
 //! run by whoever knows such a run.
 //!
 //! ```text
-//! let mut console = Streams::new(Input::new(rt.reader()), Output::new(io::writer(rt)));
+//! let mut console = Streams::new(Input::new(rt.reader()), Output::new(io::writer(rt)), files);
 //! let outcome = debug::<R, A, _>(rt.alloc(), setup, b"> ", &mut console);
 //! ```
 #![tactic(auto)]
@@ -22,6 +22,7 @@ mod repl;
 mod request;
 mod response;
 mod session;
+mod shown;
 mod since;
 mod streams;
 mod style;
@@ -35,10 +36,10 @@ pub use caller::{Caller, News};
 pub use console::{Console, write_all};
 pub use greeting::{greeting_at, greeting_text};
 pub use help::{COMMANDS, OTHERS, SEATS};
-pub use inquiry::Inquiry;
+pub use inquiry::{FileName, Inquiry};
 pub use repl::run;
 pub use request::{FaultyLine, Request, request_of};
-pub use streams::Streams;
+pub use streams::{NewFiles, Streams};
 pub use style::Style;
 pub use topic::Topic;
 pub use unfinished::{cut, hold};

@@ -4,7 +4,7 @@ ghost use Rattle.std.specs.Prelude.{◌≡◌, [], ◌-◌, ◌<◌, ◌^◌, �
 ghost use Rattle.cdb_session.specs.Lines.{seen_by};
 ghost use Rattle.cdb_session.specs.Served.{HoldsSession};
 ghost use Rattle.cdb_session.specs.Since.{since};
-ghost use Rattle.cdb_session.specs.Moves.{WritesAll};
+ghost use Rattle.cdb_session.specs.Moves.{WritesAll, says};
 ghost use Rattle.cdb_session.specs.Styles.{MaySit, Onward};
 ghost use Rattle.cdb_session.specs.Unfinished.{RespondsToLast, RespondsToAll};
 
@@ -71,7 +71,8 @@ pub fn run<C: Caller, T: Console>(
 
 /// Shows the prompt. It takes no memory.
 fn write_prompt<T: Console>(style: &Style<'_>, console: &mut T) -> Result<(), Failed>
-    ensures { WritesAll result (T.known console.old) (T.known console.new) style.now.prompt }
+    ensures { WritesAll result (T.known console.old) (T.known console.new)
+        (says style.now.prompt) }
 {
     if !style.numbered {
         return write_all(console, style.prompt);
@@ -84,7 +85,7 @@ fn write_prompt<T: Console>(style: &Style<'_>, console: &mut T) -> Result<(), Fa
 /// Shows the greeting and the first prompt. It takes no memory.
 fn write_opening<T: Console>(style: &Style<'_>, console: &mut T) -> Result<(), Failed>
     ensures { WritesAll result (T.known console.old) (T.known console.new)
-        (style.now.greeting ++ style.now.prompt) }
+        (says (style.now.greeting ++ style.now.prompt)) }
 {
     write_all(console, style.greeting)?;
     write_prompt(style, console)

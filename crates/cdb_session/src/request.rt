@@ -36,7 +36,7 @@ pub enum Request<'a> {
     /// The command, by the seat that the session is at, so many times, from 1 to 999,999, or until it is refused.
     Call(Command, u32),
     /// The answer to this, of the run as it stands.
-    Ask(Inquiry),
+    Ask(Inquiry<'a>),
     /// What others do is shown from now on, or no longer.
     Watch(bool),
     /// The lines that follow are this seat's, from 1 to 9.

@@ -1,6 +1,6 @@
 //! A session: what its lines have led to.
 
-ghost use Rattle.std.specs.Prelude.{◌≡◌, ◌+◌, ◌-◌, ◌<◌, ◌≤◌, ◌^◌, ◌++◌, ℕ, List, None, codes, length, true, IfOk, OnOk};
+ghost use Rattle.std.specs.Prelude.{◌≡◌, ◌+◌, ◌-◌, ◌<◌, ◌≤◌, ◌^◌, ◌++◌, ℕ, None, codes, length, true, IfOk, OnOk};
 ghost use Rattle.cdb_commands.specs.ReplyView.{is_refused, reply_view};
 ghost use Rattle.cdb_text.specs.Pushes.{Pushes};
 ghost use Rattle.cdb_text.specs.Texts.{text_of};
@@ -9,15 +9,18 @@ ghost use Rattle.cdb_session.specs.Requests.{most_seats, seat_line};
 ghost use Rattle.cdb_setup.specs.Parts.{IsWithin};
 ghost use Rattle.cdb_session.specs.Replies.{own_response};
 ghost use Rattle.cdb_control.specs.Journal.{entry};
-ghost use Rattle.cdb_session.specs.Lines.{GivesOnce, Responds, Shows, seen_by};
+ghost use Rattle.cdb_session.specs.Exchanges.{Effect};
+ghost use Rattle.cdb_session.specs.Lines.{GivesOnce, PutsOut, Responds, Shows, seen_by};
 ghost use Rattle.cdb_session.specs.News.{HasNews};
 ghost use Rattle.cdb_session.specs.Parts.{seat_next};
 ghost use Rattle.cdb_session.specs.Styles.{MakesNone, MaySit, Onward};
 
 use crate::caller::{Caller, News};
 use crate::help::{push_about, push_help};
+use crate::inquiry::Inquiry;
 use crate::request::Request;
 use crate::response::{push_faulty, push_no_command, push_seat, push_too_long, push_watch};
+use crate::shown::{Shown, answered};
 use crate::style::Style;
 use crate::topic::Topic;
 use cdb_base::NoMemory;
@@ -82,7 +85,7 @@ impl<C: Caller> Session<C> {
         times: u32,
     ) -> Result<Vec<u8>, NoMemory>
         requires { MaySit style.now (C.seats self.old.caller) self.old.seat }
-        ensures responds { (seen : ℕ) (news : List ℕ) → Responds C.answers style.now seen news result
+        ensures responds { (effect : Effect) → Responds C.answers style.now effect result
             (seen_by C.part self.old) (Request.Call command.now times) (seen_by C.part self.new) }
         ensures seat { self.new.seat ≡ self.old.seat }
         ensures lines { self.new.lines ≡ self.old.lines }
@@ -119,18 +122,38 @@ impl<C: Caller> Session<C> {
         own_response(alloc, style, self.lines, request)
     }
 
-    /// Does what a line asks for, and returns the response. After an error the session is not to go on.
-    fn respond(
+    /// Asks something of the run, and returns what is put out then.
+    fn ask<'a>(
         &mut self,
         alloc: Global,
         style: &Style<'_>,
-        request: &Request<'_>,
-    ) -> Result<Vec<u8>, NoMemory>
+        inquiry: &Inquiry<'a>,
+    ) -> Result<Shown<'a>, NoMemory>
+        requires { self.old.lines < 2 ^ 64 - 1 }
+        ensures responds { (effect : Effect) → PutsOut C.answers style.now effect result
+            (seen_by C.part self.old) (Request.Ask inquiry.now) (seen_by C.part self.new) }
+        ensures seat { self.new.seat ≡ self.old.seat }
+        ensures lines { self.new.lines ≡ self.old.lines }
+        ensures watched { self.new.watched ≡ self.old.watched }
+        ensures seats { C.seats self.new.caller ≡ C.seats self.old.caller }
+        ensures later { C.later self.old.caller self.new.caller }
+    {
+        let answer = self.caller.ask(alloc, inquiry)?;
+        answered(alloc, self.lines + 1, inquiry, answer)
+    }
+
+    /// Does what a line asks for, and returns what is put out then. After an error the session is not to go on.
+    fn respond<'a>(
+        &mut self,
+        alloc: Global,
+        style: &Style<'_>,
+        request: &Request<'a>,
+    ) -> Result<Shown<'a>, NoMemory>
         requires sits { MaySit style.now (C.seats self.old.caller) self.old.seat }
         requires chosen { (k : ℕ) → request.now ≡ Request.Seat k → IsWithin 1 most_seats k }
         requires lines { self.old.lines < 2 ^ 64 - 1 }
-        ensures responds { (seen : ℕ) (news : List ℕ) → Responds C.answers style.now seen news result
-            (seen_by C.part self.old) request.now (seen_by C.part self.new) }
+        ensures responds { (effect : Effect) → PutsOut C.answers style.now effect result (seen_by C.part self.old)
+            request.now (seen_by C.part self.new) }
         ensures seat { self.new.seat ≡ seat_next style.now.chooses self.old.seat request.now }
         ensures lines { self.new.lines ≡ self.old.lines }
         ensures watched { self.new.watched ≡ self.old.watched }
@@ -138,9 +161,15 @@ impl<C: Caller> Session<C> {
         ensures later { Onward C.later self.old.caller self.new.caller }
     {
         match request {
-            Request::Call(command, times) => self.call_times(alloc, style, command, *times),
-            Request::Ask(inquiry) => self.caller.ask(alloc, *inquiry),
-            _ => self.respond_itself(alloc, style, request),
+            Request::Call(command, times) => {
+                let text = self.call_times(alloc, style, command, *times)?;
+                Ok(Shown::of(alloc, text))
+            }
+            Request::Ask(inquiry) => self.ask(alloc, style, inquiry),
+            _ => {
+                let text = self.respond_itself(alloc, style, request)?;
+                Ok(Shown::of(alloc, text))
+            }
         }
     }
 
@@ -163,14 +192,14 @@ impl<C: Caller> Session<C> {
         }
     }
 
-    /// Does what a line asks for, and returns what is shown then: the news of others where somebody watches, the
+    /// Does what a line asks for, and returns what is put out then: the news of others where somebody watches, the
     /// response, and the prompt unless the line was `quit`. After an error the session is not to go on.
-    pub(crate) fn show(
+    pub(crate) fn show<'a>(
         &mut self,
         alloc: Global,
         style: &Style<'_>,
-        request: &Request<'_>,
-    ) -> Result<Vec<u8>, NoMemory>
+        request: &Request<'a>,
+    ) -> Result<Shown<'a>, NoMemory>
         requires sits { MaySit style.now (C.seats self.old.caller) self.old.seat }
         requires chosen { (k : ℕ) → request.now ≡ Request.Seat k → IsWithin 1 most_seats k }
         requires lines { self.old.lines < 2 ^ 64 - 1 }
@@ -181,14 +210,13 @@ impl<C: Caller> Session<C> {
         ensures seats { C.seats self.new.caller ≡ C.seats self.old.caller }
         ensures later { Onward C.later self.old.caller self.new.caller }
     {
-        let News { mut text, seen } = self.look(alloc, request)?;
+        let News { text: news, seen } = self.look(alloc, request)?;
         let response = self.respond(alloc, style, request)?;
-        text.extend_from_slice(response.as_slice())?;
-        push_prompt(&mut text, style, request)?;
+        let shown = with_news(alloc, news.as_slice(), response, style, request)?;
         let watches = request.watches(self.watched.is_some());
         self.watched = if watches { Some(seen) } else { None };
         self.lines += 1;
-        Ok(text)
+        Ok(shown)
     }
 }
 
@@ -287,6 +315,44 @@ fn push_prompt(
         Request::Quit => Ok(()),
         _ => push_next_prompt(text, style),
     }
+}
+
+/// A text with the news before it, and behind it the prompt.
+fn between(
+    alloc: Global,
+    news: &[u8],
+    text: &[u8],
+    style: &Style<'_>,
+    request: &Request<'_>,
+) -> Result<Vec<u8>, AllocError>
+    ensures { IfOk result (λ all. all.items
+        ≡ (news.now ++ text.now) ++ prompt_after style.now.prompt request.now) }
+{
+    let mut all = news.to_vec(alloc)?;
+    all.extend_from_slice(text)?;
+    push_prompt(&mut all, style, request)?;
+    Ok(all)
+}
+
+/// A response with the news before it, and behind it the prompt.
+fn with_news<'a>(
+    alloc: Global,
+    news: &[u8],
+    response: Shown<'a>,
+    style: &Style<'_>,
+    request: &Request<'_>,
+) -> Result<Shown<'a>, AllocError>
+    ensures file { IfOk result (λ all. all.file ≡ response.entry.file) }
+    ensures text { IfOk result (λ all. all.text.items
+        ≡ (news.now ++ response.entry.text.items) ++ prompt_after style.now.prompt request.now) }
+    ensures failed { IfOk result (λ all. all.failed.items
+        ≡ (news.now ++ response.entry.failed.items) ++ prompt_after style.now.prompt request.now) }
+{
+    Ok(Shown {
+        text: between(alloc, news, response.text.as_slice(), style, request)?,
+        failed: between(alloc, news, response.failed.as_slice(), style, request)?,
+        file: response.file,
+    })
 }
 
 /// Adds the prompt.

@@ -54,7 +54,11 @@ impl<C: Caller> Caller for Since<C> {
         self.caller.call(alloc, seat, command)
     }
 
-    fn ask(&mut self, alloc: Global, inquiry: Inquiry) -> Result<Vec<u8>, NoMemory> {
+    fn ask(
+        &mut self,
+        alloc: Global,
+        inquiry: &Inquiry<'_>,
+    ) -> Result<Result<Vec<u8>, Vec<u8>>, NoMemory> {
         self.caller.ask(alloc, inquiry)
     }
 

@@ -21,6 +21,7 @@ pub enum Topic {
     Decisions,
     Explain,
     Trail,
+    Draw,
     Watch,
     Unwatch,
     Help,
@@ -30,7 +31,7 @@ pub enum Topic {
 
 impl Topic {
     /// Each of them.
-    const ALL: [Topic; 20] = [
+    const ALL: [Topic; 21] = [
         Topic::Step,
         Topic::Auto,
         Topic::Lose,
@@ -46,6 +47,7 @@ impl Topic {
         Topic::Decisions,
         Topic::Explain,
         Topic::Trail,
+        Topic::Draw,
         Topic::Watch,
         Topic::Unwatch,
         Topic::Help,
@@ -73,6 +75,7 @@ impl Topic {
             Topic::Decisions => b"decisions",
             Topic::Explain => b"explain",
             Topic::Trail => b"trail",
+            Topic::Draw => b"draw",
             Topic::Watch => b"watch",
             Topic::Unwatch => b"unwatch",
             Topic::Help => b"help",

@@ -2,15 +2,15 @@
 
 ghost use Rattle.std.specs.Prelude.{◌≡◌, ◌≤◌, ◌∷◌, [], length, map, false, IfSome, IfNone, IfOk, OnOk};
 ghost use Rattle.std.specs.List.{join_with_byte, slice_split, before_first, after_first};
-ghost use Rattle.cdb_session.specs.Typed.{is_blank, is_comment, is_mark, is_digits, is_name, due, full, second_words};
-ghost use Rattle.cdb_session.specs.Typed.{with_word, with_piece, words_meant, line_meant};
+ghost use Rattle.cdb_session.specs.Typed.{is_blank, is_comment, is_mark, is_digits, is_name, is_word, due, full};
+ghost use Rattle.cdb_session.specs.Typed.{second_words, with_word, with_piece, words_meant, line_meant};
 ghost use Rattle.cdb_session.specs.TypedWords.{texts_of, pieces_left, bytes_left};
 
 use cdb_base::limits::MAX_BYTES;
 use std::alloc::{AllocError, Global};
 
 /// The words that may begin a line.
-pub(crate) const FIRST: [&[u8]; 20] = [
+pub(crate) const FIRST: [&[u8]; 21] = [
     b"step",
     b"auto",
     b"lose",
@@ -26,6 +26,7 @@ pub(crate) const FIRST: [&[u8]; 20] = [
     b"decisions",
     b"explain",
     b"trail",
+    b"draw",
     b"watch",
     b"unwatch",
     b"help",
@@ -34,14 +35,14 @@ pub(crate) const FIRST: [&[u8]; 20] = [
 ];
 
 /// Whether a byte stands between words.
-fn is_blank(byte: u8) -> bool
+pub(crate) fn is_blank(byte: u8) -> bool
     ensures { result ≡ is_blank byte }
 {
     byte == b' ' || byte == b'\t' || byte == b'\r'
 }
 
 /// Whether a piece begins a comment.
-fn is_comment(piece: &[u8]) -> bool
+pub(crate) fn is_comment(piece: &[u8]) -> bool
     ensures { result ≡ is_comment piece.now }
 {
     match piece {
@@ -85,6 +86,23 @@ fn halves(piece: &[u8]) -> Option<(&[u8], &[u8])>
         Some(at) => Some((&piece[..at], &piece[at + 1..])),
         None => None,
     }
+}
+
+/// Whether a piece is a name as it is printed.
+pub(crate) fn is_name(piece: &[u8]) -> bool
+    ensures { result ≡ is_name piece.now }
+{
+    match halves(piece) {
+        Some((one, other)) => is_digits(one) && is_digits(other),
+        None => false,
+    }
+}
+
+/// Whether a piece is a word: one without bytes is none, nor is `to`.
+pub(crate) fn is_word(piece: &[u8]) -> bool
+    ensures { result ≡ is_word piece.now }
+{
+    !piece.is_empty() && piece != b"to".as_slice()
 }
 
 /// What a process may be told to do.
@@ -153,7 +171,7 @@ fn full<'a>(options: &[&'a [u8]], word: &'a [u8]) -> &'a [u8]
 fn push_word<'a>(words: &mut Vec<&'a [u8]>, word: &'a [u8]) -> Result<(), AllocError>
     ensures { OnOk result (texts_of words.new ≡ with_word (texts_of words.old) word.now) }
 {
-    if word.is_empty() || word == b"to".as_slice() {
+    if !is_word(word) {
         return Ok(());
     }
     let meant = full(due(words.as_slice()), word);

@@ -9,6 +9,7 @@ use Rattle.cdb_control.proofs.Own.{Begins-trans}
 use Rattle.cdb_session.specs.Moves.{Known}
 use Rattle.cdb_rules.specs.RunView.{RunView}
 use Rattle.cdb_rules.specs.Rules.{Rules}
+use Rattle.cdb_session.specs.Exchanges.{Answer}
 use Rattle.cdb_session.specs.declared.inquiry.Inquiry.{Inquiry}
 use Rattle.cdb_setup.specs.Parts.{Parts}
 use Rattle.cdb_shared.specs.Seats.{SeatView, RestsAt, IsKnownBy, IsLater, fresh_seat, fresh_seats}
@@ -60,7 +61,7 @@ same_style greeting prompt seats before after greets counts later =
     λ i. welcomed_in (text i) prompt (count i) before.number
 
 -- what a seat's thread has done, by the final journal
-ended_known : (rules : Parts → Rules) (Answers : RunView → Inquiry → List ℕ → Type 0) (shared : TableId) (begun c : Journaled)
+ended_known : (rules : Parts → Rules) (Answers : RunView → Inquiry → Answer → Type 0) (shared : TableId) (begun c : Journaled)
     (Opens : Result SeatSeen ReadFault → Type 0) (seat : SeatView) (n : ℕ) → seat.number ≡ n → IsKnownBy c seat → length c.journal ≤ MAX_ENTRIES
     → (ended : Option Known) (outcome : Result (Unit {0}) PlayFault)
     → HasServed rules Answers Opens (fresh_seat shared begun n) seat ended outcome → HasEnded rules Answers begun c n Opens ended outcome
@@ -85,7 +86,7 @@ ended_known rules Answers shared begun c Opens seat n is by few None outcome (fa
   record { none = (λ i. own (sym is i) c.journal) ∙ by.calls ∙ ap (own seat.number) unseen ∙ (λ i. own (is i) begun.journal); outcome_is = failed },
 )
 
-module _ {P T : Type 0} (rules : Parts → Rules) (Answers : RunView → Inquiry → List ℕ → Type 0) (known : T → Known) (opens : P → Result SeatSeen ReadFault
+module _ {P T : Type 0} (rules : Parts → Rules) (Answers : RunView → Inquiry → Answer → Type 0) (known : T → Known) (opens : P → Result SeatSeen ReadFault
     → Type 0) (shared : TableId) (begun : Journaled) (openers : List P) (before : List SeatView) (seats : List SeatView) (finished : List (Finished T))
     (new : AreDealt shared begun before) (of : begun.seats ≡ length openers) (many : length seats ≡ length openers)
     (all : AllHaveRun rules Answers known opens before openers seats finished) where

@@ -4,6 +4,7 @@ use Rattle.std.specs.Prelude.{Option, Some, None, Result, Ok, Err}
 use Rattle.cdb_control.specs.Journal.{Journaled}
 use Rattle.cdb_rules.specs.RunView.{RunView}
 use Rattle.cdb_rules.specs.Rules.{Rules}
+use Rattle.cdb_session.specs.Exchanges.{Answer}
 use Rattle.cdb_session.specs.declared.inquiry.Inquiry.{Inquiry}
 use Rattle.cdb_session.specs.Moves.{Known}
 use Rattle.cdb_setup.specs.Parts.{Parts}
@@ -13,7 +14,7 @@ use Rattle.cdb_shared_session.specs.Openings.{SeatSeen}
 use Rattle.cdb_shared_session.specs.SharedSessions.{HasEnded}
 
 -- where all that it can give is of this kind
-pub ended_by : (rules : Parts → Rules) (Answers : RunView → Inquiry → List ℕ → Type 0) (begun c : Journaled) (seat : ℕ)
+pub ended_by : (rules : Parts → Rules) (Answers : RunView → Inquiry → Answer → Type 0) (begun c : Journaled) (seat : ℕ)
     (Opens Others : Result SeatSeen ReadFault → Type 0) → ((opened : Result SeatSeen ReadFault) → Opens opened → Others opened)
     → (ended : Option Known) (outcome : Result (Unit {0}) PlayFault)
     → HasEnded rules Answers begun c seat Opens ended outcome → HasEnded rules Answers begun c seat Others ended outcome

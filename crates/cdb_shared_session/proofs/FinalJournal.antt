@@ -10,7 +10,7 @@ use Rattle.cdb_control.specs.declared.control.Entry.{Entry}
 use Rattle.cdb_rules.specs.RunView.{RunView}
 use Rattle.cdb_journal.specs.SeatReplies.{news_lines, told_along}
 use Rattle.cdb_rules.specs.Rules.{Rules}
-use Rattle.cdb_session.specs.Moves.{Move, read_in, written_in}
+use Rattle.cdb_session.specs.Moves.{Move, Output, read_in, written_in}
 use Rattle.cdb_session.specs.Parts.{HasCommands}
 use Rattle.cdb_session.specs.Replies.{dialogue}
 use Rattle.cdb_session.specs.Requests.{ended_lines}
@@ -19,7 +19,7 @@ use Rattle.cdb_session.specs.Sessions.{EndsAs}
 use Rattle.cdb_session.specs.Since.{since}
 use Rattle.cdb_session.specs.Styles.{Part, StyleView, GoesOn}
 use Rattle.cdb_session.specs.Answers.{HasExchanges, run_left}
-use Rattle.cdb_session.specs.Exchanges.{Exchange}
+use Rattle.cdb_session.specs.Exchanges.{Answer, Exchange}
 use Rattle.cdb_session.specs.declared.inquiry.Inquiry.{Inquiry}
 use Rattle.cdb_session.proofs.ToldOn.{all_told_on}
 use Rattle.cdb_setup.specs.Parts.{Parts}
@@ -30,7 +30,7 @@ use Rattle.cdb_streams.specs.declared.fault.PlayFault.{PlayFault}
 use Rattle.cdb_streams.specs.declared.fault.PlayFault.TheVariants as fault
 use Rattle.cdb_shared_session.specs.SeatParts.{part_in, part_seen}
 
-module _ (rules : Parts → Rules) (Answers : RunView → Inquiry → List ℕ → Type 0) (style : StyleView) (first : Part) (c : Journaled)
+module _ (rules : Parts → Rules) (Answers : RunView → Inquiry → Answer → Type 0) (style : StyleView) (first : Part) (c : Journaled)
     (seat : SeatView) (n : ℕ) (is : seat.number ≡ n) (known : IsKnownBy c seat) (few : length c.journal ≤ MAX_ENTRIES) where
   calls_known : map (entry seat.number) (calls_of seat) ≡ map (entry n) (own n c.journal)
   calls_known = ap (map (entry seat.number)) (sym known.calls) ∙ ap (λ m. map (entry m) (own m c.journal)) is
@@ -77,15 +77,17 @@ module _ (rules : Parts → Rules) (Answers : RunView → Inquiry → List ℕ �
         0 None exchanges (λ m low. ap (λ (calls : List Entry). min m (length calls)) (sym came_known)) has.1,
   )
 
-  same_text : (exchanges : List Exchange) (text : List ℕ) → text ≡ dialogue style by_seat.replies exchanges → text ≡ dialogue style by_journal.replies exchanges
-  same_text exchanges text shown = shown ∙ ap (λ (r : List ReplyView). dialogue style (drop (length first.replies) r) exchanges) replies_known
+  same_outputs : (exchanges : List Exchange) (outputs : List Output) → outputs ≡ dialogue style by_seat.replies exchanges
+      → outputs ≡ dialogue style by_journal.replies exchanges
+  same_outputs exchanges outputs shown = shown ∙ ap (λ (r : List ReplyView). dialogue style (drop (length first.replies) r) exchanges) replies_known
 
-  answered_known : (lines : List (List ℕ)) (text : List ℕ) → IsAnswered Answers style by_seat lines text → IsAnswered Answers style by_journal lines text
-  answered_known lines text (exchanges, others, asked, shown, has) =
-      (exchanges, others, asked, same_text exchanges text shown, has_known (exchanges ++ others) has)
+  answered_known : (lines : List (List ℕ)) (outputs : List Output) → IsAnswered Answers style by_seat lines outputs
+      → IsAnswered Answers style by_journal lines outputs
+  answered_known lines outputs (exchanges, others, asked, shown, has) =
+      (exchanges, others, asked, same_outputs exchanges outputs shown, has_known (exchanges ++ others) has)
 
-  served_known : (lines : List (List ℕ)) (text : List ℕ) → IsServed Answers style by_seat lines text → IsServed Answers style by_journal lines text
-  served_known lines text (exchanges, asked, shown, has) = (exchanges, asked, same_text exchanges text shown, has_known exchanges has)
+  served_known : (lines : List (List ℕ)) (outputs : List Output) → IsServed Answers style by_seat lines outputs → IsServed Answers style by_journal lines outputs
+  served_known lines outputs (exchanges, asked, shown, has) = (exchanges, asked, same_outputs exchanges outputs shown, has_known exchanges has)
 
   ends_known : (returned : Result (Unit {0}) PlayFault) (moves : List Move)
       → EndsAs (IsAnswered Answers style by_seat) (IsServed Answers style by_seat) (IsCutShort Answers style by_seat) returned moves
@@ -97,11 +99,11 @@ module _ (rules : Parts → Rules) (Answers : RunView → Inquiry → List ℕ �
     record {
       lines = e.0.lines;
       others = e.0.others;
-      text = e.0.text;
+      outputs = e.0.outputs;
       missing = e.0.missing;
       begins =
           e.0.begins;
-      responded = served_known e.0.lines e.0.text e.0.responded;
+      responded = served_known e.0.lines e.0.outputs e.0.responded;
       written = e.0.written;
     },
     e.1,

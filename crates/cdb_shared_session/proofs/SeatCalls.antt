@@ -19,7 +19,8 @@ use Rattle.cdb_shared.specs.Seats.{SeatView, IsLater, IsCall, SameCalls, SeesFul
 use Rattle.cdb_shared.specs.Sessions.{calls_of}
 use Rattle.cdb_shared.proofs.Steps.{calls_of-call, calls_of-fault, replies_to-call, replies_to-fault, IsLater-trans}
 use Rattle.cdb_session.specs.Styles.{GoesOn, MakesNone, Calls, Onward, stays, goes}
-use Rattle.cdb_session.specs.Answers.{run_left, AnswersNow}
+use Rattle.cdb_session.specs.Answers.{run_left, answer_seen, AnswersNow}
+use Rattle.cdb_session.specs.Exchanges.{Answer}
 use Rattle.cdb_session.specs.News.{AreNews, news_up_to}
 use Rattle.cdb_session.specs.Parts.{HaveJust}
 use Rattle.cdb_session.specs.declared.inquiry.Inquiry.{Inquiry}
@@ -108,13 +109,13 @@ just_now rules seat =
     record { since = omega arith; within = omega arith; commands = omega (arith, counted) }
 
 -- the answer of the run that the seat has seen
-pub asked_now : {E : Type 0} (rules : Parts → Rules) (Answers : RunView → Inquiry → List ℕ → Type 0)
-    (seat : SeatView) (inquiry : Inquiry) (r : Result (Vec ℕ Global) E)
-    → IfOk r (λ text. Answers (run_left rules seat.setup seat.seats seat.seen) inquiry text.items)
-    → IfOk r (λ text. AnswersNow Answers (part_seen rules seat) inquiry text.items)
-asked_now rules Answers seat inquiry (Ok text) is =
+pub asked_now : {E : Type 0} (rules : Parts → Rules) (Answers : RunView → Inquiry → Answer → Type 0)
+    (seat : SeatView) (inquiry : Inquiry) (r : Result (Result (Vec ℕ Global) (Vec ℕ Global)) E)
+    → IfOk r (λ answer. Answers (run_left rules seat.setup seat.seats seat.seen) inquiry (answer_seen answer))
+    → IfOk r (λ answer. AnswersNow Answers (part_seen rules seat) inquiry (answer_seen answer))
+asked_now rules Answers seat inquiry (Ok answer) is =
     let all : take (length seat.seen) seat.seen ≡ seat.seen = take_all (length seat.seen) seat.seen (omega arith) in
-    (just_now rules seat, subst (λ (seen : List Entry). Answers (run_left rules seat.setup seat.seats seen) inquiry text.items) (sym all) is)
+    (just_now rules seat, subst (λ (seen : List Entry). Answers (run_left rules seat.setup seat.seats seen) inquiry (answer_seen answer)) (sym all) is)
 asked_now rules Answers seat inquiry (Err fault) is = tt
 
 -- the news up to the end of the journal that the seat has seen

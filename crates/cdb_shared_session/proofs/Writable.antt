@@ -15,7 +15,7 @@ use Rattle.cdb_journal.specs.OpenedFrom.{IsOpenedFrom}
 use Rattle.cdb_journal.proofs.RepliesToSeats.{read_few}
 use Rattle.cdb_rules.specs.RunView.{RunView}
 use Rattle.cdb_rules.specs.Rules.{Rules}
-use Rattle.cdb_session.specs.Exchanges.{Exchange}
+use Rattle.cdb_session.specs.Exchanges.{Answer, Exchange}
 use Rattle.cdb_session.specs.declared.inquiry.Inquiry.{Inquiry}
 use Rattle.cdb_session.specs.Moves.{Known, Move, read_in}
 use Rattle.cdb_rules.proofs.Alls.{all-replicate}
@@ -108,7 +108,7 @@ first_have_lines : (first more : List Entry) → HaveLines (first ++ more) → H
 first_have_lines [] more all = tt
 first_have_lines (e ∷ first) more all = (all.0, first_have_lines first more all.1)
 
-module _ (Answers : RunView → Inquiry → List ℕ → Type 0) (style : StyleView) (part : Part) where
+module _ (Answers : RunView → Inquiry → Answer → Type 0) (style : StyleView) (part : Part) where
   calls_have_lines : (exchanges : List Exchange) → HaveLine exchanges → HasCommands style part exchanges → HaveLines part.calls
   calls_have_lines exchanges asked has =
       let all = asked_have_lines style.chooses style.first exchanges asked in
@@ -160,7 +160,7 @@ of_each_seat seats (e ∷ es) of_seats each = (
   of_each_seat seats es of_seats.1 (λ seat low high. own_tail (e.seat == seat) e.command (own seat es) (each seat low high)),
 )
 
-module _ (rules : Parts → Rules) (Answers : RunView → Inquiry → List ℕ → Type 0)
+module _ (rules : Parts → Rules) (Answers : RunView → Inquiry → Answer → Type 0)
     (begun c : Journaled) (its : List Entry) (is : c.journal ≡ begun.journal ++ its) (seat : ℕ) where
   own_came : own seat c.journal ≡ own seat begun.journal ++ own seat its
   own_came = ap (own seat) is ∙ own-append seat begun.journal its
@@ -190,7 +190,7 @@ later_of_seats : (seats : ℕ) (first more : List Entry) → AreOfSeats seats (f
 later_of_seats seats [] more all = all
 later_of_seats seats (e ∷ first) more all = later_of_seats seats first more all.1
 
-pub writable : {P T : Type 0} (rules : Parts → Rules) (Answers : RunView → Inquiry → List ℕ → Type 0) (known : T → Known)
+pub writable : {P T : Type 0} (rules : Parts → Rules) (Answers : RunView → Inquiry → Answer → Type 0) (known : T → Known)
     (opens : P → Result SeatSeen ReadFault → Type 0) (begun : Journaled) (openers : List P) (c : Journaled) (finished : List (Finished T))
     → AreSessions rules Answers known opens begun openers c finished
     → IsWritable begun → begun.seats ≡ length openers → length c.journal ≤ MAX_ENTRIES → IsWritable c

@@ -1,16 +1,9 @@
--- Why there were no sessions.
-use Rattle.std.specs.Prelude.{ℕ, List}
-use Rattle.cdb_streams.specs.FaultTexts.{race_fault_text}
+-- Why there were no sessions, or why their journal was lost.
 use Rattle.cdb_streams.specs.declared.fault.RaceFault.{RaceFault}
-use Rattle.cdb_streams.specs.declared.fault.RaceFault.TheVariants as race
-use Rattle.cdb_shared_session.specs.declared.threads.SessionsFault.{SessionsFault}
-use Rattle.cdb_shared_session.specs.declared.threads.SessionsFault.TheVariants as sessions
+use Rattle.cdb_streams.specs.declared.fault.RaceFault.TheVariants.{NoMemory, Spawn}
 
--- the fault that the program reports
-abbrev pub of_sessions : SessionsFault → RaceFault
-of_sessions (sessions.NoMemory refused) = race.NoMemory refused
-of_sessions (sessions.Spawn refused) = race.Spawn refused
-
--- and its text
-abbrev pub sessions_fault_text : SessionsFault → List ℕ
-sessions_fault_text fault = race_fault_text (of_sessions fault)
+-- memory is out, or the start of a thread was refused
+abbrev pub IsFaultOfThreads : RaceFault → Type 0
+IsFaultOfThreads (NoMemory refused) = Unit {0}
+IsFaultOfThreads (Spawn refused) = Unit {0}
+IsFaultOfThreads other = ⊥

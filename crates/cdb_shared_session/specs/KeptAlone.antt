@@ -8,6 +8,7 @@ use Rattle.cdb_rules.specs.Rules.{Rules}
 use Rattle.cdb_session.specs.Alone.{whole_part, nine}
 use Rattle.cdb_session.specs.Debugs.{IsFaultOfBeginning}
 use Rattle.cdb_session.specs.Greetings.{greeting_at, greeting_text}
+use Rattle.cdb_session.specs.Exchanges.{Answer}
 use Rattle.cdb_session.specs.declared.inquiry.Inquiry.{Inquiry}
 use Rattle.cdb_session.specs.Moves.{Known, Move, Makes}
 use Rattle.cdb_session.specs.Served.{IsSession}
@@ -45,7 +46,7 @@ module _ {J : Type 0} (stream : J → Stream) where
   -- ---- what the public contract names
 
   -- One journal explains all responses, from a control at the beginning to one at the end, and the file took it.
-  pub record HoldsKept (rules : Parts → Rules) (Answers : RunView → Inquiry → List ℕ → Type 0)
+  pub record HoldsKept (rules : Parts → Rules) (Answers : RunView → Inquiry → Answer → Type 0)
       (prompt : List ℕ) (begun : Journaled) (returned : Result (Unit {0}) PlayFault)
       (made : List Move) (file : J) (kept : Kept J) : Type 0 where
     pub control : Journaled
@@ -57,7 +58,7 @@ module _ {J : Type 0} (stream : J → Stream) where
     pub keeps : IsKept stream kept.outcome file kept.file control.journal
 
   -- such a session that has made the moves, where those before were known
-  abbrev pub HoldsFrom : (Parts → Rules) → (RunView → Inquiry → List ℕ → Type 0) → List ℕ
+  abbrev pub HoldsFrom : (Parts → Rules) → (RunView → Inquiry → Answer → Type 0) → List ℕ
       → Journaled → Known → Known → J → Result (Unit {0}) PlayFault × Kept J → Type 0
   HoldsFrom rules Answers prompt begun old new file ended =
       (made : List Move) × Makes old new made × HoldsKept rules Answers prompt begun ended.0 made file ended.1
@@ -69,7 +70,7 @@ module _ {J : Type 0} (stream : J → Stream) where
   IsNotBegun json from old new file (Ok done, kept) = ⊥
 
   -- on the setup that the text of JSON encodes, from the journal on, or there is no session
-  abbrev pub DebugsKept : (Parts → Rules) → (RunView → Inquiry → List ℕ → Type 0)
+  abbrev pub DebugsKept : (Parts → Rules) → (RunView → Inquiry → Answer → Type 0)
       → List ℕ → List ℕ → List ℕ → Known → Known → J
       → Result (Unit {0}) PlayFault × Kept J → Type 0
   DebugsKept rules Answers prompt json from old new file ended =

@@ -14,6 +14,7 @@ use Rattle.cdb_streams.specs.declared.fault.PlayFault.{PlayFault}
 use Rattle.cdb_streams.specs.declared.source.ReadFault.{ReadFault}
 use Rattle.cdb_rules.specs.RunView.{RunView}
 use Rattle.cdb_rules.specs.Rules.{Rules}
+use Rattle.cdb_session.specs.Exchanges.{Answer}
 use Rattle.cdb_session.specs.declared.inquiry.Inquiry.{Inquiry}
 use Rattle.cdb_setup.specs.Parts.{Parts}
 use Rattle.cdb_shared.specs.Seats.{SeatView, RestsAt, IsLater}
@@ -34,7 +35,7 @@ pub record IsUnused (shared : TableId) (welcome : Welcome) (seat : SeatView) : T
   pub some : (1 ≤ welcome.seats) × (welcome.seats ≤ MAX_SEATS)
 
 -- the session of a seat in this style, by what the seat has seen before it and at its end
-abbrev pub RunsSeat : {A : Type 0} → (Parts → Rules) → (RunView → Inquiry → List ℕ → Type 0)
+abbrev pub RunsSeat : {A : Type 0} → (Parts → Rules) → (RunView → Inquiry → Answer → Type 0)
     → StyleView → SeatView → SeatView → Result A PlayFault → Known → Known
     → Type 0
 RunsSeat rules Answers style before seat =
@@ -42,7 +43,7 @@ RunsSeat rules Answers style before seat =
 
 -- what the thread of a seat has done, by the seat that it hands back and by what the streams were at the end, if they
 -- could be opened
-abbrev pub HasServed : (Parts → Rules) → (RunView → Inquiry → List ℕ → Type 0)
+abbrev pub HasServed : (Parts → Rules) → (RunView → Inquiry → Answer → Type 0)
     → (Result SeatSeen ReadFault → Type 0) → SeatView → SeatView → Option Known
     → Result (Unit {0}) PlayFault → Type 0
 HasServed rules Answers Opens before seat (Some ended) outcome =
@@ -54,7 +55,7 @@ HasServed rules Answers Opens before seat None outcome =
 
 -- what the seat's thread hands back, the seat and how its session ended, says what the seat has done with its opener
 pub record HasRun {P T : Type 0} (rules : Parts → Rules)
-    (Answers : RunView → Inquiry → List ℕ → Type 0) (known : T → Known)
+    (Answers : RunView → Inquiry → Answer → Type 0) (known : T → Known)
     (opens : P → Result SeatSeen ReadFault → Type 0) (before : SeatView) (opener : P) (seat : SeatView)
     (finished : Finished T) : Type 0 where
   pub later : IsLater before seat
@@ -77,7 +78,7 @@ AreSeatPromises {R} {A} {P} {T} seats openers handles =
 -- What the threads hand back, the first seat's first: each keeps the promise of its handle, of which the last seat's
 -- comes first.
 abbrev pub AllKept : {R A P T : Type 0} → (Parts → Rules)
-    → (RunView → Inquiry → List ℕ → Type 0) → (T → Known) → (P → Result SeatSeen ReadFault → Type 0)
+    → (RunView → Inquiry → Answer → Type 0) → (T → Known) → (P → Result SeatSeen ReadFault → Type 0)
     → List (PromisedHandle (SeatResult R T) (SeatPromise R A P)) → List SeatView → List (Finished T) → Type 0
 AllKept {R} {A} {P} {T} rules Answers known opens handles seats finished =
     (k : ℕ) (seat : SeatView) (its : Finished T) → k < length seats
@@ -87,7 +88,7 @@ AllKept {R} {A} {P} {T} rules Answers known opens handles seats finished =
     (slice_index_or seats k seat) (slice_index_or finished k its)
 
 -- each seat has run with its opener
-abbrev pub AllHaveRun : {P T : Type 0} → (Parts → Rules) → (RunView → Inquiry → List ℕ → Type 0)
+abbrev pub AllHaveRun : {P T : Type 0} → (Parts → Rules) → (RunView → Inquiry → Answer → Type 0)
     → (T → Known) → (P → Result SeatSeen ReadFault → Type 0)
     → List SeatView → List P → List SeatView → List (Finished T) → Type 0
 AllHaveRun {P} {T} rules Answers known opens before openers seats finished =

@@ -15,6 +15,7 @@ use Rattle.cdb_streams.specs.declared.fault.RaceFault.TheVariants as fault
 use Rattle.cdb_streams.specs.Faults.{IsSetup}
 use Rattle.cdb_rules.specs.RunView.{RunView}
 use Rattle.cdb_rules.specs.Rules.{Rules}
+use Rattle.cdb_session.specs.Exchanges.{Answer}
 use Rattle.cdb_session.specs.declared.inquiry.Inquiry.{Inquiry}
 use Rattle.cdb_setup.specs.Format.{Encodes}
 use Rattle.cdb_setup.specs.Parts.{Parts}
@@ -31,7 +32,7 @@ use Rattle.cdb_shared_session.specs.declared.endpoint.Finished.{Finished}
 -- written, and what failed was reported, as far as that went; these are the status, and the file with how the journal
 -- was kept
 pub record RunsSessions {P T J O E : Type 0} (rules : Parts → Rules)
-    (Answers : RunView → Inquiry → List ℕ → Type 0) (known : T → Known)
+    (Answers : RunView → Inquiry → Answer → Type 0) (known : T → Known)
     (opens : P → Result SeatSeen ReadFault → Type 0) (file_stream : J → Stream) (output_stream : O → Stream)
     (error_stream : E → Stream) (json from : List ℕ) (openers : List P) (file : Option J) (output output_after : O)
     (error error_after : E) (ended : ℕ × Option (Kept J)) : Type 0 where

@@ -7,6 +7,7 @@ use Rattle.cdb_session.specs.Served.{IsSession}
 use Rattle.cdb_session.specs.Since.{since}
 use Rattle.cdb_rules.specs.RunView.{RunView}
 use Rattle.cdb_rules.specs.Rules.{Rules}
+use Rattle.cdb_session.specs.Exchanges.{Answer}
 use Rattle.cdb_session.specs.declared.inquiry.Inquiry.{Inquiry}
 use Rattle.cdb_setup.specs.Parts.{Parts}
 use Rattle.cdb_streams.specs.Faults.{of_reading}
@@ -18,7 +19,7 @@ use Rattle.cdb_shared_session.specs.declared.endpoint.Finished.{Finished}
 
 -- the session of the seat of this number, by the final journal, from what its streams were when they were open to what
 -- they were at its end
-pub record IsHeld (rules : Parts → Rules) (Answers : RunView → Inquiry → List ℕ → Type 0)
+pub record IsHeld (rules : Parts → Rules) (Answers : RunView → Inquiry → Answer → Type 0)
     (begun c : Journaled) (seat : ℕ) (opened : SeatSeen) (ended : Known)
     (outcome : Result (Unit {0}) PlayFault) : Type 0 where
   pub made : List Move
@@ -34,7 +35,7 @@ pub record IsUnopened (begun c : Journaled) (seat : ℕ) (fault : ReadFault)
   pub outcome_is : outcome ≡ Err (of_reading fault)
 
 -- what came of a seat whose streams can be opened so, by what they were at the end of its session, if there was one
-abbrev pub HasEnded : (Parts → Rules) → (RunView → Inquiry → List ℕ → Type 0)
+abbrev pub HasEnded : (Parts → Rules) → (RunView → Inquiry → Answer → Type 0)
     → Journaled → Journaled → ℕ → (Result SeatSeen ReadFault → Type 0) → Option Known
     → Result (Unit {0}) PlayFault → Type 0
 HasEnded rules Answers begun c seat Opens (Some ended) outcome =
@@ -43,7 +44,7 @@ HasEnded rules Answers begun c seat Opens None outcome =
     (fault : ReadFault) × Opens (Err fault) × IsUnopened begun c seat fault outcome
 
 abbrev pub IsFinished : {T : Type 0} → (Parts → Rules)
-    → (RunView → Inquiry → List ℕ → Type 0) → (T → Known) → Journaled → Journaled → ℕ
+    → (RunView → Inquiry → Answer → Type 0) → (T → Known) → Journaled → Journaled → ℕ
     → (Result SeatSeen ReadFault → Type 0) → Finished T → Type 0
 IsFinished rules Answers known begun c seat Opens finished =
     HasEnded rules Answers begun c seat Opens (option_map known finished.console) finished.outcome
@@ -51,7 +52,7 @@ IsFinished rules Answers known begun c seat Opens finished =
 -- One journal explains the responses to all seats, from a control at the beginning to one at the end: what came of each
 -- seat is what comes of its opener, and no entry is of another.
 pub record AreSessions {P T : Type 0} (rules : Parts → Rules)
-    (Answers : RunView → Inquiry → List ℕ → Type 0) (known : T → Known)
+    (Answers : RunView → Inquiry → Answer → Type 0) (known : T → Known)
     (opens : P → Result SeatSeen ReadFault → Type 0) (begun : Journaled) (openers : List P) (c : Journaled)
     (finished : List (Finished T)) : Type 0 where
   pub setup_is : c.setup ≡ begun.setup

@@ -75,7 +75,11 @@ impl<R: Runs, A: Answers<R>, J: Sink + Drop> Caller for KeptControl<R, A, J> {
         Ok(reply)
     }
 
-    fn ask(&mut self, alloc: Global, inquiry: Inquiry) -> Result<Vec<u8>, NoMemory> {
+    fn ask(
+        &mut self,
+        alloc: Global,
+        inquiry: &Inquiry<'_>,
+    ) -> Result<Result<Vec<u8>, Vec<u8>>, NoMemory> {
         answer_in::<R, A>(alloc, &self.control, inquiry)
     }
 

@@ -21,4 +21,4 @@ pub use endpoint::{Endpoint, Finished, Opener};
 pub use keeping::Kept;
 pub use reports::{status_after, write_failures, write_journal, write_kept_fault};
 pub use shared::debug_shared;
-pub use threads::{SessionsFault, debug_seats};
+pub use threads::debug_seats;

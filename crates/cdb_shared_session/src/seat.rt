@@ -61,7 +61,11 @@ impl<'a, R: Runs, A: Answers<R>, Rt: Wait> Caller for SeatCaller<'a, R, A, Rt> {
         self.shared.call(self.rt, alloc, &mut self.seat, command)
     }
 
-    fn ask(&mut self, alloc: Global, inquiry: Inquiry) -> Result<Vec<u8>, NoMemory> {
+    fn ask(
+        &mut self,
+        alloc: Global,
+        inquiry: &Inquiry<'_>,
+    ) -> Result<Result<Vec<u8>, Vec<u8>>, NoMemory> {
         let journal = self.shared.journal(self.rt, alloc, &mut self.seat)?;
         answer_of::<R, A>(alloc, self.setup, self.seats, journal.as_slice(), inquiry)
     }

@@ -2,14 +2,13 @@
 
 ghost use Rattle.std.specs.Prelude.{◌≡◌, ◌≤◌, ℕ, List, vec_len, IfOk, IfErr, OnErr};
 ghost use Rattle.cdb_session.specs.Debugs.{IsFaultOfBeginning};
-ghost use Rattle.cdb_shared_session.specs.Faults.{of_sessions};
 ghost use Rattle.cdb_shared_session.specs.KeptOutcomes.{kept_outcome};
 ghost use Rattle.cdb_shared_session.specs.Reported.{RunsSessions, IsFaultOfSessions};
 
 use crate::endpoint::Opener;
 use crate::keeping::Kept;
 use crate::reports::{status_after, write_failures, write_journal};
-use crate::threads::{SessionsFault, debug_seats};
+use crate::threads::debug_seats;
 use cdb_base::limits::MAX_SEATS;
 use cdb_rules::Runs;
 use cdb_session::{Answers, begin};
@@ -18,16 +17,6 @@ use std::alloc::Global;
 use std::sync::Wait;
 use std::thread::Threads;
 use std::time::Clock;
-
-/// The fault of sessions that did not begin.
-fn of_sessions(fault: SessionsFault) -> RaceFault
-    ensures { result ≡ of_sessions fault }
-{
-    match fault {
-        SessionsFault::NoMemory(refused) => RaceFault::NoMemory(refused),
-        SessionsFault::Spawn(refused) => RaceFault::Spawn(refused),
-    }
-}
 
 /// The fault of sessions for which there was no control. A beginning neither reads nor writes.
 fn of_beginning(fault: PlayFault) -> RaceFault
@@ -98,18 +87,14 @@ pub fn debug_shared<
         Ok(begun) => begun,
         Err(fault) => return Err(of_beginning(fault)),
     };
-    let ended = debug_seats::<R, A, P, J, Rt>(
+    let (control, finished, kept) = debug_seats::<R, A, P, J, Rt>(
         rt,
         alloc,
         control,
         greeting.as_slice(),
         openers,
         file,
-    );
-    let (control, finished, kept) = match ended {
-        Ok(sessions) => sessions,
-        Err(fault) => return Err(of_sessions(fault)),
-    };
+    )?;
     let written = write_journal(alloc, control.journal(), output);
     control.close();
     let outcome = outcome_of(&kept);

@@ -3,6 +3,7 @@
 ghost use Rattle.std.specs.Prelude.{◌≡◌, ◌≤◌, length, vec_len, vec_capacity, All, IfOk, IfErr, OnErr};
 ghost use Rattle.cdb_journal.specs.Journals.{IsWritable};
 ghost use Rattle.cdb_session.specs.Greetings.{greeting_text};
+ghost use Rattle.cdb_shared_session.specs.Faults.{IsFaultOfThreads};
 ghost use Rattle.cdb_shared_session.specs.SharedSessions.{AreSessions};
 ghost use Rattle.cdb_shared_session.specs.Promises.{IsUnused, IsSeatPromise, AreSeatPromises};
 ghost use Rattle.cdb_shared_session.specs.Promises.{AllKept, AllHaveRun, HasRun};
@@ -12,48 +13,21 @@ ghost use Rattle.cdb_shared.specs.Seats.{fresh_seat, fresh_seats, HasHeadline, I
 use crate::endpoint::{Finished, Opener};
 use crate::keeping::{Keeping, Kept, keep, keep_end};
 use crate::seat::{SeatPromise, SeatResult, Welcome, run_seat};
-use cdb_base::NoMemory;
-use cdb_base::start::{RefusedStart, start};
+use cdb_base::start::start;
 use cdb_control::Control;
 use cdb_rules::Runs;
 use cdb_session::Answers;
 use cdb_setup::Setup;
 use cdb_shared::{Seat, Shared, Watch};
-use cdb_streams::Sink;
+use cdb_streams::{RaceFault, Sink};
 use std::alloc::Global;
-use std::error::Error;
 use std::marker::PhantomData;
 use std::snapshot::Snapshot;
 use std::sync::Wait;
 use std::sync::atomic::{AtomicU64, Ordering};
+use std::thread;
 use std::thread::{PromisedHandle, Scope, Threads};
 use std::time::Clock;
-use std::{fmt, thread};
-
-/// Why there were no sessions, or why their journal was lost.
-#[derive(Debug, Clone, Copy, PartialEq)]
-pub enum SessionsFault {
-    NoMemory(NoMemory),
-    /// The start of a thread was refused.
-    Spawn(RefusedStart),
-}
-
-/// The text that the program reports, without the end of the line.
-impl fmt::Display for SessionsFault {
-    ghost use Rattle.std.specs.Prelude.{Some};
-    ghost use Rattle.cdb_shared_session.specs.Faults.{sessions_fault_text};
-
-    ghost output = { λ fault. Some (sessions_fault_text fault) };
-
-    fn fmt<W: fmt::Write>(&self, f: &mut fmt::Formatter<W>) -> fmt::Result {
-        f.write_str(match self {
-            SessionsFault::NoMemory(_) => "no memory",
-            SessionsFault::Spawn(_) => "no thread",
-        })
-    }
-}
-
-impl Error for SessionsFault {}
 
 /// Starts a thread for one seat, which is one fewer of those that are going on once it has ended.
 fn start_one<
@@ -72,9 +46,10 @@ fn start_one<
     welcome: Welcome<'s>,
     seat: Seat<R>,
     opener: P,
-) -> Result<PromisedHandle<SeatResult<R, P::Seat>, SeatPromise<R, A, P>>, SessionsFault>
+) -> Result<PromisedHandle<SeatResult<R, P::Seat>, SeatPromise<R, A, P>>, RaceFault>
     requires { IsUnused shared.now welcome seat }
-    ensures { IfOk result (λ handle. IsSeatPromise seat opener handle.promise) }
+    ensures promise { IfOk result (λ handle. IsSeatPromise seat opener handle.promise) }
+    ensures fault { IfErr result IsFaultOfThreads }
 {
     let promise = SeatPromise::<R, A, P> {
         answers: PhantomData,
@@ -93,7 +68,7 @@ fn start_one<
             ended
         },
     );
-    started.map_err(SessionsFault::Spawn)
+    started.map_err(RaceFault::Spawn)
 }
 
 /// Starts a thread for each seat, the last seat's first.
@@ -113,16 +88,14 @@ fn start_all<
     welcome: Welcome<'s>,
     mut seats: Vec<Seat<R>>,
     mut openers: Vec<P>,
-) -> Result<Vec<PromisedHandle<SeatResult<R, P::Seat>, SeatPromise<R, A, P>>>, SessionsFault>
+) -> Result<Vec<PromisedHandle<SeatResult<R, P::Seat>, SeatPromise<R, A, P>>>, RaceFault>
     requires ready { All (λ seat. IsUnused shared.now welcome seat) seats.items }
     requires openers { vec_len openers ≡ vec_len seats }
     ensures count { IfOk result (λ handles. vec_len handles ≡ vec_len seats) }
     ensures each { IfOk result (λ handles. AreSeatPromises seats openers handles) }
+    ensures fault { IfErr result IsFaultOfThreads }
 {
-    let mut handles = match Vec::with_capacity(alloc, seats.len()) {
-        Ok(handles) => handles,
-        Err(error) => return Err(SessionsFault::NoMemory(NoMemory::from(error))),
-    };
+    let mut handles = Vec::with_capacity(alloc, seats.len())?;
     while let Some(seat) = seats.pop() {
         let Some(opener) = openers.pop() else {
             unreachable!()
@@ -185,7 +158,7 @@ fn join_all<
     keeping: Keeping<R, J>,
     done: Vec<Seat<R>>,
     all: Vec<Finished<P::Seat>>,
-) -> Result<Left<R, P, J>, SessionsFault>
+) -> Result<Left<R, P, J>, RaceFault>
     requires ready { All (λ seat. IsUnused shared.now welcome seat) seats.items }
     requires openers { vec_len openers ≡ vec_len seats }
     requires watch { RestsAt shared.now keeping.watch }
@@ -198,6 +171,7 @@ fn join_all<
         (λ r. AllHaveRun R.rules A.answers P.Seat.known P.opens seats.items openers.items r.0.items r.1.items) }
     ensures later { IfOk result (λ r. IsLater keeping.watch r.2.watch) }
     ensures kept { IfOk result (λ r. GoesOnKeeping J.stream keeping r.2) }
+    ensures fault { IfErr result IsFaultOfThreads }
 {
     let handles = start_all::<E, R, A, P, Rt>(
         scope, rt, alloc, shared, going, welcome, seats, openers,
@@ -226,7 +200,7 @@ fn run_all<
     keeping: Keeping<R, J>,
     done: Vec<Seat<R>>,
     all: Vec<Finished<P::Seat>>,
-) -> Result<Left<R, P, J>, SessionsFault>
+) -> Result<Left<R, P, J>, RaceFault>
     requires ready { All (λ seat. IsUnused shared.now welcome seat) seats.items }
     requires openers { vec_len openers ≡ vec_len seats }
     requires watch { RestsAt shared.now keeping.watch }
@@ -239,11 +213,12 @@ fn run_all<
         (λ r. AllHaveRun R.rules A.answers P.Seat.known P.opens seats.items openers.items r.0.items r.1.items) }
     ensures later { IfOk result (λ r. IsLater keeping.watch r.2.watch) }
     ensures kept { IfOk result (λ r. GoesOnKeeping J.stream keeping r.2) }
+    ensures fault { IfErr result IsFaultOfThreads }
 {
     thread::scope(
         thread::scope_env(),
         rt,
-        |scope| -> Result<Left<R, P, J>, SessionsFault>
+        |scope| -> Result<Left<R, P, J>, RaceFault>
             requires ready { All (λ seat. IsUnused shared.now welcome seat) seats.items }
             requires openers { vec_len openers ≡ vec_len seats }
             requires watch { RestsAt shared.now keeping.watch }
@@ -258,41 +233,33 @@ fn run_all<
     )
 }
 
-/// An empty list with this capacity.
-fn reserve<X: Drop>(alloc: Global, count: usize) -> Result<Vec<X>, SessionsFault>
-    ensures { IfOk result (λ list. (vec_len list ≡ 0) × (count ≤ vec_capacity list)) }
-{
-    match Vec::with_capacity(alloc, count) {
-        Ok(list) => Ok(list),
-        Err(error) => Err(SessionsFault::NoMemory(NoMemory::from(error))),
-    }
-}
-
 /// A control, shared, with a watch.
 fn share<R: Runs, Rt: Wait>(
     rt: &Rt,
     alloc: Global,
     control: Control<R>,
-) -> Result<(Shared<R>, Vec<Seat<R>>, Watch<R>), SessionsFault>
+) -> Result<(Shared<R>, Vec<Seat<R>>, Watch<R>), RaceFault>
     ensures seats { IfOk result (λ r. r.1.items ≡ fresh_seats r.0 control 1 control.seats) }
     ensures watch { IfOk result (λ r. r.2 ≡ fresh_seat r.0 control 0) }
+    ensures fault { IfErr result IsFaultOfThreads }
 {
     match Shared::open_watched(rt, alloc, control) {
         Ok(opened) => Ok(opened),
         Err((control, refused)) => {
             control.close();
-            Err(SessionsFault::NoMemory(refused))
+            Err(RaceFault::NoMemory(refused))
         }
     }
 }
 
 /// The same setup.
-fn copy(alloc: Global, setup: &Setup) -> Result<Setup, SessionsFault>
-    ensures { IfOk result (λ again. again ≡ setup.now) }
+fn copy(alloc: Global, setup: &Setup) -> Result<Setup, RaceFault>
+    ensures same { IfOk result (λ again. again ≡ setup.now) }
+    ensures fault { IfErr result IsFaultOfThreads }
 {
     match setup.copy(alloc) {
         Ok(again) => Ok(again),
-        Err(refused) => Err(SessionsFault::NoMemory(refused)),
+        Err(refused) => Err(RaceFault::NoMemory(refused)),
     }
 }
 
@@ -341,7 +308,7 @@ pub fn debug_seats<
     greeting: &[u8],
     openers: Vec<P>,
     file: Option<J>,
-) -> Result<Ended<R, P, J>, SessionsFault>
+) -> Result<Ended<R, P, J>, RaceFault>
     requires some { 1 ≤ vec_len openers }
     requires seats { vec_len openers ≡ control.seats }
     requires greeting { greeting.now ≡ greeting_text control.setup }
@@ -350,10 +317,11 @@ pub fn debug_seats<
     ensures kept { IfOk result (λ r. HasKept J.stream file r.2 r.0.journal) }
     ensures writable { IfOk result (λ r. IsWritable control → IsWritable r.0) }
     ensures headline { IfOk result (λ r. HasHeadline R.rules R.same_state r.0) }
+    ensures fault { IfErr result IsFaultOfThreads }
 {
     let count = control.seats();
-    let done = reserve(alloc, openers.len())?;
-    let all = reserve(alloc, openers.len())?;
+    let done = Vec::with_capacity(alloc, openers.len())?;
+    let all = Vec::with_capacity(alloc, openers.len())?;
     let again = copy(alloc, control.run().setup())?;
     let welcome = Welcome {
         setup: &again,

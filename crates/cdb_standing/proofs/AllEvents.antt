@@ -1,11 +1,13 @@
 -- The events that numbers cut off, gathered.
+use Rattle.std.proofs.lemmas.Grind.{common_steps}
+use Rattle.std.proofs.lemmas.Bool.{cases_lt}
 use Rattle.std.proofs.Common.{◌≡◌, ◌≢◌, ℕ, zero, suc, ◌+◌, ◌-◌, ◌<◌, ◌≤◌, List, [], ◌∷◌, ◌++◌, length, drop, set, slice_get}
 use Rattle.std.proofs.Common.{slice_index_or, Some, ◌⊎◌, ⊎_elim, refl, sym, ap, ap₂, ◌∙◌, subst, arith}
 use Rattle.std.specs.List.{sum_by}
 use Rattle.std.specs.Prelude.{IsPermutation}
 use Rattle.std.proofs.lemmas.List.Sums.{sum_by-cons, sum_by-append}
 use Rattle.std.proofs.lemmas.List.Sorted.{IsPermutation-refl, IsPermutation-trans, IsPermutation-append, IsPermutation-append_comm, sum_by-IsPermutation}
-use Rattle.std.proofs.lemmas.Option.{none-some, same_Some, slice_get_within}
+use Rattle.std.proofs.lemmas.Option.{none-some, same_Some, slice_get_within, gets}
 use Rattle.std.proofs.lemmas.List.{append_assoc, append-nil, drop_all}
 use Rattle.cdb_causal.proofs.Lists.{drop_from}
 use Rattle.cdb_base.specs.declared.event.Event.{Event}
@@ -17,12 +19,9 @@ use Rattle.cdb_standing.specs.Tables.{row_of, step_at}
 use Rattle.cdb_standing.specs.declared.tables.Entry.{Entry}
 use Rattle.cdb_standing.specs.declared.tables.Sent.{Sent}
 use Rattle.cdb_standing.proofs.CutsFound.{cut_set, cut_set_other}
-use Rattle.cdb_standing.proofs.RowUpdates.{got}
 
 pub index_at : {A : Type 0} (xs : List A) (i : ℕ) (d : A) → i < length xs → slice_get xs i ≡ Some (slice_index_or xs i d)
-index_at [] i d less = absurd (omega arith)
-index_at (x ∷ xs) zero d less = refl
-index_at (x ∷ xs) (suc i) d less = index_at xs i d (omega arith)
+index_at xs i d h1 = grind (arith, common_steps, gets)
 
 pub row_there : {T : Type 0} (table : List (List T)) (i : ℕ) → i < length table → slice_get table i ≡ Some (row_of table (suc i))
 row_there [] i less = absurd (omega arith)
@@ -35,10 +34,7 @@ module _ {A B : Type 0} (f : ℕ → A → List B) (xs : List A) (whole : List B
   pub next_added : (found new : List B) (i : ℕ) (x : A) → slice_get xs i ≡ Some x
       → new ≡ found ++ f (suc i) x → found ++ each_from f (suc i) (drop i xs) ≡ whole
       → new ++ each_from f (suc (i + 1)) (drop (i + 1) xs) ≡ whole
-  next_added found new i x at more rest =
-      let one : i + 1 ≡ suc i = omega arith in
-      rw (one, more, append_assoc found (f (suc i) x) (each_from f (suc (suc i)) (drop (suc i) xs)))
-      (ap (λ l. found ++ each_from f (suc i) l) (sym (drop_from xs i x at)) ∙ rest)
+  next_added found new i x h1 h2 h3 = grind (arith, common_steps, gets)
 
   pub next_indexed : (d : A) {n : ℕ} (found new : List B) (i : ℕ) → i < length xs → n ≡ suc i
       → new ≡ found ++ f n (slice_index_or xs i d) → found ++ each_from f (suc i) (drop i xs) ≡ whole
@@ -118,10 +114,10 @@ module _ (steps : List (List Entry)) (sent : List (List Sent)) (nine : length st
           ap (each_from (of_step sent (suc i)) (suc j)) (drop_from row j entry at)
           ∙ ap (λ m. of_step sent (suc i) (suc j) entry ++ each_from (of_step sent (suc i)) (suc m) (drop m row)) (sym now)
 
-  pub gathered_more : (whole : List Marked) (from : List ℕ) (i n : ℕ) (found new : List Marked)
+  pub gathered_more : (whole : List Marked) {from : List ℕ} {i n : ℕ} {found new : List Marked}
       → length from ≡ 9 → i < 9 → IsGathered steps sent from i found new n
       → IsPermutation whole (found ++ all_from from steps sent) → IsPermutation whole (new ++ all_from (set from i n) steps sent)
-  gathered_more whole from i n found new long few it was =
+  gathered_more whole {from} {i} {n} {found} long few it was =
       let moved = step_moved from i n it.entry long few it.at it.number in
       let done = of_step sent (suc i) (suc (cut_of from (suc i) - 1)) it.entry in
       let rest = all_from (set from i n) steps sent in
@@ -130,9 +126,9 @@ module _ (steps : List (List Entry)) (sent : List (List Sent)) (nine : length st
       (IsPermutation-append found found (all_from from steps sent) (done ++ rest) (IsPermutation-refl found) moved) in
       subst (IsPermutation whole) (sym (append_assoc found done rest) ∙ ap (λ l. l ++ rest) (sym it.more)) one
 
-  pub fewer_left : (from : List ℕ) (i n : ℕ) (found new : List Marked) → length from ≡ 9 → i < 9 → IsGathered steps sent from i found new n
+  pub fewer_left : {from : List ℕ} {i n : ℕ} {found new : List Marked} → length from ≡ 9 → i < 9 → IsGathered steps sent from i found new n
       → sum_by (λ (x : Marked). 1) (all_from (set from i n) steps sent) < sum_by (λ (x : Marked). 1) (all_from from steps sent)
-  fewer_left from i n found new long few it =
+  fewer_left {from} {i} {n} long few it =
       let one : Marked → ℕ = λ x. 1 in
       let p = suc i in
       let k = suc (cut_of from (suc i) - 1) in
@@ -156,12 +152,9 @@ module _ (steps : List (List Entry)) (sent : List (List Sent)) (nine : length st
       (ap (each_from (of_step sent (suc i)) (suc (cut_of from (suc i) - 1)))
       (drop_all (cut_of from (suc i) - 1) row (subst (λ r. length r ≤ cut_of from (suc i) - 1) (sym is) (past i from none (omega arith))))))
     where
-      le_or_lt : (a b : ℕ) → (a ≤ b) ⊎ (b < a)
-      le_or_lt a b = grind arith
-
       past : (i : ℕ) (from : List ℕ) → NoneIsLeft steps from 0 9 → i < 9 → length (row_of steps (suc i)) ≤ cut_of from (suc i) - 1
       past i from none few =
-          ⊎_elim (λ h. h) (λ less. absurd (none i (omega arith) few (few, less))) (le_or_lt (length (row_of steps (suc i))) (cut_of from (suc i) - 1))
+          ⊎_elim (λ less. absurd (none i (omega arith) few (few, less))) (λ h. h) (cases_lt (cut_of from (suc i) - 1) (length (row_of steps (suc i))))
 
   pub nothing_left : (whole : List Marked) (from : List ℕ) (found : List Marked) → NoneIsLeft steps from 0 9
       → IsPermutation whole (found ++ all_from from steps sent) → IsPermutation whole found
@@ -172,10 +165,7 @@ module _ (steps : List (List Entry)) (sent : List (List Sent)) (nine : length st
 pub next_event : (xs : List Marked) (found new : List Event) (i : ℕ) (x : Marked) → i < length xs
     → x ≡ slice_index_or xs i x → new ≡ found ++ x.event ∷ [] → found ++ events_of (drop i xs) ≡ events_of xs
     → new ++ events_of (drop (i + 1) xs) ≡ events_of xs
-next_event xs found new i x less is more rest =
-    let one : i + 1 ≡ suc i = omega arith in
-    rw (one, more, append_assoc found (x.event ∷ []) (events_of (drop (suc i) xs)))
-    (ap (λ l. found ++ events_of l) (sym (drop_from xs i x (got xs i x less is))) ∙ rest)
+next_event xs found new i x h1 h2 h3 h4 = grind (arith, common_steps, gets)
 
 pub all_events : (xs : List Marked) (found : List Event) (i : ℕ) → length xs ≤ i → found ++ events_of (drop i xs) ≡ events_of xs → found ≡ events_of xs
 all_events xs found i past rest = sym (append-nil found) ∙ ap (λ l. found ++ events_of l) (sym (drop_all i xs past)) ∙ rest

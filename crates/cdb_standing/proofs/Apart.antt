@@ -1,18 +1,20 @@
 -- Why a step depends on an earlier one of another process: it receives what that one sends, or both access one register and one of them writes it.
-use Rattle.std.proofs.Common.{◌≡◌, ◌≢◌, ℕ, ◌<◌, true, ◌||◌, nat_eq, true≢false, eqb-true, List, Some, ◌⊎◌, inl, inr, ⊎_elim, refl, sym, ◌∙◌, arith}
+use Rattle.std.proofs.lemmas.Option.{gets}
+use Rattle.std.proofs.lemmas.Grind.{common_steps}
+use Rattle.std.proofs.lemmas.Bool.{or_cases}
+use Rattle.std.proofs.Common.{◌≡◌, ◌≢◌, ℕ, ◌<◌, true, ◌||◌, nat_eq, true≢false, eqb-true, List, Some, ◌⊎◌, inl, inr, ⊎_elim, sym, ◌∙◌, arith}
 use Rattle.cdb_base.specs.declared.event.Event.TheVariants as event
 use Rattle.cdb_base.specs.declared.event.Kind.{Kind}
 use Rattle.cdb_base.specs.declared.event.Kind.TheVariants.{Send, Recv, Write}
 use Rattle.cdb_causal.specs.Dependence.{depends}
 use Rattle.cdb_causal.specs.Effects.{kind_affects}
 use Rattle.cdb_causal.proofs.Effects.{by_effect}
-use Rattle.cdb_standing.specs.Accesses.{number_of, accessed}
+use Rattle.cdb_standing.specs.Accesses.{accessed}
 use Rattle.cdb_standing.specs.Causes.{writes}
 use Rattle.cdb_standing.specs.Tables.{IsEntry, IsSound}
 use Rattle.cdb_standing.specs.declared.tables.Entry.{Entry}
 use Rattle.cdb_standing.specs.declared.tables.Sent.{Sent}
-use Rattle.cdb_standing.proofs.LaterLinks.{either, is_accessed, Affects, affects_is}
-use Rattle.cdb_standing.proofs.EarliestFound.{affecting, affected}
+use Rattle.cdb_standing.proofs.LaterLinks.{is_accessed, Affects, affects_is}
 
 -- a step of process p of the first kind sends what one of the other kind receives
 pub record IsMail (p : ℕ) (kind other : Kind) : Type 0 where
@@ -31,9 +33,7 @@ turned : {kind other : Kind} → AreInConflict kind other → AreInConflict othe
 turned c = record { n = c.n; one = c.two; two = c.one; written = ⊎_elim (λ e. inr e) (λ e. inl e) c.written }
 
 why : (p : ℕ) (kind other : Kind) → Affects p kind other → IsMail p kind other ⊎ AreInConflict kind other
-why p (Send m) other is = inl (record { m = m; sends = refl; receives = is })
-why p (Write register) other is = inr (record { n = number_of register; one = refl; two = is; written = inl refl })
-why p _ other is = absurd is
+why p kind other h1 = grind (arith, common_steps, gets)
 
 pub writes_is : (kind : Kind) (n : ℕ) → writes kind ≡ true → accessed kind ≡ Some n
     → (other : Kind) → accessed other ≡ Some n → (p : ℕ) → kind_affects p kind other ≡ true
@@ -54,12 +54,8 @@ module _ {next : ℕ} {steps : List (List Entry)} {sent : List (List Sent)} (sou
       let first = sound.sent_first q mail.m l b p k a sends receives in absurd (omega arith))
       (λ c. inr (turned c))
       (why q other kind (affects_is q other kind e)))
-      (either (kind_affects p kind other) (kind_affects q other kind) others))
-      (either (nat_eq p q) (kind_affects p kind other || kind_affects q other kind) (sym (by_effect (event.Step p k kind) (event.Step q l other)) ∙ linked))
+      (or_cases (kind_affects p kind other) (kind_affects q other kind) others))
+      (or_cases (nat_eq p q) (kind_affects p kind other || kind_affects q other kind) (sym (by_effect (event.Step p k kind) (event.Step q l other)) ∙ linked))
 
   pub conflict_links : (p k q l : ℕ) {kind other : Kind} → AreInConflict kind other → depends (event.Step p k kind) (event.Step q l other) ≡ true
-  conflict_links p k q l {kind} {other} c =
-      ⊎_elim
-      (λ w. affecting next steps sent sound (event.Step p k kind) (event.Step q l other) (writes_is kind c.n w c.one other c.two p))
-      (λ w. affected next steps sent sound (event.Step p k kind) (event.Step q l other) (writes_is other c.n w c.two kind c.one q))
-      c.written
+  conflict_links p k q l h1 = grind (arith, common_steps, gets)

@@ -1,8 +1,9 @@
 -- What the standing steps left, beside them.
+use Rattle.std.proofs.lemmas.Grind.{common_steps}
 use Rattle.std.proofs.Common.{◌≡◌, ◌≢◌, ℕ, zero, suc, ◌+◌, ◌-◌, ◌<◌, ◌≤◌, List, [], ◌∷◌, ◌++◌, length, Some, unwrap_or, inl, inr, ⊎_elim}
 use Rattle.std.proofs.Common.{length-append, refl, sym, ap, ap₂, ◌∙◌, arith}
 use Rattle.std.proofs.lemmas.Bool.{cases_eq, cases_lt}
-use Rattle.std.proofs.lemmas.Option.{none-some}
+use Rattle.std.proofs.lemmas.Option.{none-some, gets}
 use Rattle.std.proofs.lemmas.List.{map-append}
 use Rattle.cdb_base.specs.Event.{event_name}
 use Rattle.cdb_base.specs.Positions.{nth}
@@ -69,11 +70,9 @@ module _ {B : Type 0} where
 -- ---- beside the steps
 
 steps_front : (history : List Event) (copy : CopyName) (p k : ℕ) → HasStep (history ++ Lost copy ∷ []) p k → HasStep history p k
-steps_front history copy p k (kind, h) =
-    ⊎_elim (λ q. (kind, has_stands history (Step p k kind) q)) (λ q. ⊎_elim (λ e. absurd (cc)) (λ no. absurd no) q)
-    (has_cases history (Lost copy ∷ []) (Step p k kind) (stands_has (history ++ Lost copy ∷ []) (Step p k kind) h))
+steps_front history copy p k h1 = grind (arith, common_steps, gets)
 
-module _ {B : Type 0} (lefts : List (List (UndoData B))) (history : List Event) (beside : AreBeside lefts history) (copy : CopyName) where
+module _ {B : Type 0} {lefts : List (List (UndoData B))} {history : List Event} (beside : AreBeside lefts history) (copy : CopyName) where
   pub beside_loss : AreBeside lefts (history ++ Lost copy ∷ [])
   beside_loss =
       record {
@@ -101,10 +100,10 @@ some_left lefts history beside p k (at, (it, there, is), free) = by it there is
         let w = beside.within q l (kind, (at, there)) in
         let name_is : step_named q l ≡ step_named p k = cc in
         let p_is : q ≡ p = ap (λ (x : StepName). x.p) name_is in
-        let one = w.0 in let many = w.1 in rw (← p_is) (omega arith)
+        rw (← p_is) (omega arith)
     by (Lost copy) there is = absurd (cc)
 
-module _ {B : Type 0} (low high : List (List (UndoData B))) (p : ℕ) (left : UndoData B) (put : IsPutOn p low left high) where
+module _ {B : Type 0} {low high : List (List (UndoData B))} {p : ℕ} {left : UndoData B} (put : IsPutOn p low left high) where
   other_nth : (xs : List (UndoData B)) (k : ℕ) → k ≢ length xs + 1 → nth (xs ++ left ∷ []) k ≡ nth xs k
   other_nth xs zero other = refl
   other_nth [] (suc zero) other = absurd (other (omega arith))
@@ -122,7 +121,7 @@ module _ {B : Type 0} (low high : List (List (UndoData B))) (p : ℕ) (left : Un
           ∙ ap (λ o. unwrap_or o nothing) (other_nth (row_of low p) l (λ i. other kind (λ j. Step (e j) ((i ∙ sym last) j) kind))))
 
   top_left : (k : ℕ) (kind : Kind) → k ≡ length (row_of low p) + 1 → undo_data_of high (Step p k kind) ≡ left
-  top_left k kind last = ap (λ o. unwrap_or o nothing) (put_joins p low left high put k last)
+  top_left k kind last = ap (λ o. unwrap_or o nothing) (put_joins put k last)
 
   low_length : (q : ℕ) → q ≢ p → length (row_of high q) ≡ length (row_of low q)
   low_length q other = ap length (put.others q other)
@@ -131,11 +130,11 @@ module _ {B : Type 0} (low high : List (List (UndoData B))) (p : ℕ) (left : Un
   high_length = ap length put.more ∙ length-append (row_of low p) (left ∷ [])
 
   -- a step more, which is the next of its process
-  module _ (history : List Event) (k : ℕ) (kind : Kind) (beside : AreBeside low history) (next : IsNextStep history p k) where
+  module _ {history : List Event} {k : ℕ} (kind : Kind) (beside : AreBeside low history) (next : IsNextStep history p k) where
     pub next_left : k ≡ length (row_of low p) + 1
     next_left =
         ⊎_elim
-        (λ past. ⊎_elim (λ first. omega arith) (λ behind. let w = (beside.within p (k - 1) behind).1 in let one = next.from_one in omega arith) next.behind)
+        (λ past. ⊎_elim (λ first. omega arith) (λ behind. let w = (beside.within p (k - 1) behind).1 in omega arith) next.behind)
         (λ within. absurd (next.new (beside.standing p k next.from_one within)))
         (cases_lt (length (row_of low p)) k)
 
@@ -157,7 +156,7 @@ module _ {B : Type 0} (low high : List (List (UndoData B))) (p : ℕ) (left : Un
 
         within : (q l : ℕ) (x : Kind) → Has history (Step q l x) → (1 ≤ l) × (l ≤ length (row_of high q))
         within q l x h =
-            let w = beside.within q l (x, has_stands history (Step q l x) h) in let one = w.0 in let many = w.1 in let g = grown q in (omega arith, omega arith)
+            let w = beside.within q l (x, has_stands history (Step q l x) h) in let one = w.0 in let g = grown q in (omega arith, omega arith)
 
         joined : (q l : ℕ) (x : Kind) → Step p k kind ≡ Step q l x → (1 ≤ l) × (l ≤ length (row_of high q))
         joined q l x e =
@@ -194,7 +193,7 @@ module _ {B : Type 0} (low high : List (List (UndoData B))) (p : ℕ) (left : Un
         (top_left k kind next_left)
 
   -- the last step of a process less
-  module _ (history new : List Event) (k : ℕ) (kind : Kind) (beside : AreBeside high history)
+  module _ {history : List Event} (new : List Event) (k : ℕ) (kind : Kind) (beside : AreBeside high history)
       (free : IsFreeAlone history (named.Step (record { p = p; k = k })))
       (taken : IsTakenOut history (named.Step (record { p = p; k = k })) (Step p k kind) new)
       (was_last : IsEndOf history p k) (last : IsEndOf new p (k - 1)) where
@@ -219,8 +218,7 @@ module _ {B : Type 0} (low high : List (List (UndoData B))) (p : ℕ) (left : Un
         record {
           processes = sym put.as_many ∙ beside.processes;
           within = λ q l h.
-              let w = beside.within q l (old_step q l h) in
-              let many = w.1 in (
+              let w = beside.within q l (old_step q l h) in (
                 w.0,
                 ⊎_elim (λ e. let less = last l (rw e at h) in let n = last_left in rw e (omega arith))
                     (λ no. let e = low_length q no in omega arith) (cases_eq q p),
@@ -259,4 +257,4 @@ module _ {B : Type 0} (lefts : List (List (UndoData B))) (history new : List Eve
       (nth_map _ history at (Lost copy) out.0, ap (recorded_with lefts) out.1 ∙ map-without _ history at)
 
   pub beside_unlost : IsFreeAlone history (named.Lost copy) → AreBeside lefts history → AreBeside lefts new
-  beside_unlost free beside = let out = taken free.0 free.1 in rw out.1 (beside_less lefts history beside copy free.0 out.0)
+  beside_unlost free beside = let out = taken free.0 free.1 in rw out.1 (beside_less beside copy free.0 out.0)

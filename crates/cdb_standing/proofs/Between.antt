@@ -1,7 +1,9 @@
 -- What lies between a step and the last one of a process on which it depends: accesses of the register that both access.
+use Rattle.std.proofs.lemmas.Grind.{common_steps}
+use Rattle.std.proofs.lemmas.Bool.{cases_eq, and_parts, or_cases}
 use Rattle.std.proofs.Common.{◌≡◌, ℕ, ◌<◌, ◌≤◌, Bool, true, false, true≢false, ◌&&◌, ◌||◌, cond, nat_eq, eqb-true, eq-eqb}
 use Rattle.std.proofs.Common.{List, Option, Some, None, ◌⊎◌, inl, inr, ⊎_elim, refl, sym, ap, ◌∙◌, subst, arith}
-use Rattle.std.proofs.lemmas.Option.{none-some}
+use Rattle.std.proofs.lemmas.Option.{none-some, gets}
 use Rattle.std.specs.Option.{option_and_then}
 use Rattle.cdb_base.specs.declared.event.Event.{Event}
 use Rattle.cdb_base.specs.declared.event.Event.TheVariants as event
@@ -16,13 +18,12 @@ use Rattle.cdb_standing.specs.declared.tables.Access.{Access}
 use Rattle.cdb_standing.specs.declared.tables.Copied.TheVariants.{Received}
 use Rattle.cdb_standing.specs.declared.tables.Entry.{Entry}
 use Rattle.cdb_standing.specs.declared.tables.Sent.{Sent}
-use Rattle.cdb_standing.proofs.LaterLinks.{both, either}
 use Rattle.cdb_standing.proofs.Apart.{IsMail, AreInConflict, links_apart, conflict_links}
 use Rattle.cdb_standing.proofs.CutsFound.{process_within}
-use Rattle.cdb_standing.proofs.EarliestFound.{own_links, loss_found}
-use Rattle.cdb_standing.proofs.LastCauses.{written_is, is_written_too, loss_needs}
+use Rattle.cdb_standing.proofs.EarliestFound.{own_links, loss_found, loss_needs}
+use Rattle.cdb_standing.proofs.LastCauses.{written_is, is_written_too}
 use Rattle.cdb_standing.proofs.Lasts.{is_listed, listed_is}
-use Rattle.cdb_standing.proofs.MailRows.{same_or_other, same_copy}
+use Rattle.cdb_standing.proofs.MailRows.{same_copy}
 use Rattle.cdb_standing.proofs.Rows.{same_at}
 
 -- a step of process s of the last kind accesses the register of both others, and is in conflict with the first, and with the second or of its process
@@ -39,27 +40,19 @@ pub same_register : {cause : Kind} {p : ℕ} {kind : Kind} {s : ℕ} {other : Ki
 same_register lies = rw (lies.of_cause, lies.of_step) (rw (eq-eqb lies.n lies.n refl) refl)
 
 of_options : (o u : Option ℕ) (n : ℕ) → option_and_then (λ m. cond (is_that u m) (Some m) None) o ≡ Some n → (o ≡ Some n) × (u ≡ Some n)
-of_options None u n e = absurd (none-some n e)
-of_options (Some m) None n e = absurd (none-some n e)
-of_options (Some m) (Some r) n e = by (nat_eq r m) (eqb-true r m) e
-  where
-    by : (t : Bool) → (t ≡ true → r ≡ m) → cond t (Some m) None ≡ Some n → (Some m ≡ Some n) × (Some r ≡ Some n)
-    by true is e = (e, ap Some (is refl) ∙ e)
-    by false is e = absurd (none-some n e)
+of_options o u n h1 = grind (arith, common_steps, gets)
 
 both_access : (cause kind : Kind) (n : ℕ) → register_of_both cause kind ≡ Some n → (accessed cause ≡ Some n) × (accessed kind ≡ Some n)
 both_access cause kind n e = of_options (accessed cause) (accessed kind) n e
 
 and_or : (a b c : Bool) → a ≡ true → (b ≡ true) ⊎ (c ≡ true) → (a && (b || c)) ≡ true
-and_or a b c e (inl f) = rw (e, f) refl
-and_or a true c e (inr f) = rw e refl
-and_or a false c e (inr f) = rw (e, f) refl
+and_or a b c h1 h2 = grind (arith, common_steps, gets)
 
 module _ {next : ℕ} {steps : List (List Entry)} {sent : List (List Sent)} (sound : IsSound next steps sent) where
   -- nothing depends on a loss
   pub no_loss : {effect : Event} {a x : ℕ} {copy : CopyName} → Stands steps sent a effect → IsCause steps sent effect a x (event.Lost copy) → ⊥
   no_loss {effect} {a} {x} {copy} stands c =
-      let none = (loss_found next steps sent sound copy x c.stands).each a effect (record { stands = stands; later = c.earlier; linked = c.linked }) in
+      let none = (loss_found sound copy x c.stands).each a effect (record { stands = stands; later = c.earlier; linked = c.linked }) in
       none-some none.0 none.1
 
   module _ {p k a : ℕ} {kind : Kind} (at : IsEntry steps p k a kind) {q l c : ℕ}
@@ -72,10 +65,10 @@ module _ {next : ℕ} {steps : List (List Entry)} {sent : List (List Sent)} (sou
 
     pub lies_between : (s j x : ℕ) (other : Kind) → IsBetweenHere x (event.Step s j other) → LiesBetween cause p kind s other
     lies_between s j x other b =
-        elim (same_or_other q s) [
-          | inl e ↦ (let past = is.last j x other (rw (← e) at b.to_effect) in let later = b.of_cause.later in absurd (omega arith))
+        elim (cases_eq q s) [
+          | inl e ↦ (let past = is.last j x other (rw (← e) at b.to_effect) in absurd (omega arith))
           | inr apart ↦ of_other apart
-              (links_apart sound q l c cause s j x other is.is.stands b.of_cause.stands b.of_cause.later apart b.of_cause.linked) (same_or_other s p)
+              (links_apart sound q l c cause s j x other is.is.stands b.of_cause.stands b.of_cause.later apart b.of_cause.linked) (cases_eq s p)
         ]
       where
         from_it : (s ≡ p → ⊥) → Linked s other p kind
@@ -89,11 +82,11 @@ module _ {next : ℕ} {steps : List (List Entry)} {sent : List (List Sent)} (sou
         one_receive m e here there =
             let first = sound.is_received q m s j x (rw here at b.of_cause.stands) in
             let second = sound.is_received q m p k a (rw there at at) in
-            let same : Received j ≡ Received k = same_copy sent q m s q m p (Received j) (Received k) first second (refl, refl, e) in
+            let same : Received j ≡ Received k = same_copy first second (refl, refl, e) in
             let j_is : j ≡ k = cc in
             let entry = same_at (row_of steps p) k (entry_of x other) (entry_of a kind) (rw (e, j_is) at b.of_cause.stands) at in
             let mark_is : x ≡ a = ap (λ (y : Entry). y.mark) entry in
-            let earlier = b.to_effect.earlier in omega arith
+            omega arith
 
         of_other : (q ≡ s → ⊥) → Linked q cause s other → (s ≡ p) ⊎ (s ≡ p → ⊥) → LiesBetween cause p kind s other
         of_other apart (inl mail) (inl e) =
@@ -106,7 +99,7 @@ module _ {next : ℕ} {steps : List (List Entry)} {sent : List (List Sent)} (sou
         of_other apart (inl mail) (inr further) =
             let e2 = mail.receives in
             elim (from_it further) [
-              | inl again ↦ (let e3 = again.sends in absurd (cc))
+              | inl again ↦ absurd (cc)
               | inr r ↦ absurd (none-some r.n (rw e2 at r.one))
             ]
         of_other apart (inr r) (inl e) =
@@ -127,9 +120,9 @@ module _ {next : ℕ} {steps : List (List Entry)} {sent : List (List Sent)} (sou
               }
             ]
 
-    pub is_between : (s j x : ℕ) (other : Kind) → IsEntry steps s j x other → c < x
+    pub is_between : {s : ℕ} (j x : ℕ) {other : Kind} → IsEntry steps s j x other → c < x
         → x < a → LiesBetween cause p kind s other → IsBetweenHere x (event.Step s j other)
-    is_between s j x other here later earlier lies =
+    is_between {s} j x {other} here later earlier lies =
         record {
           of_cause = record {
             stands = here;
@@ -163,26 +156,26 @@ module _ {next : ℕ} {steps : List (List Entry)} {sent : List (List Sent)} (sou
           by : (t : Bool) → (writes cause && (nat_eq s p || writes kind)) ≡ t
               → HasAccessBetween (cond t accesses writing) s n c a → (x : ℕ) × (it : Event) × IsBetweenHere x it
           by true holds h =
-              let it = listed_is accessed accesses steps all s n one nine few h.0 h.1 in
-              let is = both (writes cause) (nat_eq s p || writes kind) holds in (
+              let it = listed_is all s n one nine few h.0 h.1 in
+              let is = and_parts (writes cause) (nat_eq s p || writes kind) holds in (
                 (h.0).mark,
                 event.Step s (h.0).k it.0,
-                is_between s (h.0).k (h.0).mark it.0 it.1 h.2 h.3
+                is_between (h.0).k (h.0).mark it.1 h.2 h.3
                     (record {
                       n = n;
                       of_cause = registers.0;
                       of_step = registers.1;
                       of_it = it.2;
                       with_cause = inl is.0;
-                      with_step = ⊎_elim (λ e. inl (eqb-true s p e)) (λ w. inr (inl w)) (either (nat_eq s p) (writes kind) is.1);
+                      with_step = ⊎_elim (λ e. inl (eqb-true s p e)) (λ w. inr (inl w)) (or_cases (nat_eq s p) (writes kind) is.1);
                     }),
               )
           by false fails h =
-              let it = listed_is written writing steps some s n one nine few h.0 h.1 in
+              let it = listed_is some s n one nine few h.0 h.1 in
               let w = written_is it.0 n it.2 in (
                 (h.0).mark,
                 event.Step s (h.0).k it.0,
-                is_between s (h.0).k (h.0).mark it.0 it.1 h.2 h.3
+                is_between (h.0).k (h.0).mark it.1 h.2 h.3
                     (record { n = n; of_cause = registers.0; of_step = registers.1; of_it = w.0; with_cause = inr w.1; with_step = inr (inr w.1) }),
               )
 
@@ -205,11 +198,10 @@ module _ {next : ℕ} {steps : List (List Entry)} {sent : List (List Sent)} (sou
               by (inl w) (inr (inr v)) = v
 
           by : (t : Bool) → (writes cause && (nat_eq s p || writes kind)) ≡ t → HasAccessBetween (cond t accesses writing) s n c a
-          by true holds =
-              (access_of x j, is_listed accessed accesses steps all s n one nine few j x other b.of_cause.stands of_it, b.of_cause.later, b.to_effect.earlier)
+          by true holds = (access_of x j, is_listed all s n one nine few j x other b.of_cause.stands of_it, b.of_cause.later, b.to_effect.earlier)
           by false fails = (
             access_of x j,
-            is_listed written writing steps some s n one nine few j x other b.of_cause.stands
+            is_listed some s n one nine few j x other b.of_cause.stands
                 (is_written_too other n (it_writes fails) of_it),
             b.of_cause.later,
             b.to_effect.earlier,
@@ -218,7 +210,7 @@ module _ {next : ℕ} {steps : List (List Entry)} {sent : List (List Sent)} (sou
       pub none_on_lists : ((s : ℕ) → 1 ≤ s → s ≤ 9 → On s → ⊥) → HasNone steps sent (event.Step q l cause) c (event.Step p k kind) a
       none_on_lists none x (event.Lost copy) b = no_loss at b.to_effect
       none_on_lists none x (event.Step s j other) b =
-          let within = process_within next steps sent sound s j x other b.of_cause.stands in
+          let within = process_within sound s j x other b.of_cause.stands in
           none s within.0 within.1 (to_list s j x other b within.0 within.1 (lies_between s j x other b))
 
     -- steps that access no common register have nothing between them
@@ -232,7 +224,7 @@ module _ {next : ℕ} {steps : List (List Entry)} {sent : List (List Sent)} (sou
       → HasNone steps sent (event.Step q l cause) c (event.Lost copy) a
   none_before_loss at is x (event.Lost other) b = no_loss at b.to_effect
   none_before_loss {copy} {a} {q} {l} {c} {cause} at is x (event.Step s j other) b =
-      let one = loss_needs sound copy a q l c cause at is.is.stands is.is.linked in
-      let two = loss_needs sound copy a s j x other at b.of_cause.stands b.to_effect.linked in
+      let one = loss_needs sound copy q l c cause at is.is.stands is.is.linked in
+      let two = loss_needs sound copy s j x other at b.of_cause.stands b.to_effect.linked in
       let e : s ≡ q = two.0 ∙ sym one.0 in
-      let past = is.last j x other (rw e at b.to_effect) in let later = b.of_cause.later in omega arith
+      let past = is.last j x other (rw e at b.to_effect) in omega arith

@@ -1,87 +1,47 @@
 -- Numbers that are lowered until what they cut off is closed.
-use Rattle.std.proofs.Common.{◌≡◌, ◌≢◌, ℕ, zero, suc, ◌+◌, ◌<◌, ◌≤◌, Bool, true, false, cond, nat_eq, nat_lt, ltb-true, ltb-false}
-use Rattle.std.proofs.Common.{true≢false, eqb-true, eq-eqb, List, [], ◌∷◌, length, set, slice_index, length-set, ◌-◌, Option}
+use Rattle.std.proofs.lemmas.Grind.{common_steps}
+use Rattle.std.proofs.lemmas.Bool.{cases_eq, cases_lt}
+use Rattle.std.proofs.Common.{◌≡◌, ◌≢◌, ℕ, zero, suc, ◌+◌, ◌<◌, ◌≤◌, false}
+use Rattle.std.proofs.Common.{true≢false, List, [], ◌∷◌, length, set, slice_index, length-set, ◌-◌, Option}
 use Rattle.std.proofs.Common.{Some, None, ◌⊎◌, inl, inr, ⊎_elim, refl, sym, ap, ap₂, ◌∙◌, subst, arith}
-use Rattle.std.proofs.lemmas.Option.{same_Some, none-some}
+use Rattle.std.proofs.lemmas.Option.{same_Some, none-some, gets}
 use Rattle.cdb_base.specs.Event.{event_name, is_step_of}
 use Rattle.cdb_base.specs.declared.event.Event.{Event}
 use Rattle.cdb_base.specs.declared.event.Event.TheVariants as event
 use Rattle.cdb_base.specs.declared.event.Kind.{Kind}
-use Rattle.cdb_base.specs.declared.event.Kind.TheVariants.{Query, Send, Recv, Read, Write, Local, Learn, Crash}
+use Rattle.cdb_base.specs.declared.event.Kind.TheVariants.{Send, Read, Write}
 use Rattle.cdb_base.specs.declared.name.CopyName.{CopyName}
-use Rattle.cdb_base.specs.declared.name.StepId.{StepId}
 use Rattle.cdb_base.specs.declared.name.StepId.TheVariants as named
 use Rattle.cdb_base.specs.declared.name.StepName.{StepName}
 use Rattle.cdb_standing.specs.Cuts.{total, cut_of, IsReached, root, onward, IsSoundCut, HasNoneBehind, IsClosedOf, IsClosedAt, IsClosedFrom}
-use Rattle.cdb_standing.specs.Cuts.{IsLower, lowered_to, lowered, AreLowered, AreEnds, AreCuts, IsLookedAt, IsRootIn}
+use Rattle.cdb_standing.specs.Cuts.{IsLower, lowered, AreLowered, AreEnds, AreCuts, IsLookedAt, IsRootIn}
 use Rattle.cdb_standing.specs.Dependents.{found, found_copy, IsDependent, IsDependentOf, process_of, IsFoundOfOthers}
 use Rattle.cdb_standing.specs.Tables.{row_of, entry_of, IsEntry, IsSound}
 use Rattle.cdb_standing.specs.declared.dependents.Found.{Found}
 use Rattle.cdb_standing.specs.declared.tables.Entry.{Entry}
 use Rattle.cdb_standing.specs.declared.tables.Sent.{Sent}
-use Rattle.cdb_standing.proofs.EarliestFound.{own_links, Reason, reason}
-use Rattle.cdb_standing.proofs.MailRows.{same_or_other, same_copy}
+use Rattle.cdb_standing.proofs.EarliestFound.{own_links, number_below, Reason, reason}
+use Rattle.cdb_standing.proofs.MailRows.{same_copy}
 use Rattle.cdb_standing.proofs.Places.{step_named}
 use Rattle.cdb_standing.proofs.Rows.{nth_within, is_row, same_at}
 
 -- ---- a number that is lowered
 
 pub lower_cases : (f : Found) (q n : ℕ) → (lowered (Some f) q n ≡ n) ⊎ ((k : ℕ) × (f.name ≡ named.Step (step_named q k)) × (lowered (Some f) q n ≡ k))
-lower_cases f q n = by f.name
-  where
-    by : (name : StepId) → (lowered_to name q n ≡ n) ⊎ ((k : ℕ) × (name ≡ named.Step (step_named q k)) × (lowered_to name q n ≡ k))
-    by (named.Lost copy) = inl refl
-    by (named.Step step) = go (nat_eq step.p q) (nat_lt step.k n) (eqb-true step.p q)
-      where
-        go : (a b : Bool) → (a ≡ true → step.p ≡ q)
-            → (cond a (cond b step.k n) n ≡ n) ⊎ ((k : ℕ) × (named.Step step ≡ named.Step (step_named q k)) × (cond a (cond b step.k n) n ≡ k))
-        go true true is = inr (step.k, ap (λ r. named.Step (step_named r step.k)) (is refl), refl)
-        go true false is = inl refl
-        go false b is = inl refl
+lower_cases f q n = grind (arith, common_steps, gets)
 
 pub lowered_le : (f : Option Found) (q n : ℕ) → lowered f q n ≤ n
-lowered_le None q n = omega arith
-lowered_le (Some f) q n = by f.name
-  where
-    by : (name : StepId) → lowered_to name q n ≤ n
-    by (named.Lost copy) = omega arith
-    by (named.Step step) = go (nat_eq step.p q) (nat_lt step.k n) (ltb-true step.k n)
-      where
-        go : (a b : Bool) → (b ≡ true → step.k < n) → cond a (cond b step.k n) n ≤ n
-        go true true less = let h = less refl in omega arith
-        go true false less = omega arith
-        go false b less = omega arith
+lowered_le f q n = grind (arith, common_steps, gets)
 
 pub lowered_far : (f : Found) (q k n : ℕ) → f.name ≡ named.Step (step_named q k) → lowered (Some f) q n ≤ k
-lowered_far f q k n e = subst (λ name. lowered_to name q n ≤ k) (sym e) (go (nat_eq q q) (nat_lt k n) (eq-eqb q q refl) (ltb-false k n))
-  where
-    go : (a b : Bool) → a ≡ true → (b ≡ false → n ≤ k) → cond a (cond b k n) n ≤ k
-    go true true is_it more = omega arith
-    go true false is_it more = more refl
-    go false b is_it more = absurd (true≢false (sym is_it))
+lowered_far f q k n h1 = grind (arith, common_steps, gets)
 
-module _ (next : ℕ) (steps : List (List Entry)) (sent : List (List Sent)) (sound : IsSound next steps sent) where
+module _ {next : ℕ} {steps : List (List Entry)} {sent : List (List Sent)} (sound : IsSound next steps sent) where
   -- a step of the same process depends on one before it
   pub own_later : (q k l a b : ℕ) (kind other : Kind) → IsEntry steps q k a kind → IsEntry steps q l b other
       → k < l → IsDependent steps sent (event.Step q k kind) a b (event.Step q l other)
   own_later q k l a b kind other at there less =
       record { stands = there; later = sound.rises q k l a b kind other at there less; linked = own_links q k l kind other }
-
-  own_above : (q k l a b : ℕ) (kind other : Kind) → IsEntry steps q k a kind → IsEntry steps q l b other → a < b → k < l
-  own_above q k l a b kind other at there later =
-      ⊎_elim (λ h. h)
-      (λ le. ⊎_elim
-      (λ e. let same = same_at (row_of steps q) l (entry_of a kind) (entry_of b other) (subst (λ j. IsEntry steps q j a kind) e at) there in
-      let m : a ≡ b = ap (λ (x : Entry). x.mark) same in absurd (omega arith))
-      (λ ne. let less : l < k = omega arith in let m = sound.rises q l k b a other kind there at less in absurd (omega arith))
-      (same_or_other k l))
-      (lt_or_le k l)
-    where
-      lt_or_le : (a b : ℕ) → (a < b) ⊎ (b ≤ a)
-      lt_or_le zero zero = inr (omega arith)
-      lt_or_le zero (suc b) = inl (omega arith)
-      lt_or_le (suc a) zero = inr (omega arith)
-      lt_or_le (suc a) (suc b) = ⊎_elim (λ h. inl (omega arith)) (λ h. inr (omega arith)) (lt_or_le a b)
 
   -- the steps from one that is reached on are reached
   pub reached_on : (one : Event) (behind q k l a b : ℕ) (kind other : Kind) → IsEntry steps q k a kind → IsReached steps sent one behind a (event.Step q k kind)
@@ -92,7 +52,7 @@ module _ (next : ℕ) (steps : List (List Entry)) (sent : List (List Sent)) (sou
       subst (λ (x : Entry). IsReached steps sent one behind x.mark (event.Step q l x.kind))
       same (subst (λ j. IsReached steps sent one behind a (event.Step q j kind)) e reached))
       (λ ne. onward reached (own_later q k l a b kind other at there (omega arith)))
-      (same_or_other k l)
+      (cases_eq k l)
 
   -- a step of another process that depends on this one does not stand behind one that was found
   module _ (p k mark : ℕ) (kind : Kind) (at : IsEntry steps p k mark kind) where
@@ -100,39 +60,31 @@ module _ (next : ℕ) (steps : List (List Entry)) (sent : List (List Sent)) (sou
     This = event.Step p k kind
 
     not_own_step : (r j : ℕ) (other : Kind) → r ≢ p → is_step_of p (event.Step r j other) ≡ false
-    not_own_step r j other not_own = go (nat_eq r p) (eqb-true r p)
-      where
-        go : (t : Bool) → (t ≡ true → r ≡ p) → t ≡ false
-        go true is = absurd (not_own (is refl))
-        go false is = refl
+    not_own_step r j other h1 = grind (arith, common_steps, gets)
 
-    not_both : (r j a b : ℕ) (other : Kind) (copy : CopyName) → r ≢ p → IsDependent steps sent This mark b (event.Step r j other)
+    not_both : {r j a b : ℕ} {other : Kind} {copy : CopyName} → r ≢ p → IsDependent steps sent This mark b (event.Step r j other)
         → IsDependent steps sent This mark a (event.Lost copy) → copy.to ≡ r → ⊥
-    not_both r j a b other copy not_own step lost to_is =
-        by kind at (reason next steps sent sound p k mark kind at b (event.Step r j other) step (not_own_step r j other not_own))
-        (reason next steps sent sound p k mark kind at a (event.Lost copy) lost refl)
+    not_both {r} {j} {a} {b} {other} {copy} not_own step lost to_is =
+        by kind at (reason sound p k mark kind at b (event.Step r j other) step (not_own_step r j other not_own))
+        (reason sound p k mark kind at a (event.Lost copy) lost refl)
       where
-        by : (some : Kind) → (at : IsEntry steps p k mark some) → Reason next steps sent sound p k mark some at some b (event.Step r j other)
-            → Reason next steps sent sound p k mark some at some a (event.Lost copy) → ⊥
+        by : (some : Kind) → (at : IsEntry steps p k mark some) → Reason sound p k mark some at some b (event.Step r j other)
+            → Reason sound p k mark some at some a (event.Lost copy) → ⊥
         by (Send m) at one two =
-            let c_is = same_copy sent p m r p m copy.to one.0 two.0 one.1 two.1 (refl, refl, sym to_is) in
+            let c_is = same_copy one.1 two.1 (refl, refl, sym to_is) in
             let e : Some (found b (named.Step (step_named r j))) ≡ Some (found a (named.Lost copy)) =
             sym one.2 ∙ ap₂ (λ to c. found_copy steps p m to c) (sym to_is) c_is ∙ two.2 in
             let f = same_Some (found b (named.Step (step_named r j))) (found a (named.Lost copy)) e in
             let g : named.Step (step_named r j) ≡ named.Lost copy = ap (λ (x : Found). x.name) f in
             absurd (cc)
         by (Read register) at one two = let e = two.3 in absurd (cc)
-        by (Write register) at one two = let e = two.3 in absurd (cc)
-        by (Query leader) at one two = absurd one
-        by (Recv s m) at one two = absurd one
-        by Local at one two = absurd one
-        by Learn at one two = absurd one
-        by Crash at one two = absurd one
+        by (Write register) at one two = absurd (cc)
+        by _ at one two = absurd one
 
     -- what is found of a process cuts off all of its steps that depend on this one
-    pub found_closes : (r : ℕ) (it : Option Found) → IsFoundOfOthers steps sent p This mark r it
-        → (n b j : ℕ) (other : Kind) → r ≢ p → IsDependent steps sent This mark b (event.Step r j other) → lowered it r n ≤ j
-    found_closes r it is n b j other not_own dependent = go it is (is.each b (event.Step r j other) (dependent, refl, not_own_step r j other not_own))
+    pub found_closes : {r : ℕ} (it : Option Found) → IsFoundOfOthers steps sent p This mark r it
+        → (n : ℕ) {b j : ℕ} {other : Kind} → r ≢ p → IsDependent steps sent This mark b (event.Step r j other) → lowered it r n ≤ j
+    found_closes {r} it is n {b} {j} {other} not_own dependent = go it is (is.each b (event.Step r j other) (dependent, refl, not_own_step r j other not_own))
       where
         go : (it : Option Found) → IsFoundOfOthers steps sent p This mark r it → (f : Found) × (it ≡ Some f) × (f.mark ≤ b) → lowered it r n ≤ j
         go None is h = absurd (none-some h.0 h.1)
@@ -145,18 +97,14 @@ module _ (next : ℕ) (steps : List (List Entry)) (sent : List (List Sent)) (sou
             f_is = subst (λ (x : Found). x.mark ≤ b) (sym (same_Some f h.0 h.1)) h.2
 
             by : (e : Event) → IsDependent steps sent This mark f.mark e → process_of e ≡ r → event_name e ≡ f.name → lowered (Some f) r n ≤ j
-            by (event.Lost copy) d of_r name_is = absurd (not_both r j f.mark b other copy not_own dependent d of_r)
+            by (event.Lost copy) d of_r name_is = absurd (not_both not_own dependent d of_r)
             by (event.Step q i some) d of_r name_is =
                 let there : IsEntry steps r i f.mark some = subst (λ x. IsEntry steps x i f.mark some) of_r d.stands in
                 let low = lowered_far f r i n (sym name_is ∙ ap (λ x. named.Step (step_named x i)) of_r) in
-                ⊎_elim (λ le. omega arith)
+                ⊎_elim
                 (λ more. let m = sound.rises r j i b f.mark other some dependent.stands there more in let bound = f_is in absurd (omega arith))
-                (le_or_lt i j)
-              where
-                le_or_lt : (a b : ℕ) → (a ≤ b) ⊎ (b < a)
-                le_or_lt zero b = inl (omega arith)
-                le_or_lt (suc a) zero = inr (omega arith)
-                le_or_lt (suc a) (suc b) = ⊎_elim (λ h. inl (omega arith)) (λ h. inr (omega arith)) (le_or_lt a b)
+                (λ le. omega arith)
+                (cases_lt j i)
 
     -- one number lowered
     module _ (one : Event) (behind : ℕ) (reached : IsReached steps sent one behind mark This) (r : ℕ) (it : Option Found)
@@ -187,19 +135,19 @@ module _ (next : ℕ) (steps : List (List Entry)) (sent : List (List Sent)) (sou
       pub lower_closed : cut_of old p ≤ k → IsClosedOf steps sent This mark r new
       lower_closed own b j other dependent =
           ⊎_elim
-          (λ own_r. let above = own_above p k j mark b kind other at (subst (λ x. IsEntry steps x j b other) own_r dependent.stands) dependent.later in
+          (λ own_r. let above = number_below sound p k j mark b kind other at (subst (λ x. IsEntry steps x j b other) own_r dependent.stands) dependent.later in
           let h : cut_of new r ≤ cut_of old p =
           (let l = lowered_le it r (cut_of old r) in let n = low r in let o : cut_of old r ≡ cut_of old p = ap (cut_of old) own_r in omega arith) in
           omega arith)
-          (λ not_own. let h = found_closes r it is (cut_of old r) b j other not_own dependent in let n = low r in omega arith)
-          (same_or_other r p)
+          (λ not_own. let h = found_closes it is (cut_of old r) not_own dependent in let n = low r in omega arith)
+          (cases_eq r p)
 
   -- the step before a number does not stand behind the mark, and so no step before it does
   pub none_behind : (q cut a mark : ℕ) (kind : Kind) → IsEntry steps q (cut - 1) a kind → a ≤ mark → HasNoneBehind steps q cut mark
-  none_behind q cut a mark kind at le l b other there later = let above = own_above q (cut - 1) l a b kind other at there (omega arith) in omega arith
+  none_behind q cut a mark kind at le l b other there later = let above = number_below sound q (cut - 1) l a b kind other at there (omega arith) in omega arith
 
   pub none_below_two : (q cut mark : ℕ) → cut < 2 → HasNoneBehind steps q cut mark
-  none_below_two q cut mark few l b other there later = let within = nth_within (row_of steps q) l (entry_of b other) there in let low = within.0 in omega arith
+  none_below_two q cut mark few l b other there later = let within = nth_within (row_of steps q) l (entry_of b other) there in omega arith
 
   -- the steps of one process more are cut off
   pub one_more_closed : (one : Event) (mark top r : ℕ) (old new : List ℕ) → r ≡ top + 1
@@ -210,11 +158,11 @@ module _ (next : ℕ) (steps : List (List Entry)) (sent : List (List Sent)) (sou
       let n : cut_of new q ≡ cut_of new r = ap (cut_of new) e in
       omega arith)
       (λ ne. let h = was b q j other dependent (omega arith) in let n = lower q in omega arith)
-      (same_or_other q r)
+      (cases_eq q r)
 
   no_step_of_none : (a : ℕ) (one : Event) (mark : ℕ) (cuts : List ℕ) → IsClosedAt steps sent one mark 0 cuts
   no_step_of_none a one mark cuts b r j other dependent le =
-      let within = nth_within steps r (row_of steps r) (is_row steps r j (entry_of b other) dependent.stands) in let low = within.0 in absurd (omega arith)
+      let within = nth_within steps r (row_of steps r) (is_row steps r j (entry_of b other) dependent.stands) in absurd (omega arith)
 
   pub nothing_open : (one : Event) (mark : ℕ) (cuts : List ℕ) → IsClosedAt steps sent one mark 0 cuts
   nothing_open one mark cuts = no_step_of_none 0 one mark cuts
@@ -227,17 +175,10 @@ cut_at (x ∷ xs) zero = refl
 cut_at (x ∷ xs) (suc i) = cut_at xs i
 
 pub cut_set : (cuts : List ℕ) (i n : ℕ) → i < length cuts → cut_of (set cuts i n) (suc i) ≡ n
-cut_set [] i n less = absurd (omega (arith, less))
-cut_set (x ∷ xs) zero n less = refl
-cut_set (x ∷ xs) (suc i) n less = cut_set xs i n (omega (arith, less))
+cut_set cuts i n h1 = grind (arith, common_steps, gets)
 
 pub cut_set_other : (cuts : List ℕ) (i n q : ℕ) → q ≢ suc i → cut_of (set cuts i n) q ≡ cut_of cuts q
-cut_set_other cuts i n zero other = refl
-cut_set_other [] i n (suc q) other = refl
-cut_set_other (x ∷ xs) zero n (suc zero) other = absurd (other refl)
-cut_set_other (x ∷ xs) zero n (suc (suc q)) other = refl
-cut_set_other (x ∷ xs) (suc i) n (suc zero) other = refl
-cut_set_other (x ∷ xs) (suc i) n (suc (suc q)) other = cut_set_other xs i n (suc q) (λ e. other (ap suc e))
+cut_set_other cuts i n q h1 = grind (arith, common_steps, gets)
 
 pub cut_past : (cuts : List ℕ) (q : ℕ) → length cuts < q → cut_of cuts q ≡ 0
 cut_past cuts zero more = refl
@@ -261,14 +202,12 @@ pub record IsCutting (steps : List (List Entry)) (sent : List (List Sent)) (one 
   pub long : length looked ≡ 9
   pub rooted : IsRootIn one cuts
 
-module _ (next : ℕ) (steps : List (List Entry)) (sent : List (List Sent)) (sound : IsSound next steps sent) where
+module _ {next : ℕ} {steps : List (List Entry)} {sent : List (List Sent)} (sound : IsSound next steps sent) where
   past_end : (q l a n : ℕ) (kind : Kind) → IsEntry steps q l a kind → length (row_of steps q) + 1 ≤ l → ⊥
-  past_end q l a n kind at past = let within = nth_within (row_of steps q) l (entry_of a kind) at in let high = within.1 in absurd (omega arith)
+  past_end q l a n kind at past = let within = nth_within (row_of steps q) l (entry_of a kind) at in absurd (omega arith)
 
   pub process_within : (q l a : ℕ) (kind : Kind) → IsEntry steps q l a kind → (1 ≤ q) × (q ≤ 9)
-  process_within q l a kind at =
-      let within = nth_within steps q (row_of steps q) (is_row steps q l (entry_of a kind) at) in
-      let nine = sound.processes in let high = within.1 in (within.0, omega arith)
+  process_within q l a kind at = let within = nth_within steps q (row_of steps q) (is_row steps q l (entry_of a kind) at) in (within.0, omega arith)
 
   module _ (p k mark : ℕ) (kind : Kind) (at : IsEntry steps p k mark kind) (ends : List ℕ)
       (are : AreEnds steps ends) (long : length ends ≡ 9) (i : ℕ) (p_is : i + 1 ≡ p) (within : i < 9) where
@@ -289,12 +228,12 @@ module _ (next : ℕ) (steps : List (List Entry)) (sent : List (List Sent)) (sou
               (λ e. let there : IsEntry steps p l b other = subst (λ x. IsEntry steps x l b other) e at_l in
               let h : k ≤ l = (let c = cut_here in let d : cut_of (set ends i k) q ≡ cut_of (set ends i k) p = ap (cut_of (set ends i k)) e in omega arith) in
               subst (λ x. IsReached steps sent (event.Step p k kind) mark b (event.Step x l other)) (sym e)
-              (reached_on next steps sent sound (event.Step p k kind) mark p k l mark b kind other at root there h))
+              (reached_on sound (event.Step p k kind) mark p k l mark b kind other at root there h))
               (λ e. let w = process_within q l b other at_l in
               let c = cut_there q e in
               let d = are q w.0 w.1 in
               absurd (past_end q l b 0 other at_l (omega arith)))
-              (same_or_other q p);
+              (cases_eq q p);
           closed =
               λ q l a other at_l le. let w = process_within q l a other at_l in let d = are q w.0 w.1 in absurd (past_end q l a 0 other at_l (omega arith));
           below = λ q.
@@ -304,33 +243,27 @@ module _ (next : ℕ) (steps : List (List Entry)) (sent : List (List Sent)) (sou
               let w = process_within p k mark kind at in let g = are p w.0 w.1 in
               let h = nth_within (row_of steps p) k (entry_of mark kind) at in let high = h.1 in omega arith)
               (λ e. let c = cut_there q e in omega arith)
-              (same_or_other q p);
-          ended = λ q.
-              by q (le_or_lt 1 q) (le_or_lt q 9);
+              (cases_eq q p);
+          ended = λ q. by q (cases_lt q 1) (cases_lt 9 q);
           long = long;
           rooted = λ q l other e. let s : step_named p k ≡ step_named q l = cc in
               subst (λ (x : StepName). cut_of (set ends i k) x.p ≤ x.k) s (let c = cut_here in omega arith);
         }
       where
-        le_or_lt : (a b : ℕ) → (a ≤ b) ⊎ (b < a)
-        le_or_lt zero b = inl (omega arith)
-        le_or_lt (suc a) zero = inr (omega arith)
-        le_or_lt (suc a) (suc b) = ⊎_elim (λ h. inl (omega arith)) (λ h. inr (omega arith)) (le_or_lt a b)
-
-        by : (q : ℕ) → (1 ≤ q) ⊎ (q < 1) → (q ≤ 9) ⊎ (9 < q) → cut_of ends q ≤ 65536
-        by q (inl one) (inl nine) = let d = are q one nine in let f = sound.few q in omega arith
-        by zero (inr low) high = omega arith
-        by (suc q) (inr low) high = absurd (omega arith)
-        by q (inl one) (inr high) = let e = cut_past ends q (omega arith) in omega arith
+        by : (q : ℕ) → (q < 1) ⊎ (1 ≤ q) → (9 < q) ⊎ (q ≤ 9) → cut_of ends q ≤ 65536
+        by q (inr one) (inr nine) = let d = are q one nine in let f = sound.few q in omega arith
+        by zero (inl low) high = omega arith
+        by (suc q) (inl low) high = absurd (omega arith)
+        by q (inr one) (inl high) = let e = cut_past ends q (omega arith) in omega arith
 
   -- one step more was looked at
-  pub cutting_goes_on : (one : Event) (mark : ℕ) (looked cuts new : List ℕ) (i : ℕ)
+  pub cutting_goes_on : {one : Event} {mark : ℕ} {looked cuts : List ℕ} (new : List ℕ) (i : ℕ)
       → i < 9 → slice_index looked i - 1 < 65536 → cut_of cuts (i + 1) < cut_of looked (i + 1)
       → IsCutting steps sent one mark looked cuts → IsSoundCut steps sent one mark new
       → IsLookedAt steps sent (i + 1) (slice_index looked i - 1) new → IsLower cuts new
       → IsCutting steps sent one mark (set looked i (slice_index looked i - 1)) new
-  cutting_goes_on one mark looked cuts new i below_nine few open_one was only looked_at low =
-      let nine_long = was.long in let within : i < length looked = omega arith in
+  cutting_goes_on {one} {mark} {looked} {cuts} new i below_nine few open_one was only looked_at low =
+      let within : i < length looked = omega arith in
       record {
         only = only;
         closed = λ q l a other at le b r j any dependent nine.
@@ -344,10 +277,10 @@ module _ (next : ℕ) (steps : List (List Entry)) (sent : List (List Sent)) (sou
             closed a other at b r j any dependent nine)
             (λ f. let old : cut_of looked q ≡ slice_index looked i = ap (cut_of looked) e ∙ cut_at looked i in
             let h = was.closed q l a other at (omega arith) b r j any dependent nine in let m = low r in omega arith)
-            (same_or_other l (slice_index looked i - 1)))
+            (cases_eq l (slice_index looked i - 1)))
             (λ e. let is = cut_set_other looked i (slice_index looked i - 1) q e in
             let h = was.closed q l a other at (omega arith) b r j any dependent nine in let m = low r in omega arith)
-            (same_or_other q (suc i));
+            (cases_eq q (suc i));
         below = λ q.
             ⊎_elim
             (λ e. let is : cut_of (set looked i (slice_index looked i - 1)) q ≡ slice_index looked i - 1 = subst (λ x.
@@ -357,18 +290,18 @@ module _ (next : ℕ) (steps : List (List Entry)) (sent : List (List Sent)) (sou
             let d : cut_of looked (i + 1) ≡ slice_index looked i = ap (cut_of looked) (sym e') ∙ ap (cut_of looked) e ∙ cut_at looked i in
             let m = low q in omega arith)
             (λ e. let is = cut_set_other looked i (slice_index looked i - 1) q e in let m = low q in let h = was.below q in omega arith)
-            (same_or_other q (suc i));
+            (cases_eq q (suc i));
         ended = λ q.
             ⊎_elim
             (λ e. let is : cut_of (set looked i (slice_index looked i - 1)) q ≡ slice_index looked i - 1 = subst (λ x. cut_of (set looked i
             (slice_index looked i - 1)) x ≡ slice_index looked i - 1) (sym e) (cut_set looked i (slice_index looked i - 1) within) in omega arith)
             (λ e. let is = cut_set_other looked i (slice_index looked i - 1) q e in let h = was.ended q in omega arith)
-            (same_or_other q (suc i));
+            (cases_eq q (suc i));
         long = length-set looked i (slice_index looked i - 1) ∙ was.long;
         rooted = λ q l kind e. let h = was.rooted q l kind e in let m = low q in omega arith;
       }
 
-  pub cutting_ends : (one : Event) (mark : ℕ) (looked cuts : List ℕ) → IsCutting steps sent one mark looked cuts
+  pub cutting_ends : {one : Event} {mark : ℕ} {looked cuts : List ℕ} → IsCutting steps sent one mark looked cuts
       → ((q : ℕ) → cut_of looked q ≤ cut_of cuts q) → AreCuts steps sent one mark cuts
-  cutting_ends one mark looked cuts was none_open =
+  cutting_ends was none_open =
       record { sound = was.only; rooted = was.rooted; closed = λ q l a kind at le. was.closed q l a kind at (let h = none_open q in omega arith) }

@@ -1,4 +1,5 @@
 -- The direct causes of an event, of one process after another, and in the history.
+use Rattle.std.proofs.lemmas.Bool.{cases_eq}
 use Rattle.std.proofs.Common.{◌≡◌, ℕ, ◌+◌, List, [], ◌∷◌, ◌++◌, Some, None, length, inl, inr, ⊎_elim, refl, sym, ap, ◌∙◌, subst, arith}
 use Rattle.std.proofs.lemmas.List.{length_push}
 use Rattle.std.proofs.lemmas.Option.{same_Some, none-some}
@@ -21,7 +22,6 @@ use Rattle.cdb_standing.proofs.Joined.{marked}
 use Rattle.cdb_standing.proofs.Between.{no_loss}
 use Rattle.cdb_standing.proofs.CutsFound.{process_within}
 use Rattle.cdb_standing.proofs.EarliestFound.{own_links}
-use Rattle.cdb_standing.proofs.MailRows.{same_or_other}
 use Rattle.cdb_standing.proofs.Places.{IsPlace, place_of, stands_at, event_in, link_up, link_down, named_place}
 use Rattle.cdb_standing.proofs.Rows.{same_at}
 
@@ -36,9 +36,9 @@ module _ {next : ℕ} {steps : List (List Entry)} {sent : List (List Sent)} (sou
 
   -- only its last step on which the event depends can be a direct cause
   module _ {q l mark : ℕ} {kind : Kind} (is : IsLastCause steps sent effect ahead q l mark kind) where
-    direct_is : (j : ℕ) (d : IsDirect steps sent effect ahead q j) → (d.mark ≡ mark) × (event.Step q j d.kind ≡ event.Step q l kind)
-    direct_is j d =
-        elim (same_or_other d.mark mark) [
+    direct_is : {j : ℕ} (d : IsDirect steps sent effect ahead q j) → (d.mark ≡ mark) × (event.Step q j d.kind ≡ event.Step q l kind)
+    direct_is {j} d =
+        elim (cases_eq d.mark mark) [
           | inl e ↦ (e, sound.single mark (event.Step q j d.kind) (event.Step q l kind) (rw e at d.is.stands) is.is.stands)
           | inr other ↦ absurd (let le = is.last j d.mark d.kind d.is in d.nothing_between mark (event.Step q l kind)
               (record { of_cause = record { stands = is.is.stands; later = omega arith; linked = own_links q j l d.kind kind }; to_effect = is.is }))
@@ -49,7 +49,7 @@ module _ {next : ℕ} {steps : List (List Entry)} {sent : List (List Sent)} (sou
         record {
           only = λ name e. absurd (none-some name e);
           each = λ j d.
-              let same = direct_is j d in
+              let same = direct_is d in
               absurd (d.nothing_between x it (subst (λ m. IsBetween steps sent (event.Step q j d.kind) m effect ahead x it)
               (sym same.0) (subst (λ e. IsBetween steps sent e mark effect ahead x it) (sym same.1) b)));
         }
@@ -58,7 +58,7 @@ module _ {next : ℕ} {steps : List (List Entry)} {sent : List (List Sent)} (sou
     shown none =
         record {
           only = λ name e. (l, record { mark = mark; kind = kind; is = is.is; nothing_between = none }, sym (same_Some (step_named q l) name e));
-          each = λ j d. let same = (direct_is j d).1 in let j_is : j ≡ l = cc in ap (λ i. Some (step_named q i)) (sym j_is);
+          each = λ j d. let same = (direct_is d).1 in let j_is : j ≡ l = cc in ap (λ i. Some (step_named q i)) (sym j_is);
         }
 
   pub no_cause : (q : ℕ) → IsLastCauseOrNone steps sent effect ahead q None → IsDirectOf steps sent effect ahead q None
@@ -70,7 +70,7 @@ module _ {next : ℕ} {steps : List (List Entry)} {sent : List (List Sent)} (sou
   none_yet =
       record {
         only = λ k name at. absurd (none-some name at);
-        each = λ q l le d. let from_one = (process_within next steps sent sound q l d.mark d.kind d.is.stands).0 in absurd (omega arith);
+        each = λ q l le d. let from_one = (process_within sound q l d.mark d.kind d.is.stands).0 in absurd (omega arith);
         in_order = λ k l name other less at_k at_l. absurd (none-some name at_k);
         few = omega arith;
       }
@@ -81,12 +81,12 @@ module _ {next : ℕ} {steps : List (List Entry)} {sent : List (List Sent)} (sou
         record {
           only = λ k name at. let o = are.only k name at in (o.0, o.1, (let le = o.2 in omega arith), o.3, o.4);
           each = λ q l le d.
-              elim (same_or_other q (top + 1)) [
+              elim (cases_eq q (top + 1)) [
                 | inl e ↦ absurd (none-some (step_named (top + 1) l) (none.each l (rw e at d)))
                 | inr other ↦ are.each q l (omega arith) d
               ];
           in_order = are.in_order;
-          few = (let f = are.few in omega arith);
+          few = omega arith;
         }
 
     pub one_more : (found : StepId) → IsDirectOf steps sent effect ahead (top + 1) (Some found)
@@ -99,7 +99,7 @@ module _ {next : ℕ} {steps : List (List Entry)} {sent : List (List Sent)} (sou
               (λ q. (top + 1, here.0, omega arith, here.1, sym q.0 ∙ here.2))
               (push_cases names found name k at);
           each = λ q l le d.
-              elim (same_or_other q (top + 1)) [
+              elim (cases_eq q (top + 1)) [
                 | inl e ↦ (length names, push_back names found ∙ is.each l (rw e at d) ∙ ap (λ r. Some (step_named r l)) (sym e))
                 | inr other ↦ (let at = are.each q l (omega arith) d in (at.0, push_front names found (step_named q l) at.0 at.1))
               ];
@@ -107,16 +107,16 @@ module _ {next : ℕ} {steps : List (List Entry)} {sent : List (List Sent)} (sou
               ⊎_elim
               (λ q. ⊎_elim
               (λ r. are.in_order k l name other less r.0 q.0)
-              (λ r. absurd (let low = q.1 in let same = r.1 in omega arith))
+              (λ r. absurd (omega arith))
               (push_cases names found name k at_k))
               (λ q. ⊎_elim
               (λ r.
               let o = are.only k name r.0 in
-              rw (o.4, sym q.0, here.2) (let le = o.2 in omega arith))
-              (λ r. absurd (let here_l = q.1 in let here_k = r.1 in omega arith))
+              rw (o.4, sym q.0, here.2) (omega arith))
+              (λ r. absurd (omega arith))
               (push_cases names found name k at_k))
               (push_cases names found other l at_l);
-          few = (let f = are.few in omega (arith, length_push names found));
+          few = (omega (arith, length_push names found));
         }
       where
         here : (l : ℕ) × IsDirect steps sent effect ahead (top + 1) l × (found ≡ step_named (top + 1) l)
@@ -124,48 +124,48 @@ module _ {next : ℕ} {steps : List (List Entry)} {sent : List (List Sent)} (sou
 
   -- ---- in the history
 
-  module _ (at : ℕ) (place : IsPlace next steps sent sound at ahead effect) where
+  module _ (at : ℕ) (place : IsPlace sound at ahead effect) where
     abbrev History : List Event
     History = history_of steps sent
 
-    pub cause_at : (i mark : ℕ) (it : Event) → IsPlace next steps sent sound i mark it → IsLink depends History i at → IsCause steps sent effect ahead mark it
+    pub cause_at : (i mark : ℕ) (it : Event) → IsPlace sound i mark it → IsLink depends History i at → IsCause steps sent effect ahead mark it
     cause_at i mark it here link =
-        let down = link_down next steps sent sound i at mark it here link in
+        let down = link_down sound i at mark it here link in
         let same = same_at (standing steps sent) at (marked down.0 down.1) (marked ahead effect) down.2 place in
         let mark_is : down.0 ≡ ahead = ap (λ (x : Marked). x.mark) same in
         let event_is : down.1 ≡ effect = ap (λ (x : Marked). x.event) same in
-        record { stands = stands_at next steps sent sound i mark it here; earlier = rw mark_is at down.3; linked = rw event_is at down.4 }
+        record { stands = stands_at sound i mark it here; earlier = rw mark_is at down.3; linked = rw event_is at down.4 }
 
     -- a direct cause in the tables is one in the history
-    up : (q l : ℕ) → IsDirect steps sent effect ahead q l → NamesDirectCause History at (step_named q l)
-    up q l d =
+    up : {q l : ℕ} → IsDirect steps sent effect ahead q l → NamesDirectCause History at (step_named q l)
+    up {q} {l} d =
         let one = event.Step q l d.kind in
-        let here = place_of next steps sent sound d.mark one d.is.stands in (
+        let here = place_of sound d.mark one d.is.stands in (
           here.0,
           record {
-            link = link_up next steps sent sound here.0 at d.mark ahead one effect here.1 place d.is.earlier d.is.linked;
+            link = link_up sound here.0 at d.mark ahead one effect here.1 place d.is.earlier d.is.linked;
             nothing_between = λ k from to.
-                let down = link_down next steps sent sound here.0 k d.mark one here.1 from in
+                let down = link_down sound here.0 k d.mark one here.1 from in
                 d.nothing_between down.0 down.1
                 (record {
-                  of_cause = record { stands = stands_at next steps sent sound k down.0 down.1 down.2; later = down.3; linked = down.4 };
+                  of_cause = record { stands = stands_at sound k down.0 down.1 down.2; later = down.3; linked = down.4 };
                   to_effect = cause_at k down.0 down.1 down.2 to;
                 });
           },
-          (one, event_in next steps sent sound here.0 d.mark one here.1, refl),
+          (one, event_in sound here.0 d.mark one here.1, refl),
         )
 
     -- and back
     down_to : (name : StepId) → NamesDirectCause History at name → (q : ℕ) × (l : ℕ) × IsDirect steps sent effect ahead q l × (name ≡ step_named q l)
     down_to name n = by there.0 there.1 there.2 there.4
       where
-        there : (mark : ℕ) × (it : Event) × IsPlace next steps sent sound n.0 mark it × Stands steps sent mark it × (event_name it ≡ name)
-        there = named_place next steps sent sound n.0 name n.2
+        there : (mark : ℕ) × (it : Event) × IsPlace sound n.0 mark it × Stands steps sent mark it × (event_name it ≡ name)
+        there = named_place sound n.0 name n.2
 
-        by : (mark : ℕ) (it : Event) → IsPlace next steps sent sound n.0 mark it → event_name it ≡ name
+        by : (mark : ℕ) (it : Event) → IsPlace sound n.0 mark it → event_name it ≡ name
             → (q : ℕ) × (l : ℕ) × IsDirect steps sent effect ahead q l × (name ≡ step_named q l)
         by mark (event.Lost copy) here e =
-            absurd (no_loss sound (stands_at next steps sent sound at ahead effect place) (cause_at n.0 mark (event.Lost copy) here n.1.link))
+            absurd (no_loss sound (stands_at sound at ahead effect place) (cause_at n.0 mark (event.Lost copy) here n.1.link))
         by mark (event.Step q l kind) here e = (
           q,
           l,
@@ -174,21 +174,21 @@ module _ {next : ℕ} {steps : List (List Entry)} {sent : List (List Sent)} (sou
             kind = kind;
             is = cause_at n.0 mark (event.Step q l kind) here n.1.link;
             nothing_between = λ x it b.
-                let between = place_of next steps sent sound x it b.of_cause.stands in
+                let between = place_of sound x it b.of_cause.stands in
                 n.1.nothing_between between.0
-                (link_up next steps sent sound n.0 between.0 mark x (event.Step q l kind) it here between.1 b.of_cause.later b.of_cause.linked)
-                (link_up next steps sent sound between.0 at x ahead it effect between.1 place b.to_effect.earlier b.to_effect.linked);
+                (link_up sound n.0 between.0 mark x (event.Step q l kind) it here between.1 b.of_cause.later b.of_cause.linked)
+                (link_up sound between.0 at x ahead it effect between.1 place b.to_effect.earlier b.to_effect.linked);
           },
           sym e,
         )
 
-    pub all_direct : (names : List StepId) → AreDirect steps sent effect ahead 9 names → AreDirectCauses History at names
-    all_direct names are =
+    pub all_direct : {names : List StepId} → AreDirect steps sent effect ahead 9 names → AreDirectCauses History at names
+    all_direct are =
         record {
-          only = λ k name at_k. let o = are.only k name at_k in rw o.4 (up o.0 o.1 o.3);
+          only = λ k name at_k. let o = are.only k name at_k in rw o.4 (up o.3);
           each = λ name n.
               let d = down_to name n in
-              let found = are.each d.0 d.1 (process_within next steps sent sound d.0 d.1 d.2.mark d.2.kind d.2.is.stands).1 d.2 in
+              let found = are.each d.0 d.1 (process_within sound d.0 d.1 d.2.mark d.2.kind d.2.is.stands).1 d.2 in
               (found.0, found.1 ∙ ap Some (sym d.3));
           in_order = are.in_order;
         }

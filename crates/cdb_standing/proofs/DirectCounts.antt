@@ -1,39 +1,90 @@
 -- How many events depend directly on one, and that there are none exactly where it is free.
-use Rattle.std.proofs.Common.{◌≡◌, ℕ, suc, ◌+◌, ◌-◌, ◌≤◌, Bool, List, [], ◌∷◌, ◌++◌, take, drop, Some, slice_get, sym, ap, ◌∙◌, arith}
-use Rattle.std.proofs.Math.Seq.{take-suc}
-use Rattle.std.proofs.lemmas.Option.{slice_get_within, get_or_from_slice_get}
+use Rattle.std.proofs.Common.{◌≡◌, ◌↔◌, ℕ, zero, suc, ◌+◌, ◌<◌, ◌≤◌, List, [], ◌∷◌, ◌++◌, length, take, refl, sym, ap, ◌∙◌, subst, arith}
+use Rattle.std.proofs.Math.Seq.{length-take-le, take-length}
+use Rattle.std.proofs.lemmas.List.{length_push}
 use Rattle.cdb_base.specs.declared.event.Event.{Event}
 use Rattle.cdb_base.specs.declared.name.StepId.{StepId}
+use Rattle.cdb_causal.specs.Causality.{IsDirectCause, IsFree}
 use Rattle.cdb_causal.specs.Dependence.{depends}
-use Rattle.cdb_causal.specs.DirectDependents.{as_number, is_direct, direct_dependents, CountsDirectDependents}
+use Rattle.cdb_causal.specs.DirectDependents.{CountsDirectDependents}
+use Rattle.cdb_causal.specs.Laws.{HasNoEffect}
 use Rattle.cdb_causal.specs.Names.{IsPositionOf}
-use Rattle.cdb_causal.proofs.Dependents.{dependents_added, free_if_none}
+use Rattle.cdb_causal.specs.Rollback.{IsParted, done}
+use Rattle.cdb_causal.proofs.Counts.{free_without_effects}
+use Rattle.cdb_causal.proofs.Lists.{nth_within}
+use Rattle.cdb_causal.proofs.Parted.{more_in, more_out, none_found, found_none}
 use Rattle.cdb_standing.specs.Recorded.{IsCountOf, IsZeroWhereFree}
-use Rattle.cdb_standing.proofs.Merge.{drop_get}
 
--- one event more
-pub counted_more : (events : List Event) (at j : ℕ) (cause event : Event) → at ≤ j
-    → slice_get events j ≡ Some event → (b : Bool) → b ≡ is_direct depends cause (take (j - at) (drop at events)) event
-    → direct_dependents depends cause (take (j + 1 - at) (drop at events)) ≡ direct_dependents depends cause (take (j - at) (drop at events)) + as_number b
-counted_more events at j cause event later there b b_is =
-    let behind = drop at events in
-    let is : at + (j - at) ≡ j = omega arith in
-    let here : slice_get behind (j - at) ≡ Some event = drop_get at events (j - at) ∙ ap (slice_get events) is ∙ there in
-    let more : j + 1 - at ≡ suc (j - at) = omega arith in
-    ap (λ n. direct_dependents depends cause (take n behind)) more
-    ∙ ap (direct_dependents depends cause) (take-suc behind (j - at) event (slice_get_within behind (j - at) event here)
-    ∙ ap (λ x. take (j - at) behind ++ x ∷ []) (get_or_from_slice_get behind (j - at) event event here))
-    ∙ dependents_added depends cause (take (j - at) behind) event
-    ∙ ap (λ t. direct_dependents depends cause (take (j - at) behind) + as_number t) (sym b_is)
+take_one_more : {E : Type 0} (xs : List E) (j : ℕ) → j < length xs → (x : E) × (take (suc j) xs ≡ take j xs ++ x ∷ [])
+take_one_more [] j less = absurd (omega (arith, less))
+take_one_more (x ∷ xs) zero less = (x, refl)
+take_one_more (x ∷ xs) (suc j) less = let rest = take_one_more xs j (omega (arith, less)) in (rest.0, ap (λ l. x ∷ l) rest.1)
+
+-- so many of the first events of the list depend directly on the one at the position
+pub record Counts (events : List Event) (at : ℕ) (first : List Event) (count : ℕ) : Type 0 where
+  pub found : List Event
+  pub others : List Event
+  pub parted : IsParted (IsDirectCause depends events at) 1 first others found
+  pub number : count ≡ length found
+
+module _ (events : List Event) (at : ℕ) where
+  pub none_counted : Counts events at [] 0
+  none_counted = record { found = []; others = []; parted = done; number = refl }
+
+  pub all_counted : (count : ℕ) → Counts events at (take (length events) events) count → CountsDirectDependents depends events at count
+  all_counted count all = (all.found, (all.others, rw (take-length events) at all.parted), all.number)
+
+  -- one event more
+  module _ (j count : ℕ) (less : j < length events) (so_far : Counts events at (take j events) count) where
+    next : (x : Event) × (take (j + 1) events ≡ take j events ++ x ∷ [])
+    next = let more : j + 1 ≡ suc j = omega arith in let it = take_one_more events j less in (it.0, ap (λ n. take n events) more ∙ it.1)
+
+    place : j + 1 ≡ 1 + length (take j events)
+    place = let taken = length-take-le j events (omega (arith, less)) in omega (arith, taken)
+
+    abbrev is : ℕ → Type 0
+    is = IsDirectCause depends events at
+
+    pub one_counted : is (j + 1) → Counts events at (take (j + 1) events) (count + 1)
+    one_counted direct =
+        let number = so_far.number in
+        let longer = length_push so_far.found next.0 in
+        record {
+          found = so_far.found ++ next.0 ∷ [];
+          others = so_far.others;
+          parted = rw next.1 (more_in is 1 (take j events) so_far.others so_far.found next.0 so_far.parted (subst is place direct));
+          number = omega (arith, number, longer);
+        }
+
+    pub other_counted : (is (j + 1) → ⊥) → Counts events at (take (j + 1) events) count
+    other_counted not =
+        record {
+          found = so_far.found;
+          others = so_far.others ++ next.0 ∷ [];
+          parted = rw next.1 (more_out is 1 (take j events) so_far.others so_far.found next.0 so_far.parted (λ direct. not (subst is (sym place) direct)));
+          number = so_far.number;
+        }
 
 -- by name
 module _ (history : List Event) (name : StepId) (position : ℕ) (is : IsPositionOf history name position)
     (count : ℕ) (counts : CountsDirectDependents depends history position count) where
   pub counted : IsCountOf history name count
-  counted at event stands named = let same = is.only at (event, stands, named) in rw same (counts event (rw same at stands))
+  counted at named = rw (is.only at named) counts
 
   pub counted_free : IsZeroWhereFree history name count
   counted_free at named =
-      let same = counted at named.0 named.1 named.2 in
-      let free = free_if_none depends named.0 history at named.1 in
-      ((λ zeros. free.0 (sym same ∙ zeros)), (λ is_free. same ∙ free.1 is_free))
+      rw (is.only at named) ((λ zeros. free.1 (no_effect counts.0 counts.1.0 counts.1.1 (sym counts.2 ∙ zeros))), (λ is_free. zero_count (free.0 is_free)))
+    where
+      free : IsFree depends history position ↔ HasNoEffect depends history position
+      free = free_without_effects depends history position
+
+      no_effect : (events others : List Event) → IsParted (IsDirectCause depends history position) 1 history others events
+          → length events ≡ 0 → HasNoEffect depends history position
+      no_effect [] others parted zeros other direct =
+          let later = direct.link.later in
+          let within = nth_within history other direct.link.effect direct.link.at_effect in
+          found_none (IsDirectCause depends history position) parted other (omega (arith, later)) (omega (arith, within)) direct
+      no_effect (event ∷ events) others parted zeros other direct = absurd (omega (arith, zeros))
+
+      zero_count : HasNoEffect depends history position → count ≡ 0
+      zero_count none = counts.2 ∙ ap length (none_found (IsDirectCause depends history position) none counts.1.1)

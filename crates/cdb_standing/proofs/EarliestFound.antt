@@ -1,21 +1,24 @@
 -- The first event that depends on another, found in the tables.
+use Rattle.std.proofs.lemmas.Grind.{common_steps}
+use Rattle.std.proofs.lemmas.Bool.{cases_eq, cases_lt, cases_Bool, and_parts, or_cases, or_right, or_left}
 use Rattle.cdb_base.specs.Registers.{same_register-itself}
 use Rattle.cdb_base.specs.declared.register.Reg.{Reg}
 use Rattle.std.proofs.Common.{◌≡◌, ℕ, zero, suc, ◌+◌, ◌<◌, ◌≤◌, Bool, true, false, ◌&&◌, ◌||◌, nat_eq, nat_le, cond, leb-true, leb-false, true≢false}
 use Rattle.std.proofs.Common.{eqb-true, eq-eqb, List, slice_get, Option, Some, None, ◌⊎◌, inl, inr, ⊎_elim, refl, sym, ap, ◌∙◌, subst, arith}
-use Rattle.std.proofs.lemmas.Option.{same_Some, none-some}
+use Rattle.std.proofs.lemmas.Option.{same_Some, none-some, gets}
 use Rattle.std.specs.Option.{option_map, IfSome}
 use Rattle.cdb_base.specs.Event.{event_name, is_step_of}
 use Rattle.cdb_base.specs.Positions.{nth}
 use Rattle.cdb_base.specs.declared.event.Event.{Event}
 use Rattle.cdb_base.specs.declared.event.Event.TheVariants as event
 use Rattle.cdb_base.specs.declared.event.Kind.{Kind}
-use Rattle.cdb_base.specs.declared.event.Kind.TheVariants.{Query, Send, Recv, Read, Write, Local, Learn, Crash}
+use Rattle.cdb_base.specs.declared.event.Kind.TheVariants.{Send, Recv, Read, Write}
 use Rattle.cdb_base.specs.declared.name.CopyName.{CopyName}
 use Rattle.cdb_base.specs.declared.name.StepId.TheVariants as named
 use Rattle.cdb_causal.specs.Dependence.{depends, same_process, sends, receives}
 use Rattle.cdb_causal.specs.Effects.{affects, kind_affects}
 use Rattle.cdb_causal.proofs.Effects.{by_effect}
+use Rattle.cdb_causal.proofs.Symmetry.{symmetric}
 use Rattle.cdb_standing.specs.Accesses.{number_of, accessed, written, access_of, listed, cell, AreListed, IsFirstBehindOrNone, IsRisingBy}
 use Rattle.cdb_standing.specs.Dependents.{IsFoundOfOthers, found, earlier_of, found_step, found_copy, found_access, IsFoundByCopy, IsFoundByList}
 use Rattle.cdb_standing.specs.Dependents.{IsDependent, IsDependentOf, process_of, IsFound, IsFoundByOthers, IsFoundFirst}
@@ -27,10 +30,10 @@ use Rattle.cdb_standing.specs.declared.tables.Copied.{Copied}
 use Rattle.cdb_standing.specs.declared.tables.Copied.TheVariants.{Waits, Received, Lost}
 use Rattle.cdb_standing.specs.declared.tables.Entry.{Entry}
 use Rattle.cdb_standing.specs.declared.tables.Sent.{Sent}
-use Rattle.cdb_standing.proofs.Rows.{nth_within, nth_some, is_row, same_at}
-use Rattle.cdb_standing.proofs.MailRows.{same_or_other, same_copy}
+use Rattle.cdb_standing.proofs.Rows.{nth_within, nth_some, is_row}
+use Rattle.cdb_standing.proofs.MailRows.{same_copy}
 use Rattle.cdb_standing.proofs.ListedEvents.{listed_only, listed_has, listed_rising}
-use Rattle.cdb_standing.proofs.LaterLinks.{both, either, receives_is, sends_is, is_accessed, is_written, Affects, affects_is}
+use Rattle.cdb_standing.proofs.LaterLinks.{receives_is, sends_is, is_accessed, is_written, Affects, affects_is}
 
 -- ---- what is found of two
 
@@ -74,13 +77,13 @@ module _ (Those : ℕ → Event → Type 0) where
             each = λ mark it h. (b, refl, ⊎_elim (λ q. let m = of_first mark it q in let l = high refl in omega arith) (λ q. of_second mark it q) h);
           }
 
-  pub of_fewer : (These Fewer : ℕ → Event → Type 0) (it : Option Found)
+  pub of_fewer : {These : ℕ → Event → Type 0} (Fewer : ℕ → Event → Type 0) {it : Option Found}
       → ((mark : ℕ) (one : Event) → Fewer mark one → These mark one) → IsFound Those These it → IsFound Those Fewer it
-  of_fewer These Fewer it within f = record { only = f.only; each = λ mark one q. f.each mark one (within mark one q) }
+  of_fewer Fewer within f = record { only = f.only; each = λ mark one q. f.each mark one (within mark one q) }
 
-  pub of_more : (More These : ℕ → Event → Type 0) (it : Option Found)
+  pub of_more : (More : ℕ → Event → Type 0) {These : ℕ → Event → Type 0} {it : Option Found}
       → ((mark : ℕ) (one : Event) → Those mark one → More mark one) → IsFound Those These it → IsFound More These it
-  of_more More These it within f = record { only = λ g e. (let h = f.only g e in (h.0, within g.mark h.0 h.1, h.2)); each = f.each }
+  of_more More within f = record { only = λ g e. (let h = f.only g e in (h.0, within g.mark h.0 h.1, h.2)); each = f.each }
 
   pub of_none : (These : ℕ → Event → Type 0) → ((mark : ℕ) (it : Event) → These mark it → ⊥) → IsFound Those These None
   of_none These no_one = record { only = λ f e. absurd (none-some f e); each = λ mark it q. absurd (no_one mark it q) }
@@ -89,20 +92,53 @@ pub earlier_alone : (one : Option Found) → earlier_of one None ≡ one
 earlier_alone None = refl
 earlier_alone (Some found) = refl
 
-pub and_true : (a b c d : ℕ) → a ≡ b → c ≡ d → (nat_eq a b && nat_eq c d) ≡ true
-and_true a b c d e f = ap (λ x. x && nat_eq c d) (eq-eqb a b e) ∙ eq-eqb c d f
+-- it depends where one affects the other
+pub affecting : (x y : Event) → affects x y ≡ true → depends x y ≡ true
+affecting x y e = by_effect x y ∙ or_right (same_process x y) (affects x y || affects y x) (or_left (affects x y) (affects y x) e)
+
+pub affected : (x y : Event) → affects y x ≡ true → depends x y ≡ true
+affected x y e = by_effect x y ∙ or_right (same_process x y) (affects x y || affects y x) (or_right (affects x y) (affects y x) e)
+
+-- a receive depends on its send, and so does a loss
+pub send_received : (s l m p k : ℕ) → depends (event.Step s l (Send m)) (event.Step p k (Recv s m)) ≡ true
+send_received s l m p k = affecting (event.Step s l (Send m)) (event.Step p k (Recv s m)) (rw (eq-eqb s s refl, eq-eqb m m refl) refl)
+
+pub send_lost : (s l m to : ℕ) → depends (event.Step s l (Send m)) (event.Lost (copy_named s m to)) ≡ true
+send_lost s l m to = affecting (event.Step s l (Send m)) (event.Lost (copy_named s m to)) (rw (eq-eqb s s refl, eq-eqb m m refl) refl)
 
 -- two steps of one process depend on each other
 pub own_links : (p k l : ℕ) (kind other : Kind) → depends (event.Step p k kind) (event.Step p l other) ≡ true
-own_links p k l kind other =
-    by_effect (event.Step p k kind) (event.Step p l other)
-    ∙ ap (λ b. b || (affects (event.Step p k kind) (event.Step p l other) || affects (event.Step p l other) (event.Step p k kind))) (eq-eqb p p refl)
+own_links p k l kind other = grind (arith, common_steps, gets)
 
-module _ (next : ℕ) (steps : List (List Entry)) (sent : List (List Sent)) (sound : IsSound next steps sent) where
+module _ {next : ℕ} {steps : List (List Entry)} {sent : List (List Sent)} (sound : IsSound next steps sent) where
   -- the list of a process and a register
   pub row_rising : (p i j : ℕ) (one other : Entry) → slice_get (row_of steps p) i ≡ Some one
       → slice_get (row_of steps p) j ≡ Some other → i < j → one.mark < other.mark
   row_rising p i j one other at_i at_j less = sound.rises p (suc i) (suc j) one.mark other.mark one.kind other.kind at_i at_j (omega arith)
+
+  -- the marks of one process rise with its numbers
+  pub mark_le : (p k l a b : ℕ) (kind other : Kind) → IsEntry steps p k a kind → IsEntry steps p l b other → k ≤ l → a ≤ b
+  mark_le p k l a b kind other h1 h2 h3 = grind (arith, sound.rises p k l a b kind other h1 h2)
+
+  pub number_below : (p k l a b : ℕ) (kind other : Kind) → IsEntry steps p k a kind → IsEntry steps p l b other → a < b → k < l
+  number_below p k l a b kind other here there less =
+      elim (cases_lt k l) [ inl below ↦ below | inr not ↦ absurd (omega (arith, mark_le p l k b a other kind there here not)) ]
+
+  -- the loss of a copy depends only on its send, and only that on it
+  pub loss_needs : (copy : CopyName) {a : ℕ} (q j b : ℕ) (other : Kind) → IsCopy sent copy.msg.s copy.msg.m copy.to (Lost a) → IsEntry steps q j b other
+      → depends (event.Step q j other) (event.Lost copy) ≡ true → (q ≡ copy.msg.s) × (other ≡ Send copy.msg.m)
+  loss_needs copy {a} q j b other lost at linked =
+      ⊎_elim
+      (λ e. let is = sends_is copy.msg.s copy.msg.m q other e in (is.1, is.0))
+      (λ e.
+      let is = and_parts (nat_eq q copy.to) (receives copy.msg.s copy.msg.m other) e in
+      let got = rw (receives_is copy.msg.s copy.msg.m other is.1) at at in
+      let received = sound.is_received copy.msg.s copy.msg.m q j b got in
+      let same =
+      same_copy lost received (refl, refl, sym (eqb-true q copy.to is.0)) in
+      absurd (cc))
+      (or_cases (sends copy.msg.s copy.msg.m q other) (nat_eq q copy.to && receives copy.msg.s copy.msg.m other)
+      (sym (by_effect (event.Step q j other) (event.Lost copy)) ∙ linked))
 
   -- a step that was found
   step_is : (q l mark : ℕ) (kind : Kind) → IsEntry steps q l mark kind → found_step steps q l ≡ Some (found mark (event_name (event.Step q l kind)))
@@ -148,30 +184,12 @@ module _ (next : ℕ) (steps : List (List Entry)) (sent : List (List Sent)) (sou
             let there : IsEntry steps p l b other = subst (λ r. IsEntry steps r l b other) q_is (h.0).stands in
             let later = (h.0).later in
             let within = nth_within (row_of steps p) l (entry_of b other) there in
-            let above : k < l =
-            ⊎_elim (λ less. less)
-            (λ le. ⊎_elim
-            (λ e. let same = same_at (row_of steps p) k (entry_of mark kind) (entry_of b other) at (subst (λ j. IsEntry steps p j b other) e there) in
-            let m : mark ≡ b = ap (λ (x : Entry). x.mark) same in absurd (omega arith))
-            (λ other_k. let less : l < k = (let h' = le in omega arith) in let m = sound.rises p l k b mark other kind there at less in absurd (omega arith))
-            (same_or_other l k))
-            (lt_or_le k l) in
-            let next_one = nth_some (row_of steps p) (k + 1) (omega arith) (let high = within.1 in omega arith) in (
+            let above = number_below p k l mark b kind other at there later in
+            let next_one = nth_some (row_of steps p) (k + 1) (omega arith) (omega arith) in (
               found (next_one.0).mark (named.Step (record { p = p; k = k + 1 })),
               step_is p (k + 1) (next_one.0).mark (next_one.0).kind next_one.1,
-              ⊎_elim
-                  (λ e. let same =
-                  same_at (row_of steps p) l (next_one.0) (entry_of b other) (subst (λ j. nth (row_of steps p) j ≡ Some next_one.0) e next_one.1) there in
-                  let m : (next_one.0).mark ≡ b = ap (λ (x : Entry). x.mark) same in omega arith)
-                  (λ other_l. let m = sound.rises p (k + 1) l (next_one.0).mark b (next_one.0).kind other next_one.1 there (omega arith) in omega arith)
-                  (same_or_other (k + 1) l),
+              mark_le p (k + 1) l (next_one.0).mark b (next_one.0).kind other next_one.1 there (omega arith),
             )
-          where
-            lt_or_le : (a b : ℕ) → (a < b) ⊎ (b ≤ a)
-            lt_or_le zero zero = inr (omega arith)
-            lt_or_le zero (suc b) = inl (omega arith)
-            lt_or_le (suc a) zero = inr (omega arith)
-            lt_or_le (suc a) (suc b) = ⊎_elim (λ h. inl (omega arith)) (λ h. inr (omega arith)) (lt_or_le a b)
 
     -- ---- why another event depends on the step
 
@@ -186,42 +204,16 @@ module _ (next : ℕ) (steps : List (List Entry)) (sent : List (List Sent)) (sou
         let got : IsEntry steps q l b (Recv p m) = subst (λ x. IsEntry steps q l b x) is there in
         (Received l, sound.is_received p m q l b got, step_is q l b other there)
     forward (Write register) q l b other there is = (q, l, other, refl, is)
-    forward (Query leader) q l b other there is = absurd is
-    forward (Recv s m) q l b other there is = absurd is
-    forward (Read register) q l b other there is = absurd is
-    forward Local q l b other there is = absurd is
-    forward Learn q l b other there is = absurd is
-    forward Crash q l b other there is = absurd is
+    forward _ q l b other there is = absurd is
 
     -- a step that sends does not stand behind the receive
     backward : (some : Kind) → IsEntry steps p k mark some → (q l b : ℕ) (other : Kind)
         → IsEntry steps q l b other → mark < b → Affects q other some → Reason some b (event.Step q l other)
-    backward some here q l b (Send m) there later is =
-        let got : IsEntry steps p k mark (Recv q m) = subst (λ x. IsEntry steps p k mark x) is here in
-        let first = sound.sent_first q m l b p k mark there got in absurd (omega arith)
-    backward (Read y) here q l b (Write x) there later is = (q, l, Write x, refl, sym is)
-    backward (Write y) here q l b (Write x) there later is = (q, l, Write x, refl, sym is)
-    backward (Query leader) here q l b (Write x) there later is = absurd (cc)
-    backward (Send m) here q l b (Write x) there later is = absurd (cc)
-    backward (Recv s m) here q l b (Write x) there later is = absurd (cc)
-    backward Local here q l b (Write x) there later is = absurd (cc)
-    backward Learn here q l b (Write x) there later is = absurd (cc)
-    backward Crash here q l b (Write x) there later is = absurd (cc)
-    backward some here q l b (Query leader) there later is = absurd is
-    backward some here q l b (Recv s m) there later is = absurd is
-    backward some here q l b (Read y) there later is = absurd is
-    backward some here q l b Local there later is = absurd is
-    backward some here q l b Learn there later is = absurd is
-    backward some here q l b Crash there later is = absurd is
+    backward some h1 q l b other h2 h3 h4 = grind (arith, common_steps, gets)
 
     lost_after_send : (some : Kind) (b : ℕ) (copy : CopyName) → Stands steps sent b (event.Lost copy)
         → some ≡ Send (copy.msg).m → p ≡ (copy.msg).s → Reason some b (event.Lost copy)
-    lost_after_send some b copy there is p_is =
-        subst (λ x. Reason x b (event.Lost copy)) (sym is) (
-          Lost b,
-          subst (λ s. IsCopy sent s (copy.msg).m copy.to (Lost b)) (sym p_is) there,
-          ap (λ s. Some (found b (named.Lost (copy_named s (copy.msg).m copy.to)))) p_is,
-        )
+    lost_after_send some b copy h1 h2 h3 = grind (arith, common_steps, gets)
 
     pub reason : (b : ℕ) (it : Event) → Dependent b it → is_step_of p it ≡ false → Reason kind b it
     reason b (event.Step q l other) dependent not_own =
@@ -232,43 +224,16 @@ module _ (next : ℕ) (steps : List (List Entry)) (sent : List (List Sent)) (sou
         (λ others. ⊎_elim
         (λ e. forward kind q l b other dependent.stands (affects_is p kind other e))
         (λ e. backward kind at q l b other dependent.stands dependent.later (affects_is q other kind e))
-        (either (kind_affects p kind other) (kind_affects q other kind) others))
-        (either (nat_eq p q) (affects one (event.Step q l other) || affects (event.Step q l other) one) linked)
+        (or_cases (kind_affects p kind other) (kind_affects q other kind) others))
+        (or_cases (nat_eq p q) (affects one (event.Step q l other) || affects (event.Step q l other) one) linked)
     reason b (event.Lost copy) dependent not_own =
-        let linked : (sends (copy.msg).s (copy.msg).m p kind || (nat_eq p copy.to && receives (copy.msg).s (copy.msg).m kind)) ≡ true =
-        sym (by_effect one (event.Lost copy)) ∙ dependent.linked in
-        ⊎_elim
-        (λ e. let is = sends_is (copy.msg).s (copy.msg).m p kind e in lost_after_send kind b copy dependent.stands is.0 is.1)
-        (λ e. let is = both (nat_eq p copy.to) (receives (copy.msg).s (copy.msg).m kind) e in
-        let to_is : p ≡ copy.to = eqb-true p copy.to is.0 in
-        let got : IsEntry steps p k mark (Recv (copy.msg).s (copy.msg).m) =
-        subst (λ x. IsEntry steps p k mark x) (receives_is (copy.msg).s (copy.msg).m kind is.1) at in
-        let received = sound.is_received (copy.msg).s (copy.msg).m p k mark got in
-        let same : Lost b ≡ Received k =
-        same_copy sent (copy.msg).s (copy.msg).m copy.to (copy.msg).s (copy.msg).m p
-        (Lost b) (Received k) dependent.stands received (refl, refl, sym to_is) in
-        absurd (cc))
-        (either (sends (copy.msg).s (copy.msg).m p kind) (nat_eq p copy.to && receives (copy.msg).s (copy.msg).m kind) linked)
-
-  or_true : (a b : Bool) → b ≡ true → (a || b) ≡ true
-  or_true true b e = refl
-  or_true false b e = e
-
-  -- it depends where one affects the other
-  pub affecting : (x y : Event) → affects x y ≡ true → depends x y ≡ true
-  affecting x y e =
-      by_effect x y ∙ or_true (same_process x y) (affects x y || affects y x) (ap (λ b. b || affects y x) e)
-
-  pub affected : (x y : Event) → affects y x ≡ true → depends x y ≡ true
-  affected x y e =
-      by_effect x y ∙ or_true (same_process x y) (affects x y || affects y x) (or_true (affects x y) (affects y x) e)
+        let is = loss_needs copy p k mark kind dependent.stands at dependent.linked in lost_after_send kind b copy dependent.stands is.1 is.0
 
   -- ---- what became of a copy
 
   module _ (p k mark m : ℕ) (at : IsEntry steps p k mark (Send m)) (q : ℕ) where
-    pub copy_found : (o : Option Found) → IsFoundByCopy steps sent p m q o
-        → IsFoundOfOthers steps sent p (event.Step p k (Send m)) mark q o
-    copy_found o by =
+    pub copy_found : {o : Option Found} → IsFoundByCopy steps sent p m q o → IsFoundOfOthers steps sent p (event.Step p k (Send m)) mark q o
+    copy_found by =
         record {
           only = λ f e.
               let got : IfSome (Some f) (λ f. (c : Copied) × IsCopy sent p m q c × (found_copy steps p m q c ≡ Some f)) =
@@ -295,7 +260,7 @@ module _ (next : ℕ) (steps : List (List Entry)) (sent : List (List Sent)) (sou
                 record {
                   stands = got.1;
                   later = sound.sent_first p m k mark q l got.0 at got.1;
-                  linked = affecting (event.Step p k (Send m)) (event.Step q l (Recv p m)) (and_true p p m m refl refl);
+                  linked = send_received p k m q l;
                 },
                 refl,
               ),
@@ -308,7 +273,7 @@ module _ (next : ℕ) (steps : List (List Entry)) (sent : List (List Sent)) (sou
                 record {
                   stands = copy;
                   later = sound.sent_lost p m k mark q b at copy;
-                  linked = affecting (event.Step p k (Send m)) (event.Lost (copy_named p m q)) (and_true p p m m refl refl);
+                  linked = send_lost p k m q;
                 },
                 refl,
               ),
@@ -317,7 +282,7 @@ module _ (next : ℕ) (steps : List (List Entry)) (sent : List (List Sent)) (sou
 
   -- ---- the first on a list
 
-  module _ (of : Kind → Option ℕ) (table : List (List Access)) (lists : AreListed of table steps) (q n : ℕ) (one_q : 1 ≤ q) (nine : q ≤ 9) (few : n < 11) where
+  module _ {of : Kind → Option ℕ} {table : List (List Access)} (lists : AreListed of table steps) (q n : ℕ) (one_q : 1 ≤ q) (nine : q ≤ 9) (few : n < 11) where
     list_is : row_of table (cell q n) ≡ listed of n 1 (row_of steps q)
     list_is = lists.each q n one_q nine few
 
@@ -368,7 +333,7 @@ module _ (next : ℕ) (steps : List (List Entry)) (sent : List (List Sent)) (sou
               record {
                 only = λ f e. absurd (none-some f (sym o_is ∙ e));
                 each = λ b it h.
-                    let on = its_access b it h.0 h.1 h.2 in let low = none (access_of b on.0) on.1 in let later = (h.0).later in absurd (omega arith);
+                    let on = its_access b it h.0 h.1 h.2 in let low = none (access_of b on.0) on.1 in absurd (omega arith);
               }
           with_first (Some a) is o_is =
               record {
@@ -380,78 +345,62 @@ module _ (next : ℕ) (steps : List (List Entry)) (sent : List (List Sent)) (sou
                       got.2
                           ∙ ap (λ (x : Found). x.name) f_is,
                     );
-                each = λ b it h.
-                    let on = its_access b it h.0 h.1 h.2 in
-                    (found_access q a, o_is, is.2 (access_of b on.0) on.1 (h.0).later);
+                each = λ b it h. let on = its_access b it h.0 h.1 h.2 in (found_access q a, o_is, is.2 (access_of b on.0) on.1 (h.0).later);
               }
 
   module _ (p k mark : ℕ) (q : ℕ) (one_q : 1 ≤ q) (nine : q ≤ 9) where
     pub read_found : (register : Reg) → number_of register < 11 → IsEntry steps p k mark (Read register)
-        → (table : List (List Access)) → AreListed written table steps
+        → {table : List (List Access)} → AreListed written table steps
         → (o : Option Found) → IsFoundByList (row_of table (cell q (number_of register))) q mark o
         → IsFoundOfOthers steps sent p (event.Step p k (Read register)) mark q o
-    read_found x few at table lists o by =
-        list_found written table lists q (number_of x) one_q nine few p k mark (Read x)
+    read_found x few at lists o by =
+        list_found lists q (number_of x) one_q nine few p k mark (Read x)
         (λ l other is. affected (event.Step p k (Read x)) (event.Step q l other)
         (subst (λ y. affects (event.Step q l y) (event.Step p k (Read x)) ≡ true) (sym (is_written x other is)) (same_register-itself x)))
         (λ b it dependent not_own. reason p k mark (Read x) at b it dependent not_own) o by
 
     pub write_found : (register : Reg) → number_of register < 11 → IsEntry steps p k mark (Write register)
-        → (table : List (List Access)) → AreListed accessed table steps
+        → {table : List (List Access)} → AreListed accessed table steps
         → (o : Option Found) → IsFoundByList (row_of table (cell q (number_of register))) q mark o
         → IsFoundOfOthers steps sent p (event.Step p k (Write register)) mark q o
-    write_found x few at table lists o by =
-        list_found accessed table lists q (number_of x) one_q nine few p k mark (Write x)
+    write_found x few at lists o by =
+        list_found lists q (number_of x) one_q nine few p k mark (Write x)
         (λ l other is. affecting (event.Step p k (Write x)) (event.Step q l other) (is_accessed x other is))
         (λ b it dependent not_own. reason p k mark (Write x) at b it dependent not_own) o by
 
   -- ---- of one process after another
-
-  module _ (p k mark : ℕ) (kind : Kind) (at : IsEntry steps p k mark kind) where
-    abbrev This : Event
-    This = event.Step p k kind
-
-    own_or_not : (it : Event) → (is_step_of p it ≡ true) ⊎ (is_step_of p it ≡ false)
-    own_or_not it = by (is_step_of p it)
-      where
-        by : (b : Bool) → (b ≡ true) ⊎ (b ≡ false)
-        by true = inl refl
-        by false = inr refl
 
   process_from_one : (mark : ℕ) (it : Event) → Stands steps sent mark it → 1 ≤ process_of it
   process_from_one mark (event.Step q l other) at = (nth_within steps q (row_of steps q) (is_row steps q l (entry_of mark other) at)).0
   process_from_one mark (event.Lost copy) at = (nth_within (at.it).copies copy.to (Lost mark) at.became).0
 
   process_to_nine : (mark : ℕ) (it : Event) → Stands steps sent mark it → process_of it ≤ 9
-  process_to_nine mark (event.Step q l other) at =
-      let high = (nth_within steps q (row_of steps q) (is_row steps q l (entry_of mark other) at)).1 in let nine = sound.processes in omega arith
-  process_to_nine mark (event.Lost copy) at = sound.lost_to (copy.msg).s (copy.msg).m copy.to mark at
+  process_to_nine mark it h1 = grind (arith, common_steps, gets)
 
   module _ (p k mark : ℕ) (kind : Kind) (at : IsEntry steps p k mark kind) where
     abbrev One : Event
     One = event.Step p k kind
 
     pub none_yet : IsFoundByOthers steps sent p One mark 0 None
-    none_yet = of_none (IsDependent steps sent One mark) _ (λ b it h. let low = process_from_one b it (h.0).stands in let e = h.1 in absurd (omega arith))
+    none_yet = of_none (IsDependent steps sent One mark) _ (λ b it h. let low = process_from_one b it (h.0).stands in absurd (omega arith))
 
     pub one_process_more : (q : ℕ) (first other : Option Found)
         → IsFoundByOthers steps sent p One mark q first → IsFoundOfOthers steps sent p One mark (q + 1) other
         → IsFoundByOthers steps sent p One mark (q + 1) (earlier_of first other)
     one_process_more q first other so_far of_next =
-        of_fewer (IsDependent steps sent One mark) _ _ (earlier_of first other)
-        (λ b it h. ⊎_elim (λ e. inr (h.0, e, h.2)) (λ e. inl (h.0, (let le = h.1 in omega arith), h.2)) (same_or_other (process_of it) (q + 1)))
+        of_fewer (IsDependent steps sent One mark) _
+        (λ b it h. ⊎_elim (λ e. inr (h.0, e, h.2)) (λ e. inl (h.0, (omega arith), h.2)) (cases_eq (process_of it) (q + 1)))
         (of_both (IsDependent steps sent One mark) _ _ first other so_far
-        (of_more (IsDependentOf steps sent One mark (q + 1)) (IsDependent steps sent One mark) _ other (λ b it h. h.0) of_next))
+        (of_more (IsDependentOf steps sent One mark (q + 1)) (IsDependent steps sent One mark) (λ b it h. h.0) of_next))
 
     pub all_found : (own others : Option Found) → own ≡ found_step steps p (k + 1)
         → IsFoundByOthers steps sent p One mark 9 others → IsFoundFirst steps sent One mark (earlier_of own others)
     all_found own others own_is by_others =
-        of_fewer (IsDependent steps sent One mark) _ _ (earlier_of own others)
-        (λ b it h. ⊎_elim (λ e. inl (h, e)) (λ e. inr (h, process_to_nine b it h.stands, e)) (own_or_not p k mark kind at it))
+        of_fewer (IsDependent steps sent One mark) _
+        (λ b it h. ⊎_elim (λ e. inl (h, e)) (λ e. inr (h, process_to_nine b it h.stands, e)) (cases_Bool (is_step_of p it)))
         (of_both (IsDependent steps sent One mark) _ _ own others
         (subst (IsFound (IsDependent steps sent One mark) _) (sym own_is)
-        (of_more (IsDependentOf steps sent One mark p) (IsDependent steps sent One mark)
-        _ (found_step steps p (k + 1)) (λ b it h. h.0) (own_found p k mark kind at)))
+        (of_more (IsDependentOf steps sent One mark p) (IsDependent steps sent One mark) (λ b it h. h.0) (own_found p k mark kind at)))
         by_others)
 
   -- ---- nothing depends on the loss of a copy
@@ -462,20 +411,6 @@ module _ (next : ℕ) (steps : List (List Entry)) (sent : List (List Sent)) (sou
       no_one : (b : ℕ) (it : Event) → IsDependent steps sent (event.Lost copy) mark b it → ⊥
       no_one b (event.Lost other) h = absurd (true≢false (sym (sym (by_effect (event.Lost copy) (event.Lost other)) ∙ h.linked)))
       no_one b (event.Step q l kind) h =
-          let linked : ((nat_eq q copy.to && receives (copy.msg).s (copy.msg).m kind) || sends (copy.msg).s (copy.msg).m q kind) ≡ true =
-          sym (by_effect (event.Lost copy) (event.Step q l kind)) ∙ h.linked in
-          ⊎_elim
-          (λ e. let is = both (nat_eq q copy.to) (receives (copy.msg).s (copy.msg).m kind) e in
-          let to_is : q ≡ copy.to = eqb-true q copy.to is.0 in
-          let got : IsEntry steps q l b (Recv (copy.msg).s (copy.msg).m) =
-          subst (λ x. IsEntry steps q l b x) (receives_is (copy.msg).s (copy.msg).m kind is.1) h.stands in
-          let received = sound.is_received (copy.msg).s (copy.msg).m q l b got in
-          let same : Lost mark ≡ Received l =
-          same_copy sent (copy.msg).s (copy.msg).m copy.to (copy.msg).s (copy.msg).m q (Lost mark) (Received l) at received (refl, refl, sym to_is) in
-          absurd (cc))
-          (λ e. let is = sends_is (copy.msg).s (copy.msg).m q kind e in
-          let sent_it : IsEntry steps (copy.msg).s l b (Send (copy.msg).m) =
-          subst (λ s. IsEntry steps s l b (Send (copy.msg).m)) is.1 (subst (λ x. IsEntry steps q l b x) is.0 h.stands) in
-          let first = sound.sent_lost (copy.msg).s (copy.msg).m l b copy.to mark sent_it at in
-          let later = h.later in absurd (omega arith))
-          (either (nat_eq q copy.to && receives (copy.msg).s (copy.msg).m kind) (sends (copy.msg).s (copy.msg).m q kind) linked)
+          let is = loss_needs copy q l b kind at h.stands (symmetric (event.Step q l kind) (event.Lost copy) ∙ h.linked) in
+          let first = sound.sent_lost copy.msg.s copy.msg.m l b copy.to mark (rw (is.0, is.1) at h.stands) at in
+          absurd (omega arith)

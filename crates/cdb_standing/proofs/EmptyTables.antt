@@ -33,8 +33,8 @@ module _ (steps : List (List Entry)) (sent : List (List Sent)) (no_steps : AreEm
   nothing mark (event.Step p k kind) at = none_in steps p k (entry_of mark kind) no_steps at
   nothing mark (event.Lost copy) at = none_in sent (copy.msg).s (copy.msg).m at.it no_sends at.was_sent
 
-  no_message : (s m k : ℕ) → IsMessage sent s m k → ⊥
-  no_message s m k message = none_in sent s m message.it no_sends message.was_sent
+  no_message : {s m k : ℕ} → IsMessage sent s m k → ⊥
+  no_message {s} {m} message = none_in sent s m message.it no_sends message.was_sent
 
   pub empty_sound : length steps ≡ 9 → length sent ≡ 9 → IsSound 0 steps sent
   empty_sound nine nine' =
@@ -47,9 +47,9 @@ module _ (steps : List (List Entry)) (sent : List (List Sent)) (no_steps : AreEm
         rises = λ p k l a b one other at there less. absurd (nothing a (event.Step p k one) at);
         received_is = λ s m to k copy. absurd (none_in sent s m copy.it no_sends copy.was_sent);
         is_received = λ s m to k mark at. absurd (nothing mark (event.Step to k _) at);
-        sent_is = λ s m k message. absurd (no_message s m k message);
+        sent_is = λ s m k message. absurd (no_message message);
         is_sent = λ s m k mark at. absurd (nothing mark (event.Step s k _) at);
-        sent_rises = λ s m n k l one other less. absurd (no_message s m k one);
+        sent_rises = λ s m n k l one other less. absurd (no_message one);
         sent_first = λ s m k a to l b at there. absurd (nothing a (event.Step s k _) at);
         lost_to = λ s m to b copy. absurd (none_in sent s m copy.it no_sends copy.was_sent);
         sent_lost = λ s m k a to b at there. absurd (nothing a (event.Step s k _) at);

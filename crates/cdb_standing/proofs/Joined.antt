@@ -1,19 +1,21 @@
 -- A step, or the loss of a copy, is added: the tables still agree, and the history has it at the end.
+use Rattle.std.proofs.lemmas.Option.{gets}
+use Rattle.std.proofs.lemmas.Grind.{common_steps}
 use Rattle.std.proofs.Common.{◌≡◌, ◌≢◌, ℕ, suc, ◌+◌, ◌<◌, ◌≤◌, List, [], ◌∷◌, ◌++◌, length, ◌⊎◌}
-use Rattle.std.proofs.Common.{inl, inr, ⊎_elim, sym, ap, ap₂, ◌∙◌, subst, arith, length-append}
+use Rattle.std.proofs.Common.{inl, inr, ⊎_elim, sym, ap, ap₂, ◌∙◌, subst, arith}
 use Rattle.cdb_base.specs.declared.event.Event.{Event}
 use Rattle.cdb_base.specs.declared.event.Event.TheVariants as event
 use Rattle.cdb_base.specs.declared.event.Kind.{Kind}
-use Rattle.cdb_base.specs.declared.event.Kind.TheVariants.{Query, Send, Recv, Read, Write, Local, Learn, Crash}
+use Rattle.cdb_base.specs.declared.event.Kind.TheVariants.{Send, Recv}
 use Rattle.cdb_standing.specs.InOrder.{Marked}
 use Rattle.cdb_standing.specs.Tables.{row_of, copy_named, history_of, entry_of, IsEntry, IsCopy, IsMessage}
-use Rattle.cdb_standing.specs.Tables.{Stands, IsSound, IsCopySet, IsMailedBy, MayMail, IsStepAdded, MayAdd}
+use Rattle.cdb_standing.specs.Tables.{Stands, IsSound, IsCopySet, MayMail, IsStepAdded, MayAdd}
 use Rattle.cdb_standing.specs.declared.tables.Copied.{Copied}
 use Rattle.cdb_standing.specs.declared.tables.Copied.TheVariants.{Waits, Received, Lost}
 use Rattle.cdb_standing.specs.declared.tables.Entry.{Entry}
 use Rattle.cdb_standing.specs.declared.tables.Sent.{Sent}
 use Rattle.cdb_standing.proofs.Rows.{nth_within, put_cases, put_keeps, put_joins}
-use Rattle.cdb_standing.proofs.MailRows.{same_or_other, IsMailGrown, grown, set_new, set_cases, set_keeps, set_message, set_message_only, same_copy}
+use Rattle.cdb_standing.proofs.MailRows.{IsMailGrown, grown, set_new, set_cases, set_keeps, set_message, set_message_only, same_copy}
 use Rattle.cdb_standing.proofs.Listed.{IsSingleIn, one_more}
 
 abbrev pub marked : ℕ → Event → Marked
@@ -24,36 +26,23 @@ abbrev pub Joins : List (List Entry) → List (List Sent) → ℕ → Event → 
 Joins steps sent next new steps' sent' =
     (mark : ℕ) (it : Event) → Stands steps' sent' mark it → Stands steps sent mark it ⊎ ((mark ≡ next) × (it ≡ new))
 
-single_more : (next : ℕ) (steps : List (List Entry)) (sent : List (List Sent)) (new : Event) (steps' : List (List Entry)) (sent' : List (List Sent))
+single_more : {next : ℕ} {steps : List (List Entry)} {sent : List (List Sent)} (new : Event) (steps' : List (List Entry)) (sent' : List (List Sent))
     → IsSound next steps sent → Joins steps sent next new steps' sent' → IsSingleIn steps' sent'
-single_more next steps sent new steps' sent' sound joins mark one other here there =
-    ⊎_elim
-    (λ a. ⊎_elim
-    (λ b. sound.single mark one other a b)
-    (λ b. let low = sound.below mark one a in let e = b.0 in absurd (omega arith))
-    (joins mark other there))
-    (λ a. ⊎_elim
-    (λ b. let low = sound.below mark other b in let e = a.0 in absurd (omega arith))
-    (λ b. a.1 ∙ sym b.1)
-    (joins mark other there))
-    (joins mark one here)
+single_more new steps' sent' h1 h2 = grind (arith, common_steps, gets)
 
-module _ (next p k : ℕ) (kind : Kind) (steps : List (List Entry)) (sent : List (List Sent)) (steps' : List (List Entry)) (sent' : List (List Sent))
+module _ {next p k : ℕ} {kind : Kind} {steps : List (List Entry)} {sent : List (List Sent)} {steps' : List (List Entry)} {sent' : List (List Sent)}
     (sound : IsSound next steps sent) (may : MayAdd p k kind steps sent) (added : IsStepAdded next p k kind steps sent steps' sent') where
   mail : IsMailGrown p k kind sent sent'
   mail = grown p k kind sent sent' may.mail added.mailed
 
   entry_cases : (q l a : ℕ) (other : Kind) → IsEntry steps' q l a other → IsEntry steps q l a other ⊎ ((q ≡ p) × (l ≡ k) × (a ≡ next) × (other ≡ kind))
-  entry_cases q l a other at =
-      ⊎_elim (λ old. inl old)
-      (λ new. inr (new.0, new.1 ∙ sym may.number, sym (ap (λ (e : Entry). e.mark) new.2), sym (ap (λ (e : Entry). e.kind) new.2)))
-      (put_cases p steps (entry_of next kind) steps' added.put q l (entry_of a other) at)
+  entry_cases q l a other h1 = grind (arith, put_cases added.put)
 
   entry_keeps : (q l a : ℕ) (other : Kind) → IsEntry steps q l a other → IsEntry steps' q l a other
-  entry_keeps q l a other at = put_keeps p steps (entry_of next kind) steps' added.put q l (entry_of a other) at
+  entry_keeps q l a other at = put_keeps added.put q l (entry_of a other) at
 
   entry_new : IsEntry steps' p k next kind
-  entry_new = put_joins p steps (entry_of next kind) steps' added.put k may.number
+  entry_new = put_joins added.put k may.number
 
   entry_old : (q l a : ℕ) (other : Kind) → IsEntry steps q l a other → a < next
   entry_old q l a other at = sound.below a (event.Step q l other) at
@@ -70,29 +59,13 @@ module _ (next p k : ℕ) (kind : Kind) (steps : List (List Entry)) (sent : List
   stands_keeps mark (event.Lost copy) at = mail.keeps (copy.msg).s (copy.msg).m copy.to (Lost mark) at (λ e. absurd (cc))
 
   own_last : (l a : ℕ) (other : Kind) → IsEntry steps p l a other → l < k
-  own_last l a other at = let within = nth_within (row_of steps p) l (entry_of a other) at in let e = may.number in let h = within.1 in omega arith
+  own_last l a other at = let within = nth_within (row_of steps p) l (entry_of a other) at in omega arith
 
   few : (q : ℕ) → length (row_of steps' q) ≤ 65535
-  few q =
-      ⊎_elim
-      (λ e. let n : length (row_of steps' q) ≡ length (row_of steps p) + 1 =
-      ap (λ a. length (row_of steps' a)) e ∙ ap length added.put.more ∙ length-append (row_of steps p) (entry_of next kind ∷ []) in
-      let a = may.number in let b = may.few in omega arith)
-      (λ e. subst (λ row. length row ≤ 65535) (sym (added.put.others q e)) (sound.few q))
-      (same_or_other q p)
+  few q = grind (arith, common_steps, gets)
 
   rises : (q l m a b : ℕ) (one other : Kind) → IsEntry steps' q l a one → IsEntry steps' q m b other → l < m → a < b
-  rises q l m a b one other here there less =
-      ⊎_elim
-      (λ x. ⊎_elim
-      (λ y. sound.rises q l m a b one other x y less)
-      (λ y. let low = entry_old q l a one x in let e = y.2 in omega arith)
-      (entry_cases q m b other there))
-      (λ x. ⊎_elim
-      (λ y. let last = own_last m b other (subst (λ r. IsEntry steps r m b other) x.0 y) in let e = x.1 in absurd (omega arith))
-      (λ y. let e = x.1 in let f = y.1 in absurd (omega arith))
-      (entry_cases q m b other there))
-      (entry_cases q l a one here)
+  rises q l m a b one other h1 h2 h3 = grind (arith, entry_cases, own_last, entry_old)
 
   received_is : (s m to l : ℕ) → IsCopy sent' s m to (Received l) → (mark : ℕ) × IsEntry steps' to l mark (Recv s m)
   received_is s m to l copy =
@@ -131,8 +104,8 @@ module _ (next p k : ℕ) (kind : Kind) (steps : List (List Entry)) (sent : List
       (λ new. subst (λ a. IsMessage sent' a m l) (sym new.0) (subst (λ a. IsMessage sent' p m a) (sym new.1) (mail.sent m (sym new.3))))
       (entry_cases s l mark (Send m) at)
 
-  sent_rises : (s m n i j : ℕ) → IsMessage sent' s m i → IsMessage sent' s n j → m < n → i < j
-  sent_rises s m n i j one other less =
+  sent_rises : {s m n i j : ℕ} → IsMessage sent' s m i → IsMessage sent' s n j → m < n → i < j
+  sent_rises {s} {m} {n} {i} {j} one other less =
       ⊎_elim
       (λ x. ⊎_elim
       (λ y. sound.sent_rises s m n i j x y less)
@@ -144,19 +117,18 @@ module _ (next p k : ℕ) (kind : Kind) (steps : List (List Entry)) (sent : List
       (λ x. ⊎_elim
       (λ y. let within = nth_within (row_of sent s) n y.it y.was_sent in
       let e : m ≡ length (row_of sent s) + 1 = subst (λ a. m ≡ length (row_of sent a) + 1) (sym x.0) x.1 in
-      let high = within.1 in
       absurd (omega arith))
-      (λ y. let e = x.1 in let f = y.1 in absurd (omega arith))
+      (λ y. absurd (omega arith))
       (mail.messages s n j other))
       (mail.messages s m i one)
 
   -- no copy of a message was received or lost before its send
-  not_before : (s m to : ℕ) (c : Copied) → kind ≡ Send m → s ≡ p → IsCopy sent s m to c → ⊥
-  not_before s m to c e s_is copy =
+  not_before : {s m to : ℕ} {c : Copied} → kind ≡ Send m → s ≡ p → IsCopy sent s m to c → ⊥
+  not_before {s} {m} e s_is copy =
       let next_is : m ≡ length (row_of sent p) + 1 = subst (λ a. MayMail p a sent) e may.mail in
       let within = nth_within (row_of sent s) m copy.it copy.was_sent in
       let same : length (row_of sent s) ≡ length (row_of sent p) = ap (λ a. length (row_of sent a)) s_is in
-      let high = within.1 in absurd (omega arith)
+      absurd (omega arith)
 
   sent_first : (s m l a to i b : ℕ) → IsEntry steps' s l a (Send m) → IsEntry steps' to i b (Recv s m) → a < b
   sent_first s m l a to i b here there =
@@ -166,37 +138,26 @@ module _ (next p k : ℕ) (kind : Kind) (steps : List (List Entry)) (sent : List
       (λ y. let low = entry_old s l a (Send m) x in let e = y.2 in omega arith)
       (entry_cases to i b (Recv s m) there))
       (λ x. ⊎_elim
-      (λ y. absurd (not_before s m to (Received i) (sym x.3) x.0 (sound.is_received s m to i b y)))
-      (λ y. absurd (let e = x.3 in let f = y.3 in cc))
+      (λ y. absurd (not_before (sym x.3) x.0 (sound.is_received s m to i b y)))
+      (λ y. absurd (cc))
       (entry_cases to i b (Recv s m) there))
       (entry_cases s l a (Send m) here)
 
-  sent_lost : (s m l a to b : ℕ) → IsEntry steps' s l a (Send m) → IsCopy sent' s m to (Lost b) → a < b
-  sent_lost s m l a to b here there =
+  sent_lost : {s m : ℕ} (l a : ℕ) {to b : ℕ} → IsEntry steps' s l a (Send m) → IsCopy sent' s m to (Lost b) → a < b
+  sent_lost {s} {m} l a {to} {b} here there =
       ⊎_elim
       (λ y. ⊎_elim
       (λ x. sound.sent_lost s m l a to b x y)
-      (λ x. absurd (not_before s m to (Lost b) (sym x.3) x.0 y))
+      (λ x. absurd (not_before (sym x.3) x.0 y))
       (entry_cases s l a (Send m) here))
       (λ y. absurd (let e = y.2 in cc))
       (mail.copies s m to (Lost b) there (λ e. absurd (cc)))
 
   below : (mark : ℕ) (it : Event) → Stands steps' sent' mark it → mark < suc next
-  below mark it at =
-      ⊎_elim (λ old. let low = sound.below mark it old in omega arith) (λ new. let e = new.0 in omega arith) (stands_cases mark it at)
+  below mark it at = ⊎_elim (λ old. let low = sound.below mark it old in omega arith) (λ new. omega arith) (stands_cases mark it at)
 
   as_many : length sent' ≡ length sent
-  as_many = mailed_as_many kind added.mailed
-    where
-      mailed_as_many : (some : Kind) → IsMailedBy p k some sent sent' → length sent' ≡ length sent
-      mailed_as_many (Send m) mailed = (mailed.1).as_many
-      mailed_as_many (Recv s m) mailed = mailed.as_many
-      mailed_as_many (Query leader) mailed = ap length mailed
-      mailed_as_many (Read register) mailed = ap length mailed
-      mailed_as_many (Write register) mailed = ap length mailed
-      mailed_as_many Local mailed = ap length mailed
-      mailed_as_many Learn mailed = ap length mailed
-      mailed_as_many Crash mailed = ap length mailed
+  as_many = grind (arith, common_steps, gets)
 
   pub step_sound : IsSound (suc next) steps' sent'
   step_sound =
@@ -205,46 +166,45 @@ module _ (next p k : ℕ) (kind : Kind) (steps : List (List Entry)) (sent : List
         senders = as_many ∙ sound.senders;
         few = few;
         below = below;
-        single = single_more next steps sent (event.Step p k kind) steps' sent' sound stands_cases;
+        single = single_more (event.Step p k kind) steps' sent' sound stands_cases;
         rises = rises;
         received_is = received_is;
         is_received = is_received;
         sent_is = sent_is;
         is_sent = is_sent;
-        sent_rises = sent_rises;
+        sent_rises = λ s m n i j one other less. sent_rises one other less;
         sent_first = sent_first;
         lost_to =
             λ s m to b copy.
             ⊎_elim (λ old. sound.lost_to s m to b old) (λ new. absurd (let e = new.2 in cc)) (mail.copies s m to (Lost b) copy (λ e. absurd (cc)));
-        sent_lost = sent_lost;
+        sent_lost = λ s m l a to b here there. sent_lost l a here there;
       }
 
   pub step_added : history_of steps' sent' ≡ history_of steps sent ++ event.Step p k kind ∷ []
   step_added =
-      one_more steps sent steps' sent' sound.single (single_more next steps sent (event.Step p k kind) steps' sent' sound stands_cases)
+      one_more steps sent steps' sent' sound.single (single_more (event.Step p k kind) steps' sent' sound stands_cases)
       (record { mark = next; event = event.Step p k kind }) sound.below stands_keeps entry_new
       (λ mark it at. ⊎_elim (λ old. inl old) (λ new. inr (ap₂ marked (sym new.0) (sym new.1))) (stands_cases mark it at))
 
 -- ---- the loss of a copy
 
-module _ (next s m to : ℕ) (steps : List (List Entry)) (sent : List (List Sent)) (sent' : List (List Sent))
+module _ {next s m to : ℕ} {steps : List (List Entry)} {sent : List (List Sent)} {sent' : List (List Sent)}
     (sound : IsSound next steps sent) (waits : IsCopy sent s m to Waits) (few : to ≤ 9) (put : IsCopySet sent s m to (Lost next) sent') where
   loss : Event
   loss = event.Lost (copy_named s m to)
 
-  copy_cases : (r n q : ℕ) (c : Copied) → IsCopy sent' r n q c → IsCopy sent r n q c ⊎ ((r ≡ s) × (n ≡ m) × (q ≡ to) × (c ≡ Lost next))
-  copy_cases r n q c copy = set_cases sent s m to (Lost next) sent' put r n q c copy
+  copy_cases : {r n q : ℕ} {c : Copied} → IsCopy sent' r n q c → IsCopy sent r n q c ⊎ ((r ≡ s) × (n ≡ m) × (q ≡ to) × (c ≡ Lost next))
+  copy_cases {r} {n} {q} {c} copy = set_cases put copy
 
   copy_keeps : (r n q : ℕ) (c : Copied) → IsCopy sent r n q c → c ≢ Waits → IsCopy sent' r n q c
-  copy_keeps r n q c copy other =
-      set_keeps sent s m to (Lost next) sent' put r n q c copy (λ e. other (same_copy sent r n q s m to c Waits copy waits e))
+  copy_keeps r n q c copy other = set_keeps put copy (λ e. other (same_copy copy waits e))
 
   lost_cases : Joins steps sent next (event.Lost (copy_named s m to)) steps sent'
   lost_cases mark (event.Step q l other) at = inl at
   lost_cases mark (event.Lost copy) at =
       ⊎_elim (λ old. inl old)
       (λ new. inr (lost_mark mark next new.3, ap event.Lost (ap₂ (λ a b. copy_named a b copy.to) new.0 new.1 ∙ ap (copy_named s m) new.2)))
-      (copy_cases (copy.msg).s (copy.msg).m copy.to (Lost mark) at)
+      (copy_cases at)
     where
       lost_mark : (a b : ℕ) → Lost a ≡ Lost b → a ≡ b
       lost_mark a b e = cc
@@ -260,25 +220,23 @@ module _ (next s m to : ℕ) (steps : List (List Entry)) (sent : List (List Sent
         senders = put.as_many ∙ sound.senders;
         few = sound.few;
         below = λ mark it at. ⊎_elim (λ old. let low = sound.below mark it old in omega arith) (λ new. let e = new.0 in omega arith) (lost_cases mark it at);
-        single = single_more next steps sent (event.Lost (copy_named s m to)) steps sent' sound lost_cases;
+        single = single_more (event.Lost (copy_named s m to)) steps sent' sound lost_cases;
         rises = sound.rises;
-        received_is = λ r n q l copy. ⊎_elim (λ old. sound.received_is r n q l old) (λ new. absurd (let e = new.3 in cc)) (copy_cases r n q (Received l) copy);
+        received_is = λ r n q l copy. ⊎_elim (λ old. sound.received_is r n q l old) (λ new. absurd (let e = new.3 in cc)) (copy_cases copy);
         is_received = λ r n q l mark at. copy_keeps r n q (Received l) (sound.is_received r n q l mark at) (λ e. absurd (cc));
-        sent_is = λ r n l message. sound.sent_is r n l (set_message_only sent s m to (Lost next) sent' put r n l message);
-        is_sent = λ r n l mark at. set_message sent s m to (Lost next) sent' put r n l (sound.is_sent r n l mark at);
-        sent_rises = λ r n o i j one other less.
-            sound.sent_rises r n o i j (set_message_only sent s m to (Lost next) sent' put r n i one)
-            (set_message_only sent s m to (Lost next) sent' put r o j other) less;
+        sent_is = λ r n l message. sound.sent_is r n l (set_message_only put message);
+        is_sent = λ r n l mark at. set_message put (sound.is_sent r n l mark at);
+        sent_rises = λ r n o i j one other less. sound.sent_rises r n o i j (set_message_only put one) (set_message_only put other) less;
         sent_first = sound.sent_first;
-        lost_to = λ r n q b copy. ⊎_elim (λ old. sound.lost_to r n q b old) (λ new. let e = new.2 in omega arith) (copy_cases r n q (Lost b) copy);
+        lost_to = λ r n q b copy. ⊎_elim (λ old. sound.lost_to r n q b old) (λ new. let e = new.2 in omega arith) (copy_cases copy);
         sent_lost = λ r n l a q b here there.
             ⊎_elim (λ old. sound.sent_lost r n l a q b here old)
-            (λ new. let low = sound.below a (event.Step r l (Send n)) here in let e : b ≡ next = (let f = new.3 in cc) in omega arith)
-            (copy_cases r n q (Lost b) there);
+            (λ new. let low = sound.below a (event.Step r l (Send n)) here in let e : b ≡ next = (cc) in omega arith)
+            (copy_cases there);
       }
 
   pub loss_added : history_of steps sent' ≡ history_of steps sent ++ event.Lost (copy_named s m to) ∷ []
   loss_added =
-      one_more steps sent steps sent' sound.single (single_more next steps sent (event.Lost (copy_named s m to)) steps sent' sound lost_cases)
-      (record { mark = next; event = event.Lost (copy_named s m to) }) sound.below lost_keeps (set_new sent s m to (Lost next) sent' put)
+      one_more steps sent steps sent' sound.single (single_more (event.Lost (copy_named s m to)) steps sent' sound lost_cases)
+      (record { mark = next; event = event.Lost (copy_named s m to) }) sound.below lost_keeps (set_new put)
       (λ mark it at. ⊎_elim (λ old. inl old) (λ new. inr (ap₂ marked (sym new.0) (sym new.1))) (lost_cases mark it at))

@@ -42,7 +42,7 @@ module _ (xs : List Access) (mark n : ℕ) (rising : IsRisingBy xs)
 
 -- ---- the steps that are on a list
 
-module _ (of : Kind → Option ℕ) (table : List (List Access)) (steps : List (List Entry))
+module _ {of : Kind → Option ℕ} {table : List (List Access)} {steps : List (List Entry)}
     (lists : AreListed of table steps) (s n : ℕ) (one : 1 ≤ s) (nine : s ≤ 9) (few : n < 11) where
   pub is_listed : (j mark : ℕ) (kind : Kind) → IsEntry steps s j mark kind → of kind ≡ Some n → Has (row_of table (cell s n)) (access_of mark j)
   is_listed zero mark kind at is = absurd (none-some (entry_of mark kind) at)

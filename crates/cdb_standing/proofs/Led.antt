@@ -1,8 +1,9 @@
 -- Numbers that are raised until what is up to them is closed under causes.
-use Rattle.std.proofs.Common.{◌≡◌, ◌↔◌, ℕ, zero, suc, ◌+◌, ◌<◌, ◌≤◌, Bool, true, false, cond, nat_eq, nat_lt, ltb-true, ltb-false, eqb-true, eq-eqb, List, []}
+use Rattle.std.proofs.lemmas.Grind.{common_steps}
+use Rattle.std.proofs.Common.{◌≡◌, ◌↔◌, ℕ, zero, suc, ◌+◌, ◌<◌, ◌≤◌, List, []}
 use Rattle.std.proofs.Common.{◌∷◌, length, set, slice_index, length-set, replicate, Option, Some, None, ◌⊎◌, inl, inr, ⊎_elim, refl, sym, ◌∙◌, subst, arith}
-use Rattle.std.proofs.lemmas.Bool.{cases_lt}
-use Rattle.std.proofs.lemmas.Option.{same_Some}
+use Rattle.std.proofs.lemmas.Bool.{cases_lt, cases_eq}
+use Rattle.std.proofs.lemmas.Option.{same_Some, gets}
 use Rattle.cdb_base.specs.Event.{event_name}
 use Rattle.cdb_base.specs.Positions.{nth}
 use Rattle.cdb_base.specs.declared.event.Event.{Event}
@@ -26,36 +27,19 @@ use Rattle.cdb_standing.proofs.CutsFound.{process_within, cut_at, cut_set, cut_s
 use Rattle.cdb_standing.proofs.DirectCauses.{cause_at}
 use Rattle.cdb_standing.proofs.EarliestFound.{own_links}
 use Rattle.cdb_standing.proofs.Firsts.{not_before}
-use Rattle.cdb_standing.proofs.MailRows.{same_or_other}
 use Rattle.cdb_standing.proofs.Places.{IsPlace, place_of, stands_at, mark_at, link_up, one_name}
 use Rattle.cdb_standing.proofs.Rows.{nth_within, same_at}
 
 -- ---- a number that is raised
 
 pub raised_cases : (p : ℕ) (found : Option ℕ) (q n : ℕ) → (raised p found q n ≡ n) ⊎ ((l : ℕ) × (found ≡ Some l) × (q ≡ p) × (raised p found q n ≡ l))
-raised_cases p None q n = inl refl
-raised_cases p (Some l) q n = by (nat_eq q p) (nat_lt n l) (eqb-true q p)
-  where
-    by : (a b : Bool) → (a ≡ true → q ≡ p) → (cond a (cond b l n) n ≡ n) ⊎ ((m : ℕ) × (Some l ≡ Some m) × (q ≡ p) × (cond a (cond b l n) n ≡ m))
-    by true true is = inr (l, refl, is refl, refl)
-    by true false is = inl refl
-    by false b is = inl refl
+raised_cases p found q n = grind (arith, common_steps, gets)
 
 pub raised_ge : (p : ℕ) (found : Option ℕ) (q n : ℕ) → n ≤ raised p found q n
-raised_ge p None q n = omega arith
-raised_ge p (Some l) q n = by (nat_eq q p) (nat_lt n l) (ltb-true n l)
-  where
-    by : (a b : Bool) → (b ≡ true → n < l) → n ≤ cond a (cond b l n) n
-    by true true less = let h = less refl in omega arith
-    by true false less = omega arith
-    by false b less = omega arith
+raised_ge p found q n = grind (arith, common_steps, gets)
 
 pub raised_far : (p l n : ℕ) → l ≤ raised p (Some l) p n
-raised_far p l n = rw (eq-eqb p p refl) (by (nat_lt n l) (ltb-false n l))
-  where
-    by : (b : Bool) → (b ≡ false → l ≤ n) → l ≤ cond b l n
-    by true le = omega arith
-    by false le = le refl
+raised_far p l n = grind (arith, common_steps, gets)
 
 pub more_room : (xs : List ℕ) (i : ℕ) → i < length xs → slice_index xs i < 65536 → room (set xs i (slice_index xs i + 1)) < room xs
 more_room [] i less few = absurd (omega (arith, less))
@@ -86,7 +70,7 @@ module _ {next : ℕ} {steps : List (List Entry)} {sent : List (List Sent)} (sou
   led_back : (one : Event) (end q j l a b : ℕ) (kind other : Kind) → IsEntry steps q j a kind → IsEntry steps q l b other
       → j ≤ l → IsLedFrom steps sent one end b (event.Step q l other) → IsLedFrom steps sent one end a (event.Step q j kind)
   led_back one end q j l a b kind other here there le led =
-      elim (same_or_other j l) [
+      elim (cases_eq j l) [
         | inl e ↦ (let same = same_at (row_of steps q) l (entry_of a kind) (entry_of b other) (rw e at here) there in
             subst (λ i. IsLedFrom steps sent one end a (event.Step q i kind)) (sym e)
             (subst (λ (x : Entry). IsLedFrom steps sent one end x.mark (event.Step q l x.kind)) (sym same) led))
@@ -106,12 +90,7 @@ module _ {next : ℕ} {steps : List (List Entry)} {sent : List (List Sent)} (sou
     raise_higher r = rw (are r) (raised_ge q found r (end_of old r))
 
     pub raise_few : AreFew old → ((l : ℕ) → found ≡ Some l → l ≤ 65535) → AreFew new
-    raise_few few short r =
-        rw (are r)
-        (elim (raised_cases q found r (end_of old r)) [
-          | inl e ↦ rw e (few r)
-          | inr h ↦ rw h.3 (short h.0 h.1)
-        ])
+    raise_few h1 h2 = grind (arith, common_steps, gets)
 
     pub raise_sound : (one : Event) (end : ℕ) → IsFoundLed one end q found → IsSoundPast steps sent one end old → IsSoundPast steps sent one end new
     raise_sound one end led was r l a kind at le =
@@ -137,7 +116,7 @@ module _ {next : ℕ} {steps : List (List Entry)} {sent : List (List Sent)} (sou
     pub causes_within : (old new : List ℕ) → AreRaised q found old new → (i : ℕ) → i + 1 ≡ q
         → HasCausesWithin steps sent effect ahead i old → HasCausesWithin steps sent effect ahead (i + 1) new
     causes_within old new are i e was r l a kind c le =
-        elim (same_or_other r q) [
+        elim (cases_eq r q) [
           | inl r_is ↦ rw (are r, r_is) (of_last l a kind (rw r_is at c))
           | inr other ↦ (let before = was r l a kind c (omega arith) in let more = raise_higher q found old new are r in omega arith)
         ]
@@ -156,7 +135,7 @@ module _ {next : ℕ} {steps : List (List Entry)} {sent : List (List Sent)} (sou
                 ]
 
   pub none_within : (effect : Event) (ahead : ℕ) (ends : List ℕ) → HasCausesWithin steps sent effect ahead 0 ends
-  none_within effect ahead ends q l a kind c le = let low = (process_within next steps sent sound q l a kind c.stands).0 in absurd (omega arith)
+  none_within effect ahead ends q l a kind c le = let low = (process_within sound q l a kind c.stands).0 in absurd (omega arith)
 
   pub within_more : (effect : Event) (ahead top : ℕ) (old new : List ℕ) → IsLower new old
       → HasCausesWithin steps sent effect ahead top old → HasCausesWithin steps sent effect ahead top new
@@ -195,7 +174,7 @@ module _ {next : ℕ} {steps : List (List Entry)} {sent : List (List Sent)} (sou
     longer = set looked i next_one
 
     here_now : (q : ℕ) → q ≡ suc i → end_of longer q ≡ next_one
-    here_now q e = rw e (cut_set looked i next_one (let long = was.long in omega arith))
+    here_now q e = rw e (cut_set looked i next_one (omega arith))
 
     here_before : (q : ℕ) → q ≡ suc i → end_of looked q ≡ slice_index looked i
     here_before q e = rw e (cut_at looked i)
@@ -224,9 +203,9 @@ module _ {next : ℕ} {steps : List (List Entry)} {sent : List (List Sent)} (sou
                   few = few;
                 };
             closed = λ q l le.
-                elim (same_or_other q (suc i)) [
+                elim (cases_eq q (suc i)) [
                   | inl e ↦ (let now = here_now q e in let then = here_before q e in
-                      elim (same_or_other l next_one) [
+                      elim (cases_eq l next_one) [
                         | inl f ↦ (let q_is : i + 1 ≡ q = omega arith in
                             subst (λ x. IsLookedBehind steps sent x l new) q_is (subst (λ x. IsLookedBehind steps sent (i + 1) x new) (sym f) looked_at))
                         | inr other ↦ before q l (omega arith)
@@ -234,7 +213,7 @@ module _ {next : ℕ} {steps : List (List Entry)} {sent : List (List Sent)} (sou
                   | inr other ↦ before q l (rw (cut_set_other looked i next_one q other) at le)
                 ];
             above = λ q.
-                elim (same_or_other q (suc i)) [
+                elim (cases_eq q (suc i)) [
                   | inl e ↦ (let now = here_now q e in
                       let then = here_before q e in
                       let q_is : q ≡ i + 1 = omega arith in
@@ -263,32 +242,32 @@ module _ {next : ℕ} {steps : List (List Entry)} {sent : List (List Sent)} (sou
     led_stands a it itself = stands
     led_stands a it (back r c) = c.stands
 
-    module _ (at : ℕ) (place : IsPlace next steps sent sound at end one) where
+    module _ (at : ℕ) (place : IsPlace sound at end one) where
       abbrev History : List Event
       History = history_of steps sent
 
-      same_place : (i j b : ℕ) (it : Event) → IsPlace next steps sent sound i b it → IsPlace next steps sent sound j b it → i ≡ j
+      same_place : (i j b : ℕ) (it : Event) → IsPlace sound i b it → IsPlace sound j b it → i ≡ j
       same_place i j b it at_i at_j =
-          let low = not_before next steps sent sound i j b b it it at_i at_j (omega arith) in
-          let high = not_before next steps sent sound j i b b it it at_j at_i (omega arith) in omega arith
+          let low = not_before sound i j b b it it at_i at_j (omega arith) in
+          let high = not_before sound j i b b it it at_j at_i (omega arith) in omega arith
 
-      led_past : (a : ℕ) (it : Event) → IsLedFrom steps sent one end a it → (j : ℕ) → IsPlace next steps sent sound j a it → HasLedTo depends History at j
+      led_past : (a : ℕ) (it : Event) → IsLedFrom steps sent one end a it → (j : ℕ) → IsPlace sound j a it → HasLedTo depends History at j
       led_past a it itself j there = inl (same_place j at end one there place)
       led_past a it (back {b = b} {effect = effect} r c) j there =
-          let here = place_of next steps sent sound b effect (led_stands b effect r) in
-          let link = link_up next steps sent sound j here.0 a b it effect there here.1 c.earlier c.linked in
+          let here = place_of sound b effect (led_stands b effect r) in
+          let link = link_up sound j here.0 a b it effect there here.1 c.earlier c.linked in
           ⊎_elim
           (λ e. inr (one_link (subst (λ i. IsLink depends History j i) e link)))
           (λ p. inr (link_before link p))
           (led_past b effect r here.0 here.1)
 
-      past_led : (i : ℕ) → IsInPast depends History at i → (a : ℕ) (it : Event) → IsPlace next steps sent sound i a it → IsLedFrom steps sent one end a it
+      past_led : (i : ℕ) → IsInPast depends History at i → (a : ℕ) (it : Event) → IsPlace sound i a it → IsLedFrom steps sent one end a it
       past_led i (one_link l) a it there = back itself (cause_at sound at place i a it there l)
       past_led h (link_before {i = i} l p) a it there =
-          let here = mark_at next steps sent sound i l.effect l.at_effect in
+          let here = mark_at sound i l.effect l.at_effect in
           back (past_led i p here.0 l.effect here.1) (cause_at sound i here.1 h a it there l)
 
-      led : (j : ℕ) → HasLedTo depends History at j → (a : ℕ) (it : Event) → IsPlace next steps sent sound j a it → IsLedFrom steps sent one end a it
+      led : (j : ℕ) → HasLedTo depends History at j → (a : ℕ) (it : Event) → IsPlace sound j a it → IsLedFrom steps sent one end a it
       led j (inr p) a it there = past_led j p a it there
       led j (inl e) a it there =
           let same = same_at (standing steps sent) at (marked end one) (marked a it) place (rw e at there) in
@@ -302,8 +281,7 @@ module _ {next : ℕ} {steps : List (List Entry)} {sent : List (List Sent)} (sou
             by : (effect : Event) → IsCause steps sent further d b effect
                 → HasCausesWithin steps sent further d 9 ends → HasCausesWithin steps sent effect b 9 ends
             by (event.Lost copy) c within = absurd (no_loss sound (led_stands d further r) c)
-            by (event.Step q l kind) c within =
-                are.closed q l (within q l b kind c (process_within next steps sent sound q l b kind c.stands).1) b kind c.stands
+            by (event.Step q l kind) c within = are.closed q l (within q l b kind c (process_within sound q l b kind c.stands).1) b kind c.stands
 
         itself_up : (x : Event) → IsItselfWithin x ends → IsUpTo ends (event_name x) x
         itself_up (event.Step p k kind) h = h
@@ -315,17 +293,17 @@ module _ {next : ℕ} {steps : List (List Entry)} {sent : List (List Sent)} (sou
           where
             by : (it : Event) → IsCause steps sent effect b a it → IsUpTo ends (event_name one) it
             by (event.Lost copy) c = absurd (no_loss sound (led_stands b effect r) c)
-            by (event.Step q l kind) c = within_of b effect r q l a kind c (process_within next steps sent sound q l a kind c.stands).1
+            by (event.Step q l kind) c = within_of b effect r q l a kind c (process_within sound q l a kind c.stands).1
 
         up_led : (a : ℕ) (it : Event) → Stands steps sent a it → IsUpTo ends (event_name one) it → IsLedFrom steps sent one end a it
         up_led a (event.Step q l kind) there le = are.sound q l a kind there le
         up_led a (event.Lost copy) there e =
-            let same = one_name next steps sent sound end a one (event.Lost copy) stands there (sym e) in
+            let same = one_name sound end a one (event.Lost copy) stands there (sym e) in
             subst (λ m. IsLedFrom steps sent one end m (event.Lost copy)) same.0 (subst (λ x. IsLedFrom steps sent one end end x) same.1 itself)
 
         pub exactly_led : (other : ℕ) (it : Event) → nth History other ≡ Some it → (IsUpTo ends (event_name one) it) ↔ (HasLedTo depends History at other)
         exactly_led other it there =
-            let here = mark_at next steps sent sound other it there in (
-              (λ up. led_past here.0 it (up_led here.0 it (stands_at next steps sent sound other here.0 it here.1) up) other here.1),
+            let here = mark_at sound other it there in (
+              (λ up. led_past here.0 it (up_led here.0 it (stands_at sound other here.0 it here.1) up) other here.1),
               (λ h. led_up here.0 it (led other h here.0 it here.1)),
             )

@@ -1,8 +1,9 @@
 -- The lists of accesses, where a step comes or goes.
-use Rattle.std.proofs.Common.{◌≡◌, ◌≢◌, ℕ, zero, suc, ◌+◌, ◌<◌, ◌≤◌, Bool, true, false, cond, nat_eq, true≢false, eqb-true, eq-eqb, List, [], ◌∷◌, ◌++◌}
+use Rattle.std.proofs.lemmas.Grind.{common_steps}
+use Rattle.std.proofs.Common.{◌≡◌, ◌≢◌, ℕ, zero, suc, ◌+◌, ◌<◌, ◌≤◌, Bool, true, false, cond, true≢false, eqb-true, eq-eqb, List, [], ◌∷◌, ◌++◌}
 use Rattle.std.proofs.Common.{length, slice_get, slice_index_or, Option, Some, None, inl, inr, ⊎_elim, refl, sym, ap, ap₂, ◌∙◌, subst, append-nil, arith}
-use Rattle.std.proofs.lemmas.Bool.{cases_lt}
-use Rattle.std.proofs.lemmas.Option.{same_Some, none-some, slice_get_within}
+use Rattle.std.proofs.lemmas.Bool.{cases_lt, cases_eq}
+use Rattle.std.proofs.lemmas.Option.{same_Some, none-some, slice_get_within, gets}
 use Rattle.cdb_base.specs.declared.event.Kind.{Kind}
 use Rattle.cdb_standing.specs.Accesses.{is_that, access_of, listed, cell, AreListed, IsListedAt, IsUnlistedAt, IsRegisterOf, IsRisingBy, IsFirstBehind}
 use Rattle.cdb_standing.specs.InOrder.{Has}
@@ -10,7 +11,6 @@ use Rattle.cdb_standing.specs.Tables.{row_of, entry_of, IsPutOn}
 use Rattle.cdb_standing.specs.declared.tables.Access.{Access}
 use Rattle.cdb_standing.specs.declared.tables.Entry.{Entry}
 use Rattle.cdb_standing.proofs.Ordered.{at_has, has_at}
-use Rattle.cdb_standing.proofs.MailRows.{same_or_other}
 
 -- ---- one row
 
@@ -134,13 +134,9 @@ is_that_none : (o : Option ℕ) (n : ℕ) → o ≡ None → is_that o n ≡ fal
 is_that_none o n e = ap (λ x. is_that x n) e
 
 is_that_other : (o : Option ℕ) (m n : ℕ) → o ≡ Some m → m ≢ n → is_that o n ≡ false
-is_that_other o m n e other = ap (λ x. is_that x n) e ∙ by (nat_eq m n) (eqb-true m n)
-  where
-    by : (b : Bool) → (b ≡ true → m ≡ n) → b ≡ false
-    by true is = absurd (other (is refl))
-    by false is = refl
+is_that_other o m n h1 h2 = grind (arith, common_steps, gets)
 
-module _ (of : Kind → Option ℕ) (mark p k : ℕ) (kind : Kind) (low high : List (List Entry)) (put : IsPutOn p low (entry_of mark kind) high)
+module _ (of : Kind → Option ℕ) {mark p : ℕ} (k : ℕ) {kind : Kind} {low high : List (List Entry)} (put : IsPutOn p low (entry_of mark kind) high)
     (number : k ≡ length (row_of low p) + 1) (from_one : 1 ≤ p) (register : IsRegisterOf of kind) where
   pushed : (n : ℕ) → listed of n 1 (row_of high p) ≡ listed of n 1 (row_of low p) ++ added (is_that (of kind) n) (access_of mark k)
   pushed n =
@@ -153,8 +149,9 @@ module _ (of : Kind → Option ℕ) (mark p k : ℕ) (kind : Kind) (low high : L
   others : (q n : ℕ) → q ≢ p → listed of n 1 (row_of high q) ≡ listed of n 1 (row_of low q)
   others q n other = ap (listed of n 1) (put.others q other)
 
-  pub list_more : (old new : List (List Access)) → AreListed of old low → IsListedAt (of kind) p (access_of mark k) old new → AreListed of new high
-  list_more old new lists more = by (of kind) refl more
+  pub list_more : {old : List (List Access)} (new : List (List Access)) → AreListed of old low
+      → IsListedAt (of kind) p (access_of mark k) old new → AreListed of new high
+  list_more {old} new lists more = by (of kind) refl more
     where
       by : (o : Option ℕ) → of kind ≡ o → IsListedAt o p (access_of mark k) old new → AreListed of new high
       by None none same =
@@ -163,7 +160,7 @@ module _ (of : Kind → Option ℕ) (mark p k : ℕ) (kind : Kind) (low high : L
             each = λ q n one nine less.
                 ap (λ t. row_of t (cell q n)) same ∙ lists.each q n one nine less
                 ∙ ⊎_elim (λ e. sym (subst (λ r. listed of n 1 (row_of high r) ≡ listed of n 1 (row_of low r)) (sym e)
-                (unchanged n (is_that_none (of kind) n none)))) (λ e. sym (others q n e)) (same_or_other q p);
+                (unchanged n (is_that_none (of kind) n none)))) (λ e. sym (others q n e)) (cases_eq q p);
           }
       by (Some m) some in_cell =
           record {
@@ -174,10 +171,10 @@ module _ (of : Kind → Option ℕ) (mark p k : ℕ) (kind : Kind) (low high : L
                 (λ f. here q n e f one nine less)
                 (λ f. in_cell.others (cell q n) (λ g. f (sym (same_cell q p n m one from_one less (register m some) g).1)) ∙ lists.each q n one nine less
                 ∙ sym (subst (λ r. listed of n 1 (row_of high r) ≡ listed of n 1 (row_of low r)) (sym e) (unchanged n (is_that_other (of kind) m n some f))))
-                (same_or_other m n))
+                (cases_eq m n))
                 (λ e. in_cell.others (cell q n) (λ g. e (same_cell q p n m one from_one less (register m some) g).0)
                 ∙ lists.each q n one nine less ∙ sym (others q n e))
-                (same_or_other q p);
+                (cases_eq q p);
           }
         where
           here : (q n : ℕ) → q ≡ p → m ≡ n → 1 ≤ q → q ≤ 9 → n < 11 → row_of new (cell q n) ≡ listed of n 1 (row_of high q)
@@ -189,8 +186,8 @@ module _ (of : Kind → Option ℕ) (mark p k : ℕ) (kind : Kind) (low high : L
               ∙ sym (pushed n ∙ ap (λ b. listed of n 1 (row_of low p) ++ added b (access_of mark k)) yes)
               ∙ ap (λ r. listed of n 1 (row_of high r)) (sym e)
 
-  pub list_less : (old new : List (List Access)) → AreListed of old high → IsUnlistedAt (of kind) p old new → AreListed of new low
-  list_less old new lists less = by (of kind) refl less
+  pub list_less : {old : List (List Access)} (new : List (List Access)) → AreListed of old high → IsUnlistedAt (of kind) p old new → AreListed of new low
+  list_less {old} new lists less = by (of kind) refl less
     where
       by : (o : Option ℕ) → of kind ≡ o → IsUnlistedAt o p old new → AreListed of new low
       by None none same =
@@ -199,7 +196,7 @@ module _ (of : Kind → Option ℕ) (mark p k : ℕ) (kind : Kind) (low high : L
             each = λ q n one nine less.
                 ap (λ t. row_of t (cell q n)) same ∙ lists.each q n one nine less
                 ∙ ⊎_elim (λ e. subst (λ r. listed of n 1 (row_of high r) ≡ listed of n 1 (row_of low r))
-                (sym e) (unchanged n (is_that_none (of kind) n none))) (λ e. others q n e) (same_or_other q p);
+                (sym e) (unchanged n (is_that_none (of kind) n none))) (λ e. others q n e) (cases_eq q p);
           }
       by (Some m) some in_cell =
           record {
@@ -211,10 +208,10 @@ module _ (of : Kind → Option ℕ) (mark p k : ℕ) (kind : Kind) (low high : L
                 (λ f. sym ((in_cell.1).others (cell q n) (λ g. f (sym (same_cell q p n m one from_one less (register m some) g).1)))
                 ∙ lists.each q n one nine less
                 ∙ subst (λ r. listed of n 1 (row_of high r) ≡ listed of n 1 (row_of low r)) (sym e) (unchanged n (is_that_other (of kind) m n some f)))
-                (same_or_other m n))
+                (cases_eq m n))
                 (λ e. sym ((in_cell.1).others (cell q n) (λ g. e (same_cell q p n m one from_one less (register m some) g).0))
                 ∙ lists.each q n one nine less ∙ others q n e)
-                (same_or_other q p);
+                (cases_eq q p);
           }
         where
           here : (q n : ℕ) → q ≡ p → m ≡ n → 1 ≤ q → q ≤ 9 → n < 11 → row_of new (cell q n) ≡ listed of n 1 (row_of low q)
@@ -242,7 +239,7 @@ rising_or xs rising i j d le less =
     (λ other. let before : i < j = omega arith in
     let h = rising (suc i) (suc j) (slice_index_or xs i d) (slice_index_or xs j d) (got_or xs i d (omega arith)) (got_or xs j d less) (omega arith) in
     omega arith)
-    (same_or_other i j)
+    (cases_eq i j)
 
 module _ (xs : List Access) (mark n : ℕ) (rising : IsRisingBy xs) (low : (k : ℕ) (d : Access) → k < n → k < length xs → (slice_index_or xs k d).mark ≤ mark)
     (high : (k : ℕ) (d : Access) → n ≤ k → k < length xs → mark < (slice_index_or xs k d).mark) where

@@ -1,7 +1,8 @@
 -- The copies that are lost, in the rows and in the history.
-use Rattle.std.proofs.Common.{◌≡◌, ◌↔◌, ◌<◌, ◌≤◌, ℕ, zero, suc, Bool, true, false, List, length, IsTrue, inl, inr, refl, sym, arith}
+use Rattle.std.proofs.lemmas.Grind.{common_steps}
+use Rattle.std.proofs.Common.{◌≡◌, ◌↔◌, ◌<◌, ◌≤◌, ℕ, zero, suc, Bool, List, length, IsTrue, inl, inr, arith}
 use Rattle.std.proofs.lemmas.Bool.{cases_lt}
-use Rattle.std.proofs.lemmas.Option.{none-some, slice_get_within}
+use Rattle.std.proofs.lemmas.Option.{none-some, slice_get_within, gets}
 use Rattle.cdb_base.specs.declared.event.Event.TheVariants as event
 use Rattle.cdb_base.specs.declared.name.CopyName.{CopyName}
 use Rattle.cdb_standing.specs.Comparisons.{LoseSame}
@@ -16,9 +17,7 @@ use Rattle.cdb_standing.proofs.Places.{stands_in, in_stands}
 -- two tests that say the same answer the same
 
 pub told_same : {P Q : Type 0} (a b : Bool) → (IsTrue a ↔ P) → (IsTrue b ↔ Q) → P ↔ Q → a ≡ b
-told_same true b p q same = sym (q.1 (same.0 (p.0 refl)))
-told_same false true p q same = p.1 (same.1 (q.0 refl))
-told_same false false p q same = refl
+told_same a b h1 h2 h3 = grind (arith, common_steps, gets)
 
 -- messages behind both rows were not sent
 
@@ -42,36 +41,36 @@ all_senders sent other end few other_few each (suc i) m to nine =
       | inl less ↦ each i less m to nine
       | inr past ↦ (
         (λ h. let within = nth_within sent (suc i) _ (is_row sent (suc i) m h.it h.was_sent) in absurd (let high = within.1 in omega arith)),
-        (λ h. let within = nth_within other (suc i) _ (is_row other (suc i) m h.it h.was_sent) in absurd (let high = within.1 in omega arith)),
+        (λ h. let within = nth_within other (suc i) _ (is_row other (suc i) m h.it h.was_sent) in absurd (omega arith)),
       )
     ]
 
-module _ (next : ℕ) (steps : List (List Entry)) (sent : List (List Sent)) (sound : IsSound next steps sent) where
-  pub lost_stands : (s m to : ℕ) → HasLost (row_of sent s) m to → StandsIn (history_of steps sent) (event.Lost (copy_named s m to))
-  lost_stands s m to h =
-      stands_in next steps sent sound h.mark (event.Lost (copy_named s m to)) (record { it = h.it; was_sent = h.was_sent; became = h.became })
+module _ {next : ℕ} {steps : List (List Entry)} {sent : List (List Sent)} (sound : IsSound next steps sent) where
+  pub lost_stands : (s : ℕ) {m to : ℕ} → HasLost (row_of sent s) m to → StandsIn (history_of steps sent) (event.Lost (copy_named s m to))
+  lost_stands s {m} {to} h =
+      stands_in sound h.mark (event.Lost (copy_named s m to)) (record { it = h.it; was_sent = h.was_sent; became = h.became })
 
   pub stands_lost : (copy : CopyName) → StandsIn (history_of steps sent) (event.Lost copy) → HasLost (row_of sent copy.msg.s) copy.msg.m copy.to
-  stands_lost copy h = let found = in_stands next steps sent sound (event.Lost copy) h in
+  stands_lost copy h = let found = in_stands sound (event.Lost copy) h in
       record { it = (found.1).it; mark = found.0; was_sent = (found.1).was_sent; became = (found.1).became }
 
   pub lost_to_nine : (copy : CopyName) → StandsIn (history_of steps sent) (event.Lost copy) → copy.to ≤ 9
-  lost_to_nine copy h = let found = in_stands next steps sent sound (event.Lost copy) h in sound.lost_to copy.msg.s copy.msg.m copy.to found.0 found.1
+  lost_to_nine copy h = let found = in_stands sound (event.Lost copy) h in sound.lost_to copy.msg.s copy.msg.m copy.to found.0 found.1
 
-pub lose_same_is : (next : ℕ) (steps : List (List Entry)) (sent : List (List Sent)) (sound : IsSound next steps sent)
-    (next' : ℕ) (steps' : List (List Entry)) (sent' : List (List Sent)) (sound' : IsSound next' steps' sent')
+pub lose_same_is : {next : ℕ} {steps : List (List Entry)} {sent : List (List Sent)} (sound : IsSound next steps sent)
+    {next' : ℕ} {steps' : List (List Entry)} {sent' : List (List Sent)} (sound' : IsSound next' steps' sent')
     → ((s : ℕ) → LoseSameIn (row_of sent s) (row_of sent' s)) ↔ LoseSame (history_of steps sent) (history_of steps' sent')
-lose_same_is next steps sent sound next' steps' sent' sound' = (
+lose_same_is sound sound' = (
   λ rows copy. (
     λ h.
-        lost_stands next' steps' sent' sound' copy.msg.s copy.msg.m copy.to
-        ((rows copy.msg.s copy.msg.m copy.to (lost_to_nine next steps sent sound copy h)).0 (stands_lost next steps sent sound copy h)),
+        lost_stands sound' copy.msg.s
+        ((rows copy.msg.s copy.msg.m copy.to (lost_to_nine sound copy h)).0 (stands_lost sound copy h)),
     λ h.
-        lost_stands next steps sent sound copy.msg.s copy.msg.m copy.to
-        ((rows copy.msg.s copy.msg.m copy.to (lost_to_nine next' steps' sent' sound' copy h)).1 (stands_lost next' steps' sent' sound' copy h)),
+        lost_stands sound copy.msg.s
+        ((rows copy.msg.s copy.msg.m copy.to (lost_to_nine sound' copy h)).1 (stands_lost sound' copy h)),
   ),
   λ same s m to nine. (
-    λ h. stands_lost next' steps' sent' sound' (copy_named s m to) ((same (copy_named s m to)).0 (lost_stands next steps sent sound s m to h)),
-    λ h. stands_lost next steps sent sound (copy_named s m to) ((same (copy_named s m to)).1 (lost_stands next' steps' sent' sound' s m to h)),
+    λ h. stands_lost sound' (copy_named s m to) ((same (copy_named s m to)).0 (lost_stands sound s h)),
+    λ h. stands_lost sound (copy_named s m to) ((same (copy_named s m to)).1 (lost_stands sound' s h)),
   ),
 )

@@ -1,64 +1,35 @@
 -- What a step makes of the messages and their copies.
-use Rattle.std.proofs.Common.{◌≡◌, ◌≢◌, ℕ, ◌+◌, Bool, true, false, nat_eq, true≢false, eqb-true, eq-eqb}
-use Rattle.std.proofs.Common.{List, length, Some, ◌⊎◌, inl, inr, ⊎_elim, refl, sym, ap, ap₂, ◌∙◌, subst}
+use Rattle.std.proofs.lemmas.Option.{gets}
+use Rattle.std.proofs.lemmas.Grind.{common_steps}
+use Rattle.std.proofs.Common.{◌≡◌, ◌≢◌, ℕ, ◌+◌, true≢false, arith}
+use Rattle.std.proofs.Common.{List, length, Some, ◌⊎◌, inl, inr, ⊎_elim, sym, ap, ap₂, ◌∙◌, subst}
 use Rattle.cdb_base.specs.Positions.{nth}
 use Rattle.cdb_base.specs.declared.event.Kind.{Kind}
-use Rattle.cdb_base.specs.declared.event.Kind.TheVariants.{Query, Send, Recv, Read, Write, Local, Learn, Crash}
+use Rattle.cdb_base.specs.declared.event.Kind.TheVariants.{Send, Recv}
 use Rattle.cdb_standing.specs.Tables.{row_of, IsCopy, IsMessage, IsPutOn, IsCopySet, IsMailedBy, MayMail}
 use Rattle.cdb_standing.specs.declared.tables.Copied.{Copied}
 use Rattle.cdb_standing.specs.declared.tables.Copied.TheVariants.{Waits, Received}
 use Rattle.cdb_standing.specs.declared.tables.Sent.{Sent}
 use Rattle.cdb_standing.proofs.Rows.{same_at, put_cases, put_keeps, put_joins}
 
--- numbers are equal or not
-pub same_or_other : (a b : ℕ) → (a ≡ b) ⊎ (a ≢ b)
-same_or_other a b = by (nat_eq a b) (eqb-true a b) (eq-eqb a b)
-  where
-    by : (t : Bool) → (t ≡ true → a ≡ b) → (a ≡ b → t ≡ true) → (a ≡ b) ⊎ (a ≢ b)
-    by true is back = inl (is refl)
-    by false is back = inr (λ e. true≢false (sym (back e)))
-
 -- one copy became one thing
-pub same_copy : (sent : List (List Sent)) (r n q s m to : ℕ) (c d : Copied) → IsCopy sent r n q c → IsCopy sent s m to d → (r ≡ s) × (n ≡ m) × (q ≡ to) → c ≡ d
-same_copy sent r n q s m to c d one other e =
-    let here : nth (row_of sent r) n ≡ Some other.it =
-    subst (λ a. nth (row_of sent a) n ≡ Some other.it) (sym e.0) (subst (λ b. nth (row_of sent s) b ≡ Some other.it) (sym e.1) other.was_sent) in
-    let it_is : one.it ≡ other.it = same_at (row_of sent r) n one.it other.it one.was_sent here in
-    same_at (other.it).copies to c d
-    (subst (λ a. nth (other.it).copies a ≡ Some c) e.2 (subst (λ (a : Sent). nth a.copies q ≡ Some c) it_is one.became)) other.became
+pub same_copy : {sent : List (List Sent)} {r n q s m to : ℕ} {c d : Copied} → IsCopy sent r n q c → IsCopy sent s m to d → (r ≡ s) × (n ≡ m) × (q ≡ to) → c ≡ d
+same_copy h1 h2 h3 = grind (arith, common_steps, gets)
 
 -- ---- one copy set
 
-module _ (old : List (List Sent)) (s m to : ℕ) (copied : Copied) (new : List (List Sent)) (put : IsCopySet old s m to copied new) where
+module _ {old : List (List Sent)} {s m to : ℕ} {copied : Copied} {new : List (List Sent)} (put : IsCopySet old s m to copied new) where
   pub set_new : IsCopy new s m to copied
   set_new = record { it = put.it; was_sent = put.is_sent; became = put.set }
 
   set_at : (r n : ℕ) → ((r ≡ s) × (n ≡ m)) ⊎ (nth (row_of new r) n ≡ nth (row_of old r) n)
-  set_at r n =
-      ⊎_elim
-      (λ e. ⊎_elim (λ f. inl (e, f)) (λ f. inr (subst (λ q. nth (row_of new q) n ≡ nth (row_of old q) n) (sym e) (put.other_messages n f))) (same_or_other n m))
-      (λ e. inr (ap (λ row. nth row n) (put.other_rows r e)))
-      (same_or_other r s)
+  set_at r n = grind arith
 
-  pub set_cases : (r n q : ℕ) (c : Copied) → IsCopy new r n q c → IsCopy old r n q c ⊎ ((r ≡ s) × (n ≡ m) × (q ≡ to) × (c ≡ copied))
-  set_cases r n q c copy =
-      ⊎_elim
-      (λ e. let it_is : copy.it ≡ put.it = same_at (row_of new r) n copy.it put.it copy.was_sent
-      (subst (λ a. nth (row_of new a) n ≡ Some put.it) (sym e.0) (subst (λ b. nth (row_of new s) b ≡ Some put.it) (sym e.1) put.is_sent)) in
-      let here : nth (put.it).copies q ≡ Some c = subst (λ (a : Sent). nth a.copies q ≡ Some c) it_is copy.became in
-      ⊎_elim
-      (λ f. inr (e.0, e.1, f, same_at (put.it).copies to c copied (subst (λ a. nth (put.it).copies a ≡ Some c) f here) put.set))
-      (λ f. inl (record {
-        it = put.was;
-        was_sent = subst (λ a. nth (row_of old a) n ≡ Some put.was) (sym e.0) (subst (λ b. nth (row_of old s) b ≡ Some put.was) (sym e.1) put.was_sent);
-        became = sym (put.other_copies q f) ∙ here;
-      }))
-      (same_or_other q to))
-      (λ e. inl (record { it = copy.it; was_sent = sym e ∙ copy.was_sent; became = copy.became }))
-      (set_at r n)
+  pub set_cases : {r n q : ℕ} {c : Copied} → IsCopy new r n q c → IsCopy old r n q c ⊎ ((r ≡ s) × (n ≡ m) × (q ≡ to) × (c ≡ copied))
+  set_cases h1 = grind (arith, common_steps, gets)
 
-  pub set_keeps : (r n q : ℕ) (c : Copied) → IsCopy old r n q c → ((r ≡ s) × (n ≡ m) × (q ≡ to) → ⊥) → IsCopy new r n q c
-  set_keeps r n q c copy other =
+  pub set_keeps : {r n q : ℕ} {c : Copied} → IsCopy old r n q c → ((r ≡ s) × (n ≡ m) × (q ≡ to) → ⊥) → IsCopy new r n q c
+  set_keeps {r} {n} {q} {c} copy other =
       ⊎_elim
       (λ e. let was_is : copy.it ≡ put.was = same_at (row_of old r) n copy.it put.was copy.was_sent
       (subst (λ a. nth (row_of old a) n ≡ Some put.was) (sym e.0) (subst (λ b. nth (row_of old s) b ≡ Some put.was) (sym e.1) put.was_sent)) in
@@ -70,55 +41,27 @@ module _ (old : List (List Sent)) (s m to : ℕ) (copied : Copied) (new : List (
       (λ e. record { it = copy.it; was_sent = e ∙ copy.was_sent; became = copy.became })
       (set_at r n)
 
-  pub set_message : (r n k : ℕ) → IsMessage old r n k → IsMessage new r n k
-  set_message r n k message =
-      ⊎_elim
-      (λ e. let was_is : message.it ≡ put.was = same_at (row_of old r) n message.it put.was message.was_sent
-      (subst (λ a. nth (row_of old a) n ≡ Some put.was) (sym e.0) (subst (λ b. nth (row_of old s) b ≡ Some put.was) (sym e.1) put.was_sent)) in
-      record {
-        it = put.it;
-        was_sent = subst (λ a. nth (row_of new a) n ≡ Some put.it) (sym e.0) (subst (λ b. nth (row_of new s) b ≡ Some put.it) (sym e.1) put.is_sent);
-        by = put.same_step ∙ ap (λ (a : Sent). a.k) (sym was_is) ∙ message.by;
-      })
-      (λ e. record { it = message.it; was_sent = e ∙ message.was_sent; by = message.by })
-      (set_at r n)
+  pub set_message : {r n k : ℕ} → IsMessage old r n k → IsMessage new r n k
+  set_message h1 = grind (arith, common_steps, gets)
 
-  pub set_message_only : (r n k : ℕ) → IsMessage new r n k → IsMessage old r n k
-  set_message_only r n k message =
-      ⊎_elim
-      (λ e. let it_is : message.it ≡ put.it = same_at (row_of new r) n message.it put.it message.was_sent
-      (subst (λ a. nth (row_of new a) n ≡ Some put.it) (sym e.0) (subst (λ b. nth (row_of new s) b ≡ Some put.it) (sym e.1) put.is_sent)) in
-      record {
-        it = put.was;
-        was_sent = subst (λ a. nth (row_of old a) n ≡ Some put.was) (sym e.0) (subst (λ b. nth (row_of old s) b ≡ Some put.was) (sym e.1) put.was_sent);
-        by = sym put.same_step ∙ ap (λ (a : Sent). a.k) (sym it_is) ∙ message.by;
-      })
-      (λ e. record { it = message.it; was_sent = sym e ∙ message.was_sent; by = message.by })
-      (set_at r n)
+  pub set_message_only : {r n k : ℕ} → IsMessage new r n k → IsMessage old r n k
+  set_message_only h1 = grind (arith, common_steps, gets)
 
 -- ---- one message more
 
-module _ (p : ℕ) (low : List (List Sent)) (it : Sent) (high : List (List Sent)) (put : IsPutOn p low it high) where
-  pub send_message : (s m k : ℕ) → IsMessage low s m k → IsMessage high s m k
-  send_message s m k message = record { it = message.it; was_sent = put_keeps p low it high put s m message.it message.was_sent; by = message.by }
+module _ {p : ℕ} {low : List (List Sent)} {it : Sent} {high : List (List Sent)} (put : IsPutOn p low it high) where
+  pub send_message : {s m k : ℕ} → IsMessage low s m k → IsMessage high s m k
+  send_message {s} {m} message = record { it = message.it; was_sent = put_keeps put s m message.it message.was_sent; by = message.by }
 
-  pub send_message_cases : (s m k : ℕ) → IsMessage high s m k → IsMessage low s m k ⊎ ((s ≡ p) × (m ≡ length (row_of low p) + 1) × (it.k ≡ k))
-  send_message_cases s m k message =
-      ⊎_elim
-      (λ q. inl (record { it = message.it; was_sent = q; by = message.by }))
-      (λ q. inr (q.0, q.1, ap (λ (a : Sent). a.k) q.2 ∙ message.by))
-      (put_cases p low it high put s m message.it message.was_sent)
+  pub send_message_cases : {s m k : ℕ} → IsMessage high s m k → IsMessage low s m k ⊎ ((s ≡ p) × (m ≡ length (row_of low p) + 1) × (it.k ≡ k))
+  send_message_cases h1 = grind (arith, put_cases put)
 
-  pub send_copy : (s m to : ℕ) (c : Copied) → IsCopy low s m to c → IsCopy high s m to c
-  send_copy s m to c copy = record { it = copy.it; was_sent = put_keeps p low it high put s m copy.it copy.was_sent; became = copy.became }
+  pub send_copy : {s m to : ℕ} {c : Copied} → IsCopy low s m to c → IsCopy high s m to c
+  send_copy {s} {m} copy = record { it = copy.it; was_sent = put_keeps put s m copy.it copy.was_sent; became = copy.became }
 
-  pub send_copy_cases : (s m to : ℕ) (c : Copied) → IsCopy high s m to c
+  pub send_copy_cases : {s m to : ℕ} {c : Copied} → IsCopy high s m to c
       → IsCopy low s m to c ⊎ ((s ≡ p) × (m ≡ length (row_of low p) + 1) × (nth it.copies to ≡ Some c))
-  send_copy_cases s m to c copy =
-      ⊎_elim
-      (λ q. inl (record { it = copy.it; was_sent = q; became = copy.became }))
-      (λ q. inr (q.0, q.1, subst (λ (a : Sent). nth a.copies to ≡ Some c) (sym q.2) copy.became))
-      (put_cases p low it high put s m copy.it copy.was_sent)
+  send_copy_cases h1 = grind (arith, put_cases put)
 
 -- ---- what any step makes of them
 
@@ -145,33 +88,25 @@ grown_same p k kind old new same no_receive no_send =
 pub grown : (p k : ℕ) (kind : Kind) (old new : List (List Sent)) → MayMail p kind old → IsMailedBy p k kind old new → IsMailGrown p k kind old new
 grown p k (Send m) old new may mailed =
     record {
-      copies = λ s n to c copy c_is. ⊎_elim (λ q. inl q) (λ q. absurd (c_is (mailed.3 to c q.2))) (send_copy_cases p old mailed.0 new mailed.1 s n to c copy);
-      keeps = λ s n to c copy c_is. send_copy p old mailed.0 new mailed.1 s n to c copy;
+      copies = λ s n to c copy c_is. ⊎_elim (λ q. inl q) (λ q. absurd (c_is (mailed.3 to c q.2))) (send_copy_cases mailed.1 copy);
+      keeps = λ s n to c copy c_is. send_copy mailed.1 copy;
       received = λ s n e. absurd (cc);
       messages = λ s n l message.
-          ⊎_elim (λ q. inl q) (λ q. inr (q.0, q.1, sym q.2 ∙ mailed.2, ap Send (may ∙ sym q.1))) (send_message_cases p old mailed.0 new mailed.1 s n l message);
-      keeps_messages = λ s n l message. send_message p old mailed.0 new mailed.1 s n l message;
+          ⊎_elim (λ q. inl q) (λ q. inr (q.0, q.1, sym q.2 ∙ mailed.2, ap Send (may ∙ sym q.1))) (send_message_cases mailed.1 message);
+      keeps_messages = λ s n l message. send_message mailed.1 message;
       sent = λ n e. let same : m ≡ n = cc in
-          record { it = mailed.0; was_sent = put_joins p old mailed.0 new mailed.1 n (sym same ∙ may); by = mailed.2 };
+          record { it = mailed.0; was_sent = put_joins mailed.1 n (sym same ∙ may); by = mailed.2 };
     }
 grown p k (Recv s m) old new may put =
     record {
-      copies = λ r n to c copy c_is.
-          ⊎_elim (λ q. inl q) (λ q. inr (ap₂ Recv (sym q.0) (sym q.1), q.2, q.3)) (set_cases old s m p (Received k) new put r n to c copy);
-      keeps = λ r n to c copy c_is.
-          set_keeps old s m p (Received k) new put r n to c copy
-          (λ e. c_is (same_copy old r n to s m p c Waits copy may e));
+      copies = λ r n to c copy c_is. ⊎_elim (λ q. inl q) (λ q. inr (ap₂ Recv (sym q.0) (sym q.1), q.2, q.3)) (set_cases put copy);
+      keeps = λ r n to c copy c_is. set_keeps put copy (λ e. c_is (same_copy copy may e));
       received =
           λ r n e. let a : s ≡ r = cc in
           let b : m ≡ n = cc in
-          subst (λ x. IsCopy new x n p (Received k)) a (subst (λ y. IsCopy new s y p (Received k)) b (set_new old s m p (Received k) new put));
-      messages = λ r n l message. inl (set_message_only old s m p (Received k) new put r n l message);
-      keeps_messages = λ r n l message. set_message old s m p (Received k) new put r n l message;
+          subst (λ x. IsCopy new x n p (Received k)) a (subst (λ y. IsCopy new s y p (Received k)) b (set_new put));
+      messages = λ r n l message. inl (set_message_only put message);
+      keeps_messages = λ r n l message. set_message put message;
       sent = λ n e. absurd (cc);
     }
-grown p k (Query leader) old new may mailed = grown_same p k (Query leader) old new mailed (λ s m e. absurd (cc)) (λ m e. absurd (cc))
-grown p k (Read register) old new may mailed = grown_same p k (Read register) old new mailed (λ s m e. absurd (cc)) (λ m e. absurd (cc))
-grown p k (Write register) old new may mailed = grown_same p k (Write register) old new mailed (λ s m e. absurd (cc)) (λ m e. absurd (cc))
-grown p k Local old new may mailed = grown_same p k Local old new mailed (λ s m e. absurd (cc)) (λ m e. absurd (cc))
-grown p k Learn old new may mailed = grown_same p k Learn old new mailed (λ s m e. absurd (cc)) (λ m e. absurd (cc))
-grown p k Crash old new may mailed = grown_same p k Crash old new mailed (λ s m e. absurd (cc)) (λ m e. absurd (cc))
+grown p k other old new may mailed = grown_same p k other old new mailed (λ s m e. absurd (cc)) (λ m e. absurd (cc))

@@ -10,7 +10,7 @@ use Rattle.cdb_base.specs.Positions.{nth}
 use Rattle.cdb_base.specs.declared.event.Event.{Event}
 use Rattle.cdb_base.specs.declared.event.Event.TheVariants as event
 use Rattle.cdb_base.specs.declared.event.Kind.{Kind}
-use Rattle.cdb_base.specs.declared.event.Kind.TheVariants.{Query, Send, Recv, Read, Write, Local, Learn, Crash}
+use Rattle.cdb_base.specs.declared.event.Kind.TheVariants.{Send}
 use Rattle.cdb_base.specs.declared.name.CopyName.{CopyName}
 use Rattle.cdb_standing.specs.Cuts.{cut_of}
 use Rattle.cdb_standing.specs.Gathered.{losses_of, of_step, steps_from, all_from, AreInOrder}
@@ -30,7 +30,7 @@ drop_get zero xs i = let e : i ≡ 0 + i = omega arith in ap (slice_get xs) e
 drop_get (suc n) [] i = refl
 drop_get (suc n) (x ∷ xs) i = let e : suc (n + i) ≡ suc n + i = omega arith in drop_get n xs i ∙ ap (slice_get (x ∷ xs)) e
 
-module _ (next : ℕ) (steps : List (List Entry)) (sent : List (List Sent)) (sound : IsSound next steps sent) where
+module _ {next : ℕ} {steps : List (List Entry)} {sent : List (List Sent)} (sound : IsSound next steps sent) where
   -- the event is that of the step, or the loss of a copy of what it sent
   pub data IsOf (p k : ℕ) : ℕ → Event → Type 0 where
     step : {mark : ℕ} {kind : Kind} → IsEntry steps p k mark kind → IsOf p k mark (event.Step p k kind)
@@ -72,13 +72,7 @@ module _ (next : ℕ) (steps : List (List Entry)) (sent : List (List Sent)) (sou
       by (Some it) e h =
           let found = each_one_only (loss_at p m) it.copies x h in
           loss_only p m k a found.0 found.1 x at (record { it = it; was_sent = e; became = found.2 }) found.3
-  losses_of_kind p k a (Query leader) x at h = absurd h
-  losses_of_kind p k a (Recv s m) x at h = absurd h
-  losses_of_kind p k a (Read register) x at h = absurd h
-  losses_of_kind p k a (Write register) x at h = absurd h
-  losses_of_kind p k a Local x at h = absurd h
-  losses_of_kind p k a Learn x at h = absurd h
-  losses_of_kind p k a Crash x at h = absurd h
+  losses_of_kind p k a _ x at h = absurd h
 
   pub loss_event : (p : ℕ) (kind : Kind) (x : Marked) → Has (losses_of sent p kind) x → (c : CopyName) × (x.event ≡ event.Lost c)
   loss_event p (Send m) x h = by (nth (row_of sent p) m) h
@@ -92,13 +86,7 @@ module _ (next : ℕ) (steps : List (List Entry)) (sent : List (List Sent)) (sou
       by : (o : Option Sent) → Has (option_map_or (λ (it : Sent). each_from (loss_at p m) 1 it.copies) o []) x → (c : CopyName) × (x.event ≡ event.Lost c)
       by None h = absurd h
       by (Some it) h = let found = each_one_only (loss_at p m) it.copies x h in of found.0 found.1 found.3
-  loss_event p (Query leader) x h = absurd h
-  loss_event p (Recv s m) x h = absurd h
-  loss_event p (Read register) x h = absurd h
-  loss_event p (Write register) x h = absurd h
-  loss_event p Local x h = absurd h
-  loss_event p Learn x h = absurd h
-  loss_event p Crash x h = absurd h
+  loss_event p _ x h = absurd h
 
   step_only : (p k : ℕ) (entry : Entry) (x : Marked) → nth (row_of steps p) k ≡ Some entry → Has (of_step sent p k entry) x → IsOf p k x.mark x.event
   step_only p k entry x at h =
@@ -143,13 +131,7 @@ module _ (next : ℕ) (steps : List (List Entry)) (sent : List (List Sent)) (sou
           let names : event.Lost (copy_named p m i) ≡ event.Lost (copy_named p m j) = sym (to_of i one x h_x) ∙ one_event ∙ to_of j other y h_y in
           let copies : copy_named p m i ≡ copy_named p m j = cc in
           let number : i ≡ j = ap (λ (c : CopyName). c.to) copies in absurd (omega arith))
-  once_losses p k a (Query leader) at = once_none
-  once_losses p k a (Recv s m) at = once_none
-  once_losses p k a (Read register) at = once_none
-  once_losses p k a (Write register) at = once_none
-  once_losses p k a Local at = once_none
-  once_losses p k a Learn at = once_none
-  once_losses p k a Crash at = once_none
+  once_losses p k a _ at = once_none
 
   step_or_loss : {p k mark : ℕ} {kind : Kind} (x y : Marked) → marked mark (event.Step p k kind) ≡ x
       → IsEntry steps p k mark kind → (c : CopyName) → y.event ≡ event.Lost c → Stands steps sent y.mark y.event → x.mark ≢ y.mark
@@ -213,9 +195,7 @@ module _ (next : ℕ) (steps : List (List Entry)) (sent : List (List Sent)) (sou
         let e = (same_step x y of_x of_y same).1 in absurd (omega arith))
       where
         there : (n i : ℕ) (entry : Entry) → slice_get (drop n row) i ≡ Some entry → nth (row_of steps p) (suc n + i) ≡ Some entry
-        there n i entry at =
-            let e : suc n + i ≡ suc (n + i) = omega arith in
-            rw (is, e) (sym (drop_get n row i) ∙ at)
+        there n i entry at = let e : suc n + i ≡ suc (n + i) = omega arith in rw (is, e) (sym (drop_get n row i) ∙ at)
 
     pub all_once : IsOnce (all_from cuts steps sent)
     all_once =

@@ -95,7 +95,7 @@ module _ (p : ℕ) where
           by entry up (inl e) = subst (λ (z : Marked). x.mark < z.mark) e up
           by entry up (inr h) = absurd h
 
-module _ (next : ℕ) (steps : List (List Entry)) (sent : List (List Sent)) (sound : IsSound next steps sent) (p : ℕ) where
+module _ {next : ℕ} {steps : List (List Entry)} {sent : List (List Sent)} (sound : IsSound next steps sent) (p : ℕ) where
   abbrev row : List Entry
   row = row_of steps p
 
@@ -121,7 +121,7 @@ module _ (next : ℕ) (steps : List (List Entry)) (sent : List (List Sent)) (sou
       its_events p (standing steps sent)
       ∙ ap events_of
       (same_list (filter (is_its p) (standing steps sent)) (each_from (step_at p) 1 row)
-      (its_rising p (standing steps sent) (standing_rising steps sent)) (rows_rise p 1 row (row_rising next steps sent sound p))
+      (its_rising p (standing steps sent) (standing_rising steps sent)) (rows_rise p 1 row (row_rising sound p))
       (λ x h. let of = passing_only (is_its p) (standing steps sent) x h in in_row x (standing_only steps sent x of.0) of.1)
       (λ x h. let of = of_row x h in passing_has (is_its p) (standing steps sent) x (standing_has steps sent sound.single x.mark x.event of.0) of.1))
 

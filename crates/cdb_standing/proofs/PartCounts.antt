@@ -1,19 +1,18 @@
 -- How many writes of a register stand before a step.
-use Rattle.std.proofs.Common.{◌≡◌, ℕ, zero, suc, ◌+◌, ◌<◌, ◌≤◌, ◌&&◌, Bool, true, false, cond, nat_lt, nat_eq, eqb-true, eq-eqb, List}
+use Rattle.std.proofs.lemmas.Grind.{common_steps}
+use Rattle.std.proofs.Common.{◌≡◌, ℕ, zero, suc, ◌+◌, ◌<◌, ◌≤◌, ◌&&◌, Bool, true, false, cond, nat_lt, nat_eq, List}
 use Rattle.std.proofs.Common.{[], ◌∷◌, length, take, drop, slice_get, Option, Some, None, inl, inr, refl, sym, ap, ap₂, ◌∙◌, arith}
-use Rattle.std.proofs.lemmas.Bool.{le-ltb, lt-ltb}
 use Rattle.std.proofs.lemmas.List.{drop_all}
 use Rattle.std.proofs.lemmas.List.Sums.{sum_by-cons, sum_by-append, count_by-le-length}
-use Rattle.std.proofs.lemmas.Option.{none-some, same_Some}
+use Rattle.std.proofs.lemmas.Option.{none-some, same_Some, gets}
 use Rattle.std.specs.List.{sum_by, count_by}
 use Rattle.std.specs.List.Sorted.{IsPartitionPoint}
 use Rattle.cdb_base.specs.Event.{event_name}
 use Rattle.cdb_base.specs.Positions.{nth}
-use Rattle.cdb_base.specs.Registers.{same_register, same_register-itself, same_register-true}
+use Rattle.cdb_base.specs.Registers.{same_register}
 use Rattle.cdb_base.specs.declared.event.Event.{Event}
 use Rattle.cdb_base.specs.declared.event.Event.TheVariants as event
 use Rattle.cdb_base.specs.declared.event.Kind.{Kind}
-use Rattle.cdb_base.specs.declared.event.Kind.TheVariants.{Query, Send, Recv, Read, Write, Local, Learn, Crash}
 use Rattle.cdb_base.specs.declared.name.StepId.TheVariants as named
 use Rattle.cdb_base.specs.declared.name.StepName.{StepName}
 use Rattle.cdb_base.specs.declared.register.Reg.{Reg}
@@ -29,10 +28,8 @@ use Rattle.cdb_standing.specs.Tables.{row_of, step_at, history_of, standing, IsE
 use Rattle.cdb_standing.specs.declared.tables.Access.{Access}
 use Rattle.cdb_standing.specs.declared.tables.Entry.{Entry}
 use Rattle.cdb_standing.specs.declared.tables.Sent.{Sent}
-use Rattle.cdb_standing.proofs.LaterLinks.{same_number}
 use Rattle.cdb_standing.proofs.AllEvents.{row_there}
 use Rattle.cdb_standing.proofs.Listed.{standing_rising}
-use Rattle.cdb_standing.proofs.Losses.{told_same}
 use Rattle.cdb_standing.proofs.Merge.{of_stands, loss_event, all_only, all_once}
 use Rattle.cdb_standing.proofs.Ordered.{at_has, in_order_rising, in_order_only, in_order_has}
 use Rattle.cdb_standing.proofs.Places.{step_named, named_place, one_name}
@@ -78,24 +75,15 @@ module _ (one other : Event → Bool) (same : (e : Event) → one e ≡ other e)
   is_one_before mark x = one x.event && nat_lt x.mark mark
 
   not_before : (mark : ℕ) (x : Marked) → mark ≤ x.mark → one_if (is_one_before mark x) ≡ 0
-  not_before mark x high = by (one x.event) (nat_lt x.mark mark) (le-ltb x.mark mark high)
-    where
-      by : (a b : Bool) → b ≡ false → one_if (a && b) ≡ 0
-      by true b e = ap one_if e
-      by false b e = refl
+  not_before mark x h1 = grind (arith, common_steps, gets)
 
   is_before_one : (mark : ℕ) (x : Marked) → x.mark < mark → one_if (is_one_before mark x) ≡ one_if (other x.event)
-  is_before_one mark x low = by (one x.event) (nat_lt x.mark mark) (lt-ltb x.mark mark low) ∙ ap one_if (same x.event)
-    where
-      by : (a b : Bool) → b ≡ true → one_if (a && b) ≡ one_if a
-      by true b e = ap one_if e
-      by false b e = refl
+  is_before_one mark x h1 = grind (arith, common_steps, gets)
 
   pub counted_before : (xs : List Marked) (i : ℕ) (x : Marked) → IsRising xs → slice_get xs i ≡ Some x
       → count_by (is_one_before x.mark) xs ≡ count_by other (take i (events_of xs))
   counted_before [] i x rising at = absurd (none-some x at)
-  counted_before (z ∷ xs) zero x rising at =
-      sum_none (λ y. cond (is_one_before x.mark y) 1 0) (z ∷ xs) (λ y h. not_before x.mark y (from y h))
+  counted_before (z ∷ xs) zero x rising at = sum_none (λ y. cond (is_one_before x.mark y) 1 0) (z ∷ xs) (λ y h. not_before x.mark y (from y h))
     where
       from : (y : Marked) → Has (z ∷ xs) y → x.mark ≤ y.mark
       from y (inl e) = let p : z.mark ≡ y.mark = ap (λ (m : Marked). m.mark) e in
@@ -110,22 +98,10 @@ module _ (one other : Event → Bool) (same : (e : Event) → one e ≡ other e)
       omega arith
 
 tests_same : (register other : Reg) → nat_eq (number_of other) (number_of register) ≡ same_register other register
-tests_same register other =
-    told_same (nat_eq (number_of other) (number_of register)) (same_register other register)
-    ((λ h. same_number other register (eqb-true _ _ h)), (λ e. eq-eqb _ _ (ap number_of e)))
-    ((λ h. same_register-true other register h), (λ e. rw e (same_register-itself register)))
-    ((λ e. e), (λ e. e))
+tests_same register other = grind (arith, common_steps, gets)
 
 same_writes : (register : Reg) (e : Event) → writes_register (number_of register) e ≡ is_write_of register e
-same_writes register (event.Step p k (Write other)) = tests_same register other
-same_writes register (event.Step p k (Query leader)) = refl
-same_writes register (event.Step p k (Send m)) = refl
-same_writes register (event.Step p k (Recv s m)) = refl
-same_writes register (event.Step p k (Read other)) = refl
-same_writes register (event.Step p k Local) = refl
-same_writes register (event.Step p k Learn) = refl
-same_writes register (event.Step p k Crash) = refl
-same_writes register (event.Lost copy) = refl
+same_writes register e = grind (arith, common_steps, gets)
 
 none_below : (q : ℕ) → cut_of [] q ≡ 0
 none_below zero = refl
@@ -142,9 +118,9 @@ module _ (steps : List (List Entry)) (sent : List (List Sent)) (n mark : ℕ) wh
   pub left_none : (i : ℕ) → length steps ≤ i → left i ≡ 0
   left_none i past = ap (λ l. sum_by weight (each_from (λ p row. steps_from sent (cut_of [] p) p row) (suc i) l)) (drop_all i steps past)
 
-  module _ (next : ℕ) (sound : IsSound next steps sent) where
+  module _ {next : ℕ} (sound : IsSound next steps sent) where
     losses_weigh : (p : ℕ) (kind : Kind) → sum_by weight (losses_of sent p kind) ≡ 0
-    losses_weigh p kind = sum_none weight (losses_of sent p kind) (λ x h. let lost = loss_event next steps sent sound p kind x h in rw lost.1 refl)
+    losses_weigh p kind = sum_none weight (losses_of sent p kind) (λ x h. let lost = loss_event sound p kind x h in rw lost.1 refl)
 
     row_weighs : (p k : ℕ) (row : List Entry) → sum_by weight (each_from (of_step sent p) k row) ≡ count_by (is_before mark) (listed written n k row)
     row_weighs p k [] = refl
@@ -163,14 +139,14 @@ module _ (steps : List (List Entry)) (sent : List (List Sent)) (n mark : ℕ) wh
 
     single : (x y : Marked) → Has (all_from [] steps sent) x → Has (all_from [] steps sent) y → x.mark ≡ y.mark → x ≡ y
     single x y in_x in_y same =
-        let of_x = of_stands next steps sent sound (all_only next steps sent sound [] x in_x).3 in
-        let of_y = of_stands next steps sent sound (all_only next steps sent sound [] y in_y).3 in
+        let of_x = of_stands sound (all_only sound [] x in_x).3 in
+        let of_y = of_stands sound (all_only sound [] y in_y).3 in
         let e : x.event ≡ y.event = sound.single y.mark x.event y.event (rw same at of_x) of_y in
         ap₂ (λ mark it. (let z : Marked = record { mark = mark; event = it } in z)) same e
 
     whole : in_order (all_from [] steps sent) ≡ standing steps sent
     whole =
-        all_marked next steps sent sound [] (events_of (in_order (all_from [] steps sent)))
+        all_marked sound {cuts = []} {events = events_of (in_order (all_from [] steps sent))}
         (record {
           marked = in_order (all_from [] steps sent);
           rising = in_order_rising (all_from [] steps sent);
@@ -180,7 +156,7 @@ module _ (steps : List (List Entry)) (sent : List (List Sent)) (n mark : ℕ) wh
         none_below
 
     pub left_all : left 0 ≡ count_by (is_write_before n mark) (standing steps sent)
-    left_all = sym (sum_in_order weight (all_from [] steps sent) (all_once next steps sent sound [])) ∙ ap (sum_by weight) whole
+    left_all = sym (sum_in_order weight (all_from [] steps sent) (all_once sound [])) ∙ ap (sum_by weight) whole
 
     pub left_more : (i : ℕ) → i < length steps → left i ≡ count_by (is_before mark) (listed written n 1 (row_of steps (suc i))) + left (suc i)
     left_more i less =
@@ -190,19 +166,19 @@ module _ (steps : List (List Entry)) (sent : List (List Sent)) (n mark : ℕ) wh
         (each_from (λ p row. steps_from sent (cut_of [] p) p row) (suc (suc i)) (drop (suc i) steps))
         ∙ ap (λ m. m + left (suc i)) (row_weighs (suc i) 1 (row_of steps (suc i)))
 
-module _ (next : ℕ) (steps : List (List Entry)) (sent : List (List Sent)) (sound : IsSound next steps sent) where
+module _ {next : ℕ} {steps : List (List Entry)} {sent : List (List Sent)} (sound : IsSound next steps sent) where
   -- one process more is counted
-  pub next_counted : (n mark i : ℕ) → i < 9 → (writes : List (List Access)) → AreListed written writes steps → n < 11
+  pub next_counted : (n mark i : ℕ) → i < 9 → {writes : List (List Access)} → AreListed written writes steps → n < 11
       → (list : List Access) → row_of writes (cell (suc i) n) ≡ list → (found : ℕ) → found ≡ count_by (is_before mark) list
       → (found ≤ 65535) × (left steps sent n mark i ≡ found + left steps sent n mark (i + 1))
-  next_counted n mark i nine writes lists eleven list list_is found found_is =
+  next_counted n mark i nine lists eleven list list_is found found_is =
       let is : list ≡ listed written n 1 (row_of steps (suc i)) = sym list_is ∙ lists.each (suc i) n (omega arith) (omega arith) eleven in
       let one : suc i ≡ i + 1 = omega arith in
       let short = count_by-le-length (is_before mark) list in
       let shorter = listed_few written n 1 (row_of steps (suc i)) in
       let long = ap length is in
       let few = sound.few (suc i) in
-      let more = left_more steps sent n mark next sound i (let all = sound.processes in omega arith) in
+      let more = left_more steps sent n mark sound i (omega arith) in
       (omega arith, rw (found_is, is, ← one) more)
 
   -- by name
@@ -211,15 +187,15 @@ module _ (next : ℕ) (steps : List (List Entry)) (sent : List (List Sent)) (sou
       → AreWritesBefore (history_of steps sent) register (named.Step (record { p = p; k = k })) count
   writes_are register p k mark kind at count is zero h = absurd (none-some h.0 h.1)
   writes_are register p k mark kind at count is (suc i) h =
-      let place = named_place next steps sent sound (suc i) (named.Step (record { p = p; k = k })) h in
-      let same = one_name next steps sent sound place.0 mark place.1 (event.Step p k kind) place.3 at place.4 in
+      let place = named_place sound (suc i) (named.Step (record { p = p; k = k })) h in
+      let same = one_name sound place.0 mark place.1 (event.Step p k kind) place.3 at place.4 in
       is
       ∙ ap (λ m. count_by (is_write_before (number_of register) m) (standing steps sent)) (sym same.0)
       ∙ counted_before (writes_register (number_of register)) (is_write_of register)
       (same_writes register) (standing steps sent) i _ (standing_rising steps sent) place.2
 
   pub none_there : (p k : ℕ) → nth (row_of steps p) k ≡ None → (at : ℕ) → IsNamedAt (history_of steps sent) at (named.Step (record { p = p; k = k })) → ⊥
-  none_there p k none at h = let place = named_place next steps sent sound at (named.Step (record { p = p; k = k })) h in by place.1 place.0 place.3 place.4
+  none_there p k none at h = let place = named_place sound at (named.Step (record { p = p; k = k })) h in by place.1 place.0 place.3 place.4
     where
       by : (it : Event) (mark : ℕ) → Stands steps sent mark it → event_name it ≡ named.Step (record { p = p; k = k }) → ⊥
       by (event.Step q l kind) mark there name =

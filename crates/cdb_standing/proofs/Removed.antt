@@ -1,11 +1,14 @@
 -- The last step of a process, or the loss of a copy, is taken out: the tables still agree, and the history lacks it.
-use Rattle.std.proofs.Common.{◌≡◌, ◌≢◌, ℕ, ◌+◌, ◌<◌, ◌≤◌, List, [], ◌∷◌, length, Some, ◌⊎◌, inl, inr, ⊎_elim, refl, sym, ap, ap₂, ◌∙◌, subst, arith}
+use Rattle.std.proofs.lemmas.Option.{gets}
+use Rattle.std.proofs.lemmas.Grind.{common_steps}
+use Rattle.std.proofs.lemmas.Bool.{cases_eq}
+use Rattle.std.proofs.Common.{◌≡◌, ◌≢◌, ℕ, ◌+◌, ◌<◌, ◌≤◌, List, [], ◌∷◌, length, Some, ◌⊎◌, ⊎_elim, refl, sym, ap, ap₂, ◌∙◌, subst, arith}
 use Rattle.std.proofs.Common.{length-append}
 use Rattle.cdb_base.specs.Positions.{nth}
 use Rattle.cdb_base.specs.declared.event.Event.{Event}
 use Rattle.cdb_base.specs.declared.event.Event.TheVariants as event
 use Rattle.cdb_base.specs.declared.event.Kind.{Kind}
-use Rattle.cdb_base.specs.declared.event.Kind.TheVariants.{Query, Send, Recv, Read, Write, Local, Learn, Crash}
+use Rattle.cdb_base.specs.declared.event.Kind.TheVariants.{Send, Recv}
 use Rattle.cdb_base.specs.declared.name.CopyName.{CopyName}
 use Rattle.cdb_causal.specs.Rollback.{without}
 use Rattle.cdb_standing.specs.Tables.{row_of, copy_named, history_of, standing, entry_of, IsEntry, IsCopy, IsMessage, Stands, IsSound, IsCopySet, IsMailedBack}
@@ -15,7 +18,7 @@ use Rattle.cdb_standing.specs.declared.tables.Copied.TheVariants.{Waits, Receive
 use Rattle.cdb_standing.specs.declared.tables.Entry.{Entry}
 use Rattle.cdb_standing.specs.declared.tables.Sent.{Sent}
 use Rattle.cdb_standing.proofs.Rows.{same_at, nth_within, put_cases, put_keeps, put_joins}
-use Rattle.cdb_standing.proofs.MailRows.{same_or_other, same_copy, set_new, set_cases, set_keeps, set_message, set_message_only, send_message}
+use Rattle.cdb_standing.proofs.MailRows.{same_copy, set_new, set_cases, set_keeps, set_message, set_message_only, send_message}
 use Rattle.cdb_standing.proofs.MailRows.{send_message_cases, send_copy, send_copy_cases}
 use Rattle.cdb_standing.proofs.Listed.{IsSingleIn, one_less}
 use Rattle.cdb_standing.proofs.Joined.{marked}
@@ -44,12 +47,12 @@ IsLastSent p kind new = (m : ℕ) → kind ≡ Send m → m ≡ length (row_of n
 shrunk : (p : ℕ) (kind : Kind) (old new : List (List Sent)) → IsLastSent p kind new → IsMailedBack p kind old new → IsMailShrunk p kind old new
 shrunk p (Send m) old new last mailed =
     record {
-      copies = λ s n to c copy c_is. (send_copy p new mailed.0 old mailed.1 s n to c copy, λ e. absurd (let f = e.0 in cc));
+      copies = λ s n to c copy c_is. (send_copy mailed.1 copy, λ e. absurd (cc));
       stays = λ s n to c copy c_is one other.
-          ⊎_elim (λ q. q) (λ q. absurd (other (ap Send (last m refl ∙ sym q.1), q.0))) (send_copy_cases p new mailed.0 old mailed.1 s n to c copy);
-      messages = λ s n l message. (send_message p new mailed.0 old mailed.1 s n l message, not_last s n l message);
+          ⊎_elim (λ q. q) (λ q. absurd (other (ap Send (last m refl ∙ sym q.1), q.0))) (send_copy_cases mailed.1 copy);
+      messages = λ s n l message. (send_message mailed.1 message, not_last s n l message);
       stays_sent = λ s n l message other.
-          ⊎_elim (λ q. q) (λ q. absurd (other (ap Send (last m refl ∙ sym q.1), q.0))) (send_message_cases p new mailed.0 old mailed.1 s n l message);
+          ⊎_elim (λ q. q) (λ q. absurd (other (ap Send (last m refl ∙ sym q.1), q.0))) (send_message_cases mailed.1 message);
     }
   where
     not_last : (s n l : ℕ) → IsMessage new s n l → (Send m ≡ Send n) × (s ≡ p) → ⊥
@@ -57,54 +60,39 @@ shrunk p (Send m) old new last mailed =
         let within = nth_within (row_of new s) n message.it message.was_sent in
         let is_last : n ≡ length (row_of new p) + 1 = last n e.0 in
         let same : length (row_of new s) ≡ length (row_of new p) = ap (λ a. length (row_of new a)) e.1 in
-        let high = within.1 in absurd (omega arith)
+        absurd (omega arith)
 shrunk p (Recv s m) old new last put =
     record {
       copies = λ r n to c copy c_is.
           ⊎_elim
-          (λ q. (q, λ e. c_is (same_copy new r n to s m p c Waits copy (set_new old s m p Waits new put) (is_at r n to e))))
+          (λ q. (q, λ e. c_is (same_copy copy (set_new put) (is_at r n to e))))
           (λ q. absurd (c_is q.3))
-          (set_cases old s m p Waits new put r n to c copy);
-      stays = λ r n to c copy c_is one other. set_keeps old s m p Waits new put r n to c copy (λ e. one (ap₂ Recv (sym e.0) (sym e.1), e.2));
-      messages = λ r n l message. (set_message_only old s m p Waits new put r n l message, λ e. absurd (let f = e.0 in cc));
-      stays_sent = λ r n l message other. set_message old s m p Waits new put r n l message;
+          (set_cases put copy);
+      stays = λ r n to c copy c_is one other. set_keeps put copy (λ e. one (ap₂ Recv (sym e.0) (sym e.1), e.2));
+      messages = λ r n l message. (set_message_only put message, λ e. absurd (cc));
+      stays_sent = λ r n l message other. set_message put message;
     }
   where
     is_at : (r n to : ℕ) → (Recv s m ≡ Recv r n) × (to ≡ p) → (r ≡ s) × (n ≡ m) × (to ≡ p)
-    is_at r n to e = let f = e.0 in ((cc), (cc), e.1)
-shrunk p (Query leader) old new last mailed = shrunk_same p (Query leader) old new mailed (λ s m e. absurd (cc)) (λ m e. absurd (cc))
-shrunk p (Read register) old new last mailed = shrunk_same p (Read register) old new mailed (λ s m e. absurd (cc)) (λ m e. absurd (cc))
-shrunk p (Write register) old new last mailed = shrunk_same p (Write register) old new mailed (λ s m e. absurd (cc)) (λ m e. absurd (cc))
-shrunk p Local old new last mailed = shrunk_same p Local old new mailed (λ s m e. absurd (cc)) (λ m e. absurd (cc))
-shrunk p Learn old new last mailed = shrunk_same p Learn old new mailed (λ s m e. absurd (cc)) (λ m e. absurd (cc))
-shrunk p Crash old new last mailed = shrunk_same p Crash old new mailed (λ s m e. absurd (cc)) (λ m e. absurd (cc))
+    is_at r n to e = ((cc), (cc), e.1)
+shrunk p other old new last mailed = shrunk_same p other old new mailed (λ s m e. absurd (cc)) (λ m e. absurd (cc))
 
-module _ (next mark p k : ℕ) (kind : Kind) (steps : List (List Entry)) (sent : List (List Sent)) (steps' : List (List Entry)) (sent' : List (List Sent))
+module _ {next mark p k : ℕ} {kind : Kind} {steps : List (List Entry)} {sent : List (List Sent)} {steps' : List (List Entry)} {sent' : List (List Sent)}
     (sound : IsSound next steps sent) (unneeded : IsUnneeded p kind sent) (taken : IsStepTaken mark p k kind steps sent steps' sent') where
   entry_was : IsEntry steps p k mark kind
-  entry_was = put_joins p steps' (entry_of mark kind) steps taken.put k taken.number
+  entry_was = put_joins taken.put k taken.number
 
   entry_cases : (q l b : ℕ) (other : Kind) → IsEntry steps q l b other → IsEntry steps' q l b other ⊎ ((q ≡ p) × (l ≡ k) × (b ≡ mark) × (other ≡ kind))
-  entry_cases q l b other at =
-      ⊎_elim (λ old. inl old)
-      (λ new. inr (new.0, new.1 ∙ sym taken.number, sym (ap (λ (e : Entry). e.mark) new.2), sym (ap (λ (e : Entry). e.kind) new.2)))
-      (put_cases p steps' (entry_of mark kind) steps taken.put q l (entry_of b other) at)
+  entry_cases q l b other h1 = grind (arith, put_cases taken.put)
 
   entry_old : (q l b : ℕ) (other : Kind) → IsEntry steps' q l b other → IsEntry steps q l b other
-  entry_old q l b other at = put_keeps p steps' (entry_of mark kind) steps taken.put q l (entry_of b other) at
+  entry_old q l b other at = put_keeps taken.put q l (entry_of b other) at
 
   entry_other : (q l b : ℕ) (other : Kind) → IsEntry steps' q l b other → q ≡ p → l ≡ k → ⊥
-  entry_other q l b other at same_p same_k =
-      let within = nth_within (row_of steps' q) l (entry_of b other) at in
-      let same : length (row_of steps' q) ≡ length (row_of steps' p) = ap (λ a. length (row_of steps' a)) same_p in
-      let n = taken.number in let high = within.1 in absurd (omega arith)
+  entry_other q l b other h1 h2 h3 = grind (arith, nth_within)
 
   own_last : (l b : ℕ) (other : Kind) → IsEntry steps p l b other → l ≤ k
-  own_last l b other at =
-      ⊎_elim
-      (λ old. let within = nth_within (row_of steps' p) l (entry_of b other) old in let n = taken.number in let high = within.1 in omega arith)
-      (λ new. let e = new.1 in omega arith)
-      (entry_cases p l b other at)
+  own_last l b other h1 = grind (arith, nth_within, entry_cases p l b other h1)
 
   last_sent : IsLastSent p kind sent'
   last_sent m e = by kind e taken.mailed entry_was
@@ -114,29 +102,23 @@ module _ (next mark p k : ℕ) (kind : Kind) (steps : List (List Entry)) (sent :
           let same : n ≡ m = cc in
           let message = sound.is_sent p n k mark was in
           let top : IsMessage sent p (length (row_of sent' p) + 1) (mailed.0).k =
-          record { it = mailed.0; was_sent = put_joins p sent' mailed.0 sent mailed.1 (length (row_of sent' p) + 1) refl; by = refl } in
+          record { it = mailed.0; was_sent = put_joins mailed.1 (length (row_of sent' p) + 1) refl; by = refl } in
           let found = sound.sent_is p (length (row_of sent' p) + 1) (mailed.0).k top in
           let high = own_last (mailed.0).k found.0 (Send (length (row_of sent' p) + 1)) found.1 in
           let within = nth_within (row_of sent p) n message.it message.was_sent in
           let count : length (row_of sent p) ≡ length (row_of sent' p) + 1 = ap length (mailed.1).more ∙ length-append (row_of sent' p) (mailed.0 ∷ []) in
           ⊎_elim
           (λ is. sym same ∙ is)
-          (λ other. let less : n < length (row_of sent' p) + 1 = (let h = within.1 in omega arith) in
+          (λ other. let less : n < length (row_of sent' p) + 1 = (omega arith) in
           let rise = sound.sent_rises p n (length (row_of sent' p) + 1) k (mailed.0).k message top less in absurd (omega arith))
-          (same_or_other n (length (row_of sent' p) + 1))
-      by (Query leader) e mailed was = absurd (cc)
-      by (Recv r n) e mailed was = absurd (cc)
-      by (Read register) e mailed was = absurd (cc)
-      by (Write register) e mailed was = absurd (cc)
-      by Local e mailed was = absurd (cc)
-      by Learn e mailed was = absurd (cc)
-      by Crash e mailed was = absurd (cc)
+          (cases_eq n (length (row_of sent' p) + 1))
+      by _ e mailed was = absurd (cc)
 
   mail : IsMailShrunk p kind sent sent'
   mail = shrunk p kind sent sent' last_sent taken.mailed
 
-  no_copy : (s m to : ℕ) (c : Copied) → IsCopy sent s m to c → (kind ≡ Send m) × (s ≡ p) → c ≡ Waits
-  no_copy s m to c copy e =
+  no_copy : {s m to : ℕ} {c : Copied} → IsCopy sent s m to c → (kind ≡ Send m) × (s ≡ p) → c ≡ Waits
+  no_copy {s} {m} {to} {c} copy e =
       let none : IsUnneeded p (Send m) sent = subst (λ a. IsUnneeded p a sent) e.0 unneeded in
       none to c (subst (λ a. IsCopy sent a m to c) e.1 copy)
 
@@ -168,19 +150,11 @@ module _ (next mark p k : ℕ) (kind : Kind) (steps : List (List Entry)) (sent :
   stands_keeps b (event.Step q l other) at not_it = ⊎_elim (λ old. old) (λ new. absurd (not_it new.2)) (entry_cases q l b other at)
   stands_keeps b (event.Lost copy) at not_it =
       mail.stays (copy.msg).s (copy.msg).m copy.to (Lost b) at (λ e. absurd (cc))
-      (λ e. let same : Lost b ≡ Received k = same_copy sent (copy.msg).s (copy.msg).m copy.to (copy.msg).s (copy.msg).m
-      copy.to (Lost b) (Received k) at (received (copy.msg).s (copy.msg).m copy.to e) (refl, refl, refl) in absurd (cc))
-      (λ e. let same : Lost b ≡ Waits = no_copy (copy.msg).s (copy.msg).m copy.to (Lost b) at e in absurd (cc))
+      (λ e. let same : Lost b ≡ Received k = same_copy at (received (copy.msg).s (copy.msg).m copy.to e) (refl, refl, refl) in absurd (cc))
+      (λ e. let same : Lost b ≡ Waits = no_copy at e in absurd (cc))
 
   few : (q : ℕ) → length (row_of steps' q) ≤ 65535
-  few q =
-      ⊎_elim
-      (λ e. let n : length (row_of steps p) ≡ length (row_of steps' p) + 1 =
-      ap length taken.put.more ∙ length-append (row_of steps' p) (entry_of mark kind ∷ []) in
-      let same : length (row_of steps' q) ≡ length (row_of steps' p) = ap (λ a. length (row_of steps' a)) e in
-      let h = sound.few p in omega arith)
-      (λ e. subst (λ row. length row ≤ 65535) (taken.put.others q e) (sound.few q))
-      (same_or_other q p)
+  few q = grind (arith, common_steps, gets)
 
   received_is : (s m to l : ℕ) → IsCopy sent' s m to (Received l) → (b : ℕ) × IsEntry steps' to l b (Recv s m)
   received_is s m to l copy =
@@ -192,9 +166,9 @@ module _ (next mark p k : ℕ) (kind : Kind) (steps : List (List Entry)) (sent :
   is_received s m to l b at =
       let old = sound.is_received s m to l b (entry_old to l b (Recv s m) at) in
       mail.stays s m to (Received l) old (λ e. absurd (cc))
-      (λ e. let same : Received l ≡ Received k = same_copy sent s m to s m to (Received l) (Received k) old (received s m to e) (refl, refl, refl) in
+      (λ e. let same : Received l ≡ Received k = same_copy old (received s m to e) (refl, refl, refl) in
       entry_other to l b (Recv s m) at e.1 (cc))
-      (λ e. let same : Received l ≡ Waits = no_copy s m to (Received l) old e in absurd (cc))
+      (λ e. let same : Received l ≡ Waits = no_copy old e in absurd (cc))
 
   sent_is : (s m l : ℕ) → IsMessage sent' s m l → (b : ℕ) × IsEntry steps' s l b (Send m)
   sent_is s m l message =
@@ -213,23 +187,13 @@ module _ (next mark p k : ℕ) (kind : Kind) (steps : List (List Entry)) (sent :
       entry_other s l b (Send m) at e.1 k_is)
 
   as_many : length sent' ≡ length sent
-  as_many = by kind taken.mailed
-    where
-      by : (some : Kind) → IsMailedBack p some sent sent' → length sent' ≡ length sent
-      by (Send m) mailed = sym (mailed.1).as_many
-      by (Recv s m) mailed = mailed.as_many
-      by (Query leader) mailed = ap length mailed
-      by (Read register) mailed = ap length mailed
-      by (Write register) mailed = ap length mailed
-      by Local mailed = ap length mailed
-      by Learn mailed = ap length mailed
-      by Crash mailed = ap length mailed
+  as_many = grind (arith, common_steps, gets)
 
   single : IsSingleIn steps' sent'
   single b one other here there = sound.single b one other (stands_only b one here).0 (stands_only b other there).0
 
-  message_old : (s m l : ℕ) → IsMessage sent' s m l → IsMessage sent s m l
-  message_old s m l message = (mail.messages s m l message).0
+  message_old : {s m l : ℕ} → IsMessage sent' s m l → IsMessage sent s m l
+  message_old {s} {m} {l} message = (mail.messages s m l message).0
 
   pub taken_sound : IsSound next steps' sent'
   taken_sound =
@@ -244,7 +208,7 @@ module _ (next mark p k : ℕ) (kind : Kind) (steps : List (List Entry)) (sent :
         is_received = is_received;
         sent_is = sent_is;
         is_sent = is_sent;
-        sent_rises = λ s m n i j one other less. sound.sent_rises s m n i j (message_old s m i one) (message_old s n j other) less;
+        sent_rises = λ s m n i j one other less. sound.sent_rises s m n i j (message_old one) (message_old other) less;
         sent_first = λ s m l a to i b here there. sound.sent_first s m l a to i b (entry_old s l a (Send m) here) (entry_old to i b (Recv s m) there);
         lost_to = λ s m to b copy. sound.lost_to s m to b (stands_only b (event.Lost (copy_named s m to)) copy).0;
         sent_lost =
@@ -257,17 +221,16 @@ module _ (next mark p k : ℕ) (kind : Kind) (steps : List (List Entry)) (sent :
 
 -- ---- the loss of a copy
 
-module _ (next mark s m to : ℕ) (steps : List (List Entry)) (sent : List (List Sent)) (sent' : List (List Sent))
+module _ {next mark s m to : ℕ} {steps : List (List Entry)} {sent : List (List Sent)} {sent' : List (List Sent)}
     (sound : IsSound next steps sent) (lost : IsCopy sent s m to (Lost mark)) (put : IsCopySet sent s m to Waits sent') where
-  copy_old : (r n q : ℕ) (c : Copied) → IsCopy sent' r n q c → c ≢ Waits → IsCopy sent r n q c × ((r ≡ s) × (n ≡ m) × (q ≡ to) → ⊥)
-  copy_old r n q c copy other = (
-    ⊎_elim (λ old. old) (λ new. absurd (other new.3)) (set_cases sent s m to Waits sent' put r n q c copy),
-    λ e. other (same_copy sent' r n q s m to c Waits copy (set_new sent s m to Waits sent' put) e),
+  copy_old : {r n q : ℕ} {c : Copied} → IsCopy sent' r n q c → c ≢ Waits → IsCopy sent r n q c × ((r ≡ s) × (n ≡ m) × (q ≡ to) → ⊥)
+  copy_old {r} {n} {q} {c} copy other = (
+    ⊎_elim (λ old. old) (λ new. absurd (other new.3)) (set_cases put copy),
+    λ e. other (same_copy copy (set_new put) e),
   )
 
   copy_keeps : (r n q : ℕ) (c : Copied) → IsCopy sent r n q c → c ≢ Lost mark → IsCopy sent' r n q c
-  copy_keeps r n q c copy other =
-      set_keeps sent s m to Waits sent' put r n q c copy (λ e. other (same_copy sent r n q s m to c (Lost mark) copy lost e))
+  copy_keeps r n q c copy other = set_keeps put copy (λ e. other (same_copy copy lost e))
 
   lost_only : (b : ℕ) (it : Event) → Stands steps sent' b it → Stands steps sent b it × (b ≢ mark)
   lost_only b (event.Step q l other) at = (
@@ -276,7 +239,7 @@ module _ (next mark s m to : ℕ) (steps : List (List Entry)) (sent : List (List
         sound.single mark (event.Step q l other) (event.Lost (copy_named s m to)) (subst (λ a. IsEntry steps q l a other) same at) lost in absurd (cc),
   )
   lost_only b (event.Lost copy) at =
-      let old = copy_old (copy.msg).s (copy.msg).m copy.to (Lost b) at (λ e. absurd (cc)) in (
+      let old = copy_old at (λ e. absurd (cc)) in (
         old.0,
         λ same.
             let e : event.Lost copy ≡ event.Lost (copy_named s m to) =
@@ -302,15 +265,14 @@ module _ (next mark s m to : ℕ) (steps : List (List Entry)) (sent : List (List
         below = λ b it at. sound.below b it (lost_only b it at).0;
         single = lost_single;
         rises = sound.rises;
-        received_is = λ r n q l copy. sound.received_is r n q l (copy_old r n q (Received l) copy (λ e. absurd (cc))).0;
+        received_is = λ r n q l copy. sound.received_is r n q l (copy_old copy (λ e. absurd (cc))).0;
         is_received = λ r n q l b at. copy_keeps r n q (Received l) (sound.is_received r n q l b at) (λ e. absurd (cc));
-        sent_is = λ r n l message. sound.sent_is r n l (set_message_only sent s m to Waits sent' put r n l message);
-        is_sent = λ r n l b at. set_message sent s m to Waits sent' put r n l (sound.is_sent r n l b at);
-        sent_rises = λ r n o i j one other less.
-            sound.sent_rises r n o i j (set_message_only sent s m to Waits sent' put r n i one) (set_message_only sent s m to Waits sent' put r o j other) less;
+        sent_is = λ r n l message. sound.sent_is r n l (set_message_only put message);
+        is_sent = λ r n l b at. set_message put (sound.is_sent r n l b at);
+        sent_rises = λ r n o i j one other less. sound.sent_rises r n o i j (set_message_only put one) (set_message_only put other) less;
         sent_first = sound.sent_first;
-        lost_to = λ r n q b copy. sound.lost_to r n q b (copy_old r n q (Lost b) copy (λ e. absurd (cc))).0;
-        sent_lost = λ r n l a q b here there. sound.sent_lost r n l a q b here (copy_old r n q (Lost b) there (λ e. absurd (cc))).0;
+        lost_to = λ r n q b copy. sound.lost_to r n q b (copy_old copy (λ e. absurd (cc))).0;
+        sent_lost = λ r n l a q b here there. sound.sent_lost r n l a q b here (copy_old there (λ e. absurd (cc))).0;
       }
 
   pub loss_taken : (at : ℕ) → nth (standing steps sent) at ≡ Some (marked mark (event.Lost (copy_named s m to)))

@@ -16,6 +16,7 @@ use Rattle.cdb_causal.specs.Rollback.{IsParted, done, kept, gone, IsRolledBack, 
 use Rattle.cdb_causal.proofs.Chains.{parted, rolled_back_split}
 use Rattle.cdb_causal.proofs.LeastSet.{consequences_parted}
 use Rattle.cdb_causal.proofs.Lists.{nth_map}
+use Rattle.cdb_causal.proofs.Parted.{none_found}
 use Rattle.cdb_standing.specs.Cuts.{cut_of, IsCut, AreConsequencesCut}
 use Rattle.cdb_standing.specs.Gathered.{AreInOrder}
 use Rattle.cdb_standing.specs.InOrder.{Marked, Has, IsRising, events_of}
@@ -89,17 +90,12 @@ module _ (IsRemoved : ℕ → Type 0) where
       all more zero x at gone' = inl (same_Some y x at)
       all more (suc i) x at gone' = inr (more.all i x at (subst IsRemoved (sym (next n i)) gone'))
 
-no_removed : {IsRemoved : ℕ → Type 0} → ((i : ℕ) → IsRemoved i → ⊥)
-    → {n : ℕ} {xs left removed : List Event} → IsParted IsRemoved n xs left removed → removed ≡ []
-no_removed none done = refl
-no_removed none (kept stays rest) = no_removed none rest
-no_removed none (gone here rest) = absurd (none _ here)
-
 -- a free event has no consequences
 pub free_alone : (history : List Event) (at : ℕ) (it : Event) → 1 ≤ at → nth history at ≡ Some it
     → IsFree depends history at → rolled_back depends history at ≡ it ∷ []
 free_alone history at it one there free =
-    rolled_back_split depends history at it there ∙ ap (λ l. it ∷ l) (no_removed none (consequences_parted depends history at one).1)
+    rolled_back_split depends history at it there
+    ∙ ap (λ l. it ∷ l) (none_found (IsConsequence depends history at) none (consequences_parted depends history at one).1)
   where
     none : (i : ℕ) → IsConsequence depends history at i → ⊥
     none i (direct link) = free i link
@@ -111,11 +107,11 @@ zeros zero (suc q) = refl
 zeros (suc n) (suc zero) = refl
 zeros (suc n) (suc (suc q)) = zeros n (suc q)
 
-module _ (next : ℕ) (steps : List (List Entry)) (sent : List (List Sent)) (sound : IsSound next steps sent)
-    (cuts : List ℕ) (events : List Event) (ordered : AreInOrder cuts steps sent events) where
+module _ {next : ℕ} {steps : List (List Entry)} {sent : List (List Sent)} (sound : IsSound next steps sent)
+    {cuts : List ℕ} {events : List Event} (ordered : AreInOrder cuts steps sent events) where
   -- each event is of a step
   abbrev HasOrigin : ℕ → Event → Type 0
-  HasOrigin mark it = (p : ℕ) × (k : ℕ) × (entry : Entry) × (nth (row_of steps p) k ≡ Some entry) × IsOf next steps sent sound p k mark it
+  HasOrigin mark it = (p : ℕ) × (k : ℕ) × (entry : Entry) × (nth (row_of steps p) k ≡ Some entry) × IsOf sound p k mark it
 
   origin : (mark : ℕ) (it : Event) → Stands steps sent mark it → HasOrigin mark it
   origin mark (event.Step p k kind) at = (p, k, entry_of mark kind, at, step at)
@@ -124,16 +120,16 @@ module _ (next : ℕ) (steps : List (List Entry)) (sent : List (List Sent)) (sou
       ((copy.msg).s, (at.it).k, entry_of send.0 (Send (copy.msg).m), send.1, loss send.1 at)
 
   in_all : (x : Marked) (origin : HasOrigin x.mark x.event) → cut_of cuts origin.0 ≤ origin.1 → Has ordered.marked x
-  in_all x (p, k, entry, at, of) cut = (ordered.same x).1 (all_has next steps sent sound cuts p k x.mark x.event entry at cut of)
+  in_all x (p, k, entry, at, of) cut = (ordered.same x).1 (all_has sound cuts p k x.mark x.event entry at cut of)
 
-  of_all : (x : Marked) → Has ordered.marked x → (p : ℕ) × (k : ℕ) × (cut_of cuts p ≤ k) × IsOf next steps sent sound p k x.mark x.event
-  of_all x h = all_only next steps sent sound cuts x ((ordered.same x).0 h)
+  of_all : (x : Marked) → Has ordered.marked x → (p : ℕ) × (k : ℕ) × (cut_of cuts p ≤ k) × IsOf sound p k x.mark x.event
+  of_all x h = all_only sound cuts x ((ordered.same x).0 h)
 
   -- where nothing is below the numbers, that is the whole history
   pub all_marked : ((q : ℕ) → cut_of cuts q ≡ 0) → ordered.marked ≡ standing steps sent
   all_marked none =
       same_list ordered.marked (standing steps sent) ordered.rising (standing_rising steps sent)
-      (λ x h. standing_has steps sent sound.single x.mark x.event (of_stands next steps sent sound (of_all x h).3))
+      (λ x h. standing_has steps sent sound.single x.mark x.event (of_stands sound (of_all x h).3))
       (λ x h. let of = origin x.mark x.event (standing_only steps sent x h) in let zero_is = none of.0 in in_all x of (omega arith))
 
   pub all_in_order : ((q : ℕ) → cut_of cuts q ≡ 0) → events ≡ history_of steps sent
@@ -141,14 +137,14 @@ module _ (next : ℕ) (steps : List (List Entry)) (sent : List (List Sent)) (sou
 
   -- ---- a step with its consequences
 
-  cut_in : {p k mark : ℕ} {it : Event} → IsOf next steps sent sound p k mark it → cut_of cuts p ≤ k → IsCut (history_of steps sent) cuts it
+  cut_in : {p k mark : ℕ} {it : Event} → IsOf sound p k mark it → cut_of cuts p ≤ k → IsCut (history_of steps sent) cuts it
   cut_in (step at) cut = cut
-  cut_in {p} {k} (loss {a = a} {m = m} at copy) cut = (k, stands_in next steps sent sound a (event.Step p k (Send m)) at, cut)
+  cut_in {p} {k} (loss {a = a} {m = m} at copy) cut = (k, stands_in sound a (event.Step p k (Send m)) at, cut)
 
-  in_cut : {p k mark : ℕ} {it : Event} → IsOf next steps sent sound p k mark it → IsCut (history_of steps sent) cuts it → cut_of cuts p ≤ k
+  in_cut : {p k mark : ℕ} {it : Event} → IsOf sound p k mark it → IsCut (history_of steps sent) cuts it → cut_of cuts p ≤ k
   in_cut (step at) cut = cut
   in_cut {p} {k} (loss {a = a} {m = m} at copy) (l, there, cut) =
-      let other = in_stands next steps sent sound (event.Step p l (Send m)) there in
+      let other = in_stands sound (event.Step p l (Send m)) there in
       let one = sound.is_sent p m k a at in
       let two = sound.is_sent p m l other.0 other.1 in
       let same : k ≡ l = sym one.by ∙ ap (λ (x : Sent). x.k) (same_at (row_of sent p) m one.it two.it one.was_sent two.was_sent) ∙ two.by in
@@ -165,7 +161,7 @@ module _ (next : ℕ) (steps : List (List Entry)) (sent : List (List Sent)) (sou
       (same_list ordered.marked part.part ordered.rising part.rising
       (λ x h.
       let of = of_all x h in
-      let found = has_at (standing steps sent) x (standing_has steps sent sound.single x.mark x.event (of_stands next steps sent sound of.3)) in
+      let found = has_at (standing steps sent) x (standing_has steps sent sound.single x.mark x.event (of_stands sound of.3)) in
       let number : suc found.0 ≡ 1 + found.0 = omega arith in
       let there = nth_map (λ (m : Marked). m.event) (standing steps sent) (suc found.0) x found.1 in
       part.all found.0 x found.1
@@ -185,20 +181,18 @@ from_one : (history : List Event) (at : ℕ) (name : StepId) → IsNamedAt histo
 from_one history zero name (it, there, is) = absurd (none-some it there)
 from_one history (suc i) name h = omega arith
 
-module _ (t : Tables) (kept : AreKept t) where
+module _ {t : Tables} (kept : AreKept t) where
   abbrev IsRolledBackFrom : StepId → List Event → Type 0
   IsRolledBackFrom name events = (at : ℕ) → IsNamedAt (history_in t) at name → events ≡ rolled_back depends (history_in t) at
 
-  pub step_rolled : (name : StepId) (cuts : List ℕ) (events : List Event) → (IsStandingName (history_in t) name → AreConsequencesCut (history_in t) name cuts)
+  pub step_rolled : (name : StepId) {cuts : List ℕ} {events : List Event} → (IsStandingName (history_in t) name → AreConsequencesCut (history_in t) name cuts)
       → AreInOrder cuts (rows_in t.steps.items) (rows_in t.sent.items) events → IsRolledBackFrom name events
-  step_rolled name cuts events are ordered at h =
-      cut_in_order t.next (rows_in t.steps.items) (rows_in t.sent.items) kept.sound
-      cuts events ordered name (are (at, h)) at h (from_one (history_in t) at name h)
+  step_rolled name are ordered at h = cut_in_order kept.sound ordered name (are (at, h)) at h (from_one (history_in t) at name h)
 
   pub loss_rolled : (copy : CopyName) (events : List Event) → events ≡ event.Lost copy ∷ [] → IsRolledBackFrom (named.Lost copy) events
   loss_rolled copy events are at h =
       are ∙ sym (free_alone (history_in t) at (event.Lost copy) (from_one (history_in t) at (named.Lost copy) h)
-      (by h.0 h.1 h.2) (first_of_loss t.next (rows_in t.steps.items) (rows_in t.sent.items) kept.sound copy at h))
+      (by h.0 h.1 h.2) (first_of_loss kept.sound copy at h))
     where
       by : (it : Event) → nth (history_in t) at ≡ Some it → event_name it ≡ named.Lost copy → nth (history_in t) at ≡ Some (event.Lost copy)
       by (event.Step p k kind) there is = absurd (cc)

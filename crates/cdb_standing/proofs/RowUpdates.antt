@@ -1,7 +1,8 @@
 -- A table with one row set.
+use Rattle.std.proofs.lemmas.Grind.{common_steps}
 use Rattle.std.proofs.Common.{◌≡◌, ◌≢◌, ℕ, zero, suc, ◌+◌, ◌-◌, ◌<◌, ◌≤◌, List, [], ◌∷◌, ◌++◌, Vec, length, set, slice_get}
 use Rattle.std.proofs.Common.{slice_index_or, Option, Some, None, Bor, refl, sym, ap, ◌∙◌, subst, arith}
-use Rattle.std.proofs.lemmas.Option.{same_Some, none-some, slice_get_past}
+use Rattle.std.proofs.lemmas.Option.{same_Some, none-some, slice_get_past, gets}
 use Rattle.std.specs.Option.{option_copied, MatchOption}
 use Rattle.std.specs.List.{HoldsAt}
 use Rattle.std.specs.Prelude.{vec_len, vec_capacity}
@@ -101,9 +102,7 @@ module _ {T Z : Type 0} where
 -- ---- an item that was looked up
 
 pub got : {A : Type 0} (xs : List A) (k : ℕ) (x : A) → k < length xs → x ≡ slice_index_or xs k x → slice_get xs k ≡ Some x
-got [] k x less is = absurd (omega (arith, less))
-got (z ∷ xs) zero x less is = ap Some (sym is)
-got (z ∷ xs) (suc k) x less is = got xs k x (omega (arith, less)) is
+got xs k x h1 h2 = grind (arith, common_steps, gets)
 
 pub looked_up : {A : Type 0} (o : Option (Bor A)) (xs : List A) (k : ℕ)
     → MatchOption o (length xs ≤ k) (λ x. (k < length xs) × HoldsAt (λ y. x.now ≡ y) xs k) → option_copied o ≡ slice_get xs k
@@ -113,16 +112,10 @@ looked_up (Some x) xs k at = sym (got xs k x.now at.0 (at.1 x.now))
 -- ---- a list with one item set
 
 pub get_set : {A : Type 0} (xs : List A) (j : ℕ) (x y : A) → slice_get xs j ≡ Some x → slice_get (set xs j y) j ≡ Some y
-get_set [] j x y at = absurd (none-some x at)
-get_set (z ∷ xs) zero x y at = refl
-get_set (z ∷ xs) (suc j) x y at = get_set xs j x y at
+get_set xs j x y h1 = grind (arith, common_steps, gets)
 
 pub get_set_other : {A : Type 0} (xs : List A) (i j : ℕ) (y : A) → j ≢ i → slice_get (set xs i y) j ≡ slice_get xs j
-get_set_other [] i j y other = refl
-get_set_other (z ∷ xs) zero zero y other = absurd (other refl)
-get_set_other (z ∷ xs) zero (suc j) y other = refl
-get_set_other (z ∷ xs) (suc i) zero y other = refl
-get_set_other (z ∷ xs) (suc i) (suc j) y other = get_set_other xs i j y (λ e. other (ap suc e))
+get_set_other xs i j y h1 = grind (arith, common_steps, gets)
 
 -- ---- one copy set
 

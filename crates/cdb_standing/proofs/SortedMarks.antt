@@ -1,5 +1,6 @@
 -- Lists of events with marks of their own, put in order.
-use Rattle.std.proofs.Common.{◌≡◌, ◌≢◌, ℕ, suc, ◌+◌, ◌<◌, ◌≤◌, Bool, true, false, cond, nat_eq, nat_lt, ltb-false, eqb-true, eq-eqb}
+use Rattle.std.proofs.lemmas.Grind.{common_steps}
+use Rattle.std.proofs.Common.{◌≡◌, ◌≢◌, ℕ, suc, ◌+◌, ◌<◌, ◌≤◌, Bool, true, false, cond, nat_eq, nat_lt, ltb-false, eq-eqb}
 use Rattle.std.proofs.Common.{List, [], ◌∷◌, ◌++◌, slice_get, Some, ◌⊎◌, inl, inr, ⊎_elim, refl, sym, ap, ◌∙◌, subst, arith}
 use Rattle.std.specs.List.{sum_by}
 use Rattle.std.specs.Prelude.{IsPermutation}
@@ -7,7 +8,7 @@ use Rattle.std.specs.List.Sorted.{IsNonDecreasingBy}
 use Rattle.std.proofs.lemmas.Bool.{cases_eq}
 use Rattle.std.proofs.lemmas.List.Sums.{sum_by-cons, sum_by-append}
 use Rattle.std.proofs.lemmas.List.Sorted.{Contains-permutation, IsPermutation-sym, sum_by-IsPermutation}
-use Rattle.std.proofs.lemmas.Option.{slice_get_within, get_or_from_slice_get, slice_get-get_or}
+use Rattle.std.proofs.lemmas.Option.{slice_get_within, get_or_from_slice_get, slice_get-get_or, gets}
 use Rattle.cdb_base.specs.Positions.{nth}
 use Rattle.cdb_standing.specs.InOrder.{Marked, Has, IsRising, put, in_order, each_from}
 use Rattle.cdb_standing.proofs.Ordered.{has_at, at_has, each_only, in_order_only}
@@ -21,11 +22,7 @@ abbrev pub is_at : ℕ → Marked → ℕ
 is_at m x = one_if (nat_eq x.mark m)
 
 is_at_other : (m : ℕ) (x : Marked) → x.mark ≢ m → is_at m x ≡ 0
-is_at_other m x other = by (nat_eq x.mark m) (eqb-true x.mark m)
-  where
-    by : (b : Bool) → (b ≡ true → x.mark ≡ m) → one_if b ≡ 0
-    by true is = absurd (other (is refl))
-    by false is = refl
+is_at_other m x h1 = grind (arith, common_steps, gets)
 
 is_at_same : (m : ℕ) (x : Marked) → x.mark ≡ m → is_at m x ≡ 1
 is_at_same m x e = ap one_if (eq-eqb x.mark m e)

@@ -1,5 +1,5 @@
 -- Standing events, as they are recorded: each with what it left.
-use Rattle.std.specs.Prelude.{◌≡◌, ◌↔◌, ℕ, List, [], ◌∷◌, ◌++◌, Option, None, Some, MatchOption, Result, Ok, drop, map}
+use Rattle.std.specs.Prelude.{◌≡◌, ◌↔◌, ℕ, List, [], ◌∷◌, ◌++◌, Option, None, Some, MatchOption, Result, Ok, map}
 use Rattle.std.specs.Borrow.{MutBor}
 use Rattle.std.specs.Fn.{FnOnceReturnsAtMut, Once}
 use Rattle.cdb_base.specs.Event.{event_name}
@@ -9,7 +9,7 @@ use Rattle.cdb_base.specs.declared.name.StepId.{StepId}
 use Rattle.cdb_base.specs.declared.name.StepId.TheVariants as named
 use Rattle.cdb_causal.specs.Causality.{IsFree}
 use Rattle.cdb_causal.specs.Dependence.{depends}
-use Rattle.cdb_causal.specs.DirectDependents.{direct_dependents}
+use Rattle.cdb_causal.specs.DirectDependents.{CountsDirectDependents}
 use Rattle.cdb_causal.specs.Names.{IsNamedAt}
 use Rattle.cdb_causal.specs.Rollback.{without}
 use Rattle.cdb_standing.specs.Moves.{IsEndOf, IsFreeAlone}
@@ -56,9 +56,7 @@ TakesFree Is result old new =
 
 -- the event of that name is a direct cause of so many
 abbrev pub IsCountOf : List Event → StepId → ℕ → Type 0
-IsCountOf history name count =
-    (at : ℕ) (event : Event) → nth history at ≡ Some event → event_name event ≡ name
-    → count ≡ direct_dependents depends event (drop at history)
+IsCountOf history name count = (at : ℕ) → IsNamedAt history at name → CountsDirectDependents depends history at count
 
 -- these are 0 exactly where no event depends on that event
 abbrev pub IsZeroWhereFree : List Event → StepId → ℕ → Type 0

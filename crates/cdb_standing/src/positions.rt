@@ -8,7 +8,7 @@ ghost use Rattle.cdb_base.specs.Positions.{nth};
 ghost use Rattle.cdb_causal.specs.Causality.{IsFree};
 ghost use Rattle.cdb_causal.specs.Dependence.{depends as depends_of};
 ghost use Rattle.cdb_causal.specs.DirectCauses.{AreDirectCauses};
-ghost use Rattle.cdb_causal.specs.DirectDependents.{is_direct as is_direct_of, CountsDirectDependents};
+ghost use Rattle.cdb_causal.specs.DirectDependents.{CountsDirectDependents};
 ghost use Rattle.cdb_causal.specs.Names.{IsNamedAt, IsNewName, IsPositionOf, IsFirstDependentOrFree};
 ghost use Rattle.cdb_causal.specs.Laws.{AreConsequences};
 ghost use Rattle.cdb_causal.specs.Rollback.{without};
@@ -16,7 +16,7 @@ ghost use Rattle.cdb_standing.specs.Moves.{IsFreeAlone};
 
 use crate::history::History;
 use cdb_base::{Event, Kind, NoMemory, Reg, StepId};
-use cdb_causal::depends;
+use cdb_causal::is_direct_cause;
 use smallvec::SmallVec;
 use std::alloc::Global;
 
@@ -32,27 +32,14 @@ fn place_of(events: &[Event], name: StepId) -> Option<usize>
     None
 }
 
-/// Whether an event depends on a cause directly: on none of those between that depends on the cause.
-fn is_direct(cause: &Event, between: &[Event], event: &Event) -> bool
-    ensures { result ≡ is_direct_of depends_of cause.now between.now event.now }
-{
-    for other in between {
-        if depends(cause, other) && depends(other, event) {
-            return false;
-        }
-    }
-    depends(cause, event)
-}
-
-/// How many events of a list depend directly on the one at a position.
+/// How many events of a list depend directly on the one at a position, from 1.
 pub(crate) fn count_direct(events: &[Event], at: usize) -> usize
-    requires from_one { 1 ≤ at }
-    requires to_len { at ≤ length events.now }
+    requires { 1 ≤ at }
     ensures { CountsDirectDependents depends_of events.now at result }
 {
     let mut count = 0;
-    for j in at..events.len() {
-        if is_direct(&events[at - 1], &events[at..j], &events[j]) {
+    for i in 0..events.len() {
+        if is_direct_cause(events, at, i + 1) {
             count += 1;
         }
     }

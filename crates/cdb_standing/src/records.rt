@@ -36,7 +36,7 @@ fn is_free(history: &History, name: StepId) -> bool
 /// the order in which they were taken.
 ///
 /// Promise: An event is added with what its change left, or nothing is; what is taken out is what stood there; the
-/// count of an event is 0 exactly where it is free.
+/// count of an event is how many depend on it directly, 0 exactly where it is free.
 #[derive(Drop)]
 pub struct Records<B: Drop> {
     history: History,

@@ -109,6 +109,13 @@ fn answers(alloc: Global, all: &[Told]) -> Result<Vec<StepId>, NoMemory>
     Ok(names)
 }
 
+/// The round of the process of the event, before it comes.
+fn round_before(again: &AnyRun, event: &Event) -> u32
+    ensures { result ≡ round_by rules again.now event.now }
+{
+    round_by(again, event)
+}
+
 /// What is told of the event that comes next.
 fn tell(
     alloc: Global,
@@ -130,7 +137,7 @@ fn tell(
     Ok(Told {
         event: *event,
         deed,
-        round: round_by(again, event),
+        round: round_before(again, event),
         on_trail,
     })
 }

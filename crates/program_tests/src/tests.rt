@@ -9,12 +9,14 @@ mod files;
 mod one_seat;
 mod person;
 mod reading;
+mod several_seats;
 mod streams;
 
 use cdb_base::Request;
-use cdb_program::{Action, MAX_TURNS, World, perform};
+use cdb_base::limits::MAX_TURNS;
+use cdb_program::{Action, World, perform};
 use cdb_session::Streams;
-use files::Folder;
+use files::{Folder, NoFiles};
 use std::process::Abort;
 use std::sync::Wait;
 use std::thread::Threads;
@@ -91,6 +93,7 @@ fn performed<R: Threads + Wait + Clock + Sync + Abort + AllocGlobal>(
         streams: Streams::new(
             Reader::new(INPUT, good.input),
             Writer::new(alloc, good.output),
+            NoFiles,
         ),
         error: Writer::new(alloc, good.error),
     };
@@ -100,7 +103,7 @@ fn performed<R: Threads + Wait + Clock + Sync + Abort + AllocGlobal>(
         streams,
         error,
     } = world;
-    let Streams { input, output } = streams;
+    let Streams { input, output, .. } = streams;
     let failures = files
         .failures
         .wrapping_add(input.failures)

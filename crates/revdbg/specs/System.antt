@@ -1,6 +1,7 @@
 -- The edge to the system: what its errors tell, the names of seats, and what is said at a terminal.
-use Rattle.std.specs.Prelude.{◌≡◌, ◌==◌, ◌&&◌, ℕ, Bool, List, [], codes, bytes_eq, if◌then◌else◌}
-use Rattle.std.specs.List.{after_first, before_first}
+use Rattle.std.specs.Prelude.{◌≡◌, ◌⊎◌, ◌==◌, ◌&&◌, ◌<◌, ℕ, Bool, List, [], length, codes, bytes_eq, if◌then◌else◌}
+use Rattle.std.specs.Prelude.{Result, Ok, Err}
+use Rattle.std.specs.List.{after_first, before_first, position_or_len}
 use Rattle.std.specs.declared.io.ErrorKind.{ErrorKind}
 use Rattle.std.specs.declared.io.ErrorKind.TheVariants as kind
 use Rattle.cdb_base.specs.Memory.{no_memory}
@@ -19,12 +20,24 @@ path_of name = if bytes_eq name (codes "-") then codes "/dev/stdin" else name
 abbrev pub is_colon : ℕ → Bool
 is_colon byte = byte == 58
 
-abbrev pub HasNoColon : List ℕ → Type 0
-HasNoColon name = before_first is_colon name ≡ name
+abbrev pub HasColon : List ℕ → Type 0
+HasColon name = position_or_len is_colon name < length name
 
 -- the name of a seat in two: what it reads, before the first colon, and what it writes, behind that
 abbrev pub IsPair : List ℕ → List ℕ → List ℕ → Type 0
-IsPair name input output = (input ≡ before_first is_colon name) × (output ≡ after_first is_colon name)
+IsPair name input output =
+    HasColon name × (input ≡ before_first is_colon name) × (output ≡ after_first is_colon name)
+
+-- the name is the seat's own, or that of what it reads or writes
+abbrev pub IsOfSeat : List ℕ → List ℕ → Type 0
+IsOfSeat seat name =
+    (name ≡ seat)
+    ⊎ (HasColon seat × ((name ≡ before_first is_colon seat) ⊎ (name ≡ after_first is_colon seat)))
+
+-- how many arguments there are; none where they could not be read
+abbrev pub count_of : {W E : Type 0} → (W → ℕ) → Result W E → ℕ
+count_of count (Ok words) = count words
+count_of count (Err error) = 0
 
 -- what is said before a script is read from a terminal, as where the program's name is the only argument
 abbrev pub hint_at : Bool → ℕ → List ℕ

@@ -14,7 +14,7 @@ use seats::{hint_at, prompt_at};
 use std::io::IsTerminal;
 use std::process::ExitCode;
 use std::{env, io};
-use system_files::SystemFiles;
+use system_files::{SystemFiles, SystemNewFiles};
 
 /// The arguments of the command line, the program's name first.
 fn words_of(rt: &HostRuntime) -> io::Result<Vec<String>> {
@@ -25,13 +25,16 @@ fn words_of(rt: &HostRuntime) -> io::Result<Vec<String>> {
 fn main(rt: HostRuntime) -> ExitCode {
     let mut world = World {
         files: SystemFiles::new(&rt),
-        streams: Streams::new(Input::new(rt.reader()), Output::new(io::writer(&rt))),
+        streams: Streams::new(
+            Input::new(rt.reader()),
+            Output::new(io::writer(&rt)),
+            SystemNewFiles::new(&rt),
+        ),
         error: Output::new(rt.stderr()),
     };
     let is_terminal = rt.stdin().is_terminal();
     let words = words_of(&rt);
-    let arguments = words.as_ref().map_or(0, |words| words.len());
-    let _ = eprint!(&rt; "{}", hint_at(is_terminal, arguments));
+    let _ = eprint!(&rt; "{}", hint_at(is_terminal, &words));
     let status = begin(&rt, rt.alloc(), prompt_at(is_terminal), words, &mut world);
     ExitCode::from(status)
 }

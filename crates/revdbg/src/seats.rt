@@ -1,7 +1,9 @@
 //! The names of files and of seats, and what is shown at a terminal before anything is read.
 
-ghost use Rattle.std.specs.Prelude.{◌≡◌, [], codes, if◌then◌else◌, MatchOption};
-ghost use Rattle.revdbg.specs.System.{HasNoColon, IsPair, hint_at, path_of};
+ghost use Rattle.std.specs.Prelude.{◌≡◌, ◌↔◌, [], codes, if◌then◌else◌, vec_len, IsTrue, MatchOption};
+ghost use Rattle.revdbg.specs.System.{HasColon, IsOfSeat, IsPair, count_of, hint_at, path_of};
+
+use std::io;
 
 /// The path of what is read where this name is given: `-` names standard input.
 pub fn path_of<'a>(name: &'a str) -> &'a str
@@ -18,11 +20,11 @@ pub fn prompt_at(is_terminal: bool) -> &'static str
 }
 
 /// What is said before a script is read from standard input, where that is a terminal: else nobody would know that it
-/// is waited for. The program's name is one of so many arguments.
-pub fn hint_at(is_terminal: bool, arguments: usize) -> &'static str
-    ensures { result.now ≡ hint_at is_terminal arguments }
+/// is waited for. The program's name is the first of the arguments.
+pub fn hint_at(is_terminal: bool, arguments: &io::Result<Vec<String>>) -> &'static str
+    ensures { result.now ≡ hint_at is_terminal (count_of (λ words. vec_len words) arguments.now) }
 {
-    if is_terminal && arguments == 1 {
+    if is_terminal && arguments.as_ref().is_ok_and(|words| words.len() == 1) {
         "reading a script up to the end of input; revdbg --help says what else there is\n"
     } else {
         ""
@@ -32,8 +34,18 @@ pub fn hint_at(is_terminal: bool, arguments: usize) -> &'static str
 /// The file that a seat `IN:OUT` reads and the one that it writes, cut at the first colon; none for the name of a
 /// terminal.
 pub fn pair_of(name: &str) -> Option<(&str, &str)>
-    ensures { MatchOption result (HasNoColon name.now)
+    ensures { MatchOption result (HasColon name.now → ⊥)
         (λ pair. IsPair name.now pair.0.now pair.1.now) }
 {
     name.split_once(':')
+}
+
+/// Whether this is the name of a seat, or of the file that it reads or the one that it writes.
+pub fn is_of_seat(seat: &str, name: &str) -> bool
+    ensures { IsTrue result ↔ IsOfSeat seat.now name.now }
+{
+    match pair_of(seat) {
+        Some((input, output)) => name == seat || name == input || name == output,
+        None => name == seat,
+    }
 }

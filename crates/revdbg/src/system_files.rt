@@ -4,13 +4,13 @@ ghost use Rattle.std.specs.Prelude.{◌≡◌};
 ghost use Rattle.std.specs.IoError.{error_kind};
 ghost use Rattle.revdbg.specs.System.{read_fault_of};
 
-use crate::seats::{pair_of, path_of, prompt_at};
+use crate::seats::{is_of_seat, pair_of, path_of, prompt_at};
 use cdb_base::NoMemory;
 use cdb_page::Rewritten;
 use cdb_program::Files;
-use cdb_session::Streams;
+use cdb_session::{NewFiles, Streams};
 use cdb_shared_session::{Endpoint, Opener};
-use cdb_streams::{Input, Output, OutputFault, ReadFault, read_up_to};
+use cdb_streams::{Failed, Input, Output, OutputFault, ReadFault, read_up_to};
 use std::alloc::{AllocError, Global};
 use std::fs::{File, Metadata};
 use std::io::{ErrorKind, IsTerminal, Write};
@@ -20,7 +20,33 @@ use std::{fs, io};
 const SHOWN_EACH: u32 = 50;
 
 /// What the session of a seat reads from and writes to.
-type SeatConsole = Streams<Input<File>, Output<File>>;
+type SeatConsole = Streams<Input<File>, Output<File>, SystemNewFiles>;
+
+/// New files of the system.
+#[derive(Drop)]
+pub struct SystemNewFiles {
+    rt: HostRuntime,
+}
+
+impl SystemNewFiles {
+    /// New files of the system.
+    pub fn new(rt: &HostRuntime) -> Self {
+        SystemNewFiles { rt: *rt }
+    }
+}
+
+impl NewFiles for SystemNewFiles {
+    ghost use Rattle.std.specs.Prelude.{None};
+
+    ghost saved = { λ _. None };
+
+    fn save(&mut self, name: &[u8], text: &[u8]) -> Result<(), Failed> {
+        match str::from_utf8(name) {
+            Ok(name) => write_first(&self.rt, name, text).map_err(|_| Failed),
+            Err(_) => Err(Failed),
+        }
+    }
+}
 
 /// The files of the system, of which `-` is standard input. Nothing is known of them but how many could not be read.
 #[derive(Drop)]
@@ -43,17 +69,9 @@ impl<'a> SystemFiles<'a> {
 
     /// Whether this is the name of a file that was made, or that a seat reads from or writes to.
     fn is_taken(&self, name: &str) -> bool {
-        for taken in &self.taken {
-            if taken.as_str() == name {
-                return true;
-            }
-            if let Some((input, output)) = pair_of(taken.as_str()) {
-                if input == name || output == name {
-                    return true;
-                }
-            }
-        }
-        false
+        self.taken
+            .iter()
+            .any(|taken| is_of_seat(taken.as_str(), name))
     }
 }
 
@@ -89,7 +107,8 @@ fn seat_of(rt: &HostRuntime, name: &str) -> io::Result<Endpoint<SeatConsole>> {
         None => terminal(rt, name)?,
     };
     let prompt = prompt_at(input.is_terminal()).as_bytes();
-    let console = Streams::new(Input::new(input), Output::new(output));
+    let files = SystemNewFiles::new(rt);
+    let console = Streams::new(Input::new(input), Output::new(output), files);
     Ok(Endpoint { console, prompt })
 }
 
@@ -117,6 +136,16 @@ fn empty_folder(rt: &HostRuntime, name: &str) -> io::Result<()> {
     }
 }
 
+/// Writes a file that was not there. After an error it is not there again.
+fn write_first(rt: &HostRuntime, name: &str, bytes: &[u8]) -> io::Result<()> {
+    let mut file = File::create_new(rt, name)?;
+    let written = file.write_all(bytes);
+    if written.is_err() {
+        let _ = fs::remove_file(rt, name);
+    }
+    written
+}
+
 /// Writes a file under another name, in the place of what has that, and gives it its own once it is whole.
 fn write_new(rt: &HostRuntime, part: &str, name: &str, bytes: &[u8]) -> io::Result<()> {
     let mut file = File::create(rt, part)?;
@@ -141,20 +170,23 @@ fn replace_file(
     }
 }
 
-/// A file of a page, which is written anew.
+/// A file of a page, which is written anew, and whether that failed last.
 #[derive(Drop)]
 pub struct SystemPage {
     rt: HostRuntime,
     name: String,
+    failed: bool,
 }
 
 impl Rewritten for SystemPage {
     ghost use Rattle.std.specs.Prelude.{None};
 
-    ghost versions = { λ _. None };
+    ghost versions = { λ page. record { texts = None; failed = page.failed } };
 
     fn rewrite(&mut self, alloc: Global, text: &[u8]) -> Result<(), OutputFault> {
-        replace_file(&self.rt, alloc, self.name.as_str(), text)
+        let replaced = replace_file(&self.rt, alloc, self.name.as_str(), text);
+        self.failed = replaced == Err(OutputFault::Write);
+        replaced
     }
 }
 
@@ -195,6 +227,8 @@ impl<'a> Files for SystemFiles<'a> {
 
     type Page = SystemPage;
 
+    type New = SystemNewFiles;
+
     ghost use Rattle.std.specs.Prelude.{[], None};
 
     ghost seen = { λ files. record {
@@ -230,6 +264,7 @@ impl<'a> Files for SystemFiles<'a> {
 
     fn make_file(&mut self, alloc: Global, name: &str) -> Result<Output<File>, ReadFault> {
         let taken = String::from_str(alloc, name)?;
+        self.taken.reserve(1)?;
         let made = if self.is_taken(name) {
             Err(io::Error::from(ErrorKind::AlreadyExists))
         } else {
@@ -237,7 +272,7 @@ impl<'a> Files for SystemFiles<'a> {
         };
         match made {
             Ok(file) => {
-                self.taken.push(taken).map_err(AllocError::from)?;
+                self.taken.push_reserved(taken);
                 Ok(Output::new(file))
             }
             Err(error) => {
@@ -251,10 +286,13 @@ impl<'a> Files for SystemFiles<'a> {
     }
 
     fn make_page(&mut self, alloc: Global, name: &str) -> Result<SystemPage, ReadFault> {
+        let page_name = String::from_str(alloc, name)?;
         self.make_file(alloc, name)?;
-        let rt = *self.rt;
-        let name = String::from_str(alloc, name)?;
-        Ok(SystemPage { rt, name })
+        Ok(SystemPage {
+            rt: *self.rt,
+            name: page_name,
+            failed: false,
+        })
     }
 
     fn take_folder(&mut self, _alloc: Global, name: &str) -> Result<(), ReadFault> {

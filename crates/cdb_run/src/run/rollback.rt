@@ -2,12 +2,13 @@
 //! alone.
 
 ghost use Rattle.std.specs.Prelude.{◌≡◌, ◌+◌, ◌<◌, ◌≤◌, [], ◌∷◌, ◌++◌, reverse, vec_len};
-ghost use Rattle.std.specs.Prelude.{vec_capacity, Ok, IfOk, IsOk, OnOk, OnErr};
+ghost use Rattle.std.specs.Prelude.{vec_capacity, All, Ok, IfOk, IsOk, OnOk, OnErr};
 ghost use Rattle.std.specs.Vec.{vec_items};
 ghost use Rattle.cdb_base.specs.Results.{MapsTo};
 ghost use Rattle.cdb_rules.specs.EventRefs.{name_given};
+ghost use Rattle.cdb_rules.specs.Refusals.{IsOfRun};
 ghost use Rattle.cdb_rules.specs.Runs.{step_name, loss_name, AllLeadTo, RollsBackOnto, result_of_rollback, causes_in};
-ghost use Rattle.cdb_rules.specs.Runs.{after_rollback, RollbackLeadsBack, IsExactRollback, AreCausesOf};
+ghost use Rattle.cdb_rules.specs.Runs.{after_rollback, RollbackLeadsBack, IsExactRollback, AreCausesOf, RemovesOfRun};
 ghost use Rattle.cdb_rules.specs.Undo.{number_removed, with_removed};
 ghost use Rattle.cdb_standing.specs.Moves.{IsStandingName};
 
@@ -72,6 +73,8 @@ impl<P: Process> Run<P> {
         ensures exact { OnOk result (IsExactRollback self.old (name_given event) self.new) }
         ensures again { IfOk result
             (λ r. IfOk r (λ removed. AllLeadTo P.table self.new (reverse removed.items) self.old)) }
+        ensures of_run { IfOk result
+            (λ r. IfOk r (λ removed. All (IsOfRun self.old.setup) removed.items)) }
         ensures err { OnErr result (self.new ≡ self.old) }
         ensures memory { OnErr result (IsOk (result_of_rollback self.old (name_given event))) }
     {
@@ -84,7 +87,8 @@ impl<P: Process> Run<P> {
 
     /// Removes an event with its consequences, adds what was removed to the end of a list, the last first, and
     /// returns how many events that are; or returns the first refusal that holds: `NoProcess` or `NoStep`. After a
-    /// refusal and after `NoMemory` run and list are as they were. A refusal takes no memory.
+    /// refusal and after `NoMemory` run and list are as they were. A refusal takes no memory. What it adds may be given
+    /// to `again`.
     ///
     /// Promise: A rollback removes an event with exactly its consequences, the least set that holds the event and each
     /// that depends on one of them; what it removed, taken again in order, leads to the state before. Memory that is
@@ -100,6 +104,7 @@ impl<P: Process> Run<P> {
         ensures exact { OnOk result (IsExactRollback self.old (name_given event) self.new) }
         ensures again { OnOk result
             (RollbackLeadsBack P.table self.old (name_given event) self.new) }
+        ensures of_run { RemovesOfRun self.old (name_given event) }
         ensures capacity { vec_capacity removed.old ≤ vec_capacity removed.new }
     {
         let _ranges = self.setup().n();
@@ -112,7 +117,7 @@ impl<P: Process> Run<P> {
 
     /// Removes the `k`-th step of process `p` with its consequences, and returns what was removed, the last
     /// first; or returns the first refusal that holds: `NoProcess` or `NoStep`. After a refusal and after `NoMemory`
-    /// the run is as it was. A refusal takes no memory.
+    /// the run is as it was. A refusal takes no memory. What it returns may be given to `again`.
     pub fn rollback(
         &mut self,
         alloc: Global,
@@ -125,6 +130,8 @@ impl<P: Process> Run<P> {
         ensures exact { OnOk result (IsExactRollback self.old (step_name p k) self.new) }
         ensures again { IfOk result
             (λ r. IfOk r (λ removed. AllLeadTo P.table self.new (reverse removed.items) self.old)) }
+        ensures of_run { IfOk result
+            (λ r. IfOk r (λ removed. All (IsOfRun self.old.setup) removed.items)) }
         ensures err { OnErr result (self.new ≡ self.old) }
         ensures memory { OnErr result (IsOk (result_of_rollback self.old (step_name p k))) }
     {
@@ -146,6 +153,8 @@ impl<P: Process> Run<P> {
         ensures exact { OnOk result (IsExactRollback self.old (loss_name s m p) self.new) }
         ensures again { IfOk result
             (λ r. IfOk r (λ removed. AllLeadTo P.table self.new (reverse removed.items) self.old)) }
+        ensures of_run { IfOk result
+            (λ r. IfOk r (λ removed. All (IsOfRun self.old.setup) removed.items)) }
         ensures err { OnErr result (self.new ≡ self.old) }
         ensures memory { OnErr result (IsOk (result_of_rollback self.old (loss_name s m p))) }
     {

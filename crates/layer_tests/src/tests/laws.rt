@@ -19,8 +19,6 @@ fn laws_of_events() {
     laws::free_without_effects::<Event>();
     laws::direct_causes_stay::<Event>();
     laws::direct_by_list::<Event>();
-    laws::direct_dependents_counted::<Event>();
-    laws::no_direct_dependent::<Event>();
     laws::rollback_by_undo::<Event>();
     // What led to an event, and what it led to, is one relation of the events of a history.
     past::past_is_consequences_turned_round::<Event>();

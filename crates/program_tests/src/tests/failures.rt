@@ -1,7 +1,8 @@
 //! Each read and each write fails in turn.
 
 use super::{ALL_GOOD, Ended, GoodCalls, action, performed};
-use cdb_base::{COLUMNS, Question, Request, StepAsked};
+use cdb_base::limits::COLUMNS;
+use cdb_base::{Question, Request, StepAsked};
 use cdb_program::{Action, Fault};
 use std::alloc::{AllocError, Global};
 use std::process::Abort;

@@ -3,7 +3,8 @@
 use super::streams::{Arrival, Writer};
 use cdb_page::Rewritten;
 use cdb_program::Files;
-use cdb_streams::{OutputFault, ReadFault};
+use cdb_session::NewFiles;
+use cdb_streams::{Failed, OutputFault, ReadFault};
 use std::alloc::{AllocError, Global};
 
 /// A name and the bytes of the file of this name.
@@ -64,12 +65,26 @@ fn content_of(name: &str) -> Option<&'static [u8]> {
 pub struct Paper;
 
 impl Rewritten for Paper {
-    ghost use Rattle.std.specs.Prelude.{None};
+    ghost use Rattle.std.specs.Prelude.{None, false};
 
-    ghost versions = { λ _. None };
+    ghost versions = { λ _. record { texts = None; failed = false } };
 
     fn rewrite(&mut self, _alloc: Global, _text: &[u8]) -> Result<(), OutputFault> {
         Ok(())
+    }
+}
+
+/// What takes no new file.
+#[derive(Drop)]
+pub struct NoFiles;
+
+impl NewFiles for NoFiles {
+    ghost use Rattle.std.specs.Prelude.{None};
+
+    ghost saved = { λ _. None };
+
+    fn save(&mut self, _name: &[u8], _text: &[u8]) -> Result<(), Failed> {
+        Err(Failed)
     }
 }
 
@@ -79,6 +94,8 @@ impl Files for Folder {
     type Made = Writer;
 
     type Page = Paper;
+
+    type New = NoFiles;
 
     ghost use Rattle.std.specs.Prelude.{[], None, Some};
     ghost use Rattle.cdb_play.specs.Races.{bytes_of};

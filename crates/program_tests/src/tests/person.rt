@@ -25,6 +25,7 @@ impl Console for Person {
       moves = None;
       left = None;
       held = None;
+      saved = None;
       failed_reads = person.failed_reads;
       failed_writes = person.failed_writes;
     } };
@@ -50,6 +51,10 @@ impl Console for Person {
         }
         self.good_writes -= 1;
         Ok(count)
+    }
+
+    fn save(&mut self, _name: &[u8], _text: &[u8]) -> Result<(), Failed> {
+        Err(Failed)
     }
 }
 

@@ -70,6 +70,7 @@ impl Console for Visitor {
       moves = None;
       left = None;
       held = None;
+      saved = None;
       failed_reads = 0;
       failed_writes = 0;
     } };
@@ -83,6 +84,10 @@ impl Console for Visitor {
 
     fn write(&mut self, piece: &[u8]) -> Result<usize, Failed> {
         Ok(piece.len())
+    }
+
+    fn save(&mut self, _name: &[u8], _text: &[u8]) -> Result<(), Failed> {
+        Ok(())
     }
 }
 

@@ -5,7 +5,7 @@ use Rattle.cdb_causal.specs.Dependence.{depends}
 use Rattle.cdb_causal.specs.Names.{IsNewName}
 use Rattle.cdb_causal.specs.Rollback.{without}
 use Rattle.cdb_rules.specs.Undo.{names_processes, undo_of}
-use Rattle.cdb_causal.proofs.Dependents.{last_free, without_push_back}
+use Rattle.cdb_causal.proofs.LastEvent.{last_free, without_push_back}
 use Rattle.cdb_rules.proofs.AllStanding.{last_undone}
 use Rattle.cdb_agreement.proofs.laws.step_then_undo.Goals as goal
 

@@ -2,7 +2,8 @@ use Rattle.std.proofs.Common.{◌≡◌, ◌+◌, [], ◌∷◌, ◌++◌, lengt
 use Rattle.cdb_causal.specs.Causality.{IsDirectCause}
 use Rattle.cdb_causal.specs.Dependence.{depends}
 use Rattle.cdb_causal.specs.Rollback.{done}
-use Rattle.cdb_page.proofs.ListItems.{found_in, found_out, false_only}
+use Rattle.cdb_causal.proofs.Linked.{false_only}
+use Rattle.cdb_page.proofs.ListItems.{found_in, found_out}
 use Rattle.cdb_page.proofs.links.direct_dependents.Goals as goal
 use Rattle.cdb_page.proofs.links.direct_dependents.Goals.{then-is_direct_cause+in_ok-push, else-is_direct_cause}
 

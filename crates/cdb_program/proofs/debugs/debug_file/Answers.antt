@@ -5,7 +5,7 @@ use Rattle.cdb_program.proofs.debugs.debug_file.Goals as goal
 pub returns-in_err-json-clause-does : goal.returns-in_err-json-clause-does
 returns-in_err-json-clause-does g c =
     let p = err_from_is_err_and c.from_residual.result c.from_residual.ensures.1 in
-    rw (p.1, p.2, ← c.world.view_is) (inl ((c.in_err-json.ensures, refl), refl))
+    rw (p.1, p.2, ← c.world.view_is) (inl ((c.in_err-json.ensures, refl), (refl, refl)))
 
 pub returns-clause-does : goal.returns-clause-does
 returns-clause-does g c =

@@ -18,14 +18,14 @@ returns-in_err-json-clause-does g c =
     let p = err_from_is_err_and c.from_residual.result c.from_residual.ensures.1 in
     let names = c.args.setup.now ∷ any_name (any_text c.args.from) in
     rw (p.1, p.2, ← c.world.view_is)
-    (inl ((fails_before _ _ names (c.args.file.now ∷ []) c.in_err-json.field-0.0 c.in_err-json.ensures, refl), refl))
+    (inl ((fails_before _ _ names (c.args.file.now ∷ []) c.in_err-json.field-0.0 c.in_err-json.ensures, refl), (refl, refl)))
 
 pub returns-in_err-file-clause-does : goal.returns-in_err-file-clause-does
 returns-in_err-file-clause-does g c =
     let p = err_from_is_err_and c.from_residual-in_err-file.result c.from_residual-in_err-file.ensures.1 in
     let names = c.args.setup.now ∷ any_name (any_text c.args.from) in
     rw (p.1, p.2, ← c.world.view_is)
-    (inl ((fails_later _ _ _ names (c.args.file.now ∷ []) c.in_err-file.field-0.0 c.in_ok-json.ensures.0 c.in_err-file.ensures.fault, refl), refl))
+    (inl ((fails_later _ _ _ names (c.args.file.now ∷ []) c.in_err-file.field-0.0 c.in_ok-json.ensures.0 c.in_err-file.ensures.fault, refl), (refl, refl)))
 
 pub returns-clause-does : goal.returns-clause-does
 returns-clause-does g c =

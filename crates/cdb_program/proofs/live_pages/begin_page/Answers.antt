@@ -1,11 +1,12 @@
 use Rattle.std.proofs.Common.{[], ◌∷◌, sym, append-nil}
+use Rattle.std.specs.Prelude.{option_map}
 use Rattle.std.proofs.lemmas.Result.{err_from_is_err_and}
 use Rattle.cdb_base.specs.Requests.{any_text}
 use Rattle.cdb_program.specs.Known.{any_name}
 use Rattle.cdb_program.specs.LivePages.{files_for}
 use Rattle.cdb_program.proofs.OpenedFiles.{opened_then, fails_before}
 use Rattle.cdb_program.proofs.Seated.{fails_later}
-use Rattle.cdb_program.proofs.Shown.{made_as_named, new_has_taken_nothing}
+use Rattle.cdb_program.proofs.Shown.{new_page}
 use Rattle.cdb_program.proofs.live_pages.begin_page.Goals as goal
 
 pub returns-in_err-journal-clause-fault : goal.returns-in_err-journal-clause-fault
@@ -19,18 +20,14 @@ returns-in_err-file-clause-fault g c =
     rw (p.1, p.2) (fails_later _ _ _ (any_name (any_text c.args.journal)) (c.args.page.now ∷ [])
     c.in_err-file.field-0.0 c.in_ok-journal.ensures.opened c.in_err-file.ensures.fault)
 
-pub begin-requires-clause-empty : goal.begin-requires-clause-empty
-begin-requires-clause-empty g c = new_has_taken_nothing g.F.Made.Sink.stream (any_text c.args.journal) c.in_ok-journal.journal c.in_ok-journal.ensures.file
-
 pub returns-in-Ok-clause-opened : goal.returns-in-Ok-clause-opened
 returns-in-Ok-clause-opened g c =
     opened_then _ _ _ (any_name (any_text c.args.journal)) (c.args.page.now ∷ []) c.in_ok-journal.ensures.opened c.in_ok-file.ensures.opened
 
 pub returns-in-Ok-clause-page : goal.returns-in-Ok-clause-page
-returns-in-Ok-clause-page g c = (
-  made_as_named g.F.Made.Sink.stream (any_text c.args.journal) c.in_ok-journal.journal _ _ _ c.in_ok-journal.ensures.file c.in-Ok.ensures.made,
-  c.in-Ok.ensures.empty,
-)
+returns-in-Ok-clause-page g c =
+    new_page (any_text c.args.journal) (option_map g.F.Made.Sink.stream c.in_ok-journal.journal) _ _ _
+    c.in_ok-journal.ensures.file c.in-Ok.ensures.made c.in-Ok.ensures.empty
 
 pub returns-in-Err-clause-fault : goal.returns-in-Err-clause-fault
 returns-in-Err-clause-fault g c =

@@ -20,7 +20,7 @@ returns-in_err-json-clause-does g c =
     let p = err_from_is_err_and c.from_residual.result c.from_residual.ensures.1 in
     let names = c.args.setup.now ∷ any_name (any_text c.args.from) in
     rw (p.1, p.2, ← c.world.view_is)
-    (inl ((fails_before _ _ names (files_for (any_text c.args.journal) c.args.page.now) c.in_err-json.field-0.0 c.in_err-json.ensures, refl), refl))
+    (inl ((fails_before _ _ names (files_for (any_text c.args.journal) c.args.page.now) c.in_err-json.field-0.0 c.in_err-json.ensures, refl), (refl, refl)))
 
 pub returns-in_err-live-clause-does : goal.returns-in_err-live-clause-does
 returns-in_err-live-clause-does g c =
@@ -33,7 +33,7 @@ returns-in_err-live-clause-does g c =
             c.in_err-live.field-0.0 c.in_ok-json.ensures.0 c.in_err-live.ensures.fault,
         refl,
       ),
-      refl,
+      (refl, refl),
     ))
 
 pub returns-clause-does : goal.returns-clause-does
@@ -58,7 +58,7 @@ returns-clause-does g c =
         begun = made;
         ended = ended;
         session = session;
-        page = (debugged_page journal c.args.prompt.now json begun json begun _ _ first ended made session, c.outcome.ensures.keeps_up);
+        page = (debugged_page c.args.prompt.now json begun _ _ first ended session, c.outcome.ensures.keeps_up);
         ends = rw (← c.outcome.ensures.is) c.of_paged.ensures;
       },
     ))

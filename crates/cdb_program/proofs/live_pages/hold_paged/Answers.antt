@@ -62,7 +62,7 @@ returns-in-Ok-clause-sessions g c =
     let made : IsNewPage journal json begun first = rw (← c.as_slice-json.ensures.value, ← c.as_slice-begun.ensures.value) c.in_ok-live.ensures.page in
     let held = rw (c.as_slice-json.ensures.value, c.as_slice-begun.ensures.value) at c.in-Ok.ensures.sessions in
     let shown = c.outcome_of.result in
-    let its = kept_by journal json begun first c.in-Ok.kept _ shown made held.keeps c.outcome_of.ensures.keeps_up c.outcome_of.ensures.is in
+    let its = kept_by first c.in-Ok.kept _ shown held.keeps c.outcome_of.ensures.keeps_up c.outcome_of.ensures.is in
     let files_before = g.F.Files.seen c.world.inside.files in
     let session =
     holds_seen rules IsAnswer g.F.Seat.Seat.Console.known opens stream_of g.O.Sink.stream
@@ -105,8 +105,8 @@ pub returns-then-seats-from-clause-fault : goal.returns-then-seats-from-clause-f
 returns-then-seats-from-clause-fault g c =
     (omega (arith, c.from.ensures, c.if-seats-from.true, length-map c.args.seats.now (λ (name : Bor (List ℕ)). name.now)), refl)
 
-pub returns-in-Ok-clause-input : goal.returns-in-Ok-clause-input
-returns-in-Ok-clause-input g c = rw (← c.world.view_is) refl
+pub returns-in-Ok-clause-none : goal.returns-in-Ok-clause-none
+returns-in-Ok-clause-none g c = rw (← c.world.view_is) (refl, refl)
 
 pub returns-clause-output : goal.returns-clause-output
 returns-clause-output g c = rw (← c.world.view_is) (ap g.O.Sink.stream c.in-Err.ensures.unwritten.0)
@@ -114,5 +114,5 @@ returns-clause-output g c = rw (← c.world.view_is) (ap g.O.Sink.stream c.in-Er
 pub returns-clause-error : goal.returns-clause-error
 returns-clause-error g c = rw (← c.world.view_is) (ap g.E.Sink.stream c.in-Err.ensures.unwritten.1)
 
-pub returns-clause-input : goal.returns-clause-input
-returns-clause-input g c = rw (← c.world.view_is) refl
+pub returns-clause-none : goal.returns-clause-none
+returns-clause-none g c = rw (← c.world.view_is) (refl, refl)

@@ -4,7 +4,7 @@ use Rattle.cdb_program.proofs.live_pages.perform_paged.Goals as goal
 pub returns-in-Err : goal.returns-in-Err
 returns-in-Err g c =
     let e = c.in-Err.ensures in
-    let input = rw (← c.world.view_is) at c.hold_paged.ensures.input in
+    let none = rw (← c.world.view_is) at c.hold_paged.ensures.none in
     let fault = rw (← c.world.view_is) at e.fault in
     let output = rw (← c.world.view_is) at e.output in
-    (input, inl (c.in-Err.fault, fault, output, rw (← e.error, ← c.world.view_is) c.report.ensures))
+    (none, inl (c.in-Err.fault, fault, output, rw (← e.error, ← c.world.view_is) c.report.ensures))

@@ -8,4 +8,4 @@ perform_one-requires-clause-other g c κs within =
 pub returns-in_default : goal.returns-in_default
 returns-in_default g c =
     (done_alone c.args.request.now (λ setup seats from journal page is. c.in_default.not-Debug setup seats from journal page is)).performs
-    c.args.prompt.now _ _ _ c.perform_one.ensures
+    c.args.prompt.now _ _ _ c.perform_one.ensures.done c.perform_one.ensures.saved

@@ -86,8 +86,8 @@ pub returns-then-seats-from-clause-fault : goal.returns-then-seats-from-clause-f
 returns-then-seats-from-clause-fault g c =
     (omega (arith, c.from.ensures, c.if-seats-from.true, length-map c.args.seats.now (λ (name : Bor (List ℕ)). name.now)), refl)
 
-pub returns-in-Ok-clause-input : goal.returns-in-Ok-clause-input
-returns-in-Ok-clause-input g c = rw (← c.world.view_is) refl
+pub returns-in-Ok-clause-none : goal.returns-in-Ok-clause-none
+returns-in-Ok-clause-none g c = rw (← c.world.view_is) (refl, refl)
 
 pub returns-clause-output : goal.returns-clause-output
 returns-clause-output g c = rw (← c.world.view_is) (ap g.O.Sink.stream c.in-Err.ensures.unwritten.0)
@@ -95,5 +95,5 @@ returns-clause-output g c = rw (← c.world.view_is) (ap g.O.Sink.stream c.in-Er
 pub returns-clause-error : goal.returns-clause-error
 returns-clause-error g c = rw (← c.world.view_is) (ap g.E.Sink.stream c.in-Err.ensures.unwritten.1)
 
-pub returns-clause-input : goal.returns-clause-input
-returns-clause-input g c = rw (← c.world.view_is) refl
+pub returns-clause-none : goal.returns-clause-none
+returns-clause-none g c = rw (← c.world.view_is) (refl, refl)

@@ -1,7 +1,7 @@
 use Rattle.std.proofs.Common.{◌-◌, List, ℕ, arith, refl, ap, length, take, drop}
 use Rattle.std.proofs.lemmas.List.{length-drop, length-take}
 use Rattle.std.proofs.lemmas.Result.{err_from_is_err_and}
-use Rattle.cdb_session.specs.Moves.{Wrote, WriteFailed}
+use Rattle.cdb_session.specs.Moves.{Wrote, WriteFailed, says}
 use Rattle.cdb_session.proofs.WrittenText.{nothing_said, piece_said, cut_off}
 use Rattle.cdb_session.proofs.console.write_all.Goals as goal
 
@@ -18,7 +18,7 @@ returns-then-count-eq0 g c =
     let piece : List ℕ = take (length bytes - done) (drop done bytes) in
     let none = ap (λ n. take n piece) c.if-count-eq0.true in
     cut_off _ _ _ bytes done c.loop-done.invariant.said (Unit {0}) (Unit {0}) tt
-    (Wrote (take c.in_ok-count.count piece)) none (λ asks. asks) none c.in_ok-count.ensures.moves
+    (Wrote (take c.in_ok-count.count piece)) none (λ asks. asks) (ap says none) c.in_ok-count.ensures.moves
 
 pub loop-done-init : goal.loop-done-init
 loop-done-init g c = record { within = omega arith; said = nothing_said _ _ }

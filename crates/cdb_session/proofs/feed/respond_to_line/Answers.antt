@@ -1,7 +1,6 @@
 use Rattle.std.proofs.Common.{◌≡◌, refl, ap, subst, ◌∙◌}
 use Rattle.std.proofs.lemmas.Result.{err_from_is_err_and}
 use Rattle.cdb_base.specs.declared.no_memory.NoMemory.{NoMemory}
-use Rattle.cdb_session.specs.Moves.{WritesAll}
 use Rattle.cdb_session.specs.Requests.{AsksFor}
 use Rattle.cdb_session.specs.Typed.{line_meant}
 use Rattle.cdb_session.specs.Lines.{seen_by}
@@ -18,40 +17,34 @@ returns-in_err-line-clause-unfinished g c =
 pub returns-in_err-line-clause-later : goal.returns-in_err-line-clause-later
 returns-in_err-line-clause-later g c = stays
 
-pub returns-in_err-text-clause-unfinished : goal.returns-in_err-text-clause-unfinished
-returns-in_err-text-clause-unfinished g c =
-    let p = err_from_is_err_and c.from_residual-in_err-text.result c.from_residual-in_err-text.ensures.1 in
+pub returns-in_err-show-clause-unfinished : goal.returns-in_err-show-clause-unfinished
+returns-in_err-show-clause-unfinished g c =
+    let p = err_from_is_err_and c.from_residual-in_err-show.result c.from_residual-in_err-show.ensures.1 in
     let meant : c.as_slice-2.result.now ≡ line_meant c.args.unfinished.now.items =
     c.as_slice-2.ensures.value ∙ c.in_ok-line.ensures ∙ ap line_meant c.as_slice.ensures.value in
     let asks = subst (AsksFor c.request_of-request.result) meant c.request_of-request.ensures.asks in
     rw (p.1, p.2)
     (line_is_lost g.C.Caller.answers c.args.style.now _ _ (seen_by g.C.Caller.part c.args.session.now)
     (seen_by g.C.Caller.part c.show.new.self) c.args.unfinished.now.items c.args.unfinished.now.items
-    c.request_of-request.result asks NoMemory c.in_err-text.field-0.0 refl c.in_err-text.ensures.shows)
+    c.request_of-request.result asks NoMemory c.in_err-show.field-0.0 refl c.in_err-show.ensures.shows)
 
-pub returns-in_err-write_all-clause-unfinished : goal.returns-in_err-write_all-clause-unfinished
-returns-in_err-write_all-clause-unfinished g c =
-    let p = err_from_is_err_and c.from_residual-in_err-write_all.result c.from_residual-in_err-write_all.ensures.1 in
+pub returns-in_err-put-clause-unfinished : goal.returns-in_err-put-clause-unfinished
+returns-in_err-put-clause-unfinished g c =
+    let p = err_from_is_err_and c.from_residual-in_err-put.result c.from_residual-in_err-put.ensures.1 in
     let meant : c.as_slice-2.result.now ≡ line_meant c.args.unfinished.now.items =
     c.as_slice-2.ensures.value ∙ c.in_ok-line.ensures ∙ ap line_meant c.as_slice.ensures.value in
     let asks = subst (AsksFor c.request_of-request.result) meant c.request_of-request.ensures.asks in
-    let says =
-    subst (WritesAll c.write_all.result (g.T.Console.known c.args.console.now) (g.T.Console.known c.write_all.new.console))
-    c.as_slice-3.ensures.value c.write_all.ensures in
     rw (p.1, p.2)
     (line_is_broken g.C.Caller.answers c.args.style.now _ _ (seen_by g.C.Caller.part c.args.session.now) (seen_by g.C.Caller.part c.show.new.self)
-    c.args.unfinished.now.items c.args.unfinished.now.items c.request_of-request.result asks NoMemory c.in_ok-text.text
-    (Unit {0}) _ c.in_err-write_all.field-0.0 c.in_ok-text.ensures.shows (rw (c.in_err-write_all.was) at says))
+    c.args.unfinished.now.items c.args.unfinished.now.items c.request_of-request.result asks NoMemory c.in_ok-show.field-0
+    (Unit {0}) _ c.in_err-put.field-0.0 c.in_ok-show.ensures.shows c.in_err-put.ensures.0 c.in_err-put.ensures.1)
 
 pub returns-clause-unfinished : goal.returns-clause-unfinished
 returns-clause-unfinished g c =
     let meant : c.as_slice-2.result.now ≡ line_meant c.args.unfinished.now.items =
     c.as_slice-2.ensures.value ∙ c.in_ok-line.ensures ∙ ap line_meant c.as_slice.ensures.value in
     let asks = subst (AsksFor c.request_of-request.result) meant c.request_of-request.ensures.asks in
-    let says =
-    subst (WritesAll c.write_all.result (g.T.Console.known c.args.console.now) (g.T.Console.known c.write_all.new.console))
-    c.as_slice-3.ensures.value c.write_all.ensures in
     line_is_done g.C.Caller.answers c.args.style.now _ _ (seen_by g.C.Caller.part c.args.session.now)
     (seen_by g.C.Caller.part c.show.new.self) c.args.unfinished.now.items c.clear.new.self.items c.request_of-request.result
-    asks NoMemory c.in_ok-text.text (Unit {0}) (Unit {0}) tt c.is_quit.result c.in_ok-text.ensures.shows
-    (rw (c.in_ok-write_all.was) at says) c.in_ok-text.ensures.lines c.in_ok-text.ensures.seat c.clear.ensures.items c.is_quit.ensures
+    asks NoMemory c.in_ok-show.field-0 (Unit {0}) (Unit {0}) tt c.is_quit.result c.in_ok-show.ensures.shows c.in_ok-put.ensures.0 c.in_ok-put.ensures.1
+    c.in_ok-show.ensures.lines c.in_ok-show.ensures.seat c.clear.ensures.items c.is_quit.ensures

@@ -1,9 +1,9 @@
 use Rattle.std.proofs.Common.{◌≡◌, ℕ, List, ◌++◌, ap, subst}
 use Rattle.std.specs.Prelude.{Err}
 use Rattle.std.proofs.lemmas.Result.{err_from_is_err_and}
-use Rattle.cdb_session.specs.Moves.{WritesAll}
+use Rattle.cdb_session.specs.Moves.{WritesAll, says}
 use Rattle.cdb_session.specs.Styles.{StyleView}
-use Rattle.cdb_session.proofs.WrittenText.{both_said, first_cut_off}
+use Rattle.cdb_session.proofs.WrittenText.{both_texts_said, first_text_cut_off}
 use Rattle.cdb_session.proofs.repl.write_opening.Goals as goal
 
 pub returns-in_err-write_all : goal.returns-in_err-write_all
@@ -14,8 +14,8 @@ returns-in_err-write_all g c =
     let before = g.T.Console.known c.args.console.now in
     let now = g.T.Console.known c.write_all.new.console in
     rw p.1
-    (subst (λ (text : List ℕ). WritesAll {A = Unit {0}} {E = Unit {0}} (Err tt) before now (text ++ prompt)) greets
-    (first_cut_off (Unit {0}) (Unit {0}) before now now c.style.inside.greeting.now prompt (Unit {0}) (Unit {0}) tt tt c.in_err-write_all.ensures))
+    (subst (λ (text : List ℕ). WritesAll {A = Unit {0}} {E = Unit {0}} (Err tt) before now (says (text ++ prompt))) greets
+    (first_text_cut_off (Unit {0}) (Unit {0}) before now now c.style.inside.greeting.now prompt (Unit {0}) (Unit {0}) tt tt c.in_err-write_all.ensures))
 
 pub returns : goal.returns
 returns g c =
@@ -24,6 +24,6 @@ returns g c =
     let before = g.T.Console.known c.args.console.now in
     let now = g.T.Console.known c.write_all.new.console in
     let new = g.T.Console.known c.write_prompt.new.console in
-    subst (λ (text : List ℕ). WritesAll c.write_prompt.result before new (text ++ prompt)) greets
-    (both_said (Unit {0}) (Unit {0}) before now new c.style.inside.greeting.now prompt
+    subst (λ (text : List ℕ). WritesAll c.write_prompt.result before new (says (text ++ prompt))) greets
+    (both_texts_said (Unit {0}) (Unit {0}) before now new c.style.inside.greeting.now prompt
     _ _ c.write_prompt.result tt c.in_ok-write_all.ensures c.write_prompt.ensures)

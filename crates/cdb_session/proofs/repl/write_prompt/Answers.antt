@@ -1,9 +1,9 @@
 use Rattle.std.proofs.Common.{rules, tests, ◌≡◌, true, ℕ, List, ◌++◌, decimal, sym, ap, subst, ◌∙◌}
 use Rattle.std.specs.Prelude.{Err}
 use Rattle.std.proofs.lemmas.Result.{err_from_is_err_and}
-use Rattle.cdb_session.specs.Moves.{WritesAll}
+use Rattle.cdb_session.specs.Moves.{WritesAll, says}
 use Rattle.cdb_session.specs.Styles.{StyleView, prompt_at}
-use Rattle.cdb_session.proofs.WrittenText.{both_said, first_cut_off}
+use Rattle.cdb_session.proofs.WrittenText.{both_texts_said, first_text_cut_off}
 use Rattle.cdb_session.proofs.repl.write_prompt.Goals as goal
 
 pub returns-in_err-write_all : goal.returns-in_err-write_all
@@ -19,8 +19,8 @@ returns-in_err-write_all g c =
     let before = g.T.Console.known c.args.console.now in
     let now = g.T.Console.known c.write_all-2.new.console in
     rw p.1
-    (subst (λ (text : List ℕ). WritesAll {A = Unit {0}} {E = Unit {0}} (Err tt) before now text) whole
-    (first_cut_off (Unit {0}) (Unit {0}) before now now digits its.prompt.now (Unit {0}) (Unit {0}) tt tt c.in_err-write_all.ensures))
+    (subst (λ (text : List ℕ). WritesAll {A = Unit {0}} {E = Unit {0}} (Err tt) before now (says text)) whole
+    (first_text_cut_off (Unit {0}) (Unit {0}) before now now digits its.prompt.now (Unit {0}) (Unit {0}) tt tt c.in_err-write_all.ensures))
 
 pub returns : goal.returns
 returns g c =
@@ -34,5 +34,5 @@ returns g c =
     let before = g.T.Console.known c.args.console.now in
     let now = g.T.Console.known c.write_all-2.new.console in
     let new = g.T.Console.known c.write_all-3.new.console in
-    subst (λ (text : List ℕ). WritesAll c.write_all-3.result before new text) whole
-    (both_said (Unit {0}) (Unit {0}) before now new digits its.prompt.now _ _ c.write_all-3.result tt c.in_ok-write_all.ensures c.write_all-3.ensures)
+    subst (λ (text : List ℕ). WritesAll c.write_all-3.result before new (says text)) whole
+    (both_texts_said (Unit {0}) (Unit {0}) before now new digits its.prompt.now _ _ c.write_all-3.result tt c.in_ok-write_all.ensures c.write_all-3.ensures)

@@ -1,4 +1,5 @@
-use Rattle.std.proofs.Common.{◌≡◌, ◌≤◌, ℕ, sym, ap, subst, ◌∙◌, arith, length, List, vec_len}
+use Rattle.std.proofs.Common.{◌≡◌, ◌≤◌, ℕ, ap, subst, ◌∙◌, arith, length, List, vec_len}
+use Rattle.std.proofs.lemmas.Result.{err_from_is_err_and}
 use Rattle.cdb_base.specs.Limits.{MAX_SEATS}
 use Rattle.cdb_journal.specs.OpenedFrom.{IsOpenedFrom}
 use Rattle.cdb_control.specs.declared.control.Entry.{Entry}
@@ -19,13 +20,15 @@ returns-in-Err-clause-fault g c =
     subst (λ (seats : ℕ). IsFaultOfSessions c.args.setup.now c.args.from.now seats c.of_beginning.result) c.len-count.ensures
     (c.of_beginning.ensures c.args.setup.now c.args.from.now c.len-count.result c.in-Err.ensures.fault)
 
-pub returns-in-Err-ended-clause-fault : goal.returns-in-Err-ended-clause-fault
-returns-in-Err-ended-clause-fault g c =
-    subst (IsFaultOfSessions c.args.setup.now c.args.from.now (vec_len c.args.openers)) (sym c.of_sessions.ensures)
-    (threads_failed c.args.setup.now c.args.from.now (vec_len c.args.openers) c.in-Ok.ensures.begun.0 _ c.in-Ok.ensures.begun.1)
+pub returns-in_err-control-clause-fault : goal.returns-in_err-control-clause-fault
+returns-in_err-control-clause-fault g c =
+    let p = err_from_is_err_and c.from_residual.result c.from_residual.ensures.1 in
+    rw (p.1, p.2)
+    (threads_failed c.args.setup.now c.args.from.now (vec_len c.args.openers) c.in-Ok.ensures.begun.0 c.in_err-control.field-0.0
+    c.in-Ok.ensures.begun.1 c.in_err-control.ensures.fault)
 
 pub write_failures-requires : goal.write_failures-requires
-write_failures-requires g c = omega (arith, c.requires.fits, ap length c.as_slice-2.ensures.value, c.in-Ok-ended.ensures.sessions.many, c.args.openers.ok.0)
+write_failures-requires g c = omega (arith, c.requires.fits, ap length c.as_slice-2.ensures.value, c.in_ok-control.ensures.sessions.many, c.args.openers.ok.0)
 
 pub returns-clause-sessions : goal.returns-clause-sessions
 returns-clause-sessions g c =
@@ -37,13 +40,13 @@ returns-clause-sessions g c =
       encodes = c.in-Ok.ensures.begun.1;
       begun = c.in-Ok.begun.0;
       goes_on = subst (λ (seats : ℕ). IsOpenedFrom c.in-Ok.ensures.begun.0 seats c.args.from.now c.in-Ok.begun.0) many c.in-Ok.ensures.begun.2;
-      control = c.in-Ok-ended.sessions.0;
-      finished = c.in-Ok-ended.sessions.1.items;
-      sessions = c.in-Ok-ended.ensures.sessions;
+      control = c.in_ok-control.control;
+      finished = c.in_ok-control.finished.items;
+      sessions = c.in_ok-control.ensures.sessions;
       writable =
-          c.in-Ok-ended.ensures.writable
+          c.in_ok-control.ensures.writable
           (opened_writable c.in-Ok.ensures.begun.0 c.len-count.result c.args.from.now c.in-Ok.begun.0 few c.in-Ok.ensures.begun.2);
-      keeps = c.in-Ok-ended.ensures.kept;
+      keeps = c.in_ok-control.ensures.kept;
       written = written;
       journal =
           subst (λ (es : List Entry). IsWritten g.O.Sink.stream (whole_ending written) c.args.output.now
@@ -51,9 +54,9 @@ returns-clause-sessions g c =
       reported = c.write_failures.result;
       lines =
           subst (λ (l : List (Finished g.row.P-Seat.Denot)). Writes g.E.Sink.stream c.write_failures.result c.args.error.now
-          c.write_failures.new.out (failures_text written (kept_outcome c.in-Ok-ended.sessions.2) (outcomes l)))
+          c.write_failures.new.out (failures_text written (kept_outcome c.in_ok-control.kept) (outcomes l)))
           c.as_slice-2.ensures.value (rw (← c.outcome_of-outcome.ensures) c.write_failures.ensures);
       status_is =
           rw (← c.outcome_of-outcome.ensures) c.status_after-status.ensures
-          ∙ ap (λ (l : List (Finished g.row.P-Seat.Denot)). status_of written (kept_outcome c.in-Ok-ended.sessions.2) (outcomes l)) c.as_slice-3.ensures.value;
+          ∙ ap (λ (l : List (Finished g.row.P-Seat.Denot)). status_of written (kept_outcome c.in_ok-control.kept) (outcomes l)) c.as_slice-3.ensures.value;
     }

@@ -13,7 +13,7 @@ pub run_all-left-requires-clause-ready : goal.run_all-left-requires-clause-ready
 run_all-left-requires-clause-ready g c κs within =
     let new = dealt c.in_ok-shared.shared c.args.control c.in_ok-shared.seats.items c.in_ok-shared.ensures.seats in
     all_ready c.in_ok-shared.shared c.args.control _ c.requires.greeting (omega (arith, c.seats-count.ensures.0, c.requires.seats))
-    (c.in_ok-again.ensures ∙ c.setup.ensures ∙ c.run.ensures.setup) (c.seats-count.ensures.1, c.seats-count.ensures.2) _ new
+    (c.in_ok-again.ensures.same ∙ c.setup.ensures ∙ c.run.ensures.setup) (c.seats-count.ensures.1, c.seats-count.ensures.2) _ new
 
 pub run_all-left-requires-clause-openers : goal.run_all-left-requires-clause-openers
 run_all-left-requires-clause-openers g c κs within =
@@ -23,8 +23,8 @@ run_all-left-requires-clause-openers g c κs within =
 pub run_all-left-requires-clause-room : goal.run_all-left-requires-clause-room
 run_all-left-requires-clause-room g c κs within =
     let new = dealt c.in_ok-shared.shared c.args.control c.in_ok-shared.seats.items c.in_ok-shared.ensures.seats in (
-      omega (arith, new.many, c.in_ok-shared.seats.ok.0, c.requires.seats, c.in_ok-done.ensures.1, c.len.ensures),
-      omega (arith, new.many, c.in_ok-shared.seats.ok.0, c.requires.seats, c.in_ok-all.ensures.1, c.len-2.ensures),
+      omega (arith, new.many, c.in_ok-shared.seats.ok.0, c.requires.seats, c.in_ok-done.ensures.capacity, c.len.ensures),
+      omega (arith, new.many, c.in_ok-shared.seats.ok.0, c.requires.seats, c.in_ok-all.ensures.capacity, c.len-2.ensures),
     )
 
 pub finish_watched-control-requires-clause-some : goal.finish_watched-control-requires-clause-some

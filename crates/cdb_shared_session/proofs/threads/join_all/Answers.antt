@@ -14,6 +14,7 @@ returns g c =
     record {
       later = c.keep-keeping.ensures.later;
       kept = c.keep-keeping.ensures.kept;
+      fault = tt;
       count = (omega (arith, joined.count.0, started.count), omega (arith, joined.count.1, started.count));
       each = λ k seat its low first opener.
           let j = length handles.items - 1 - k in

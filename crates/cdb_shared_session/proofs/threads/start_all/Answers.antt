@@ -13,10 +13,10 @@ loop-seat-init g c = record {
   openers = c.requires.openers;
   left_openers = ([], sym (append-nil c.args.openers.items));
   left = ([], sym (append-nil c.args.seats.items));
-  count = omega (arith, c.in-Ok.ensures.len);
-  room = omega (arith, c.in-Ok.ensures.capacity, c.len.ensures);
+  count = omega (arith, c.in_ok-handles.ensures.len);
+  room = omega (arith, c.in_ok-handles.ensures.capacity, c.len.ensures);
   many_openers = c.requires.openers;
-  each = λ k before opener handle low. absurd (omega (arith, low, c.in-Ok.ensures.len));
+  each = λ k before opener handle low. absurd (omega (arith, low, c.in_ok-handles.ensures.len));
 }
 
 pub start_one-requires-after_bounds : goal.start_one-requires-after_bounds
@@ -57,7 +57,8 @@ loop-seat-preserved g c =
           let there : its ≡ get_or c.args.openers.items (vec_len c.args.openers - 1 - length c.loop-seat.handles.items) opener =
           sym (get_or-middle c.pop-in-Some.new.self.items was.left_openers.0 c.args.openers.items its opener _ all_openers at_opener) in
           let one =
-          subst (λ (x : SeatView × g.row.P.Denot). IsSeatPromise x.0 x.1 c.in_ok-handle.handle.promise) (λ i. (here i, there i)) c.in_ok-handle.ensures in
+          subst (λ (x : SeatView × g.row.P.Denot). IsSeatPromise x.0 x.1 c.in_ok-handle.handle.promise)
+          (λ i. (here i, there i)) c.in_ok-handle.ensures.promise in
           each_push (λ (i : ℕ) (h : PromisedHandle (SeatResult g.row.R.Denot g.row.P-Seat.Denot) (SeatPromise g.row.R.Denot g.row.A.Denot g.row.P.Denot)).
           IsSeatPromise (get_or all (vec_len c.args.seats - 1 - i) before) (get_or c.args.openers.items (vec_len c.args.openers - 1 - i) opener) h.promise)
           c.loop-seat.handles.items c.push_reserved.new.self.items c.in_ok-handle.handle

@@ -2,9 +2,7 @@ use Rattle.cdb_standing.proofs.DirectCauses.{at_entry, hidden, shown, no_cause}
 use Rattle.cdb_standing.proofs.causes.direct_of.Goals as goal
 
 pub returns-in_err-k : goal.returns-in_err-k
-returns-in_err-k c =
-    rw c.from_residual.ensures
-    (no_cause c.requires.kept.sound c.args.q (rw c.in_err-k.was at c.last_cause.ensures))
+returns-in_err-k c = rw c.from_residual.ensures (no_cause c.requires.kept.sound c.args.q (rw c.in_err-k.was at c.last_cause.ensures))
 
 pub returns-then-is_hidden : goal.returns-then-is_hidden
 returns-then-is_hidden c =

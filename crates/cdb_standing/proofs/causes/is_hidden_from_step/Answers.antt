@@ -1,12 +1,10 @@
+use Rattle.std.proofs.lemmas.Bool.{cases_eq}
 use Rattle.std.proofs.Common.{ℕ, true≢false, inl, inr, sym, ◌∙◌, arith}
 use Rattle.cdb_standing.proofs.Between.{none_without, from_list, none_on_lists}
-use Rattle.cdb_standing.proofs.MailRows.{same_or_other}
 use Rattle.cdb_standing.proofs.causes.is_hidden_from_step.Goals as goal
 
 pub returns-in_default : goal.returns-in_default
-returns-in_default c = λ q l is.
-    none_without c.requires.kept.sound c.requires.at is
-    (sym c.common_register.ensures.value ∙ c.in_default.is)
+returns-in_default c = λ q l is. none_without c.requires.kept.sound c.requires.at is (sym c.common_register.ensures.value ∙ c.in_default.is)
 
 pub returns-then-is_between : goal.returns-then-is_between
 returns-then-is_between c = λ q l is.
@@ -17,7 +15,7 @@ returns-then-is_between c = λ q l is.
 pub loop-i-preserved : goal.loop-i-preserved
 loop-i-preserved c = λ s one le.
     let i : ℕ = c.loop-i.i in
-    elim (same_or_other s c.new-s.result) [
+    elim (cases_eq s c.new-s.result) [
       | inl e ↦ rw e (λ h. true≢false (sym (c.is_between.ensures.1 h) ∙ c.if-is_between.false))
       | inr other ↦ c.loop-i.invariant s one (omega arith)
     ]

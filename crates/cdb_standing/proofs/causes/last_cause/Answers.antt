@@ -6,6 +6,5 @@ returns-in-Step c = rw c.in-Step.is c.last_cause_of_step.ensures
 
 pub returns-in-Lost : goal.returns-in-Lost
 returns-in-Lost c =
-    let t = c.args.tables.now in
     rw (c.in-Lost.is, c.by_message.ensures)
-    (loss_last c.requires.kept.sound c.in-Lost.copy c.args.ahead c.args.q (rw c.in-Lost.is at c.requires.stands))
+    (loss_last c.requires.kept.sound c.in-Lost.copy c.args.q (rw c.in-Lost.is at c.requires.stands))

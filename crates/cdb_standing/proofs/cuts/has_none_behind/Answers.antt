@@ -7,9 +7,7 @@ use Rattle.cdb_standing.proofs.RowUpdates.{item_at, looked_up, rows_length}
 use Rattle.cdb_standing.proofs.cuts.has_none_behind.Goals as goal
 
 pub returns-then-cut-lt2 : goal.returns-then-cut-lt2
-returns-then-cut-lt2 c = λ _.
-    let t = c.args.tables.now in
-    none_below_two t.next (rows_in t.steps.items) (rows_in t.sent.items) c.requires.sound c.args.q c.args.cut c.args.mark (omega arith)
+returns-then-cut-lt2 c = λ _. none_below_two c.requires.sound c.args.q c.args.cut c.args.mark (omega arith)
 
 pub returns-in-Some : goal.returns-in-Some
 returns-in-Some c = λ le.
@@ -17,7 +15,6 @@ returns-in-Some c = λ le.
     let table = t.steps.items in
     let cut = c.args.cut in
     let entry = c.in-Some.entry.now in
-    let nine = c.requires.sound.processes in
     let many = rows_length table in
     let found : option_copied c.get.result ≡ slice_get c.deref.result.now (cut - 2) =
     looked_up c.get.result c.deref.result.now (cut - 2) c.get.ensures.lookup.3 in
@@ -30,5 +27,5 @@ returns-in-Some c = λ le.
     ap option_copied (sym c.in-Some.is) ∙ found ∙ same ∙ ap (slice_get c.index-row.result.now.items) one ∙ here in
     let at_q : Some entry ≡ nth (row_of (rows_in table) c.args.q) (cut - 1) =
     subst (λ p. Some entry ≡ nth (row_of (rows_in table) p) (cut - 1)) c.index.ensures.value at in
-    none_behind t.next (rows_in table) (rows_in t.sent.items) c.requires.sound c.args.q
+    none_behind c.requires.sound c.args.q
     cut entry.mark c.args.mark entry.kind (sym at_q) (leb-true entry.mark c.args.mark le)

@@ -6,17 +6,15 @@ use Rattle.cdb_standing.proofs.cuts.look_for.Goals as goal
 
 pub returns-then-not-has_none_behind-clause-sound : goal.returns-then-not-has_none_behind-clause-sound
 returns-then-not-has_none_behind-clause-sound c = λ one behind reached was.
-    let t = c.args.tables.now in
     let entry = c.args.entry.now in
-    lower_sound t.next (rows_in t.steps.items) (rows_in t.sent.items) c.requires.kept.sound
+    lower_sound c.requires.kept.sound
     c.args.p c.args.k entry.mark entry.kind c.requires.at one behind reached
     c.args.q c.of_others.result c.of_others.ensures c.args.cuts.now c.lower.new.cuts c.lower.ensures was
 
 pub returns-then-not-has_none_behind-clause-closed : goal.returns-then-not-has_none_behind-clause-closed
 returns-then-not-has_none_behind-clause-closed c =
-    let t = c.args.tables.now in
     let entry = c.args.entry.now in
-    lower_closed t.next (rows_in t.steps.items) (rows_in t.sent.items) c.requires.kept.sound c.args.p c.args.k entry.mark entry.kind c.requires.at
+    lower_closed c.requires.kept.sound c.args.p c.args.k entry.mark entry.kind c.requires.at
     c.args.q c.of_others.result c.of_others.ensures c.args.cuts.now c.lower.new.cuts c.lower.ensures c.requires.own
 
 pub returns-else-not-has_none_behind-clause-closed : goal.returns-else-not-has_none_behind-clause-closed

@@ -7,10 +7,7 @@ use Rattle.cdb_standing.proofs.dependents.first_of_others.Goals as goal
 use Rattle.cdb_standing.proofs.dependents.first_of_others.Goals.{in-Some, in_default}
 
 pub loop-i-init : goal.loop-i-init
-loop-i-init c =
-    let t = c.args.tables.now in
-    let entry = c.args.entry.now in
-    none_yet t.next (rows_in t.steps.items) (rows_in t.sent.items) c.requires.kept.sound c.args.p c.args.k entry.mark entry.kind c.requires.at
+loop-i-init c = let entry = c.args.entry.now in none_yet c.requires.kept.sound c.args.p c.args.k entry.mark entry.kind c.requires.at
 
 pub loop-i-preserved : goal.loop-i-preserved
 loop-i-preserved c =
@@ -18,7 +15,7 @@ loop-i-preserved c =
     let entry = c.args.entry.now in
     let one = Step c.args.p c.args.k entry.kind in
     let more =
-    one_process_more t.next (rows_in t.steps.items) (rows_in t.sent.items) c.requires.kept.sound
+    one_process_more c.requires.kept.sound
     c.args.p c.args.k entry.mark entry.kind c.requires.at c.loop-i.i c.loop-i.first c.of_others.result
     c.loop-i.invariant (subst (λ q. IsFoundOfOthers (rows_in t.steps.items) (rows_in t.sent.items) c.args.p one entry.mark q c.of_others.result)
     c.new-q.ensures.value c.of_others.ensures) in

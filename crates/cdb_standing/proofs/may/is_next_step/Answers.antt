@@ -9,10 +9,9 @@ returns c =
     let t = c.args.tables.now in
     let steps = rows_in t.steps.items in
     let many = rows_length t.steps.items in
-    let nine = c.requires.sound.processes in
     let here = ap length (row_at t.steps.items c.index.result c.index-2.result.now (omega arith) c.index-2.ensures) in
     let is : suc c.index.result ≡ c.args.p = omega arith in
     let same : length (row_of steps c.args.p) ≡ length c.index-2.result.now.items = rw (← is) here in (
-      λ yes. number_next t.next steps (rows_in t.sent.items) c.requires.sound c.args.p c.args.k (let e = eqb-true _ _ yes in omega arith),
-      λ next. eq-eqb _ _ (let e = next_number t.next steps (rows_in t.sent.items) c.requires.sound c.args.p c.args.k next in omega arith),
+      λ yes. number_next c.requires.sound c.args.p c.args.k (let e = eqb-true _ _ yes in omega arith),
+      λ next. eq-eqb _ _ (let e = next_number c.requires.sound next in omega arith),
     )

@@ -1,12 +1,9 @@
-use Rattle.cdb_standing.specs.Tables.{rows_in}
 use Rattle.cdb_standing.proofs.Places.{pending_waits, waits_pending}
 use Rattle.cdb_standing.proofs.may.is_pending.Goals as goal
 
 pub returns : goal.returns
-returns c =
-    let t = c.args.tables.now in
-    let copy = c.args.copy.now in (
-      λ yes. waits_pending t.next (rows_in t.steps.items) (rows_in t.sent.items) c.requires.sound copy.to copy.msg.s copy.msg.m (c.waits.ensures.0 yes),
-      λ pending. c.waits.ensures.1
-          (pending_waits t.next (rows_in t.steps.items) (rows_in t.sent.items) c.requires.sound copy.to copy.msg.s copy.msg.m pending c.has_copy.ensures),
-    )
+returns c = (
+  λ yes. waits_pending c.requires.sound (c.waits.ensures.0 yes),
+  λ pending. c.waits.ensures.1
+      (pending_waits c.requires.sound pending c.has_copy.ensures),
+)

@@ -1,11 +1,9 @@
-use Rattle.cdb_standing.specs.Tables.{rows_in}
 use Rattle.cdb_standing.proofs.Places.{may_mail, mail_may}
 use Rattle.cdb_standing.proofs.may.may_do.Goals as goal
 
 pub returns : goal.returns
-returns c =
-    let t = c.args.tables.now in (
-      λ yes. mail_may t.next (rows_in t.steps.items) (rows_in t.sent.items) c.requires.sound c.args.p c.args.kind.now (c.may_mail.ensures.0 yes),
-      λ may. c.may_mail.ensures.1
-          (may_mail t.next (rows_in t.steps.items) (rows_in t.sent.items) c.requires.sound c.args.p c.args.kind.now may c.has_copies.ensures),
-    )
+returns c = (
+  λ yes. mail_may c.requires.sound c.args.p c.args.kind.now (c.may_mail.ensures.0 yes),
+  λ may. c.may_mail.ensures.1
+      (may_mail c.requires.sound c.args.p c.args.kind.now may c.has_copies.ensures),
+)

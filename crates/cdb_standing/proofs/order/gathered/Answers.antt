@@ -7,8 +7,7 @@ use Rattle.cdb_standing.proofs.order.gathered.Goals as goal
 pub loop-next-smaller : goal.loop-next-smaller
 loop-next-smaller c =
     let t = c.args.tables.now in
-    fewer_left (rows_in t.steps.items) (rows_in t.sent.items) c.requires.sound.processes c.loop-next.from
-    c.in-Some.next.i c.in_ok-from.field-0 c.loop-next.found.items c.push_next.new.found.items
+    fewer_left (rows_in t.steps.items) (rows_in t.sent.items) c.requires.sound.processes
     c.loop-next.invariant.long c.in-Some.ensures.left.0 c.in_ok-from.ensures
 
 pub loop-next-preserved : goal.loop-next-preserved
@@ -18,7 +17,6 @@ loop-next-preserved c =
       same =
           gathered_more (rows_in t.steps.items) (rows_in t.sent.items) c.requires.sound.processes
           (all_from c.args.cuts.now (rows_in t.steps.items) (rows_in t.sent.items))
-          c.loop-next.from c.in-Some.next.i c.in_ok-from.field-0 c.loop-next.found.items c.push_next.new.found.items
           c.loop-next.invariant.long c.in-Some.ensures.left.0 c.in_ok-from.ensures c.loop-next.invariant.same;
       long = length-set c.loop-next.from c.in-Some.next.i c.in_ok-from.field-0 ∙ c.loop-next.invariant.long;
       few = c.in-Some.ensures.left.0;

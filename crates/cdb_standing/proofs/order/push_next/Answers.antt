@@ -9,14 +9,12 @@ use Rattle.cdb_standing.proofs.order.push_next.Goals as goal
 pub overflow_cast-j : goal.overflow_cast-j
 overflow_cast-j c =
     let is = cut_at c.args.from.now c.args.i in
-    let some = c.requires.left.1 in
     let few = c.requires.kept.sound.few (suc c.args.i) in
     omega arith
 
 pub overflow_add-j : goal.overflow_add-j
 overflow_add-j c =
     let is = cut_at c.args.from.now c.args.i in
-    let some = c.requires.left.1 in
     let few = c.requires.kept.sound.few (suc c.args.i) in
     omega arith
 
@@ -24,17 +22,13 @@ pub index-requires-2 : goal.index-requires-2
 index-requires-2 c =
     let table = c.args.tables.now.steps.items in
     let many = rows_length table in
-    let nine = c.requires.kept.sound.processes in
-    let few = c.requires.left.0 in
     let here = ap length (row_at table c.args.i c.index.result.now (omega arith) c.index.ensures) in
     let is = cut_at c.args.from.now c.args.i in
-    let some = c.requires.left.1 in
     omega arith
 
 pub overflow_add-result : goal.overflow_add-result
 overflow_add-result c =
     let is = cut_at c.args.from.now c.args.i in
-    let some = c.requires.left.1 in
     let few = c.requires.kept.sound.few (suc c.args.i) in
     omega arith
 
@@ -50,12 +44,9 @@ returns c =
     let new = c.push_step.new.found.items in
     let old = c.args.found.now.items in
     let many = rows_length table in
-    let nine = c.requires.kept.sound.processes in
-    let few = c.requires.left.0 in
     let is = cut_at from i in
     let here : row_of (rows_in table) (suc i) ≡ row.items = row_at table i row (omega arith) c.index.ensures in
     let long = ap length here in
-    let some = c.requires.left.1 in
     let j_is : j ≡ cut_of from (suc i) - 1 = omega arith in
     let k_is : j + 1 ≡ suc (cut_of from (suc i) - 1) = omega arith in
     let p_is : c.new-p.result ≡ suc i = omega arith in

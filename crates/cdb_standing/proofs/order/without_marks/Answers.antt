@@ -14,7 +14,7 @@ loop-it-preserved c =
           next_event c.args.found.now c.loop-it.events.items c.push_reserved.new.self.items
           c.loop-it.it-index c.it-item.result (omega arith) c.it-item.is did.items was.items;
       len = let l = was.len in let n = did.len in omega arith;
-      capacity = let l = was.capacity in let n = did.capacity in omega arith;
+      capacity = omega arith;
     }
 
 pub returns : goal.returns

@@ -4,7 +4,6 @@ use Rattle.cdb_standing.proofs.past.first_numbers.Goals as goal
 
 pub returns-in-Step : goal.returns-in-Step
 returns-in-Step c =
-    let t = c.args.tables.now in
     let effect = c.args.effect.now in
     let sound = c.look_behind.ensures.sound effect c.args.ahead itself (none_sound c.requires.kept.sound effect c.args.ahead) in
     rw c.in-Step.is
@@ -14,7 +13,6 @@ returns-in-Step c =
 
 pub returns-in-Lost : goal.returns-in-Lost
 returns-in-Lost c =
-    let t = c.args.tables.now in
     let effect = c.args.effect.now in
     record {
       sound = c.look_behind.ensures.sound effect c.args.ahead itself (none_sound c.requires.kept.sound effect c.args.ahead);

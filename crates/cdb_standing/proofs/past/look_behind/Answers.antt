@@ -4,7 +4,6 @@ use Rattle.cdb_standing.proofs.past.look_behind.Goals as goal
 
 pub loop-i-init : goal.loop-i-init
 loop-i-init c =
-    let t = c.args.tables.now in
     record {
       sound = λ one end led was. was;
       within = none_within c.requires.kept.sound c.args.effect.now c.args.ahead c.args.numbers.now;
@@ -14,7 +13,6 @@ loop-i-init c =
 
 pub loop-i-preserved : goal.loop-i-preserved
 loop-i-preserved c =
-    let t = c.args.tables.now in
     let q = c.new-q.result in
     let found = c.last_cause.result in
     let old = c.loop-i.numbers in

@@ -1,16 +1,14 @@
-use Rattle.cdb_standing.specs.Tables.{rows_in}
 use Rattle.cdb_standing.proofs.Led.{exactly_led}
 use Rattle.cdb_standing.proofs.Undos.{the_place}
 use Rattle.cdb_standing.proofs.past.past_in.Goals as goal
 
 pub returns-in-Some : goal.returns-in-Some
 returns-in-Some c = λ at h other it there.
-    let t = c.args.tables.now in
     let one = c.in-Some.it in
     let is = c.in-Some.ensures in
     rw (← is.named)
     (exactly_led c.requires.sound is.stands at
-    (the_place t.next (rows_in t.steps.items) (rows_in t.sent.items) c.requires.sound one.mark one.event is.stands at (rw (← is.named) at h))
+    (the_place c.requires.sound one.mark one.event is.stands at (rw (← is.named) at h))
     c.past_of.ensures other it there)
 
 pub returns-in-None : goal.returns-in-None

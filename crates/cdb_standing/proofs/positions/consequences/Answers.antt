@@ -22,10 +22,7 @@ returns c =
     let at = c.args.at in
     let named = c.in_ok-name.ensures in
     let rolled = c.in_ok-rolled_back.rolled_back.items in
-    let end = c.len-i-end.ensures in
-    let long = c.in_ok-rolled_back.rolled_back.ok.0 in
-    let past = c.loop-i-test.false in
-    let whole = whole event_name rolled c.loop-i.i c.loop-i.names.items _ (omega (arith, end, long, past)) c.loop-i.invariant in
+    let whole = whole event_name rolled c.loop-i.i c.loop-i.names.items _ (omega arith) c.loop-i.invariant in
     let are = c.in_ok-rolled_back.ensures at named in (
       consequences depends history at,
       consequences_parted depends history at c.requires.from_one,

@@ -14,6 +14,4 @@ returns-clause-same g c =
     rows_same c.args.table.now.items c.args.i c.index_mut-row.result.now c.reserve.new.self c.requires c.index_mut-row.ensures.value c.reserve.ensures.items
 
 pub returns-clause-room : goal.returns-clause-room
-returns-clause-room g c =
-    let ok = c.in_ok-reserve.ensures.ok in
-    room_made c.args.table.now.items c.args.i c.reserve.new.self c.requires (omega (arith, ok))
+returns-clause-room g c = room_made c.args.table.now.items c.args.i c.reserve.new.self c.requires (omega (arith, c.in_ok-reserve.ensures.ok))

@@ -2,10 +2,9 @@
 //! holds.
 
 ghost use Rattle.std.specs.Prelude.{◌≡◌, IsTrue};
-ghost use Rattle.cdb_rules.specs.Refusals.{IsOfRun};
 
 use cdb_any_run::AnyRun;
-use cdb_base::{Event, Kind, MsgName, NoMemory, Proc, Refusal, Reg};
+use cdb_base::{Event, MsgName, NoMemory, Proc, Refusal, Reg};
 use cdb_control::Command;
 use cdb_rules::{EventRef, Runs};
 use cdb_setup::{Setup, SetupFault};
@@ -13,22 +12,6 @@ use cdb_text::parse_line;
 use std::alloc::Global;
 use std::marker::Model;
 use std::process::Abort;
-
-/// Whether a run of the setup can have the event.
-fn is_of_run(setup: &Setup, event: &Event) -> bool
-    ensures { IsTrue result → IsOfRun setup.now event.now }
-{
-    match event {
-        Event::Step { p, k, kind } => {
-            let names_process = match kind {
-                Kind::Query(leader) => leader.number() <= setup.n(),
-                _ => true,
-            };
-            p.number() <= setup.n() && 1 <= *k && *k <= 9_999 && names_process
-        }
-        Event::Lost(copy) => setup.version() == 2 && copy.to.number() <= setup.n(),
-    }
-}
 
 /// Whether two setups are equal.
 fn is_equal(setup: &Setup, other: &Setup) -> bool
@@ -139,7 +122,7 @@ impl Example {
         rt: &R,
         event: &Event,
     ) -> Result<Result<Event, Refusal>, NoMemory> {
-        assert!(rt; is_of_run(self.run.setup(), event));
+        assert!(rt; self.run.is_of_run(event));
         self.run.again(rt.alloc(), event)
     }
 

@@ -1,7 +1,7 @@
 use Rattle.std.proofs.Common.{◌∙◌, sym, subst}
 use Rattle.std.specs.Prelude.{◌≤◌, ◌<◌, ℕ, List, length, option_map}
 use Rattle.cdb_page.specs.Live.{Live, taken_of}
-use Rattle.cdb_page.proofs.OnAndOn.{keeps_up_on, keeps_up_still, took_none, took_some}
+use Rattle.cdb_page.proofs.OnAndOn.{file_took_more, keeps_up_on, keeps_up_still, took_none, took_some}
 use Rattle.cdb_page.proofs.live.LivePageSink.write.Goals as goal
 
 pub invariant_of-self : goal.invariant_of-self
@@ -11,6 +11,7 @@ invariant_of-self g c =
       from = c.self.inside.from.now;
       taken = c.self.inside.taken.items;
       failures = c.self.inside.failures;
+      journal_before = option_map g.J.Sink.stream c.self.inside.journal_before.value;
       journal = option_map g.J.Sink.stream c.self.inside.journal;
       versions = g.P.Rewritten.versions c.self.inside.page;
       outcome = c.self.inside.outcome;
@@ -32,6 +33,7 @@ invariant_of-self-else-unwrap_or-gt0 g c =
       from = c.self.inside.from.now;
       taken = c.self.inside.taken.items;
       failures = c.self.inside.failures;
+      journal_before = option_map g.J.Sink.stream c.self.inside.journal_before.value;
       journal = option_map g.J.Sink.stream c.self.inside.journal;
       versions = g.P.Rewritten.versions c.self.inside.page;
       outcome = c.self.inside.outcome;
@@ -39,4 +41,6 @@ invariant_of-self-else-unwrap_or-gt0 g c =
     let written = c.take-written.result in
     let none = subst (λ (count : ℕ). count ≤ 0) c.unwrap_or.ensures c.if-unwrap_or-gt0.false in
     keeps_up_still it c.take-written.new.taken.items c.failures_after-self-inside.result (option_map g.J.Sink.stream c.take-written.new.file) c.self.invariant
-    (c.take-written.ensures.taken ∙ took_none it.taken c.args.piece.now written none) c.take-written.ensures.file
+    (c.take-written.ensures.taken ∙ took_none it.taken c.args.piece.now written none)
+    (rw c.take-written.ensures.taken (file_took_more it.journal_before it.journal _ it.taken (taken_of written c.args.piece.now)
+    c.self.invariant.journal c.take-written.ensures.file))

@@ -4,6 +4,7 @@ use Rattle.cdb_base.specs.declared.name.StepId.{StepId}
 use Rattle.cdb_rules.specs.EventRefs.{name_given}
 use Rattle.cdb_rules.specs.Runs.{with_left, result_of_rollback, after_rollback}
 use Rattle.cdb_rules.specs.Undo.{number_removed, result_alone, with_removed}
+use Rattle.cdb_rules.proofs.OfRun.{removed_of_run}
 use Rattle.cdb_setup.specs.Parts.{AreInRange}
 use Rattle.cdb_run.proofs.Found.{not_rolled_back, left_exact, leads_back}
 use Rattle.cdb_run.proofs.run.Run.rollback_event.Goals as goal
@@ -71,3 +72,18 @@ returns-in-Err-clause-again g c =
     leads_back c.args.self.now c.args.self.now (name_given c.args.event) (returns-in-Err-clause-rolled_back g c).after g.P.Process.table
     (subst AreInRange c.setup.ensures c.n-ranges.ensures.ranges)
     c.history-valid.ensures.valid
+
+pub returns-in_err-roll_back-in-Ok-clause-of_run : goal.returns-in_err-roll_back-in-Ok-clause-of_run
+returns-in_err-roll_back-in-Ok-clause-of_run g c =
+    removed_of_run g.P.Process.table c.args.self.now (subst AreInRange c.setup.ensures c.n-ranges.ensures.ranges) c.history-valid.ensures.valid
+    (name_given c.args.event)
+
+pub returns-in_ok-roll_back-in-Ok-clause-of_run : goal.returns-in_ok-roll_back-in-Ok-clause-of_run
+returns-in_ok-roll_back-in-Ok-clause-of_run g c =
+    removed_of_run g.P.Process.table c.args.self.now (subst AreInRange c.setup.ensures c.n-ranges.ensures.ranges) c.history-valid.ensures.valid
+    (name_given c.args.event)
+
+pub returns-in-Err-clause-of_run : goal.returns-in-Err-clause-of_run
+returns-in-Err-clause-of_run g c =
+    removed_of_run g.P.Process.table c.args.self.now (subst AreInRange c.setup.ensures c.n-ranges.ensures.ranges) c.history-valid.ensures.valid
+    (name_given c.args.event)

@@ -47,7 +47,7 @@ returns-in_err-call-clause-responds g c =
     subst (λ (seat : ℕ). GivesOnce {E = NoMemory} (Err c.in_err-call.field-0.0) (part c.loop.self.caller) (entry seat c.args.command.now)
     c.loop.text.items c.call.new.text.items (part c.call.new.self.caller)) so.seat c.in_err-call.ensures.gives in
     rw p.1
-    (λ seen news. cut_short g.C.Caller.answers c.args.style.now seen news (seen_by part c.args.self.now) c.args.command.now
+    (λ effect. cut_short g.C.Caller.answers c.args.style.now effect (seen_by part c.args.self.now) c.args.command.now
     c.args.times so.so_far.0 (rw so.so_far.1 c.loop-test.true) (part c.loop.self.caller) c.loop.text.items so.so_far.2
     NoMemory c.in_err-call.field-0.0 c.call.new.text.items (seen_by part c.call.new.self) gives)
 
@@ -61,7 +61,7 @@ returns-then-branch-clause-responds g c =
     let gives =
     subst (λ (seat : ℕ). GivesOnce {E = NoMemory} (Ok c.in_ok-call.field-0) (part c.loop.self.caller) (entry seat c.args.command.now)
     c.loop.text.items c.call.new.text.items (part c.call.new.self.caller)) so.seat c.in_ok-call.ensures.gives in
-    λ seen news. last_given g.C.Caller.answers c.args.style.now seen news (seen_by part c.args.self.now) c.args.command.now c.args.times
+    λ effect. last_given g.C.Caller.answers c.args.style.now effect (seen_by part c.args.self.now) c.args.command.now c.args.times
     so.so_far.0 (rw so.so_far.1 c.loop-test.true) (part c.loop.self.caller) c.loop.text.items so.so_far.2
     NoMemory c.call.new.text (seen_by part c.call.new.self) c.in_ok-call.field-0 gives c.if-branch.true
 
@@ -72,5 +72,5 @@ pub returns-clause-responds : goal.returns-clause-responds
 returns-clause-responds g c =
     let so = c.loop.invariant in
     let part = g.C.Caller.part in
-    λ seen news. all_given g.C.Caller.answers c.args.style.now seen news (seen_by part c.args.self.now) c.args.command.now c.args.times so.so_far.0 NoMemory
+    λ effect. all_given g.C.Caller.answers c.args.style.now effect (seen_by part c.args.self.now) c.args.command.now c.args.times so.so_far.0 NoMemory
     c.loop.text (seen_by part c.loop.self) so.so_far.2 (omega (arith, so.so_far.1, c.loop.auto.counter-end, c.loop-test.false))

@@ -18,48 +18,29 @@ returns-in_err-response-clause-shows g c =
     let mid = seen_by g.C.Caller.part c.look.new.self in
     let is_mid : mid ≡ record old { part = mid.part } =
     λ i. record { part = mid.part; seat = looked.seat i; lines = looked.lines i; watched = looked.watched i } in
-    let news = c.in_ok-text.field-0 in
+    let news = c.in_ok-news.field-0 in
     rw p.1
     (unanswered g.C.Caller.answers c.args.style.now old mid (seen_by g.C.Caller.part c.respond.new.self) looked.none is_mid c.args.request.now news.seen
-    news.text.items c.in_ok-text.ensures.news NoMemory NoMemory c.in_err-response.field-0.0 p.0
-    (c.in_err-response.ensures.responds news.seen news.text.items))
+    news.text.items c.in_ok-news.ensures.news NoMemory NoMemory c.in_err-response.field-0.0 p.0 c.in_err-response.ensures.responds)
 
 pub returns-in_err-response-clause-later : goal.returns-in_err-response-clause-later
 returns-in_err-response-clause-later g c = Onward-trans g.C.Caller.later _ _ _ c.look.ensures.later c.respond.ensures.later
 
-pub returns-in_err-extend_from_slice-clause-shows : goal.returns-in_err-extend_from_slice-clause-shows
-returns-in_err-extend_from_slice-clause-shows g c =
-    let p = err_from_is_err_and c.from_residual-in_err-extend_from_slice.result c.from_residual-in_err-extend_from_slice.ensures.1 in
+pub returns-in_err-shown-clause-shows : goal.returns-in_err-shown-clause-shows
+returns-in_err-shown-clause-shows g c =
+    let p = err_from_is_err_and c.from_residual-in_err-shown.result c.from_residual-in_err-shown.ensures.1 in
     let looked = c.look.ensures in
     let old = seen_by g.C.Caller.part c.args.self.now in
     let mid = seen_by g.C.Caller.part c.look.new.self in
     let is_mid : mid ≡ record old { part = mid.part } =
     λ i. record { part = mid.part; seat = looked.seat i; lines = looked.lines i; watched = looked.watched i } in
-    let news = c.in_ok-text.field-0 in
+    let news = c.in_ok-news.field-0 in
     rw p.1
     (unshown g.C.Caller.answers c.args.style.now old mid (seen_by g.C.Caller.part c.respond.new.self) looked.none is_mid c.args.request.now news.seen
-    news.text.items c.in_ok-text.ensures.news NoMemory NoMemory c.in_ok-response.response p.0
-    (c.in_ok-response.ensures.responds news.seen news.text.items))
+    news.text.items c.in_ok-news.ensures.news NoMemory NoMemory c.in_ok-response.response p.0 c.in_ok-response.ensures.responds)
 
-pub returns-in_err-extend_from_slice-clause-later : goal.returns-in_err-extend_from_slice-clause-later
-returns-in_err-extend_from_slice-clause-later g c = Onward-trans g.C.Caller.later _ _ _ c.look.ensures.later c.respond.ensures.later
-
-pub returns-in_err-push_prompt-clause-shows : goal.returns-in_err-push_prompt-clause-shows
-returns-in_err-push_prompt-clause-shows g c =
-    let p = err_from_is_err_and c.from_residual-in_err-push_prompt.result c.from_residual-in_err-push_prompt.ensures.1 in
-    let looked = c.look.ensures in
-    let old = seen_by g.C.Caller.part c.args.self.now in
-    let mid = seen_by g.C.Caller.part c.look.new.self in
-    let is_mid : mid ≡ record old { part = mid.part } =
-    λ i. record { part = mid.part; seat = looked.seat i; lines = looked.lines i; watched = looked.watched i } in
-    let news = c.in_ok-text.field-0 in
-    rw p.1
-    (unshown g.C.Caller.answers c.args.style.now old mid (seen_by g.C.Caller.part c.respond.new.self) looked.none is_mid c.args.request.now news.seen
-    news.text.items c.in_ok-text.ensures.news NoMemory NoMemory c.in_ok-response.response p.0
-    (c.in_ok-response.ensures.responds news.seen news.text.items))
-
-pub returns-in_err-push_prompt-clause-later : goal.returns-in_err-push_prompt-clause-later
-returns-in_err-push_prompt-clause-later g c = Onward-trans g.C.Caller.later _ _ _ c.look.ensures.later c.respond.ensures.later
+pub returns-in_err-shown-clause-later : goal.returns-in_err-shown-clause-later
+returns-in_err-shown-clause-later g c = Onward-trans g.C.Caller.later _ _ _ c.look.ensures.later c.respond.ensures.later
 
 pub returns-clause-shows : goal.returns-clause-shows
 returns-clause-shows g c =
@@ -70,12 +51,7 @@ returns-clause-shows g c =
     let request = c.args.request.now in
     let is_mid : mid ≡ record old { part = mid.part } =
     λ i. record { part = mid.part; seat = looked.seat i; lines = looked.lines i; watched = looked.watched i } in
-    let news = c.in_ok-text.field-0 in
-    let prompt = prompt_after c.args.style.now.prompt request in
-    let all : c.push_prompt.new.text.items ≡ (news.text.items ++ c.in_ok-response.response.items) ++ prompt =
-    c.in_ok-push_prompt.ensures
-    ∙ ap (λ (front : List ℕ). front ++ prompt)
-    (c.in_ok-extend_from_slice.ensures.items ∙ ap (λ (more : List ℕ). news.text.items ++ more) c.as_slice.ensures.value) in
+    let news = c.in_ok-news.field-0 in
     let same : c.watches-watches.result ≡ watches (is_some old.watched) request =
     c.watches-watches.ensures
     ∙ ap (λ (b : Bool). watches b request) (c.is_some.ensures ∙ ap is_some (c.respond.ensures.watched ∙ looked.watched)) in
@@ -85,9 +61,16 @@ returns-clause-shows g c =
       | then-watches w ↦ w.self-is ∙ sym (ap next (sym same ∙ w.if-watches.true))
       | else-watches w ↦ w.self-is ∙ sym (ap next (sym same ∙ w.if-watches.false))
     ] in
+    let prompt = prompt_after c.args.style.now.prompt request in
+    let between : List ℕ → List ℕ → List ℕ = λ text front. (front ++ text) ++ prompt in
     let now : SessionView = record new { watched = c.if-watches.self } in
-    shows g.C.Caller.answers c.args.style.now old mid new looked.none is_mid request news.seen news.text.items c.in_ok-text.ensures.news
-    NoMemory NoMemory c.in_ok-response.response c.push_prompt.new.text (c.in_ok-response.ensures.responds news.seen news.text.items) all now refl watched
+    shows g.C.Caller.answers c.args.style.now old mid new looked.none is_mid request news.seen news.text.items c.in_ok-news.ensures.news
+    NoMemory NoMemory c.in_ok-response.response c.in_ok-shown.shown c.in_ok-response.ensures.responds
+    (record {
+      file = c.in_ok-shown.ensures.file;
+      text_is = c.in_ok-shown.ensures.text ∙ ap (between c.in_ok-response.response.text.items) c.as_slice.ensures.value;
+      failed_is = c.in_ok-shown.ensures.failed ∙ ap (between c.in_ok-response.response.failed.items) c.as_slice.ensures.value;
+    }) now refl watched
 
 pub returns-clause-later : goal.returns-clause-later
 returns-clause-later g c = Onward-trans g.C.Caller.later _ _ _ c.look.ensures.later c.respond.ensures.later

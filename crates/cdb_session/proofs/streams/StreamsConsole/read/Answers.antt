@@ -1,5 +1,5 @@
 use Rattle.std.proofs.Common.{rules, ◌<◌, length}
-use Rattle.cdb_session.proofs.InputEnd.{read_to_end}
+use Rattle.cdb_session.proofs.InputEnd.{read_saves_none, read_to_end}
 use Rattle.cdb_session.proofs.streams.StreamsConsole.read.Goals as goal
 
 pub returns-clause-moves : goal.returns-clause-moves
@@ -12,6 +12,7 @@ returns-clause-moves g c =
           read_to_end _ (g.R.Source.stream c.args.self.now.input).bytes (g.R.Source.stream c.read.new.self).bytes
           c.read.result c.read.new.buffer some c.read.ensures.within c.read.ensures.bytes;
       held = search rules;
+      saved = read_saves_none _ _ c.read.result c.read.new.buffer;
       failed_reads = search rules;
       failed_writes = search rules;
     }

@@ -1,5 +1,5 @@
 use Rattle.std.proofs.Common.{rules}
-use Rattle.cdb_session.proofs.InputEnd.{write_is_no_end}
+use Rattle.cdb_session.proofs.InputEnd.{write_is_no_end, write_saves_none}
 use Rattle.cdb_session.proofs.streams.StreamsConsole.write.Goals as goal
 
 pub returns-clause-moves : goal.returns-clause-moves
@@ -8,6 +8,7 @@ returns-clause-moves g c = record {
   left = search rules;
   all = write_is_no_end _ _ c.write.result c.args.piece.now;
   held = search rules;
+  saved = write_saves_none _ _ c.write.result c.args.piece.now;
   failed_reads = search rules;
   failed_writes = search rules;
 }

@@ -1,7 +1,7 @@
 use Rattle.std.proofs.Common.{◌≡◌, sym, subst, ◌∙◌}
 use Rattle.std.specs.Prelude.{IfOk}
 use Rattle.cdb_rules.specs.RunView.{RunView}
-use Rattle.cdb_session.specs.Answers.{run_left}
+use Rattle.cdb_session.specs.Answers.{run_left, answer_seen}
 use Rattle.cdb_session.specs.Styles.{MakesNone}
 use Rattle.cdb_shared.specs.Seats.{SeatView}
 use Rattle.cdb_shared_session.specs.SeatParts.{part_seen}
@@ -31,6 +31,6 @@ returns-clause-answer g c =
     let setup = c.self.invariant.1 ∙ sym so.seat.setup in
     let seats = c.self.invariant.2 ∙ sym so.seat.seats in
     let seen : c.as_slice.result.now ≡ seat.seen = c.as_slice.ensures.value ∙ so.entries in
-    asked_now rules answers seat c.args.inquiry c.answer_of.result
-    (subst (λ (run : RunView). IfOk c.answer_of.result (λ text. answers run c.args.inquiry text.items))
+    asked_now rules answers seat c.args.inquiry.now c.answer_of.result
+    (subst (λ (run : RunView). IfOk c.answer_of.result (λ answer. answers run c.args.inquiry.now (answer_seen answer)))
     (λ i. run_left rules (setup i) (seats i) (seen i)) c.answer_of.ensures)

@@ -1,13 +1,9 @@
-use Rattle.cdb_standing.specs.Tables.{rows_in}
 use Rattle.cdb_standing.proofs.Losses.{lose_same_is}
 use Rattle.cdb_standing.proofs.history.History.has_same_losses.Goals as goal
 
 pub returns : goal.returns
 returns c =
-    let t = c.self.inside.tables in
-    let u = c.other.inside.tables in
     let same =
-    lose_same_is t.next (rows_in t.steps.items) (rows_in t.sent.items) c.self.invariant.kept.sound
-    u.next (rows_in u.steps.items) (rows_in u.sent.items) c.other.invariant.kept.sound in
+    lose_same_is c.self.invariant.kept.sound c.other.invariant.kept.sound in
     rw (← c.self.view_is, ← c.other.view_is)
     ((λ yes. same.0 (c.have_same_losses.ensures.0 yes)), (λ h. c.have_same_losses.ensures.1 (same.1 h)))

@@ -6,24 +6,23 @@ use Rattle.cdb_standing.proofs.Undos.{may_lose, lose_kept, lose_history}
 use Rattle.cdb_standing.proofs.history.History.push_loss_with.Goals as goal
 
 pub add_loss-requires-clause-sent : goal.add_loss-requires-clause-sent
-add_loss-requires-clause-sent g c =
-    may_lose c.self.inside.tables c.self.invariant.kept c.args.copy (rw (← c.self.view_is) at c.requires.pending) c.has_copy.ensures
+add_loss-requires-clause-sent g c = may_lose c.self.invariant.kept c.args.copy (rw (← c.self.view_is) at c.requires.pending) c.has_copy.ensures
 
 pub invariant_of-self : goal.invariant_of-self
 invariant_of-self g c =
     let pending = rw (← c.self.view_is) at c.requires.pending in
     let lost = c.add_loss.ensures in
-    one_event_more c.self.inside.tables c.self.inside.count c.self.invariant c.add_loss.new.tables (Lost c.args.copy)
-    (lose_kept c.self.inside.tables c.self.invariant.kept c.args.copy pending
-    c.has_copy.ensures c.add_loss.new.tables lost.same lost.to_nine lost.lost lost.next)
-    (lose_history c.self.inside.tables c.self.invariant.kept c.args.copy pending c.has_copy.ensures c.add_loss.new.tables lost.same lost.to_nine lost.lost)
+    one_event_more c.self.invariant (Lost c.args.copy)
+    (lose_kept c.self.invariant.kept c.args.copy pending
+    c.has_copy.ensures lost.same lost.to_nine lost.lost lost.next)
+    (lose_history c.self.invariant.kept c.args.copy pending c.has_copy.ensures lost.same lost.to_nine lost.lost)
 
 pub returns-clause-added : goal.returns-clause-added
 returns-clause-added g c =
     let pending = rw (← c.self.view_is) at c.requires.pending in
     let lost = c.add_loss.ensures in
     rw (← c.self.view_is)
-    (lose_history c.self.inside.tables c.self.invariant.kept c.args.copy pending c.has_copy.ensures c.add_loss.new.tables lost.same lost.to_nine lost.lost)
+    (lose_history c.self.invariant.kept c.args.copy pending c.has_copy.ensures lost.same lost.to_nine lost.lost)
 
 pub returns-in_err-left-clause-failed : goal.returns-in_err-left-clause-failed
 returns-in_err-left-clause-failed g c =
@@ -31,7 +30,4 @@ returns-in_err-left-clause-failed g c =
     rw p.1 (inr (record { shown = _; shows = refl; left = _; met = c.in_err-left.ensures; leaves = refl }))
 
 pub overflow_add-self : goal.overflow_add-self
-overflow_add-self g c =
-    let few = few c.self.inside.tables c.self.inside.count c.self.invariant in
-    let next = c.add_loss.ensures.next in
-    omega (arith, few, next)
+overflow_add-self g c = let few = few c.self.invariant in omega (arith, few)

@@ -7,10 +7,10 @@ pub returns-in-Step : goal.returns-in-Step
 returns-in-Step c =
     rw (← c.self.view_is, c.in-Step.is)
     (if_ok_mapped (λ events ordered.
-    step_rolled c.self.inside.tables c.self.invariant.kept (named.Step c.in-Step.step) c.cuts_at.result events.items c.cuts_at.ensures ordered)
+    step_rolled c.self.invariant.kept (named.Step c.in-Step.step) c.cuts_at.ensures ordered)
     c.in_order.result c.in_order.ensures)
 
 pub returns-in-Lost : goal.returns-in-Lost
 returns-in-Lost c =
     rw (← c.self.view_is, c.in-Lost.is)
-    (if_ok_mapped (λ events are. loss_rolled c.self.inside.tables c.self.invariant.kept c.in-Lost.copy events.items are) c.one_event.result c.one_event.ensures)
+    (if_ok_mapped (λ events are. loss_rolled c.self.invariant.kept c.in-Lost.copy events.items are) c.one_event.result c.one_event.ensures)

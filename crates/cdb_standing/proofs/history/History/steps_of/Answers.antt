@@ -21,11 +21,11 @@ returns c =
     let many = rows_length t.steps.items in
     let here = ap length (row_at t.steps.items c.index.result c.index-2.result.now (omega arith) c.index-2.ensures) in
     let is : suc c.index.result ≡ c.args.p = omega arith in
-    let e = steps_counted t.next steps (rows_in t.sent.items) sound c.args.p in
+    let e = steps_counted sound c.args.p in
     let same : length (row_of steps c.args.p) ≡ length c.index-2.result.now.items = rw (← is) here in
     let long : c.len.result ≡ length (row_of steps c.args.p) = omega arith in
     rw (← c.self.view_is) (record {
       count = omega arith;
-      end = rw long (end_of t.next steps (rows_in t.sent.items) sound c.args.p);
-      numbered = are_numbered t.next steps (rows_in t.sent.items) sound c.args.p;
+      end = rw long (end_of sound c.args.p);
+      numbered = are_numbered sound c.args.p;
     })

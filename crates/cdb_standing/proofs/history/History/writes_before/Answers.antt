@@ -1,20 +1,17 @@
 use Rattle.std.proofs.Common.{◌≡◌, ◌+◌, sym}
-use Rattle.cdb_standing.specs.Tables.{rows_in}
 use Rattle.cdb_standing.proofs.PartCounts.{writes_are, none_there}
 use Rattle.cdb_standing.proofs.history.History.writes_before.Goals as goal
 
 pub returns-in-Some : goal.returns-in-Some
 returns-in-Some c =
-    let t = c.self.inside.tables in
     let is : c.index.result + 1 ≡ c.args.p = c.index.ensures.value in
     let at = rw is at c.in-Some.ensures in
     rw (← c.self.view_is)
-    (writes_are t.next (rows_in t.steps.items) (rows_in t.sent.items) c.self.invariant.kept.sound c.args.register
+    (writes_are c.self.invariant.kept.sound c.args.register
     c.args.p c.args.k c.in-Some.entry.now.mark c.in-Some.entry.now.kind (sym at) c.writes_before.result
     (rw (← c.number_of.ensures.value) c.writes_before.ensures))
 
 pub returns-in-None : goal.returns-in-None
 returns-in-None c =
-    let t = c.self.inside.tables in
-    rw (← c.self.view_is) (λ at h. absurd (none_there t.next (rows_in t.steps.items) (rows_in t.sent.items)
+    rw (← c.self.view_is) (λ at h. absurd (none_there
     c.self.invariant.kept.sound c.args.p c.args.k (sym (rw c.index.ensures.value at c.in-None.ensures)) at h))

@@ -31,7 +31,7 @@ returns-in-None-clause-count g c =
     let new =
     subst (λ h. IsNewName h c.args.name) (history_seen (rows_in c.self.inside.left.items) c.self.inside.history c.self.view_is)
     (rw c.in-None.is at c.in_ok-at.ensures) in
-    λ at event there name. absurd (new at (event, there, name))
+    λ at named. absurd (new at named)
 
 pub returns-in-None-clause-free : goal.returns-in-None-clause-free
 returns-in-None-clause-free g c =

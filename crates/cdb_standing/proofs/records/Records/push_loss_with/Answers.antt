@@ -6,8 +6,7 @@ pub push_loss_with-requires-clause-pending : goal.push_loss_with-requires-clause
 push_loss_with-requires-clause-pending g c = rw (history_seen (rows_in c.self.inside.left.items) c.self.inside.history c.self.view_is) c.requires.may
 
 pub invariant_of-self-2 : goal.invariant_of-self-2
-invariant_of-self-2 g c =
-    rw c.in_ok-push_loss_with.ensures.added (beside_loss (rows_in c.self.inside.left.items) c.self.inside.history c.self.invariant c.args.copy)
+invariant_of-self-2 g c = rw c.in_ok-push_loss_with.ensures.added (beside_loss c.self.invariant c.args.copy)
 
 pub returns-clause-added : goal.returns-clause-added
 returns-clause-added g c =

@@ -19,7 +19,7 @@ invariant_of-self-2 g c =
     let put : IsPutOn c.args.p low c.in_ok-left.left high = rw (← c.index-i.ensures.value, ← c.reserve_step_in.ensures.same) c.put_on.ensures in
     let next : IsNextStep c.self.inside.history c.args.p c.args.k = rw (history_seen low c.self.inside.history c.self.view_is) c.requires.may.0 in
     rw c.in_ok-left.ensures.added
-    (beside_more low high c.args.p c.in_ok-left.left put c.self.inside.history c.args.k c.args.kind c.self.invariant next)
+    (beside_more put c.args.kind c.self.invariant next)
 
 pub returns-clause-ok : goal.returns-clause-ok
 returns-clause-ok g c =
@@ -30,5 +30,5 @@ returns-clause-ok g c =
       c.in_ok-left.left,
       c.in_ok-left.ensures.changed,
       rw (← c.self.view_is, c.in_ok-left.ensures.added)
-          (step_recorded low high c.args.p c.in_ok-left.left put c.self.inside.history c.args.k c.args.kind c.self.invariant next),
+          (step_recorded put c.args.kind c.self.invariant next),
     )

@@ -17,7 +17,7 @@ invariant_of-self g c =
     let low = rows_in c.take_last-left.new.table.items in
     let put = rw c.index.ensures.value at c.take_last-left.ensures in
     let step = c.take_step-kind.ensures in
-    beside_taken low high c.args.p c.take_last-left.result put c.self.inside.history c.take_step-kind.new.self c.args.k c.take_step-kind.result c.self.invariant
+    beside_taken put c.take_step-kind.new.self c.args.k c.take_step-kind.result c.self.invariant
     (rw (history_seen high c.self.inside.history c.self.view_is) c.requires) step.taken step.was_last step.last
 
 pub returns : goal.returns
@@ -27,5 +27,5 @@ returns g c =
     let put = rw c.index.ensures.value at c.take_last-left.ensures in
     let step = c.take_step-kind.ensures in
     rw (← c.self.view_is)
-    (step_taken low high c.args.p c.take_last-left.result put c.self.inside.history c.take_step-kind.new.self c.args.k c.take_step-kind.result c.self.invariant
+    (step_taken put c.take_step-kind.new.self c.args.k c.take_step-kind.result c.self.invariant
     (rw (history_seen high c.self.inside.history c.self.view_is) c.requires) step.taken step.was_last step.last)

@@ -1,6 +1,0 @@
-use Rattle.cdb_page.proofs.ListItems.{none_between}
-use Rattle.cdb_page.proofs.links.is_direct_cause.Goals as goal
-
-pub loop-k-preserved : goal.loop-k-preserved
-loop-k-preserved c =
-    none_between c.args.events.now c.args.i c.args.j c.loop-k.k c.is_between.result c.if-is_between.false c.is_between.ensures c.loop-k.invariant
