@@ -1,16 +1,16 @@
 -- News grow by one line after the other.
 use Rattle.std.proofs.Common.{◌≡◌, inl, inr, ℕ, ◌≤◌, min, List, [], ◌∷◌, ◌++◌, drop, length, take}
-use Rattle.std.proofs.Common.{refl, sym, ap, ◌∙◌, append-nil, arith, take-append-drop}
+use Rattle.std.proofs.Common.{refl, sym, ap, ◌∙◌, append-nil, arith}
 use Rattle.std.proofs.lemmas.Bool.{cases_lt}
 use Rattle.std.proofs.lemmas.Grind.{flat_map-append}
-use Rattle.std.proofs.lemmas.List.{drop-append-le, drop_all, length-take, take_all}
+use Rattle.std.proofs.lemmas.List.{drop-append-le, drop_all, take_all}
 use Rattle.cdb_control.specs.Commands.{obey}
 use Rattle.cdb_control.specs.Journal.{Journaled, extended, reply_in, replay}
 use Rattle.cdb_control.specs.State.{State, first_control_state}
 use Rattle.cdb_control.specs.declared.control.Entry.{Entry}
 use Rattle.cdb_rules.specs.Rules.{Rules}
 use Rattle.cdb_setup.specs.Parts.{Parts}
-use Rattle.cdb_journal.specs.SeatReplies.{SeatReply, news, news_line, news_lines, told_along, told_from, told_in}
+use Rattle.cdb_journal.specs.SeatReplies.{SeatReply, news_in, news_line, news_lines, told_along, told_from, told_in}
 use Rattle.cdb_journal.proofs.RepliesToSeats.{told-append}
 
 -- a reply to each entry
@@ -44,20 +44,15 @@ module _ (rules : Parts → Rules) (c : Journaled) (reader from : ℕ) where
         ∙ flat_map-append (news_line reader) (drop from (told_in rules c)) (last_told ∷ [])
         ∙ ap (λ text. news_lines reader (drop from (told_in rules c)) ++ text) (append-nil (news_line reader last_told))
 
--- what a control tells behind some first entries, once it has carried the rest out too
-pub news_told : (rules : Parts → Rules) (setup : Parts) (seats reader from : ℕ) (journal : List Entry) → let first : ℕ = min from (length journal) in
-    news_lines reader (drop (length (take first journal)) (told_along (rules setup) setup seats (take first journal ++ drop first journal)))
-    ≡ news (rules setup) setup seats reader journal from (length journal)
-news_told rules setup seats reader from journal =
-    let first : ℕ = min from (length journal) in
-    let all : take first journal ++ drop first journal ≡ take (length journal) journal =
-    take-append-drop first journal ∙ sym (take_all (length journal) journal (omega arith)) in
-    let told : List Entry → List SeatReply = λ entries. told_along (rules setup) setup seats entries in
-    let many = told_length (rules setup) (first_control_state setup seats) (take (length journal) journal) in
-    let same : drop (length (take first journal)) (told (take (length journal) journal)) ≡ drop from (told (take (length journal) journal)) =
-    ap (λ (n : ℕ). drop n (told (take (length journal) journal))) (let e : length (take first journal) ≡ first = omega (arith, length-take first journal) in e)
-    ∙ drop_min from (length journal) (told (take (length journal) journal)) (omega (arith, many, length-take (length journal) journal)) in
-    ap (λ (entries : List Entry). news_lines reader (drop (length (take first journal)) (told entries))) all ∙ ap (news_lines reader) same
+-- what a control tells behind some first entries is the news from a position on, where it has no fewer
+pub news_told : (rules : Parts → Rules) (c : Journaled) (reader from : ℕ)
+    → news_lines reader (drop (min from (length c.journal)) (told_in rules c)) ≡ news_in rules c reader from
+news_told rules c reader from =
+    let all : take (length c.journal) c.journal ≡ c.journal = take_all (length c.journal) c.journal (omega arith) in
+    let told : List Entry → List SeatReply = told_along (rules c.setup) c.setup c.seats in
+    ap (news_lines reader)
+    (drop_min from (length c.journal) (told_in rules c) (omega (arith, told_length (rules c.setup) (first_control_state c.setup c.seats) c.journal)))
+    ∙ ap (λ (entries : List Entry). news_lines reader (drop from (told entries))) (sym all)
   where
     drop_min : (n most : ℕ) (xs : List SeatReply) → length xs ≤ most → drop (min n most) xs ≡ drop n xs
     drop_min n most xs few =

@@ -1,5 +1,5 @@
 -- What the seats of a control are told, one reply after the other.
-use Rattle.std.specs.Prelude.{ℕ, ◌==◌, List, [], ◌∷◌, ◌++◌, codes, decimal, drop, take, if◌then◌else◌}
+use Rattle.std.specs.Prelude.{ℕ, ◌==◌, List, [], ◌∷◌, ◌++◌, codes, decimal, drop, length, take, if◌then◌else◌}
 use Rattle.std.specs.List.{flat_map}
 use Rattle.cdb_commands.specs.ReplyView.{ReplyView}
 use Rattle.cdb_control.specs.Commands.{reply_of, obey}
@@ -57,3 +57,7 @@ news_lines seat all = flat_map (news_line seat) all
 abbrev pub news : Rules → Parts → ℕ → ℕ → List Entry → ℕ → ℕ → List ℕ
 news rules setup seats seat journal from to =
     news_lines seat (drop from (told_along rules setup seats (take to journal)))
+
+-- and from a position on, in the journal of a control
+abbrev pub news_in : (Parts → Rules) → Journaled → ℕ → ℕ → List ℕ
+news_in rules c seat from = news (rules c.setup) c.setup c.seats seat c.journal from (length c.journal)

@@ -15,8 +15,8 @@ mod reading;
 mod replays;
 mod text;
 
-pub use news::news_of;
-pub use opening::open_from;
+pub use news::follow;
+pub use opening::{open_from, open_on};
 pub use reading::{MOST_JOURNAL, entries_of, read_entries};
 pub use replays::replay;
 pub use text::journal_text;

@@ -1,17 +1,16 @@
 //! What a seat is told of the others.
 
 ghost use Rattle.std.specs.Prelude.{◌≡◌, ◌+◌, ◌<◌, ◌≤◌, ◌++◌, drop, length, replicate, IfOk, OnOk};
-ghost use Rattle.cdb_base.specs.Limits.{MAX_ENTRIES, MAX_SEATS};
+ghost use Rattle.cdb_base.specs.Limits.{MAX_ENTRIES};
 ghost use Rattle.cdb_commands.specs.ReplyView.{reply_view};
 ghost use Rattle.cdb_control.specs.Journal.{AreOfSeats, extended, reply_in};
 ghost use Rattle.cdb_setup.specs.Parts.{IsWithin};
 ghost use Rattle.cdb_text.specs.Pushes.{Pushes};
-ghost use Rattle.cdb_journal.specs.SeatReplies.{news, news_line, news_lines, told_in};
+ghost use Rattle.cdb_journal.specs.SeatReplies.{news_in, news_line, news_lines, told_in};
 
-use crate::opening::open_on;
+use crate::opening::{carry_out, carry_out_each};
 use cdb_base::NoMemory;
-use cdb_control::{CallFault, Control, Entry, Reply, Runs};
-use cdb_setup::Setup;
+use cdb_control::{Control, Entry, Reply, Runs};
 use cdb_text::push_reply;
 use std::alloc::{AllocError, Global};
 
@@ -41,12 +40,9 @@ fn push_entry<R: Runs>(
     ensures text { Pushes result text.old text.new (news_line reader
         (record { seat = entry.seat; reply = reply_in R.rules control.old entry.seat entry.command })) }
 {
-    let reply = match control.execute(alloc, entry.seat, entry.command) {
-        Ok(reply) => reply,
-        Err(CallFault::JournalFull) => unreachable!(),
-        Err(CallFault::NoMemory(refused)) => return Err(refused),
-    };
-    let pushed = push_line(text, reader, entry.seat, &reply);
+    let seat = entry.seat;
+    let reply = carry_out(alloc, control, entry)?;
+    let pushed = push_line(text, reader, seat, &reply);
     reply.close();
     pushed?;
     Ok(())
@@ -75,32 +71,55 @@ fn push_each<R: Runs>(
     Ok(())
 }
 
-/// The news for a seat of what a journal has from an entry on: of each entry of another seat `[S] REPLY`, the number of
-/// its seat and the text of its reply. The journal is that of a control of this setup with 1 to 64 seats, whose
-/// commands are carried out again. Where the journal has no such entry there are none.
+/// Carries these entries out as `follow` does.
+fn push_news<R: Runs>(
+    alloc: Global,
+    control: &mut Control<R>,
+    seat: u8,
+    entries: &[Entry],
+    from: usize,
+) -> Result<Vec<u8>, NoMemory>
+    requires seats { AreOfSeats control.old.seats entries.now }
+    requires few { length control.old.journal + length entries.now ≤ MAX_ENTRIES }
+    requires rooms { control.old.rooms ≡ replicate control.old.seats 0 }
+    requires from { length control.old.journal ≤ from }
+    ensures control { OnOk result
+        (control.new ≡ record control.old { journal = control.old.journal ++ entries.now }) }
+    ensures news { IfOk result (λ text. text.items ≡ news_in R.rules control.new seat from) }
+{
+    let silent = (from - control.journal().len()).min(entries.len());
+    carry_out_each(alloc, control, &entries[..silent])?;
+    let mut text = String::new(alloc);
+    push_each(alloc, control, seat, &entries[silent..], &mut text)?;
+    Ok(text.into_bytes())
+}
+
+/// Carries out on a control, which has a beginning of a journal, the entries that follow there, and tells a seat the
+/// news from entry `from` of the journal on, which the control had not: of each entry of another seat `[S] REPLY`, the
+/// number of its seat and the text of its reply. After `NoMemory` the control is gone.
 ///
 /// Promise: News tell each entry of the others once, in the order of the journal, with the reply that its seat had, and
 /// none of the reader's own.
-pub fn news_of<R: Runs>(
+pub fn follow<R: Runs>(
     alloc: Global,
-    setup: &Setup,
-    seats: u8,
+    mut control: Control<R>,
     seat: u8,
-    journal: &[Entry],
+    entries: &[Entry],
     from: usize,
-) -> Result<Vec<u8>, NoMemory>
-    requires some { (1 ≤ seats) × (seats ≤ MAX_SEATS) }
-    requires seats { AreOfSeats seats journal.now }
-    requires few { length journal.now ≤ MAX_ENTRIES }
-    ensures { IfOk result (λ text. text.items
-        ≡ news (R.rules setup.now) setup.now seats seat journal.now from (length journal.now)) }
+) -> Result<(Control<R>, Vec<u8>), NoMemory>
+    requires seats { AreOfSeats control.seats entries.now }
+    requires few { length control.journal + length entries.now ≤ MAX_ENTRIES }
+    requires rooms { control.rooms ≡ replicate control.seats 0 }
+    requires from { length control.journal ≤ from }
+    ensures control { IfOk result
+        (λ followed. followed.0 ≡ record control { journal = control.journal ++ entries.now }) }
+    ensures news { IfOk result (λ followed. followed.1.items ≡ news_in R.rules followed.0 seat from) }
 {
-    let setup = setup.copy(alloc)?;
-    let from = from.min(journal.len());
-    let mut control = open_on::<R>(alloc, setup, seats, &journal[..from])?;
-    let mut text = String::new(alloc);
-    let pushed = push_each(alloc, &mut control, seat, &journal[from..], &mut text);
-    control.close();
-    pushed?;
-    Ok(text.into_bytes())
+    match push_news(alloc, &mut control, seat, entries, from) {
+        Ok(text) => Ok((control, text)),
+        Err(refused) => {
+            control.close();
+            Err(refused)
+        }
+    }
 }

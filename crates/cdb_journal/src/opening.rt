@@ -1,13 +1,15 @@
 //! A control that goes on from a journal.
 
-ghost use Rattle.std.specs.Prelude.{◌≡◌, ◌+◌, ◌≤◌, ◌++◌, length, replicate, IfErr, IfOk, OnOk};
+ghost use Rattle.std.specs.Prelude.{◌≡◌, ◌+◌, ◌<◌, ◌≤◌, ◌++◌, length, replicate, IfErr, IfOk, OnOk};
 ghost use Rattle.cdb_base.specs.Limits.{MAX_ENTRIES, MAX_SEATS};
-ghost use Rattle.cdb_control.specs.Journal.{AreOfSeats};
+ghost use Rattle.cdb_commands.specs.ReplyView.{reply_view};
+ghost use Rattle.cdb_control.specs.Journal.{AreOfSeats, extended, reply_in};
+ghost use Rattle.cdb_setup.specs.Parts.{IsWithin};
 ghost use Rattle.cdb_journal.specs.OpenedFrom.{IsFaultOfOpening, IsJournalOf, IsOpenedFrom, first_beyond, opened_from};
 
 use crate::reading::entries_of;
 use cdb_base::NoMemory;
-use cdb_control::{CallFault, Control, Entry, OpenFault, Runs};
+use cdb_control::{CallFault, Control, Entry, OpenFault, Reply, Runs};
 use cdb_setup::Setup;
 use cdb_streams::ScriptFault;
 use cdb_text::LineFault;
@@ -32,8 +34,27 @@ fn entries_for(alloc: Global, text: &[u8], seats: u8) -> Result<Vec<Entry>, Scri
     }
 }
 
+/// Carries the command of an entry out, for its seat, in a journal with room for it.
+pub(crate) fn carry_out<R: Runs>(
+    alloc: Global,
+    control: &mut Control<R>,
+    entry: Entry,
+) -> Result<Reply, NoMemory>
+    requires seat { IsWithin 1 control.old.seats entry.seat }
+    requires room { length control.old.journal < MAX_ENTRIES }
+    ensures done { OnOk result (control.new ≡ extended R.rules control.old entry.seat entry.command) }
+    ensures reply { IfOk result
+        (λ reply. reply_view reply ≡ reply_in R.rules control.old entry.seat entry.command) }
+{
+    match control.execute(alloc, entry.seat, entry.command) {
+        Ok(reply) => Ok(reply),
+        Err(CallFault::JournalFull) => unreachable!(),
+        Err(CallFault::NoMemory(refused)) => Err(refused),
+    }
+}
+
 /// Carries the commands of these entries out, one after the other, each for its seat. No seat has room.
-fn carry_out<R: Runs>(
+pub(crate) fn carry_out_each<R: Runs>(
     alloc: Global,
     control: &mut Control<R>,
     entries: &[Entry],
@@ -45,17 +66,13 @@ fn carry_out<R: Runs>(
         (control.new ≡ record control.old { journal = control.old.journal ++ entries.now }) }
 {
     for entry in entries {
-        match control.execute(alloc, entry.seat, entry.command) {
-            Ok(reply) => reply.close(),
-            Err(CallFault::JournalFull) => unreachable!(),
-            Err(CallFault::NoMemory(refused)) => return Err(refused),
-        }
+        carry_out(alloc, control, *entry)?.close();
     }
     Ok(())
 }
 
-/// A control of the setup with 1 to 64 seats on which these entries were carried out.
-pub(crate) fn open_on<R: Runs>(
+/// A control of the setup with 1 to 64 seats on which these entries were carried out. No seat has room.
+pub fn open_on<R: Runs>(
     alloc: Global,
     setup: Setup,
     seats: u8,
@@ -72,7 +89,7 @@ pub(crate) fn open_on<R: Runs>(
         Err(OpenFault::NoMemory(refused)) => return Err(refused),
         Err(OpenFault::Seats) => unreachable!(),
     };
-    match carry_out(alloc, &mut control, entries) {
+    match carry_out_each(alloc, &mut control, entries) {
         Ok(()) => Ok(control),
         Err(refused) => {
             control.close();

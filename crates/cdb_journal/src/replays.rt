@@ -3,7 +3,7 @@
 
 ghost use Rattle.std.specs.Prelude.{◌≡◌, ◌+◌, ◌<◌, ◌≤◌, [], ◌++◌, codes, decimal, length, Err, IfErr, IfOk, OnOk};
 ghost use Rattle.cdb_base.specs.Limits.{MAX_ENTRIES, MAX_SEATS};
-ghost use Rattle.cdb_control.specs.Journal.{AreOfSeats, control_state, extended, opened, reply_in};
+ghost use Rattle.cdb_control.specs.Journal.{AreOfSeats, control_state, extended, reply_in};
 ghost use Rattle.cdb_setup.specs.Parts.{IsWithin};
 ghost use Rattle.cdb_setup.specs.declared.fault.SetupFault.{SetupFault as SetupFaultName};
 ghost use Rattle.cdb_streams.specs.PiecesPut.{Puts};
@@ -14,10 +14,10 @@ ghost use Rattle.cdb_journal.specs.Replays.{IsFaultOfReplay, Replays, TellsAgain
 ghost use Rattle.cdb_journal.specs.SeatReplies.{told_along, told_from, told_line, told_text};
 
 use crate::laws;
+use crate::opening::{carry_out, open_on};
 use crate::reading::read_entries;
-use cdb_base::NoMemory;
 use cdb_base::limits::MAX_SEATS;
-use cdb_control::{CallFault, Control, Entry, OpenFault, Runs};
+use cdb_control::{Control, Entry, Runs};
 use cdb_setup::Setup;
 use cdb_streams::{Buffer, OutputFault, PlayFault, Sink, Source, put_reply};
 use itoa::Buffer as Digits;
@@ -49,12 +49,9 @@ fn perform<T: Runs, W: Sink>(
     ensures put { Puts W.stream result out.old buffer.old out.new buffer.new
         (told_line entry.seat (reply_in T.rules control.old entry.seat entry.command)) }
 {
-    let reply = match control.execute(alloc, entry.seat, entry.command) {
-        Ok(reply) => reply,
-        Err(CallFault::JournalFull) => unreachable!(),
-        Err(CallFault::NoMemory(refused)) => return Err(OutputFault::NoMemory(refused)),
-    };
-    put_seat(entry.seat, buffer, out)?;
+    let seat = entry.seat;
+    let reply = carry_out(alloc, control, entry)?;
+    put_seat(seat, buffer, out)?;
     put_reply(&reply, text, buffer, out)
 }
 
@@ -80,17 +77,6 @@ fn perform_each<T: Runs, W: Sink>(
     Ok(())
 }
 
-/// A control of the setup with 64 seats, in which nothing has happened.
-fn open<T: Runs>(alloc: Global, setup: Setup) -> Result<Control<T>, NoMemory>
-    ensures { IfOk result (λ control. control ≡ opened setup MAX_SEATS) }
-{
-    match Control::open(alloc, setup, MAX_SEATS) {
-        Ok(control) => Ok(control),
-        Err(OpenFault::NoMemory(refused)) => Err(refused),
-        Err(OpenFault::Seats) => unreachable!(),
-    }
-}
-
 /// Carries the commands out as `perform_each` does, on a run of the setup.
 fn perform_all<T: Runs, W: Sink>(
     alloc: Global,
@@ -104,7 +90,7 @@ fn perform_all<T: Runs, W: Sink>(
     ensures { Puts W.stream result out.old buffer.old out.new buffer.new
         (told_text (told_along (T.rules setup) setup MAX_SEATS entries.now)) }
 {
-    let mut control = open::<T>(alloc, setup)?;
+    let mut control = open_on::<T>(alloc, setup, MAX_SEATS, &[])?;
     let mut text = String::new(alloc);
     let performed = perform_each(alloc, &mut control, entries, &mut text, buffer, out);
     control.close();

@@ -16,8 +16,8 @@ use Rattle.cdb_play.specs.RaceStages.{IsFaultOfScripts}
 use Rattle.cdb_streams.specs.declared.buffer.OutputFault.{OutputFault}
 use Rattle.cdb_streams.specs.declared.fault.RaceFault.{RaceFault}
 use Rattle.cdb_streams.specs.declared.fault.RaceFault.TheVariants.{Line, ScriptTooLong, NoMemory}
-use Rattle.cdb_race.specs.declared.threads.RaceFault.{RaceFault as ThreadFault}
-use Rattle.cdb_race.specs.declared.threads.RaceFault.TheVariants as threads
+use Rattle.cdb_race.specs.declared.threads.ThreadFault.{ThreadFault}
+use Rattle.cdb_race.specs.declared.threads.ThreadFault.TheVariants as threads
 
 -- ---- a play and a race write their texts in pieces
 

@@ -6,8 +6,8 @@ use Rattle.cdb_commands.specs.declared.command.Command.{Command}
 use Rattle.cdb_race.specs.Faults.{IsAmongSeats, IsFaultBehind, IsTold}
 use Rattle.cdb_race.specs.Faults as of_race_threads
 use Rattle.cdb_race.specs.Races.{MayFill}
-use Rattle.cdb_race.specs.declared.threads.RaceFault.{RaceFault as ThreadFault}
-use Rattle.cdb_race.specs.declared.threads.RaceFault.TheVariants as threads
+use Rattle.cdb_race.specs.declared.threads.ThreadFault.{ThreadFault}
+use Rattle.cdb_race.specs.declared.threads.ThreadFault.TheVariants as threads
 use Rattle.cdb_rules.specs.Rules.{Rules}
 use Rattle.cdb_setup.specs.Format.{Encodes, longest}
 use Rattle.cdb_setup.specs.Order.{IsFirstFault}

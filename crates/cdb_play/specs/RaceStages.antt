@@ -4,8 +4,8 @@ use Rattle.cdb_commands.specs.ReplyView.{ReplyView}
 use Rattle.cdb_control.specs.Journal.{Journaled}
 use Rattle.cdb_commands.specs.declared.command.Command.{Command}
 use Rattle.cdb_race.specs.Races.{IsRaced, MayFill}
-use Rattle.cdb_race.specs.declared.threads.RaceFault.{RaceFault as ThreadFault}
-use Rattle.cdb_race.specs.declared.threads.RaceFault.TheVariants as threads
+use Rattle.cdb_race.specs.declared.threads.ThreadFault.{ThreadFault}
+use Rattle.cdb_race.specs.declared.threads.ThreadFault.TheVariants as threads
 use Rattle.cdb_rules.specs.Rules.{Rules}
 use Rattle.cdb_setup.specs.Parts.{Parts, IsWithin}
 use Rattle.cdb_streams.specs.declared.fault.RaceFault.{RaceFault}

@@ -8,8 +8,8 @@ use Rattle.cdb_control.specs.Journal.{Journaled, control_state}
 use Rattle.cdb_commands.specs.declared.command.Command.{Command}
 use Rattle.cdb_race.specs.Faults as of_threads
 use Rattle.cdb_race.specs.Races.{IsRaced, MayFill, replies_in}
-use Rattle.cdb_race.specs.declared.threads.RaceFault.{RaceFault as ThreadFault}
-use Rattle.cdb_race.specs.declared.threads.RaceFault.TheVariants as threads
+use Rattle.cdb_race.specs.declared.threads.ThreadFault.{ThreadFault}
+use Rattle.cdb_race.specs.declared.threads.ThreadFault.TheVariants as threads
 use Rattle.cdb_rules.specs.Agreement.{AreProposed, HasMajorityIfNeeded}
 use Rattle.cdb_rules.specs.Rules.{Rules}
 use Rattle.cdb_setup.specs.Format.{Encodes, longest}

@@ -18,7 +18,7 @@ mod text;
 
 use cdb_base::NoMemory;
 use cdb_control::Runs;
-use cdb_race::{RaceFault as ThreadFault, Script};
+use cdb_race::{Script, ThreadFault};
 use cdb_setup::Setup;
 use cdb_shared::{Gate, Seat};
 use cdb_streams::{Buffer, RaceFault, ScriptFault, Sink, commands_of};

@@ -8,8 +8,8 @@ use Rattle.cdb_race.specs.Faults.{fault_at, fault_in, IsAmongSeats, IsFaultBehin
 use Rattle.cdb_race.specs.Plans.{seats_of}
 use Rattle.cdb_race.specs.Races.{AllRan, AllPass}
 use Rattle.cdb_race.specs.declared.plan.Plan.{Plan}
-use Rattle.cdb_race.specs.declared.threads.RaceFault.{RaceFault}
-use Rattle.cdb_race.specs.declared.threads.RaceFault.TheVariants as fault
+use Rattle.cdb_race.specs.declared.threads.ThreadFault.{ThreadFault}
+use Rattle.cdb_race.specs.declared.threads.ThreadFault.TheVariants as fault
 use Rattle.cdb_race.specs.declared.worker.Ran.{Ran}
 use Rattle.cdb_rules.specs.Rules.{Rules}
 use Rattle.cdb_setup.specs.Parts.{Parts, IsWithin}
@@ -23,7 +23,7 @@ at_most : (count most : ℕ) → (most < count → ⊥) → count ≤ most
 at_most count most not_more = omega arith
 
 -- the fault of a session names its seat
-of_end : (n seat : ℕ) (end : End) (why : RaceFault) → fault_at seat end ≡ Some why → IsWithin 1 n seat → IsAmongSeats n why
+of_end : (n seat : ℕ) (end : End) (why : ThreadFault) → fault_at seat end ≡ Some why → IsWithin 1 n seat → IsAmongSeats n why
 of_end n seat All why has within = absurd cc
 of_end n seat Done why has within = absurd cc
 of_end n seat Stopped why has within = let same : fault.Stopped seat ≡ why = cc in subst (IsAmongSeats n) same within
@@ -43,7 +43,7 @@ number_at {T} rules shared plan setup before rans new many all k its within at =
 
 -- and so does that of the least seat
 pub of_last : {T : Type 0} (rules : Parts → Rules) (shared : TableId) (plan : Plan) (setup : Parts) (before : List SeatView)
-    (rans : List (Ran T)) (why : RaceFault) → AreFresh shared setup (seats_of plan) before → length rans ≡ seats_of plan
+    (rans : List (Ran T)) (why : ThreadFault) → AreFresh shared setup (seats_of plan) before → length rans ≡ seats_of plan
     → AllRan rules plan before rans → IsLastFault why rans → IsAmongSeats (seats_of plan) why
 of_last {T} rules shared plan setup before rans why new many all last =
     let its = last.its in
@@ -53,7 +53,7 @@ of_last {T} rules shared plan setup before rans why new many all last =
 
 -- the last outcome with a fault is that of the least seat which has one
 pub least_seat : {T : Type 0} (rules : Parts → Rules) (shared : TableId) (plan : Plan) (setup : Parts) (before : List SeatView)
-    (rans : List (Ran T)) (why : RaceFault) → AreFresh shared setup (seats_of plan) before → length rans ≡ seats_of plan
+    (rans : List (Ran T)) (why : ThreadFault) → AreFresh shared setup (seats_of plan) before → length rans ≡ seats_of plan
     → AllRan rules plan before rans → IsLastFault why rans → IsOfLeastSeat why rans
 least_seat {T} rules shared plan setup before rans why new many all last =
     let number : (k : ℕ) (its : Ran T) → k < length rans → get_or rans k its ≡ its → its.seat.number ≡ 1 + (length before - 1 - k) =
@@ -84,7 +84,7 @@ some_gate (gate ∷ gates) low = gate
 
 -- where all gates let every call go on no seat stopped
 never_stopped : {G : Type 0} (T : Type 0) (rules : Parts → Rules) (heard : G → Option (List Heard)) (passes : G → Bool) (gates : List G)
-    (setup : Parts) (turns : ℕ) (scripts : List (List Command)) (why : RaceFault) → length gates ≡ setup.processes + length scripts
+    (setup : Parts) (turns : ℕ) (scripts : List (List Command)) (why : ThreadFault) → length gates ≡ setup.processes + length scripts
     → IsFaultBehind T rules heard passes gates setup turns scripts why → AllPass passes gates → (seat : ℕ) → why ≡ fault.Stopped seat → ⊥
 never_stopped T rules heard passes gates setup turns scripts why many it all seat is =
     let least = it.least in
@@ -93,24 +93,24 @@ never_stopped T rules heard passes gates setup turns scripts why many it all sea
     let first = some_gate gates (omega (arith, many, it.many, least.ran.1, it.processes_are, ap length it.scripts_are)) in
     let ended = it.ended least.ran.0 its first least.ran.1 nobody in
     let end : (get_or it.rans least.ran.0 its).end ≡ Stopped =
-    ap (λ (r : Ran T). r.end) least.ran.2 ∙ stopped its.seat.number seat its.end (least.has ∙ ap (λ (f : RaceFault). Some f) is) in
+    ap (λ (r : Ran T). r.end) least.ran.2 ∙ stopped its.seat.number seat its.end (least.has ∙ ap (λ (f : ThreadFault). Some f) is) in
     ended.passed (all (length gates - 1 - least.ran.0) first (omega (arith, many, it.many, least.ran.1, it.processes_are, ap length it.scripts_are))) end
 
 -- so it is told of none
-not_stopped : (why : RaceFault) → ((seat : ℕ) → why ≡ fault.Stopped seat → ⊥) → IsNotStopped why
+not_stopped : (why : ThreadFault) → ((seat : ℕ) → why ≡ fault.Stopped seat → ⊥) → IsNotStopped why
 not_stopped (fault.Stopped seat) never = never seat refl
 not_stopped (fault.NoMemory refused) never = tt
 not_stopped fault.JournalFull never = tt
 not_stopped (fault.Spawn refused) never = tt
 
-not_of_threads : (why : RaceFault) → IsFaultOfThreads why → IsNotStopped why
+not_of_threads : (why : ThreadFault) → IsFaultOfThreads why → IsNotStopped why
 not_of_threads (fault.Stopped seat) it = it
 not_of_threads (fault.NoMemory refused) it = tt
 not_of_threads fault.JournalFull it = tt
 not_of_threads (fault.Spawn refused) it = tt
 
 pub told_passes : {G : Type 0} (T : Type 0) (rules : Parts → Rules) (heard : G → Option (List Heard)) (passes : G → Bool) (gates : List G)
-    (setup : Parts) (turns : ℕ) (scripts : List (List Command)) (why : RaceFault) → length gates ≡ setup.processes + length scripts
+    (setup : Parts) (turns : ℕ) (scripts : List (List Command)) (why : ThreadFault) → length gates ≡ setup.processes + length scripts
     → IsTold T rules heard passes gates setup turns scripts why → AllPass passes gates → IsNotStopped why
 told_passes T rules heard passes gates setup turns scripts why many (inl threads) all = not_of_threads why threads
 told_passes T rules heard passes gates setup turns scripts why many (inr it) all =

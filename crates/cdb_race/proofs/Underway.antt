@@ -11,8 +11,8 @@ use Rattle.cdb_race.specs.Plans.{seats_of}
 use Rattle.cdb_race.specs.Promises.{HasRan}
 use Rattle.cdb_race.specs.Races.{AllRan, AreSeatsOf, IsUnderWay}
 use Rattle.cdb_race.specs.declared.plan.Plan.{Plan}
-use Rattle.cdb_race.specs.declared.threads.RaceFault.{RaceFault}
-use Rattle.cdb_race.specs.declared.threads.RaceFault.TheVariants as fault
+use Rattle.cdb_race.specs.declared.threads.ThreadFault.{ThreadFault}
+use Rattle.cdb_race.specs.declared.threads.ThreadFault.TheVariants as fault
 use Rattle.cdb_race.specs.declared.worker.Ran.{Ran}
 use Rattle.cdb_rules.specs.Rules.{Rules}
 use Rattle.cdb_setup.specs.Parts.{Parts}
@@ -22,7 +22,7 @@ use Rattle.cdb_shared.specs.declared.session.End.TheVariants.{All as AllDone, Do
 use Rattle.cdb_race.proofs.Outcomes.{own_known}
 
 -- equal answers have equal faults
-pub same_fault : {A : Type 0} (x y : Result A RaceFault) (a b : RaceFault) → x ≡ Err a → y ≡ Err b → x ≡ y → a ≡ b
+pub same_fault : {A : Type 0} (x y : Result A ThreadFault) (a b : ThreadFault) → x ≡ Err a → y ≡ Err b → x ≡ y → a ≡ b
 same_fault x y a b left right same = cc
 
 -- a full journal is the fault of a seat that met one

@@ -2,7 +2,7 @@
 ghost use Rattle.std.specs.Prelude.{◌≡◌, ◌+◌, ◌<◌, ◌≤◌, length, vec_len, All, IfOk, IfErr, MatchOption, Err};
 ghost use Rattle.cdb_base.specs.Memory.{no_memory};
 ghost use Rattle.cdb_base.specs.Limits.{MAX_SEATS};
-ghost use Rattle.cdb_race.specs.Faults.{fault_in, AreWell, HaveFinished, IsAmongSeats, IsFaultOfThreads};
+ghost use Rattle.cdb_race.specs.Faults.{fault_in, AreWell, HaveFinished, IsAmongSeats, IsFaultOfStart, IsFaultOfThreads};
 ghost use Rattle.cdb_race.specs.Faults.{IsNotStopped, IsRoomFor, IsTold};
 ghost use Rattle.cdb_race.specs.LastFault.{IsLastFault};
 ghost use Rattle.cdb_race.specs.Promises.{IsReady, ArePromises, IsPromise, HasRan, HasEndedAtGate};
@@ -27,7 +27,7 @@ use std::{fmt, thread};
 
 /// Why a race came to nothing.
 #[derive(Debug, Clone, Copy, PartialEq)]
-pub enum RaceFault {
+pub enum ThreadFault {
     NoMemory(NoMemory),
     JournalFull,
     /// The start of a thread was refused.
@@ -36,7 +36,7 @@ pub enum RaceFault {
     Stopped(u8),
 }
 
-impl fmt::Display for RaceFault {
+impl fmt::Display for ThreadFault {
     ghost use Rattle.std.specs.Prelude.{Some};
     ghost use Rattle.cdb_race.specs.FaultTexts.{thread_fault_text};
 
@@ -44,14 +44,14 @@ impl fmt::Display for RaceFault {
 
     fn fmt<W: fmt::Write>(&self, f: &mut fmt::Formatter<W>) -> fmt::Result {
         f.write_str(match self {
-            RaceFault::NoMemory(_) => "no memory",
-            RaceFault::JournalFull => "journal full",
-            RaceFault::Spawn(_) | RaceFault::Stopped(_) => "no thread",
+            ThreadFault::NoMemory(_) => "no memory",
+            ThreadFault::JournalFull => "journal full",
+            ThreadFault::Spawn(_) | ThreadFault::Stopped(_) => "no thread",
         })
     }
 }
 
-impl Error for RaceFault {}
+impl Error for ThreadFault {}
 
 /// Starts a thread for one seat.
 fn start_one<'s, E, T: Runs + Send + 's, G: Gate + Drop + Send + 's, R: Threads + Wait + Sync>(
@@ -62,10 +62,10 @@ fn start_one<'s, E, T: Runs + Send + 's, G: Gate + Drop + Send + 's, R: Threads 
     plan: Plan<'s>,
     seat: Seat<T>,
     gate: G,
-) -> Result<PromisedHandle<Ran<T>, SeatPromise<'s, T, G>>, RaceFault>
+) -> Result<PromisedHandle<Ran<T>, SeatPromise<'s, T, G>>, ThreadFault>
     requires { IsReady shared.now plan seat }
     ensures promise { IfOk result (λ handle. IsPromise plan.entry seat gate handle.promise) }
-    ensures fault { IfErr result IsFaultOfThreads }
+    ensures fault { IfErr result IsFaultOfStart }
 {
     let promise = SeatPromise {
         plan,
@@ -81,7 +81,7 @@ fn start_one<'s, E, T: Runs + Send + 's, G: Gate + Drop + Send + 's, R: Threads 
             ensures ended { HasEndedAtGate G.heard G.passes gate seat result.seat result.end }
         { run(shared, rt, alloc, plan, seat, gate) },
     );
-    started.map_err(RaceFault::Spawn)
+    started.map_err(ThreadFault::Spawn)
 }
 
 /// Starts a thread for each seat, the last seat's first.
@@ -93,7 +93,7 @@ fn start_all<'s, E, T: Runs + Send + 's, G: Gate + Drop + Send + 's, R: Threads 
     plan: Plan<'s>,
     mut seats: Vec<Seat<T>>,
     mut gates: Vec<G>,
-) -> Result<Vec<PromisedHandle<Ran<T>, SeatPromise<'s, T, G>>>, RaceFault>
+) -> Result<Vec<PromisedHandle<Ran<T>, SeatPromise<'s, T, G>>>, ThreadFault>
     requires ready { All (λ seat. IsReady shared.now plan seat) seats.items }
     requires gates { vec_len gates ≡ vec_len seats }
     ensures count { IfOk result (λ handles. vec_len handles ≡ vec_len seats) }
@@ -102,7 +102,7 @@ fn start_all<'s, E, T: Runs + Send + 's, G: Gate + Drop + Send + 's, R: Threads 
 {
     let mut handles = match Vec::with_capacity(alloc, seats.len()) {
         Ok(handles) => handles,
-        Err(error) => return Err(RaceFault::NoMemory(NoMemory::from(error))),
+        Err(error) => return Err(ThreadFault::NoMemory(NoMemory::from(error))),
     };
     while let Some(seat) = seats.pop() {
         let Some(gate) = gates.pop() else {
@@ -122,7 +122,7 @@ fn run_all<T: Runs + Send, G: Gate + Drop + Send, R: Threads + Wait + Sync>(
     plan: Plan<'_>,
     seats: Vec<Seat<T>>,
     gates: Vec<G>,
-) -> Result<Vec<Ran<T>>, RaceFault>
+) -> Result<Vec<Ran<T>>, ThreadFault>
     requires ready { All (λ seat. IsReady shared.now plan seat) seats.items }
     requires gates { vec_len gates ≡ vec_len seats }
     ensures count { IfOk result (λ rans. vec_len rans ≡ vec_len seats) }
@@ -134,7 +134,7 @@ fn run_all<T: Runs + Send, G: Gate + Drop + Send, R: Threads + Wait + Sync>(
     thread::scope(
         thread::scope_env(),
         rt,
-        |scope| -> Result<Vec<Ran<T>>, RaceFault>
+        |scope| -> Result<Vec<Ran<T>>, ThreadFault>
             requires ready { All (λ seat. IsReady shared.now plan seat) seats.items }
             requires gates { vec_len gates ≡ vec_len seats }
             ensures count { IfOk result (λ rans. vec_len rans ≡ vec_len seats) }
@@ -146,7 +146,7 @@ fn run_all<T: Runs + Send, G: Gate + Drop + Send, R: Threads + Wait + Sync>(
             let handles = start_all(scope, rt, alloc, shared, plan, seats, gates)?;
             let rans = match thread::join_promised(rt, handles) {
                 Ok(rans) => rans,
-                Err(error) => return Err(RaceFault::NoMemory(NoMemory::from(error))),
+                Err(error) => return Err(ThreadFault::NoMemory(NoMemory::from(error))),
             };
             Ok(rans)
         },
@@ -154,19 +154,19 @@ fn run_all<T: Runs + Send, G: Gate + Drop + Send, R: Threads + Wait + Sync>(
 }
 
 /// The fault of a seat whose session did not end well.
-fn fault_of<T: Runs>(ran: &Ran<T>) -> Option<RaceFault>
+fn fault_of<T: Runs>(ran: &Ran<T>) -> Option<ThreadFault>
     ensures { result ≡ fault_in ran.now }
 {
     match ran.end {
         End::All | End::Done => None,
-        End::Stopped => Some(RaceFault::Stopped(ran.seat.number())),
-        End::NoMemory(refused) => Some(RaceFault::NoMemory(refused)),
-        End::JournalFull => Some(RaceFault::JournalFull),
+        End::Stopped => Some(ThreadFault::Stopped(ran.seat.number())),
+        End::NoMemory(refused) => Some(ThreadFault::NoMemory(refused)),
+        End::JournalFull => Some(ThreadFault::JournalFull),
     }
 }
 
 /// The fault of the least seat that has one. The last seat's outcome comes first.
-fn first_fault<T: Runs>(rans: &[Ran<T>]) -> Option<RaceFault>
+fn first_fault<T: Runs>(rans: &[Ran<T>]) -> Option<ThreadFault>
     ensures { MatchOption result (AreWell rans.now) (λ fault. IsLastFault fault rans.now) }
 {
     for position in (0..rans.len()).rev() {
@@ -181,17 +181,17 @@ fn first_fault<T: Runs>(rans: &[Ran<T>]) -> Option<RaceFault>
 fn room_for<T: Runs>(
     alloc: Global,
     count: usize,
-) -> Result<(Vec<Seat<T>>, Vec<Vec<Reply>>), RaceFault>
-    ensures fault { IfErr result (λ fault. fault ≡ RaceFault.NoMemory no_memory) }
+) -> Result<(Vec<Seat<T>>, Vec<Vec<Reply>>), ThreadFault>
+    ensures fault { IfErr result (λ fault. fault ≡ ThreadFault.NoMemory no_memory) }
     ensures room { IfOk result (λ room. IsRoomFor count room.0 room.1) }
 {
     let seats = match Vec::with_capacity(alloc, count) {
         Ok(seats) => seats,
-        Err(error) => return Err(RaceFault::NoMemory(NoMemory::from(error))),
+        Err(error) => return Err(ThreadFault::NoMemory(NoMemory::from(error))),
     };
     let replied = match Vec::with_capacity(alloc, count) {
         Ok(replied) => replied,
-        Err(error) => return Err(RaceFault::NoMemory(NoMemory::from(error))),
+        Err(error) => return Err(ThreadFault::NoMemory(NoMemory::from(error))),
     };
     Ok((seats, replied))
 }
@@ -238,23 +238,23 @@ fn open_shared<T: Runs, R: Wait>(
     alloc: Global,
     setup: Setup,
     count: u8,
-) -> Result<(Shared<T>, Vec<Seat<T>>), RaceFault>
+) -> Result<(Shared<T>, Vec<Seat<T>>), ThreadFault>
     requires some { 1 ≤ count }
     requires fits { count ≤ MAX_SEATS }
     ensures seats { IfOk result
         (λ r. r.1.items ≡ fresh_seats r.0 (opened setup count) 1 count) }
-    ensures fault { IfErr result (λ fault. fault ≡ RaceFault.NoMemory no_memory) }
+    ensures fault { IfErr result (λ fault. fault ≡ ThreadFault.NoMemory no_memory) }
 {
     let control = match Control::open(alloc, setup, count) {
         Ok(control) => control,
-        Err(OpenFault::NoMemory(refused)) => return Err(RaceFault::NoMemory(refused)),
+        Err(OpenFault::NoMemory(refused)) => return Err(ThreadFault::NoMemory(refused)),
         Err(OpenFault::Seats) => unreachable!(),
     };
     match Shared::open(rt, alloc, control) {
         Ok(opened) => Ok(opened),
         Err((control, refused)) => {
             control.close();
-            Err(RaceFault::NoMemory(refused))
+            Err(ThreadFault::NoMemory(refused))
         }
     }
 }
@@ -277,14 +277,14 @@ pub fn race<T: Runs + Send, G: Gate + Drop + Send, R: Threads + Wait + Sync>(
     turns: u32,
     scripts: &[Script],
     gates: Vec<G>,
-) -> Result<Raced<T>, RaceFault>
+) -> Result<Raced<T>, ThreadFault>
     requires fits { setup.processes + length scripts.now ≤ MAX_SEATS }
     requires gates { vec_len gates ≡ setup.processes + length scripts.now }
     ensures raced { IfOk result (HasRaced T.rules setup turns scripts.now) }
     ensures headline { IfOk result (λ r. HasHeadline T.rules T.same_state r.control) }
     ensures fault { IfErr result (IsAmongSeats (setup.processes + length scripts.now)) }
-    ensures full { result ≡ Err RaceFault.JournalFull → FillsJournal setup turns scripts.now }
-    ensures most { result ≡ Err RaceFault.JournalFull → MayFill setup turns scripts.now }
+    ensures full { result ≡ Err ThreadFault.JournalFull → FillsJournal setup turns scripts.now }
+    ensures most { result ≡ Err ThreadFault.JournalFull → MayFill setup turns scripts.now }
     ensures told { IfErr result
         (IsTold T T.rules G.heard G.passes gates.items setup turns scripts.now) }
     ensures passes { AllPass G.passes gates.items → IfErr result IsNotStopped }

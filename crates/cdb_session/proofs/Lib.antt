@@ -26,7 +26,6 @@ pub mod FedBytes
 pub mod WholeSession
 pub mod CameSince
 pub mod OwnControl
-pub mod LeftRun
 pub mod SameAsTable
 pub mod JournalCommands
 pub mod FromSetup

@@ -40,12 +40,6 @@ pub record IsLaterControl (old new : Journaled) : Type 0 where
   pub begins : Begins old.journal new.journal
   pub few : length new.journal ≤ MAX_ENTRIES
 
--- a control with this journal, whatever room there is
-pub record HasJournal (setup : Parts) (seats : ℕ) (entries : List Entry) (control : Journaled) : Type 0 where
-  pub setup_is : control.setup ≡ setup
-  pub seats_are : control.seats ≡ seats
-  pub entries_are : control.journal ≡ entries
-
 -- the style of a session whose lines choose one of nine seats
 abbrev pub nine : List ℕ → List ℕ → StyleView
 nine greeting prompt = record { greeting = greeting; prompt = prompt; first = 1; chooses = true }

@@ -1,20 +1,19 @@
 //! Who answers what is asked of a run.
 
-ghost use Rattle.std.specs.Prelude.{◌≡◌, ◌<◌, ◌≤◌, [], IfOk, OnOk, length};
+ghost use Rattle.std.specs.Prelude.{◌≡◌, ◌≤◌, IfOk, length};
 ghost use Rattle.cdb_base.specs.Limits.{MAX_ENTRIES, MAX_SEATS};
-ghost use Rattle.cdb_control.specs.Journal.{AreOfSeats, extended};
+ghost use Rattle.cdb_control.specs.Journal.{AreOfSeats};
 ghost use Rattle.cdb_rules.specs.ByRules.{IsInOrder};
 ghost use Rattle.cdb_rules.specs.RunView.{RunView};
-ghost use Rattle.cdb_session.specs.Alone.{HasJournal};
 ghost use Rattle.cdb_session.specs.Answers.{answer_seen, run_left};
 ghost use Rattle.cdb_session.specs.Exchanges.{Answer};
 ghost use Rattle.cdb_session.specs.declared.inquiry.Inquiry.{Inquiry as InquiryName};
-ghost use Rattle.cdb_setup.specs.Parts.{IsWithin};
 
 use crate::inquiry::Inquiry;
 use cdb_base::NoMemory;
-use cdb_control::{CallFault, Control, Entry, OpenFault};
+use cdb_control::{Control, Entry};
 use cdb_explain::trace_of;
+use cdb_journal::open_on;
 use cdb_rules::{Runs, Trace};
 use cdb_setup::Setup;
 use std::alloc::Global;
@@ -35,66 +34,6 @@ pub trait Answers<R: Runs> {
         ensures { IfOk result (λ answer. answers run.now inquiry.now (answer_seen answer)) };
 }
 
-/// Carries out the command of an entry, for its seat.
-fn carry_out<R: Runs>(alloc: Global, control: &mut Control<R>, entry: Entry) -> Result<(), NoMemory>
-    requires seat { IsWithin 1 control.old.seats entry.seat }
-    requires room { length control.old.journal < MAX_ENTRIES }
-    ensures { OnOk result (control.new ≡ extended R.rules control.old entry.seat entry.command) }
-{
-    match control.execute(alloc, entry.seat, entry.command) {
-        Ok(reply) => {
-            reply.close();
-            Ok(())
-        }
-        Err(CallFault::JournalFull) => unreachable!(),
-        Err(CallFault::NoMemory(refused)) => Err(refused),
-    }
-}
-
-/// Carries out the commands of a journal, one after the other, on a control in which nothing has happened.
-fn carry_out_each<R: Runs>(
-    alloc: Global,
-    control: &mut Control<R>,
-    entries: &[Entry],
-) -> Result<(), NoMemory>
-    requires seats { AreOfSeats control.old.seats entries.now }
-    requires few { length entries.now ≤ MAX_ENTRIES }
-    requires new { control.old.journal ≡ [] }
-    ensures { OnOk result
-        (HasJournal control.old.setup control.old.seats entries.now control.new) }
-{
-    for entry in entries {
-        carry_out(alloc, control, *entry)?;
-    }
-    Ok(())
-}
-
-/// A control with this journal.
-fn control_with<R: Runs>(
-    alloc: Global,
-    setup: Setup,
-    seats: u8,
-    entries: &[Entry],
-) -> Result<Control<R>, NoMemory>
-    requires some { (1 ≤ seats) × (seats ≤ MAX_SEATS) }
-    requires seats { AreOfSeats seats entries.now }
-    requires few { length entries.now ≤ MAX_ENTRIES }
-    ensures { IfOk result (HasJournal setup seats entries.now) }
-{
-    let mut control = match Control::<R>::open(alloc, setup, seats) {
-        Ok(control) => control,
-        Err(OpenFault::NoMemory(refused)) => return Err(refused),
-        Err(OpenFault::Seats) => unreachable!(),
-    };
-    match carry_out_each(alloc, &mut control, entries) {
-        Ok(()) => Ok(control),
-        Err(refused) => {
-            control.close();
-            Err(refused)
-        }
-    }
-}
-
 /// What stands in the run that a journal leaves.
 fn run_left<R: Runs>(
     alloc: Global,
@@ -109,7 +48,7 @@ fn run_left<R: Runs>(
     ensures valid { IfOk result (IsInOrder R.rules) }
     ensures few { IfOk result (λ run. length run.history ≤ MAX_ENTRIES) }
 {
-    let control = control_with::<R>(alloc, setup, seats, entries)?;
+    let control = open_on::<R>(alloc, setup, seats, entries)?;
     trace_of(alloc, control)
 }
 

@@ -159,22 +159,25 @@ impl<T: Runs> Shared<T> {
         entries.map_err(NoMemory::from)
     }
 
-    /// The journal, which the seat has then seen. It may wait for the turn, and leaves the journal as it is.
+    /// The entries of the journal from this position on, where the seat has seen no fewer; it has then seen all. It may
+    /// wait for the turn, and leaves the journal as it is.
     pub fn journal<R: Wait>(
         &self,
         rt: &R,
         alloc: Global,
         seat: &mut Seat<T>,
+        from: usize,
     ) -> Result<Vec<Entry>, NoMemory>
-        requires { RestsAt self.now seat.old }
+        requires rests { RestsAt self.now seat.old }
+        requires from { from ≤ length seat.old.seen }
         ensures seat { IsLater seat.old seat.new }
         ensures calls { SameCalls seat.old seat.new.seen }
-        ensures entries { IfOk result (λ entries. entries.items ≡ seat.new.seen) }
+        ensures entries { IfOk result (λ entries. entries.items ≡ drop from seat.new.seen) }
         ensures seats { AreOfSeats seat.new.seats seat.new.seen }
         ensures limit { length seat.new.seen ≤ MAX_ENTRIES }
     {
         let held = take(rt, &self.turn, &mut seat.pass);
-        let entries = Vec::from_slice(alloc, held.journal());
+        let entries = Vec::from_slice(alloc, &held.journal()[from..]);
         give(rt, &self.turn, &mut seat.pass, held);
         entries.map_err(NoMemory::from)
     }

@@ -9,3 +9,4 @@ pub mod FailureLines
 pub mod SeatCalls
 pub mod Writable
 pub mod WrittenTexts
+pub mod Replicas

@@ -11,6 +11,7 @@
 mod alone;
 mod endpoint;
 mod keeping;
+mod replica;
 mod reports;
 mod seat;
 mod shared;

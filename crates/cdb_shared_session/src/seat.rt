@@ -7,9 +7,9 @@ ghost use Rattle.cdb_shared_session.specs.Promises.{IsUnused, RunsSeat, HasRun};
 ghost use Rattle.cdb_shared_session.specs.SeatParts.{is_numbered};
 
 use crate::endpoint::{Endpoint, Finished, Opener};
+use crate::replica::{news_for, replica_of};
 use cdb_base::NoMemory;
-use cdb_control::{CallFault, Command, Reply};
-use cdb_journal::news_of;
+use cdb_control::{CallFault, Command, Control, Reply};
 use cdb_rules::Runs;
 use cdb_session::{Answers, Caller, Console, Inquiry, News, Style, answer_of, greeting_at, run};
 use cdb_setup::Setup;
@@ -29,6 +29,7 @@ pub(crate) struct SeatCaller<'a, R: Runs, A, Rt> {
     setup: &'a Setup,
     seats: u8,
     seat: Seat<R>,
+    replica: Option<Control<R>>,
     answers: PhantomData<A>,
 }
 
@@ -36,13 +37,15 @@ impl<'a, R: Runs, A, Rt> Model for SeatCaller<'a, R, A, Rt> {
     ghost use Rattle.std.specs.Prelude.{◌≡◌, ◌≤◌};
     ghost use Rattle.cdb_base.specs.Limits.{MAX_SEATS};
     ghost use Rattle.cdb_shared.specs.Seats.{SeatView, RestsAt};
+    ghost use Rattle.cdb_shared_session.specs.SeatParts.{HasReplica};
 
     ghost Value = { SeatView };
 
     ghost view = { λ s. s.seat };
 
     ghost invariant = { λ s. RestsAt s.shared.now s.seat × (s.setup.now ≡ s.seat.setup)
-        × (s.seats ≡ s.seat.seats) × (1 ≤ s.seats) × (s.seats ≤ MAX_SEATS) };
+        × (s.seats ≡ s.seat.seats) × (1 ≤ s.seats) × (s.seats ≤ MAX_SEATS)
+        × HasReplica s.seat s.replica };
 }
 
 impl<'a, R: Runs, A: Answers<R>, Rt: Wait> Caller for SeatCaller<'a, R, A, Rt> {
@@ -66,26 +69,22 @@ impl<'a, R: Runs, A: Answers<R>, Rt: Wait> Caller for SeatCaller<'a, R, A, Rt> {
         alloc: Global,
         inquiry: &Inquiry<'_>,
     ) -> Result<Result<Vec<u8>, Vec<u8>>, NoMemory> {
-        let journal = self.shared.journal(self.rt, alloc, &mut self.seat)?;
+        let journal = self.shared.journal(self.rt, alloc, &mut self.seat, 0)?;
         answer_of::<R, A>(alloc, self.setup, self.seats, journal.as_slice(), inquiry)
     }
 
     fn look(&mut self, alloc: Global, from: Option<usize>) -> Result<News, NoMemory> {
-        let journal = self.shared.journal(self.rt, alloc, &mut self.seat)?;
-        let seen = journal.len();
-        let Some(from) = from else {
-            return Ok(News::none(alloc, seen));
-        };
-        let number = self.seat.number();
-        let text = news_of::<R>(
+        let replica = replica_of::<R>(
             alloc,
             self.setup,
             self.seats,
-            number,
-            journal.as_slice(),
-            from,
+            self.replica.take(),
+            from.unwrap_or(usize::MAX),
         )?;
-        Ok(News { text, seen })
+        let (shared, seat) = (self.shared, &mut self.seat);
+        let (replica, news) = news_for(shared, self.rt, alloc, seat, replica, from)?;
+        self.replica = Some(replica);
+        Ok(news)
     }
 }
 
@@ -145,10 +144,14 @@ fn run_styled<R: Runs, A: Answers<R>, T: Console, Rt: Wait>(
         setup: welcome.setup,
         seats: welcome.seats,
         seat,
+        replica: None,
         answers: PhantomData,
     };
     let (caller, outcome) = run(alloc, style, caller, console);
-    let SeatCaller { seat, .. } = caller;
+    let SeatCaller { seat, replica, .. } = caller;
+    if let Some(replica) = replica {
+        replica.close();
+    }
     (seat, outcome)
 }
 

@@ -5,7 +5,7 @@ use Rattle.cdb_setup.specs.Parts.{Parts}
 use Rattle.std.proofs.lemmas.Result.{err_from_is_err_and}
 use Rattle.cdb_race.specs.Faults.{IsFaultBehind}
 use Rattle.cdb_race.specs.Races.{all_told}
-use Rattle.cdb_race.specs.declared.threads.RaceFault.{RaceFault as ThreadFault}
+use Rattle.cdb_race.specs.declared.threads.ThreadFault.{ThreadFault}
 use Rattle.cdb_streams.specs.Endings.{Complete}
 use Rattle.cdb_play.specs.Races.{last_decisions, EndsInAgreement, EndsInProposed}
 use Rattle.cdb_play.specs.RaceStages.{IsTextOfCommands}

@@ -5,8 +5,8 @@ use Rattle.cdb_race.specs.LastFault.{IsLastFault}
 use Rattle.cdb_race.specs.Plans.{seats_of}
 use Rattle.cdb_race.specs.Races.{all_told}
 use Rattle.cdb_race.specs.declared.plan.Plan.{Plan}
-use Rattle.cdb_race.specs.declared.threads.RaceFault.{RaceFault}
-use Rattle.cdb_race.specs.declared.threads.RaceFault.TheVariants as fault
+use Rattle.cdb_race.specs.declared.threads.ThreadFault.{ThreadFault}
+use Rattle.cdb_race.specs.declared.threads.ThreadFault.TheVariants as fault
 use Rattle.cdb_race.specs.declared.worker.Ran.{Ran}
 use Rattle.cdb_race.proofs.Outcomes.{all_ready, all_rest, raced}
 use Rattle.cdb_race.proofs.Most.{few_calls}
@@ -106,7 +106,7 @@ returns-in-Some-clause-full g c = λ full.
     let many : length rans.items ≡ seats_of plan = omega (arith, c.in-Ok.ensures.count, new.many, rans.ok.0, before.ok.0) in
     let long : length seats.items ≡ length rans.items = omega (arith, got.count.0, seats.ok.0, rans.ok.0) in
     let same : why ≡ fault.JournalFull = same_fault (Err why) (Err fault.JournalFull) why fault.JournalFull refl refl full in
-    let met = met_full last.its.seat.number last.its.end (last.has ∙ ap (λ (f : RaceFault). Some f) same) in
+    let met = met_full last.its.seat.number last.its.end (last.has ∙ ap (λ (f : ThreadFault). Some f) same) in
     let final = c.finish-control.result in
     let so_far =
     under_way g.T.Runs.rules c.in_ok-shared.shared plan c.args.setup final before.items rans.items last.its c.n-processes.ensures.value new many

@@ -2,7 +2,7 @@ use Rattle.std.proofs.Common.{◌≡◌, ◌+◌, List, [], ◌∷◌, ◌++◌,
 use Rattle.std.proofs.lemmas.List.{take_more}
 use Rattle.cdb_control.specs.declared.control.Entry.{Entry}
 use Rattle.cdb_journal.proofs.CarriedOut.{carried_out, one_more}
-use Rattle.cdb_journal.proofs.opening.carry_out.Goals as goal
+use Rattle.cdb_journal.proofs.opening.carry_out_each.Goals as goal
 
 pub loop-entry-preserved : goal.loop-entry-preserved
 loop-entry-preserved g c =
@@ -12,5 +12,5 @@ loop-entry-preserved g c =
     let e = c.entry-item.result in
     let more : take i entries ++ e ∷ [] ≡ take (i + 1) entries =
     ap (λ (other : Entry). take i entries ++ other ∷ []) c.entry-item.is ∙ sym (take_more _ i _ c.loop-entry-test.true) in
-    subst (λ (done : List Entry). c.execute.new.self ≡ carried_out first done) more
-    (one_more g.R.Runs.rules first c.loop-entry.control c.execute.new.self (take i entries) e c.loop-entry.invariant c.requires.rooms c.in-Ok.ensures.journal)
+    subst (λ (done : List Entry). c.carry_out.new.control ≡ carried_out first done) more
+    (one_more g.R.Runs.rules first c.loop-entry.control c.carry_out.new.control (take i entries) e c.loop-entry.invariant c.requires.rooms c.in_ok-carry_out.ensures.done)

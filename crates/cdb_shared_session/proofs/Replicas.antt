@@ -1,0 +1,54 @@
+-- A replica follows what its seat sees.
+use Rattle.std.proofs.Common.{◌≡◌, ℕ, zero, suc, ◌+◌, List, [], ◌∷◌, ◌++◌, drop, length, Option, None, Some, refl, sym, ap, subst, ◌∙◌, append-nil, arith, length-append}
+use Rattle.std.proofs.lemmas.List.{drop-append-le, drop_all}
+use Rattle.cdb_control.specs.Journal.{AreOfSeats, Journaled}
+use Rattle.cdb_control.specs.declared.control.Entry.{Entry}
+use Rattle.cdb_control.proofs.Own.{Begins-trans}
+use Rattle.cdb_journal.specs.OpenedFrom.{opened_from}
+use Rattle.cdb_shared.specs.Seats.{SeatView, IsLater}
+use Rattle.cdb_shared_session.specs.SeatParts.{IsReplica, HasReplica}
+
+-- it is one of the seat later too
+pub replica_later : (old new : SeatView) (c : Journaled) → IsLater old new → IsReplica old c → IsReplica new c
+replica_later old new c later so =
+    record {
+      opened_is = so.opened_is ∙ (λ i. opened_from (sym later.setup i) (sym later.seats i) c.journal);
+      begins = Begins-trans c.journal old.seen new.seen so.begins later.begins;
+    }
+
+pub has_later : (old new : SeatView) (c : Option Journaled) → IsLater old new → HasReplica old c → HasReplica new c
+has_later old new None later so = tt
+has_later old new (Some c) later so = replica_later old new c later so
+
+-- a control in which nothing has happened is one
+pub replica_new : (seat : SeatView) (c : Journaled) → c ≡ opened_from seat.setup seat.seats [] → IsReplica seat c
+replica_new seat c is =
+    subst (IsReplica seat) (sym is) (record { opened_is = refl; begins = (seat.seen, refl) })
+
+module _ (seat : SeatView) (c : Journaled) (so : IsReplica seat c) where
+  -- what the seat has seen is what it has, and the rest
+  rest : List Entry
+  rest = drop (length c.journal) seat.seen
+
+  same : rest ≡ so.begins.0
+  same = ap (drop (length c.journal)) so.begins.1 ∙ drop-append-le (length c.journal) c.journal so.begins.0 (omega arith)
+      ∙ ap (λ none. none ++ so.begins.0) (drop_all (length c.journal) c.journal (omega arith))
+
+  pub all_seen : c.journal ++ rest ≡ seat.seen
+  all_seen = ap (λ more. c.journal ++ more) same ∙ sym so.begins.1
+
+  pub few_left : length c.journal + length rest ≡ length seat.seen
+  few_left = sym (length-append c.journal rest) ∙ ap length all_seen
+
+  -- and it has seen all once it has carried out the rest
+  pub caught_up : (new : Journaled) → new ≡ record c { journal = c.journal ++ rest } → new ≡ opened_from seat.setup seat.seats seat.seen
+  caught_up new is = is ∙ (λ i. record (so.opened_is i) { journal = all_seen i })
+
+  pub replica_new_seen : (new : Journaled) → new ≡ opened_from seat.setup seat.seats seat.seen → IsReplica seat new
+  replica_new_seen new is = subst (IsReplica seat) (sym is) (record { opened_is = refl; begins = ([], sym (append-nil seat.seen)) })
+
+-- each entry behind a position is of a seat
+pub seats_behind : (seats from : ℕ) (es : List Entry) → AreOfSeats seats es → AreOfSeats seats (drop from es)
+seats_behind seats zero es all = all
+seats_behind seats (suc from) [] all = tt
+seats_behind seats (suc from) (e ∷ es) all = seats_behind seats from es all.1
