@@ -1,6 +1,6 @@
 //! Sessions: a seat's calls in order, each after its gate was asked.
-ghost use Rattle.std.specs.Prelude.{◌≡◌, ◌≢◌, ◌++◌, ◌<◌, ◌≤◌, ◌↔◌, length, map, take, replicate, vec_len, List, Bool, true};
-ghost use Rattle.std.specs.Prelude.{vec_capacity, false, Option, None, IsTrue};
+ghost use Rattle.std.specs.Prelude.{◌≡◌, ◌≢◌, ◌++◌, ◌≤◌, ◌↔◌, length, map, take, replicate, vec_len, List, Bool, true};
+ghost use Rattle.std.specs.Prelude.{false, Option, None, IsTrue};
 ghost use Rattle.cdb_base.specs.Memory.{no_memory};
 ghost use Rattle.cdb_commands.specs.ReplyView.{Refused, reply_view};
 ghost use Rattle.cdb_shared.specs.Gates.{Heard, HearsAsked, HearsTold, Hears};
@@ -88,7 +88,6 @@ pub fn serve<T: Runs, G: Gate + Drop, R: Wait>(
     ensures replies { replies_to T.rules result.0
         ≡ replies_to T.rules seat ++ map reply_view result.1.items }
     ensures fewer { vec_len result.1 ≤ length commands.now }
-    ensures room { 0 < vec_len result.1 → length commands.now ≤ vec_capacity result.1 }
     ensures all { (result.2 ≡ End.All) ↔ (vec_len result.1 ≡ length commands.now) }
     ensures done { result.2 ≢ End.Done }
     ensures full { result.2 ≡ End.JournalFull → SeesFull result.0 }

@@ -19,7 +19,6 @@ returns-then-not-before g c =
       calls = was.calls ∙ ap (λ n. calls_of c.args.seat ++ take n c.args.commands.now) (sym was.count);
       replies = was.replies;
       fewer = omega arith;
-      room = was.room;
       all = ((λ is. cc), (λ same. absurd (omega (arith, same, was.count, c.loop-command-test.true))));
       done = λ is. cc;
       full = λ is. cc;
@@ -41,17 +40,6 @@ pub returns-in-Err-clause-replies : goal.returns-in-Err-clause-replies
 returns-in-Err-clause-replies g c =
     replies_to-fault g.T.Runs.rules _ _ c.no_room-fault.ensures.seat.0 c.no_room-fault.ensures.seat.1 ∙ c.loop-command.invariant.replies
     ∙ ap (λ (l : List Reply). replies_to g.T.Runs.rules c.args.seat ++ map reply_view l) (sym c.reserve.ensures.items)
-
-pub returns-in-Err-clause-room : goal.returns-in-Err-clause-room
-returns-in-Err-clause-room g c =
-    λ some.
-    let number = c.reserve.ensures.len in
-    let kept = c.reserve.ensures.capacity in
-    let was = c.loop-command.invariant.room (omega (arith, some, number)) in
-    omega (arith, was, kept)
-
-pub returns-in-Err-call-clause-room : goal.returns-in-Err-call-clause-room
-returns-in-Err-call-clause-room g c = λ some. omega arith
 
 pub returns-in-Err-call-clause-gate : goal.returns-in-Err-call-clause-gate
 returns-in-Err-call-clause-gate g c =
@@ -85,7 +73,6 @@ loop-command-preserved g c =
       calls = calls;
       replies = append_one _ _ _ was.replies (replies_to-call g.T.Runs.rules _ _ _ _ c.call.ensures.seat c.in-Ok.ensures.call) replied;
       count = omega arith;
-      room = λ some. omega arith;
       number = omega arith;
       limit = omega (arith, length-take (index + 1) commands);
       heard = heard_told _ _ _ _ was.heard was.calls count_is passed c.before-in-loop-command.ensures.heard call c.after.ensures.heard longer;

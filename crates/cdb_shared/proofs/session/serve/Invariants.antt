@@ -1,4 +1,4 @@
-use Rattle.std.proofs.Common.{◌≡◌, ◌<◌, ◌≤◌, ◌++◌, length, map, take, true, vec_len, vec_capacity}
+use Rattle.std.proofs.Common.{◌≡◌, ◌≤◌, ◌++◌, map, take, true, vec_len}
 use Rattle.cdb_commands.specs.ReplyView.{reply_view}
 use Rattle.cdb_shared.specs.Gates.{heard_more, heard_of}
 use Rattle.cdb_shared.specs.Seats.{IsLater}
@@ -11,7 +11,6 @@ invariant-loop-command g l = record {
   calls : calls_of l.seat ≡ calls_of l.fn.seat ++ take l.command-index l.commands;
   replies : replies_to g.T.Runs.rules l.seat ≡ replies_to g.T.Runs.rules l.fn.seat ++ map reply_view l.replies.items;
   count : vec_len l.replies ≡ l.command-index;
-  room : 0 < vec_len l.replies → length l.commands ≤ vec_capacity l.replies;
   number : l.number ≡ l.command-index;
   limit : l.number ≤ 999999;
   heard : g.G.Gate.heard l.gate ≡ heard_more (g.G.Gate.heard l.fn.gate) (heard_of 1 (calls_of l.fn.seat) (take l.command-index l.commands));
