@@ -1,8 +1,27 @@
-use Rattle.std.proofs.Common.{◌≡◌, ℕ, List, ◌++◌, drop, length, take, min, ap, sym, ◌∙◌, append_assoc, arith, length-append, Vec, Global}
+use Rattle.std.proofs.Common.{◌≡◌, ℕ, ◌+◌, ◌-◌, List, ◌++◌, drop, length, take, min, ap, ◌∙◌, arith, length-append, length-drop, Vec, Global}
 use Rattle.std.proofs.lemmas.List.{length-take, take_rest}
 use Rattle.cdb_control.specs.Journal.{Journaled}
 use Rattle.cdb_control.specs.declared.control.Entry.{Entry}
 use Rattle.cdb_journal.specs.SeatReplies.{news_lines, told_in}
-use Rattle.cdb_journal.proofs.CarriedOut.{carried_out}
 use Rattle.cdb_journal.proofs.NewsLines.{news_told}
 use Rattle.cdb_journal.proofs.news.push_news.Goals as goal
+
+pub returns-clause-news : goal.returns-clause-news
+returns-clause-news g c =
+    let rules = g.R.Runs.rules in
+    let entries = c.args.entries.now in
+    let first = c.carry_out_each.new.control in
+    let last = c.push_each.new.control in
+    let silent : ℕ = c.min-silent.result in
+    let least : silent ≡ min (c.args.from - length c.journal.result.now) (length entries) = c.min-silent.ensures in
+    let before : length first.journal ≡ length c.args.control.now.journal + length (take silent entries) =
+    ap (λ (k : Journaled). length k.journal) c.in_ok-carry_out_each.ensures ∙ length-append c.args.control.now.journal (take silent entries) in
+    let all : length last.journal ≡ length first.journal + length (drop silent entries) =
+    ap (λ (k : Journaled). length k.journal) c.in_ok-push_each.ensures.control ∙ length-append first.journal _
+    ∙ ap (λ (rest : List Entry). length first.journal + length rest) (take_rest entries silent) in
+    let from : length first.journal ≡ min c.args.from (length last.journal) =
+    omega (arith, least, ap length c.journal.ensures.entries, before, all, length-take silent entries, length-drop silent entries, c.requires.from) in
+    ap (λ (v : Vec ℕ Global). v.items) c.into_bytes.ensures.value ∙ c.in_ok-push_each.ensures.text
+    ∙ ap (λ (text : List ℕ). text ++ news_lines c.args.seat (drop (length first.journal) (told_in rules last))) c.new-text.ensures.bytes
+    ∙ ap (λ (n : ℕ). news_lines c.args.seat (drop n (told_in rules last))) from
+    ∙ news_told rules last c.args.seat c.args.from

@@ -1,4 +1,4 @@
-use Rattle.std.proofs.Common.{◌≡◌, ap, subst, refl, codes, decimal, List, ℕ, ◌++◌}
+use Rattle.std.proofs.Common.{◌≡◌, ap, subst, refl, codes, decimal, List, ℕ, [], ◌++◌}
 use Rattle.std.proofs.lemmas.Result.{err_from_is_err_and}
 use Rattle.cdb_commands.specs.ReplyView.{reply_view}
 use Rattle.cdb_control.specs.Journal.{reply_in}
@@ -8,9 +8,14 @@ use Rattle.cdb_streams.proofs.PiecesPut.{put_nothing, cut_short, put_last}
 use Rattle.cdb_journal.specs.SeatReplies.{told_line}
 use Rattle.cdb_journal.proofs.replays.perform.Goals as goal
 
+pub returns-in_err-reply-clause-put : goal.returns-in_err-reply-clause-put
+returns-in_err-reply-clause-put g c =
+    let p = err_from_is_err_and c.from_residual.result c.from_residual.ensures.1 in
+    rw (p.1, p.2) (record { before = []; rest = _; whole = refl; put = put_nothing g.W.Sink.stream _ _ })
+
 pub returns-in_err-put_seat-clause-put : goal.returns-in_err-put_seat-clause-put
 returns-in_err-put_seat-clause-put g c =
-    let p = err_from_is_err_and c.from_residual.result c.from_residual.ensures.1 in
+    let p = err_from_is_err_and c.from_residual-in_err-put_seat.result c.from_residual-in_err-put_seat.ensures.1 in
     let seat = c.args.entry.seat in
     let reply = reply_in g.T.Runs.rules c.args.control.now seat c.args.entry.command in
     rw (p.1, p.2)
@@ -22,7 +27,7 @@ pub returns-clause-put : goal.returns-clause-put
 returns-clause-put g c =
     let seat = c.args.entry.seat in
     let reply = reply_in g.T.Runs.rules c.args.control.now seat c.args.entry.command in
-    let same : text_of (reply_view c.in-Ok.reply) ≡ text_of reply = ap text_of c.in-Ok.ensures.reply in
+    let same : text_of (reply_view c.in_ok-reply.reply) ≡ text_of reply = ap text_of c.in_ok-reply.ensures.reply in
     let put = subst (λ (text : List ℕ). Puts g.W.Sink.stream c.put_reply.result c.put_seat.new.out c.put_seat.new.buffer c.put_reply.new.out
     c.put_reply.new.buffer text) same c.put_reply.ensures in
     put_last _ _ _ _ _ _ _ _ _ _ (told_line seat reply) c.in_ok-put_seat.ensures refl put
