@@ -1,6 +1,6 @@
 //! A control of a seat's own that follows the journal, so that what others do can be told as it comes.
 
-ghost use Rattle.std.specs.Prelude.{◌≡◌, ◌≤◌, ◌⊎◌, [], length, IfOk, Some};
+ghost use Rattle.std.specs.Prelude.{◌≡◌, ℕ, ◌≤◌, ◌⊎◌, [], length, IfOk, Some};
 ghost use Rattle.cdb_base.specs.Limits.{MAX_ENTRIES, MAX_SEATS};
 ghost use Rattle.cdb_journal.specs.OpenedFrom.{opened_from};
 ghost use Rattle.cdb_session.specs.News.{news_up_to};
