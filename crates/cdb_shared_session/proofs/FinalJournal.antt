@@ -86,7 +86,8 @@ module _ (rules : Parts → Rules) (Answers : RunView → Inquiry → Answer →
   answered_known lines outputs (exchanges, others, asked, shown, has) =
       (exchanges, others, asked, same_outputs exchanges outputs shown, has_known (exchanges ++ others) has)
 
-  served_known : (lines : List (List ℕ)) (outputs : List Output) → IsServed Answers style by_seat lines outputs → IsServed Answers style by_journal lines outputs
+  served_known : (lines : List (List ℕ)) (outputs : List Output) → IsServed Answers style by_seat lines outputs
+      → IsServed Answers style by_journal lines outputs
   served_known lines outputs (exchanges, asked, shown, has) = (exchanges, asked, same_outputs exchanges outputs shown, has_known exchanges has)
 
   ends_known : (returned : Result (Unit {0}) PlayFault) (moves : List Move)
