@@ -27,7 +27,7 @@ replica_new seat c is =
 
 module _ (seat : SeatView) (c : Journaled) (so : IsReplica seat c) where
   -- what the seat has seen is what it has, and the rest
-  rest : List Entry
+  abbrev pub rest : List Entry
   rest = drop (length c.journal) seat.seen
 
   same : rest ≡ so.begins.0
