@@ -12,7 +12,7 @@ use Rattle.cdb_explain.specs.declared.fault.ExplainFault.{ExplainFault}
 use Rattle.cdb_streams.specs.Streams.{Stream}
 use Rattle.cdb_streams.specs.declared.sink.Failed.{Failed}
 use Rattle.cdb_page.specs.Live.{EndsWithPage, HasFileTaken, IsFaultOfShow, IsMadeWith, IsPageSoFar, IsToCome, KeepsUp, Live, Shows}
-use Rattle.cdb_page.specs.Live.{ShowsLines, Versions, journal_so_far, known_file, known_text, made_with, taken_of, with_version}
+use Rattle.cdb_page.specs.Live.{ShowsLines, Versions, journal_so_far, known_file, known_text, made_with, taken_of}
 use Rattle.cdb_page.specs.OfJournals.{IsPageOfJournal}
 
 -- ---- what the file of the journal took

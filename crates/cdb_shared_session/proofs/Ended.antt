@@ -1,5 +1,5 @@
 -- What came of a seat, by what its opener can give.
-use Rattle.std.proofs.Common.{ℕ, List}
+use Rattle.std.proofs.Common.{ℕ}
 use Rattle.std.specs.Prelude.{Option, Some, None, Result, Ok, Err}
 use Rattle.cdb_control.specs.Journal.{Journaled}
 use Rattle.cdb_rules.specs.RunView.{RunView}

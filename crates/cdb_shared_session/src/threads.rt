@@ -1,6 +1,6 @@
 //! Starting and joining the threads of the seats.
 
-ghost use Rattle.std.specs.Prelude.{◌≡◌, ◌≤◌, length, vec_len, vec_capacity, All, IfOk, IfErr, OnErr};
+ghost use Rattle.std.specs.Prelude.{◌≡◌, ◌≤◌, length, vec_len, vec_capacity, All, IfOk, IfErr};
 ghost use Rattle.cdb_journal.specs.Journals.{IsWritable};
 ghost use Rattle.cdb_session.specs.Greetings.{greeting_text};
 ghost use Rattle.cdb_shared_session.specs.Faults.{IsFaultOfThreads};

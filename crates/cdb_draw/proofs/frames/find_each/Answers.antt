@@ -1,4 +1,4 @@
-use Rattle.std.proofs.Common.{◌≡◌, ◌∙◌, ◌+◌, ◌++◌, ◌∷◌, [], Vec, ap, sym, append-nil}
+use Rattle.std.proofs.Common.{◌∙◌, ◌∷◌, [], Vec, ap, sym, append-nil}
 use Rattle.std.proofs.lemmas.List.Elements.{All-push, All-same}
 use Rattle.std.specs.Global.{Global}
 use Rattle.cdb_agreement.specs.Algorithms.{rules}

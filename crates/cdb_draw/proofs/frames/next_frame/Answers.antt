@@ -1,7 +1,6 @@
-use Rattle.std.proofs.Common.{◌≡◌, ◌∙◌, ◌+◌, ◌<◌, ◌∷◌, [], ap, length, arith, sym}
+use Rattle.std.proofs.Common.{◌≡◌, ◌∙◌, ◌+◌, ap, length, arith}
 use Rattle.cdb_agreement.specs.Algorithms.{rules}
-use Rattle.cdb_draw.specs.Frames.{events_at, frame_at}
-use Rattle.cdb_draw.specs.declared.layout.TheConstants.{MOST_DRAWN}
+use Rattle.cdb_draw.specs.Frames.{events_at}
 use Rattle.cdb_draw.proofs.FramesFound.{events_next, frame_is, frame_next, no_frame}
 use Rattle.cdb_draw.proofs.frames.next_frame.Goals as goal
 

@@ -1,11 +1,7 @@
 use Rattle.cdb_base.specs.Memory.{no_memory}
-use Rattle.std.proofs.Common.{rules, ℕ, suc, ◌+◌, ◌-◌, ◌<◌, ◌≡◌, ◌∙◌, Some, length, slice_get, take, refl, sym, ap, arith}
+use Rattle.std.proofs.Common.{rules, suc, ◌+◌, ◌<◌, ◌≡◌, ◌∙◌, length, sym, ap, arith}
 use Rattle.std.proofs.lemmas.Result.{err_from_is_err_and}
-use Rattle.cdb_base.specs.declared.event.Event.{Event}
 use Rattle.cdb_rules.specs.RunView.{RunView}
-use Rattle.cdb_rules.specs.Rules.{Rules}
-use Rattle.cdb_rules.specs.Runs.{with_history}
-use Rattle.cdb_setup.specs.Parts.{Parts}
 use Rattle.cdb_draw.specs.EventMarks.{mark_at}
 use Rattle.cdb_rules.proofs.Flagged.{item_at}
 use Rattle.cdb_explain.proofs.Along.{deed_along, next_along, next_valid}

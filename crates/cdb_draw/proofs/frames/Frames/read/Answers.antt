@@ -1,6 +1,5 @@
-use Rattle.std.proofs.Common.{◌≤◌, arith}
+use Rattle.std.proofs.Common.{arith}
 use Rattle.cdb_agreement.specs.Algorithms.{rules}
-use Rattle.cdb_draw.specs.Frames.{room_of}
 use Rattle.cdb_draw.proofs.FramesFound.{room_few}
 use Rattle.cdb_draw.proofs.frames.Frames.read.Goals as goal
 
