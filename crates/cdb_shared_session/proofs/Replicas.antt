@@ -1,12 +1,18 @@
 -- A replica follows what its seat sees.
-use Rattle.std.proofs.Common.{◌≡◌, ℕ, zero, suc, ◌+◌, List, [], ◌∷◌, ◌++◌, drop, length, Option, None, Some, refl, sym, ap, subst, ◌∙◌, append-nil, arith, length-append}
+use Rattle.std.proofs.Common.{◌≡◌, ℕ, zero, suc, ◌+◌, List, [], ◌∷◌, ◌++◌, drop, length, min, Option, None, Some, refl, sym, ap, subst, ◌∙◌, append-nil, arith, length-append}
 use Rattle.std.proofs.lemmas.List.{drop-append-le, drop_all}
+use Rattle.std.specs.Prelude.{unwrap_or}
 use Rattle.cdb_control.specs.Journal.{AreOfSeats, Journaled}
 use Rattle.cdb_control.specs.declared.control.Entry.{Entry}
 use Rattle.cdb_control.proofs.Own.{Begins-trans}
 use Rattle.cdb_journal.specs.OpenedFrom.{opened_from}
+use Rattle.cdb_journal.specs.SeatReplies.{news, news_in}
+use Rattle.cdb_journal.proofs.NewsLines.{news_told, no_news}
+use Rattle.cdb_rules.specs.Rules.{Rules}
+use Rattle.cdb_session.specs.News.{news_up_to}
+use Rattle.cdb_setup.specs.Parts.{Parts}
 use Rattle.cdb_shared.specs.Seats.{SeatView, IsLater}
-use Rattle.cdb_shared_session.specs.SeatParts.{IsReplica, HasReplica}
+use Rattle.cdb_shared_session.specs.SeatParts.{IsReplica, HasReplica, part_seen}
 
 -- it is one of the seat later too
 pub replica_later : (old new : SeatView) (c : Journaled) → IsLater old new → IsReplica old c → IsReplica new c
@@ -52,3 +58,14 @@ pub seats_behind : (seats from : ℕ) (es : List Entry) → AreOfSeats seats es 
 seats_behind seats zero es all = all
 seats_behind seats (suc from) [] all = tt
 seats_behind seats (suc from) (e ∷ es) all = seats_behind seats from es all.1
+
+-- what it tells then, from the entry on where somebody watches, is the news up to what was seen
+pub news_seen : (rules : Parts → Rules) (seat : SeatView) (from : Option ℕ) (first seen : ℕ)
+    → first ≡ unwrap_or from seen → seen ≡ length seat.seen
+    → news_in rules (opened_from seat.setup seat.seats seat.seen) seat.number first ≡ news_up_to (part_seen rules seat) from seen
+news_seen rules seat None first seen is all =
+    let k = opened_from seat.setup seat.seats seat.seen in
+    ap (news_in rules k seat.number) is ∙ sym (news_told rules k seat.number seen)
+    ∙ no_news rules k seat.number (min seen (length seat.seen)) (omega (arith, all))
+news_seen rules seat (Some from) first seen is all =
+    λ i. news (rules seat.setup) seat.setup seat.seats seat.number seat.seen (is i) (sym all i)
