@@ -19,7 +19,7 @@ use Rattle.cdb_draw.specs.Frames.{events_at, frame_at, frame_by, frame_text, fra
 use Rattle.cdb_draw.specs.Layout.{grid_of}
 use Rattle.cdb_draw.specs.Picture.{picture_text}
 use Rattle.cdb_draw.specs.declared.layout.Grid.{Grid}
-use Rattle.cdb_draw.specs.declared.layout.TheConstants.{MOST_DRAWN}
+use Rattle.cdb_draw.specs.Limits.{MOST_DRAWN}
 use Rattle.cdb_draw.specs.declared.weight.Weight.{Weight}
 use Rattle.cdb_draw.specs.declared.frames.Frame.{Frame}
 use Rattle.cdb_draw.proofs.GrownTexts.{each_more}

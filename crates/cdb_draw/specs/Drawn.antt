@@ -17,7 +17,7 @@ use Rattle.cdb_rules.specs.Runs.{with_history}
 use Rattle.cdb_rules.specs.Rules.{Rules}
 use Rattle.cdb_setup.specs.Parts.{Parts}
 use Rattle.cdb_draw.specs.Picture.{IsPicture}
-use Rattle.cdb_draw.specs.declared.layout.TheConstants.{MOST_DRAWN}
+use Rattle.cdb_draw.specs.Limits.{MOST_DRAWN}
 
 -- the position of the step that is asked for; none where none is
 abbrev pub IsPositionFor : List Event → Option StepAsked → Option ℕ → Type 0

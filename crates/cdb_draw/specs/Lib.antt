@@ -1,4 +1,5 @@
 -- ---- what the public contracts name
+pub mod Limits
 pub mod Pieces
 pub mod Layout
 pub mod Positions

@@ -21,7 +21,7 @@ mod weight;
 
 pub use draws::draw_run;
 pub use frames::Frames;
-pub use laws::arrows_keep_off_marks;
+pub use laws::{arrows_keep_off_marks, most_drawn_is_defined};
 pub use layout::MOST_DRAWN;
 pub use memory::picture_of;
 pub use script::{draw, picture_for};

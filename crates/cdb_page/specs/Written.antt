@@ -2,7 +2,7 @@
 use Rattle.std.specs.Prelude.{ℕ, ◌≤◌, length, List, None}
 use Rattle.cdb_agreement.specs.Algorithms.{rules}
 use Rattle.cdb_draw.specs.Drawn.{IsCrowded, IsFaultOfDraw}
-use Rattle.cdb_draw.specs.declared.layout.TheConstants.{MOST_DRAWN}
+use Rattle.cdb_draw.specs.Limits.{MOST_DRAWN}
 use Rattle.cdb_explain.specs.RunLeft.{Leaves}
 use Rattle.cdb_explain.specs.declared.fault.ExplainFault.{ExplainFault}
 use Rattle.cdb_explain.specs.declared.fault.ExplainFault.TheVariants.{Play, TooManyEvents}

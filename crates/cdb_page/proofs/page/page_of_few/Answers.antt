@@ -1,6 +1,6 @@
 use Rattle.std.proofs.Common.{◌≤◌, length, ap, arith}
 use Rattle.std.proofs.lemmas.Result.{err_from_is_err_and}
-use Rattle.cdb_draw.specs.declared.layout.TheConstants.{MOST_DRAWN}
+use Rattle.cdb_draw.specs.Limits.{MOST_DRAWN}
 use Rattle.cdb_page.proofs.page.page_of_few.Goals as goal
 
 pub returns-in_err-text-clause-fault : goal.returns-in_err-text-clause-fault
