@@ -48,17 +48,21 @@ begins_so line other byte (Draw name step) is same first no_e no_t no_d =
     no_d (sym first ∙ ap (λ bytes. get_or bytes 0 0) (sym same) ∙ first_byte line (Draw name step) is)
 
 pub no_help : (line : List ℕ) (inquiry : Inquiry) → IsInquiryLine inquiry line → (about : Option Topic) → line ≡ help_line about → ⊥
-no_help line inquiry is about same = begins_so line (help_line about) 104 inquiry is same (begins_with_h about) (λ e. omega (arith, e)) (λ e. omega (arith, e)) (λ e. omega (arith, e))
+no_help line inquiry is about same = begins_so line (help_line about) 104 inquiry is same (begins_with_h about)
+    (λ e. omega (arith, e)) (λ e. omega (arith, e)) (λ e. omega (arith, e))
 
 pub no_quit : (line : List ℕ) (inquiry : Inquiry) → IsInquiryLine inquiry line → line ≡ quit_line → ⊥
 no_quit line inquiry is same = begins_so line quit_line 113 inquiry is same refl (λ e. omega (arith, e)) (λ e. omega (arith, e)) (λ e. omega (arith, e))
 
 pub no_seat : (line : List ℕ) (inquiry : Inquiry) → IsInquiryLine inquiry line → (seat : ℕ) → line ≡ seat_line seat → ⊥
-no_seat line inquiry is seat same = begins_so line (seat_line seat) 115 inquiry is same refl (λ e. omega (arith, e)) (λ e. omega (arith, e)) (λ e. omega (arith, e))
+no_seat line inquiry is seat same = begins_so line (seat_line seat) 115 inquiry is same refl
+    (λ e. omega (arith, e)) (λ e. omega (arith, e)) (λ e. omega (arith, e))
 
 pub no_watch : (line : List ℕ) (inquiry : Inquiry) → IsInquiryLine inquiry line → (begins : Bool) → line ≡ watch_line begins → ⊥
-no_watch line inquiry is true same = begins_so line (watch_line true) 119 inquiry is same refl (λ e. omega (arith, e)) (λ e. omega (arith, e)) (λ e. omega (arith, e))
-no_watch line inquiry is false same = begins_so line (watch_line false) 117 inquiry is same refl (λ e. omega (arith, e)) (λ e. omega (arith, e)) (λ e. omega (arith, e))
+no_watch line inquiry is true same = begins_so line (watch_line true) 119 inquiry is same refl
+    (λ e. omega (arith, e)) (λ e. omega (arith, e)) (λ e. omega (arith, e))
+no_watch line inquiry is false same = begins_so line (watch_line false) 117 inquiry is same refl
+    (λ e. omega (arith, e)) (λ e. omega (arith, e)) (λ e. omega (arith, e))
 
 -- ---- what is read in its words
 
@@ -136,7 +140,8 @@ drawn name others (Some step) inquiry reads e is =
     subst (λ (i : Inquiry). (inquiry_word i ≡ codes "draw") × AreInquiryWords i (name ∷ others)) same
     (refl, (is, others, refl, any_step_says others step reads))
 
-draws_say : (words : List (List ℕ)) (inquiry : Inquiry) → drawing_in words ≡ Some inquiry → (inquiry_word inquiry ≡ codes "draw") × AreInquiryWords inquiry words
+draws_say : (words : List (List ℕ)) (inquiry : Inquiry) → drawing_in words ≡ Some inquiry
+    → (inquiry_word inquiry ≡ codes "draw") × AreInquiryWords inquiry words
 unfolding drawing_in
 draws_say [] inquiry e = cc
 draws_say (name ∷ others) inquiry e =
@@ -186,11 +191,13 @@ unfolding inquiry_in
 words_ask [] inquiry e = cc
 words_ask (word ∷ others) inquiry e =
     elim (cases_Bool (bytes_eq word (codes "explain"))) [
-      | inl is ↦ begins_with word others inquiry (codes "explain") is (steps_say Explain (codes "explain") (λ s. refl) (λ s words its. its) others (step_in others) inquiry refl (rw is at e))
+      | inl is ↦ begins_with word others inquiry (codes "explain") is
+          (steps_say Explain (codes "explain") (λ s. refl) (λ s words its. its) others (step_in others) inquiry refl (rw is at e))
       | inr other ↦
           elim (cases_Bool (bytes_eq word (codes "trail"))) [
             | inl is ↦
-                begins_with word others inquiry (codes "trail") is (steps_say Trail (codes "trail") (λ s. refl) (λ s words its. its) others (step_in others) inquiry refl (rw (other, is) at e))
+                begins_with word others inquiry (codes "trail") is
+                (steps_say Trail (codes "trail") (λ s. refl) (λ s words its. its) others (step_in others) inquiry refl (rw (other, is) at e))
             | inr neither ↦
                 elim (cases_Bool (bytes_eq word (codes "draw"))) [
                   | inl is ↦ begins_with word others inquiry (codes "draw") is (draws_say others inquiry (rw (other, neither, is) at e))

@@ -355,7 +355,8 @@ help_taken (word ∷ words) is =
 
 -- `explain P [K]`, or `trail P [K]`
 asked_taken : (first : List ℕ) (make : StepAsked → Inquiry) → ((s : StepAsked) → first ≡ inquiry_word (make s))
-    → ((s : StepAsked) (others : List (List ℕ)) → AreStepWords s others → AreInquiryWords (make s) others) → (words : List (List ℕ)) → IsSound (with_process due.Step words) words → IsTaken (first ∷ words)
+    → ((s : StepAsked) (others : List (List ℕ)) → AreStepWords s others → AreInquiryWords (make s) others)
+    → (words : List (List ℕ)) → IsSound (with_process due.Step words) words → IsTaken (first ∷ words)
 asked_taken first make word_is words_are [] is = absurd cc
 asked_taken first make word_is words_are (word ∷ []) is =
     let here = next due.Process [] word [] is in

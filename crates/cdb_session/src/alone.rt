@@ -92,9 +92,9 @@ pub fn begin<R: Runs>(
 /// `auto P N`, which is `auto P` N times, N from 1 to 999,999, or until it is refused or the journal is full,
 /// `explain P [K]`, `trail P [K]` and `draw FILE [P [K]]`, which ask something of the run and make no entry, `watch`
 /// and `unwatch`, of which there are no news since nobody else has a seat, `help`, `seat S`, or `quit`, which ends it;
-/// a line that is none of these has its fault. A picture is written to a new file. The prompt is shown before each line,
-/// and the setup in words before the first prompt; where the prompt has no bytes, neither is. The end of the input,
-/// which is asked for once, ends the session too, and so do 2^63 bytes.
+/// a line that is none of these has its fault. A picture is written to a new file. The prompt is shown before each
+/// line, and the setup in words before the first prompt; where the prompt has no bytes, neither is. The end of the
+/// input, which is asked for once, ends the session too, and so do 2^63 bytes.
 ///
 /// # Errors
 /// Those of `begin`, with 64 seats, before any input is asked for. `Read` where the reading failed: each line is
@@ -103,11 +103,12 @@ pub fn begin<R: Runs>(
 ///
 /// Promise: Whenever a session asks for more input, all lines that it was given so far have their responses in full,
 /// none of them was `quit`, and the input was not at its end. At the end it has written exactly the dialogue of all
-/// that was read, and has ended at `quit`, at the end of the input, which is asked for once, or after 2^63 bytes.
-/// What a line asks of the run is answered of the one that the commands before it have led to. A picture is in its file
+/// that was read, and has ended at `quit`, at the end of the input, which is asked for once, or after 2^63 bytes. What
+/// a line asks of the run is answered of the one that the commands before it have led to. A picture is in its file
 /// before that is said, and nothing else is written to a file. A line that repeats a command gives it as often as it
-/// says, or until it is refused or the journal is full, and its response is the texts of all replies. After a failed read each line that had ended has its response; after a failed write what was
-/// written is a beginning of the responses; after out of memory it is the responses to the first of the lines.
+/// says, or until it is refused or the journal is full, and its response is the texts of all replies. After a failed
+/// read each line that had ended has its response; after a failed write what was written is a beginning of the
+/// responses; after out of memory it is the responses to the first of the lines.
 pub fn debug<R: Runs, A: Answers<R>, T: Console>(
     alloc: Global,
     setup: &[u8],

@@ -13,4 +13,5 @@ loop-entry-preserved g c =
     let more : take i entries ++ e ∷ [] ≡ take (i + 1) entries =
     ap (λ (other : Entry). take i entries ++ other ∷ []) c.entry-item.is ∙ sym (take_more _ i _ c.loop-entry-test.true) in
     subst (λ (done : List Entry). c.carry_out.new.control ≡ carried_out first done) more
-    (one_more g.R.Runs.rules first c.loop-entry.control c.carry_out.new.control (take i entries) e c.loop-entry.invariant c.requires.rooms c.in_ok-carry_out.ensures.done)
+    (one_more g.R.Runs.rules first c.loop-entry.control c.carry_out.new.control (take i entries) e
+    c.loop-entry.invariant c.requires.rooms c.in_ok-carry_out.ensures.done)

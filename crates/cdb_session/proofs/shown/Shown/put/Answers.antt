@@ -38,6 +38,7 @@ returns-in-Err g c =
     let said : WritesAll c.write_all-in-Err.result now last (says its.failed.items) =
     subst (λ (text : List ℕ). WritesAll c.write_all-in-Err.result now last (says text)) c.as_slice-in-Err.ensures.value c.write_all-in-Err.ensures in (
       false,
-      subst (λ (file : Option NewFile). WritesAll c.write_all-in-Err.result old last (outputs_with file its.text.items its.failed.items false)) (sym c.in-Some.is)
+      subst (λ (file : Option NewFile). WritesAll c.write_all-in-Err.result old last (outputs_with file its.text.items its.failed.items false))
+      (sym c.in-Some.is)
           (file_and_text _ _ c.write_all-in-Err.result old now last (saving new.text.items) its.failed.items makes said),
     )
