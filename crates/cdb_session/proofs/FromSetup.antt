@@ -55,8 +55,13 @@ module _ (rules : Parts → Rules) (Answers : RunView → Inquiry → Answer →
   served : (lines : List (List ℕ)) (outputs : List Output) → IsServed Answers (nine greeting prompt) (came rules c before) lines outputs
       → IsDialogue Answers greeting prompt (begun rules given before) lines outputs
   served lines outputs (exchanges, asked, is, has) =
-      answered lines outputs (exchanges, [], asked, is,
-      subst (HasExchanges Answers (nine greeting prompt) (came rules c before)) (sym (append-nil exchanges)) has)
+      answered lines outputs (
+        exchanges,
+        [],
+        asked,
+        is,
+        subst (HasExchanges Answers (nine greeting prompt) (came rules c before)) (sym (append-nil exchanges)) has,
+      )
 
   ends : (returned : Result (Unit {0}) PlayFault) (moves : List Move) → EndsAs (IsAnswered Answers (nine greeting prompt) (came rules c before))
       (IsServed Answers (nine greeting prompt) (came rules c before)) (IsCutShort Answers (nine greeting prompt) (came rules c before)) returned moves

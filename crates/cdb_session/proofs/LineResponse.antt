@@ -134,24 +134,60 @@ module _ (Answers : RunView → Inquiry → Answer → Type 0) (style : StyleVie
       → text ≡ own_response style old.lines request → IsText its text → PutsOut Answers style {E = E} effect (Ok its) old request new
   own_shows effect E text its old new (Call command times) same other and_other is put = absurd (other command times refl)
   own_shows effect E text its old new (Ask inquiry) same other and_other is put = absurd (and_other inquiry refl)
-  own_shows effect E text its old new (Watch begins) same other and_other is put =
-      (0, Ok [], [], (own_done old new same effect (Watch begins) other and_other,
-      put effect.news effect.saved ∙ ap (λ response. says (effect.news ++ response)) is))
-  own_shows effect E text its old new (Seat seat) same other and_other is put =
-      (0, Ok [], [], (own_done old new same effect (Seat seat) other and_other,
-      put effect.news effect.saved ∙ ap (λ response. says (effect.news ++ response)) is))
-  own_shows effect E text its old new (Help about) same other and_other is put =
-      (0, Ok [], [], (own_done old new same effect (Help about) other and_other,
-      put effect.news effect.saved ∙ ap (λ response. says (effect.news ++ response)) is))
-  own_shows effect E text its old new Quit same other and_other is put =
-      (0, Ok [], [], (own_done old new same effect Quit other and_other,
-      put effect.news effect.saved ∙ ap (λ response. says (effect.news ++ response)) is))
-  own_shows effect E text its old new (Fault fault) same other and_other is put =
-      (0, Ok [], [], (own_done old new same effect (Fault fault) other and_other,
-      put effect.news effect.saved ∙ ap (λ response. says (effect.news ++ response)) is))
-  own_shows effect E text its old new TooLong same other and_other is put =
-      (0, Ok [], [], (own_done old new same effect TooLong other and_other,
-      put effect.news effect.saved ∙ ap (λ response. says (effect.news ++ response)) is))
+  own_shows effect E text its old new (Watch begins) same other and_other is put = (
+    0,
+    Ok [],
+    [],
+    (
+      own_done old new same effect (Watch begins) other and_other,
+      put effect.news effect.saved ∙ ap (λ response. says (effect.news ++ response)) is,
+    ),
+  )
+  own_shows effect E text its old new (Seat seat) same other and_other is put = (
+    0,
+    Ok [],
+    [],
+    (
+      own_done old new same effect (Seat seat) other and_other,
+      put effect.news effect.saved ∙ ap (λ response. says (effect.news ++ response)) is,
+    ),
+  )
+  own_shows effect E text its old new (Help about) same other and_other is put = (
+    0,
+    Ok [],
+    [],
+    (
+      own_done old new same effect (Help about) other and_other,
+      put effect.news effect.saved ∙ ap (λ response. says (effect.news ++ response)) is,
+    ),
+  )
+  own_shows effect E text its old new Quit same other and_other is put = (
+    0,
+    Ok [],
+    [],
+    (
+      own_done old new same effect Quit other and_other,
+      put effect.news effect.saved ∙ ap (λ response. says (effect.news ++ response)) is,
+    ),
+  )
+  own_shows effect E text its old new (Fault fault) same other and_other is put = (
+    0,
+    Ok [],
+    [],
+    (
+      own_done old new same effect (Fault fault) other and_other,
+      put effect.news effect.saved ∙ ap (λ response. says (effect.news ++ response)) is,
+    ),
+  )
+  own_shows effect E text its old new TooLong same other and_other is put = (
+    0,
+    Ok [],
+    [],
+    (
+      own_done old new same effect TooLong other and_other,
+      put effect.news effect.saved ∙ ap (λ response. says (effect.news ++ response)) is,
+    ),
+  )
 
   -- ---- the news and the prompt
 

@@ -13,7 +13,8 @@ use Rattle.cdb_rules.specs.Rules.{Rules}
 use Rattle.cdb_session.specs.News.{news_up_to}
 use Rattle.cdb_setup.specs.Parts.{Parts}
 use Rattle.cdb_shared.specs.Seats.{SeatView, IsLater}
-use Rattle.cdb_shared_session.specs.SeatParts.{IsReplica, HasReplica, part_seen}
+use Rattle.cdb_shared_session.specs.Replicas.{IsReplica, HasReplica}
+use Rattle.cdb_shared_session.specs.SeatParts.{part_seen}
 
 -- it is one of the seat later too
 pub replica_later : (old new : SeatView) (c : Journaled) → IsLater old new → IsReplica old c → IsReplica new c

@@ -9,3 +9,4 @@ pub mod Reported
 pub mod Faults
 -- ---- what the code keeps for itself
 pub mod Promises
+pub mod Replicas

@@ -1,7 +1,6 @@
 -- What a journal has of a seat, and the style of its session.
-use Rattle.std.specs.Prelude.{◌≡◌, ℕ, ◌&&◌, nat_lt, Bool, false, List, Option, None, Some, length, map, take}
-use Rattle.cdb_control.specs.Journal.{Begins, Journaled, entry, own, replies_of}
-use Rattle.cdb_journal.specs.OpenedFrom.{opened_from}
+use Rattle.std.specs.Prelude.{ℕ, ◌&&◌, nat_lt, Bool, false, List, length, map, take}
+use Rattle.cdb_control.specs.Journal.{Journaled, entry, own, replies_of}
 use Rattle.cdb_journal.specs.SeatReplies.{news}
 use Rattle.cdb_rules.specs.Rules.{Rules}
 use Rattle.cdb_setup.specs.Parts.{Parts}
@@ -36,15 +35,6 @@ part_seen rules seat =
       left_by = λ first. run_left rules seat.setup seat.seats (take first seat.seen);
       news = news (rules seat.setup) seat.setup seat.seats seat.number seat.seen;
     }
-
--- a control that has carried out a beginning of what the seat has seen, of which no seat has room
-pub record IsReplica (seat : SeatView) (c : Journaled) : Type 0 where
-  pub opened_is : c ≡ opened_from seat.setup seat.seats c.journal
-  pub begins : Begins c.journal seat.seen
-
-abbrev pub HasReplica : SeatView → Option Journaled → Type 0
-HasReplica seat None = Unit
-HasReplica seat (Some c) = IsReplica seat c
 
 -- the seats that a command of it may be of: this one
 abbrev pub own_seat : SeatView → Seats

@@ -5,7 +5,8 @@ ghost use Rattle.cdb_base.specs.Limits.{MAX_ENTRIES, MAX_SEATS};
 ghost use Rattle.cdb_journal.specs.OpenedFrom.{opened_from};
 ghost use Rattle.cdb_session.specs.News.{news_up_to};
 ghost use Rattle.cdb_shared.specs.Seats.{IsLater, RestsAt, SameCalls};
-ghost use Rattle.cdb_shared_session.specs.SeatParts.{IsReplica, part_seen};
+ghost use Rattle.cdb_shared_session.specs.Replicas.{IsReplica};
+ghost use Rattle.cdb_shared_session.specs.SeatParts.{part_seen};
 
 use cdb_base::NoMemory;
 use cdb_control::Control;

@@ -37,7 +37,7 @@ impl<'a, R: Runs, A, Rt> Model for SeatCaller<'a, R, A, Rt> {
     ghost use Rattle.std.specs.Prelude.{◌≡◌, ◌≤◌};
     ghost use Rattle.cdb_base.specs.Limits.{MAX_SEATS};
     ghost use Rattle.cdb_shared.specs.Seats.{SeatView, RestsAt};
-    ghost use Rattle.cdb_shared_session.specs.SeatParts.{HasReplica};
+    ghost use Rattle.cdb_shared_session.specs.Replicas.{HasReplica};
 
     ghost Value = { SeatView };
 

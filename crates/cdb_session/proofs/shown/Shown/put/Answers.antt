@@ -39,6 +39,6 @@ returns-in-Err g c =
     subst (λ (text : List ℕ). WritesAll c.write_all-in-Err.result now last (says text)) c.as_slice-in-Err.ensures.value c.write_all-in-Err.ensures in (
       false,
       subst (λ (file : Option NewFile). WritesAll c.write_all-in-Err.result old last (outputs_with file its.text.items its.failed.items false))
-      (sym c.in-Some.is)
+          (sym c.in-Some.is)
           (file_and_text _ _ c.write_all-in-Err.result old now last (saving new.text.items) its.failed.items makes said),
     )

@@ -12,16 +12,26 @@ use Rattle.cdb_shared_session.proofs.seat.SeatCallerCaller.ask.Goals as goal
 pub invariant_of-self : goal.invariant_of-self
 invariant_of-self g c =
     let so = c.journal.ensures.seat in
-    let was = c.self.invariant in
-    ((so.home ∙ was.0.0, so.rests), was.1 ∙ sym so.setup, was.2 ∙ sym so.seats, was.3, was.4,
-    has_later c.self.inside.seat c.journal.new.seat c.self.inside.replica so was.5)
+    let was = c.self.invariant in (
+      (so.home ∙ was.0.0, so.rests),
+      was.1 ∙ sym so.setup,
+      was.2 ∙ sym so.seats,
+      was.3,
+      was.4,
+      has_later c.self.inside.seat c.journal.new.seat c.self.inside.replica so was.5,
+    )
 
 pub invariant_of-self-2 : goal.invariant_of-self-2
 invariant_of-self-2 g c =
     let so = c.journal.ensures.seat in
-    let was = c.self.invariant in
-    ((so.home ∙ was.0.0, so.rests), was.1 ∙ sym so.setup, was.2 ∙ sym so.seats, was.3, was.4,
-    has_later c.self.inside.seat c.journal.new.seat c.self.inside.replica so was.5)
+    let was = c.self.invariant in (
+      (so.home ∙ was.0.0, so.rests),
+      was.1 ∙ sym so.setup,
+      was.2 ∙ sym so.seats,
+      was.3,
+      was.4,
+      has_later c.self.inside.seat c.journal.new.seat c.self.inside.replica so was.5,
+    )
 
 pub returns-in_err-journal-clause-ask : goal.returns-in_err-journal-clause-ask
 returns-in_err-journal-clause-ask g c =

@@ -2,7 +2,8 @@ use Rattle.std.proofs.Common.{inl, inr, [], sym, subst, ◌∙◌}
 use Rattle.cdb_journal.specs.OpenedFrom.{opened_from}
 use Rattle.cdb_session.specs.Styles.{MakesNone}
 use Rattle.cdb_shared.specs.Seats.{SeatView}
-use Rattle.cdb_shared_session.specs.SeatParts.{HasReplica, part_seen}
+use Rattle.cdb_shared_session.specs.Replicas.{HasReplica}
+use Rattle.cdb_shared_session.specs.SeatParts.{part_seen}
 use Rattle.cdb_shared_session.proofs.Replicas.{replica_new}
 use Rattle.cdb_shared_session.proofs.SeatCalls.{none_made}
 use Rattle.cdb_shared_session.proofs.seat.SeatCallerCaller.look.Goals as goal
