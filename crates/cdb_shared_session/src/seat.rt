@@ -9,6 +9,7 @@ ghost use Rattle.cdb_shared_session.specs.SeatParts.{is_numbered};
 use crate::endpoint::{Endpoint, Finished, Opener};
 use crate::replica::{news_for, replica_of};
 use cdb_base::NoMemory;
+use cdb_base::limits::MAX_ENTRIES;
 use cdb_control::{CallFault, Command, Control, Reply};
 use cdb_rules::Runs;
 use cdb_session::{Answers, Caller, Console, Inquiry, News, Style, answer_of, greeting_at, run};
@@ -79,7 +80,7 @@ impl<'a, R: Runs, A: Answers<R>, Rt: Wait> Caller for SeatCaller<'a, R, A, Rt> {
             self.setup,
             self.seats,
             self.replica.take(),
-            from.unwrap_or(usize::MAX),
+            from.unwrap_or(MAX_ENTRIES as usize),
         )?;
         let (shared, seat) = (self.shared, &mut self.seat);
         let (replica, news) = news_for(shared, self.rt, alloc, seat, replica, from)?;
