@@ -6,15 +6,17 @@ ghost use Rattle.clap.specs.declared.builder.command.Command.TheViews.{out-Comma
 ghost use Rattle.cdb_arguments.specs.CommandLine.{required_rule, option_rule, counted, numbered, several, program};
 ghost use Rattle.cdb_arguments.specs.Named.{rule_named, name_of, app_named, with_argument, with_named, bare_program};
 
+use cdb_commands::COMMANDS;
 use clap::{Arg, Command};
 use std::alloc::{AllocError, Global};
 
 /// The version that `--version` prints after the program's name.
-const VERSION: &str = "1.8.0";
+const VERSION: &str = "1.8.1";
 
 const ABOUT: &str =
     "A reversible debugger for consensus algorithms: plays the commands of a script on one run, and
-prints each reply.";
+prints each reply. Without a subcommand it plays the script on standard input, on one process that
+proposes 7.";
 
 const PLAY: &str = "Plays a script, one command after the other";
 
@@ -50,38 +52,6 @@ const CLOCKS: &str = "Plays a script, and prints what stands with its vector clo
 
 const PAGE: &str =
     "Plays a script, and prints a page of the run for a browser, with each event's past and trail";
-
-const LINES: &str =
-    "Without a subcommand it plays the script on standard input, on one process that proposes 7.
-
-Commands of a script, one a line (P, S, L: processes; K: a step of P; M: a message of S):
-  auto P                P takes the first step that is possible
-  step P go             P takes its own next step: send, read, write or compute
-  step P query          P asks its oracle, and gets the setup's next answer
-  step P query L        P asks its oracle, and gets L
-  step P recv S M       P receives its copy of message S#M
-  step P learn          P takes over a decision that it received
-  step P crash          P crashes
-  lose S M P            the network loses the copy of S#M for P (version 2)
-  undo P K              undoes step K of P, unless a later event needs it
-  undo lost S M P       undoes the loss of the copy of S#M for P
-  rollback P K          undoes step K of P with all that needs it
-  rollback lost S M P   undoes the loss of the copy of S#M for P
-  redo                  takes the last undone event again
-  forget                empties the list of undone events
-  why P K               names the events that step K of P needs directly
-  why lost S M P        names the send of the lost copy
-  break decide P        pauses auto where P decides
-  break round P R       pauses auto where P enters round R
-  break recv P          pauses auto where P receives a message
-  break write X         pauses auto where register X is written: r1 to r9 or dec
-  unbreak B             removes breakpoint B
-  resume                ends the pause
-  show P                shows process P
-  show regs             shows the registers
-  show mail             shows the copies that wait
-  show history          shows the standing events
-  decisions             shows the standing decisions";
 
 const SETUPS: &str = "A setup:
   {\"algorithm\":\"leader\",\"processes\":2,\"quorum\":2,\"inputs\":[5,6],\"oracle\":[[1],[1]]}
@@ -423,7 +393,7 @@ fn command_of<'a>(alloc: Global, subcommand: &Subcommand) -> Result<Command<'a>,
 fn bare_program<'a>(alloc: Global) -> Command<'a>
     ensures { app_of result ≡ bare_program }
 {
-    bare(alloc, "revdbg", ABOUT, LINES)
+    bare(alloc, "revdbg", ABOUT, COMMANDS)
         .version(VERSION)
         .disable_help_subcommand(true)
 }

@@ -5,8 +5,8 @@ use Rattle.cdb_causal.specs.Dependence.{depends}
 use Rattle.cdb_causal.specs.Past.{IsSlice}
 use Rattle.cdb_explain.specs.Asked.{IsMissing, IsStepAsked}
 use Rattle.cdb_base.specs.declared.question.StepAsked.{StepAsked}
-use Rattle.cdb_explain.specs.declared.fault.ExplainFault.{ExplainFault}
-use Rattle.cdb_explain.specs.declared.fault.ExplainFault.TheVariants.{Play, TooManyEvents}
+use Rattle.cdb_explain.specs.declared.fault.AnswerFault.{AnswerFault}
+use Rattle.cdb_explain.specs.declared.fault.AnswerFault.TheVariants.{Play, TooManyEvents}
 use Rattle.cdb_streams.specs.Endings.{Ending, Complete, WriterFailed, CutShort, NotBegun}
 use Rattle.cdb_explain.specs.RunLeft.{Leaves}
 use Rattle.cdb_explain.specs.StepFaults.{IsFaultOfLeft, IsFaultOfStep}
@@ -57,26 +57,26 @@ abbrev pub IsTooMuch : RunView → Option StepAsked → Type 0
 IsTooMuch run step = IsCrowded run × (step ≡ None)
 
 -- that, or the step is missing; else the writer failed, or an allocation
-abbrev pub IsFaultOfPicture : RunView → Option StepAsked → ExplainFault → Type 0
+abbrev pub IsFaultOfPicture : RunView → Option StepAsked → AnswerFault → Type 0
 IsFaultOfPicture run step TooManyEvents = IsTooMuch run step
 IsFaultOfPicture run step fault = IsFaultOfStep (IsMissing run.history step) ⊥ fault
 
 -- the same of a picture in memory, for which no writer fails
-abbrev pub IsFaultOfHeld : RunView → Option StepAsked → ExplainFault → Type 0
+abbrev pub IsFaultOfHeld : RunView → Option StepAsked → AnswerFault → Type 0
 IsFaultOfHeld run step (Play (play.NoMemory refused)) = Unit {0}
 IsFaultOfHeld run step (Play fault) = ⊥
 IsFaultOfHeld run step fault = IsFaultOfPicture run step fault
 
 -- the run that the script leaves is crowded and no step is asked for, or the step does not stand in it; else as a fault
 -- of a play
-abbrev pub IsFaultOfDraw : (Parts → Rules) → List ℕ → Option StepAsked → Stream → Stream → ExplainFault → Type 0
+abbrev pub IsFaultOfDraw : (Parts → Rules) → List ℕ → Option StepAsked → Stream → Stream → AnswerFault → Type 0
 IsFaultOfDraw rules json step old new TooManyEvents =
     (run : RunView) × Leaves rules json old new run × IsTooMuch run step
 IsFaultOfDraw rules json step old new fault =
     IsFaultOfLeft rules json old new (λ run. IsMissing run.history step) (λ run. ⊥) fault
 
 -- how the writing of a picture ended, which is written in pieces as it is drawn
-abbrev pub draw_ending : {A : Type 0} → Result A ExplainFault → Ending
+abbrev pub draw_ending : {A : Type 0} → Result A AnswerFault → Ending
 draw_ending (Ok done) = Complete
 draw_ending (Err (Play play.Write)) = WriterFailed
 draw_ending (Err (Play (play.NoMemory refused))) = CutShort

@@ -11,8 +11,8 @@ use Rattle.cdb_control.specs.Journal.{reply_in}
 use Rattle.cdb_control.specs.OneSeat.{carried_out}
 use Rattle.cdb_explain.specs.RunLeft.{run_of}
 use Rattle.cdb_explain.specs.StepFaults.{IsFaultOfLeft}
-use Rattle.cdb_explain.specs.declared.fault.ExplainFault.{ExplainFault}
-use Rattle.cdb_explain.specs.declared.fault.ExplainFault.TheVariants.{Play, TooManyEvents}
+use Rattle.cdb_explain.specs.declared.fault.AnswerFault.{AnswerFault}
+use Rattle.cdb_explain.specs.declared.fault.AnswerFault.TheVariants.{Play, TooManyEvents}
 use Rattle.cdb_rules.specs.RunView.{RunView}
 use Rattle.cdb_rules.specs.Rules.{Rules}
 use Rattle.cdb_setup.specs.Format.{Encodes}
@@ -88,7 +88,7 @@ module _ (rules : Parts → Rules) (setup : Parts) (commands : List Command) whe
   GetsCrowded = (k : ℕ) × (k ≤ length commands) × IsCrowded (run_at k)
 
   -- else a fault is that memory is out
-  abbrev pub IsFaultOfFinding : ExplainFault → Type 0
+  abbrev pub IsFaultOfFinding : AnswerFault → Type 0
   IsFaultOfFinding TooManyEvents = GetsCrowded
   IsFaultOfFinding (Play (play.NoMemory refused)) = Unit {0}
   IsFaultOfFinding fault = ⊥
@@ -101,7 +101,7 @@ GivesFrames rules json columns old new pictures =
     × (pictures ≡ frame_texts rules setup commands columns)
 
 -- the run is crowded after some of the commands; else as a fault of a play
-abbrev pub IsFaultOfFrames : (Parts → Rules) → List ℕ → Stream → Stream → ExplainFault → Type 0
+abbrev pub IsFaultOfFrames : (Parts → Rules) → List ℕ → Stream → Stream → AnswerFault → Type 0
 IsFaultOfFrames rules json old new TooManyEvents =
     (setup : Parts) × Encodes json setup × (commands : List Command) × GivesCommands old new commands
     × GetsCrowded rules setup commands

@@ -10,7 +10,7 @@ ghost use Rattle.cdb_control.specs.OneSeat.{carried_out, HasCarriedOut};
 ghost use Rattle.cdb_draw.specs.Frames.{frame_at, frame_weights, frames_of, GivesFrames, IsFaultOfFrames};
 ghost use Rattle.cdb_draw.specs.Frames.{IsFaultOfFinding, IsFrameOf, room_of, took_by};
 ghost use Rattle.cdb_explain.specs.RunLeft.{run_of};
-ghost use Rattle.cdb_explain.specs.declared.fault.ExplainFault.TheVariants.{Play as of_play};
+ghost use Rattle.cdb_explain.specs.declared.fault.AnswerFault.TheVariants.{Play as of_play};
 ghost use Rattle.cdb_rules.specs.ByRules.{IsInOrder};
 ghost use Rattle.cdb_setup.specs.Format.{Encodes};
 ghost use Rattle.cdb_setup.specs.declared.fault.SetupFault.{SetupFault as SetupFaultName};
@@ -26,7 +26,7 @@ use cdb_any_run::AnyRun;
 use cdb_base::NoMemory;
 use cdb_base::limits::MAX_ENTRIES;
 use cdb_control::{CallFault, Command, Control, Reply, open_for};
-use cdb_explain::{ExplainFault, control_after};
+use cdb_explain::{AnswerFault, control_after};
 use cdb_rules::{Runs, Trace};
 use cdb_setup::Setup;
 use cdb_streams::{PlayFault, Source, read_commands};
@@ -85,7 +85,7 @@ fn next_frame(
     control: &mut Control<AnyRun>,
     commands: &[Command],
     i: usize,
-) -> Result<Option<Frame>, ExplainFault>
+) -> Result<Option<Frame>, AnswerFault>
     requires few { length commands.now ≤ MAX_ENTRIES }
     requires i { i < length commands.now }
     requires before { HasCarriedOut control.old.setup (take i commands.now) control.old }
@@ -104,7 +104,7 @@ fn next_frame(
     let standing = control.run().events(alloc)?;
     let events = standing.as_slice().len();
     if events > MOST_DRAWN {
-        return Err(ExplainFault::TooManyEvents);
+        return Err(AnswerFault::TooManyEvents);
     }
     Ok(Some(Frame {
         commands: i + 1,
@@ -127,7 +127,7 @@ fn find_each(
     alloc: Global,
     control: &mut Control<AnyRun>,
     commands: &[Command],
-) -> Result<Vec<Frame>, ExplainFault>
+) -> Result<Vec<Frame>, AnswerFault>
     requires few { length commands.now ≤ MAX_ENTRIES }
     requires new { HasCarriedOut control.old.setup [] control.old }
     ensures frames { IfOk result
@@ -150,7 +150,7 @@ fn find_frames(
     alloc: Global,
     setup: &Setup,
     commands: &[Command],
-) -> Result<Vec<Frame>, ExplainFault>
+) -> Result<Vec<Frame>, AnswerFault>
     requires few { length commands.now ≤ MAX_ENTRIES }
     ensures frames { IfOk result (λ frames. frames.items ≡ frames_of rules setup.now commands.now) }
     ensures each { IfOk result (λ frames. All (IsFrameOf rules setup.now commands.now) frames.items) }
@@ -255,7 +255,7 @@ impl Frames {
         setup: &[u8],
         script: &mut R,
         columns: u32,
-    ) -> Result<Self, ExplainFault>
+    ) -> Result<Self, AnswerFault>
         ensures frames { IfOk result
             (GivesFrames rules setup.now columns (R.stream script.old) (R.stream script.new)) }
         ensures fault { IfErr result

@@ -6,7 +6,7 @@ ghost use Rattle.cdb_draw.specs.Drawn.{draw_ending, Draws, IsFaultOfDraw, IsFaul
 ghost use Rattle.cdb_draw.specs.Drawn.{IsPictureFor, IsPictureOfPast, IsPositionFor};
 ghost use Rattle.cdb_explain.specs.Asked.{IsMissing};
 ghost use Rattle.cdb_explain.specs.StepFaults.{IsFaultOfStep};
-ghost use Rattle.cdb_explain.specs.declared.fault.ExplainFault.TheVariants.{NoStep as no_step, Play as of_play};
+ghost use Rattle.cdb_explain.specs.declared.fault.AnswerFault.TheVariants.{NoStep as no_step, Play as of_play};
 ghost use Rattle.cdb_streams.specs.Endings.{pieces_ending};
 ghost use Rattle.cdb_streams.specs.Streams.{FailsWhere};
 ghost use Rattle.cdb_streams.specs.Written.{IsWritten};
@@ -20,14 +20,14 @@ use crate::memory::picture_of;
 use cdb_any_run::AnyRun;
 use cdb_base::limits::MAX_ENTRIES;
 use cdb_base::{Event, NoMemory, StepAsked};
-use cdb_explain::{ExplainFault, position_of_step, run_left_by};
+use cdb_explain::{AnswerFault, position_of_step, run_left_by};
 use cdb_rules::Trace;
 use cdb_slice::past_of;
 use cdb_streams::{OutputFault, Sink, Source};
 use std::alloc::Global;
 
 /// The position, from 1, of the step that is asked for, if one is. `NoStep` where none such stands.
-fn position_for(events: &[Event], step: Option<StepAsked>) -> Result<Option<usize>, ExplainFault>
+fn position_for(events: &[Event], step: Option<StepAsked>) -> Result<Option<usize>, AnswerFault>
     ensures position { IfOk result (IsPositionFor events.now step) }
     ensures within { IfOk result
         (λ position. IfSome position (λ at. (1 ≤ at) × (at ≤ length events.now))) }
@@ -38,7 +38,7 @@ fn position_for(events: &[Event], step: Option<StepAsked>) -> Result<Option<usiz
     };
     match position_of_step(events, step.p, step.k) {
         Some(position) => Ok(Some(position)),
-        None => Err(ExplainFault::NoStep),
+        None => Err(AnswerFault::NoStep),
     }
 }
 
@@ -68,7 +68,7 @@ fn write_drawing<W: Sink>(
     columns: u32,
     step: Option<StepAsked>,
     out: &mut W,
-) -> Result<(), ExplainFault>
+) -> Result<(), AnswerFault>
     requires valid { IsInOrder rules run.now }
     requires few { length run.now.history ≤ MAX_ENTRIES }
     ensures wrote { IsWritten W.stream (draw_ending result) out.old out.new
@@ -81,7 +81,7 @@ fn write_drawing<W: Sink>(
         return Ok(());
     }
     let Some(position) = position else {
-        return Err(ExplainFault::TooManyEvents);
+        return Err(AnswerFault::TooManyEvents);
     };
     draw_past(alloc, run, columns, position, out)?;
     Ok(())
@@ -114,7 +114,7 @@ pub fn picture_for(
     run: &Trace,
     columns: u32,
     step: Option<StepAsked>,
-) -> Result<Vec<u8>, ExplainFault>
+) -> Result<Vec<u8>, AnswerFault>
     requires valid { IsInOrder rules run.now }
     requires few { length run.now.history ≤ MAX_ENTRIES }
     ensures picture { IfOk result (λ text. IsPictureFor rules run.now columns step text.items) }
@@ -125,7 +125,7 @@ pub fn picture_for(
         return Ok(picture_of(alloc, run, columns, position)?);
     }
     let Some(position) = position else {
-        return Err(ExplainFault::TooManyEvents);
+        return Err(AnswerFault::TooManyEvents);
     };
     Ok(picture_of_past(alloc, run, columns, position)?)
 }
@@ -147,7 +147,7 @@ pub fn draw<R: Source, W: Sink>(
     columns: u32,
     step: Option<StepAsked>,
     out: &mut W,
-) -> Result<(), ExplainFault>
+) -> Result<(), AnswerFault>
     ensures wrote { IsWritten W.stream (draw_ending result) out.old out.new
         (Draws rules setup.now columns step (R.stream script.old) (R.stream script.new)) }
     ensures fault { IfErr result

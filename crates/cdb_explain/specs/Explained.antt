@@ -10,8 +10,8 @@ use Rattle.cdb_setup.specs.Parts.{Parts}
 use Rattle.cdb_explain.specs.Asked.{StandsNoStep}
 use Rattle.cdb_explain.specs.Explanations.{IsStepExplained}
 use Rattle.cdb_explain.specs.StepFaults.{IsFaultOfLeft}
-use Rattle.cdb_explain.specs.declared.fault.ExplainFault.{ExplainFault}
-use Rattle.cdb_explain.specs.declared.fault.ExplainFault.TheVariants.{Play}
+use Rattle.cdb_explain.specs.declared.fault.AnswerFault.{AnswerFault}
+use Rattle.cdb_explain.specs.declared.fault.AnswerFault.TheVariants.{Play}
 
 -- the text is the explanation of that step of the run that the script leaves
 abbrev pub Explains : (Parts → Rules) → List ℕ → ℕ → Option ℕ → Stream → Stream → List ℕ → Type 0
@@ -19,12 +19,12 @@ Explains rules json p k old new text =
     (run : RunView) × Leaves rules json old new run × IsStepExplained rules run p k text
 
 -- no such step stands in the run that the script leaves; else as a fault of a play
-abbrev pub IsFaultOfExplain : (Parts → Rules) → List ℕ → ℕ → Option ℕ → Stream → Stream → ExplainFault → Type 0
+abbrev pub IsFaultOfExplain : (Parts → Rules) → List ℕ → ℕ → Option ℕ → Stream → Stream → AnswerFault → Type 0
 IsFaultOfExplain rules json p k old new =
     IsFaultOfLeft rules json old new (λ run. StandsNoStep run.history p k) (λ run. ⊥)
 
 -- how the writing of a text about a step ended, which is whole before any of it is written
-abbrev pub explain_ending : {A : Type 0} → Result A ExplainFault → Ending
-explain_ending (Ok done) = Complete
-explain_ending (Err (Play play.Write)) = WriterFailed
-explain_ending (Err fault) = NotBegun
+abbrev pub answer_ending : {A : Type 0} → Result A AnswerFault → Ending
+answer_ending (Ok done) = Complete
+answer_ending (Err (Play play.Write)) = WriterFailed
+answer_ending (Err fault) = NotBegun

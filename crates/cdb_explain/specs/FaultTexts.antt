@@ -1,15 +1,23 @@
--- The texts of faults of explanations.
-use Rattle.std.specs.Prelude.{ℕ, List, codes}
+-- The texts of faults of answers.
+use Rattle.std.specs.Prelude.{ℕ, List, ◌++◌, codes, decimal}
 use Rattle.cdb_base.specs.Refusal.{refusal_text}
 use Rattle.cdb_base.specs.declared.refusal.Refusal.TheVariants as refusal
 use Rattle.cdb_streams.specs.FaultTexts.{play_fault_text}
-use Rattle.cdb_explain.specs.declared.fault.ExplainFault.{ExplainFault}
-use Rattle.cdb_explain.specs.declared.fault.ExplainFault.TheVariants.{NoStep, NoValue, TooManyEvents, Play}
+use Rattle.cdb_streams.specs.Statuses.{play_status}
+use Rattle.cdb_explain.specs.declared.fault.AnswerFault.{AnswerFault}
+use Rattle.cdb_explain.specs.declared.fault.AnswerFault.TheVariants.{NoStep, NoValue, TooManyEvents, NotFound}
+use Rattle.cdb_explain.specs.declared.fault.AnswerFault.TheVariants.{DoesNotHold, Play}
 
--- the refusal of a step that doesn't stand, that a step takes no value, that a step is to be named, or the text of the
--- fault of a play
-abbrev pub explain_fault_text : ExplainFault → List ℕ
-explain_fault_text NoStep = refusal_text refusal.NoStep
-explain_fault_text NoValue = codes "no value"
-explain_fault_text TooManyEvents = codes "too many events to draw; name a step"
-explain_fault_text (Play fault) = play_fault_text fault (codes "the input")
+-- of a play's fault its text, where the name is that of what could not be read
+abbrev pub answer_fault_text : AnswerFault → List ℕ → List ℕ
+answer_fault_text NoStep name = refusal_text refusal.NoStep
+answer_fault_text NoValue name = codes "no value"
+answer_fault_text TooManyEvents name = codes "too many events to draw; name a step"
+answer_fault_text (NotFound walks) name = codes "not found in " ++ decimal walks ++ codes " walks"
+answer_fault_text DoesNotHold name = codes "the goal does not hold"
+answer_fault_text (Play fault) name = play_fault_text fault name
+
+-- the status with which the program ends: that of the play's fault, or 1
+abbrev pub answer_status : AnswerFault → ℕ
+answer_status (Play fault) = play_status fault
+answer_status fault = 1

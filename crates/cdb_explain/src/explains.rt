@@ -2,17 +2,17 @@
 
 ghost use Rattle.std.specs.Prelude.{◌≡◌, Err, IfErr};
 ghost use Rattle.cdb_explain.specs.Asked.{StandsNoStep};
-ghost use Rattle.cdb_explain.specs.Explained.{explain_ending, Explains, IsFaultOfExplain};
+ghost use Rattle.cdb_explain.specs.Explained.{answer_ending, Explains, IsFaultOfExplain};
 ghost use Rattle.cdb_explain.specs.Explanations.{IsStepExplained};
 ghost use Rattle.cdb_explain.specs.StepFaults.{IsFaultOfStep};
-ghost use Rattle.cdb_explain.specs.declared.fault.ExplainFault.TheVariants.{Play as of_play};
+ghost use Rattle.cdb_explain.specs.declared.fault.AnswerFault.TheVariants.{Play as of_play};
 ghost use Rattle.cdb_streams.specs.Streams.{FailsWhere};
 ghost use Rattle.cdb_streams.specs.Written.{IsWritten};
 ghost use Rattle.cdb_streams.specs.declared.fault.PlayFault.TheVariants as play;
 ghost use Rattle.cdb_rules.specs.ByRules.{IsInOrder};
 ghost use Rattle.cdb_setup.specs.declared.fault.SetupFault.{SetupFault as SetupFaultName};
 
-use crate::fault::ExplainFault;
+use crate::fault::AnswerFault;
 use crate::left::run_left_by;
 use crate::step::explain_step;
 use cdb_deeds::Telling;
@@ -28,14 +28,14 @@ fn write_explanation<T: Telling, W: Sink>(
     p: u32,
     k: Option<u32>,
     out: &mut W,
-) -> Result<(), ExplainFault>
+) -> Result<(), AnswerFault>
     requires { IsInOrder T.rules run.now }
-    ensures wrote { IsWritten W.stream (explain_ending result) out.old out.new
+    ensures wrote { IsWritten W.stream (answer_ending result) out.old out.new
         (IsStepExplained T.rules run.now p k) }
     ensures fault { IfErr result (IsFaultOfStep (StandsNoStep run.now.history p k) ⊥) }
 {
     let Some(text) = explain_step::<T>(alloc, run, p, k)? else {
-        return Err(ExplainFault::NoStep);
+        return Err(AnswerFault::NoStep);
     };
     write_text(alloc, text.as_slice(), out)?;
     Ok(())
@@ -60,8 +60,8 @@ pub fn explain<T: Telling, R: Source, W: Sink>(
     p: u32,
     k: Option<u32>,
     out: &mut W,
-) -> Result<(), ExplainFault>
-    ensures wrote { IsWritten W.stream (explain_ending result) out.old out.new
+) -> Result<(), AnswerFault>
+    ensures wrote { IsWritten W.stream (answer_ending result) out.old out.new
         (Explains T.rules setup.now p k (R.stream script.old) (R.stream script.new)) }
     ensures fault { IfErr result
         (IsFaultOfExplain T.rules setup.now p k (R.stream script.old) (R.stream script.new)) }

@@ -1,76 +1,95 @@
-//! Why nothing was written of a step that was asked for.
+//! Why nothing was written of what was asked about a run.
 
-ghost use Rattle.std.specs.Prelude.{Some};
-ghost use Rattle.cdb_explain.specs.FaultTexts.{explain_fault_text};
+ghost use Rattle.std.specs.Prelude.{Some, codes};
+ghost use Rattle.cdb_explain.specs.FaultTexts.{answer_fault_text};
 
 use cdb_base::{NoMemory, Refusal};
+use cdb_setup::SetupFault;
 use cdb_streams::{OutputFault, PlayFault};
 use std::error::Error;
 use std::fmt;
 
-/// Why nothing was written of a step that was asked for.
+/// Why nothing was written of what was asked about a run.
 #[derive(Clone, Copy, Debug, PartialEq, Eq)]
-pub enum ExplainFault {
+pub enum AnswerFault {
     /// The step that is asked for doesn't stand in the run that the script leaves.
     NoStep,
     /// The step takes no value, so no trail leads to it.
     NoValue,
     /// More events stand than are drawn, and no step is asked for.
     TooManyEvents,
-    /// As for a play of the script.
+    /// The goal held in none of this many walks, which says nothing of others.
+    NotFound(u32),
+    /// The goal doesn't hold of the run that the script leaves.
+    DoesNotHold,
+    /// As for a play.
     Play(PlayFault),
 }
 
 /// The text that the program reports, without the end of the line; what could not be read is the input.
-impl fmt::Display for ExplainFault {
-    ghost output = { λ fault. Some (explain_fault_text fault) };
+impl fmt::Display for AnswerFault {
+    ghost output = { λ fault. Some (answer_fault_text fault (codes "the input")) };
 
     fn fmt<W: fmt::Write>(&self, f: &mut fmt::Formatter<W>) -> fmt::Result {
         match self {
-            ExplainFault::NoStep => {
+            AnswerFault::NoStep => {
                 let refusal = Refusal::NoStep;
                 write!(f, "{refusal}")
             }
-            ExplainFault::NoValue => f.write_str("no value"),
-            ExplainFault::TooManyEvents => f.write_str("too many events to draw; name a step"),
-            ExplainFault::Play(fault) => write!(f, "{fault}"),
+            AnswerFault::NoValue => f.write_str("no value"),
+            AnswerFault::TooManyEvents => f.write_str("too many events to draw; name a step"),
+            AnswerFault::NotFound(walks) => write!(f, "not found in {walks} walks"),
+            AnswerFault::DoesNotHold => f.write_str("the goal does not hold"),
+            AnswerFault::Play(fault) => write!(f, "{fault}"),
         }
     }
 }
 
-impl Error for ExplainFault {}
+impl Error for AnswerFault {}
 
-impl From<PlayFault> for ExplainFault {
+impl From<PlayFault> for AnswerFault {
     ghost use Rattle.std.specs.Prelude.{◌≡◌};
-    ghost use Rattle.cdb_explain.specs.declared.fault.ExplainFault.TheVariants.{Play as play};
+    ghost use Rattle.cdb_explain.specs.declared.fault.AnswerFault.TheVariants.{Play as play};
 
     ghost from_gives = { λ fault made. made ≡ play fault };
 
     fn from(fault: PlayFault) -> Self {
-        ExplainFault::Play(fault)
+        AnswerFault::Play(fault)
     }
 }
 
-impl From<NoMemory> for ExplainFault {
+impl From<SetupFault> for AnswerFault {
     ghost use Rattle.std.specs.Prelude.{◌≡◌};
-    ghost use Rattle.cdb_explain.specs.declared.fault.ExplainFault.TheVariants.{Play as play};
+    ghost use Rattle.cdb_explain.specs.declared.fault.AnswerFault.TheVariants.{Play as play};
+    ghost use Rattle.cdb_streams.specs.Faults.{of_setup};
+
+    ghost from_gives = { λ fault made. made ≡ play (of_setup fault) };
+
+    fn from(fault: SetupFault) -> Self {
+        AnswerFault::Play(PlayFault::from(fault))
+    }
+}
+
+impl From<NoMemory> for AnswerFault {
+    ghost use Rattle.std.specs.Prelude.{◌≡◌};
+    ghost use Rattle.cdb_explain.specs.declared.fault.AnswerFault.TheVariants.{Play as play};
     ghost use Rattle.cdb_streams.specs.declared.fault.PlayFault.TheVariants.{NoMemory as no_memory};
 
     ghost from_gives = { λ refused made. made ≡ play (no_memory refused) };
 
     fn from(refused: NoMemory) -> Self {
-        ExplainFault::Play(PlayFault::NoMemory(refused))
+        AnswerFault::Play(PlayFault::NoMemory(refused))
     }
 }
 
-impl From<OutputFault> for ExplainFault {
+impl From<OutputFault> for AnswerFault {
     ghost use Rattle.std.specs.Prelude.{◌≡◌};
-    ghost use Rattle.cdb_explain.specs.declared.fault.ExplainFault.TheVariants.{Play as play};
+    ghost use Rattle.cdb_explain.specs.declared.fault.AnswerFault.TheVariants.{Play as play};
     ghost use Rattle.cdb_streams.specs.Faults.{of_output};
 
     ghost from_gives = { λ fault made. made ≡ play (of_output fault) };
 
     fn from(fault: OutputFault) -> Self {
-        ExplainFault::Play(PlayFault::from(fault))
+        AnswerFault::Play(PlayFault::from(fault))
     }
 }

@@ -21,7 +21,7 @@ mod trace;
 
 pub use asked::position_of_step;
 pub use explains::explain;
-pub use fault::ExplainFault;
+pub use fault::AnswerFault;
 pub use left::{control_after, run_left_by};
 pub use line::{Causes, decision_by, push_whole};
 pub use lines::{explanation, push_count, push_lines};

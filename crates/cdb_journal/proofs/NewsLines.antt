@@ -10,48 +10,48 @@ use Rattle.cdb_control.specs.State.{State, first_control_state}
 use Rattle.cdb_control.specs.declared.control.Entry.{Entry}
 use Rattle.cdb_rules.specs.Rules.{Rules}
 use Rattle.cdb_setup.specs.Parts.{Parts}
-use Rattle.cdb_journal.specs.SeatReplies.{SeatReply, news_in, news_line, news_lines, told_along, told_from, told_in}
+use Rattle.cdb_journal.specs.SeatReplies.{SeatReply, news_in, news_line, news_lines, seat_replies_along, seat_replies_from, seat_replies_in}
 use Rattle.cdb_journal.proofs.RepliesToSeats.{told-append}
 
 -- a reply to each entry
-told_length : (rules : Rules) (t : State) (es : List Entry) → length (told_from rules t es) ≡ length es
+told_length : (rules : Rules) (t : State) (es : List Entry) → length (seat_replies_from rules t es) ≡ length es
 told_length rules t [] = refl
 told_length rules t (e ∷ es) = let rest = told_length rules (obey rules t e.seat e.command) es in omega (arith, rest)
 
 module _ (rules : Parts → Rules) (c : Journaled) (reader from : ℕ) where
   -- behind the last entry there are none
-  pub no_news : length c.journal ≤ from → news_lines reader (drop from (told_in rules c)) ≡ []
+  pub no_news : length c.journal ≤ from → news_lines reader (drop from (seat_replies_in rules c)) ≡ []
   no_news few =
       ap (news_lines reader)
-      (drop_all from (told_in rules c) (omega (arith, few, told_length (rules c.setup) (first_control_state c.setup c.seats) c.journal)))
+      (drop_all from (seat_replies_in rules c) (omega (arith, few, told_length (rules c.setup) (first_control_state c.setup c.seats) c.journal)))
 
   -- one entry more
   module _ (e : Entry) where
     abbrev pub last_told : SeatReply
     last_told = record { seat = e.seat; reply = reply_in rules c e.seat e.command }
 
-    told_more : told_in rules (extended rules c e.seat e.command) ≡ told_in rules c ++ last_told ∷ []
+    told_more : seat_replies_in rules (extended rules c e.seat e.command) ≡ seat_replies_in rules c ++ last_told ∷ []
     unfolding replay
     told_more = told-append (rules c.setup) (first_control_state c.setup c.seats) c.journal (e ∷ [])
 
-    pub news_more : from ≤ length c.journal → news_lines reader (drop from (told_in rules (extended rules c e.seat e.command)))
-        ≡ news_lines reader (drop from (told_in rules c)) ++ news_line reader last_told
+    pub news_more : from ≤ length c.journal → news_lines reader (drop from (seat_replies_in rules (extended rules c e.seat e.command)))
+        ≡ news_lines reader (drop from (seat_replies_in rules c)) ++ news_line reader last_told
     news_more low =
-        let few : from ≤ length (told_in rules c) =
+        let few : from ≤ length (seat_replies_in rules c) =
         omega (arith, low, told_length (rules c.setup) (first_control_state c.setup c.seats) c.journal) in
         ap (λ (all : List SeatReply). news_lines reader (drop from all)) told_more
-        ∙ ap (news_lines reader) (drop-append-le from (told_in rules c) (last_told ∷ []) few)
-        ∙ flat_map-append (news_line reader) (drop from (told_in rules c)) (last_told ∷ [])
-        ∙ ap (λ text. news_lines reader (drop from (told_in rules c)) ++ text) (append-nil (news_line reader last_told))
+        ∙ ap (news_lines reader) (drop-append-le from (seat_replies_in rules c) (last_told ∷ []) few)
+        ∙ flat_map-append (news_line reader) (drop from (seat_replies_in rules c)) (last_told ∷ [])
+        ∙ ap (λ text. news_lines reader (drop from (seat_replies_in rules c)) ++ text) (append-nil (news_line reader last_told))
 
 -- what a control tells behind some first entries is the news from a position on, where it has no fewer
 pub news_told : (rules : Parts → Rules) (c : Journaled) (reader from : ℕ)
-    → news_lines reader (drop (min from (length c.journal)) (told_in rules c)) ≡ news_in rules c reader from
+    → news_lines reader (drop (min from (length c.journal)) (seat_replies_in rules c)) ≡ news_in rules c reader from
 news_told rules c reader from =
     let all : take (length c.journal) c.journal ≡ c.journal = take_all (length c.journal) c.journal (omega arith) in
-    let told : List Entry → List SeatReply = told_along (rules c.setup) c.setup c.seats in
+    let told : List Entry → List SeatReply = seat_replies_along (rules c.setup) c.setup c.seats in
     ap (news_lines reader)
-    (drop_min from (length c.journal) (told_in rules c) (omega (arith, told_length (rules c.setup) (first_control_state c.setup c.seats) c.journal)))
+    (drop_min from (length c.journal) (seat_replies_in rules c) (omega (arith, told_length (rules c.setup) (first_control_state c.setup c.seats) c.journal)))
     ∙ ap (λ (entries : List Entry). news_lines reader (drop from (told entries))) (sym all)
   where
     drop_min : (n most : ℕ) (xs : List SeatReply) → length xs ≤ most → drop (min n most) xs ≡ drop n xs

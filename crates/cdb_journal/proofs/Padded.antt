@@ -29,7 +29,7 @@ use Rattle.cdb_rules.specs.Rules.{Rules}
 use Rattle.cdb_rules.specs.Undo.{undo_of, rollback_of, causes_of}
 use Rattle.cdb_rules.specs.declared.event_ref.EventRef.TheVariants as named
 use Rattle.cdb_setup.specs.Parts.{Parts}
-use Rattle.cdb_journal.specs.SeatReplies.{SeatReply, told_from, told_along}
+use Rattle.cdb_journal.specs.SeatReplies.{SeatReply, seat_replies_from, seat_replies_along}
 
 -- the state with further seats
 abbrev padded : List (List Event) → State → State
@@ -150,14 +150,15 @@ module _ (more : List (List Event)) (t : State) where
 -- ---- along a journal
 
 told_padded : (rules : Rules) (more : List (List Event)) (t : State) (seats : ℕ) (journal : List Entry) → length t.redo ≡ seats → AreOfSeats seats journal
-    → told_from rules (padded more t) journal ≡ told_from rules t journal
+    → seat_replies_from rules (padded more t) journal ≡ seat_replies_from rules t journal
 told_padded rules more t seats [] many all = refl
 told_padded rules more t seats (e ∷ es) many all =
     let its = pads more t rules e.seat (omega (arith, all.0.0, all.0.1, many)) e.command in
     let next = obey rules t e.seat e.command in
     let first : SeatReply = record { seat = e.seat; reply = reply_of rules (padded more t) e.seat e.command } in
-    ap (λ (state : State). first ∷ told_from rules state es) its.after
-    ∙ ap (λ (reply : ReplyView). (let told : SeatReply = record { seat = e.seat; reply = reply } in told) ∷ told_from rules (padded more next) es) its.reply
+    ap (λ (state : State). first ∷ seat_replies_from rules state es) its.after
+    ∙ ap (λ (reply : ReplyView). (let one : SeatReply = record { seat = e.seat; reply = reply } in one) ∷ seat_replies_from rules (padded more next) es)
+    its.reply
     ∙ ap (λ (others : List SeatReply). (let told : SeatReply = record { seat = e.seat; reply = reply_of rules t e.seat e.command } in told) ∷ others)
     (told_padded rules more next seats es (its.lists ∙ many) all.1)
 
@@ -165,12 +166,12 @@ lists_of : (n : ℕ) → length (replicate n (let none : List Event = [] in none
 lists_of n = length-replicate n []
 
 -- with more seats the entries of the first ones tell what they told
-pub told_again : (rules : Rules) (setup : Parts) (seats wide : ℕ) (journal : List Entry) → seats ≤ wide → AreOfSeats seats journal
-    → told_along rules setup wide journal ≡ told_along rules setup seats journal
-told_again rules setup seats wide journal few all =
+pub replied_again : (rules : Rules) (setup : Parts) (seats wide : ℕ) (journal : List Entry) → seats ≤ wide → AreOfSeats seats journal
+    → seat_replies_along rules setup wide journal ≡ seat_replies_along rules setup seats journal
+replied_again rules setup seats wide journal few all =
     let none : List Event = [] in
     let sum : seats + (wide - seats) ≡ wide = omega (arith, few) in
     let parts : replicate seats none ++ replicate (wide - seats) none ≡ replicate wide none =
     replicate-append-replicate seats (wide - seats) none ∙ ap (λ (n : ℕ). replicate n none) sum in
-    ap (λ (redo : List (List Event)). told_from rules (record (first_control_state setup seats) { redo = redo }) journal) (sym parts)
+    ap (λ (redo : List (List Event)). seat_replies_from rules (record (first_control_state setup seats) { redo = redo }) journal) (sym parts)
     ∙ told_padded rules (replicate (wide - seats) none) (first_control_state setup seats) seats journal (lists_of seats) all

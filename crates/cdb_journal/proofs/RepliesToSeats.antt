@@ -20,7 +20,7 @@ use Rattle.cdb_streams.specs.Written.{IsWritten, Only}
 use Rattle.cdb_streams.specs.declared.buffer.OutputFault.{OutputFault}
 use Rattle.cdb_streams.proofs.StreamEnds.{only_as}
 use Rattle.cdb_journal.specs.Journals.{AreEntriesOf, IsJournal}
-use Rattle.cdb_journal.specs.SeatReplies.{SeatReply, told_from, told_line, told_text}
+use Rattle.cdb_journal.specs.SeatReplies.{SeatReply, seat_replies_from, seat_reply_line, seat_replies_text}
 
 pub first_state : (rules : Parts → Rules) (setup : Parts) → control_state rules (opened setup MAX_SEATS) ≡ first_control_state setup MAX_SEATS
 unfolding replay
@@ -37,7 +37,7 @@ state_behind rules t [] e = refl
 state_behind rules t (other ∷ done) e = state_behind rules (obey rules t other.seat other.command) done e
 
 pub told-append : (rules : Rules) (t : State) (done rest : List Entry)
-    → told_from rules t (done ++ rest) ≡ told_from rules t done ++ told_from rules (replay_from rules t done) rest
+    → seat_replies_from rules t (done ++ rest) ≡ seat_replies_from rules t done ++ seat_replies_from rules (replay_from rules t done) rest
 told-append rules t [] rest = refl
 told-append rules t (e ∷ done) rest =
     ap (λ (others : List SeatReply). (let told : SeatReply = record { seat = e.seat; reply = reply_of rules t e.seat e.command } in told) ∷ others)
@@ -46,22 +46,24 @@ told-append rules t (e ∷ done) rest =
 module _ (rules : Rules) (t : State) (done : List Entry) (e : Entry) where
   -- what is told after an entry
   abbrev pub text_behind : List Entry → List ℕ
-  text_behind rest = told_text (told_from rules (obey rules (replay_from rules t done) e.seat e.command) rest)
+  text_behind rest = seat_replies_text (seat_replies_from rules (obey rules (replay_from rules t done) e.seat e.command) rest)
 
   -- the text so far, the line of one reply, and those after it
   pub parted_text : (rest : List Entry)
-      → told_text (told_from rules t (done ++ e ∷ rest))
-      ≡ told_text (told_from rules t done) ++ (told_line e.seat (reply_of rules (replay_from rules t done) e.seat e.command) ++ text_behind rest)
+      → seat_replies_text (seat_replies_from rules t (done ++ e ∷ rest))
+      ≡ seat_replies_text (seat_replies_from rules t done) ++
+      (seat_reply_line e.seat (reply_of rules (replay_from rules t done) e.seat e.command) ++ text_behind rest)
   parted_text rest =
-      ap told_text (told-append rules t done (e ∷ rest))
-      ∙ flat_map-append (λ (it : SeatReply). told_line it.seat it.reply) (told_from rules t done) (told_from rules (replay_from rules t done) (e ∷ rest))
+      ap seat_replies_text (told-append rules t done (e ∷ rest))
+      ∙ flat_map-append (λ (it : SeatReply). seat_reply_line it.seat it.reply) (seat_replies_from rules t done)
+      (seat_replies_from rules (replay_from rules t done) (e ∷ rest))
 
   -- the text so far, and the line of one reply more
-  pub one_reply : told_text (told_from rules t (done ++ e ∷ []))
-      ≡ told_text (told_from rules t done) ++ told_line e.seat (reply_of rules (replay_from rules t done) e.seat e.command)
+  pub one_reply : seat_replies_text (seat_replies_from rules t (done ++ e ∷ []))
+      ≡ seat_replies_text (seat_replies_from rules t done) ++ seat_reply_line e.seat (reply_of rules (replay_from rules t done) e.seat e.command)
   one_reply =
-      parted_text [] ∙ ap (λ (text : List ℕ). told_text (told_from rules t done) ++ text)
-      (append-nil (told_line e.seat (reply_of rules (replay_from rules t done) e.seat e.command)))
+      parted_text [] ∙ ap (λ (text : List ℕ). seat_replies_text (seat_replies_from rules t done) ++ text)
+      (append-nil (seat_reply_line e.seat (reply_of rules (replay_from rules t done) e.seat e.command)))
 
 -- ---- the entries that were read
 

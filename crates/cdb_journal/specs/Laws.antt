@@ -6,7 +6,7 @@ use Rattle.cdb_control.specs.declared.control.Entry.{Entry}
 use Rattle.cdb_rules.specs.Rules.{Rules}
 use Rattle.cdb_setup.specs.Parts.{Parts}
 use Rattle.cdb_journal.specs.Journals.{IsJournal, IsWritable, journal_text}
-use Rattle.cdb_journal.specs.SeatReplies.{told_along, told_in, told_to}
+use Rattle.cdb_journal.specs.SeatReplies.{seat_replies_along, seat_replies_in, replies_to_seat}
 
 -- of each control whose journal can be written
 abbrev pub ForWritten : (Journaled → Type 0) → Type 0
@@ -17,11 +17,12 @@ abbrev pub IsReadBack : Journaled → Type 0
 IsReadBack c = (entries : List Entry) → IsJournal entries (journal_text c.journal) ↔ (entries ≡ c.journal)
 
 -- by any rules, its entries tell with 64 seats what they told
-abbrev pub IsToldAgain : Journaled → Type 0
-IsToldAgain c =
-    (rules : Parts → Rules) → told_along (rules c.setup) c.setup MAX_SEATS c.journal ≡ told_in rules c
+abbrev pub IsRepliedAgain : Journaled → Type 0
+IsRepliedAgain c =
+    (rules : Parts → Rules) → seat_replies_along (rules c.setup) c.setup MAX_SEATS c.journal ≡ seat_replies_in rules c
 
 -- each seat is told the replies to its commands
-abbrev pub TellsEachSeat : Type 0
-TellsEachSeat =
-    (rules : Parts → Rules) (c : Journaled) (seat : ℕ) → told_to seat (told_in rules c) ≡ replies_in rules seat c
+abbrev pub RepliesToEachSeat : Type 0
+RepliesToEachSeat =
+    (rules : Parts → Rules) (c : Journaled) (seat : ℕ)
+    → replies_to_seat seat (seat_replies_in rules c) ≡ replies_in rules seat c

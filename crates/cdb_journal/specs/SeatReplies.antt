@@ -1,4 +1,4 @@
--- What the seats of a control are told, one reply after the other.
+-- The replies to the seats of a control, one after the other.
 use Rattle.std.specs.Prelude.{ℕ, ◌==◌, List, [], ◌∷◌, ◌++◌, codes, decimal, drop, length, take, if◌then◌else◌}
 use Rattle.std.specs.List.{flat_map}
 use Rattle.cdb_commands.specs.ReplyView.{ReplyView}
@@ -16,32 +16,33 @@ pub record SeatReply : Type 0 where
   pub reply : ReplyView
 
 -- the reply to each entry of a journal from this state on
-abbrev pub told_from : Rules → State → List Entry → List SeatReply
-told_from rules t [] = []
-told_from rules t (e ∷ es) =
+abbrev pub seat_replies_from : Rules → State → List Entry → List SeatReply
+seat_replies_from rules t [] = []
+seat_replies_from rules t (e ∷ es) =
     record { seat = e.seat; reply = reply_of rules t e.seat e.command }
-    ∷ told_from rules (obey rules t e.seat e.command) es
+    ∷ seat_replies_from rules (obey rules t e.seat e.command) es
 
 -- from the start on, with this many seats
-abbrev pub told_along : Rules → Parts → ℕ → List Entry → List SeatReply
-told_along rules setup seats journal = told_from rules (first_control_state setup seats) journal
+abbrev pub seat_replies_along : Rules → Parts → ℕ → List Entry → List SeatReply
+seat_replies_along rules setup seats journal = seat_replies_from rules (first_control_state setup seats) journal
 
 -- in the journal of a control
-abbrev pub told_in : (Parts → Rules) → Journaled → List SeatReply
-told_in rules c = told_along (rules c.setup) c.setup c.seats c.journal
+abbrev pub seat_replies_in : (Parts → Rules) → Journaled → List SeatReply
+seat_replies_in rules c = seat_replies_along (rules c.setup) c.setup c.seats c.journal
 
--- the replies to this seat among them
-abbrev pub told_to : ℕ → List SeatReply → List ReplyView
-told_to seat [] = []
-told_to seat (it ∷ others) = if it.seat == seat then (it.reply ∷ told_to seat others) else told_to seat others
+-- those to this seat
+abbrev pub replies_to_seat : ℕ → List SeatReply → List ReplyView
+replies_to_seat seat [] = []
+replies_to_seat seat (it ∷ others) =
+    if it.seat == seat then (it.reply ∷ replies_to_seat seat others) else replies_to_seat seat others
 
 -- `S REPLY`
-abbrev pub told_line : ℕ → ReplyView → List ℕ
-told_line seat reply = (decimal seat ++ codes " ") ++ text_of reply
+abbrev pub seat_reply_line : ℕ → ReplyView → List ℕ
+seat_reply_line seat reply = (decimal seat ++ codes " ") ++ text_of reply
 
 -- one after the other
-abbrev pub told_text : List SeatReply → List ℕ
-told_text all = flat_map (λ it. told_line it.seat it.reply) all
+abbrev pub seat_replies_text : List SeatReply → List ℕ
+seat_replies_text all = flat_map (λ it. seat_reply_line it.seat it.reply) all
 
 -- ---- what a seat is told of the others
 
@@ -56,7 +57,7 @@ news_lines seat all = flat_map (news_line seat) all
 -- the news for a seat of what a journal has from the one position up to the other
 abbrev pub news : Rules → Parts → ℕ → ℕ → List Entry → ℕ → ℕ → List ℕ
 news rules setup seats seat journal from to =
-    news_lines seat (drop from (told_along rules setup seats (take to journal)))
+    news_lines seat (drop from (seat_replies_along rules setup seats (take to journal)))
 
 -- and from a position on, in the journal of a control
 abbrev pub news_in : (Parts → Rules) → Journaled → ℕ → ℕ → List ℕ

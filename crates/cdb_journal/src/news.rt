@@ -6,7 +6,7 @@ ghost use Rattle.cdb_commands.specs.ReplyView.{reply_view};
 ghost use Rattle.cdb_control.specs.Journal.{AreOfSeats, extended, reply_in};
 ghost use Rattle.cdb_setup.specs.Parts.{IsWithin};
 ghost use Rattle.cdb_text.specs.Pushes.{Pushes};
-ghost use Rattle.cdb_journal.specs.SeatReplies.{news_in, news_line, news_lines, told_in};
+ghost use Rattle.cdb_journal.specs.SeatReplies.{news_in, news_line, news_lines, seat_replies_in};
 
 use crate::opening::{carry_out, carry_out_each};
 use cdb_base::NoMemory;
@@ -63,7 +63,7 @@ fn push_each<R: Runs>(
     ensures control { OnOk result
         (control.new ≡ record control.old { journal = control.old.journal ++ entries.now }) }
     ensures text { Pushes result text.old text.new
-        (news_lines reader (drop (length control.old.journal) (told_in R.rules control.new))) }
+        (news_lines reader (drop (length control.old.journal) (seat_replies_in R.rules control.new))) }
 {
     for entry in entries {
         push_entry(alloc, control, reader, *entry, text)?;

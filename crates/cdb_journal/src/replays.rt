@@ -10,8 +10,9 @@ ghost use Rattle.cdb_streams.specs.PiecesPut.{Puts};
 ghost use Rattle.cdb_streams.specs.Endings.{pieces_ending, play_ending};
 ghost use Rattle.cdb_streams.specs.Streams.{FailsWhere};
 ghost use Rattle.cdb_streams.specs.Written.{IsWritten, Only};
-ghost use Rattle.cdb_journal.specs.Replays.{IsFaultOfReplay, Replays, TellsAgain};
-ghost use Rattle.cdb_journal.specs.SeatReplies.{told_along, told_from, told_line, told_text};
+ghost use Rattle.cdb_journal.specs.Replays.{IsFaultOfReplay, Replays, RepliesAgain};
+ghost use Rattle.cdb_journal.specs.SeatReplies.{seat_replies_along, seat_replies_from, seat_reply_line};
+ghost use Rattle.cdb_journal.specs.SeatReplies.{seat_replies_text};
 
 use crate::laws;
 use crate::opening::{carry_out, open_on};
@@ -47,7 +48,7 @@ fn perform<T: Runs, W: Sink>(
     requires room { length control.old.journal < MAX_ENTRIES }
     ensures done { OnOk result (control.new ≡ extended T.rules control.old entry.seat entry.command) }
     ensures put { Puts W.stream result out.old buffer.old out.new buffer.new
-        (told_line entry.seat (reply_in T.rules control.old entry.seat entry.command)) }
+        (seat_reply_line entry.seat (reply_in T.rules control.old entry.seat entry.command)) }
 {
     let seat = entry.seat;
     let reply = carry_out(alloc, control, entry)?;
@@ -68,7 +69,7 @@ fn perform_each<T: Runs, W: Sink>(
     requires seats { AreOfSeats control.old.seats entries.now }
     requires room { length control.old.journal + length entries.now ≤ MAX_ENTRIES }
     ensures { Puts W.stream result out.old buffer.old out.new buffer.new
-        (told_text (told_from (T.rules control.old.setup) (control_state T.rules control.old)
+        (seat_replies_text (seat_replies_from (T.rules control.old.setup) (control_state T.rules control.old)
         entries.now)) }
 {
     for entry in entries {
@@ -88,7 +89,7 @@ fn perform_all<T: Runs, W: Sink>(
     requires seats { AreOfSeats MAX_SEATS entries.now }
     requires room { length entries.now ≤ MAX_ENTRIES }
     ensures { Puts W.stream result out.old buffer.old out.new buffer.new
-        (told_text (told_along (T.rules setup) setup MAX_SEATS entries.now)) }
+        (seat_replies_text (seat_replies_along (T.rules setup) setup MAX_SEATS entries.now)) }
 {
     let mut control = open_on::<T>(alloc, setup, MAX_SEATS, &[])?;
     let mut text = String::new(alloc);
@@ -109,7 +110,7 @@ fn write_pieces<T: Runs, W: Sink>(
     requires room { length entries.now ≤ MAX_ENTRIES }
     requires empty { buffer.old ≡ [] }
     ensures { IsWritten W.stream (pieces_ending result) out.old out.new
-        (Only (told_text (told_along (T.rules setup) setup MAX_SEATS entries.now))) }
+        (Only (seat_replies_text (seat_replies_along (T.rules setup) setup MAX_SEATS entries.now))) }
 {
     perform_all::<T, W>(alloc, setup, entries, buffer, out)?;
     buffer.flush(out)?;
@@ -126,7 +127,7 @@ fn write_replies<T: Runs, W: Sink>(
     requires seats { AreOfSeats MAX_SEATS entries.now }
     requires room { length entries.now ≤ MAX_ENTRIES }
     ensures { IsWritten W.stream (pieces_ending result) out.old out.new
-        (Only (told_text (told_along (T.rules setup) setup MAX_SEATS entries.now))) }
+        (Only (seat_replies_text (seat_replies_along (T.rules setup) setup MAX_SEATS entries.now))) }
 {
     let mut buffer = Buffer::new(alloc)?;
     write_pieces::<T, W>(alloc, setup, entries, &mut buffer, out)
@@ -173,7 +174,7 @@ pub fn replay<T: Runs, R: Source, W: Sink>(
     ensures wrote { IsWritten W.stream (play_ending result) out.old out.new
         (Replays T.rules setup.now (R.stream journal.old) (R.stream journal.new)) }
     ensures again { IsWritten W.stream (play_ending result) out.old out.new
-        (TellsAgain T.rules setup.now (R.stream journal.old) (R.stream journal.new)) }
+        (RepliesAgain T.rules setup.now (R.stream journal.old) (R.stream journal.new)) }
     ensures fault { IfErr result
         (IsFaultOfReplay setup.now (R.stream journal.old) (R.stream journal.new)) }
     ensures unread { (fault : SetupFaultName) → result ≡ Err (PlayFault.Setup fault) →

@@ -8,7 +8,7 @@ use Rattle.std.proofs.KnownBytes.{Appends-nil, Appends-trans}
 use Rattle.std.proofs.Math.Seq.{drop-append_seam, take-append_seam}
 use Rattle.std.proofs.lemmas.List.{length-take-le}
 use Rattle.std.proofs.lemmas.List.Elements.{All-append, All-cons, All-nil, All-weaker}
-use Rattle.cdb_explain.specs.declared.fault.ExplainFault.{ExplainFault}
+use Rattle.cdb_explain.specs.declared.fault.AnswerFault.{AnswerFault}
 use Rattle.cdb_streams.specs.Streams.{Stream}
 use Rattle.cdb_streams.specs.declared.sink.Failed.{Failed}
 use Rattle.cdb_page.specs.Live.{EndsWithPage, HasFileTaken, IsFaultOfShow, IsMadeWith, IsPageSoFar, IsToCome, KeepsUp, Live, Shows}
@@ -91,7 +91,7 @@ keeps_up_still it taken failures journal up same has = record {
 }
 
 -- what it took has the page that was written
-shown : (it : Live) (more : List ℕ) (failures : ℕ) (journal : Option Stream) (versions : Versions) (outcome : Result (Unit {0}) ExplainFault)
+shown : (it : Live) (more : List ℕ) (failures : ℕ) (journal : Option Stream) (versions : Versions) (outcome : Result (Unit {0}) AnswerFault)
     → KeepsUp it → HasFileTaken it.journal_before journal (it.taken ++ more) → 0 < length (it.taken ++ more)
     → ShowsLines it.json (it.taken ++ more) it.versions versions outcome
     → KeepsUp (record it { taken = it.taken ++ more; failures = failures; journal = journal; versions = versions; outcome = outcome })
@@ -115,7 +115,7 @@ shown it more failures journal versions (Err why) up has some (texts_are, becaus
       fault = rw (so_far it.from all some) because;
     }
 
-pub keeps_up_on : (it : Live) (more taken : List ℕ) (failures : ℕ) (journal : Option Stream) (versions : Versions) (outcome : Result (Unit {0}) ExplainFault)
+pub keeps_up_on : (it : Live) (more taken : List ℕ) (failures : ℕ) (journal : Option Stream) (versions : Versions) (outcome : Result (Unit {0}) AnswerFault)
     → KeepsUp it → taken ≡ it.taken ++ more → HasFileTaken it.journal journal more → 0 < length taken
     → ShowsLines it.json taken it.versions versions outcome
     → KeepsUp (record it { taken = taken; failures = failures; journal = journal; versions = versions; outcome = outcome })
@@ -124,23 +124,23 @@ keeps_up_on it more taken failures journal versions outcome up same has some sho
     (rw same at some) (rw same at shows))
 
 -- at the beginning
-first_each : (json from : List ℕ) (old new : Versions) (outcome : Result (Unit {0}) ExplainFault)
+first_each : (json from : List ℕ) (old new : Versions) (outcome : Result (Unit {0}) AnswerFault)
     → IfSome old.texts (λ texts. texts ≡ []) → Shows json from old new outcome → IfSome new.texts (All (IsPageSoFar json from []))
 first_each json from old new (Ok done) empty (page, is, new_is) =
     rw new_is (each_too json from [] page old.texts (inl is) (none_yet json from old.texts empty))
 first_each json from old new (Err why) empty (texts_are, because) = rw texts_are (none_yet json from old.texts empty)
 
-first_last : (json from : List ℕ) (old new : Versions) (outcome : Result (Unit {0}) ExplainFault) → Shows json from old new outcome
+first_last : (json from : List ℕ) (old new : Versions) (outcome : Result (Unit {0}) AnswerFault) → Shows json from old new outcome
     → IfOk outcome (λ _. IfSome new.texts (EndsWithPage json from))
 first_last json from old new (Ok done) (page, is, new_is) = rw new_is (last_is json from page old.texts is)
 first_last json from old new (Err why) shows = tt
 
-first_fault : (json from : List ℕ) (old new : Versions) (outcome : Result (Unit {0}) ExplainFault) → Shows json from old new outcome
+first_fault : (json from : List ℕ) (old new : Versions) (outcome : Result (Unit {0}) AnswerFault) → Shows json from old new outcome
     → IfErr outcome (λ fault. IsFaultOfShow json from new fault ⊎ IsToCome [] fault)
 first_fault json from old new (Ok done) shows = tt
 first_fault json from old new (Err why) shows = inl shows.1
 
-pub keeps_up_first : (json from taken : List ℕ) (failures : ℕ) (journal : Option Stream) (old new : Versions) (outcome : Result (Unit {0}) ExplainFault)
+pub keeps_up_first : (json from taken : List ℕ) (failures : ℕ) (journal : Option Stream) (old new : Versions) (outcome : Result (Unit {0}) AnswerFault)
     → taken ≡ [] → IfSome old.texts (λ texts. texts ≡ []) → Shows json from old new outcome
     → KeepsUp (record {
       json = json;

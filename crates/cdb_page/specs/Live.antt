@@ -2,8 +2,8 @@
 use Rattle.std.specs.Prelude.{◌≡◌, ◌⊎◌, ℕ, ◌<◌, Bool, true, false, List, [], ◌∷◌, ◌++◌, length, take, All, Option, None}
 use Rattle.std.specs.Prelude.{Some, option_map, Result, Ok, Err, IfOk, IfErr, IfSome}
 use Rattle.std.specs.Io.KnownBytes.{Appends}
-use Rattle.cdb_explain.specs.declared.fault.ExplainFault.{ExplainFault}
-use Rattle.cdb_explain.specs.declared.fault.ExplainFault.TheVariants.{Play}
+use Rattle.cdb_explain.specs.declared.fault.AnswerFault.{AnswerFault}
+use Rattle.cdb_explain.specs.declared.fault.AnswerFault.TheVariants.{Play}
 use Rattle.cdb_streams.specs.Streams.{Stream}
 use Rattle.cdb_streams.specs.declared.buffer.OutputFault.{OutputFault}
 use Rattle.cdb_streams.specs.declared.buffer.OutputFault.TheVariants as output
@@ -42,7 +42,7 @@ pub record Live : Type 0 where
   pub journal_before : Option Stream
   pub journal : Option Stream
   pub versions : Versions
-  pub outcome : Result (Unit {0}) ExplainFault
+  pub outcome : Result (Unit {0}) AnswerFault
 
 -- a text that may not be known, behind whether it is and how long
 abbrev pub known_text : Option (List ℕ) → List ℕ
@@ -91,22 +91,22 @@ IsPageSoFar json from taken page =
     IsPageOfJournal json from page ⊎ ((lines : List ℕ) × AreFirstLines lines taken × IsPageOfJournal json lines page)
 
 -- why the page of a journal is not in the file: there is none, or the file could not be written
-abbrev pub IsFaultOfShow : List ℕ → List ℕ → Versions → ExplainFault → Type 0
+abbrev pub IsFaultOfShow : List ℕ → List ℕ → Versions → AnswerFault → Type 0
 IsFaultOfShow json journal versions fault =
     IsFaultOfJournalPage json journal fault ⊎ ((fault ≡ Play play.Write) × (versions.failed ≡ true))
 
 -- or the rest of the last line is to come
-abbrev pub IsToCome : List ℕ → ExplainFault → Type 0
+abbrev pub IsToCome : List ℕ → AnswerFault → Type 0
 IsToCome journal fault = (fault ≡ Play play.Write) × EndsWithinLine journal
 
 -- how the writing of a page ended: the file has it, or what it had
-abbrev pub Shows : List ℕ → List ℕ → Versions → Versions → Result (Unit {0}) ExplainFault → Type 0
+abbrev pub Shows : List ℕ → List ℕ → Versions → Versions → Result (Unit {0}) AnswerFault → Type 0
 Shows json journal old new (Ok done) =
     (page : List ℕ) × IsPageOfJournal json journal page × (new ≡ with_version old page)
 Shows json journal old new (Err fault) = (new.texts ≡ old.texts) × IsFaultOfShow json journal new fault
 
 -- the same of a journal of whole lines
-abbrev pub ShowsLines : List ℕ → List ℕ → Versions → Versions → Result (Unit {0}) ExplainFault → Type 0
+abbrev pub ShowsLines : List ℕ → List ℕ → Versions → Versions → Result (Unit {0}) AnswerFault → Type 0
 ShowsLines json journal old new (Ok done) = EndsLine journal × Shows json journal old new (Ok done)
 ShowsLines json journal old new (Err fault) =
     (new.texts ≡ old.texts) × (IsFaultOfShow json journal new fault ⊎ IsToCome journal fault)

@@ -5,8 +5,8 @@ use Rattle.cdb_base.specs.Limits.{MAX_SEATS}
 use Rattle.cdb_control.specs.Journal.{Journaled}
 use Rattle.cdb_draw.specs.Drawn.{IsCrowded}
 use Rattle.cdb_explain.specs.RunLeft.{run_of}
-use Rattle.cdb_explain.specs.declared.fault.ExplainFault.{ExplainFault}
-use Rattle.cdb_explain.specs.declared.fault.ExplainFault.TheVariants.{Play, TooManyEvents}
+use Rattle.cdb_explain.specs.declared.fault.AnswerFault.{AnswerFault}
+use Rattle.cdb_explain.specs.declared.fault.AnswerFault.TheVariants.{Play, TooManyEvents}
 use Rattle.cdb_journal.specs.OpenedFrom.{IsOpenedFrom}
 use Rattle.cdb_rules.specs.RunView.{RunView}
 use Rattle.cdb_session.specs.Debugs.{IsFaultOfBeginning}
@@ -27,7 +27,7 @@ IsPageOfJournal json journal text =
     (run : RunView) × IsRunOfJournal json journal run × IsPageOfFew EachTwoSeconds run text
 
 -- why there is none: the run has more events than are drawn; or there is no such run, or memory is out
-abbrev pub IsFaultOfJournalPage : List ℕ → List ℕ → ExplainFault → Type 0
+abbrev pub IsFaultOfJournalPage : List ℕ → List ℕ → AnswerFault → Type 0
 IsFaultOfJournalPage json journal TooManyEvents = (run : RunView) × IsRunOfJournal json journal run × IsCrowded run
 IsFaultOfJournalPage json journal (Play fault) = IsFaultOfBeginning json journal MAX_SEATS fault
 IsFaultOfJournalPage json journal other = ⊥

@@ -15,7 +15,7 @@ use crate::parts::Refresh;
 use cdb_any_run::AnyRun;
 use cdb_base::NoMemory;
 use cdb_base::limits::MAX_SEATS;
-use cdb_explain::{ExplainFault, trace_of};
+use cdb_explain::{AnswerFault, trace_of};
 use cdb_journal::MOST_JOURNAL;
 use cdb_rules::Trace;
 use cdb_session::begin;
@@ -56,7 +56,7 @@ fn run_of_journal(alloc: Global, setup: &[u8], journal: &[u8]) -> Result<Trace, 
 /// # Errors
 /// `TooManyEvents` where that has more than 5,000 events; `Play` where there is no such run, as of `begin`, and where
 /// an allocation fails.
-fn page_of_journal(alloc: Global, setup: &[u8], journal: &[u8]) -> Result<Vec<u8>, ExplainFault>
+fn page_of_journal(alloc: Global, setup: &[u8], journal: &[u8]) -> Result<Vec<u8>, AnswerFault>
     ensures page { IfOk result (λ page. IsPageOfJournal setup.now journal.now page.items) }
     ensures fault { IfErr result (IsFaultOfJournalPage setup.now journal.now) }
 {
@@ -73,7 +73,7 @@ fn show<P: Rewritten>(
     setup: &[u8],
     journal: &[u8],
     file: &mut P,
-) -> Result<(), ExplainFault>
+) -> Result<(), AnswerFault>
     ensures { Shows setup.now journal.now (P.versions file.old) (P.versions file.new) result }
 {
     let page = page_of_journal(alloc, setup, journal)?;
@@ -105,7 +105,7 @@ pub struct LivePage<'a, J: Sink + Drop, P: Rewritten + Drop> {
     journal_before: Snapshot<Option<J>>,
     journal: Option<J>,
     page: P,
-    outcome: Result<(), ExplainFault>,
+    outcome: Result<(), AnswerFault>,
 }
 
 impl<'a, J: Sink + Drop, P: Rewritten + Drop> Model for LivePage<'a, J, P> {
@@ -175,7 +175,7 @@ impl<'a, J: Sink + Drop, P: Rewritten + Drop> LivePage<'a, J, P> {
     /// Promise: Each text that the file of a live page has had is a whole page, of the run that the first lines of the
     /// journal leave, and where nothing failed the last one is that of all that was taken. The file of the journal took
     /// the same, behind what it held.
-    pub fn outcome(&self) -> Result<(), ExplainFault>
+    pub fn outcome(&self) -> Result<(), AnswerFault>
         ensures is { result ≡ self.now.outcome }
         ensures keeps_up { KeepsUp self.now }
     {
@@ -242,12 +242,12 @@ fn show_lines<P: Rewritten>(
     setup: &[u8],
     journal: &[u8],
     file: &mut P,
-) -> Result<(), ExplainFault>
+) -> Result<(), AnswerFault>
     requires { 0 < length journal.now }
     ensures { ShowsLines setup.now journal.now (P.versions file.old) (P.versions file.new) result }
 {
     if !ends_line(journal) {
-        return Err(ExplainFault::Play(PlayFault::Write));
+        return Err(AnswerFault::Play(PlayFault::Write));
     }
     show(alloc, setup, journal, file)
 }

@@ -15,7 +15,7 @@ use crate::text::text_of_entries;
 use cdb_base::NoMemory;
 use cdb_base::limits::COLUMNS;
 use cdb_draw::{MOST_DRAWN, picture_of};
-use cdb_explain::ExplainFault;
+use cdb_explain::AnswerFault;
 use cdb_rules::Trace;
 use std::alloc::Global;
 
@@ -61,14 +61,14 @@ pub(crate) fn page_of_few(
     alloc: Global,
     run: &Trace,
     refresh: Refresh,
-) -> Result<Vec<u8>, ExplainFault>
+) -> Result<Vec<u8>, AnswerFault>
     requires valid { IsInOrder rules run.now }
     requires few { length run.now.history ≤ most_entries }
     ensures page { IfOk result (λ text. IsPageOfFew refresh run.now text.items) }
     ensures fault { IfErr result (IsFaultOfFew run.now) }
 {
     if run.events().len() > MOST_DRAWN {
-        return Err(ExplainFault::TooManyEvents);
+        return Err(AnswerFault::TooManyEvents);
     }
     let text = page_of(alloc, run, refresh)?;
     Ok(text)

@@ -4,8 +4,8 @@ ghost use Rattle.std.specs.Prelude.{◌≡◌, ◌≤◌, length, Err, None, IfE
 ghost use Rattle.cdb_agreement.specs.Algorithms.{rules};
 ghost use Rattle.cdb_base.specs.Limits.{MAX_ENTRIES as most_entries};
 ghost use Rattle.cdb_draw.specs.Drawn.{IsFaultOfPicture};
-ghost use Rattle.cdb_explain.specs.Explained.{explain_ending};
-ghost use Rattle.cdb_explain.specs.declared.fault.ExplainFault.TheVariants.{Play as of_play};
+ghost use Rattle.cdb_explain.specs.Explained.{answer_ending};
+ghost use Rattle.cdb_explain.specs.declared.fault.AnswerFault.TheVariants.{Play as of_play};
 ghost use Rattle.cdb_page.specs.Written.{IsFaultOfPage, IsPageOfFew, WritesPage};
 ghost use Rattle.cdb_page.specs.declared.parts.Refresh.TheVariants.{Never};
 ghost use Rattle.cdb_rules.specs.ByRules.{IsInOrder};
@@ -17,17 +17,17 @@ ghost use Rattle.cdb_streams.specs.declared.fault.PlayFault.TheVariants as play;
 use crate::page::page_of_few;
 use crate::parts::Refresh;
 use cdb_any_run::AnyRun;
-use cdb_explain::{ExplainFault, run_left_by};
+use cdb_explain::{AnswerFault, run_left_by};
 use cdb_rules::Trace;
 use cdb_streams::{Sink, Source, write_text};
 use std::alloc::Global;
 
 /// Writes the page of this run, which is whole before any of it is written. `TooManyEvents` where it has more than
 /// 5,000.
-fn write_page_of<W: Sink>(alloc: Global, run: &Trace, out: &mut W) -> Result<(), ExplainFault>
+fn write_page_of<W: Sink>(alloc: Global, run: &Trace, out: &mut W) -> Result<(), AnswerFault>
     requires valid { IsInOrder rules run.now }
     requires few { length run.now.history ≤ most_entries }
-    ensures wrote { IsWritten W.stream (explain_ending result) out.old out.new
+    ensures wrote { IsWritten W.stream (answer_ending result) out.old out.new
         (IsPageOfFew Never run.now) }
     ensures fault { IfErr result (IsFaultOfPicture run.now None) }
 {
@@ -56,8 +56,8 @@ pub fn write_page<R: Source, W: Sink>(
     setup: &[u8],
     script: &mut R,
     out: &mut W,
-) -> Result<(), ExplainFault>
-    ensures wrote { IsWritten W.stream (explain_ending result) out.old out.new
+) -> Result<(), AnswerFault>
+    ensures wrote { IsWritten W.stream (answer_ending result) out.old out.new
         (WritesPage setup.now (R.stream script.old) (R.stream script.new)) }
     ensures fault { IfErr result
         (IsFaultOfPage setup.now (R.stream script.old) (R.stream script.new)) }

@@ -10,13 +10,14 @@ use Rattle.cdb_streams.specs.declared.fault.PlayFault.TheVariants as play
 use Rattle.cdb_streams.specs.declared.source.ReadFault.{ReadFault}
 use Rattle.cdb_streams.specs.declared.source.ReadFault.TheVariants as reading
 use Rattle.cdb_base.specs.Requests.{texts}
+use Rattle.cdb_base.specs.declared.no_memory.NoMemory.{NoMemory}
 use Rattle.cdb_program.specs.Beginnings.{ReadsBeginning}
 use Rattle.cdb_program.specs.Known.{FilesSeen, after_opening, after_failing}
 use Rattle.cdb_program.specs.FilesRead.{AreFirstBytes, FailsToRead, HasRead, ReadsFile, most_read}
 use Rattle.cdb_program.specs.Replays.{ReadsBoth}
 use Rattle.cdb_program.specs.declared.fault.Fault.{Fault}
-use Rattle.cdb_program.specs.declared.fault.Fault.TheVariants.{Play, Race, NoStep, NoValue, Different, NoGoal, NotFound, DoesNotHold}
-use Rattle.cdb_program.specs.declared.fault.Fault.TheVariants.{TooManyEvents, TooManySeats, Refused, Journal, Page}
+use Rattle.cdb_program.specs.declared.fault.Fault.TheVariants.{Play, Race, Answer, Different, NoGoal}
+use Rattle.cdb_program.specs.declared.fault.Fault.TheVariants.{TooManySeats, Refused, Journal, Page}
 
 -- names are added to those that are known
 more_opened : (opened : Option (List (List ℕ))) (first second : List (List ℕ))
@@ -42,7 +43,7 @@ pub opened_then : (old mid new : FilesSeen) (first second : List (List ℕ)) →
     → new ≡ after_opening mid second → new ≡ after_opening old (first ++ second)
 opened_then old mid new first second before after = after ∙ ap (λ (f : FilesSeen). after_opening f second) before ∙ opened_more old first second
 
-pub failed_then : (old mid new : FilesSeen) (first second : List (List ℕ)) → mid ≡ after_opening old first
+failed_then : (old mid new : FilesSeen) (first second : List (List ℕ)) → mid ≡ after_opening old first
     → new ≡ after_failing mid second → new ≡ after_failing old (first ++ second)
 failed_then old mid new first second before after = after ∙ ap (λ (f : FilesSeen). after_failing f second) before ∙ failed_more old first second
 
@@ -74,61 +75,73 @@ read_then old mid new first second a b before after = (
   first_ones old first second a b before.1 (subst (λ (f : FilesSeen). AllZip (AreFirstBytes f most_read) second b) before.0 after.1),
 )
 
-pub fails_then : (old mid new : FilesSeen) (first second a : List (List ℕ)) (fault : Fault)
-    → HasRead old mid first a → FailsToRead mid new second fault → FailsToRead old new (first ++ second) fault
-fails_then old mid new first second a (Play play.Read name) before (good, rest, whole, failed) = (
+-- only what can't be read, or want of memory, ends the reading of files
+pub by_reading : (old new : FilesSeen) (names : List (List ℕ)) (Is : Fault → Type 0)
+    → ((name : Bor (List ℕ)) → FailsToRead old new names (Play play.Read name) → Is (Play play.Read name))
+    → ((refused : NoMemory) (name : Bor (List ℕ)) → FailsToRead old new names (Play (play.NoMemory refused) name) → Is (Play (play.NoMemory refused) name))
+    → (fault : Fault) → FailsToRead old new names fault → Is fault
+by_reading old new names Is read memory (Play play.Read name) fails = read name fails
+by_reading old new names Is read memory (Play (play.NoMemory refused) name) fails = memory refused name fails
+by_reading old new names Is read memory (Play (play.Setup fault) name) fails = absurd fails
+by_reading old new names Is read memory (Play (play.Line script line fault) name) fails = absurd fails
+by_reading old new names Is read memory (Play (play.ScriptTooLong script) name) fails = absurd fails
+by_reading old new names Is read memory (Play play.Write name) fails = absurd fails
+by_reading old new names Is read memory (Race fault) fails = absurd fails
+by_reading old new names Is read memory (Answer fault name) fails = absurd fails
+by_reading old new names Is read memory NoGoal fails = absurd fails
+by_reading old new names Is read memory Different fails = absurd fails
+by_reading old new names Is read memory (Journal why) fails = absurd fails
+by_reading old new names Is read memory (Page why) fails = absurd fails
+by_reading old new names Is read memory TooManySeats fails = absurd fails
+by_reading old new names Is read memory (Refused reason) fails = absurd fails
+
+unread_later : (old mid new : FilesSeen) (first second : List (List ℕ)) → mid ≡ after_opening old first → (name : Bor (List ℕ))
+    → FailsToRead mid new second (Play play.Read name) → FailsToRead old new (first ++ second) (Play play.Read name)
+unread_later old mid new first second before name (good, rest, whole, failed) = (
   first ++ good,
   rest,
   ap (λ (l : List (List ℕ)). first ++ l) whole ∙ sym (append_assoc first good (name.now ∷ rest)),
-  failed_then old mid new first (good ++ name.now ∷ []) before.0 failed
+  failed_then old mid new first (good ++ name.now ∷ []) before failed
       ∙ ap (λ (l : List (List ℕ)). after_failing old l) (sym (append_assoc first good (name.now ∷ []))),
 )
-fails_then old mid new first second a (Play (play.NoMemory refused) name) before (good, rest, whole, opened) = (
+
+unopened_later : (old mid new : FilesSeen) (first second : List (List ℕ)) → mid ≡ after_opening old first → (refused : NoMemory) (name : Bor (List ℕ))
+    → FailsToRead mid new second (Play (play.NoMemory refused) name) → FailsToRead old new (first ++ second) (Play (play.NoMemory refused) name)
+unopened_later old mid new first second before refused name (good, rest, whole, opened) = (
   first ++ good,
   rest,
   ap (λ (l : List (List ℕ)). first ++ l) whole ∙ sym (append_assoc first good rest),
-  opened_then old mid new first good before.0 opened,
+  opened_then old mid new first good before opened,
 )
-fails_then old mid new first second a (Play (play.Setup fault) name) before fails = absurd fails
-fails_then old mid new first second a (Play (play.Line script line fault) name) before fails = absurd fails
-fails_then old mid new first second a (Play (play.ScriptTooLong script) name) before fails = absurd fails
-fails_then old mid new first second a (Play play.Write name) before fails = absurd fails
-fails_then old mid new first second a (Race fault) before fails = absurd fails
-fails_then old mid new first second a (Journal why) before fails = absurd fails
-fails_then old mid new first second a (Page why) before fails = absurd fails
-fails_then old mid new first second a NoStep before fails = absurd fails
-fails_then old mid new first second a NoValue before fails = absurd fails
-fails_then old mid new first second a TooManyEvents before fails = absurd fails
-fails_then old mid new first second a NoGoal before fails = absurd fails
-fails_then old mid new first second a (NotFound walks) before fails = absurd fails
-fails_then old mid new first second a DoesNotHold before fails = absurd fails
-fails_then old mid new first second a Different before fails = absurd fails
-fails_then old mid new first second a TooManySeats before fails = absurd fails
-fails_then old mid new first second a (Refused reason) before fails = absurd fails
+
+-- others were opened before it
+pub fails_later : (old mid new : FilesSeen) (first second : List (List ℕ)) (fault : Fault)
+    → mid ≡ after_opening old first → FailsToRead mid new second fault → FailsToRead old new (first ++ second) fault
+fails_later old mid new first second fault before =
+    by_reading mid new second (FailsToRead old new (first ++ second)) (unread_later old mid new first second before)
+    (unopened_later old mid new first second before) fault
+
+-- and read
+pub fails_then : (old mid new : FilesSeen) (first second a : List (List ℕ)) (fault : Fault)
+    → HasRead old mid first a → FailsToRead mid new second fault → FailsToRead old new (first ++ second) fault
+fails_then old mid new first second a fault before = fails_later old mid new first second fault before.0
+
+unread_before : (old new : FilesSeen) (names after : List (List ℕ)) (name : Bor (List ℕ))
+    → FailsToRead old new names (Play play.Read name) → FailsToRead old new (names ++ after) (Play play.Read name)
+unread_before old new names after name (good, rest, whole, failed) =
+    (good, rest ++ after, ap (λ (l : List (List ℕ)). l ++ after) whole ∙ append_assoc good (name.now ∷ rest) after, failed)
+
+unopened_before : (old new : FilesSeen) (names after : List (List ℕ)) (refused : NoMemory) (name : Bor (List ℕ))
+    → FailsToRead old new names (Play (play.NoMemory refused) name) → FailsToRead old new (names ++ after) (Play (play.NoMemory refused) name)
+unopened_before old new names after refused name (good, rest, whole, opened) =
+    (good, rest ++ after, ap (λ (l : List (List ℕ)). l ++ after) whole ∙ append_assoc good rest after, opened)
 
 -- and others were to be read after it
 pub fails_before : (old new : FilesSeen) (names after : List (List ℕ)) (fault : Fault)
     → FailsToRead old new names fault → FailsToRead old new (names ++ after) fault
-fails_before old new names after (Play play.Read name) (good, rest, whole, failed) =
-    (good, rest ++ after, ap (λ (l : List (List ℕ)). l ++ after) whole ∙ append_assoc good (name.now ∷ rest) after, failed)
-fails_before old new names after (Play (play.NoMemory refused) name) (good, rest, whole, opened) =
-    (good, rest ++ after, ap (λ (l : List (List ℕ)). l ++ after) whole ∙ append_assoc good rest after, opened)
-fails_before old new names after (Play (play.Setup fault) name) fails = absurd fails
-fails_before old new names after (Play (play.Line script line fault) name) fails = absurd fails
-fails_before old new names after (Play (play.ScriptTooLong script) name) fails = absurd fails
-fails_before old new names after (Play play.Write name) fails = absurd fails
-fails_before old new names after (Race fault) fails = absurd fails
-fails_before old new names after (Journal why) fails = absurd fails
-fails_before old new names after (Page why) fails = absurd fails
-fails_before old new names after NoStep fails = absurd fails
-fails_before old new names after NoValue fails = absurd fails
-fails_before old new names after TooManyEvents fails = absurd fails
-fails_before old new names after NoGoal fails = absurd fails
-fails_before old new names after (NotFound walks) fails = absurd fails
-fails_before old new names after DoesNotHold fails = absurd fails
-fails_before old new names after Different fails = absurd fails
-fails_before old new names after TooManySeats fails = absurd fails
-fails_before old new names after (Refused reason) fails = absurd fails
+fails_before old new names after =
+    by_reading old new names (FailsToRead old new (names ++ after)) (unread_before old new names after)
+    (unopened_before old new names after)
 
 -- the file of a setup and that of a journal, from which sessions go on
 pub both_begin : (old new : FilesSeen) (setup journal : List ℕ) (read : Result (Vec ℕ Global × Vec ℕ Global) Fault)

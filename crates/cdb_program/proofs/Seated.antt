@@ -1,6 +1,6 @@
 -- Seats are found one after the other, and what is known of their sessions.
 use Rattle.std.proofs.Common.{◌≡◌, ℕ, zero, suc, ◌+◌, ◌<◌, List, [], ◌∷◌, ◌++◌, length, get_or, take}
-use Rattle.std.proofs.Common.{drop, map, Bor, refl, sym, ap, subst, ◌∙◌, append_assoc, arith}
+use Rattle.std.proofs.Common.{drop, map, Bor, refl, sym, ap, subst, ◌∙◌, arith}
 use Rattle.std.specs.Prelude.{Option, Some, None, option_map, Result, Err}
 use Rattle.std.proofs.lemmas.List.{length-map, get_or-map}
 use Rattle.cdb_session.specs.Moves.{Known}
@@ -21,13 +21,11 @@ use Rattle.cdb_streams.specs.declared.buffer.OutputFault.{OutputFault}
 use Rattle.cdb_rules.specs.Rules.{Rules}
 use Rattle.cdb_setup.specs.Parts.{Parts}
 use Rattle.cdb_streams.specs.declared.fault.PlayFault.{PlayFault}
-use Rattle.cdb_streams.specs.declared.fault.PlayFault.TheVariants as play
 use Rattle.cdb_base.specs.Requests.{texts}
-use Rattle.cdb_program.specs.Known.{FilesSeen, after_opening, after_failing, any_name}
+use Rattle.cdb_program.specs.Known.{FilesSeen, after_opening, any_name}
 use Rattle.cdb_program.specs.FilesRead.{FailsToRead}
 use Rattle.cdb_program.specs.declared.fault.Fault.{Fault}
-use Rattle.cdb_program.specs.declared.fault.Fault.TheVariants.{Play, Race, NoStep, NoValue, Different, NoGoal, NotFound, DoesNotHold}
-use Rattle.cdb_program.specs.declared.fault.Fault.TheVariants.{TooManyEvents, TooManySeats, Refused, Journal, Page}
+use Rattle.cdb_program.specs.declared.fault.Fault.TheVariants.{Play}
 use Rattle.cdb_streams.specs.Faults.{of_reading}
 use Rattle.cdb_streams.specs.declared.source.ReadFault.{ReadFault}
 use Rattle.cdb_streams.specs.declared.source.ReadFault.TheVariants as reading
@@ -36,7 +34,7 @@ use Rattle.cdb_streams.specs.Endings.{whole_ending}
 use Rattle.cdb_streams.specs.Streams.{Stream, Writes}
 use Rattle.cdb_streams.specs.declared.sink.Failed.{Failed}
 use Rattle.cdb_program.proofs.Seen.{stream_written, stream_writes}
-use Rattle.cdb_program.proofs.OpenedFiles.{read_none, opened_then, failed_then, fails_before, one_more_name, taken_and_left}
+use Rattle.cdb_program.proofs.OpenedFiles.{by_reading, read_none, opened_then, fails_before, fails_later, one_more_name, taken_and_left}
 
 -- ---- seats that are found
 
@@ -50,57 +48,14 @@ one_fails P opens old new name (reading.NoMemory refused) is = ([], name.now ∷
 -- what can't be read or opened is why there are no sessions
 pub as_fault : (setup : List ℕ) (seats : List (List ℕ)) (from : Option (List ℕ)) (files : List (List ℕ)) (old new : FilesSeen) (fault : Fault)
     → FailsToRead old new (setup ∷ (any_name from ++ (seats ++ files))) fault → IsFaultOfSeats setup seats from files old new fault
-as_fault setup seats from files old new (Play why name) fails = fails
-as_fault setup seats from files old new (Race why) fails = absurd fails
-as_fault setup seats from files old new (Journal why) fails = fails
-as_fault setup seats from files old new (Page why) fails = fails
-as_fault setup seats from files old new NoStep fails = fails
-as_fault setup seats from files old new NoValue fails = fails
-as_fault setup seats from files old new TooManyEvents fails = fails
-as_fault setup seats from files old new NoGoal fails = fails
-as_fault setup seats from files old new (NotFound walks) fails = fails
-as_fault setup seats from files old new DoesNotHold fails = fails
-as_fault setup seats from files old new Different fails = fails
-as_fault setup seats from files old new TooManySeats fails = absurd fails
-as_fault setup seats from files old new (Refused reason) fails = fails
+as_fault setup seats from files old new =
+    by_reading old new (setup ∷ (any_name from ++ (seats ++ files))) (IsFaultOfSeats setup seats from files old new)
+    (λ name fails. fails) (λ refused name fails. fails)
 
 pub no_file : (P : Type 0) (stream : P → Stream) (old new : FilesSeen) (name : Bor (List ℕ)) (fault : ReadFault)
     → (let made : Result P ReadFault = Err fault in MakesFile stream old new name.now made) → FailsToRead old new (name.now ∷ []) (Play (of_reading fault) name)
 no_file P stream old new name reading.Failed is = ([], [], refl, is)
 no_file P stream old new name (reading.NoMemory refused) is = ([], name.now ∷ [], refl, is ∙ (read_none old).0)
-
--- others were opened before it
-pub fails_later : (old mid new : FilesSeen) (first second : List (List ℕ)) (fault : Fault)
-    → mid ≡ after_opening old first → FailsToRead mid new second fault → FailsToRead old new (first ++ second) fault
-fails_later old mid new first second (Play play.Read name) before (good, rest, whole, failed) = (
-  first ++ good,
-  rest,
-  ap (λ (l : List (List ℕ)). first ++ l) whole ∙ sym (append_assoc first good (name.now ∷ rest)),
-  failed_then old mid new first (good ++ name.now ∷ []) before failed
-      ∙ ap (λ (l : List (List ℕ)). after_failing old l) (sym (append_assoc first good (name.now ∷ []))),
-)
-fails_later old mid new first second (Play (play.NoMemory refused) name) before (good, rest, whole, opened) = (
-  first ++ good,
-  rest,
-  ap (λ (l : List (List ℕ)). first ++ l) whole ∙ sym (append_assoc first good rest),
-  opened_then old mid new first good before opened,
-)
-fails_later old mid new first second (Play (play.Setup fault) name) before fails = absurd fails
-fails_later old mid new first second (Play (play.Line script line fault) name) before fails = absurd fails
-fails_later old mid new first second (Play (play.ScriptTooLong script) name) before fails = absurd fails
-fails_later old mid new first second (Play play.Write name) before fails = absurd fails
-fails_later old mid new first second (Race fault) before fails = absurd fails
-fails_later old mid new first second (Journal why) before fails = absurd fails
-fails_later old mid new first second (Page why) before fails = absurd fails
-fails_later old mid new first second NoStep before fails = absurd fails
-fails_later old mid new first second NoValue before fails = absurd fails
-fails_later old mid new first second TooManyEvents before fails = absurd fails
-fails_later old mid new first second NoGoal before fails = absurd fails
-fails_later old mid new first second (NotFound walks) before fails = absurd fails
-fails_later old mid new first second DoesNotHold before fails = absurd fails
-fails_later old mid new first second Different before fails = absurd fails
-fails_later old mid new first second TooManySeats before fails = absurd fails
-fails_later old mid new first second (Refused reason) before fails = absurd fails
 
 -- the seat at this position of a list is refused
 pub seat_fails : (old mid new : FilesSeen) (names : List (Bor (List ℕ))) (i : ℕ) (d : Bor (List ℕ)) (fault : Fault)

@@ -20,7 +20,7 @@ use Rattle.cdb_streams.specs.declared.fault.PlayFault.TheVariants as play
 use Rattle.cdb_agreement.specs.Algorithms.{rules}
 use Rattle.cdb_agreement.specs.SameState.{ReachSameState}
 use Rattle.cdb_setup.specs.declared.fault.SetupFault.{SetupFault}
-use Rattle.cdb_journal.specs.Replays.{IsFaultOfReplay, Replays, TellsAgain}
+use Rattle.cdb_journal.specs.Replays.{IsFaultOfReplay, Replays, RepliesAgain}
 use Rattle.cdb_same.specs.Same.{same_ending, ComparesText, IsFaultOfSame, TellsSame}
 use Rattle.cdb_clocks.specs.WrittenClocks.{clocks_ending, IsFaultOfClocks, WritesClocks}
 use Rattle.cdb_program.specs.Clocks.{AreWritten}
@@ -29,10 +29,11 @@ use Rattle.cdb_program.specs.Plays.{IsPlay}
 use Rattle.cdb_program.specs.Replays.{IsReplay}
 use Rattle.cdb_program.specs.Searches.{IsSearch, IsShrink}
 use Rattle.cdb_goal.specs.declared.goal.Goal.{Goal}
-use Rattle.cdb_search.specs.Found.{IsFaultOfSearch, IsFound, search_ending}
+use Rattle.cdb_explain.specs.Explained.{answer_ending}
+use Rattle.cdb_search.specs.Found.{IsFaultOfSearch, IsFound}
 use Rattle.cdb_search.specs.Shrunk.{IsFaultOfShrink, WritesShrunk}
-use Rattle.cdb_search.specs.declared.fault.SearchFault.{SearchFault}
-use Rattle.cdb_search.specs.declared.fault.SearchFault.TheVariants as search
+use Rattle.cdb_explain.specs.declared.fault.AnswerFault.{AnswerFault}
+use Rattle.cdb_explain.specs.declared.fault.AnswerFault.TheVariants.{Play}
 
 -- what was written of a text, by the writer's stream
 pub stream_written : {W : Type 0} (stream : W → Stream) (ending : Ending) (old new : W) (IsText : List ℕ → Type 0)
@@ -68,23 +69,23 @@ play_seen reader writer json played script rest old new wrote headline fault sam
 pub replay_seen : {R W : Type 0} (reader : R → Stream) (writer : W → Stream)
     (json : List ℕ) (replayed : Result (Unit {0}) PlayFault) (journal rest : R) (old new : W)
     → IsWritten writer (play_ending replayed) old new (Replays rules json (reader journal) (reader rest)) → IsWritten writer (play_ending replayed)
-    old new (TellsAgain rules json (reader journal) (reader rest)) → IfErr replayed (IsFaultOfReplay json (reader journal) (reader rest))
+    old new (RepliesAgain rules json (reader journal) (reader rest)) → IfErr replayed (IsFaultOfReplay json (reader journal) (reader rest))
     → ((fault : SetupFault) → replayed ≡ Err (play.Setup fault) → rest ≡ journal) → FailsWhere reader (replayed ≡ Err play.Read) journal rest
     → IsReplay json replayed (reader journal) (reader rest) (writer old) (writer new)
 replay_seen reader writer json replayed journal rest old new wrote again fault same read = record {
   wrote = stream_written writer (play_ending replayed) old new (Replays rules json (reader journal) (reader rest)) wrote;
-  again = stream_written writer (play_ending replayed) old new (TellsAgain rules json (reader journal) (reader rest)) again;
+  again = stream_written writer (play_ending replayed) old new (RepliesAgain rules json (reader journal) (reader rest)) again;
   fault = fault;
   unread = λ why is. ap reader (same why is);
   read = read;
 }
 
 -- what a search says of its writer
-pub search_seen : {W : Type 0} (writer : W → Stream) (json : List ℕ) (goal : Goal) (walks : ℕ) (searched : Result (Unit {0}) SearchFault) (old new : W)
-    → IsWritten writer (search_ending searched) old new (IsFound rules json goal)
+pub search_seen : {W : Type 0} (writer : W → Stream) (json : List ℕ) (goal : Goal) (walks : ℕ) (searched : Result (Unit {0}) AnswerFault) (old new : W)
+    → IsWritten writer (answer_ending searched) old new (IsFound rules json goal)
     → IfErr searched (IsFaultOfSearch json walks) → IsSearch json goal walks searched (writer old) (writer new)
 search_seen writer json goal walks searched old new wrote fault =
-    record { wrote = stream_written writer (search_ending searched) old new (IsFound rules json goal) wrote; fault = fault }
+    record { wrote = stream_written writer (answer_ending searched) old new (IsFound rules json goal) wrote; fault = fault }
 
 -- what a comparison of runs says of its writer
 pub compared_seen : {W : Type 0} (writer : W → Stream) (json first second : List ℕ) (told : Result Bool PlayFault) (old new : W)
@@ -102,14 +103,14 @@ clocks_seen writer json script written old new wrote fault =
 
 -- what the making of a small script says of its reader and its writer
 pub shrink_seen : {R W : Type 0} (reader : R → Stream) (writer : W → Stream) (json : List ℕ)
-    (goal : Goal) (shrunk : Result (Unit {0}) SearchFault) (script rest : R) (old new : W)
-    → IsWritten writer (search_ending shrunk) old new (WritesShrunk rules json goal (reader script) (reader rest))
+    (goal : Goal) (shrunk : Result (Unit {0}) AnswerFault) (script rest : R) (old new : W)
+    → IsWritten writer (answer_ending shrunk) old new (WritesShrunk rules json goal (reader script) (reader rest))
     → IfErr shrunk (IsFaultOfShrink rules json goal (reader script) (reader rest))
-    → ((fault : SetupFault) → shrunk ≡ Err (search.Play (play.Setup fault)) → rest ≡ script)
-    → FailsWhere reader (shrunk ≡ Err (search.Play play.Read)) script rest
+    → ((fault : SetupFault) → shrunk ≡ Err (Play (play.Setup fault)) → rest ≡ script)
+    → FailsWhere reader (shrunk ≡ Err (Play play.Read)) script rest
     → IsShrink json goal shrunk (reader script) (reader rest) (writer old) (writer new)
 shrink_seen reader writer json goal shrunk script rest old new wrote fault same read = record {
-  wrote = stream_written writer (search_ending shrunk) old new (WritesShrunk rules json goal (reader script) (reader rest)) wrote;
+  wrote = stream_written writer (answer_ending shrunk) old new (WritesShrunk rules json goal (reader script) (reader rest)) wrote;
   fault = fault;
   unread = λ why is. ap reader (same why is);
   read = read;

@@ -4,7 +4,7 @@ use Rattle.std.specs.Prelude.{Option, Some, None, IfSome, Result, Ok, Err}
 use Rattle.std.specs.Io.KnownBytes.{Appends}
 use Rattle.cdb_agreement.specs.Algorithms.{rules}
 use Rattle.cdb_control.specs.declared.control.Entry.{Entry}
-use Rattle.cdb_explain.specs.declared.fault.ExplainFault.{ExplainFault}
+use Rattle.cdb_explain.specs.declared.fault.AnswerFault.{AnswerFault}
 use Rattle.cdb_page.specs.Live.{IsMadeWith, KeepsUp, Live, Versions, made_with, stream_of}
 use Rattle.cdb_page.proofs.OnAndOn.{made_with_same}
 use Rattle.cdb_session.specs.Moves.{Known}
@@ -62,7 +62,7 @@ debugged_page prompt json from old new first ended (inr (setup, begun, encodes, 
     of_kept (ended.1).outcome first ended.1.file (holds.control).journal holds.keeps
 
 -- of sessions of seats the file is one, and how its last page was written is known
-pub kept_by : (first : Live) (kept : Option (Kept Live)) (journal : List Entry) (shown : Result (Unit {0}) ExplainFault)
+pub kept_by : (first : Live) (kept : Option (Kept Live)) (journal : List Entry) (shown : Result (Unit {0}) AnswerFault)
     → HasKept stream_of (Some first) kept journal → IfSome kept (λ its. KeepsUp its.file) → IfSome kept (λ its. shown ≡ (its.file).outcome)
     → (its : Kept Live) × (kept ≡ Some its) × IsKeptPage first its.file × (shown ≡ (its.file).outcome)
 kept_by first None journal shown has up is = absurd has

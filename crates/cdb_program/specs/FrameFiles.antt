@@ -5,13 +5,13 @@ use Rattle.std.specs.List.{range_with_len}
 use Rattle.cdb_agreement.specs.Algorithms.{rules}
 use Rattle.cdb_base.specs.Positions.{nth}
 use Rattle.cdb_draw.specs.Frames.{GivesFrames, IsFaultOfFrames}
-use Rattle.cdb_explain.specs.declared.fault.ExplainFault.{ExplainFault}
+use Rattle.cdb_explain.specs.declared.fault.AnswerFault.{AnswerFault}
 use Rattle.cdb_streams.specs.declared.buffer.OutputFault.{OutputFault}
 use Rattle.cdb_streams.specs.declared.fault.PlayFault.TheVariants.{Read, Write, NoMemory}
 use Rattle.cdb_streams.specs.declared.source.ReadFault.{ReadFault}
 use Rattle.cdb_streams.specs.declared.source.ReadFault.TheVariants as reading
 use Rattle.cdb_program.specs.Known.{FilesSeen, Seen, after_failing, after_opening, after_writing, in_memory}
-use Rattle.cdb_program.specs.Outcomes.{RequestEnd, IsOfExplain}
+use Rattle.cdb_program.specs.Outcomes.{RequestEnd, IsOfAnswer}
 use Rattle.cdb_program.specs.FilesRead.{CannotReadFiles, HasRead}
 use Rattle.cdb_program.specs.declared.fault.Fault.TheVariants.{Play}
 
@@ -67,7 +67,7 @@ WritesFrames old new folder pictures (Err fault) = ⊥
 abbrev pub FramesBytes : List ℕ → List ℕ → ℕ → List ℕ → List ℕ → FilesSeen → FilesSeen → RequestEnd → Type 0
 FramesBytes name folder columns json script old new outcome =
     (left : Option (List ℕ))
-    × (((fault : ExplainFault) × IsOfExplain name (Err fault) outcome
+    × (((fault : AnswerFault) × IsOfAnswer name (Err fault) outcome
     × IsFaultOfFrames rules json (in_memory (Some script)) (in_memory left) fault × (new ≡ old))
     ⊎ ((pictures : List (List ℕ)) × GivesFrames rules json columns (in_memory (Some script)) (in_memory left) pictures
     × WritesFrames old new folder pictures outcome))

@@ -2,7 +2,7 @@
 use Rattle.std.specs.Prelude.{◌≡◌, ◌⊎◌, ◌==◌, ℕ, if◌then◌else◌, List, [], ◌∷◌, ◌++◌}
 use Rattle.std.specs.Prelude.{Option, Some, None, Result, Ok, Err, IfSome}
 use Rattle.cdb_agreement.specs.Algorithms.{rules}
-use Rattle.cdb_explain.specs.declared.fault.ExplainFault.{ExplainFault}
+use Rattle.cdb_explain.specs.declared.fault.AnswerFault.{AnswerFault}
 use Rattle.cdb_page.specs.Live.{IsMadeWith, KeepsUp, Live, Versions, stream_of}
 use Rattle.cdb_shared_session.specs.KeptAlone.{DebugsKept}
 use Rattle.cdb_shared_session.specs.Reported.{RunsSessions}
@@ -52,19 +52,19 @@ IsKeptPage first it = IsMadeWith first.journal_before first.json first.from it �
 -- ---- how it ended
 
 -- it ended as the last writing of the page did
-abbrev pub IsOfPage : Result (Unit {0}) ExplainFault → RequestEnd → Type 0
+abbrev pub IsOfPage : Result (Unit {0}) AnswerFault → RequestEnd → Type 0
 IsOfPage (Ok done) (Ok its_done) = Unit {0}
 IsOfPage (Err fault) (Err (Page its_fault)) = its_fault ≡ fault
 IsOfPage shown outcome = ⊥
 
 -- where all ended well before, it ended as the page did
-abbrev pub IsOfPageAfter : RequestEnd → Result (Unit {0}) ExplainFault → RequestEnd → Type 0
+abbrev pub IsOfPageAfter : RequestEnd → Result (Unit {0}) AnswerFault → RequestEnd → Type 0
 IsOfPageAfter (Ok done) shown outcome = IsOfPage shown outcome
 IsOfPageAfter (Err fault) shown outcome = outcome ≡ Err fault
 
 -- it ended as the session did and the keeping of its journal, and else as the last writing of the page
 abbrev pub IsOfPaged : Result (Unit {0}) PlayFault → Result (Unit {0}) OutputFault
-    → Result (Unit {0}) ExplainFault → RequestEnd → Type 0
+    → Result (Unit {0}) AnswerFault → RequestEnd → Type 0
 IsOfPaged debugged kept shown outcome =
     (before : RequestEnd) × IsOfKept debugged kept before × IsOfPageAfter before shown outcome
 

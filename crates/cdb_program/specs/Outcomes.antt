@@ -1,15 +1,11 @@
 -- How requests end.
 use Rattle.std.specs.Prelude.{◌≡◌, ℕ, Bool, true, false, List, codes, Result, Ok, Err}
-use Rattle.cdb_explain.specs.declared.fault.ExplainFault.{ExplainFault}
-use Rattle.cdb_explain.specs.declared.fault.ExplainFault.TheVariants as explain
-use Rattle.cdb_search.specs.declared.fault.SearchFault.{SearchFault}
-use Rattle.cdb_search.specs.declared.fault.SearchFault.TheVariants as search
+use Rattle.cdb_explain.specs.declared.fault.AnswerFault.{AnswerFault}
 use Rattle.cdb_streams.specs.declared.buffer.OutputFault.{OutputFault}
 use Rattle.cdb_streams.specs.declared.fault.PlayFault.{PlayFault}
 use Rattle.cdb_streams.specs.declared.fault.RaceFault.{RaceFault}
 use Rattle.cdb_program.specs.declared.fault.Fault.{Fault}
-use Rattle.cdb_program.specs.declared.fault.Fault.TheVariants.{Play, Race, Journal, NoStep, NoValue, Different}
-use Rattle.cdb_program.specs.declared.fault.Fault.TheVariants.{NotFound, DoesNotHold, TooManyEvents}
+use Rattle.cdb_program.specs.declared.fault.Fault.TheVariants.{Play, Race, Answer, Journal, Different}
 
 -- how a request ended
 abbrev pub RequestEnd : Type 0
@@ -34,23 +30,11 @@ IsOfRace (Ok done) (Ok its_done) = Unit {0}
 IsOfRace (Err fault) (Err (Race its_fault)) = its_fault ≡ fault
 IsOfRace raced outcome = ⊥
 
--- it ended as the answer did, whose fault of a play has the name of the script
-abbrev pub IsOfExplain : List ℕ → Result (Unit {0}) ExplainFault → RequestEnd → Type 0
-IsOfExplain name (Ok done) (Ok its_done) = Unit {0}
-IsOfExplain name (Err explain.NoStep) (Err NoStep) = Unit {0}
-IsOfExplain name (Err explain.NoValue) (Err NoValue) = Unit {0}
-IsOfExplain name (Err explain.TooManyEvents) (Err TooManyEvents) = Unit {0}
-IsOfExplain name (Err (explain.Play fault)) (Err (Play its_fault its_name)) =
-    (its_fault ≡ fault) × (its_name.now ≡ name)
-IsOfExplain name explained outcome = ⊥
-
--- it ended as the search did, whose fault of a play has that name
-abbrev pub IsOfSearch : List ℕ → Result (Unit {0}) SearchFault → RequestEnd → Type 0
-IsOfSearch name (Ok done) (Ok its_done) = Unit {0}
-IsOfSearch name (Err (search.NotFound walks)) (Err (NotFound its_walks)) = its_walks ≡ walks
-IsOfSearch name (Err search.DoesNotHold) (Err DoesNotHold) = Unit {0}
-IsOfSearch name (Err (search.Play fault)) (Err (Play its_fault its_name)) = (its_fault ≡ fault) × (its_name.now ≡ name)
-IsOfSearch name searched outcome = ⊥
+-- it ended as the answer did, whose fault has this name
+abbrev pub IsOfAnswer : List ℕ → Result (Unit {0}) AnswerFault → RequestEnd → Type 0
+IsOfAnswer name (Ok done) (Ok its_done) = Unit {0}
+IsOfAnswer name (Err fault) (Err (Answer its_fault its_name)) = (its_fault ≡ fault) × (its_name.now ≡ name)
+IsOfAnswer name answered outcome = ⊥
 
 -- it ended well where the runs are the same, and else that they differ; a fault is that of a play
 abbrev pub IsOfSame : Result Bool PlayFault → RequestEnd → Type 0

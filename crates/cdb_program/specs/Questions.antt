@@ -3,9 +3,9 @@ use Rattle.std.specs.Prelude.{◌≡◌, ℕ, List, [], ◌∷◌, Option, Some,
 use Rattle.cdb_base.specs.declared.question.Question.{Question}
 use Rattle.cdb_base.specs.declared.question.Question.TheVariants.{Explain, Trail, Draw, Slice}
 use Rattle.cdb_draw.specs.Drawn.{draw_ending, Draws, IsFaultOfDraw}
-use Rattle.cdb_explain.specs.Explained.{explain_ending, Explains, IsFaultOfExplain}
-use Rattle.cdb_explain.specs.declared.fault.ExplainFault.{ExplainFault}
-use Rattle.cdb_explain.specs.declared.fault.ExplainFault.TheVariants.{Play}
+use Rattle.cdb_explain.specs.Explained.{answer_ending, Explains, IsFaultOfExplain}
+use Rattle.cdb_explain.specs.declared.fault.AnswerFault.{AnswerFault}
+use Rattle.cdb_explain.specs.declared.fault.AnswerFault.TheVariants.{Play}
 use Rattle.cdb_slice.specs.Slices.{WritesSlice, IsFaultOfSlice}
 use Rattle.cdb_streams.specs.Endings.{Ending}
 use Rattle.cdb_streams.specs.Streams.{FailsWhere, Stream, itself}
@@ -15,17 +15,17 @@ use Rattle.cdb_agreement.specs.Algorithms.{rules}
 use Rattle.cdb_setup.specs.declared.fault.SetupFault.{SetupFault}
 use Rattle.cdb_trail.specs.Written.{WritesTrail, IsFaultOfTrail}
 use Rattle.cdb_program.specs.Known.{Seen, in_memory}
-use Rattle.cdb_program.specs.Outcomes.{RequestEnd, IsOfExplain}
+use Rattle.cdb_program.specs.Outcomes.{RequestEnd, IsOfAnswer}
 use Rattle.cdb_program.specs.FilesRead.{ReadsThen}
 
 -- how the writing of such a text ended
 abbrev pub TextEnd : Type 0
-TextEnd = Result (Unit {0}) ExplainFault
+TextEnd = Result (Unit {0}) AnswerFault
 
 -- The writing of a text of this kind ended so, and its fault, where it has one, is of this kind. The script's reader
 -- and the output are seen before and after.
 pub record IsTextOfRun (ended : TextEnd) (ending : Ending) (IsText : List ℕ → Type 0)
-    (IsFault : ExplainFault → Type 0) (script left old new : Stream) : Type 0 where
+    (IsFault : AnswerFault → Type 0) (script left old new : Stream) : Type 0 where
   pub wrote : IsWritten itself ending old new IsText
   pub fault : IfErr ended IsFault
   pub unread : (fault : SetupFault) → ended ≡ Err (Play (play.Setup fault)) → left ≡ script
@@ -34,7 +34,7 @@ pub record IsTextOfRun (ended : TextEnd) (ending : Ending) (IsText : List ℕ �
 -- the bytes of a setup and of a script, of this name, and this is done with them
 abbrev pub DoesWithBytes : List ℕ → (List ℕ → TextEnd → Stream → Stream → Type 0) → RequestEnd → List (List ℕ) → Type 0
 DoesWithBytes name IsDone outcome (json ∷ script ∷ []) =
-    (ended : TextEnd) × (left : Option (List ℕ)) × IsOfExplain name ended outcome
+    (ended : TextEnd) × (left : Option (List ℕ)) × IsOfAnswer name ended outcome
     × IsDone json ended (in_memory (Some script)) (in_memory left)
 DoesWithBytes name IsDone outcome others = ⊥
 
@@ -48,7 +48,7 @@ Answers json (Draw columns step) old new = Draws rules json columns step old new
 Answers json (Slice step) old new = WritesSlice rules json step old new
 
 -- why it is not answered
-abbrev pub IsFaultOfQuestion : List ℕ → Question → Stream → Stream → ExplainFault → Type 0
+abbrev pub IsFaultOfQuestion : List ℕ → Question → Stream → Stream → AnswerFault → Type 0
 IsFaultOfQuestion json (Explain step) old new = IsFaultOfExplain rules json step.p step.k old new
 IsFaultOfQuestion json (Trail step) old new = IsFaultOfTrail json step.p step.k old new
 IsFaultOfQuestion json (Draw columns step) old new = IsFaultOfDraw rules json step old new
@@ -57,7 +57,7 @@ IsFaultOfQuestion json (Slice step) old new = IsFaultOfSlice rules json step old
 -- how the writing of the answer ended
 abbrev pub question_ending : Question → TextEnd → Ending
 question_ending (Draw columns step) ended = draw_ending ended
-question_ending question ended = explain_ending ended
+question_ending question ended = answer_ending ended
 
 -- the answer was written, with the text of a setup, and a script's reader and the output before and after
 abbrev pub IsAnswered : Question → Stream → Stream → List ℕ → TextEnd → Stream → Stream → Type 0

@@ -9,7 +9,7 @@ use Rattle.cdb_streams.specs.declared.fault.PlayFault.{PlayFault}
 use Rattle.cdb_streams.specs.declared.fault.PlayFault.TheVariants as play
 use Rattle.cdb_agreement.specs.Algorithms.{rules}
 use Rattle.cdb_journal.specs.Journals.{longest_line}
-use Rattle.cdb_journal.specs.Replays.{IsFaultOfReplay, Replays, TellsAgain}
+use Rattle.cdb_journal.specs.Replays.{IsFaultOfReplay, Replays, RepliesAgain}
 use Rattle.cdb_setup.specs.declared.fault.SetupFault.{SetupFault}
 use Rattle.cdb_program.specs.Known.{FilesSeen, Seen, after_opening, in_memory}
 use Rattle.cdb_program.specs.Outcomes.{RequestEnd, IsOfPlay}
@@ -46,7 +46,7 @@ ReadsBoth old new setup journal (Err fault) = FailsToRead old new (setup ∷ jou
 pub record IsReplay (json : List ℕ) (replayed : Result (Unit {0}) PlayFault)
     (journal left old new : Stream) : Type 0 where
   pub wrote : IsWritten itself (play_ending replayed) old new (Replays rules json journal left)
-  pub again : IsWritten itself (play_ending replayed) old new (TellsAgain rules json journal left)
+  pub again : IsWritten itself (play_ending replayed) old new (RepliesAgain rules json journal left)
   pub fault : IfErr replayed (IsFaultOfReplay json journal left)
   pub unread : (fault : SetupFault) → replayed ≡ Err (play.Setup fault) → left ≡ journal
   pub read : FailsWhere itself (replayed ≡ Err play.Read) journal left

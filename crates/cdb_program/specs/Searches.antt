@@ -3,16 +3,17 @@ use Rattle.std.specs.Prelude.{◌≡◌, ◌⊎◌, ℕ, List, [], ◌∷◌, Op
 use Rattle.cdb_agreement.specs.Algorithms.{rules}
 use Rattle.cdb_goal.specs.Words.{IsWordOf}
 use Rattle.cdb_goal.specs.declared.goal.Goal.{Goal}
-use Rattle.cdb_search.specs.Found.{IsFaultOfSearch, IsFound, search_ending}
+use Rattle.cdb_explain.specs.Explained.{answer_ending}
+use Rattle.cdb_search.specs.Found.{IsFaultOfSearch, IsFound}
 use Rattle.cdb_search.specs.Shrunk.{IsFaultOfShrink, WritesShrunk}
-use Rattle.cdb_search.specs.declared.fault.SearchFault.{SearchFault}
-use Rattle.cdb_search.specs.declared.fault.SearchFault.TheVariants.{Play}
+use Rattle.cdb_explain.specs.declared.fault.AnswerFault.{AnswerFault}
+use Rattle.cdb_explain.specs.declared.fault.AnswerFault.TheVariants.{Play}
 use Rattle.cdb_setup.specs.declared.fault.SetupFault.{SetupFault}
 use Rattle.cdb_streams.specs.Streams.{FailsWhere, Stream, itself}
 use Rattle.cdb_streams.specs.Written.{IsWritten}
 use Rattle.cdb_streams.specs.declared.fault.PlayFault.TheVariants as play
 use Rattle.cdb_program.specs.Known.{Seen, in_memory}
-use Rattle.cdb_program.specs.Outcomes.{RequestEnd, IsOfSearch}
+use Rattle.cdb_program.specs.Outcomes.{RequestEnd, IsOfAnswer}
 use Rattle.cdb_program.specs.FilesRead.{ReadsThen}
 use Rattle.cdb_program.specs.declared.fault.Fault.TheVariants.{NoGoal}
 
@@ -24,14 +25,14 @@ RefusesWord word old new outcome =
 
 -- A search on the setup of this text, for the goal, of so many walks, ended so. The output is seen before and after.
 pub record IsSearch (json : List ℕ) (goal : Goal) (walks : ℕ)
-    (searched : Result (Unit {0}) SearchFault) (old new : Stream) : Type 0 where
-  pub wrote : IsWritten itself (search_ending searched) old new (IsFound rules json goal)
+    (searched : Result (Unit {0}) AnswerFault) (old new : Stream) : Type 0 where
+  pub wrote : IsWritten itself (answer_ending searched) old new (IsFound rules json goal)
   pub fault : IfErr searched (IsFaultOfSearch json walks)
 
 -- with the bytes of the setup's file, which has this name
 abbrev pub SearchesBytes : List ℕ → Goal → ℕ → Stream → Stream → RequestEnd → List (List ℕ) → Type 0
 SearchesBytes name goal walks old new outcome (json ∷ []) =
-    (searched : Result (Unit {0}) SearchFault) × IsOfSearch name searched outcome
+    (searched : Result (Unit {0}) AnswerFault) × IsOfAnswer name searched outcome
     × IsSearch json goal walks searched old new
 SearchesBytes name goal walks old new outcome others = ⊥
 
@@ -51,8 +52,8 @@ SearchesFile setup word walks old new outcome =
 -- A script is made small on the setup of this text, as long as the goal holds, and it ended so. The script's reader and
 -- the output are seen before and after.
 pub record IsShrink (json : List ℕ) (goal : Goal)
-    (shrunk : Result (Unit {0}) SearchFault) (script left old new : Stream) : Type 0 where
-  pub wrote : IsWritten itself (search_ending shrunk) old new (WritesShrunk rules json goal script left)
+    (shrunk : Result (Unit {0}) AnswerFault) (script left old new : Stream) : Type 0 where
+  pub wrote : IsWritten itself (answer_ending shrunk) old new (WritesShrunk rules json goal script left)
   pub fault : IfErr shrunk (IsFaultOfShrink rules json goal script left)
   pub unread : (fault : SetupFault) → shrunk ≡ Err (Play (play.Setup fault)) → left ≡ script
   pub read : FailsWhere itself (shrunk ≡ Err (Play play.Read)) script left
@@ -60,7 +61,7 @@ pub record IsShrink (json : List ℕ) (goal : Goal)
 -- with the bytes of the setup's file and those of the script's, which has this name
 abbrev pub ShrinksBytes : List ℕ → Goal → Stream → Stream → RequestEnd → List (List ℕ) → Type 0
 ShrinksBytes name goal old new outcome (json ∷ script ∷ []) =
-    (shrunk : Result (Unit {0}) SearchFault) × (left : Option (List ℕ)) × IsOfSearch name shrunk outcome
+    (shrunk : Result (Unit {0}) AnswerFault) × (left : Option (List ℕ)) × IsOfAnswer name shrunk outcome
     × IsShrink json goal shrunk (in_memory (Some script)) (in_memory left) old new
 ShrinksBytes name goal old new outcome others = ⊥
 

@@ -3,17 +3,15 @@
 ghost use Rattle.std.specs.Prelude.{◌≡◌, ◌≤◌, length, IfOk};
 ghost use Rattle.cdb_agreement.specs.Algorithms.{rules};
 ghost use Rattle.cdb_base.specs.Limits.{MAX_ENTRIES};
-ghost use Rattle.cdb_program.specs.Answers.{IsDrawn, IsExplained, IsTrailed};
-ghost use Rattle.cdb_program.specs.Reports.{fault_text};
+ghost use Rattle.cdb_program.specs.Answers.{IsDrawn, IsExplained, IsTrailed, report_of};
 ghost use Rattle.cdb_rules.specs.ByRules.{IsInOrder};
 ghost use Rattle.cdb_session.specs.Answers.{answer_seen};
 
-use crate::fault::Fault;
 use cdb_any_run::AnyRun;
 use cdb_base::limits::COLUMNS;
 use cdb_base::{NoMemory, StepAsked};
 use cdb_draw::picture_for;
-use cdb_explain::{ExplainFault, explain_step, position_of_step};
+use cdb_explain::{AnswerFault, explain_step, position_of_step};
 use cdb_rules::Trace;
 use cdb_session::{Answers, Inquiry};
 use cdb_streams::PlayFault;
@@ -43,11 +41,11 @@ impl Answers<AnyRun> for Printed {
 }
 
 /// What is reported of a fault.
-fn reported(alloc: Global, fault: &Fault<'_>) -> Result<Vec<u8>, NoMemory>
-    ensures { IfOk result (λ text. text.items ≡ fault_text fault.now) }
+fn reported(alloc: Global, fault: AnswerFault) -> Result<Vec<u8>, NoMemory>
+    ensures { IfOk result (λ text. text.items ≡ report_of fault) }
 {
     let mut text = String::new(alloc);
-    write!(text, "{fault}")?;
+    writeln!(text, "{fault}")?;
     Ok(text.into_bytes())
 }
 
@@ -62,7 +60,7 @@ fn explained(
 {
     match explain_step::<AnyRun>(alloc, run, step.p, step.k)? {
         Some(text) => Ok(Ok(text)),
-        None => Ok(Err(reported(alloc, &Fault::NoStep)?)),
+        None => Ok(Err(reported(alloc, AnswerFault::NoStep)?)),
     }
 }
 
@@ -76,11 +74,11 @@ fn trailed(
     ensures { IfOk result (λ answer. IsTrailed run.now step (answer_seen answer)) }
 {
     let Some(position) = position_of_step(run.events(), step.p, step.k) else {
-        return Ok(Err(reported(alloc, &Fault::NoStep)?));
+        return Ok(Err(reported(alloc, AnswerFault::NoStep)?));
     };
     match text_of_trail_to(alloc, run, position)? {
         Some(text) => Ok(Ok(text)),
-        None => Ok(Err(reported(alloc, &Fault::NoValue)?)),
+        None => Ok(Err(reported(alloc, AnswerFault::NoValue)?)),
     }
 }
 
@@ -96,9 +94,9 @@ fn drawn(
 {
     match picture_for(alloc, run, COLUMNS, step) {
         Ok(picture) => Ok(Ok(picture)),
-        Err(ExplainFault::NoStep) => Ok(Err(reported(alloc, &Fault::NoStep)?)),
-        Err(ExplainFault::TooManyEvents) => Ok(Err(reported(alloc, &Fault::TooManyEvents)?)),
-        Err(ExplainFault::Play(PlayFault::NoMemory(refused))) => Err(refused),
+        Err(AnswerFault::NoStep) => Ok(Err(reported(alloc, AnswerFault::NoStep)?)),
+        Err(AnswerFault::TooManyEvents) => Ok(Err(reported(alloc, AnswerFault::TooManyEvents)?)),
+        Err(AnswerFault::Play(PlayFault::NoMemory(refused))) => Err(refused),
         Err(_) => unreachable!(),
     }
 }

@@ -1,9 +1,8 @@
 //! Why a request was not carried out to its end.
 
-ghost use Rattle.cdb_program.specs.Outcomes.{IsOfExplain, IsOfKept, IsOfPlay, IsOfRace, IsOfSame, IsOfSearch};
+ghost use Rattle.cdb_program.specs.Outcomes.{IsOfAnswer, IsOfKept, IsOfPlay, IsOfRace, IsOfSame};
 
-use cdb_explain::ExplainFault;
-use cdb_search::SearchFault;
+use cdb_explain::AnswerFault;
 use cdb_streams::{OutputFault, PlayFault, RaceFault};
 use std::error::Error;
 use std::fmt;
@@ -11,33 +10,22 @@ use std::fmt;
 /// What is reported of a word that names no goal.
 pub(crate) const NO_GOAL: &str = "the goal is differ, all, stuck:R or decides:P:V\n";
 
-/// What is reported of a goal that doesn't hold.
-pub(crate) const DOES_NOT_HOLD: &str = "the goal does not hold\n";
-
 /// Why a request was not carried out to its end.
 #[derive(Clone, Copy, Debug)]
 pub enum Fault<'a> {
     /// A fault of a play, or of what was to be read for a play or a race, which has this name.
     Play(PlayFault, &'a str),
     Race(RaceFault),
-    /// The step that was asked for doesn't stand.
-    NoStep,
-    /// The step whose trail was asked for takes no value.
-    NoValue,
-    /// More events stand than are drawn, and no step was asked for.
-    TooManyEvents,
+    /// Why nothing was written of what was asked about a run, with the script of this name, or the setup of a search.
+    Answer(AnswerFault, &'a str),
     /// The word that was given names no goal.
     NoGoal,
-    /// The goal held in none of this many walks.
-    NotFound(u32),
-    /// The goal doesn't hold of the run that the script leaves.
-    DoesNotHold,
     /// The runs that were compared differ, as the output tells. Nothing else is reported.
     Different,
     /// The journal could not be kept in its file.
     Journal(OutputFault),
     /// The page of a run could not be kept in its file, or not be made.
-    Page(ExplainFault),
+    Page(AnswerFault),
     /// A race of more than 64 processes and scripts.
     TooManySeats,
     /// Nothing was asked for that can be done, and this text says why.
@@ -53,22 +41,20 @@ impl fmt::Display for Fault<'_> {
 
     fn fmt<W: fmt::Write>(&self, f: &mut fmt::Formatter<W>) -> fmt::Result {
         match self {
-            Fault::Play(PlayFault::Read, name) => writeln!(f, "cannot read {name}"),
+            Fault::Play(PlayFault::Read, name)
+            | Fault::Answer(AnswerFault::Play(PlayFault::Read), name) => {
+                writeln!(f, "cannot read {name}")
+            }
             Fault::Play(fault, _) => writeln!(f, "{fault}"),
             Fault::Race(fault) => writeln!(f, "{fault}"),
-            Fault::NoStep => f.write_str("refused 10 NoStep\n"),
-            Fault::NoValue => f.write_str("no value\n"),
-            Fault::TooManyEvents => f.write_str("too many events to draw; name a step\n"),
+            Fault::Answer(fault, _) => writeln!(f, "{fault}"),
             Fault::NoGoal => f.write_str(NO_GOAL),
-            Fault::NotFound(walks) => writeln!(f, "not found in {walks} walks"),
-            Fault::DoesNotHold => f.write_str(DOES_NOT_HOLD),
             Fault::Different => Ok(()),
             Fault::Journal(fault) => {
                 let fault = PlayFault::from(*fault);
                 writeln!(f, "journal: {fault}")
             }
-            Fault::Page(ExplainFault::Play(fault)) => writeln!(f, "page: {fault}"),
-            Fault::Page(_) => f.write_str("page: too many events to draw; name a step\n"),
+            Fault::Page(fault) => writeln!(f, "page: {fault}"),
             Fault::TooManySeats => f.write_str("too many seats\n"),
             Fault::Refused(reason) => f.write_str(reason),
         }
@@ -111,28 +97,13 @@ pub fn of_race<'a>(raced: Result<(), RaceFault>) -> Result<(), Fault<'a>>
     }
 }
 
-/// How a request ended that answered a question of the run that the script of this name leaves.
-pub fn of_explain<'a>(explained: Result<(), ExplainFault>, name: &'a str) -> Result<(), Fault<'a>>
-    ensures { IsOfExplain name.entry.now explained result }
+/// How a request ended that asked about a run, with the script of this name, or the setup of a search.
+pub fn of_answer<'a>(answered: Result<(), AnswerFault>, name: &'a str) -> Result<(), Fault<'a>>
+    ensures { IsOfAnswer name.entry.now answered result }
 {
-    match explained {
+    match answered {
         Ok(()) => Ok(()),
-        Err(ExplainFault::NoStep) => Err(Fault::NoStep),
-        Err(ExplainFault::NoValue) => Err(Fault::NoValue),
-        Err(ExplainFault::TooManyEvents) => Err(Fault::TooManyEvents),
-        Err(ExplainFault::Play(fault)) => Err(Fault::Play(fault, name)),
-    }
-}
-
-/// How a request ended that searched for a run, with the setup or the script of this name.
-pub fn of_search<'a>(searched: Result<(), SearchFault>, name: &'a str) -> Result<(), Fault<'a>>
-    ensures { IsOfSearch name.entry.now searched result }
-{
-    match searched {
-        Ok(()) => Ok(()),
-        Err(SearchFault::NotFound(walks)) => Err(Fault::NotFound(walks)),
-        Err(SearchFault::DoesNotHold) => Err(Fault::DoesNotHold),
-        Err(SearchFault::Play(fault)) => Err(Fault::Play(fault, name)),
+        Err(fault) => Err(Fault::Answer(fault, name)),
     }
 }
 

@@ -5,7 +5,7 @@ ghost use Rattle.std.specs.Prelude.{replicate, string_bytes, IfOk, OnOk, OnErr};
 ghost use Rattle.cdb_program.specs.FrameFiles.{file_of, frame_name, FramesFiles, WritesFrames};
 ghost use Rattle.cdb_program.specs.Known.{after_writing};
 
-use crate::fault::{Fault, of_explain};
+use crate::fault::{Fault, of_answer};
 use crate::files::{Files, read_two};
 use crate::world::World;
 use cdb_draw::Frames;
@@ -110,6 +110,6 @@ pub fn frame_files<'a, F: Files + Drop, I: Source + Drop, O: Sink + Drop, E: Sin
     let mut commands = Bytes::new(bytes.as_slice());
     match Frames::read(alloc, json.as_slice(), &mut commands, columns) {
         Ok(frames) => write_frames(alloc, &mut world.files, folder, &frames),
-        Err(fault) => of_explain(Err(fault), script),
+        Err(fault) => of_answer(Err(fault), script),
     }
 }

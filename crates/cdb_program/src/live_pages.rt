@@ -18,7 +18,7 @@ use crate::seats::{find_each, make_any};
 use crate::world::World;
 use cdb_any_run::AnyRun;
 use cdb_base::limits::MAX_SEATS;
-use cdb_explain::ExplainFault;
+use cdb_explain::AnswerFault;
 use cdb_page::{LivePage, Rewritten};
 use cdb_shared_session::{Kept, debug_kept, debug_shared};
 use cdb_streams::{OutputFault, PlayFault, Sink, Source};
@@ -78,7 +78,7 @@ fn begin_page<'a, 'b, F: Files>(
 }
 
 /// How a request ended whose last page was written so.
-fn of_page<'a>(shown: Result<(), ExplainFault>) -> Result<(), Fault<'a>>
+fn of_page<'a>(shown: Result<(), AnswerFault>) -> Result<(), Fault<'a>>
     ensures { IsOfPage shown result }
 {
     match shown {
@@ -91,7 +91,7 @@ fn of_page<'a>(shown: Result<(), ExplainFault>) -> Result<(), Fault<'a>>
 fn of_paged<'a>(
     debugged: Result<(), PlayFault>,
     kept: Result<(), OutputFault>,
-    shown: Result<(), ExplainFault>,
+    shown: Result<(), AnswerFault>,
 ) -> Result<(), Fault<'a>>
     ensures { IsOfPaged debugged kept shown result }
 {
@@ -134,7 +134,7 @@ pub fn debug_file_paged<'a, F: Files + Drop, I: Source + Drop, O: Sink + Drop, E
 /// How the last page was written.
 fn outcome_of<J: Sink + Drop, P: Rewritten + Drop>(
     kept: Option<Kept<LivePage<'_, J, P>>>,
-) -> Result<(), ExplainFault>
+) -> Result<(), AnswerFault>
     ensures is { IfSome kept.entry (λ kept. result ≡ (kept.file).outcome) }
     ensures keeps_up { IfSome kept.entry (λ kept. KeepsUp kept.file) }
 {

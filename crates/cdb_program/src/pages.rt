@@ -3,7 +3,7 @@
 ghost use Rattle.std.specs.Prelude.{◌≡◌};
 ghost use Rattle.cdb_program.specs.PageFiles.{PagesFiles};
 
-use crate::fault::{Fault, of_explain};
+use crate::fault::{Fault, of_answer};
 use crate::files::{Files, read_two};
 use crate::world::World;
 use cdb_page::write_page;
@@ -30,5 +30,5 @@ pub fn page_files<'a, F: Files + Drop, I: Source + Drop, O: Sink + Drop, E: Sink
         &mut commands,
         &mut world.streams.output,
     );
-    of_explain(written, script)
+    of_answer(written, script)
 }

@@ -1,20 +1,20 @@
 //! Questions of the run that a script leaves, of what is outside.
 
 ghost use Rattle.std.specs.Prelude.{◌≡◌, Err, IfErr};
-ghost use Rattle.cdb_explain.specs.declared.fault.ExplainFault.TheVariants.{Play as of_play};
+ghost use Rattle.cdb_explain.specs.declared.fault.AnswerFault.TheVariants.{Play as of_play};
 ghost use Rattle.cdb_program.specs.Questions.{Answers, AsksFiles, IsFaultOfQuestion, question_ending};
 ghost use Rattle.cdb_setup.specs.declared.fault.SetupFault.{SetupFault as SetupFaultName};
 ghost use Rattle.cdb_streams.specs.Streams.{FailsWhere};
 ghost use Rattle.cdb_streams.specs.Written.{IsWritten};
 ghost use Rattle.cdb_streams.specs.declared.fault.PlayFault.TheVariants as play;
 
-use crate::fault::{Fault, of_explain};
+use crate::fault::{Fault, of_answer};
 use crate::files::{Files, read_two};
 use crate::world::World;
 use cdb_any_run::AnyRun;
 use cdb_base::Question;
 use cdb_draw::draw;
-use cdb_explain::{ExplainFault, explain};
+use cdb_explain::{AnswerFault, explain};
 use cdb_slice::slice;
 use cdb_streams::{Bytes, Sink, Source};
 use cdb_trail::write_trail;
@@ -27,7 +27,7 @@ fn answer<R: Source, W: Sink>(
     script: &mut R,
     question: Question,
     out: &mut W,
-) -> Result<(), ExplainFault>
+) -> Result<(), AnswerFault>
     ensures wrote { IsWritten W.stream (question_ending question result) out.old out.new
         (Answers setup.now question (R.stream script.old) (R.stream script.new)) }
     ensures fault { IfErr result
@@ -70,5 +70,5 @@ pub fn answer_files<'a, F: Files + Drop, I: Source + Drop, O: Sink + Drop, E: Si
         question,
         &mut world.streams.output,
     );
-    of_explain(answered, script)
+    of_answer(answered, script)
 }

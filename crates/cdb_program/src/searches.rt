@@ -3,7 +3,7 @@
 ghost use Rattle.std.specs.Prelude.{◌≡◌};
 ghost use Rattle.cdb_program.specs.Searches.{SearchesFile, SearchesFor, ShrinksFiles, ShrinksTo};
 
-use crate::fault::{Fault, of_search};
+use crate::fault::{Fault, of_answer};
 use crate::files::{Files, read_file, read_two};
 use crate::world::World;
 use cdb_any_run::AnyRun;
@@ -53,7 +53,7 @@ fn search_for<'a, F: Files + Drop, I: Source + Drop, O: Sink + Drop, E: Sink + D
         &mut world.streams.output,
     );
     world.files.clear_progress();
-    of_search(searched, setup)
+    of_answer(searched, setup)
 }
 
 /// Searches for a run of a setup file in which the goal of this word holds, with this seed and at most this number of
@@ -98,7 +98,7 @@ fn shrink_to<'a, F: Files + Drop, I: Source + Drop, O: Sink + Drop, E: Sink + Dr
         goal,
         &mut world.streams.output,
     );
-    of_search(shrunk, script)
+    of_answer(shrunk, script)
 }
 
 /// Makes a script file small on a run of a setup file, as long as the goal of this word holds. A word that names no

@@ -6,7 +6,8 @@ use Rattle.cdb_goal.specs.declared.goal.Goal.{Goal}
 use Rattle.cdb_rules.specs.RunView.{RunView}
 use Rattle.cdb_rules.specs.Rules.{Rules}
 use Rattle.cdb_search.specs.Shrunk.{HoldsAfter}
-use Rattle.cdb_search.specs.Found.{IsFaultOfSearch, IsFound, IsScriptTo, after_writing, search_ending}
+use Rattle.cdb_explain.specs.Explained.{answer_ending}
+use Rattle.cdb_search.specs.Found.{IsFaultOfSearch, IsFound, IsScriptTo, after_writing}
 use Rattle.cdb_setup.specs.Format.{Encodes}
 use Rattle.cdb_setup.specs.Parts.{Parts}
 use Rattle.cdb_slice.specs.Scripts.{PlaysBack, command_for, script_text}
@@ -21,7 +22,7 @@ is_script rules setup goal history events text same is plays holds =
     (events, is, subst (PlaysBack rules setup) (sym same) plays, subst (λ (h : List Event). Holds rules h goal) (sym same) holds)
 
 -- the end of a search is that of the writing of its script
-pub same_ending : (wrote : Result (Unit {0}) OutputFault) → search_ending (after_writing wrote) ≡ whole_ending wrote
+pub same_ending : (wrote : Result (Unit {0}) OutputFault) → answer_ending (after_writing wrote) ≡ whole_ending wrote
 same_ending (Ok done) = refl
 same_ending (Err output.Write) = refl
 same_ending (Err (output.NoMemory refused)) = refl

@@ -5,13 +5,12 @@ use Rattle.cdb_goal.specs.Holds.{Holds}
 use Rattle.cdb_goal.specs.declared.goal.Goal.{Goal}
 use Rattle.cdb_rules.specs.RunView.{RunView}
 use Rattle.cdb_rules.specs.Rules.{Rules}
-use Rattle.cdb_search.specs.declared.fault.SearchFault.{SearchFault}
-use Rattle.cdb_search.specs.declared.fault.SearchFault.TheVariants.{NotFound, DoesNotHold, Play}
+use Rattle.cdb_explain.specs.declared.fault.AnswerFault.{AnswerFault}
+use Rattle.cdb_explain.specs.declared.fault.AnswerFault.TheVariants.{NotFound, Play}
 use Rattle.cdb_setup.specs.Format.{Encodes, longest}
 use Rattle.cdb_setup.specs.Order.{IsFirstFault}
 use Rattle.cdb_setup.specs.Parts.{Parts}
 use Rattle.cdb_slice.specs.Scripts.{PlaysBack, script_text}
-use Rattle.cdb_streams.specs.Endings.{Ending, Complete, WriterFailed, NotBegun}
 use Rattle.cdb_streams.specs.Faults.{IsSetup, of_output}
 use Rattle.cdb_streams.specs.declared.buffer.OutputFault.{OutputFault}
 use Rattle.cdb_streams.specs.declared.fault.PlayFault.TheVariants as play
@@ -30,22 +29,15 @@ IsScriptTo rules setup goal text =
 abbrev pub IsFound : (Parts → Rules) → List ℕ → Goal → List ℕ → Type 0
 IsFound rules json goal text = (setup : Parts) × Encodes json setup × IsScriptTo (rules setup) setup goal text
 
--- how the writing of a script ended, which is whole before any of it is written
-abbrev pub search_ending : {A : Type 0} → Result A SearchFault → Ending
-search_ending (Ok done) = Complete
-search_ending (Err (Play play.Write)) = WriterFailed
-search_ending (Err fault) = NotBegun
-
 -- how a search ended that wrote its script so
-abbrev pub after_writing : Result (Unit {0}) OutputFault → Result (Unit {0}) SearchFault
+abbrev pub after_writing : Result (Unit {0}) OutputFault → Result (Unit {0}) AnswerFault
 after_writing (Ok done) = Ok done
 after_writing (Err why) = Err (Play (of_output why))
 
 -- Why nothing was found. A fault of the setup comes before all others.
-abbrev pub IsFaultOfSearch : List ℕ → ℕ → SearchFault → Type 0
+abbrev pub IsFaultOfSearch : List ℕ → ℕ → AnswerFault → Type 0
 IsFaultOfSearch json walks (NotFound its) = IsSetup json × (its ≡ walks)
-IsFaultOfSearch json walks DoesNotHold = ⊥
 IsFaultOfSearch json walks (Play (play.Setup fault)) = IsFirstFault fault json
 IsFaultOfSearch json walks (Play play.Write) = IsSetup json
 IsFaultOfSearch json walks (Play (play.NoMemory refused)) = length json ≤ longest
-IsFaultOfSearch json walks (Play fault) = ⊥
+IsFaultOfSearch json walks fault = ⊥

@@ -1,6 +1,5 @@
 -- what a reader of the contracts believes
 pub mod Found
 pub mod Shrunk
-pub mod FaultTexts
 -- what the code keeps for itself
 pub mod Passes

@@ -6,8 +6,8 @@ use Rattle.cdb_goal.specs.declared.goal.Goal.{Goal}
 use Rattle.cdb_rules.specs.RunView.{RunView}
 use Rattle.cdb_rules.specs.Rules.{Rules}
 use Rattle.cdb_search.specs.Shrunk.{CannotSpareOne, HoldsAfter, IsSublist}
-use Rattle.cdb_search.specs.declared.fault.SearchFault.{SearchFault}
-use Rattle.cdb_search.specs.declared.fault.SearchFault.TheVariants.{NotFound, DoesNotHold, Play}
+use Rattle.cdb_explain.specs.declared.fault.AnswerFault.{AnswerFault}
+use Rattle.cdb_explain.specs.declared.fault.AnswerFault.TheVariants.{DoesNotHold, Play}
 use Rattle.cdb_setup.specs.Parts.{Parts}
 use Rattle.cdb_streams.specs.Faults.{of_output}
 use Rattle.cdb_streams.specs.declared.buffer.OutputFault.{OutputFault}
@@ -19,7 +19,7 @@ pub record IsPassed (rules : Rules) (setup : Parts) (goal : Goal) (commands line
   pub least : length lines ≡ length commands → CannotSpareOne rules setup goal lines
 
 -- the goal doesn't hold of the run; else the writer failed, or an allocation
-abbrev pub IsFaultOfSmall : (Parts → Rules) → RunView → Goal → SearchFault → Type 0
-IsFaultOfSmall rules run goal (NotFound walks) = ⊥
+abbrev pub IsFaultOfSmall : (Parts → Rules) → RunView → Goal → AnswerFault → Type 0
 IsFaultOfSmall rules run goal DoesNotHold = Holds (rules run.setup) run.history goal → ⊥
 IsFaultOfSmall rules run goal (Play fault) = (why : OutputFault) × (fault ≡ of_output why)
+IsFaultOfSmall rules run goal fault = ⊥

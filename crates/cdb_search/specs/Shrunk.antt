@@ -11,8 +11,8 @@ use Rattle.cdb_goal.specs.Holds.{Holds}
 use Rattle.cdb_goal.specs.declared.goal.Goal.{Goal}
 use Rattle.cdb_rules.specs.RunView.{RunView}
 use Rattle.cdb_rules.specs.Rules.{Rules}
-use Rattle.cdb_search.specs.declared.fault.SearchFault.{SearchFault}
-use Rattle.cdb_search.specs.declared.fault.SearchFault.TheVariants.{NotFound, DoesNotHold, Play}
+use Rattle.cdb_explain.specs.declared.fault.AnswerFault.{AnswerFault}
+use Rattle.cdb_explain.specs.declared.fault.AnswerFault.TheVariants.{DoesNotHold, Play}
 use Rattle.cdb_setup.specs.Parts.{Parts}
 use Rattle.cdb_slice.specs.Scripts.{command_for}
 use Rattle.cdb_streams.specs.Faults.{IsFaultOfPlay}
@@ -61,8 +61,8 @@ WritesShrunk rules json goal old new text =
     (run : RunView) × Leaves rules json old new run × IsShrunkText rules run goal text
 
 -- the goal doesn't hold of that run; else as a fault of a play
-abbrev pub IsFaultOfShrink : (Parts → Rules) → List ℕ → Goal → Stream → Stream → SearchFault → Type 0
-IsFaultOfShrink rules json goal old new (NotFound walks) = ⊥
+abbrev pub IsFaultOfShrink : (Parts → Rules) → List ℕ → Goal → Stream → Stream → AnswerFault → Type 0
 IsFaultOfShrink rules json goal old new DoesNotHold =
     (run : RunView) × Leaves rules json old new run × (Holds (rules run.setup) run.history goal → ⊥)
 IsFaultOfShrink rules json goal old new (Play fault) = IsFaultOfPlay json old new fault
+IsFaultOfShrink rules json goal old new fault = ⊥

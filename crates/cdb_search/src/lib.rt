@@ -6,7 +6,6 @@
 //! ```
 #![tactic(auto)]
 
-mod fault;
 mod finds;
 mod lines;
 mod random;
@@ -17,7 +16,6 @@ mod walker;
 mod walks;
 mod watch;
 
-pub use fault::SearchFault;
 pub use searches::search;
 pub use shrinks::shrink;
 pub use watch::Watch;

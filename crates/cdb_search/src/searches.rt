@@ -2,13 +2,14 @@
 
 ghost use Rattle.std.specs.Prelude.{◌≡◌, IfErr};
 ghost use Rattle.cdb_goal.specs.Holds.{Holds};
-ghost use Rattle.cdb_search.specs.Found.{IsFaultOfSearch, IsFound, IsScriptTo, after_writing, search_ending};
+ghost use Rattle.cdb_explain.specs.Explained.{answer_ending};
+ghost use Rattle.cdb_search.specs.Found.{IsFaultOfSearch, IsFound, IsScriptTo, after_writing};
 ghost use Rattle.cdb_streams.specs.Endings.{whole_ending};
 ghost use Rattle.cdb_streams.specs.Written.{IsWritten};
 
-use crate::fault::SearchFault;
 use crate::finds::find;
 use crate::watch::Watch;
+use cdb_explain::AnswerFault;
 use cdb_goal::Goal;
 use cdb_rules::Runs;
 use cdb_setup::Setup;
@@ -39,12 +40,12 @@ fn write_run<T: Runs, W: Sink>(
 }
 
 /// How a search ended that wrote its script so.
-pub(crate) fn after_writing(wrote: Result<(), OutputFault>) -> Result<(), SearchFault>
+pub(crate) fn after_writing(wrote: Result<(), OutputFault>) -> Result<(), AnswerFault>
     ensures { result ≡ after_writing wrote }
 {
     match wrote {
         Ok(()) => Ok(()),
-        Err(fault) => Err(SearchFault::from(fault)),
+        Err(fault) => Err(AnswerFault::from(fault)),
     }
 }
 
@@ -67,14 +68,14 @@ pub fn search<T: Runs, P: Watch, W: Sink>(
     walks: u32,
     watch: &P,
     out: &mut W,
-) -> Result<(), SearchFault>
-    ensures wrote { IsWritten W.stream (search_ending result) out.old out.new
+) -> Result<(), AnswerFault>
+    ensures wrote { IsWritten W.stream (answer_ending result) out.old out.new
         (IsFound T.rules setup.now goal) }
     ensures fault { IfErr result (IsFaultOfSearch setup.now walks) }
 {
     let setup = Setup::read(alloc, setup)?;
     match find::<T, P>(alloc, &setup, goal, seed, walks, watch)? {
         Some(run) => after_writing(write_run(alloc, run, goal, out)),
-        None => Err(SearchFault::NotFound(walks)),
+        None => Err(AnswerFault::NotFound(walks)),
     }
 }

@@ -3,20 +3,19 @@
 ghost use Rattle.std.specs.Prelude.{◌≡◌, ◌≤◌, Err, IfErr, length};
 ghost use Rattle.cdb_base.specs.Limits.{MAX_ENTRIES};
 ghost use Rattle.cdb_rules.specs.ByRules.{IsInOrder};
-ghost use Rattle.cdb_search.specs.Found.{search_ending};
+ghost use Rattle.cdb_explain.specs.Explained.{answer_ending};
 ghost use Rattle.cdb_search.specs.Shrunk.{IsFaultOfShrink, IsShrunkText, WritesShrunk};
 ghost use Rattle.cdb_search.specs.Passes.{IsFaultOfSmall};
-ghost use Rattle.cdb_search.specs.declared.fault.SearchFault.TheVariants.{Play as of_play};
+ghost use Rattle.cdb_explain.specs.declared.fault.AnswerFault.TheVariants.{Play as of_play};
 ghost use Rattle.cdb_setup.specs.declared.fault.SetupFault.{SetupFault as SetupFaultName};
 ghost use Rattle.cdb_streams.specs.Streams.{FailsWhere};
 ghost use Rattle.cdb_streams.specs.Written.{IsWritten};
 ghost use Rattle.cdb_streams.specs.declared.fault.PlayFault.TheVariants as play;
 
-use crate::fault::SearchFault;
 use crate::lines::{commands_for, text_of};
 use crate::searches::after_writing;
 use crate::sparing::{holds_after, shrunk};
-use cdb_explain::run_left_by;
+use cdb_explain::{AnswerFault, run_left_by};
 use cdb_goal::Goal;
 use cdb_rules::{Runs, Trace};
 use cdb_slice::laws::valid_histories_play_back;
@@ -30,10 +29,10 @@ fn write_small<T: Runs, W: Sink>(
     run: &Trace,
     goal: Goal,
     out: &mut W,
-) -> Result<(), SearchFault>
+) -> Result<(), AnswerFault>
     requires valid { IsInOrder T.rules run.now }
     requires few { length run.now.history ≤ MAX_ENTRIES }
-    ensures wrote { IsWritten W.stream (search_ending result) out.old out.new
+    ensures wrote { IsWritten W.stream (answer_ending result) out.old out.new
         (IsShrunkText T.rules run.now goal) }
     ensures fault { IfErr result (IsFaultOfSmall T.rules run.now goal) }
 {
@@ -43,7 +42,7 @@ fn write_small<T: Runs, W: Sink>(
     let _ranges = run.setup().n();
     let commands = commands_for(alloc, run.events())?;
     if !holds_after::<T>(alloc, run.setup(), goal, commands.as_slice())? {
-        return Err(SearchFault::DoesNotHold);
+        return Err(AnswerFault::DoesNotHold);
     }
     let lines = shrunk::<T>(alloc, run.setup(), goal, commands.as_slice())?;
     let text = text_of(alloc, lines.as_slice())?;
@@ -68,8 +67,8 @@ pub fn shrink<T: Runs, R: Source, W: Sink>(
     script: &mut R,
     goal: Goal,
     out: &mut W,
-) -> Result<(), SearchFault>
-    ensures wrote { IsWritten W.stream (search_ending result) out.old out.new
+) -> Result<(), AnswerFault>
+    ensures wrote { IsWritten W.stream (answer_ending result) out.old out.new
         (WritesShrunk T.rules setup.now goal (R.stream script.old) (R.stream script.new)) }
     ensures fault { IfErr result
         (IsFaultOfShrink T.rules setup.now goal (R.stream script.old) (R.stream script.new)) }

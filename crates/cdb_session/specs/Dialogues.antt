@@ -18,7 +18,8 @@ use Rattle.cdb_session.specs.Moves.{Output, Saving, file, says}
 use Rattle.cdb_session.specs.Topics.{topic_word}
 use Rattle.cdb_session.specs.declared.inquiry.Inquiry.{Inquiry}
 use Rattle.cdb_session.specs.declared.inquiry.Inquiry.TheVariants.{Draw}
-use Rattle.cdb_session.specs.declared.help.TheConstants.{COMMANDS, SEATS, OTHERS}
+use Rattle.cdb_commands.specs.declared.help.TheConstants.{COMMANDS}
+use Rattle.cdb_session.specs.declared.help.TheConstants.{BESIDES, SEATS, OTHERS}
 use Rattle.cdb_session.specs.declared.request.Request.{Request}
 use Rattle.cdb_session.specs.declared.topic.Topic.{Topic}
 use Rattle.cdb_session.specs.declared.request.Request.TheVariants.{Ask, Quit}
@@ -71,13 +72,13 @@ abbrev pub savings_of : Inquiry → Answer → Bool → List Saving
 savings_of (Draw name step) (Ok picture) saved = record { name = name; text = picture; done = saved } ∷ []
 savings_of inquiry answer saved = []
 
--- what `help` lists, with the line that chooses a seat or without it
+-- what `help` lists: the commands, and the other lines, with the one that chooses a seat or without it
 abbrev pub seats_help : Bool → List ℕ
 seats_help true = SEATS.now
 seats_help false = []
 
 abbrev pub help_text : Bool → List ℕ
-help_text seats = COMMANDS.now ++ (seats_help seats ++ OTHERS.now)
+help_text seats = COMMANDS.now ++ (BESIDES.now ++ (seats_help seats ++ OTHERS.now))
 
 -- a line of it is about its first word, which stands behind two spaces
 abbrev pub first_word : List ℕ → List ℕ

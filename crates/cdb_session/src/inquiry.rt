@@ -1,15 +1,14 @@
 //! What a line asks of the run as it stands.
 
-ghost use Rattle.std.specs.Prelude.{◌≡◌, ◌≤◌, ◌∷◌, MatchOption, length};
-ghost use Rattle.std.specs.Str.Parse.{AllDigits, digits_value};
+ghost use Rattle.std.specs.Prelude.{◌≡◌};
 ghost use Rattle.cdb_text.specs.Grammar.{words_of};
-ghost use Rattle.cdb_text.specs.Readers.{number_of};
 ghost use Rattle.cdb_text.specs.Words.{words_left};
 ghost use Rattle.cdb_session.specs.Inquiries.{has_other_meaning, is_file_name, is_one_piece};
 ghost use Rattle.cdb_session.specs.InquiryWords.{any_step_in, drawing_in, inquiry_in, repeat_in, step_in};
 
 use crate::typed::{is_blank, is_comment, is_digits, is_name, is_word};
 use cdb_base::StepAsked;
+use cdb_text::{first_word, number_of};
 use std::marker::Model;
 
 /// The most bytes of a file's name, as many as the system takes.
@@ -38,42 +37,6 @@ pub enum Inquiry<'a> {
     Trail(StepAsked),
     /// The picture of the run, or of what led to the step, in a new file of this name.
     Draw(FileName<'a>, Option<StepAsked>),
-}
-
-/// The first word of a line, and what is left after the space that follows it.
-fn first_word(line: &[u8]) -> (&[u8], Option<&[u8]>)
-    ensures { words_of line.now ≡ result.0.now ∷ words_left result.1 }
-{
-    match line.iter().position(|byte| *byte == b' ') {
-        Some(end) => (&line[..end], Some(&line[end + 1..])),
-        None => (line, None),
-    }
-}
-
-/// The number that the digits write, if all the bytes are digits.
-fn value_of(word: &[u8]) -> Option<u32>
-    requires { length word.now ≤ 6 }
-    ensures { MatchOption result (¬ AllDigits 10 word.now)
-        (λ n. AllDigits 10 word.now × (n ≡ digits_value 10 word.now)) }
-{
-    let mut value = 0;
-    for byte in word {
-        if !byte.is_ascii_digit() {
-            return None;
-        }
-        value = value * 10 + u32::from(byte - b'0');
-    }
-    Some(value)
-}
-
-/// The number that the word is, from 1 to 999,999.
-fn number_of(word: &[u8]) -> Option<u32>
-    ensures { result ≡ number_of word.now }
-{
-    if word.is_empty() || word.len() > 6 || word[0] == b'0' {
-        return None;
-    }
-    value_of(word)
 }
 
 /// The step that the words behind the first one name.

@@ -35,7 +35,7 @@ pub use answers::{Answers, answer_in, answer_of};
 pub use caller::{Caller, News};
 pub use console::{Console, write_all};
 pub use greeting::{greeting_at, greeting_text};
-pub use help::{COMMANDS, OTHERS, SEATS};
+pub use help::{BESIDES, OTHERS, SEATS};
 pub use inquiry::{FileName, Inquiry};
 pub use repl::run;
 pub use request::{FaultyLine, Request, request_of};

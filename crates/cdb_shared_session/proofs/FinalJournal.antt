@@ -8,7 +8,7 @@ use Rattle.cdb_control.proofs.Own.{replies_of-same}
 use Rattle.cdb_control.specs.Journal.{Journaled, entry, own, replies_of}
 use Rattle.cdb_control.specs.declared.control.Entry.{Entry}
 use Rattle.cdb_rules.specs.RunView.{RunView}
-use Rattle.cdb_journal.specs.SeatReplies.{news_lines, told_along}
+use Rattle.cdb_journal.specs.SeatReplies.{news_lines, seat_replies_along}
 use Rattle.cdb_rules.specs.Rules.{Rules}
 use Rattle.cdb_session.specs.Moves.{Move, Output, read_in, written_in}
 use Rattle.cdb_session.specs.Parts.{HasCommands}
@@ -67,7 +67,7 @@ module _ (rules : Parts → Rules) (Answers : RunView → Inquiry → Answer →
     calls_in = λ at few. (λ i. length (own (sym is i) (first_known at few i)) - length first.calls);
     left_by = λ at few. (λ i. run_left rules (known.setup i) (known.seats i) (first_known at few i));
     news = λ from to few.
-        (λ i. news_lines (sym is i) (drop from (told_along (rules (known.setup i)) (known.setup i) (known.seats i) (first_known to few i))));
+        (λ i. news_lines (sym is i) (drop from (seat_replies_along (rules (known.setup i)) (known.setup i) (known.seats i) (first_known to few i))));
   }
 
   has_known : (exchanges : List Exchange) → HasExchanges Answers style by_seat exchanges → HasExchanges Answers style by_journal exchanges

@@ -12,7 +12,7 @@ use Rattle.cdb_control.specs.declared.control.CallFault.{CallFault}
 use Rattle.cdb_control.specs.declared.control.Entry.{Entry}
 use Rattle.cdb_control.specs.declared.control.CallFault.TheVariants.{JournalFull, NoMemory}
 use Rattle.cdb_control.proofs.Own.{Begins-refl}
-use Rattle.cdb_journal.specs.SeatReplies.{news_lines, told_along}
+use Rattle.cdb_journal.specs.SeatReplies.{news_lines, seat_replies_along}
 use Rattle.cdb_rules.specs.Rules.{Rules}
 use Rattle.cdb_setup.specs.Parts.{Parts, IsWithin}
 use Rattle.cdb_shared.specs.Seats.{SeatView, IsLater, IsCall, SameCalls, SeesFull}
@@ -53,7 +53,7 @@ module _ (rules : Parts → Rules) where
         calls_in = λ first few. (λ i. length (own (later.number i) (first_seen first few i)));
         left_by = λ first few. (λ i. run_left rules (later.setup i) (later.seats i) (first_seen first few i));
         news = λ from to few.
-            (λ i. news_lines (later.number i) (drop from (told_along (rules (later.setup i)) (later.setup i) (later.seats i) (first_seen to few i))));
+            (λ i. news_lines (later.number i) (drop from (seat_replies_along (rules (later.setup i)) (later.setup i) (later.seats i) (first_seen to few i))));
       }
 
   -- a seat before a call that was answered had not seen a full journal

@@ -9,6 +9,7 @@ pub record IsReplica (seat : SeatView) (c : Journaled) : Type 0 where
   pub opened_is : c ≡ opened_from seat.setup seat.seats c.journal
   pub begins : Begins c.journal seat.seen
 
+-- the control that a seat has is one, where it has any
 abbrev pub HasReplica : SeatView → Option Journaled → Type 0
 HasReplica seat None = Unit
 HasReplica seat (Some c) = IsReplica seat c

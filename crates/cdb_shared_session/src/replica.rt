@@ -18,7 +18,8 @@ use cdb_shared::{Seat, Shared};
 use std::alloc::Global;
 use std::sync::Wait;
 
-/// A control that has carried out so many entries at most: this one, or else a new one of the setup with 1 to 64 seats.
+/// The control that is given, where it has carried out at most this number of entries, or else a new one of the setup
+/// with 1 to 64 seats.
 pub(crate) fn replica_of<R: Runs>(
     alloc: Global,
     setup: &Setup,

@@ -7,7 +7,7 @@ use Rattle.cdb_explain.specs.Asked.{IsMissing, IsStepAsked}
 use Rattle.cdb_explain.specs.RunLeft.{Leaves}
 use Rattle.cdb_explain.specs.StepFaults.{IsFaultOfLeft}
 use Rattle.cdb_base.specs.declared.question.StepAsked.{StepAsked}
-use Rattle.cdb_explain.specs.declared.fault.ExplainFault.{ExplainFault}
+use Rattle.cdb_explain.specs.declared.fault.AnswerFault.{AnswerFault}
 use Rattle.cdb_rules.specs.RunView.{RunView}
 use Rattle.cdb_rules.specs.Rules.{Rules}
 use Rattle.cdb_setup.specs.Parts.{Parts}
@@ -34,5 +34,5 @@ WritesSlice rules json step old new text =
     (run : RunView) × Leaves rules json old new run × IsSliceText rules run step text
 
 -- the step does not stand in that run; else as a fault of a play
-abbrev pub IsFaultOfSlice : (Parts → Rules) → List ℕ → Option StepAsked → Stream → Stream → ExplainFault → Type 0
+abbrev pub IsFaultOfSlice : (Parts → Rules) → List ℕ → Option StepAsked → Stream → Stream → AnswerFault → Type 0
 IsFaultOfSlice rules json step old new = IsFaultOfLeft rules json old new (λ run. IsMissing run.history step) (λ run. ⊥)

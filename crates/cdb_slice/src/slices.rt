@@ -2,9 +2,9 @@
 
 ghost use Rattle.std.specs.Prelude.{◌≡◌, Err, IfErr};
 ghost use Rattle.cdb_explain.specs.Asked.{IsMissing};
-ghost use Rattle.cdb_explain.specs.Explained.{explain_ending};
+ghost use Rattle.cdb_explain.specs.Explained.{answer_ending};
 ghost use Rattle.cdb_explain.specs.StepFaults.{IsFaultOfStep};
-ghost use Rattle.cdb_explain.specs.declared.fault.ExplainFault.TheVariants.{Play as of_play};
+ghost use Rattle.cdb_explain.specs.declared.fault.AnswerFault.TheVariants.{Play as of_play};
 ghost use Rattle.cdb_rules.specs.ByRules.{IsInOrder};
 ghost use Rattle.cdb_setup.specs.declared.fault.SetupFault.{SetupFault as SetupFaultName};
 ghost use Rattle.cdb_slice.specs.Slices.{IsFaultOfSlice, IsSliceText, WritesSlice};
@@ -15,7 +15,7 @@ ghost use Rattle.cdb_streams.specs.declared.fault.PlayFault.TheVariants as play;
 use crate::events::events_for;
 use crate::script::script_of;
 use cdb_base::StepAsked;
-use cdb_explain::{ExplainFault, run_left_by};
+use cdb_explain::{AnswerFault, run_left_by};
 use cdb_rules::{Runs, Trace};
 use cdb_streams::{Sink, Source, write_text};
 use std::alloc::Global;
@@ -27,16 +27,16 @@ fn write_script<T: Runs, W: Sink>(
     run: &Trace,
     step: Option<StepAsked>,
     out: &mut W,
-) -> Result<(), ExplainFault>
+) -> Result<(), AnswerFault>
     requires { IsInOrder T.rules run.now }
-    ensures wrote { IsWritten W.stream (explain_ending result) out.old out.new
+    ensures wrote { IsWritten W.stream (answer_ending result) out.old out.new
         (IsSliceText T.rules run.now step) }
     ensures fault { IfErr result (IsFaultOfStep (IsMissing run.now.history step) ⊥) }
 {
     // Its clause says that the parts of the setup are in range.
     let _ranges = run.setup().n();
     let Some(events) = events_for(alloc, run, step)? else {
-        return Err(ExplainFault::NoStep);
+        return Err(AnswerFault::NoStep);
     };
     let text = script_of(alloc, events.as_slice())?;
     write_text(alloc, text.as_slice(), out)?;
@@ -62,8 +62,8 @@ pub fn slice<T: Runs, R: Source, W: Sink>(
     script: &mut R,
     step: Option<StepAsked>,
     out: &mut W,
-) -> Result<(), ExplainFault>
-    ensures wrote { IsWritten W.stream (explain_ending result) out.old out.new
+) -> Result<(), AnswerFault>
+    ensures wrote { IsWritten W.stream (answer_ending result) out.old out.new
         (WritesSlice T.rules setup.now step (R.stream script.old) (R.stream script.new)) }
     ensures fault { IfErr result
         (IsFaultOfSlice T.rules setup.now step (R.stream script.old) (R.stream script.new)) }

@@ -20,7 +20,7 @@ take_one_more [] j less = absurd (omega (arith, less))
 take_one_more (x ∷ xs) zero less = (x, refl)
 take_one_more (x ∷ xs) (suc j) less = let rest = take_one_more xs j (omega (arith, less)) in (rest.0, ap (λ l. x ∷ l) rest.1)
 
--- so many of the first events of the list depend directly on the one at the position
+-- how many of the first events of the list depend directly on the one at the position
 pub record Counts (events : List Event) (at : ℕ) (first : List Event) (count : ℕ) : Type 0 where
   pub found : List Event
   pub others : List Event

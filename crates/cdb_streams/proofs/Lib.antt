@@ -6,3 +6,4 @@ pub mod StreamEnds
 pub mod Numbered
 pub mod WholeTexts
 pub mod Held
+pub mod Ends

@@ -1,6 +1,6 @@
 -- What readers and writers do to the bytes that are known of them.
-use Rattle.std.specs.Prelude.{◌≡◌, ℕ, ◌+◌, ◌%◌, ◌^◌, Bool, true, not, ◌&&◌, ◌==◌, List}
-use Rattle.std.specs.Prelude.{◌++◌, length, Option, Result, Ok, Err, if◌then◌else◌}
+use Rattle.std.specs.Prelude.{◌≡◌, ◌⊎◌, ℕ, ◌+◌, ◌%◌, ◌^◌, Bool, true, false, not, ◌&&◌, ◌==◌, List}
+use Rattle.std.specs.Prelude.{◌++◌, length, Option, Result, Ok, Err, if◌then◌else◌, option_map}
 use Rattle.std.specs.Io.KnownBytes.{Appends, Consumes, IsAtEnd}
 
 -- A stream: of a reader the bytes that are left, of a writer those that it holds, where they are known; and how many of
@@ -19,7 +19,12 @@ itself stream = stream
 abbrev pub IsReadToEnd : Stream → List ℕ → Stream → Type 0
 IsReadToEnd old bytes new = Consumes old.bytes new.bytes bytes × IsAtEnd new.bytes
 
--- ---- failures
+-- the call told that the reader is at its end: it gave nothing, and the buffer is not empty
+abbrev pub is_end : {E : Type 0} → Result ℕ E → List ℕ → Bool
+is_end (Err e) buffer = false
+is_end (Ok count) buffer = (count == 0) && not (length buffer == 0)
+
+-- ---- failures, and ends
 
 -- the call failed: it returned an error, or took none of a piece that is not empty
 abbrev pub is_failure : {E : Type 0} → Result ℕ E → List ℕ → Bool
@@ -39,6 +44,10 @@ abbrev pub FailsWhere : {X : Type 0} → (X → Stream) → Type 0 → X → X �
 FailsWhere stream Here old new =
     (Here → (stream new).failures ≡ one_more (stream old).failures)
     × ((Here → ⊥) → (stream new).failures ≡ (stream old).failures)
+
+-- of a reader whose tellings of its end are counted: it told its end once at most
+abbrev pub EndsOnceAtMost : Option ℕ → Option ℕ → Type 0
+EndsOnceAtMost old new = (new ≡ old) ⊎ (new ≡ option_map one_more old)
 
 -- ---- writers
 

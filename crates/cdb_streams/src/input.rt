@@ -9,37 +9,48 @@ use std::io::Read;
 use std::marker::Model;
 use std::mem;
 
-/// A reader of the standard library whose failures are counted. What it has left is what the reader has left.
+/// A reader of the standard library whose failures are counted, and how often it told that it is at its end. What it
+/// has left is what the reader has left.
 #[derive(Drop)]
 pub struct Input<R: Read + Drop> {
     reader: R,
     failures: u64,
+    ends: u64,
 }
 
 impl<R: Read + Drop> Input<R> {
-    /// The reader, of which no call has failed.
+    /// The reader, of which no call has failed or told its end.
     pub fn new(reader: R) -> Self
         ensures reader { result.reader ≡ reader }
         ensures failures { result.failures ≡ 0 }
+        ensures ends { result.ends ≡ 0 }
     {
         Input {
             reader,
             failures: 0,
+            ends: 0,
         }
     }
 }
 
 impl<R: Read + Drop> Source for Input<R> {
+    ghost use Rattle.std.specs.Prelude.{Some};
+
     ghost stream = { λ input. record {
       bytes = R.remaining input.reader;
       failures = input.failures;
     } };
+
+    ghost ends = { λ input. Some input.ends };
 
     fn read(&mut self, buffer: &mut [u8]) -> Result<usize, Failed> {
         let Ok(count) = self.reader.read(buffer) else {
             self.failures = self.failures.wrapping_add(1);
             return Err(Failed);
         };
+        if count == 0 && !buffer.is_empty() {
+            self.ends = self.ends.wrapping_add(1);
+        }
         Ok(count)
     }
 }

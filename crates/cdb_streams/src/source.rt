@@ -1,9 +1,10 @@
 //! Readers.
 
-ghost use Rattle.std.specs.Prelude.{◌≡◌, ◌<◌, ◌≤◌, length, Err, IfOk, IfSome, IfNone, is_err};
+ghost use Rattle.std.specs.Prelude.{◌≡◌, ℕ, ◌<◌, ◌≤◌, length, Option, None, Err, IfOk, IfSome, IfNone, is_err};
+ghost use Rattle.std.specs.Prelude.{option_map};
 ghost use Rattle.std.specs.Io.{ReadsAtMost};
 ghost use Rattle.std.specs.Io.KnownBytes.{Consumes, IsAtEnd, ReadConsumes};
-ghost use Rattle.cdb_streams.specs.Streams.{Stream, counted, FailsWhere};
+ghost use Rattle.cdb_streams.specs.Streams.{Stream, counted, is_end, EndsOnceAtMost, FailsWhere};
 
 use crate::fault::PlayFault;
 use crate::sink::Failed;
@@ -17,6 +18,9 @@ pub trait Source {
     /// The bytes that are left, where they are known, and how many of its calls have failed, in 64 bits.
     ghost stream: { Self → Stream };
 
+    /// How many of its reads have told that it is at its end, in 64 bits, where that is counted.
+    ghost ends: { Self → Option ℕ } = { λ _. None };
+
     /// Puts the next bytes at the front of the buffer, and returns how many: 0 at the end, and where the buffer
     /// is empty. After an error as many are left as before.
     fn read(&mut self, buffer: &mut [u8]) -> Result<usize, Failed>
@@ -24,7 +28,9 @@ pub trait Source {
         ensures bytes { ReadConsumes (stream self.old).bytes (stream self.new).bytes
             result buffer.new }
         ensures failures { (stream self.new).failures
-            ≡ counted (is_err result) (stream self.old).failures };
+            ≡ counted (is_err result) (stream self.old).failures }
+        ensures ends { ends self.new
+            ≡ option_map (counted (is_end result buffer.new)) (ends self.old) };
 
     /// All the bytes that are left, where they stand in memory already and are at most this many: they are handed
     /// over, and none is copied. Else nothing happens.
@@ -35,6 +41,7 @@ pub trait Source {
         ensures end { IfSome result (λ _. IsAtEnd (stream self.new).bytes) }
         ensures none { IfNone result (self.new ≡ self.old) }
         ensures failures { (stream self.new).failures ≡ (stream self.old).failures }
+        ensures ends { ends self.new ≡ ends self.old }
     {
         let _ = most;
         None
@@ -91,8 +98,9 @@ impl From<AllocError> for ReadFault {
 /// How many bytes are asked for at a time.
 const PIECE: usize = 4096;
 
-/// Reads to the end, or this many bytes where the reader has more. No byte is read twice, and nothing is tried
-/// again. After an error what was read is given up.
+/// Reads to the end, or this many bytes where the reader has more. After an error what was read is given up.
+///
+/// Promise: No byte is read twice, nothing is tried again, and a reader that has told its end isn't asked again.
 pub fn read_up_to<R: Source>(
     alloc: Global,
     source: &mut R,
@@ -104,6 +112,7 @@ pub fn read_up_to<R: Source>(
     ensures end { IfOk result
         (λ bytes. length bytes.items < most → IsAtEnd (R.stream source.new).bytes) }
     ensures failed { FailsWhere R.stream (result ≡ Err ReadFault.Failed) source.old source.new }
+    ensures asked { EndsOnceAtMost (R.ends source.old) (R.ends source.new) }
 {
     if let Some(bytes) = source.hand_over(alloc, most) {
         return Ok(bytes);

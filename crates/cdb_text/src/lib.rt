@@ -25,3 +25,4 @@ pub use text::{
     push_decides, push_event, push_number, push_payload, push_reply, push_value, reply_text,
     write_because, write_decisions, write_registers, write_short_reply, write_view,
 };
+pub use words::{first_word, number_of};

@@ -92,8 +92,8 @@ impl<'a> Words<'a> {
     }
 }
 
-/// The first word of a line, and what is left after the space that follows it.
-fn first_word(line: &[u8]) -> (&[u8], Option<&[u8]>)
+/// The first word of a line, and what is left after the space that follows it, if there is one.
+pub fn first_word(line: &[u8]) -> (&[u8], Option<&[u8]>)
     ensures { words_of line.now ≡ result.0.now ∷ words_left result.1 }
 {
     match line.iter().position(|byte| *byte == b' ') {
@@ -118,8 +118,8 @@ fn value_of(word: &[u8]) -> Option<u32>
     Some(value)
 }
 
-/// The number that the word is.
-pub(crate) fn number_of(word: &[u8]) -> Option<u32>
+/// The number that the word is, from 1 to 999,999, with no zero in front.
+pub fn number_of(word: &[u8]) -> Option<u32>
     ensures { result ≡ number_of word.now }
 {
     if word.is_empty() || word.len() > 6 || word[0] == b'0' {

@@ -5,7 +5,7 @@ use Rattle.cdb_explain.specs.Asked.{IsStepAsked, StandsNoStep}
 use Rattle.cdb_explain.specs.Explanations.{events_text, flagged_text}
 use Rattle.cdb_explain.specs.RunLeft.{Leaves}
 use Rattle.cdb_explain.specs.StepFaults.{IsFaultOfLeft}
-use Rattle.cdb_explain.specs.declared.fault.ExplainFault.{ExplainFault}
+use Rattle.cdb_explain.specs.declared.fault.AnswerFault.{AnswerFault}
 use Rattle.cdb_explain.specs.declared.line.Causes.TheVariants.{Hidden}
 use Rattle.cdb_rules.specs.RunView.{RunView}
 use Rattle.cdb_streams.specs.Streams.{Stream}
@@ -43,6 +43,6 @@ abbrev pub WritesTrail : List ℕ → ℕ → Option ℕ → Stream → Stream �
 WritesTrail json p k old new text = (run : RunView) × Leaves rules json old new run × IsTrailToStep run p k text
 
 -- no such step stands in that run, or it takes no value there; else as a fault of a play
-abbrev pub IsFaultOfTrail : List ℕ → ℕ → Option ℕ → Stream → Stream → ExplainFault → Type 0
+abbrev pub IsFaultOfTrail : List ℕ → ℕ → Option ℕ → Stream → Stream → AnswerFault → Type 0
 IsFaultOfTrail json p k old new =
     IsFaultOfLeft rules json old new (λ run. StandsNoStep run.history p k) (λ run. TakesNoValue run p k)

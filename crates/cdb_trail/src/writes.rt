@@ -3,10 +3,10 @@
 ghost use Rattle.std.specs.Prelude.{◌≡◌, ◌≤◌, ◌++◌, length, None, Err, IfErr, IfOk, MatchOption};
 ghost use Rattle.cdb_agreement.specs.Algorithms.{rules};
 ghost use Rattle.cdb_explain.specs.Asked.{StandsNoStep};
-ghost use Rattle.cdb_explain.specs.Explained.{explain_ending};
+ghost use Rattle.cdb_explain.specs.Explained.{answer_ending};
 ghost use Rattle.cdb_explain.specs.Explanations.{events_text, flagged_text};
 ghost use Rattle.cdb_explain.specs.StepFaults.{IsFaultOfStep};
-ghost use Rattle.cdb_explain.specs.declared.fault.ExplainFault.TheVariants.{Play as of_play};
+ghost use Rattle.cdb_explain.specs.declared.fault.AnswerFault.TheVariants.{Play as of_play};
 ghost use Rattle.cdb_explain.specs.declared.line.Causes.TheVariants.{Hidden};
 ghost use Rattle.cdb_rules.specs.ByRules.{IsInOrder};
 ghost use Rattle.cdb_setup.specs.declared.fault.SetupFault.{SetupFault as SetupFaultName};
@@ -23,7 +23,7 @@ use crate::oracle::{answers_in, push_answers};
 use crate::trail::{Trail, trail_of};
 use cdb_any_run::AnyRun;
 use cdb_base::{NoMemory, Proc, Val};
-use cdb_explain::{Causes, ExplainFault, position_of_step, push_count, push_lines, run_left_by};
+use cdb_explain::{AnswerFault, Causes, position_of_step, push_count, push_lines, run_left_by};
 use cdb_rules::Trace;
 use cdb_streams::{Sink, Source, write_text};
 use std::alloc::{AllocError, Global};
@@ -99,18 +99,18 @@ fn write_trail_to<W: Sink>(
     p: u32,
     k: Option<u32>,
     out: &mut W,
-) -> Result<(), ExplainFault>
+) -> Result<(), AnswerFault>
     requires { IsInOrder rules run.now }
-    ensures wrote { IsWritten W.stream (explain_ending result) out.old out.new
+    ensures wrote { IsWritten W.stream (answer_ending result) out.old out.new
         (IsTrailToStep run.now p k) }
     ensures fault { IfErr result
         (IsFaultOfStep (StandsNoStep run.now.history p k) (TakesNoValue run.now p k)) }
 {
     let Some(position) = position_of_step(run.events(), p, k) else {
-        return Err(ExplainFault::NoStep);
+        return Err(AnswerFault::NoStep);
     };
     let Some(text) = text_of_trail_to(alloc, run, position)? else {
-        return Err(ExplainFault::NoValue);
+        return Err(AnswerFault::NoValue);
     };
     write_text(alloc, text.as_slice(), out)?;
     Ok(())
@@ -136,8 +136,8 @@ pub fn write_trail<R: Source, W: Sink>(
     p: u32,
     k: Option<u32>,
     out: &mut W,
-) -> Result<(), ExplainFault>
-    ensures wrote { IsWritten W.stream (explain_ending result) out.old out.new
+) -> Result<(), AnswerFault>
+    ensures wrote { IsWritten W.stream (answer_ending result) out.old out.new
         (WritesTrail setup.now p k (R.stream script.old) (R.stream script.new)) }
     ensures fault { IfErr result
         (IsFaultOfTrail setup.now p k (R.stream script.old) (R.stream script.new)) }

@@ -24,12 +24,8 @@ no_refusal (Refuse (fault.Play why name)) is = is
 no_refusal (Refuse (fault.Race why)) is = is
 no_refusal (Refuse (fault.Journal why)) is = is
 no_refusal (Refuse (fault.Page why)) is = is
-no_refusal (Refuse fault.NoStep) is = is
-no_refusal (Refuse fault.NoValue) is = is
-no_refusal (Refuse fault.TooManyEvents) is = is
+no_refusal (Refuse (fault.Answer why name)) is = is
 no_refusal (Refuse fault.NoGoal) is = is
-no_refusal (Refuse (fault.NotFound walks)) is = is
-no_refusal (Refuse fault.DoesNotHold) is = is
 no_refusal (Refuse fault.Different) is = is
 no_refusal (Refuse fault.TooManySeats) is = is
 

@@ -31,13 +31,24 @@ pub fn hint_at(is_terminal: bool, arguments: &io::Result<Vec<String>>) -> &'stat
     }
 }
 
+/// The name of the file that a seat reads.
+#[derive(Clone, Copy)]
+pub struct InputName<'a>(pub &'a str);
+
+/// The name of the file that a seat writes.
+#[derive(Clone, Copy)]
+pub struct OutputName<'a>(pub &'a str);
+
 /// The file that a seat `IN:OUT` reads and the one that it writes, cut at the first colon; none for the name of a
 /// terminal.
-pub fn pair_of(name: &str) -> Option<(&str, &str)>
+pub fn pair_of(name: &str) -> Option<(InputName<'_>, OutputName<'_>)>
     ensures { MatchOption result (HasColon name.now → ⊥)
-        (λ pair. IsPair name.now pair.0.now pair.1.now) }
+        (λ pair. IsPair name.now pair.0.0.now pair.1.0.now) }
 {
-    name.split_once(':')
+    match name.split_once(':') {
+        Some((input, output)) => Some((InputName(input), OutputName(output))),
+        None => None,
+    }
 }
 
 /// Whether this is the name of a seat, or of the file that it reads or the one that it writes.
@@ -45,7 +56,7 @@ pub fn is_of_seat(seat: &str, name: &str) -> bool
     ensures { IsTrue result ↔ IsOfSeat seat.now name.now }
 {
     match pair_of(seat) {
-        Some((input, output)) => name == seat || name == input || name == output,
+        Some((input, output)) => name == seat || name == input.0 || name == output.0,
         None => name == seat,
     }
 }

@@ -4,7 +4,7 @@ ghost use Rattle.std.specs.Prelude.{◌≡◌};
 ghost use Rattle.std.specs.IoError.{error_kind};
 ghost use Rattle.revdbg.specs.System.{read_fault_of};
 
-use crate::seats::{is_of_seat, pair_of, path_of, prompt_at};
+use crate::seats::{InputName, OutputName, is_of_seat, pair_of, path_of, prompt_at};
 use cdb_base::NoMemory;
 use cdb_page::Rewritten;
 use cdb_program::Files;
@@ -99,11 +99,21 @@ fn empty_file(rt: &HostRuntime, name: &str) -> io::Result<File> {
     Ok(file)
 }
 
-/// The seat of this name: a terminal device, or `IN:OUT`, a pair of files or pipes. The file that is written to is made
-/// where it is not there, and refused where it has something in it.
+/// The file that a seat reads.
+fn open_input(rt: &HostRuntime, name: InputName<'_>) -> io::Result<File> {
+    File::open(rt, path_of(name.0))
+}
+
+/// The file that a seat writes, which is made where it is not there, and refused where it has something in it.
+fn make_output(rt: &HostRuntime, name: OutputName<'_>) -> io::Result<File> {
+    empty_file(rt, name.0)
+}
+
+/// The seat of this name: a terminal device, or `IN:OUT`, a pair of files or pipes. No file is made to write to where
+/// the one to read can't be opened.
 fn seat_of(rt: &HostRuntime, name: &str) -> io::Result<Endpoint<SeatConsole>> {
     let (input, output) = match pair_of(name) {
-        Some((input, output)) => (File::open(rt, path_of(input))?, empty_file(rt, output)?),
+        Some((input, output)) => (open_input(rt, input)?, make_output(rt, output)?),
         None => terminal(rt, name)?,
     };
     let prompt = prompt_at(input.is_terminal()).as_bytes();
@@ -115,7 +125,7 @@ fn seat_of(rt: &HostRuntime, name: &str) -> io::Result<Endpoint<SeatConsole>> {
 /// Whether the seat of this name would write to a file that has something in it.
 fn writes_over(rt: &HostRuntime, name: &str) -> bool {
     match pair_of(name) {
-        Some((_, output)) => fs::metadata(rt, output).is_ok_and(|about| is_used(&about)),
+        Some((_, output)) => fs::metadata(rt, output.0).is_ok_and(|about| is_used(&about)),
         None => false,
     }
 }

@@ -1,6 +1,6 @@
 use Rattle.cdb_rules.specs.RunView.{RunView}
 use Rattle.cdb_explain.specs.Asked.{StandsNoStep}
-use Rattle.cdb_explain.specs.Explained.{explain_ending, Explains}
+use Rattle.cdb_explain.specs.Explained.{answer_ending, Explains}
 use Rattle.cdb_explain.specs.Explanations.{IsStepExplained}
 use Rattle.cdb_streams.proofs.StreamEnds.{written_as}
 use Rattle.cdb_explain.proofs.Returned.{fault_left, is_no_setup, reads_none, no_err}
@@ -12,7 +12,7 @@ returns-clause-wrote g c =
     let new = g.R.Source.stream c.run_left_by.new.script in
     let run : RunView = c.in_ok-run.run' in
     let left = c.in_ok-run.ensures.left.leaves in
-    written_as g.W.Sink.stream (explain_ending c.write_explanation.result) c.args.out.now c.write_explanation.new.out
+    written_as g.W.Sink.stream (answer_ending c.write_explanation.result) c.args.out.now c.write_explanation.new.out
     (IsStepExplained g.T.Runs.rules run c.args.p c.args.k) (Explains g.T.Runs.rules c.args.setup.now c.args.p c.args.k old new)
     (λ text is. (run, left, is)) c.write_explanation.ensures.wrote
 

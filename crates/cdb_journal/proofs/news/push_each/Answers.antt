@@ -3,7 +3,7 @@ use Rattle.std.specs.Prelude.{string_bytes}
 use Rattle.std.proofs.lemmas.List.{take_more}
 use Rattle.cdb_control.specs.Journal.{Journaled, extended}
 use Rattle.cdb_control.specs.declared.control.Entry.{Entry}
-use Rattle.cdb_journal.specs.SeatReplies.{news_line, news_lines, told_in}
+use Rattle.cdb_journal.specs.SeatReplies.{news_line, news_lines, seat_replies_in}
 use Rattle.cdb_journal.proofs.CarriedOut.{carried_out, one_more}
 use Rattle.cdb_journal.proofs.NewsLines.{last_told, news_more, no_news}
 use Rattle.cdb_journal.proofs.news.push_each.Goals as goal
@@ -31,7 +31,7 @@ loop-entry-preserved g c =
     let more : take i entries ++ e ∷ [] ≡ take (i + 1) entries =
     ap (λ (other : Entry). take i entries ++ other ∷ []) c.entry-item.is ∙ sym (take_more _ i _ c.loop-entry-test.true) in
     let longer = ap (λ (k : Journaled). length k.journal) so.control in
-    let news = news_lines c.args.reader (drop from (told_in rules before)) in
+    let news = news_lines c.args.reader (drop from (seat_replies_in rules before)) in
     let line = news_line c.args.reader (last_told rules before c.args.reader from e) in
     record {
       control =
@@ -41,6 +41,6 @@ loop-entry-preserved g c =
           c.in_ok-push_entry.ensures.text ∙ ap (λ (text : List ℕ). text ++ line) so.text
           ∙ append_assoc (string_bytes c.args.text.now) news line
           ∙ ap (λ (text : List ℕ). string_bytes c.args.text.now ++ text)
-          (sym (ap (λ (k : Journaled). news_lines c.args.reader (drop from (told_in rules k))) is
+          (sym (ap (λ (k : Journaled). news_lines c.args.reader (drop from (seat_replies_in rules k))) is
           ∙ news_more rules before c.args.reader from e (omega (arith, longer, length-append first.journal (take i entries)))));
     }

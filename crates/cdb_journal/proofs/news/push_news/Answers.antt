@@ -2,7 +2,7 @@ use Rattle.std.proofs.Common.{◌≡◌, ℕ, ◌+◌, ◌-◌, List, ◌++◌, 
 use Rattle.std.proofs.lemmas.List.{length-take, take_rest}
 use Rattle.cdb_control.specs.Journal.{Journaled}
 use Rattle.cdb_control.specs.declared.control.Entry.{Entry}
-use Rattle.cdb_journal.specs.SeatReplies.{news_lines, told_in}
+use Rattle.cdb_journal.specs.SeatReplies.{news_lines, seat_replies_in}
 use Rattle.cdb_journal.proofs.NewsLines.{news_told}
 use Rattle.cdb_journal.proofs.news.push_news.Goals as goal
 
@@ -22,6 +22,6 @@ returns-clause-news g c =
     let from : length first.journal ≡ min c.args.from (length last.journal) =
     omega (arith, least, ap length c.journal.ensures.entries, before, all, length-take silent entries, length-drop silent entries, c.requires.from) in
     ap (λ (v : Vec ℕ Global). v.items) c.into_bytes.ensures.value ∙ c.in_ok-push_each.ensures.text
-    ∙ ap (λ (text : List ℕ). text ++ news_lines c.args.seat (drop (length first.journal) (told_in rules last))) c.new-text.ensures.bytes
-    ∙ ap (λ (n : ℕ). news_lines c.args.seat (drop n (told_in rules last))) from
+    ∙ ap (λ (text : List ℕ). text ++ news_lines c.args.seat (drop (length first.journal) (seat_replies_in rules last))) c.new-text.ensures.bytes
+    ∙ ap (λ (n : ℕ). news_lines c.args.seat (drop n (seat_replies_in rules last))) from
     ∙ news_told rules last c.args.seat c.args.from

@@ -5,7 +5,7 @@ use Rattle.cdb_control.specs.Journal.{reply_in}
 use Rattle.cdb_text.specs.Texts.{text_of}
 use Rattle.cdb_streams.specs.PiecesPut.{Puts}
 use Rattle.cdb_streams.proofs.PiecesPut.{put_nothing, cut_short, put_last}
-use Rattle.cdb_journal.specs.SeatReplies.{told_line}
+use Rattle.cdb_journal.specs.SeatReplies.{seat_reply_line}
 use Rattle.cdb_journal.proofs.replays.perform.Goals as goal
 
 pub returns-in_err-reply-clause-put : goal.returns-in_err-reply-clause-put
@@ -20,7 +20,7 @@ returns-in_err-put_seat-clause-put g c =
     let reply = reply_in g.T.Runs.rules c.args.control.now seat c.args.entry.command in
     rw (p.1, p.2)
     (cut_short g.W.Sink.stream (Unit {0}) c.in_err-put_seat.field-0.0 _ _ _ _ _
-    c.put_seat.new.buffer _ (decimal seat ++ codes " ") (text_of reply) (told_line seat reply)
+    c.put_seat.new.buffer _ (decimal seat ++ codes " ") (text_of reply) (seat_reply_line seat reply)
     (put_nothing g.W.Sink.stream _ _) refl c.in_err-put_seat.ensures)
 
 pub returns-clause-put : goal.returns-clause-put
@@ -30,4 +30,4 @@ returns-clause-put g c =
     let same : text_of (reply_view c.in_ok-reply.reply) ≡ text_of reply = ap text_of c.in_ok-reply.ensures.reply in
     let put = subst (λ (text : List ℕ). Puts g.W.Sink.stream c.put_reply.result c.put_seat.new.out c.put_seat.new.buffer c.put_reply.new.out
     c.put_reply.new.buffer text) same c.put_reply.ensures in
-    put_last _ _ _ _ _ _ _ _ _ _ (told_line seat reply) c.in_ok-put_seat.ensures refl put
+    put_last _ _ _ _ _ _ _ _ _ _ (seat_reply_line seat reply) c.in_ok-put_seat.ensures refl put

@@ -7,7 +7,7 @@ use Rattle.cdb_streams.proofs.PiecesPut.{put_nothing, put_more, cut_short}
 use Rattle.cdb_control.specs.Commands.{obey, reply_of}
 use Rattle.cdb_control.specs.Journal.{Journaled, control_state, entry, extended, reply_in, replay_from}
 use Rattle.cdb_control.specs.declared.control.Entry.{Entry}
-use Rattle.cdb_journal.specs.SeatReplies.{told_from, told_line, told_text}
+use Rattle.cdb_journal.specs.SeatReplies.{seat_replies_from, seat_reply_line, seat_replies_text}
 use Rattle.cdb_journal.proofs.RepliesToSeats.{next_state, state_behind, text_behind, parted_text, one_reply, seat_at}
 use Rattle.cdb_journal.proofs.replays.perform_each.Goals as goal
 
@@ -36,16 +36,17 @@ returns-in_err-perform g c =
     let done = take i entries in
     let rest = drop (i + 1) entries in
     let so = c.loop-entry.invariant in
-    let its = told_line e.seat (reply_in rules_of c.loop-entry.control e.seat e.command) in
+    let its = seat_reply_line e.seat (reply_in rules_of c.loop-entry.control e.seat e.command) in
     let whole : entries ≡ done ++ e ∷ rest = parted _ i _ c.loop-entry-test.true ∙ ap (λ (other : Entry). done ++ other ∷ rest) (sym c.entry-item.is) in
-    let same : its ≡ told_line e.seat (reply_of rules (replay_from rules t done) e.seat e.command) =
-    (λ j. told_line e.seat (reply_of (rules_of (so.setup j)) (so.state j) e.seat e.command)) in
-    let all : told_text (told_from rules t entries) ≡ told_text (told_from rules t done) ++ (its ++ text_behind rules t done e rest) =
-    ap (λ (es : List Entry). told_text (told_from rules t es)) whole ∙ parted_text rules t done e rest
-    ∙ ap (λ (line : List ℕ). told_text (told_from rules t done) ++ (line ++ text_behind rules t done e rest)) (sym same) in
+    let same : its ≡ seat_reply_line e.seat (reply_of rules (replay_from rules t done) e.seat e.command) =
+    (λ j. seat_reply_line e.seat (reply_of (rules_of (so.setup j)) (so.state j) e.seat e.command)) in
+    let all :
+    seat_replies_text (seat_replies_from rules t entries) ≡ seat_replies_text (seat_replies_from rules t done) ++ (its ++ text_behind rules t done e rest) =
+    ap (λ (es : List Entry). seat_replies_text (seat_replies_from rules t es)) whole ∙ parted_text rules t done e rest
+    ∙ ap (λ (line : List ℕ). seat_replies_text (seat_replies_from rules t done) ++ (line ++ text_behind rules t done e rest)) (sym same) in
     rw (p.1, p.2)
-    (cut_short g.W.Sink.stream (Unit {0}) c.in_err-perform.field-0.0 _ _ _ _ _ c.perform.new.buffer (told_text (told_from rules t done)) its
-    (text_behind rules t done e rest) (told_text (told_from rules t entries)) so.put all c.in_err-perform.ensures.put)
+    (cut_short g.W.Sink.stream (Unit {0}) c.in_err-perform.field-0.0 _ _ _ _ _ c.perform.new.buffer (seat_replies_text (seat_replies_from rules t done)) its
+    (text_behind rules t done e rest) (seat_replies_text (seat_replies_from rules t entries)) so.put all c.in_err-perform.ensures.put)
 
 pub loop-entry-preserved : goal.loop-entry-preserved
 loop-entry-preserved g c =
@@ -61,9 +62,9 @@ loop-entry-preserved g c =
     let is : c.perform.new.control ≡ extended rules_of control e.seat e.command = c.in_ok-perform.ensures.done in
     let more : done ++ e ∷ [] ≡ take (i + 1) entries =
     ap (λ (other : Entry). done ++ other ∷ []) c.entry-item.is ∙ sym (take_more _ i _ c.loop-entry-test.true) in
-    let its = told_line e.seat (reply_in rules_of control e.seat e.command) in
-    let same : its ≡ told_line e.seat (reply_of rules (replay_from rules t done) e.seat e.command) =
-    (λ j. told_line e.seat (reply_of (rules_of (so.setup j)) (so.state j) e.seat e.command)) in
+    let its = seat_reply_line e.seat (reply_in rules_of control e.seat e.command) in
+    let same : its ≡ seat_reply_line e.seat (reply_of rules (replay_from rules t done) e.seat e.command) =
+    (λ j. seat_reply_line e.seat (reply_of (rules_of (so.setup j)) (so.state j) e.seat e.command)) in
     let longer : length c.perform.new.control.journal ≡ length (control.journal ++ entry e.seat e.command ∷ []) = ap (λ (k : Journaled). length k.journal) is in
     record {
       setup = ap (λ (k : Journaled). k.setup) is ∙ so.setup;
@@ -73,8 +74,8 @@ loop-entry-preserved g c =
           ∙ (λ j. obey (rules_of (so.setup j)) (so.state j) e.seat e.command)
           ∙ sym (state_behind rules t done e) ∙ ap (replay_from rules t) more;
       put = subst (IsPut g.W.Sink.stream c.args.out.now c.args.buffer.now c.perform.new.out c.perform.new.buffer)
-          (ap (λ (line : List ℕ). told_text (told_from rules t done) ++ line) same ∙ sym (one_reply rules t done e)
-          ∙ ap (λ (es : List Entry). told_text (told_from rules t es)) more)
+          (ap (λ (line : List ℕ). seat_replies_text (seat_replies_from rules t done) ++ line) same ∙ sym (one_reply rules t done e)
+          ∙ ap (λ (es : List Entry). seat_replies_text (seat_replies_from rules t es)) more)
           (put_more g.W.Sink.stream _ _ _ _ _ _ _ _ so.put c.in_ok-perform.ensures.put);
     }
 

@@ -1,7 +1,7 @@
 use Rattle.std.proofs.Common.{◌≡◌, ◌+◌, length, take}
 use Rattle.cdb_control.specs.Journal.{control_state, replay_from}
 use Rattle.cdb_streams.specs.Buffers.{IsPut}
-use Rattle.cdb_journal.specs.SeatReplies.{told_from, told_text}
+use Rattle.cdb_journal.specs.SeatReplies.{seat_replies_from, seat_replies_text}
 use Rattle.cdb_journal.proofs.replays.perform_each.Given as goal
 
 abbrev pub invariant-loop-entry : goal.invariant-loop-entry
@@ -12,5 +12,6 @@ invariant-loop-entry g l = record {
   state : control_state g.T.Runs.rules l.control
       ≡ replay_from (g.T.Runs.rules l.initial.control.setup) (control_state g.T.Runs.rules l.initial.control) (take l.entry-index l.entries);
   put : IsPut g.W.Sink.stream l.initial.out l.initial.buffer l.out l.buffer
-      (told_text (told_from (g.T.Runs.rules l.initial.control.setup) (control_state g.T.Runs.rules l.initial.control) (take l.entry-index l.entries)));
+      (seat_replies_text
+      (seat_replies_from (g.T.Runs.rules l.initial.control.setup) (control_state g.T.Runs.rules l.initial.control) (take l.entry-index l.entries)));
 }

@@ -4,7 +4,7 @@ use Rattle.cdb_base.specs.Limits.{MAX_SEATS}
 use Rattle.cdb_streams.specs.Endings.{Complete}
 use Rattle.cdb_streams.proofs.StreamEnds.{only_as}
 use Rattle.cdb_journal.specs.Replays.{Replays}
-use Rattle.cdb_journal.specs.SeatReplies.{told_along, told_text}
+use Rattle.cdb_journal.specs.SeatReplies.{seat_replies_along, seat_replies_text}
 use Rattle.cdb_journal.proofs.RepliesToSeats.{read_seats, read_few, replay_wrote}
 use Rattle.cdb_journal.proofs.replays.replay_by.Goals as goal
 
@@ -25,7 +25,7 @@ returns-in_err-write_replies-clause-wrote g c =
     let setup = c.in_ok-setup.setup in
     let entries = c.in_ok-entries.entries.items in
     let rules_of = g.T.Runs.rules in
-    let text = told_text (told_along (rules_of setup) setup MAX_SEATS entries) in
+    let text = seat_replies_text (seat_replies_along (rules_of setup) setup MAX_SEATS entries) in
     let is : Replays rules_of c.args.setup.now (g.R.Source.stream c.args.journal.now) (g.R.Source.stream c.read_entries.new.journal) text =
     (given.0, given.1, record { setup = setup; entries = entries; encodes = c.in_ok-setup.ensures.found; lines = given.2; is = refl }) in
     rw (p.1, p.2)
@@ -38,7 +38,7 @@ returns-clause-wrote g c =
     let setup = c.in_ok-setup.setup in
     let entries = c.in_ok-entries.entries.items in
     let rules_of = g.T.Runs.rules in
-    let text = told_text (told_along (rules_of setup) setup MAX_SEATS entries) in
+    let text = seat_replies_text (seat_replies_along (rules_of setup) setup MAX_SEATS entries) in
     let is : Replays rules_of c.args.setup.now (g.R.Source.stream c.args.journal.now) (g.R.Source.stream c.read_entries.new.journal) text =
     (given.0, given.1, record { setup = setup; entries = entries; encodes = c.in_ok-setup.ensures.found; lines = given.2; is = refl }) in
     only_as g.W.Sink.stream Complete c.args.out.now c.write_replies.new.out text _ is

@@ -1,6 +1,6 @@
 use Rattle.std.proofs.Common.{None}
 use Rattle.cdb_rules.specs.RunView.{RunView}
-use Rattle.cdb_explain.specs.Explained.{explain_ending}
+use Rattle.cdb_explain.specs.Explained.{answer_ending}
 use Rattle.cdb_draw.proofs.Ended.{fault_drawn, no_setup_drawn, none_read_drawn}
 use Rattle.cdb_explain.proofs.Returned.{no_err}
 use Rattle.cdb_page.specs.Written.{IsPageOfFew, WritesPage}
@@ -14,7 +14,7 @@ returns-clause-wrote g c =
     let new = g.R.Source.stream c.run_left_by.new.script in
     let run : RunView = c.in_ok-run.run' in
     let left = c.in_ok-run.ensures.left.leaves in
-    written_as g.W.Sink.stream (explain_ending c.write_page_of.result) c.args.out.now
+    written_as g.W.Sink.stream (answer_ending c.write_page_of.result) c.args.out.now
     c.write_page_of.new.out (IsPageOfFew Never run) (WritesPage c.args.setup.now old new)
     (λ text is. (run, left, is)) c.write_page_of.ensures.wrote
 

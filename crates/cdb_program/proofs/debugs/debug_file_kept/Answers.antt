@@ -7,8 +7,7 @@ use Rattle.cdb_shared_session.specs.declared.keeping.Kept.{Kept}
 use Rattle.cdb_base.specs.Requests.{any_text}
 use Rattle.cdb_program.specs.Answers.{IsAnswer}
 use Rattle.cdb_program.specs.Known.{any_name}
-use Rattle.cdb_program.proofs.OpenedFiles.{opened_then, fails_before}
-use Rattle.cdb_program.proofs.Seated.{fails_later}
+use Rattle.cdb_program.proofs.OpenedFiles.{fails_before, fails_later, opened_then}
 use Rattle.cdb_program.proofs.Seen.{debugged_of}
 use Rattle.cdb_shared_session.proofs.KeptEntries.{seen_kept}
 use Rattle.cdb_program.proofs.debugs.debug_file_kept.Goals as goal

@@ -19,4 +19,4 @@ returns-clause-does g c =
     let bytes_is : c.new-commands.result.rest.now ≡ bytes = ap (λ (b : Bor (List ℕ)). b.now) c.new-commands.ensures ∙ c.as_slice.ensures.value in
     let fault = rw (json_is, bytes_is) at c.in-Err.ensures.fault in
     rw (← c.world.view_is)
-    (refl, refl, inr (_, json, bytes, c.in_ok-json.ensures, (Some c.read.new.script.rest.now, inl (c.in-Err.fault, c.of_explain.ensures, fault, refl))))
+    (refl, refl, inr (_, json, bytes, c.in_ok-json.ensures, (Some c.read.new.script.rest.now, inl (c.in-Err.fault, c.of_answer.ensures, fault, refl))))

@@ -4,8 +4,7 @@ use Rattle.std.proofs.lemmas.Result.{err_from_is_err_and}
 use Rattle.cdb_base.specs.Requests.{any_text}
 use Rattle.cdb_program.specs.Known.{any_name}
 use Rattle.cdb_program.specs.LivePages.{files_for}
-use Rattle.cdb_program.proofs.OpenedFiles.{opened_then, fails_before}
-use Rattle.cdb_program.proofs.Seated.{fails_later}
+use Rattle.cdb_program.proofs.OpenedFiles.{fails_before, fails_later, opened_then}
 use Rattle.cdb_program.proofs.Shown.{new_page}
 use Rattle.cdb_program.proofs.live_pages.begin_page.Goals as goal
 

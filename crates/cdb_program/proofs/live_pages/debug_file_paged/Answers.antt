@@ -10,8 +10,7 @@ use Rattle.cdb_streams.specs.declared.fault.PlayFault.{PlayFault}
 use Rattle.cdb_program.specs.Known.{any_name}
 use Rattle.cdb_program.specs.Answers.{IsAnswer}
 use Rattle.cdb_program.specs.LivePages.{IsNewPage, files_for}
-use Rattle.cdb_program.proofs.OpenedFiles.{opened_then, fails_before}
-use Rattle.cdb_program.proofs.Seated.{fails_later}
+use Rattle.cdb_program.proofs.OpenedFiles.{fails_before, fails_later, opened_then}
 use Rattle.cdb_program.proofs.Shown.{debugged_page}
 use Rattle.cdb_program.proofs.live_pages.debug_file_paged.Goals as goal
 

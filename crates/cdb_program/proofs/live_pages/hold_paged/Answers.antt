@@ -4,13 +4,13 @@ use Rattle.std.proofs.lemmas.List.{length-map}
 use Rattle.std.proofs.lemmas.Result.{err_from_is_err_and}
 use Rattle.cdb_agreement.specs.Algorithms.{rules}
 use Rattle.cdb_base.specs.Requests.{any_text, texts}
-use Rattle.cdb_explain.specs.declared.fault.ExplainFault.{ExplainFault}
+use Rattle.cdb_explain.specs.declared.fault.AnswerFault.{AnswerFault}
 use Rattle.cdb_page.specs.Live.{Live, stream_of}
 use Rattle.cdb_program.specs.Answers.{IsAnswer}
 use Rattle.cdb_program.specs.Known.{any_name}
 use Rattle.cdb_program.specs.LivePages.{IsNewPage, IsOfPage, files_for}
-use Rattle.cdb_program.proofs.OpenedFiles.{fails_before, opened_then}
-use Rattle.cdb_program.proofs.Seated.{as_fault, fails_later, holds_seen, seats_known}
+use Rattle.cdb_program.proofs.OpenedFiles.{fails_before, fails_later, opened_then}
+use Rattle.cdb_program.proofs.Seated.{as_fault, holds_seen, seats_known}
 use Rattle.cdb_program.proofs.Shown.{kept_by}
 use Rattle.cdb_program.proofs.live_pages.hold_paged.Goals as goal
 
@@ -80,7 +80,7 @@ returns-in-Ok-clause-sessions g c =
       sessions = rw its.1 at session;
       is = its.2;
       page_end = c.of_page.result;
-      ends = subst (λ (shown : Result (Unit {0}) ExplainFault). IsOfPage shown c.of_page.result) its.3 c.of_page.ensures;
+      ends = subst (λ (shown : Result (Unit {0}) AnswerFault). IsOfPage shown c.of_page.result) its.3 c.of_page.ensures;
       page_status = c.report-its.result;
       reported = c.report-its.ensures;
       status_is = c.first_status.ensures;

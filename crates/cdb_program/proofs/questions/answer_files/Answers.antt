@@ -25,7 +25,7 @@ returns-clause-does g c =
         (
           c.answer-answered.result,
           Some c.answer-answered.new.script.rest.now,
-          c.of_explain.ensures,
+          c.of_answer.ensures,
           rw (← json_is, ← bytes_is)
               (text_seen (λ (b : Bytes). in_memory (Some b.rest.now)) g.O.Sink.stream c.answer-answered.result _ _ _
               c.new-commands.result c.answer-answered.new.script _ _ said.wrote said.fault said.unread said.read),

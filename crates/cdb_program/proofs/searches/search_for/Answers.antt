@@ -18,7 +18,7 @@ returns-clause-does g c =
         c.in_ok-json.ensures,
         (
           c.search-searched.result,
-          c.of_search.ensures,
+          c.of_answer.ensures,
           rw (← c.as_slice.ensures.value)
               (search_seen g.O.Sink.stream c.as_slice.result.now c.args.goal c.args.walks c.search-searched.result _ _ said.wrote said.fault),
         ),

@@ -25,7 +25,7 @@ returns-clause-does g c =
         (
           c.shrink-shrunk.result,
           Some c.shrink-shrunk.new.script.rest.now,
-          c.of_search.ensures,
+          c.of_answer.ensures,
           rw (← json_is, ← bytes_is)
               (shrink_seen (λ (b : Bytes). in_memory (Some b.rest.now)) g.O.Sink.stream c.as_slice-2.result.now c.args.goal
               c.shrink-shrunk.result c.new-commands.result c.shrink-shrunk.new.script _ _ said.wrote said.fault said.unread said.read),

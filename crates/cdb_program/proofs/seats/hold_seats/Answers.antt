@@ -6,8 +6,8 @@ use Rattle.cdb_base.specs.Requests.{any_text, texts}
 use Rattle.cdb_program.specs.Answers.{IsAnswer}
 use Rattle.cdb_program.specs.Known.{any_name}
 use Rattle.std.specs.Prelude.{◌++◌, option_map}
-use Rattle.cdb_program.proofs.OpenedFiles.{fails_before, opened_then}
-use Rattle.cdb_program.proofs.Seated.{as_fault, fails_later, file_seen, holds_seen, seats_known}
+use Rattle.cdb_program.proofs.OpenedFiles.{fails_before, fails_later, opened_then}
+use Rattle.cdb_program.proofs.Seated.{as_fault, file_seen, holds_seen, seats_known}
 use Rattle.cdb_shared_session.proofs.KeptEntries.{seen_kept}
 use Rattle.cdb_program.proofs.seats.hold_seats.Goals as goal
 

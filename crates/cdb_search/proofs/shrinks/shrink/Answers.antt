@@ -1,5 +1,5 @@
 use Rattle.cdb_rules.specs.RunView.{RunView}
-use Rattle.cdb_search.specs.Found.{search_ending}
+use Rattle.cdb_explain.specs.Explained.{answer_ending}
 use Rattle.cdb_search.specs.Shrunk.{IsShrunkText, WritesShrunk}
 use Rattle.cdb_streams.proofs.StreamEnds.{written_as}
 use Rattle.cdb_search.proofs.shrinks.shrink.Goals as goal
@@ -10,6 +10,6 @@ returns-clause-wrote g c =
     let new = g.R.Source.stream c.run_left_by.new.script in
     let run : RunView = c.in_ok-run.run' in
     let left = c.in_ok-run.ensures.left.leaves in
-    written_as g.W.Sink.stream (search_ending c.write_small.result) c.args.out.now c.write_small.new.out
+    written_as g.W.Sink.stream (answer_ending c.write_small.result) c.args.out.now c.write_small.new.out
     (IsShrunkText g.T.Runs.rules run c.args.goal) (WritesShrunk g.T.Runs.rules c.args.setup.now c.args.goal old new)
     (λ text is. (run, left, is)) c.write_small.ensures.wrote

@@ -5,7 +5,7 @@ use Rattle.cdb_commands.specs.declared.command.Command.{Command}
 use Rattle.cdb_rules.specs.RunView.{RunView}
 use Rattle.cdb_goal.specs.Holds.{Holds}
 use Rattle.cdb_search.proofs.Scripts.{same_ending, same_left}
-use Rattle.cdb_search.specs.Found.{search_ending}
+use Rattle.cdb_explain.specs.Explained.{answer_ending}
 use Rattle.cdb_search.specs.Shrunk.{HoldsAfter, IsShrunk, IsShrunkText, lines_text}
 use Rattle.cdb_setup.specs.Parts.{AreInRange, Parts}
 use Rattle.cdb_slice.specs.Scripts.{command_for}

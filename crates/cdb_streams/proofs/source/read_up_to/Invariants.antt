@@ -7,6 +7,7 @@ invariant-loop-buffer g l = record {
   within : length l.bytes.items ≤ l.most;
   taken : Consumes (g.R.Source.stream l.initial.source).bytes (g.R.Source.stream l.source).bytes l.bytes.items;
   failures : (g.R.Source.stream l.source).failures ≡ (g.R.Source.stream l.initial.source).failures;
+  ends : g.R.Source.ends l.source ≡ g.R.Source.ends l.initial.source;
 }
 
 abbrev pub decreases-loop-buffer : goal.decreases-loop-buffer

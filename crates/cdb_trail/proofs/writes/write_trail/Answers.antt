@@ -1,5 +1,5 @@
 use Rattle.cdb_rules.specs.RunView.{RunView}
-use Rattle.cdb_explain.specs.Explained.{explain_ending}
+use Rattle.cdb_explain.specs.Explained.{answer_ending}
 use Rattle.cdb_streams.proofs.StreamEnds.{written_as}
 use Rattle.cdb_trail.specs.Written.{IsTrailToStep, WritesTrail}
 use Rattle.cdb_trail.proofs.writes.write_trail.Goals as goal
@@ -10,6 +10,6 @@ returns-clause-wrote g c =
     let new = g.R.Source.stream c.run_left_by.new.script in
     let run : RunView = c.in_ok-run.run' in
     let left = c.in_ok-run.ensures.left.leaves in
-    written_as g.W.Sink.stream (explain_ending c.write_trail_to.result) c.args.out.now c.write_trail_to.new.out
+    written_as g.W.Sink.stream (answer_ending c.write_trail_to.result) c.args.out.now c.write_trail_to.new.out
     (IsTrailToStep run c.args.p c.args.k) (WritesTrail c.args.setup.now c.args.p c.args.k old new)
     (λ text is. (run, left, is)) c.write_trail_to.ensures.wrote
