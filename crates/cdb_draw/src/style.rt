@@ -29,9 +29,12 @@ path.pale,.pale use{stroke-width:.7px;stroke-dasharray:3 2}
 /// The tips of the arrows, and a shape for each kind of event.
 pub const SHAPES: &str = "\
 <defs>
-<marker id='tip' viewBox='0 0 8 8' refX='15' refY='4' markerWidth='8' markerHeight='8' markerUnits='userSpaceOnUse' orient='auto'><path d='M0,0L8,4L0,8z' style='fill:black;stroke:none'/></marker>
-<marker id='end' viewBox='0 0 8 8' refX='8' refY='4' markerWidth='8' markerHeight='8' markerUnits='userSpaceOnUse' orient='auto'><path d='M0,0L8,4L0,8z' style='fill:black;stroke:none'/></marker>
-<marker id='dot' viewBox='0 0 8 8' refX='4' refY='4' markerWidth='6' markerHeight='6' markerUnits='userSpaceOnUse'><circle cx='4' cy='4' r='4' style='fill:black;stroke:none'/></marker>
+<marker id='tip' viewBox='0 0 8 8' refX='15' refY='4' markerWidth='8' markerHeight='8' \
+markerUnits='userSpaceOnUse' orient='auto'><path d='M0,0L8,4L0,8z' style='fill:black;stroke:none'/></marker>
+<marker id='end' viewBox='0 0 8 8' refX='8' refY='4' markerWidth='8' markerHeight='8' \
+markerUnits='userSpaceOnUse' orient='auto'><path d='M0,0L8,4L0,8z' style='fill:black;stroke:none'/></marker>
+<marker id='dot' viewBox='0 0 8 8' refX='4' refY='4' markerWidth='6' markerHeight='6' \
+markerUnits='userSpaceOnUse'><circle cx='4' cy='4' r='4' style='fill:black;stroke:none'/></marker>
 <g id='query'><path d='M0,-8L8,0L0,8L-8,0z' style='fill:white'/></g>
 <g id='send'><path d='M-6,-7L8,0L-6,7z' style='fill:currentColor'/></g>
 <g id='recv'><circle r='6.5' style='fill:white'/></g>
