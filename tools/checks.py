@@ -2,10 +2,11 @@
 import difflib
 import importlib.machinery
 import importlib.util
+import os
 import subprocess
 import sys
 
-from crates import TOP
+from crates import BUILT, TOP
 
 # How long a call may take, in seconds.
 LONGEST = 120
@@ -18,6 +19,14 @@ def tool(name):
     sys.dont_write_bytecode = True
     loader.exec_module(it)
     return it
+
+
+def program_of(words):
+    """The program that is named first in these words, or the one that was built. Where it is not there, nothing can be tried."""
+    program = os.path.realpath(words[0] if words else BUILT)
+    if not os.access(program, os.X_OK):
+        sys.exit(f"there is no program {program}: tools/build builds it")
+    return program
 
 
 def run(words, **how):
