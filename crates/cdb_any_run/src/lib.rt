@@ -18,9 +18,9 @@ macro_rules! by_machine {
 }
 
 mod any;
+mod has_deeds;
 mod runs;
 mod shown;
-mod telling;
 
 pub use any::AnyRun;
 pub use cdb_rules::Runs;

@@ -14,9 +14,9 @@ pub item_one : {A : Type 0} (xs : List A) (at : ℕ) (x : A) → 1 ≤ at → at
 item_one xs at x from_one to_len is = by_next (λ n. nth xs n ≡ Some x) at from_one (slice_get-get_or xs (at - 1) x (omega arith) ∙ ap Some (sym is))
 
 -- whether two events are linked is told by what stands there
-pub link_told : (events : List Event) (i j : ℕ) (cause effect : Event) → i < j → nth events i ≡ Some cause → nth events j ≡ Some effect
+pub link_decided : (events : List Event) (i j : ℕ) (cause effect : Event) → i < j → nth events i ≡ Some cause → nth events j ≡ Some effect
     → IsTrue (depends cause effect) ↔ IsLink depends events i j
-link_told events i j cause effect later at_cause at_effect = (
+link_decided events i j cause effect later at_cause at_effect = (
   λ is. record { cause = cause; effect = effect; later = later; at_cause = at_cause; at_effect = at_effect; linked = is },
   λ link. ap₂ depends (same_Some cause link.cause (sym at_cause ∙ link.at_cause)) (same_Some effect link.effect (sym at_effect ∙ link.at_effect)) ∙ link.linked,
 )
@@ -28,10 +28,10 @@ false_only is not = true≢false (sym is ∙ not)
 pub none_between : (events : List Event) (i j n : ℕ) (b : Bool) → b ≡ false → IsTrue b ↔ (IsLink depends events i n × IsLink depends events n j)
     → ((k : ℕ) → k < n → IsLink depends events i k → IsLink depends events k j → ⊥)
     → (k : ℕ) → k < n + 1 → IsLink depends events i k → IsLink depends events k j → ⊥
-none_between events i j n b not tells before k low one two = by (cases_lt k n)
+none_between events i j n b not says before k low one two = by (cases_lt k n)
   where
     by : (k < n) ⊎ (n ≤ k) → ⊥
     by (inl less) = before k less one two
     by (inr more) =
         let same : k ≡ n = omega (arith, low, more) in
-        false_only (tells.1 (subst (IsLink depends events i) same one, subst (λ m. IsLink depends events m j) same two)) not
+        false_only (says.1 (subst (IsLink depends events i) same one, subst (λ m. IsLink depends events m j) same two)) not

@@ -100,8 +100,8 @@ IsDirectBehind depends history at cause event = is_direct depends cause (events_
 
 -- of which events that are added at the end the cause at a position is a direct cause is told by the list of those
 -- behind it
-abbrev pub IsToldByList : {E : Type 0} → (E → E → Bool) → List E → ℕ → E → Type 0
-IsToldByList {E} depends history at cause =
+abbrev pub IsDecidedByList : {E : Type 0} → (E → E → Bool) → List E → ℕ → E → Type 0
+IsDecidedByList {E} depends history at cause =
     (event : E) → CausesLast depends history at event ↔ IsDirectBehind depends history at cause event
 
 -- position i is a direct cause of one that has led to position j

@@ -7,7 +7,7 @@ ghost use Rattle.cdb_causal.specs.Dependence.{depends as depends_of};
 ghost use Rattle.cdb_causal.specs.Exchange.{IsExchanged, IsEachOnce, HaveSameEvents, KeepsOrder};
 ghost use Rattle.cdb_causal.specs.Laws.{OfPositions, OfRollbacks, OfEvents, OfFree, OfTwo, OfExchanged};
 ghost use Rattle.cdb_causal.specs.Laws.{HaveSameOrder, ReachTheSame, IsTransitive, IsMutual, IsRollback};
-ghost use Rattle.cdb_causal.specs.Laws.{AreConsequences, HasNoEffect, KeepCausesWith, OthersKeepCauses, IsToldByList};
+ghost use Rattle.cdb_causal.specs.Laws.{AreConsequences, HasNoEffect, KeepCausesWith, OthersKeepCauses, IsDecidedByList};
 ghost use Rattle.cdb_causal.specs.Laws.{IsFreeIfAlone, MayGoLastFirst};
 ghost use Rattle.cdb_causal.specs.Reach.{IsCommuting, IsSymmetric};
 ghost use Rattle.cdb_causal.specs.Rollback.{without, rolled_back, consequences};
@@ -102,7 +102,7 @@ pub fn direct_causes_stay<E>()
 /// The direct causes of the last event of a list are those events on which it depends directly, by
 /// the list of what stands between.
 pub fn direct_by_list<E>()
-    ensures { OfEvents E (λ depends history at cause. IsToldByList depends history at cause) }
+    ensures { OfEvents E (λ depends history at cause. IsDecidedByList depends history at cause) }
 {}
 
 /// A rollback may be made one undo at a time, from the last consequence back. An event without

@@ -19,10 +19,10 @@ module _ (history : List Event) where
   led_then x y z (inr past) (inl same) = inr (rw (← same) past)
   led_then x y z (inr past) (inr later) = inr (past_then past later)
 
-pub clock_tells : (history : List Event) (at other p k : ℕ) (kind : Kind) (clock its : List ℕ)
+pub clock_shows : (history : List Event) (at other p k : ℕ) (kind : Kind) (clock its : List ℕ)
     → nth history at ≡ Some (Step p k kind) → IsClock history at clock → IsClock history other its
     → HasLedTo depends history other at ↔ IsUpTo clock its
-clock_tells history at other p k kind clock its stands one two = (
+clock_shows history at other p k kind clock its stands one two = (
   λ led q.
       ⊎_elim
       (λ none. omega (arith, none))

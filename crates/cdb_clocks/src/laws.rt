@@ -21,7 +21,7 @@ pub fn clock_counts_steps()
 {}
 
 /// A step has led to an event exactly where its clock is at most the event's in every place.
-pub fn clocks_tell_what_led()
+pub fn clocks_show_what_led()
     ensures { (history : List Event) (at other p k : ℕ) (kind : Kind) (clock its : List ℕ) →
         nth history at ≡ Some (Step p k kind) → IsClock history at clock → IsClock history other its →
         HasLedTo depends history other at ↔ IsUpTo clock its }

@@ -11,7 +11,7 @@ ghost use Rattle.cdb_text.specs.Pushes.{Pushes};
 
 use crate::clock::{Clock, clocks_of};
 use cdb_base::{Event, NoMemory, Proc};
-use cdb_deeds::{Deed, ReceivedNames, Telling};
+use cdb_deeds::{Deed, HasDeeds, ReceivedNames};
 use cdb_explain::{Causes, fresh, push_whole, take_next};
 use cdb_rules::{Runs, Trace};
 use cdb_same::history_of;
@@ -79,7 +79,7 @@ fn push_step<T: Runs>(
 }
 
 /// Takes the next event of a run that is played again, and adds its lines.
-fn push_next<T: Telling>(
+fn push_next<T: HasDeeds>(
     alloc: Global,
     text: &mut String,
     again: &mut T,
@@ -100,7 +100,7 @@ fn push_next<T: Telling>(
 }
 
 /// Adds the lines of each step of a run, with its clock.
-fn push_lines<T: Telling>(
+fn push_lines<T: HasDeeds>(
     alloc: Global,
     text: &mut String,
     run: &Trace,
@@ -124,7 +124,7 @@ fn push_lines<T: Telling>(
 }
 
 /// The text of the clocks of a run.
-pub(crate) fn text_of<T: Telling>(alloc: Global, run: &Trace) -> Result<Vec<u8>, NoMemory>
+pub(crate) fn text_of<T: HasDeeds>(alloc: Global, run: &Trace) -> Result<Vec<u8>, NoMemory>
     requires { IsInOrder T.rules run.now }
     ensures { IfOk result (λ text. IsClocksText T.rules run.now text.items) }
 {

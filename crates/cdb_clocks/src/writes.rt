@@ -8,14 +8,14 @@ ghost use Rattle.cdb_same.specs.Same.{IsFaultOfOutput};
 ghost use Rattle.cdb_streams.specs.Written.{IsWritten};
 
 use crate::text::text_of;
-use cdb_deeds::Telling;
+use cdb_deeds::HasDeeds;
 use cdb_rules::Trace;
 use cdb_same::run_of;
 use cdb_streams::{PlayFault, Sink, write_text};
 use std::alloc::Global;
 
 /// Writes the clocks of a run. The text is whole before any of it is written.
-fn write_clocks<T: Telling, W: Sink>(
+fn write_clocks<T: HasDeeds, W: Sink>(
     alloc: Global,
     run: &Trace,
     out: &mut W,
@@ -43,7 +43,7 @@ fn write_clocks<T: Telling, W: Sink>(
 /// Promise: The clocks that are written have, for each standing step and each process, how many steps of the process
 /// have led to
 /// that step, itself included. After a fault nothing was written, but after a failed write a beginning.
-pub fn clocks<T: Telling, W: Sink>(
+pub fn clocks<T: HasDeeds, W: Sink>(
     alloc: Global,
     setup: &[u8],
     script: &[u8],

@@ -28,7 +28,7 @@ use Rattle.cdb_commands.specs.ReplyView as reply
 use Rattle.cdb_control.specs.Auto.{choice}
 use Rattle.cdb_control.specs.Commands.{Outcome, refused, unless, granted, found, unpaused, step_done, step, lost}
 use Rattle.cdb_control.specs.Commands.{undone_by, undo, rollback, why, redone, show, outcome, reply_of, obey}
-use Rattle.cdb_control.specs.Headline.{undoing, rolling_back, TellsTaken, TellsRedone, IsUndoneWhereFree, IsUndoneNext}
+use Rattle.cdb_control.specs.Headline.{undoing, rolling_back, SaysTaken, SaysRedone, IsUndoneWhereFree, IsUndoneNext}
 use Rattle.cdb_control.specs.Headline.{RedosLeadBack, IsRolledBackAndForth, HoldsAt, Headline}
 use Rattle.cdb_control.specs.Journal.{replay_from, replay, AreOfSeats}
 use Rattle.cdb_control.specs.Kept.{IsReplayed, AreOfRun}
@@ -64,19 +64,19 @@ module _ (rules : Rules) (SameState : List Event → List Event → Type 0) (t :
   pub record Keeps (o : Outcome) : Type 0 where
     pub valid_after : IsTrue (rules.valid o.after.history)
     pub setup : o.after.setup ≡ t.setup
-    pub taken : (event : Event) → TellsTaken o.reply event → o.after.history ≡ t.history ++ event ∷ []
+    pub taken : (event : Event) → SaysTaken o.reply event → o.after.history ≡ t.history ++ event ∷ []
 
   -- nothing is taken, and the history stays
-  quiet : (o : Outcome) → o.after.history ≡ t.history → o.after.setup ≡ t.setup → ((event : Event) → TellsTaken o.reply event → ⊥) → Keeps o
+  quiet : (o : Outcome) → o.after.history ≡ t.history → o.after.setup ≡ t.setup → ((event : Event) → SaysTaken o.reply event → ⊥) → Keeps o
   quiet o same setup none =
       record {
         valid_after = subst (λ (h : List Event). IsTrue (rules.valid h)) (sym same) valid;
         setup = setup;
-        taken = λ event tells. absurd (none event tells);
+        taken = λ event says. absurd (none event says);
       }
 
   refused-keeps : (why : Refusal) → Keeps (refused t why)
-  refused-keeps why = quiet (refused t why) refl refl (λ event tells. tells)
+  refused-keeps why = quiet (refused t why) refl refl (λ event says. says)
 
   unless-keeps : (b : Bool) (why : Refusal) (go : Outcome) → Keeps go → Keeps (unless b why t go)
   unless-keeps true why go h = refused-keeps why
@@ -96,18 +96,18 @@ module _ (rules : Rules) (SameState : List Event → List Event → Type 0) (t :
 
   -- one event more
   one_more : (e : Event) (o : Outcome) → IsTrue (rules.valid (t.history ++ e ∷ [])) → o.after.history ≡ t.history ++ e ∷ []
-      → o.after.setup ≡ t.setup → ((event : Event) → TellsTaken o.reply event → e ≡ event) → Keeps o
-  one_more e o longer is setup tells =
+      → o.after.setup ≡ t.setup → ((event : Event) → SaysTaken o.reply event → e ≡ event) → Keeps o
+  one_more e o longer is setup says =
       record {
         valid_after = subst (λ (h : List Event). IsTrue (rules.valid h)) (sym is) longer;
         setup = setup;
-        taken = λ event told. is ∙ ap (λ (x : Event). t.history ++ x ∷ []) (tells event told);
+        taken = λ event said. is ∙ ap (λ (x : Event). t.history ++ x ∷ []) (says event said);
       }
 
   step-keeps : (p : ℕ) (act : Act) → Keeps (step rules t p act)
   step-keeps p act =
       granted-keeps (rules.step t.history p act) (step_done rules t p)
-      (λ e h. one_more e (step_done rules t p e) (keeps.step t.history valid p act e h) refl refl (λ event told. told))
+      (λ e h. one_more e (step_done rules t p e) (keeps.step t.history valid p act e h) refl refl (λ event said. said))
 
   undo-keeps : (seat : ℕ) (name : StepId) → Keeps (undo t seat name)
   undo-keeps seat name =
@@ -118,7 +118,7 @@ module _ (rules : Rules) (SameState : List Event → List Event → Type 0) (t :
       record {
         valid_after = subst (λ (l : List Event). IsTrue (rules.valid l)) (sym u.4) (keeps.beginning (without t.history u.0) (undone.0 ∷ []) longer);
         setup = refl;
-        taken = λ event tells. absurd tells;
+        taken = λ event says. absurd says;
       })
 
   rollback-keeps : (seat : ℕ) (name : StepId) → Keeps (rollback t seat name)
@@ -133,7 +133,7 @@ module _ (rules : Rules) (SameState : List Event → List Event → Type 0) (t :
             subst (λ (l : List Event). IsTrue (rules.valid l)) (sym u.5)
             (keeps.beginning (remaining depends t.history u.0) (rolled_back depends t.history u.0) longer);
         setup = refl;
-        taken = λ event tells. absurd tells;
+        taken = λ event says. absurd says;
       })
 
   redo-keeps : (seat : ℕ) → Keeps (outcome rules t seat Redo)
@@ -146,16 +146,16 @@ module _ (rules : Rules) (SameState : List Event → List Event → Type 0) (t :
       let waits = all-slice_get (IsOfRun t.setup) (redo_of t seat) _ e (all-get_or (AllByRecursion (IsOfRun t.setup)) t.redo (seat - 1) [] of_run.1 tt) last in
       let again = subst (λ (x : Event). rules.again t.history e ≡ Ok x) same h in
       let longer = subst (λ (x : Event). IsTrue (rules.valid (t.history ++ x ∷ []))) (sym same) (keeps.again t.history valid e waits again) in
-      one_more taken (redone rules t seat taken) longer refl refl (λ event told. told)))
+      one_more taken (redone rules t seat taken) longer refl refl (λ event said. said)))
 
   why-keeps : (name : StepId) → Keeps (why t name)
-  why-keeps name = granted-keeps (causes_of t.setup.processes t.history name) _ (λ causes h. quiet _ refl refl (λ event tells. tells))
+  why-keeps name = granted-keeps (causes_of t.setup.processes t.history name) _ (λ causes h. quiet _ refl refl (λ event says. says))
 
   show-keeps : (v : View) → Keeps (show rules t v)
-  show-keeps (view.Proc p) = found-keeps (rules.process t.history p) NoProcess _ (λ process h. quiet _ refl refl (λ event tells. tells))
-  show-keeps view.Regs = quiet _ refl refl (λ event tells. tells)
-  show-keeps view.Mail = quiet _ refl refl (λ event tells. tells)
-  show-keeps view.History = quiet _ refl refl (λ event tells. tells)
+  show-keeps (view.Proc p) = found-keeps (rules.process t.history p) NoProcess _ (λ process h. quiet _ refl refl (λ event says. says))
+  show-keeps view.Regs = quiet _ refl refl (λ event says. says)
+  show-keeps view.Mail = quiet _ refl refl (λ event says. says)
+  show-keeps view.History = quiet _ refl refl (λ event says. says)
 
   pub obeyed-keeps : (seat : ℕ) (command : Command) → Keeps (outcome rules t seat command)
   unfolding outcome
@@ -163,23 +163,23 @@ module _ (rules : Rules) (SameState : List Event → List Event → Type 0) (t :
   obeyed-keeps seat (Auto p) = granted-keeps (choice rules t.history p) _ (λ act h. unpaused-keeps t.pause _ (step-keeps p act))
   obeyed-keeps seat (Lose s m p) =
       granted-keeps (rules.lose t.history (message_name s m) p) (lost t)
-      (λ e h. one_more e (lost t e) (keeps.lose t.history valid (message_name s m) p e h) refl refl (λ event told. told))
+      (λ e h. one_more e (lost t e) (keeps.lose t.history valid (message_name s m) p e h) refl refl (λ event said. said))
   obeyed-keeps seat (Undo p k) = undo-keeps seat (name_given (named.Step p k))
   obeyed-keeps seat (UndoLost s m p) = undo-keeps seat (name_given (named.Lost s m p))
   obeyed-keeps seat Redo = redo-keeps seat
-  obeyed-keeps seat Forget = quiet _ refl refl (λ event tells. tells)
+  obeyed-keeps seat Forget = quiet _ refl refl (λ event says. says)
   obeyed-keeps seat (Rollback p k) = rollback-keeps seat (name_given (named.Step p k))
   obeyed-keeps seat (RollbackLost s m p) = rollback-keeps seat (name_given (named.Lost s m p))
   obeyed-keeps seat (Why p k) = why-keeps (name_given (named.Step p k))
   obeyed-keeps seat (WhyLost s m p) = why-keeps (name_given (named.Lost s m p))
   obeyed-keeps seat (Break stop) =
       unless-keeps (names_none_of t.setup.processes stop) NoProcess _
-      (unless-keeps (nat_le MAX_BREAKPOINTS (length t.stops)) BreakLimit _ (quiet _ refl refl (λ event tells. tells)))
+      (unless-keeps (nat_le MAX_BREAKPOINTS (length t.stops)) BreakLimit _ (quiet _ refl refl (λ event says. says)))
   obeyed-keeps seat (Unbreak number) =
-      unless-keeps (not (is_some (lookup (nat_eq number) t.stops))) NoBreak _ (quiet _ refl refl (λ event tells. tells))
-  obeyed-keeps seat Resume = quiet _ refl refl (λ event tells. tells)
+      unless-keeps (not (is_some (lookup (nat_eq number) t.stops))) NoBreak _ (quiet _ refl refl (λ event says. says))
+  obeyed-keeps seat Resume = quiet _ refl refl (λ event says. says)
   obeyed-keeps seat (Show v) = show-keeps v
-  obeyed-keeps seat Decisions = quiet _ refl refl (λ event tells. tells)
+  obeyed-keeps seat Decisions = quiet _ refl refl (λ event says. says)
 
 -- ---- the commands that undo, roll back and redo
 
@@ -235,32 +235,32 @@ module _ (rules : Rules) (SameState : List Event → List Event → Type 0) (t :
     abbrev name : StepId
     name = event_name event
 
-    told_free : IsFree depends t.history i → outcome rules t seat (undoing name) ≡ undone_to t seat (event, without t.history i)
-    told_free free = undone-is rules t seat name _ (free_undone t.setup.processes t.history name i event (keeps.named t.history valid i event at) free)
+    replied_free : IsFree depends t.history i → outcome rules t seat (undoing name) ≡ undone_to t seat (event, without t.history i)
+    replied_free free = undone-is rules t seat name _ (free_undone t.setup.processes t.history name i event (keeps.named t.history valid i event at) free)
 
-    told_needed : (later : StepId) → IsFirstDependent t.history i later → outcome rules t seat (undoing name) ≡ refused t (NeededBy later)
-    told_needed later first =
+    replied_needed : (later : StepId) → IsFirstDependent t.history i later → outcome rules t seat (undoing name) ≡ refused t (NeededBy later)
+    replied_needed later first =
         undone-is rules t seat name _ (needed_refused t.setup.processes t.history name i event (keeps.named t.history valid i event at) later first)
 
     pub undone_where_free : IsUndoneWhereFree rules t seat i event
     undone_where_free =
         record {
           exactly = (
-            λ told. ⊎_elim (λ free. free)
-                (λ later. not_undone event (NeededBy later.0) (sym (ap (λ (o : Outcome). o.reply) (told_needed later.0 later.1)) ∙ told)) either,
-            λ free. ap (λ (o : Outcome). o.reply) (told_free free),
+            λ said. ⊎_elim (λ free. free)
+                (λ later. not_undone event (NeededBy later.0) (sym (ap (λ (o : Outcome). o.reply) (replied_needed later.0 later.1)) ∙ said)) either,
+            λ free. ap (λ (o : Outcome). o.reply) (replied_free free),
           );
           needed = λ later. (
-            λ told. ⊎_elim
-                (λ free. not_undone event (NeededBy later) (sym told ∙ ap (λ (o : Outcome). o.reply) (told_free free)))
+            λ said. ⊎_elim
+                (λ free. not_undone event (NeededBy later) (sym said ∙ ap (λ (o : Outcome). o.reply) (replied_free free)))
                 (λ first. subst (IsFirstDependent t.history i)
-                (same_needed first.0 later (sym (ap (λ (o : Outcome). o.reply) (told_needed first.0 first.1)) ∙ told)) first.1)
+                (same_needed first.0 later (sym (ap (λ (o : Outcome). o.reply) (replied_needed first.0 first.1)) ∙ said)) first.1)
                 either,
-            λ first. ap (λ (o : Outcome). o.reply) (told_needed later first),
+            λ first. ap (λ (o : Outcome). o.reply) (replied_needed later first),
           );
           either = either;
           loss = λ copy is. keeps.losses_free t.history valid i copy (at ∙ ap Some is);
-          left = λ free. ap (λ (o : Outcome). o.after.history) (told_free free);
+          left = λ free. ap (λ (o : Outcome). o.after.history) (replied_free free);
         }
       where
         either : IsFree depends t.history i ⊎ ((later : StepId) × IsFirstDependent t.history i later)
@@ -274,10 +274,10 @@ undone_last rules SameState before after event seat keeps valid is =
     let i = suc (length before.history) in
     let at = ap (λ (h : List Event). nth h i) is ∙ push_back before.history event in
     let free = subst (λ (h : List Event). IsFree depends h i) (sym is) (last_free depends before.history event) in
-    let told = told_free rules SameState after keeps valid seat i event at free in
+    let said = replied_free rules SameState after keeps valid seat i event at free in
     record {
-      undone = ap (λ (o : Outcome). o.reply) told;
-      left = ap (λ (o : Outcome). o.after.history) told ∙ ap (λ (h : List Event). without h i) is ∙ without_push_back before.history event;
+      undone = ap (λ (o : Outcome). o.reply) said;
+      left = ap (λ (o : Outcome). o.after.history) said ∙ ap (λ (h : List Event). without h i) is ∙ without_push_back before.history event;
     }
 
 -- ---- redos
@@ -330,7 +330,7 @@ module _ (rules : Rules) (SameState : List Event → List Event → Type 0) (set
       ∙ get_or-set_same now.redo (seat - 1) (without_last (redo_of now seat)) [] low
       ∙ ap without_last list_now
       ∙ front_pushed old event in (
-        subst (λ (r : ReplyView). TellsRedone r event) (sym (ap (λ (o : Outcome). o.reply) is)) refl,
+        subst (λ (r : ReplyView). SaysRedone r event) (sym (ap (λ (o : Outcome). o.reply) is)) refl,
         lead_back events (obey rules now seat Redo)
             (subst (λ (h : List Event). IsTrue (rules.valid (h ++ events))) (sym history) valid_joined)
             list_after
@@ -342,12 +342,12 @@ module _ (rules : Rules) (SameState : List Event → List Event → Type 0) (set
 
 module _ (rules : Rules) (SameState : List Event → List Event → Type 0) (t : State) (lawful : AreLawful rules t.setup)
     (keeps : KeepHistories rules SameState t.setup) (of_run : AreOfRun t) (valid : IsTrue (rules.valid t.history)) where
-  then_undone : (seat : ℕ) (command : Command) (event : Event) → TellsTaken (reply_of rules t seat command) event
+  then_undone : (seat : ℕ) (command : Command) (event : Event) → SaysTaken (reply_of rules t seat command) event
       → (other : ℕ) → IsUndoneNext rules t (obey rules t seat command) event other
-  then_undone seat command event tells other =
+  then_undone seat command event says other =
       let kept = obeyed-keeps rules SameState t lawful keeps of_run valid seat command in
       undone_last rules SameState t (obey rules t seat command) event other
-      (subst (KeepHistories rules SameState) (sym kept.setup) keeps) kept.valid_after (kept.taken event tells)
+      (subst (KeepHistories rules SameState) (sym kept.setup) keeps) kept.valid_after (kept.taken event says)
 
   module _ (seat : ℕ) (low : seat - 1 < length t.redo) where
     list_after : (events history : List Event) → redo_of (undone_by t seat events history) seat ≡ redo_of t seat ++ events
@@ -363,14 +363,14 @@ module _ (rules : Rules) (SameState : List Event → List Event → Type 0) (t :
 
     then_redone : (name : StepId) (event : Event) → reply_of rules t seat (undoing name) ≡ reply.Undone event
         → RedosLeadBack rules SameState t seat (obey rules t seat (undoing name)) (event ∷ [])
-    then_redone name event told = go (undo_of t.setup.processes t.history name) refl
+    then_redone name event said = go (undo_of t.setup.processes t.history name) refl
       where
         go : (r : Result (Event × List Event) Refusal) → undo_of t.setup.processes t.history name ≡ r
             → RedosLeadBack rules SameState t seat (obey rules t seat (undoing name)) (event ∷ [])
-        go (Err refusal) is = not_undone event refusal (sym (ap (λ (o : Outcome). o.reply) (undone-is rules t seat name (Err refusal) is)) ∙ told)
+        go (Err refusal) is = not_undone event refusal (sym (ap (λ (o : Outcome). o.reply) (undone-is rules t seat name (Err refusal) is)) ∙ said)
         go (Ok done) is =
             let out = undone-is rules t seat name (Ok done) is in
-            let same = same_undone done.0 event (sym (ap (λ (o : Outcome). o.reply) out) ∙ told) in
+            let same = same_undone done.0 event (sym (ap (λ (o : Outcome). o.reply) out) ∙ said) in
             let u = undone_free t.setup.processes t.history name done.0 done.1 is in
             let exchanged =
             subst (λ (l : List Event). IsExchanged depends t.history (l ++ done.0 ∷ [])) (sym u.4) (free_to_end depends t.history u.0 done.0 u.2 u.3) in
@@ -389,7 +389,7 @@ module _ (rules : Rules) (SameState : List Event → List Event → Type 0) (t :
         (standing_rolled_back t.setup.processes t.history name i event (keeps.named t.history valid i event at)) in
         record {
           gone = gone;
-          told = ap (λ (o : Outcome). o.reply) out ∙ ap (λ (n : ℕ). reply.RolledBack n) (length-reverse gone);
+          said = ap (λ (o : Outcome). o.reply) out ∙ ap (λ (n : ℕ). reply.RolledBack n) (length-reverse gone);
           exactly =
               subst (λ (o : Outcome). IsParted (IsRolledBack depends t.history i) 1 t.history o.after.history gone)
               (sym out) (parted depends t.history i from_one);
@@ -398,16 +398,16 @@ module _ (rules : Rules) (SameState : List Event → List Event → Type 0) (t :
 
   -- what is told are the decisions that the history shows
   are_shown : (seat : ℕ) (pairs : List (ℕ × ℕ)) → reply_of rules t seat Decisions ≡ reply.Decisions pairs → rules.decisions t.history ≡ pairs
-  are_shown seat pairs told = same_told (rules.decisions t.history) pairs (sym (decisions-are rules t seat) ∙ told)
+  are_shown seat pairs said = same_listed (rules.decisions t.history) pairs (sym (decisions-are rules t seat) ∙ said)
     where
-      same_told : (one other : List (ℕ × ℕ)) → reply.Decisions one ≡ reply.Decisions other → one ≡ other
-      same_told one other h = cc
+      same_listed : (one other : List (ℕ × ℕ)) → reply.Decisions one ≡ reply.Decisions other → one ≡ other
+      same_listed one other h = cc
 
   agreed : HasMajorityIfNeeded t.setup → (seat : ℕ) (pairs : List (ℕ × ℕ)) → reply_of rules t seat Decisions ≡ reply.Decisions pairs → AllAgree pairs
-  agreed majority seat pairs told = subst AllAgree (are_shown seat pairs told) (keeps.agreement majority t.history valid)
+  agreed majority seat pairs said = subst AllAgree (are_shown seat pairs said) (keeps.agreement majority t.history valid)
 
   proposed : (seat : ℕ) (pairs : List (ℕ × ℕ)) → reply_of rules t seat Decisions ≡ reply.Decisions pairs → AreProposed t.setup pairs
-  proposed seat pairs told = subst (AreProposed t.setup) (are_shown seat pairs told) (keeps.validity t.history valid)
+  proposed seat pairs said = subst (AreProposed t.setup) (are_shown seat pairs said) (keeps.validity t.history valid)
 
   pub holds_at : (seats : ℕ) → length t.redo ≡ seats → HoldsAt rules SameState t.setup seats t
   holds_at seats lists =
@@ -415,10 +415,10 @@ module _ (rules : Rules) (SameState : List Event → List Event → Type 0) (t :
         reached = valid;
         shown = keeps.shown t.history;
         undone_where_free = λ seat i event at. undone_where_free rules SameState t keeps valid seat i event at;
-        step_then_undo = λ seat other command event tells. then_undone seat command event tells other;
-        undo_then_redo = λ seat event within told. then_redone seat (among seat within) (event_name event) event told;
+        step_then_undo = λ seat other command event says. then_undone seat command event says other;
+        undo_then_redo = λ seat event within said. then_redone seat (among seat within) (event_name event) event said;
         rolled_back = λ seat i event within at. back_and_forth seat (among seat within) i event at;
-        agreement = λ seat pairs majority told. agreed majority seat pairs told;
+        agreement = λ seat pairs majority said. agreed majority seat pairs said;
         validity = proposed;
       }
     where

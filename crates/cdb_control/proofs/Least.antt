@@ -6,7 +6,7 @@ use Rattle.cdb_base.specs.declared.act.Act.{Act}
 use Rattle.cdb_base.specs.declared.event.Event.{Event}
 use Rattle.cdb_base.specs.declared.refusal.Refusal.{Refusal}
 use Rattle.cdb_control.specs.Auto.{choice}
-use Rattle.cdb_control.specs.Commands.{granted, unpaused, taken_step, newly_fired, step_done, step, IsPauseSet, TellsPause, reply_of, obey}
+use Rattle.cdb_control.specs.Commands.{granted, unpaused, taken_step, newly_fired, step_done, step, IsPauseSet, HasPause, reply_of, obey}
 use Rattle.cdb_control.specs.Commands.{outcome}
 use Rattle.cdb_control.specs.Journal.{Journaled, extended, reply_in, control_state, replay_from, replay}
 use Rattle.cdb_control.specs.Laws.{UsesNumbersOnce}
@@ -77,35 +77,35 @@ module _ (rules : Rules) where
 
   -- ---- the replies to steps
 
-  step_tells : (t : State) (p : ℕ) (act : Act) → AreRising t.stops → TellsPause rules t p (step rules t p act).reply
-  step_tells t p act rising = go (rules.step t.history p act)
+  step_has_pause : (t : State) (p : ℕ) (act : Act) → AreRising t.stops → HasPause rules t p (step rules t p act).reply
+  step_has_pause t p act rising = go (rules.step t.history p act)
     where
-      go : (x : Result Event Refusal) → TellsPause rules t p (granted x t (step_done rules t p)).reply
+      go : (x : Result Event Refusal) → HasPause rules t p (granted x t (step_done rules t p)).reply
       go (Ok e) = pause_set (taken_step rules t.history p e) t.pause t.stops rising
       go (Err why) = tt
 
-  auto_tells : (t : State) (p : ℕ) (chosen : Result Act Refusal) (standing : Option ℕ) → AreRising t.stops
-      → TellsPause rules t p (granted chosen t (λ act. unpaused standing t (step rules t p act))).reply
-  auto_tells t p (Ok act) (Some b) rising = tt
-  auto_tells t p (Ok act) None rising = step_tells t p act rising
-  auto_tells t p (Err why) standing rising = tt
+  auto_has_pause : (t : State) (p : ℕ) (chosen : Result Act Refusal) (standing : Option ℕ) → AreRising t.stops
+      → HasPause rules t p (granted chosen t (λ act. unpaused standing t (step rules t p act))).reply
+  auto_has_pause t p (Ok act) (Some b) rising = tt
+  auto_has_pause t p (Ok act) None rising = step_has_pause t p act rising
+  auto_has_pause t p (Err why) standing rising = tt
 
   pub least_by_step : (setup : Parts) (seats seat p : ℕ) (journal : List Entry) (act : Act) → let t = replay rules setup seats journal in
-      TellsPause rules t p (reply_of rules t seat (Step p act))
+      HasPause rules t p (reply_of rules t seat (Step p act))
   unfolding outcome
-  least_by_step setup seats seat p journal act = step_tells (replay rules setup seats journal) p act (numbered setup seats journal).1
+  least_by_step setup seats seat p journal act = step_has_pause (replay rules setup seats journal) p act (numbered setup seats journal).1
 
   pub least_by_auto : (setup : Parts) (seats seat p : ℕ) (journal : List Entry) → let t = replay rules setup seats journal in
-      TellsPause rules t p (reply_of rules t seat (Auto p))
+      HasPause rules t p (reply_of rules t seat (Auto p))
   unfolding outcome
   least_by_auto setup seats seat p journal =
       let t = replay rules setup seats journal in
-      auto_tells t p (choice rules t.history p) t.pause (numbered setup seats journal).1
+      auto_has_pause t p (choice rules t.history p) t.pause (numbered setup seats journal).1
 
 -- ---- one entry more
 
-pub uses_numbers_once : (rules : Parts → Rules) (old : Journaled) (seat : ℕ) (command : Command) {new : Journaled} {told : ReplyView}
-    → new ≡ extended rules old seat command → told ≡ reply_in rules old seat command → UsesNumbersOnce rules old new command told
+pub uses_numbers_once : (rules : Parts → Rules) (old : Journaled) (seat : ℕ) (command : Command) {new : Journaled} {said : ReplyView}
+    → new ≡ extended rules old seat command → said ≡ reply_in rules old seat command → UsesNumbersOnce rules old new command said
 uses_numbers_once rules old seat command is same =
     let by = rules old.setup in
     let before = control_state rules old in

@@ -199,12 +199,12 @@ pub redone-as : (rules : Rules) (t u : State) (seat : ℕ) (undone event : Event
     → given ≡ decides rules (with_taken t.history r) event → r ≡ Ok event
     → (let o : Outcome = record { reply = reply.Redone event given; after = u } in o) ≡ outcome rules t seat command.Redo
 unfolding outcome
-redone-as rules t u seat undone event given r last is after tells ok =
+redone-as rules t u seat undone event given r last is after says ok =
     ap (λ (v : State). let o : Outcome = record { reply = reply.Redone event given; after = v } in o)
     (after ∙ ap (λ (z : Result Event Refusal). with_lists t seat (with_taken t.history z) (without_last (redo_of t seat))) ok)
     ∙ ap (λ (d : Option ℕ).
     let o : Outcome = record { reply = reply.Redone event d; after = with_lists t seat (t.history ++ event ∷ []) (without_last (redo_of t seat)) } in o)
-    (tells ∙ ap (λ (z : Result Event Refusal). decides rules (with_taken t.history z) event) ok)
+    (says ∙ ap (λ (z : Result Event Refusal). decides rules (with_taken t.history z) event) ok)
     ∙ ap (λ (z : Result Event Refusal). granted z t (redone rules t seat)) (sym ok ∙ is)
     ∙ ap (λ (o : Option Event). found o NothingToRedo t (λ e. granted (rules.again t.history e) t (redone rules t seat))) last
 

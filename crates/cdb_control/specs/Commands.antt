@@ -38,7 +38,7 @@ pub record Outcome : Type 0 where
 
 -- a reply that changes nothing
 abbrev pub replied : State → ReplyView → Outcome
-replied t told = record { reply = told; after = t }
+replied t said = record { reply = said; after = t }
 
 abbrev pub refused : State → Refusal → Outcome
 refused t why = replied t (reply.Refused why)
@@ -84,9 +84,9 @@ abbrev pub newly_fired : Option ℕ → TakenStep → Stops → Option ℕ
 newly_fired (Some b) taken stops = None
 newly_fired None taken stops = first_fired taken stops
 
--- what is told of a step that stands last, and the pause that it sets
-abbrev pub step_told : State → TakenStep → Outcome
-step_told t taken =
+-- the reply to a step that stands last, and the pause that it sets
+abbrev pub step_replied : State → TakenStep → Outcome
+step_replied t taken =
     let paused = newly_fired t.pause taken t.stops in
     record {
       reply = reply.Stepped taken.event taken.decides paused;
@@ -94,7 +94,7 @@ step_told t taken =
     }
 
 abbrev pub step_done : Rules → State → ℕ → Event → Outcome
-step_done rules t p e = step_told (record t { history = t.history ++ e ∷ [] }) (taken_step rules t.history p e)
+step_done rules t p e = step_replied (record t { history = t.history ++ e ∷ [] }) (taken_step rules t.history p e)
 
 abbrev pub step : Rules → State → ℕ → Act → Outcome
 step rules t p act = granted (rules.step t.history p act) t (step_done rules t p)
@@ -166,11 +166,11 @@ abbrev pub IsPauseSet : Option ℕ → TakenStep → Stops → Option ℕ → Ty
 IsPauseSet (Some standing) taken stops paused = paused ≡ None
 IsPauseSet None taken stops paused = IsLeastFired taken stops paused
 
--- the reply to a step of a process tells it
-abbrev pub TellsPause : Rules → State → ℕ → ReplyView → Type 0
-TellsPause rules t p (reply.Stepped e decides paused) =
+-- the reply to a step of a process has that pause
+abbrev pub HasPause : Rules → State → ℕ → ReplyView → Type 0
+HasPause rules t p (reply.Stepped e decides paused) =
     IsPauseSet t.pause (taken_step rules t.history p e) t.stops paused
-TellsPause rules t p other = Unit {0}
+HasPause rules t p other = Unit {0}
 
 -- ---- the table of the commands
 

@@ -51,15 +51,15 @@ abbrev pub control_after_rollback : Rules → State → ℕ → Event → State
 control_after_rollback rules t seat event = obey rules t seat (rolling_back (event_name event))
 
 -- the reply says that the event was taken, or taken again
-abbrev pub TellsTaken : ReplyView → Event → Type 0
-TellsTaken (Stepped event decides paused) taken = event ≡ taken
-TellsTaken (Redone event decides) taken = event ≡ taken
-TellsTaken _ taken = ⊥
+abbrev pub SaysTaken : ReplyView → Event → Type 0
+SaysTaken (Stepped event decides paused) taken = event ≡ taken
+SaysTaken (Redone event decides) taken = event ≡ taken
+SaysTaken _ taken = ⊥
 
 -- the reply says that the event was taken again
-abbrev pub TellsRedone : ReplyView → Event → Type 0
-TellsRedone (Redone event decides) taken = event ≡ taken
-TellsRedone _ taken = ⊥
+abbrev pub SaysRedone : ReplyView → Event → Type 0
+SaysRedone (Redone event decides) taken = event ≡ taken
+SaysRedone _ taken = ⊥
 
 -- ---- the claims, of a control state t
 
@@ -89,7 +89,7 @@ RedosLeadBack rules SameState before seat t [] =
 RedosLeadBack rules SameState before seat t (event ∷ events) =
     (between : List Entry) → let now = replay_from rules t between in
     now.history ≡ t.history → redo_of now seat ≡ redo_of t seat
-    → TellsRedone (reply_of rules now seat Redo) event
+    → SaysRedone (reply_of rules now seat Redo) event
     × RedosLeadBack rules SameState before seat (obey rules now seat Redo) events
 
 -- The event at a position is removed with exactly its consequences, the reply says how many events that are, and as
@@ -97,7 +97,7 @@ RedosLeadBack rules SameState before seat t (event ∷ events) =
 pub record IsRolledBackAndForth (rules : Rules) (SameState : List Event → List Event → Type 0)
     (t : State) (seat at : ℕ) (event : Event) : Type 0 where
   pub gone : List Event
-  pub told : rollback_reply rules t seat event ≡ RolledBack (length gone)
+  pub said : rollback_reply rules t seat event ≡ RolledBack (length gone)
   pub exactly : IsParted (IsRolledBack depends t.history at) 1
       t.history (control_after_rollback rules t seat event).history gone
   pub back : RedosLeadBack rules SameState t seat (control_after_rollback rules t seat event) gone
@@ -117,7 +117,7 @@ pub record HoldsAt (rules : Rules) (SameState : List Event → List Event → Ty
       → IsUndoneWhereFree rules t seat at event
   -- step then undo is the identity, whoever steps and whoever undoes
   pub step_then_undo : (seat other : ℕ) (command : Command) (event : Event)
-      → TellsTaken (reply_of rules t seat command) event
+      → SaysTaken (reply_of rules t seat command) event
       → IsUndoneNext rules t (obey rules t seat command) event other
   -- undo then redo is the identity
   pub undo_then_redo : (seat : ℕ) (event : Event) → IsWithin 1 seats seat → undo_reply rules t seat event ≡ Undone event

@@ -4,7 +4,7 @@ ghost use Rattle.cdb_base.specs.declared.act.Act.{Act};
 ghost use Rattle.cdb_commands.specs.declared.command.Command.{Command};
 ghost use Rattle.cdb_commands.specs.declared.command.Stop.{Stop};
 ghost use Rattle.cdb_commands.specs.declared.command.Command.TheVariants.{Step, Auto, Forget};
-ghost use Rattle.cdb_control.specs.Commands.{TellsPause, reply_of, obey};
+ghost use Rattle.cdb_control.specs.Commands.{HasPause, reply_of, obey};
 ghost use Rattle.cdb_control.specs.Headline.{Headline};
 ghost use Rattle.cdb_control.specs.Journal.{replies_in};
 ghost use Rattle.cdb_control.specs.Laws.{followed_by, ActsOnNoRun, AddsReply, KeepsRun, UsesNextNumber, ForCommands};
@@ -51,9 +51,9 @@ pub fn looks_leave_the_run()
 #[tactic(auto)]
 pub fn least_fired()
     ensures by_step { InReplayed (λ rules t. (seat p : ℕ) (act : Act) →
-        TellsPause rules t p (reply_of rules t seat (Step p act))) }
+        HasPause rules t p (reply_of rules t seat (Step p act))) }
     ensures by_auto { InReplayed (λ rules t. (seat p : ℕ) →
-        TellsPause rules t p (reply_of rules t seat (Auto p))) }
+        HasPause rules t p (reply_of rules t seat (Auto p))) }
 {}
 
 /// One command more of a seat adds its reply to the seat's replies.

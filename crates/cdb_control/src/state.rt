@@ -7,7 +7,7 @@ ghost use Rattle.cdb_control.specs.Done.{came_out, CameOutAs, IsCarriedOut, IsCa
 ghost use Rattle.cdb_control.specs.Done.{IsNoRefusal, IsGranted, IsGrantedFromAny, NoneShrinks};
 ghost use Rattle.cdb_control.specs.Auto.{choice};
 ghost use Rattle.cdb_rules.specs.Auto.{first_act_of};
-ghost use Rattle.cdb_control.specs.Commands.{undo, rollback, why, show, decides, newly_fired, last_step, step_told};
+ghost use Rattle.cdb_control.specs.Commands.{undo, rollback, why, show, decides, newly_fired, last_step, step_replied};
 ghost use Rattle.cdb_rules.specs.EventRefs.{name_given};
 ghost use Rattle.cdb_rules.specs.Runs.{with_result};
 ghost use Rattle.cdb_rules.specs.Step.{is_among};
@@ -353,8 +353,8 @@ impl<R: Runs> ControlState<R> {
 
     /// The reply to a step that stands last. Sets the pause, where a breakpoint fires.
     #[inline(always)]
-    fn tell_step(&mut self, taken: TakenStep) -> Reply
-        ensures told { came_out result self.new.state ≡ step_told self.old.state taken }
+    fn reply_to_step(&mut self, taken: TakenStep) -> Reply
+        ensures said { came_out result self.new.state ≡ step_replied self.old.state taken }
         ensures kept { self.new.capacities ≡ self.old.capacities }
     {
         let paused = self.fire(&taken);
@@ -380,7 +380,7 @@ impl<R: Runs> ControlState<R> {
         match self.run.step(alloc, p, act)? {
             Ok(event) => {
                 let taken = self.last_step(event, p, round_before);
-                Ok(self.tell_step(taken))
+                Ok(self.reply_to_step(taken))
             }
             Err(refusal) => refused(refusal),
         }
@@ -465,7 +465,7 @@ impl<R: Runs> ControlState<R> {
         match self.run.step_first(alloc, p)? {
             Ok(event) => {
                 let taken = self.last_step(event, p, round_before);
-                Ok(self.tell_step(taken))
+                Ok(self.reply_to_step(taken))
             }
             Err(refusal) => refused(refusal),
         }

@@ -108,8 +108,8 @@ receives p (Lost copy) name is = absurd (none-some name is)
 was_received : (p : ℕ) (history : List Event) (name : MsgName) → IsIn name (received_names p history) → HasReceived history p name
 was_received p history name it =
     let found = in_flat_map (λ event. option_to_list (received_at p event)) history name it in
-    let told = receives p found.0 name (in_option (received_at p found.0) name found.2) in
-    (told.0, subst (λ (event : Event). StandsIn event history) told.1 (stands found.0 history found.1))
+    let said = receives p found.0 name (in_option (received_at p found.0) name found.2) in
+    (said.0, subst (λ (event : Event). StandsIn event history) said.1 (stands found.0 history found.1))
 
 -- ---- the leader machine
 

@@ -8,15 +8,15 @@
 
 mod alpha;
 mod deed;
+mod has_deeds;
 pub mod laws;
 mod leader;
 mod received;
-mod telling;
 
 pub use alpha::{alpha_deed, register_of_value};
 pub use deed::{Deed, Messages, Source};
+pub use has_deeds::HasDeeds;
 pub use leader::{
     leader_deed, number_of_estimate, number_of_learnt, number_of_proposal, value_of, value_received,
 };
 pub use received::ReceivedNames;
-pub use telling::Telling;

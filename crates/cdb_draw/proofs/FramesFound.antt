@@ -79,7 +79,7 @@ module _ (rules : Parts → Rules) (setup : Parts) (commands : List Command) (i 
       (control : Journaled) (along : HasCarriedOut setup (take i commands) control) where
     pub frame_next : (took : Option Bool) → took ≡ took_by (reply_in rules control 1 command)
         → frame_at rules setup commands (i + 1) ≡ frame_by (i + 1) (events_at rules setup commands (i + 1)) took
-    frame_next took told = subst (λ (n : ℕ). frame_at rules setup commands n ≡ frame_by n (events_at rules setup commands n) took) next here
+    frame_next took said = subst (λ (n : ℕ). frame_at rules setup commands n ≡ frame_by n (events_at rules setup commands n) took) next here
       where
         next : suc i ≡ i + 1
         next = omega arith
@@ -93,7 +93,7 @@ module _ (rules : Parts → Rules) (setup : Parts) (commands : List Command) (i 
         here : frame_at rules setup commands (suc i) ≡ frame_by (suc i) (events_at rules setup commands (suc i)) took
         here =
             let last : suc i - 1 ≡ i = omega arith in
-            rw (at, last, told, same) refl
+            rw (at, last, said, same) refl
 
     -- what stands after it
     pub events_next : (left : Journaled) → left ≡ extended rules control 1 command → length (run_of rules left).history ≡ events_at rules setup commands (i + 1)

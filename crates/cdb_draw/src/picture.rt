@@ -24,7 +24,7 @@ use crate::sends::{Sends, Takes, sends_of, takes_of};
 use crate::style::{NAMESPACE, SHAPES, STYLE};
 use crate::weight::Weight;
 use cdb_base::limits::MAX_ENTRIES;
-use cdb_deeds::{Deed, ReceivedNames, Telling};
+use cdb_deeds::{Deed, HasDeeds, ReceivedNames};
 use cdb_explain::{fresh, take_next};
 use cdb_rules::{Runs, Trace};
 use cdb_setup::Algorithm;
@@ -168,7 +168,7 @@ fn put_mark_at<T: Runs, W: Sink>(
 }
 
 /// Puts the marks of all events. The run is played again, event by event, and asked when that is soonest answered.
-fn put_marks<T: Telling, W: Sink>(
+fn put_marks<T: HasDeeds, W: Sink>(
     alloc: Global,
     grid: Grid,
     run: &Trace,
@@ -211,7 +211,7 @@ fn put_marks<T: Telling, W: Sink>(
 }
 
 /// Puts the whole picture.
-fn put_picture<T: Telling, W: Sink>(
+fn put_picture<T: HasDeeds, W: Sink>(
     alloc: Global,
     grid: Grid,
     run: &Trace,
@@ -235,7 +235,7 @@ fn put_picture<T: Telling, W: Sink>(
 }
 
 /// Puts the picture into an empty buffer, and writes what is left in it.
-fn write_pieces<T: Telling, W: Sink>(
+fn write_pieces<T: HasDeeds, W: Sink>(
     alloc: Global,
     grid: Grid,
     run: &Trace,
@@ -259,7 +259,7 @@ fn write_pieces<T: Telling, W: Sink>(
 
 /// Writes the picture in which the events are drawn in these weights. After `Write` what was
 /// written is a beginning of the picture, and after `NoMemory` one of whole pieces of 65,536 bytes.
-pub(crate) fn write_picture<T: Telling, W: Sink>(
+pub(crate) fn write_picture<T: HasDeeds, W: Sink>(
     alloc: Global,
     grid: Grid,
     run: &Trace,

@@ -74,5 +74,5 @@ no_err value error same = cc
 -- a refused look for causes adds nothing
 pub no_because : (returned : Result (List StepId) Refusal) {A : Type 0} (view : A → List StepId) (result : Result A Refusal) (why : Refusal)
     → MapsTo view result returned → result ≡ Err why → because_text returned ≡ []
-no_because returned view (Ok found) why tells is = cc
-no_because returned view (Err refusal) why tells is = ap because_text tells
+no_because returned view (Ok found) why says is = cc
+no_because returned view (Err refusal) why says is = ap because_text says

@@ -23,7 +23,7 @@ abbrev pub IsFaultOfExplain : (Parts → Rules) → List ℕ → ℕ → Option 
 IsFaultOfExplain rules json p k old new =
     IsFaultOfLeft rules json old new (λ run. StandsNoStep run.history p k) (λ run. ⊥)
 
--- how the writing of a text about a step ended, which is whole before any of it is written
+-- how the writing of an answer ended, which is whole before any of it is written
 abbrev pub answer_ending : {A : Type 0} → Result A AnswerFault → Ending
 answer_ending (Ok done) = Complete
 answer_ending (Err (Play play.Write)) = WriterFailed

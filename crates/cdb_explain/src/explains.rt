@@ -15,14 +15,14 @@ ghost use Rattle.cdb_setup.specs.declared.fault.SetupFault.{SetupFault as SetupF
 use crate::fault::AnswerFault;
 use crate::left::run_left_by;
 use crate::step::explain_step;
-use cdb_deeds::Telling;
+use cdb_deeds::HasDeeds;
 use cdb_rules::Trace;
 use cdb_streams::{Sink, Source, write_text};
 use std::alloc::Global;
 
 /// Writes the explanation of a step of this run, which is whole before any of it is written. `NoStep` where no such
 /// step stands.
-fn write_explanation<T: Telling, W: Sink>(
+fn write_explanation<T: HasDeeds, W: Sink>(
     alloc: Global,
     run: &Trace,
     p: u32,
@@ -53,7 +53,7 @@ fn write_explanation<T: Telling, W: Sink>(
 /// history, each with what it carries and decides, what it did by the table of its machine, and its direct causes, and
 /// counts them. `NoStep` comes only where no such step stands. After a fault nothing was written, but after a failed
 /// write a beginning.
-pub fn explain<T: Telling, R: Source, W: Sink>(
+pub fn explain<T: HasDeeds, R: Source, W: Sink>(
     alloc: Global,
     setup: &[u8],
     script: &mut R,

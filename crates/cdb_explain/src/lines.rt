@@ -11,13 +11,13 @@ ghost use Rattle.std.specs.Prelude.{◌≡◌, ◌≤◌, length, IfOk, OnOk};
 use crate::line::{Causes, push_line};
 use crate::replay::{fresh, take_next};
 use cdb_base::{Event, NoMemory};
-use cdb_deeds::{ReceivedNames, Telling};
+use cdb_deeds::{HasDeeds, ReceivedNames};
 use cdb_rules::Trace;
 use std::alloc::{AllocError, Global};
 
 /// Takes the next event of a run that is played again, and adds its line. The run is asked before the event for what
 /// the event does, and after it for all else.
-fn push_next<T: Telling>(
+fn push_next<T: HasDeeds>(
     alloc: Global,
     text: &mut String,
     causes: Causes,
@@ -40,7 +40,7 @@ fn push_next<T: Telling>(
 /// Adds the lines of the flagged events, in the order of the history, with their causes or without, and returns how
 /// many they are. There is a flag for each event. `NoMemory` if an allocation fails. It plays the run again, event by
 /// event, and asks it when that is soonest answered.
-pub fn push_lines<T: Telling>(
+pub fn push_lines<T: HasDeeds>(
     alloc: Global,
     text: &mut String,
     causes: Causes,
@@ -83,7 +83,7 @@ pub fn push_count(text: &mut String, count: usize, all: usize) -> Result<(), All
 }
 
 /// Adds the lines of the flagged events, with their causes, and then how many they are of how many.
-fn push_flagged<T: Telling>(
+fn push_flagged<T: HasDeeds>(
     alloc: Global,
     text: &mut String,
     run: &Trace,
@@ -99,7 +99,7 @@ fn push_flagged<T: Telling>(
 }
 
 /// The lines of the flagged events, with their causes, and then how many they are of how many.
-fn text_of_flagged<T: Telling>(
+fn text_of_flagged<T: HasDeeds>(
     alloc: Global,
     run: &Trace,
     flags: &[bool],
@@ -115,7 +115,7 @@ fn text_of_flagged<T: Telling>(
 
 /// The explanation of the event at a position of the history, from 1: a line for each event that led to it, in
 /// the order of the history, and then how many they are. `NoMemory` if an allocation fails.
-pub fn explanation<T: Telling>(
+pub fn explanation<T: HasDeeds>(
     alloc: Global,
     run: &Trace,
     position: usize,

@@ -7,14 +7,14 @@ ghost use Rattle.std.specs.Prelude.{IfOk};
 use crate::asked::position_of_step;
 use crate::lines::explanation;
 use cdb_base::NoMemory;
-use cdb_deeds::Telling;
+use cdb_deeds::HasDeeds;
 use cdb_rules::Trace;
 use std::alloc::Global;
 
 /// The explanation of the `k`-th standing step of process `p`; without `k` that of its last standing step,
 /// which is its decision where it has decided. Nothing where no such step stands. `NoMemory` if an
 /// allocation fails.
-pub fn explain_step<T: Telling>(
+pub fn explain_step<T: HasDeeds>(
     alloc: Global,
     run: &Trace,
     p: u32,

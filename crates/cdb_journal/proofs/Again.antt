@@ -22,15 +22,15 @@ is_read_back c can = read_back c can
 pub is_replied_again : ForWritten IsRepliedAgain
 is_replied_again c can rules = replied_again (rules c.setup) c.setup c.seats MAX_SEATS c.journal can.seats can.of_seats
 
-told_if : (b : Bool) (reply : ReplyView) (told replies : List ReplyView) → told ≡ replies → cond b (reply ∷ told) told ≡ cond b (reply ∷ replies) replies
-told_if b reply told replies same = ap (λ (list : List ReplyView). cond b (reply ∷ list) list) same
+replies_if : (b : Bool) (reply : ReplyView) (said replies : List ReplyView) → said ≡ replies → cond b (reply ∷ said) said ≡ cond b (reply ∷ replies) replies
+replies_if b reply said replies same = ap (λ (list : List ReplyView). cond b (reply ∷ list) list) same
 
 each_seat : (rules : Rules) (t : State) (seat : ℕ) (journal : List Entry)
     → replies_to_seat seat (seat_replies_from rules t journal) ≡ replies_from rules t seat journal
 each_seat rules t seat [] = refl
 each_seat rules t seat (e ∷ es) =
     let next = obey rules t e.seat e.command in
-    told_if (e.seat == seat) (reply_of rules t e.seat e.command) (replies_to_seat seat (seat_replies_from rules next es))
+    replies_if (e.seat == seat) (reply_of rules t e.seat e.command) (replies_to_seat seat (seat_replies_from rules next es))
     (replies_from rules next seat es) (each_seat rules next seat es)
 
 pub replies_to_each_seat : RepliesToEachSeat
@@ -39,7 +39,7 @@ replies_to_each_seat rules c seat = each_seat (rules c.setup) _ seat c.journal
 -- a replay tells again what was told
 pub replies_again : ForWritten IsReadBack → ForWritten IsRepliedAgain → (rules : Parts → Rules) (json : List ℕ) (old new : Stream) (text : List ℕ)
     → Replays rules json old new text → RepliesAgain rules json old new text
-replies_again read told rules json old new text replays =
+replies_again read said rules json old new text replays =
     let its = replays.2 in
     record {
       replays = replays;
@@ -48,5 +48,5 @@ replies_again read told rules json old new text replays =
           its.is
           ∙ ap (λ (es : List Entry). seat_replies_text (seat_replies_along (rules its.setup) its.setup MAX_SEATS es)) entries
           ∙ ap (λ (s : Parts). seat_replies_text (seat_replies_along (rules s) s MAX_SEATS c.journal)) (sym setup)
-          ∙ ap seat_replies_text (told c can rules);
+          ∙ ap seat_replies_text (said c can rules);
     }

@@ -11,48 +11,48 @@ use Rattle.cdb_control.specs.declared.control.Entry.{Entry}
 use Rattle.cdb_rules.specs.Rules.{Rules}
 use Rattle.cdb_setup.specs.Parts.{Parts}
 use Rattle.cdb_journal.specs.SeatReplies.{SeatReply, news_in, news_line, news_lines, seat_replies_along, seat_replies_from, seat_replies_in}
-use Rattle.cdb_journal.proofs.RepliesToSeats.{told-append}
+use Rattle.cdb_journal.proofs.RepliesToSeats.{seat_replies-append}
 
 -- a reply to each entry
-told_length : (rules : Rules) (t : State) (es : List Entry) → length (seat_replies_from rules t es) ≡ length es
-told_length rules t [] = refl
-told_length rules t (e ∷ es) = let rest = told_length rules (obey rules t e.seat e.command) es in omega (arith, rest)
+seat_replies-length : (rules : Rules) (t : State) (es : List Entry) → length (seat_replies_from rules t es) ≡ length es
+seat_replies-length rules t [] = refl
+seat_replies-length rules t (e ∷ es) = let rest = seat_replies-length rules (obey rules t e.seat e.command) es in omega (arith, rest)
 
 module _ (rules : Parts → Rules) (c : Journaled) (reader from : ℕ) where
   -- behind the last entry there are none
   pub no_news : length c.journal ≤ from → news_lines reader (drop from (seat_replies_in rules c)) ≡ []
   no_news few =
       ap (news_lines reader)
-      (drop_all from (seat_replies_in rules c) (omega (arith, few, told_length (rules c.setup) (first_control_state c.setup c.seats) c.journal)))
+      (drop_all from (seat_replies_in rules c) (omega (arith, few, seat_replies-length (rules c.setup) (first_control_state c.setup c.seats) c.journal)))
 
   -- one entry more
   module _ (e : Entry) where
-    abbrev pub last_told : SeatReply
-    last_told = record { seat = e.seat; reply = reply_in rules c e.seat e.command }
+    abbrev pub last_reply : SeatReply
+    last_reply = record { seat = e.seat; reply = reply_in rules c e.seat e.command }
 
-    told_more : seat_replies_in rules (extended rules c e.seat e.command) ≡ seat_replies_in rules c ++ last_told ∷ []
+    one_reply_more : seat_replies_in rules (extended rules c e.seat e.command) ≡ seat_replies_in rules c ++ last_reply ∷ []
     unfolding replay
-    told_more = told-append (rules c.setup) (first_control_state c.setup c.seats) c.journal (e ∷ [])
+    one_reply_more = seat_replies-append (rules c.setup) (first_control_state c.setup c.seats) c.journal (e ∷ [])
 
     pub news_more : from ≤ length c.journal → news_lines reader (drop from (seat_replies_in rules (extended rules c e.seat e.command)))
-        ≡ news_lines reader (drop from (seat_replies_in rules c)) ++ news_line reader last_told
+        ≡ news_lines reader (drop from (seat_replies_in rules c)) ++ news_line reader last_reply
     news_more low =
         let few : from ≤ length (seat_replies_in rules c) =
-        omega (arith, low, told_length (rules c.setup) (first_control_state c.setup c.seats) c.journal) in
-        ap (λ (all : List SeatReply). news_lines reader (drop from all)) told_more
-        ∙ ap (news_lines reader) (drop-append-le from (seat_replies_in rules c) (last_told ∷ []) few)
-        ∙ flat_map-append (news_line reader) (drop from (seat_replies_in rules c)) (last_told ∷ [])
-        ∙ ap (λ text. news_lines reader (drop from (seat_replies_in rules c)) ++ text) (append-nil (news_line reader last_told))
+        omega (arith, low, seat_replies-length (rules c.setup) (first_control_state c.setup c.seats) c.journal) in
+        ap (λ (all : List SeatReply). news_lines reader (drop from all)) one_reply_more
+        ∙ ap (news_lines reader) (drop-append-le from (seat_replies_in rules c) (last_reply ∷ []) few)
+        ∙ flat_map-append (news_line reader) (drop from (seat_replies_in rules c)) (last_reply ∷ [])
+        ∙ ap (λ text. news_lines reader (drop from (seat_replies_in rules c)) ++ text) (append-nil (news_line reader last_reply))
 
 -- what a control tells behind some first entries is the news from a position on, where it has no fewer
-pub news_told : (rules : Parts → Rules) (c : Journaled) (reader from : ℕ)
+pub news_listed : (rules : Parts → Rules) (c : Journaled) (reader from : ℕ)
     → news_lines reader (drop (min from (length c.journal)) (seat_replies_in rules c)) ≡ news_in rules c reader from
-news_told rules c reader from =
+news_listed rules c reader from =
     let all : take (length c.journal) c.journal ≡ c.journal = take_all (length c.journal) c.journal (omega arith) in
-    let told : List Entry → List SeatReply = seat_replies_along (rules c.setup) c.setup c.seats in
+    let said : List Entry → List SeatReply = seat_replies_along (rules c.setup) c.setup c.seats in
     ap (news_lines reader)
-    (drop_min from (length c.journal) (seat_replies_in rules c) (omega (arith, told_length (rules c.setup) (first_control_state c.setup c.seats) c.journal)))
-    ∙ ap (λ (entries : List Entry). news_lines reader (drop from (told entries))) (sym all)
+    (drop_min from (length c.journal) (seat_replies_in rules c) (omega (arith, seat_replies-length (rules c.setup) (first_control_state c.setup c.seats) c.journal)))
+    ∙ ap (λ (entries : List Entry). news_lines reader (drop from (said entries))) (sym all)
   where
     drop_min : (n most : ℕ) (xs : List SeatReply) → length xs ≤ most → drop (min n most) xs ≡ drop n xs
     drop_min n most xs few =

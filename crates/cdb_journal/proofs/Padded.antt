@@ -149,18 +149,18 @@ module _ (more : List (List Event)) (t : State) where
 
 -- ---- along a journal
 
-told_padded : (rules : Rules) (more : List (List Event)) (t : State) (seats : ℕ) (journal : List Entry) → length t.redo ≡ seats → AreOfSeats seats journal
+replies_padded : (rules : Rules) (more : List (List Event)) (t : State) (seats : ℕ) (journal : List Entry) → length t.redo ≡ seats → AreOfSeats seats journal
     → seat_replies_from rules (padded more t) journal ≡ seat_replies_from rules t journal
-told_padded rules more t seats [] many all = refl
-told_padded rules more t seats (e ∷ es) many all =
+replies_padded rules more t seats [] many all = refl
+replies_padded rules more t seats (e ∷ es) many all =
     let its = pads more t rules e.seat (omega (arith, all.0.0, all.0.1, many)) e.command in
     let next = obey rules t e.seat e.command in
     let first : SeatReply = record { seat = e.seat; reply = reply_of rules (padded more t) e.seat e.command } in
     ap (λ (state : State). first ∷ seat_replies_from rules state es) its.after
     ∙ ap (λ (reply : ReplyView). (let one : SeatReply = record { seat = e.seat; reply = reply } in one) ∷ seat_replies_from rules (padded more next) es)
     its.reply
-    ∙ ap (λ (others : List SeatReply). (let told : SeatReply = record { seat = e.seat; reply = reply_of rules t e.seat e.command } in told) ∷ others)
-    (told_padded rules more next seats es (its.lists ∙ many) all.1)
+    ∙ ap (λ (others : List SeatReply). (let said : SeatReply = record { seat = e.seat; reply = reply_of rules t e.seat e.command } in said) ∷ others)
+    (replies_padded rules more next seats es (its.lists ∙ many) all.1)
 
 lists_of : (n : ℕ) → length (replicate n (let none : List Event = [] in none)) ≡ n
 lists_of n = length-replicate n []
@@ -174,4 +174,4 @@ replied_again rules setup seats wide journal few all =
     let parts : replicate seats none ++ replicate (wide - seats) none ≡ replicate wide none =
     replicate-append-replicate seats (wide - seats) none ∙ ap (λ (n : ℕ). replicate n none) sum in
     ap (λ (redo : List (List Event)). seat_replies_from rules (record (first_control_state setup seats) { redo = redo }) journal) (sym parts)
-    ∙ told_padded rules (replicate (wide - seats) none) (first_control_state setup seats) seats journal (lists_of seats) all
+    ∙ replies_padded rules (replicate (wide - seats) none) (first_control_state setup seats) seats journal (lists_of seats) all

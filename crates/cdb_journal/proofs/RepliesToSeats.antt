@@ -36,12 +36,12 @@ pub state_behind : (rules : Rules) (t : State) (done : List Entry) (e : Entry)
 state_behind rules t [] e = refl
 state_behind rules t (other ∷ done) e = state_behind rules (obey rules t other.seat other.command) done e
 
-pub told-append : (rules : Rules) (t : State) (done rest : List Entry)
+pub seat_replies-append : (rules : Rules) (t : State) (done rest : List Entry)
     → seat_replies_from rules t (done ++ rest) ≡ seat_replies_from rules t done ++ seat_replies_from rules (replay_from rules t done) rest
-told-append rules t [] rest = refl
-told-append rules t (e ∷ done) rest =
-    ap (λ (others : List SeatReply). (let told : SeatReply = record { seat = e.seat; reply = reply_of rules t e.seat e.command } in told) ∷ others)
-    (told-append rules (obey rules t e.seat e.command) done rest)
+seat_replies-append rules t [] rest = refl
+seat_replies-append rules t (e ∷ done) rest =
+    ap (λ (others : List SeatReply). (let said : SeatReply = record { seat = e.seat; reply = reply_of rules t e.seat e.command } in said) ∷ others)
+    (seat_replies-append rules (obey rules t e.seat e.command) done rest)
 
 module _ (rules : Rules) (t : State) (done : List Entry) (e : Entry) where
   -- what is told after an entry
@@ -54,7 +54,7 @@ module _ (rules : Rules) (t : State) (done : List Entry) (e : Entry) where
       ≡ seat_replies_text (seat_replies_from rules t done) ++
       (seat_reply_line e.seat (reply_of rules (replay_from rules t done) e.seat e.command) ++ text_behind rest)
   parted_text rest =
-      ap seat_replies_text (told-append rules t done (e ∷ rest))
+      ap seat_replies_text (seat_replies-append rules t done (e ∷ rest))
       ∙ flat_map-append (λ (it : SeatReply). seat_reply_line it.seat it.reply) (seat_replies_from rules t done)
       (seat_replies_from rules (replay_from rules t done) (e ∷ rest))
 

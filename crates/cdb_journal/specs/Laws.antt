@@ -16,12 +16,12 @@ ForWritten Holds = (c : Journaled) → IsWritable c → Holds c
 abbrev pub IsReadBack : Journaled → Type 0
 IsReadBack c = (entries : List Entry) → IsJournal entries (journal_text c.journal) ↔ (entries ≡ c.journal)
 
--- by any rules, its entries tell with 64 seats what they told
+-- by any rules, its entries have with 64 seats the replies that they had
 abbrev pub IsRepliedAgain : Journaled → Type 0
 IsRepliedAgain c =
     (rules : Parts → Rules) → seat_replies_along (rules c.setup) c.setup MAX_SEATS c.journal ≡ seat_replies_in rules c
 
--- each seat is told the replies to its commands
+-- each seat has the replies to its commands
 abbrev pub RepliesToEachSeat : Type 0
 RepliesToEachSeat =
     (rules : Parts → Rules) (c : Journaled) (seat : ℕ)

@@ -209,7 +209,7 @@ module _ (r : ℕ) (inbox : List Received) (y : Received) where
       → b ≡ are_different (vote_in r inbox) (Some aux)
       → new.other_vote ≡ (if b then noted (length inbox) old.other_vote else old.other_vote)
       → IsRowOf r new (inbox ++ y ∷ [])
-  IsRowOf-push_vote aux b old new nil reads h firsts changes vote tells other = record {
+  IsRowOf-push_vote aux b old new nil reads h firsts changes vote says other = record {
     first_phases =
         subst (λ f. AreFirsts (first_phase r) f (inbox ++ y ∷ [])) (sym firsts) (AreFirsts-longer (first_phase r) inbox y old.first_phases nil h.first_phases);
     second_phases = AreFirsts-push (second_phase r) inbox y aux old.second_phases new.second_phases reads h.second_phases changes;
@@ -219,7 +219,7 @@ module _ (r : ℕ) (inbox : List Received) (y : Received) where
         ∙ ap (λ o. if b then noted (length inbox) o else o) h.other_vote
         ∙ ap (λ d. if d then noted (length inbox) (first_position (λ e. are_different (vote_in r inbox)
         (second_phase r e.payload)) inbox) else first_position (λ e. are_different (vote_in r inbox) (second_phase r e.payload)) inbox)
-        (tells ∙ ap (are_different (vote_in r inbox)) (sym reads))
+        (says ∙ ap (are_different (vote_in r inbox)) (sym reads))
         ∙ sym (others-push (λ e. second_phase r e.payload) inbox y);
   }
 

@@ -7,7 +7,7 @@ use Rattle.std.proofs.lemmas.Grind.{flat_map-append}
 use Rattle.std.proofs.lemmas.List.{length-map, map-append, take_more}
 use Rattle.cdb_commands.specs.ReplyView.{ReplyView, reply_view}
 use Rattle.cdb_commands.specs.declared.reply.Reply.{Reply}
-use Rattle.cdb_race.specs.Races.{all_told}
+use Rattle.cdb_race.specs.Races.{all_reply_views}
 use Rattle.cdb_text.specs.Texts.{text_of}
 use Rattle.cdb_play.specs.Races.{seat_text, seats_text}
 use Rattle.cdb_streams.proofs.Added.{parted}
@@ -31,28 +31,28 @@ module _ (replies : List Reply) (i : ℕ) (reply : Reply) (is : reply ≡ get_or
 
 module _ (first : ℕ) (seats : List (Vec Reply Global)) (i : ℕ) (replies : Vec Reply Global)
     (is : replies ≡ get_or seats i replies) (below : i < length seats) where
-  abbrev told_of : Vec Reply Global → List ReplyView
-  told_of list = map reply_view list.items
+  abbrev reply_views : Vec Reply Global → List ReplyView
+  reply_views list = map reply_view list.items
 
-  count : length (all_told (take i seats)) ≡ i
-  count = length-map (take i seats) told_of ∙ omega (arith, length-take i seats)
+  count : length (all_reply_views (take i seats)) ≡ i
+  count = length-map (take i seats) reply_views ∙ omega (arith, length-take i seats)
 
   behind : (others : List (List ReplyView))
-      → seats_text first (all_told (take i seats) ++ others) ≡ seats_text first (all_told (take i seats)) ++ seats_text (first + i) others
+      → seats_text first (all_reply_views (take i seats) ++ others) ≡ seats_text first (all_reply_views (take i seats)) ++ seats_text (first + i) others
   behind others =
-      seats_text-append first (all_told (take i seats)) others ∙ ap (λ n. seats_text first (all_told (take i seats)) ++ seats_text (first + n) others) count
+      seats_text-append first (all_reply_views (take i seats)) others ∙ ap (λ n. seats_text first (all_reply_views (take i seats)) ++ seats_text (first + n) others) count
 
-  pub one_seat : seats_text first (all_told (take (i + 1) seats))
-      ≡ seats_text first (all_told (take i seats)) ++ seat_text (first + i) (map reply_view replies.items)
+  pub one_seat : seats_text first (all_reply_views (take (i + 1) seats))
+      ≡ seats_text first (all_reply_views (take i seats)) ++ seat_text (first + i) (map reply_view replies.items)
   one_seat =
-      ap (λ s. seats_text first (all_told s)) (take_more seats i replies below ∙ ap (λ r. take i seats ++ r ∷ []) (sym is))
-      ∙ ap (seats_text first) (map-append told_of (take i seats) (replies ∷ [])) ∙ behind (told_of replies ∷ [])
-      ∙ ap (λ t. seats_text first (all_told (take i seats)) ++ t) (append-nil (seat_text (first + i) (told_of replies)))
+      ap (λ s. seats_text first (all_reply_views s)) (take_more seats i replies below ∙ ap (λ r. take i seats ++ r ∷ []) (sym is))
+      ∙ ap (seats_text first) (map-append reply_views (take i seats) (replies ∷ [])) ∙ behind (reply_views replies ∷ [])
+      ∙ ap (λ t. seats_text first (all_reply_views (take i seats)) ++ t) (append-nil (seat_text (first + i) (reply_views replies)))
 
-  pub parted_seats : seats_text first (all_told seats)
-      ≡ seats_text first (all_told (take i seats))
-      ++ (seat_text (first + i) (map reply_view replies.items) ++ seats_text (first + i + 1) (all_told (drop (i + 1) seats)))
+  pub parted_seats : seats_text first (all_reply_views seats)
+      ≡ seats_text first (all_reply_views (take i seats))
+      ++ (seat_text (first + i) (map reply_view replies.items) ++ seats_text (first + i + 1) (all_reply_views (drop (i + 1) seats)))
   parted_seats =
-      ap (λ s. seats_text first (all_told s)) (parted seats i replies below ∙ ap (λ r. take i seats ++ r ∷ drop (i + 1) seats)
-      (sym is)) ∙ ap (seats_text first) (map-append told_of (take i seats) (replies ∷ drop (i + 1) seats))
-      ∙ behind (told_of replies ∷ all_told (drop (i + 1) seats))
+      ap (λ s. seats_text first (all_reply_views s)) (parted seats i replies below ∙ ap (λ r. take i seats ++ r ∷ drop (i + 1) seats)
+      (sym is)) ∙ ap (seats_text first) (map-append reply_views (take i seats) (replies ∷ drop (i + 1) seats))
+      ∙ behind (reply_views replies ∷ all_reply_views (drop (i + 1) seats))

@@ -7,7 +7,7 @@ use Rattle.cdb_commands.specs.ReplyView.{ReplyView, reply_view}
 use Rattle.cdb_control.specs.Journal.{Journaled}
 use Rattle.cdb_commands.specs.declared.command.Command.{Command}
 use Rattle.cdb_commands.specs.declared.reply.Reply.{Reply}
-use Rattle.cdb_race.specs.Races.{IsRaced, replies_in, all_told}
+use Rattle.cdb_race.specs.Races.{IsRaced, replies_in, all_reply_views}
 use Rattle.cdb_rules.specs.Rules.{Rules}
 use Rattle.cdb_setup.specs.Parts.{Parts}
 use Rattle.cdb_play.specs.Races.{seat_text, seats_text, end_text, last_decisions, race_text, AreScripts, IsTextOnSetup}
@@ -50,14 +50,14 @@ text_of_race rules setup turns scripts c replies_given raced =
 
 -- the same of replies of which those of the scripts' seats are shown
 pub text_of_replies : (rules : Parts → Rules) (setup : Parts) (turns : ℕ) (scripts : List (List Command)) (c : Journaled)
-    (replies shown : List (Vec Reply Global)) (n : ℕ) → shown ≡ replies → n ≡ setup.processes → IsRaced rules setup turns scripts c (all_told replies)
-    → seats_text (c.setup.processes + 1) (all_told (take (length shown - n) (drop n shown))) ++ end_text (last_decisions rules c) ≡ race_text rules c
+    (replies shown : List (Vec Reply Global)) (n : ℕ) → shown ≡ replies → n ≡ setup.processes → IsRaced rules setup turns scripts c (all_reply_views replies)
+    → seats_text (c.setup.processes + 1) (all_reply_views (take (length shown - n) (drop n shown))) ++ end_text (last_decisions rules c) ≡ race_text rules c
 text_of_replies rules setup turns scripts c replies shown n same count raced =
-    ap (λ list. seats_text (c.setup.processes + 1) (all_told list) ++ end_text (last_decisions rules c)) (take_rest shown n ∙ ap (drop n) same)
+    ap (λ list. seats_text (c.setup.processes + 1) (all_reply_views list) ++ end_text (last_decisions rules c)) (take_rest shown n ∙ ap (drop n) same)
     ∙ ap (λ lists. seats_text (c.setup.processes + 1) lists ++ end_text (last_decisions rules c))
     (sym (drop-map (λ (list : Vec Reply Global). map reply_view list.items) n replies))
-    ∙ ap (λ k. seats_text (c.setup.processes + 1) (drop k (all_told replies)) ++ end_text (last_decisions rules c)) count
-    ∙ text_of_race rules setup turns scripts c (all_told replies) raced
+    ∙ ap (λ k. seats_text (c.setup.processes + 1) (drop k (all_reply_views replies)) ++ end_text (last_decisions rules c)) count
+    ∙ text_of_race rules setup turns scripts c (all_reply_views replies) raced
 
 -- a text of a race of commands is one of the scripts that have them
 pub of_scripts : (rules : Parts → Rules) (setup : Parts) (turns : ℕ) (scripts : List (List ℕ)) (commands : List (List Command))

@@ -3,7 +3,7 @@ use Rattle.cdb_base.specs.Memory.{no_memory}
 use Rattle.std.proofs.Common.{◌≡◌, ◌≢◌, inl, inr, ℕ, suc, ◌+◌, ◌<◌, ◌≤◌, Bool, List, [], ◌∷◌, length, Option, Result, Ok, Err, refl, ap, arith}
 use Rattle.std.specs.Prelude.{IfErr}
 use Rattle.cdb_commands.specs.declared.command.Command.{Command}
-use Rattle.cdb_race.specs.Faults.{IsAmongSeats, IsFaultBehind, IsTold}
+use Rattle.cdb_race.specs.Faults.{IsAmongSeats, IsFaultBehind, IsFaultOfOne}
 use Rattle.cdb_race.specs.Faults as of_race_threads
 use Rattle.cdb_race.specs.Races.{MayFill}
 use Rattle.cdb_race.specs.declared.threads.ThreadFault.{ThreadFault}
@@ -14,7 +14,7 @@ use Rattle.cdb_setup.specs.Order.{IsFirstFault}
 use Rattle.cdb_setup.specs.Parts.{Parts}
 use Rattle.cdb_setup.specs.declared.fault.SetupFault.{SetupFault}
 use Rattle.cdb_setup.specs.declared.fault.SetupFault.TheVariants as setup
-use Rattle.cdb_shared.specs.Gates.{Heard}
+use Rattle.cdb_shared.specs.Gates.{GateCall}
 use Rattle.cdb_play.specs.Races.{race_fault_of_threads, AreScripts, IsFaultUngated, IsFaultOnSetup, IsFaultOfRace, IsFirstNotTooLong, StopsNoSeat}
 use Rattle.cdb_streams.specs.RaceFaults.{race_fault_of_setup, race_fault_of_output}
 use Rattle.cdb_play.specs.RaceStages.{IsFaultOfCommands, IsFaultOfScripts}
@@ -29,17 +29,17 @@ both (Ok done) P Q R f p q = tt
 both (Err e) P Q R f p q = f e p q
 
 -- a fault of the threads is one of the race
-pub of_threads : {G : Type 0} (T : Type 0) (rules : Parts → Rules) (heard : G → Option (List Heard)) (passes : G → Bool)
+pub of_threads : {G : Type 0} (T : Type 0) (rules : Parts → Rules) (gate_calls : G → Option (List GateCall)) (passes : G → Bool)
     (gates : List G) (setup : Parts) (turns : ℕ) (commands : List (List Command)) (fault : ThreadFault)
     → IsAmongSeats (setup.processes + length commands) fault → (fault ≡ threads.JournalFull → MayFill setup turns commands)
-    → IsTold T rules heard passes gates setup turns commands fault
-    → IsFaultOfCommands (IsFaultBehind T rules heard passes gates) setup turns commands (race_fault_of_threads fault)
-of_threads T rules heard passes gates setup turns commands (threads.NoMemory refused) within most told = tt
-of_threads T rules heard passes gates setup turns commands (threads.Spawn refused) within most told = tt
-of_threads T rules heard passes gates setup turns commands threads.JournalFull within most (inl none) = absurd none
-of_threads T rules heard passes gates setup turns commands threads.JournalFull within most (inr its) = (most refl, its)
-of_threads T rules heard passes gates setup turns commands (threads.Stopped seat) within most (inl none) = absurd none
-of_threads T rules heard passes gates setup turns commands (threads.Stopped seat) within most (inr its) = (within, its)
+    → IsFaultOfOne T rules gate_calls passes gates setup turns commands fault
+    → IsFaultOfCommands (IsFaultBehind T rules gate_calls passes gates) setup turns commands (race_fault_of_threads fault)
+of_threads T rules gate_calls passes gates setup turns commands (threads.NoMemory refused) within most of_one = tt
+of_threads T rules gate_calls passes gates setup turns commands (threads.Spawn refused) within most of_one = tt
+of_threads T rules gate_calls passes gates setup turns commands threads.JournalFull within most (inl none) = absurd none
+of_threads T rules gate_calls passes gates setup turns commands threads.JournalFull within most (inr its) = (most refl, its)
+of_threads T rules gate_calls passes gates setup turns commands (threads.Stopped seat) within most (inl none) = absurd none
+of_threads T rules gate_calls passes gates setup turns commands (threads.Stopped seat) within most (inr its) = (within, its)
 
 -- each script has its commands
 so_many : (commands : List (List Command)) (scripts : List (List ℕ)) → AreScripts commands scripts → length commands ≡ length scripts

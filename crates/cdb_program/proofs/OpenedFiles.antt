@@ -75,7 +75,7 @@ read_then old mid new first second a b before after = (
   first_ones old first second a b before.1 (subst (λ (f : FilesSeen). AllZip (AreFirstBytes f most_read) second b) before.0 after.1),
 )
 
--- only what can't be read, or want of memory, ends the reading of files
+-- only an unreadable file or out of memory ends the reading of files
 pub by_reading : (old new : FilesSeen) (names : List (List ℕ)) (Is : Fault → Type 0)
     → ((name : Bor (List ℕ)) → FailsToRead old new names (Play play.Read name) → Is (Play play.Read name))
     → ((refused : NoMemory) (name : Bor (List ℕ)) → FailsToRead old new names (Play (play.NoMemory refused) name) → Is (Play (play.NoMemory refused) name))

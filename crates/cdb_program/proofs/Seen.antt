@@ -21,7 +21,7 @@ use Rattle.cdb_agreement.specs.Algorithms.{rules}
 use Rattle.cdb_agreement.specs.SameState.{ReachSameState}
 use Rattle.cdb_setup.specs.declared.fault.SetupFault.{SetupFault}
 use Rattle.cdb_journal.specs.Replays.{IsFaultOfReplay, Replays, RepliesAgain}
-use Rattle.cdb_same.specs.Same.{same_ending, ComparesText, IsFaultOfSame, TellsSame}
+use Rattle.cdb_same.specs.Same.{same_ending, ComparesText, IsFaultOfSame, DecidesSame}
 use Rattle.cdb_clocks.specs.WrittenClocks.{clocks_ending, IsFaultOfClocks, WritesClocks}
 use Rattle.cdb_program.specs.Clocks.{AreWritten}
 use Rattle.cdb_program.specs.Comparisons.{IsCompared}
@@ -88,11 +88,11 @@ search_seen writer json goal walks searched old new wrote fault =
     record { wrote = stream_written writer (answer_ending searched) old new (IsFound rules json goal) wrote; fault = fault }
 
 -- what a comparison of runs says of its writer
-pub compared_seen : {W : Type 0} (writer : W → Stream) (json first second : List ℕ) (told : Result Bool PlayFault) (old new : W)
-    → IsWritten writer (same_ending told) old new (ComparesText rules json first second)
-    → IfOk told (TellsSame rules json first second) → IfErr told (IsFaultOfSame json first second) → IsCompared json first second told (writer old) (writer new)
-compared_seen writer json first second told old new wrote same fault =
-    record { wrote = stream_written writer (same_ending told) old new (ComparesText rules json first second) wrote; same = same; fault = fault }
+pub compared_seen : {W : Type 0} (writer : W → Stream) (json first second : List ℕ) (said : Result Bool PlayFault) (old new : W)
+    → IsWritten writer (same_ending said) old new (ComparesText rules json first second)
+    → IfOk said (DecidesSame rules json first second) → IfErr said (IsFaultOfSame json first second) → IsCompared json first second said (writer old) (writer new)
+compared_seen writer json first second said old new wrote same fault =
+    record { wrote = stream_written writer (same_ending said) old new (ComparesText rules json first second) wrote; same = same; fault = fault }
 
 -- and what the writing of clocks says of it
 pub clocks_seen : {W : Type 0} (writer : W → Stream) (json script : List ℕ) (written : Result (Unit {0}) PlayFault) (old new : W)

@@ -22,29 +22,29 @@ abbrev pub report_of : AnswerFault → List ℕ
 report_of fault = as_line (answer_fault_text fault (codes "the input"))
 
 -- no such step stands
-abbrev pub TellsNoStep : RunView → StepAsked → List ℕ → Type 0
-TellsNoStep run step text = StandsNoStep run.history step.p step.k × (text ≡ report_of NoStep)
+abbrev pub SaysNoStep : RunView → StepAsked → List ℕ → Type 0
+SaysNoStep run step text = StandsNoStep run.history step.p step.k × (text ≡ report_of NoStep)
 
 -- the step takes no value
-abbrev pub TellsNoValue : RunView → StepAsked → List ℕ → Type 0
-TellsNoValue run step text = TakesNoValue run step.p step.k × (text ≡ report_of NoValue)
+abbrev pub SaysNoValue : RunView → StepAsked → List ℕ → Type 0
+SaysNoValue run step text = TakesNoValue run step.p step.k × (text ≡ report_of NoValue)
 
 -- no picture is drawn, since the step is missing, or has to be named
-abbrev pub TellsNoPicture : RunView → Option StepAsked → List ℕ → Type 0
-TellsNoPicture run step text =
+abbrev pub SaysNoPicture : RunView → Option StepAsked → List ℕ → Type 0
+SaysNoPicture run step text =
     (IsMissing run.history step × (text ≡ report_of NoStep)) ⊎ (IsTooMuch run step × (text ≡ report_of TooManyEvents))
 
 abbrev pub IsExplained : RunView → StepAsked → Answer → Type 0
 IsExplained run step (Ok text) = IsStepExplained rules run step.p step.k text
-IsExplained run step (Err reason) = TellsNoStep run step reason
+IsExplained run step (Err reason) = SaysNoStep run step reason
 
 abbrev pub IsTrailed : RunView → StepAsked → Answer → Type 0
 IsTrailed run step (Ok text) = IsTrailToStep run step.p step.k text
-IsTrailed run step (Err reason) = TellsNoStep run step reason ⊎ TellsNoValue run step reason
+IsTrailed run step (Err reason) = SaysNoStep run step reason ⊎ SaysNoValue run step reason
 
 abbrev pub IsDrawn : RunView → Option StepAsked → Answer → Type 0
 IsDrawn run step (Ok picture) = IsPictureFor rules run COLUMNS step picture
-IsDrawn run step (Err reason) = TellsNoPicture run step reason
+IsDrawn run step (Err reason) = SaysNoPicture run step reason
 
 abbrev pub IsAnswer : RunView → Inquiry → Answer → Type 0
 IsAnswer run (Explain step) = IsExplained run step

@@ -1,4 +1,4 @@
--- What is known of the outside of the program.
+-- What is known of the world of the program.
 use Rattle.std.specs.Prelude.{◌≡◌, ℕ, List, [], ◌∷◌, ◌++◌, Option, Some, None, option_map, bytes_eq}
 use Rattle.std.specs.List.{find}
 use Rattle.cdb_session.specs.Moves.{Saving}
@@ -16,7 +16,7 @@ pub record FilesSeen : Type 0 where
   pub seats : List (List ℕ × Option SeatSeen)
   pub written : Option (List (List ℕ × List ℕ))
 
--- all of the outside, and what a session was to write to new files, in order, where that is known
+-- all of the world, and what a session was to write to new files, in order, where that is known
 pub record Seen : Type 0 where
   pub files : FilesSeen
   pub input : Stream

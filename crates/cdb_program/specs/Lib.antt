@@ -1,4 +1,4 @@
--- what is known of the outside
+-- what is known of the world
 pub mod Known
 -- what a request does there
 pub mod Outcomes

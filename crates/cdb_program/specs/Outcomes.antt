@@ -41,4 +41,4 @@ abbrev pub IsOfSame : Result Bool PlayFault → RequestEnd → Type 0
 IsOfSame (Ok true) (Ok done) = Unit {0}
 IsOfSame (Ok false) (Err Different) = Unit {0}
 IsOfSame (Err fault) (Err (Play its_fault its_name)) = its_fault ≡ fault
-IsOfSame told outcome = ⊥
+IsOfSame compared outcome = ⊥

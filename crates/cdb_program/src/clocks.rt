@@ -1,4 +1,4 @@
-//! Clocks of runs of what is outside.
+//! Clocks of the runs of files.
 
 ghost use Rattle.std.specs.Prelude.{◌≡◌};
 ghost use Rattle.cdb_program.specs.Clocks.{ClocksFiles};

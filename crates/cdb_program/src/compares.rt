@@ -1,4 +1,4 @@
-//! Comparisons of the runs that two scripts leave, of what is outside.
+//! Comparisons of the runs that two script files leave.
 
 ghost use Rattle.std.specs.Prelude.{◌≡◌};
 ghost use Rattle.cdb_program.specs.Comparisons.{ComparesFiles};
@@ -25,12 +25,12 @@ pub fn compare_files<'a, F: Files + Drop, I: Source + Drop, O: Sink + Drop, E: S
     ensures saved { world.new.saved ≡ world.old.saved }
 {
     let (json, one, other) = read_three(alloc, &mut world.files, setup, first, second)?;
-    let told = same::<AnyRun, O>(
+    let compared = same::<AnyRun, O>(
         alloc,
         json.as_slice(),
         one.as_slice(),
         other.as_slice(),
         &mut world.streams.output,
     );
-    of_same(told)
+    of_same(compared)
 }

@@ -1,4 +1,4 @@
-//! Sessions over what is outside.
+//! Sessions on files and standard input.
 
 ghost use Rattle.std.specs.Prelude.{◌≡◌};
 ghost use Rattle.cdb_base.specs.Requests.{any_text};

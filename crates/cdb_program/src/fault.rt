@@ -108,10 +108,10 @@ pub fn of_answer<'a>(answered: Result<(), AnswerFault>, name: &'a str) -> Result
 }
 
 /// How a request ended that was a comparison of runs.
-pub fn of_same<'a>(told: Result<bool, PlayFault>) -> Result<(), Fault<'a>>
-    ensures { IsOfSame told result }
+pub fn of_same<'a>(compared: Result<bool, PlayFault>) -> Result<(), Fault<'a>>
+    ensures { IsOfSame compared result }
 {
-    match told {
+    match compared {
         Ok(true) => Ok(()),
         Ok(false) => Err(Fault::Different),
         Err(fault) => Err(Fault::Play(fault, "")),

@@ -1,4 +1,4 @@
-//! Frames of scripts of what is outside, each written to a file of its own.
+//! Frames of script files, each written to a file of its own.
 
 ghost use Rattle.std.specs.Prelude.{◌≡◌, ◌++◌, ◌∷◌, [], ◌+◌, ◌<◌, decimal, length};
 ghost use Rattle.std.specs.Prelude.{replicate, string_bytes, IfOk, OnOk, OnErr};

@@ -1,4 +1,4 @@
-//! What the program `revdbg` does with a request, over an outside of files, standard input and two outputs.
+//! What the program `revdbg` does with a request, in a world of files, standard input and two outputs.
 #![tactic(auto)]
 
 mod answers;

@@ -1,4 +1,4 @@
-//! Sessions of what is outside of whose run a page is shown, as it goes on.
+//! Sessions whose run is shown on a page as it goes on.
 
 ghost use Rattle.std.specs.Prelude.{◌≡◌, ◌≤◌, ◌∷◌, [], length, IfOk, IfErr, IfSome};
 ghost use Rattle.cdb_base.specs.Requests.{any_text, texts};

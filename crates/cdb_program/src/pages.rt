@@ -1,4 +1,4 @@
-//! Pages of runs, of what is outside.
+//! Pages of the runs of files.
 
 ghost use Rattle.std.specs.Prelude.{◌≡◌};
 ghost use Rattle.cdb_program.specs.PageFiles.{PagesFiles};

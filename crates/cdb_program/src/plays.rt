@@ -1,4 +1,4 @@
-//! Plays of what is outside.
+//! Plays of files.
 
 ghost use Rattle.std.specs.Prelude.{◌≡◌};
 ghost use Rattle.cdb_program.specs.Plays.{PlaysInput, PlaysFiles};

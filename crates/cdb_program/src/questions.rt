@@ -1,4 +1,4 @@
-//! Questions of the run that a script leaves, of what is outside.
+//! Questions of the run that a script file leaves.
 
 ghost use Rattle.std.specs.Prelude.{◌≡◌, Err, IfErr};
 ghost use Rattle.cdb_explain.specs.declared.fault.AnswerFault.TheVariants.{Play as of_play};

@@ -1,4 +1,4 @@
-//! Races of what is outside.
+//! Races of files.
 
 ghost use Rattle.std.specs.Prelude.{◌≡◌, ◌≤◌};
 ghost use Rattle.cdb_play.specs.Races.{bytes_of};

@@ -1,4 +1,4 @@
-//! Replays of what is outside.
+//! Replays of files.
 
 ghost use Rattle.std.specs.Prelude.{◌≡◌};
 ghost use Rattle.cdb_program.specs.Replays.{ReadsBoth, ReadsJournal, ReplaysFiles};

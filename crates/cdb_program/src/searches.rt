@@ -1,4 +1,4 @@
-//! Searches on what is outside, and scripts made small.
+//! Searches on a setup file, and script files made small.
 
 ghost use Rattle.std.specs.Prelude.{◌≡◌};
 ghost use Rattle.cdb_program.specs.Searches.{SearchesFile, SearchesFor, ShrinksFiles, ShrinksTo};

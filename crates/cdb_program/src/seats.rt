@@ -1,4 +1,4 @@
-//! Sessions of several seats, of what is outside.
+//! Sessions of several seats, on files and terminals.
 
 ghost use Rattle.std.specs.Prelude.{◌≡◌, ◌≤◌, ◌∷◌, [], length, option_map, vec_len, IfOk, IfErr};
 ghost use Rattle.cdb_program.specs.Known.{HasNoSession, after_opening, any_name};

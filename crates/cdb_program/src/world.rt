@@ -1,4 +1,4 @@
-//! The outside of the program: files, standard input, standard output and standard error.
+//! The world of the program: files, standard input, standard output and standard error.
 
 ghost use Rattle.cdb_program.specs.Known.{Seen};
 
@@ -7,7 +7,7 @@ use cdb_session::Streams;
 use cdb_streams::{Sink, Source};
 use std::marker::Model;
 
-/// The outside of the program. Contracts see it as what is known of its files and streams.
+/// The world of the program. Contracts see it as what is known of its files and streams.
 #[derive(Drop)]
 pub struct World<F: Files + Drop, I: Source + Drop, O: Sink + Drop, E: Sink + Drop> {
     pub files: F,

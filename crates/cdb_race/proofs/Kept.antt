@@ -7,7 +7,7 @@ use Rattle.cdb_race.specs.declared.worker.Ran.{Ran}
 use Rattle.cdb_race.specs.declared.worker.SeatPromise.{SeatPromise}
 use Rattle.cdb_rules.specs.Rules.{Rules}
 use Rattle.cdb_setup.specs.Parts.{Parts}
-use Rattle.cdb_shared.specs.Gates.{Heard}
+use Rattle.cdb_shared.specs.Gates.{GateCall}
 use Rattle.cdb_shared.specs.Seats.{SeatView}
 use Rattle.cdb_shared.specs.declared.session.End.{End}
 
@@ -25,6 +25,6 @@ module _ {T G : Type 0} (rules : Parts → Rules) (plan : Plan) (seat : SeatView
   pub kept_ran : (ran : Ran T) → HasRan rules handle.promise.plan handle.promise.seat.value ran → HasRan rules plan seat ran
   kept_ran ran kept = subst (λ (x : Plan × SeatView). HasRan rules x.0 x.1 ran) (λ i. (plan_is i, seat_is i)) kept
 
-  pub kept_ended : (heard : G → Option (List Heard)) (passes : G → Bool) (after : SeatView) (end : End)
-      → HasEndedAtGate heard passes handle.promise.gate.value handle.promise.seat.value after end → HasEndedAtGate heard passes gate seat after end
-  kept_ended heard passes after end kept = subst (λ (x : G × SeatView). HasEndedAtGate heard passes x.0 x.1 after end) (λ i. (gate_is i, seat_is i)) kept
+  pub kept_ended : (gate_calls : G → Option (List GateCall)) (passes : G → Bool) (after : SeatView) (end : End)
+      → HasEndedAtGate gate_calls passes handle.promise.gate.value handle.promise.seat.value after end → HasEndedAtGate gate_calls passes gate seat after end
+  kept_ended gate_calls passes after end kept = subst (λ (x : G × SeatView). HasEndedAtGate gate_calls passes x.0 x.1 after end) (λ i. (gate_is i, seat_is i)) kept

@@ -4,7 +4,7 @@ use Rattle.atomic_table.specs.Seated.{TableId}
 use Rattle.cdb_control.specs.Journal.{opened}
 use Rattle.cdb_commands.specs.declared.command.Command.{Command}
 use Rattle.cdb_race.specs.LastFault.{IsLastFault}
-use Rattle.cdb_race.specs.Faults.{fault_at, fault_in, IsAmongSeats, IsFaultBehind, IsFaultOfThreads, IsNotStopped, IsOfLeastSeat, IsTold}
+use Rattle.cdb_race.specs.Faults.{fault_at, fault_in, IsAmongSeats, IsFaultBehind, IsFaultOfThreads, IsNotStopped, IsOfLeastSeat, IsFaultOfOne}
 use Rattle.cdb_race.specs.Plans.{seats_of}
 use Rattle.cdb_race.specs.Races.{AllRan, AllPass}
 use Rattle.cdb_race.specs.declared.plan.Plan.{Plan}
@@ -13,7 +13,7 @@ use Rattle.cdb_race.specs.declared.threads.ThreadFault.TheVariants as fault
 use Rattle.cdb_race.specs.declared.worker.Ran.{Ran}
 use Rattle.cdb_rules.specs.Rules.{Rules}
 use Rattle.cdb_setup.specs.Parts.{Parts, IsWithin}
-use Rattle.cdb_shared.specs.Gates.{Heard}
+use Rattle.cdb_shared.specs.Gates.{GateCall}
 use Rattle.cdb_shared.specs.Seats.{SeatView, AreFresh, fresh_seat}
 use Rattle.cdb_shared.specs.declared.session.End.{End}
 use Rattle.cdb_shared.specs.declared.session.End.TheVariants.{All, Done, Stopped, NoMemory, JournalFull}
@@ -83,10 +83,10 @@ some_gate [] low = absurd (omega arith)
 some_gate (gate ∷ gates) low = gate
 
 -- where all gates let every call go on no seat stopped
-never_stopped : {G : Type 0} (T : Type 0) (rules : Parts → Rules) (heard : G → Option (List Heard)) (passes : G → Bool) (gates : List G)
+never_stopped : {G : Type 0} (T : Type 0) (rules : Parts → Rules) (gate_calls : G → Option (List GateCall)) (passes : G → Bool) (gates : List G)
     (setup : Parts) (turns : ℕ) (scripts : List (List Command)) (why : ThreadFault) → length gates ≡ setup.processes + length scripts
-    → IsFaultBehind T rules heard passes gates setup turns scripts why → AllPass passes gates → (seat : ℕ) → why ≡ fault.Stopped seat → ⊥
-never_stopped T rules heard passes gates setup turns scripts why many it all seat is =
+    → IsFaultBehind T rules gate_calls passes gates setup turns scripts why → AllPass passes gates → (seat : ℕ) → why ≡ fault.Stopped seat → ⊥
+never_stopped T rules gate_calls passes gates setup turns scripts why many it all seat is =
     let least = it.least in
     let its = least.its in
     let nobody = fresh_seat it.shared (opened setup 0) 0 in
@@ -109,9 +109,9 @@ not_of_threads (fault.NoMemory refused) it = tt
 not_of_threads fault.JournalFull it = tt
 not_of_threads (fault.Spawn refused) it = tt
 
-pub told_passes : {G : Type 0} (T : Type 0) (rules : Parts → Rules) (heard : G → Option (List Heard)) (passes : G → Bool) (gates : List G)
+pub passes_or_threads : {G : Type 0} (T : Type 0) (rules : Parts → Rules) (gate_calls : G → Option (List GateCall)) (passes : G → Bool) (gates : List G)
     (setup : Parts) (turns : ℕ) (scripts : List (List Command)) (why : ThreadFault) → length gates ≡ setup.processes + length scripts
-    → IsTold T rules heard passes gates setup turns scripts why → AllPass passes gates → IsNotStopped why
-told_passes T rules heard passes gates setup turns scripts why many (inl threads) all = not_of_threads why threads
-told_passes T rules heard passes gates setup turns scripts why many (inr it) all =
-    not_stopped why (never_stopped T rules heard passes gates setup turns scripts why many it all)
+    → IsFaultOfOne T rules gate_calls passes gates setup turns scripts why → AllPass passes gates → IsNotStopped why
+passes_or_threads T rules gate_calls passes gates setup turns scripts why many (inl threads) all = not_of_threads why threads
+passes_or_threads T rules gate_calls passes gates setup turns scripts why many (inr it) all =
+    not_stopped why (never_stopped T rules gate_calls passes gates setup turns scripts why many it all)

@@ -6,14 +6,14 @@ use Rattle.atomic_table.specs.Seated.{TableId}
 use Rattle.cdb_commands.specs.declared.command.Command.{Command}
 use Rattle.cdb_commands.specs.declared.reply.Reply.{Reply}
 use Rattle.cdb_race.specs.Plans.{seats_of}
-use Rattle.cdb_race.specs.Races.{all_told, AllRan, AllEnded, AllFinished}
+use Rattle.cdb_race.specs.Races.{all_reply_views, AllRan, AllEnded, AllFinished}
 use Rattle.cdb_race.specs.declared.plan.Plan.{Plan}
 use Rattle.cdb_race.specs.declared.threads.ThreadFault.{ThreadFault}
 use Rattle.cdb_race.specs.declared.threads.ThreadFault.TheVariants as fault
 use Rattle.cdb_race.specs.declared.worker.Ran.{Ran}
 use Rattle.cdb_rules.specs.Rules.{Rules}
 use Rattle.cdb_setup.specs.Parts.{Parts, IsWithin}
-use Rattle.cdb_shared.specs.Gates.{Heard}
+use Rattle.cdb_shared.specs.Gates.{GateCall}
 use Rattle.cdb_shared.specs.Seats.{SeatView, AreFresh}
 use Rattle.cdb_shared.specs.declared.session.End.{End}
 use Rattle.cdb_shared.specs.declared.session.End.TheVariants.{All as AllDone, Done, Stopped, NoMemory, JournalFull}
@@ -40,7 +40,7 @@ abbrev pub HaveFinished : {T : Type 0} → (Parts → Rules) → Vec (Ran T) Glo
 HaveFinished rules rans seats replies =
     (plan : Plan) (before : List SeatView) → length before ≡ vec_len rans
     → AllRan rules plan before rans.items → AreWell rans.items
-    → AllFinished rules plan before seats.items (all_told replies.items)
+    → AllFinished rules plan before seats.items (all_reply_views replies.items)
 
 -- there is room for so many seats and their replies
 abbrev pub IsRoomFor : ℕ → Vec SeatView Global → Vec (Vec Reply Global) Global → Type 0
@@ -77,7 +77,7 @@ IsFaultOfThreads other = IsFaultOfStart other
 -- Behind these gates: each seat has run, its session ended by its gate, and of the seats whose session a fault ended
 -- the least has this one.
 pub record IsFaultBehind {G : Type 0} (T : Type 0) (rules : Parts → Rules)
-    (heard : G → Option (List Heard)) (passes : G → Bool) (gates : List G) (setup : Parts)
+    (gate_calls : G → Option (List GateCall)) (passes : G → Bool) (gates : List G) (setup : Parts)
     (turns : ℕ) (scripts : List (List Command)) (fault : ThreadFault) : Type 0 where
   pub plan : Plan
   pub processes_are : plan.processes ≡ setup.processes
@@ -89,11 +89,11 @@ pub record IsFaultBehind {G : Type 0} (T : Type 0) (rules : Parts → Rules)
   pub rans : List (Ran T)
   pub many : length rans ≡ seats_of plan
   pub ran : AllRan rules plan seats rans
-  pub ended : AllEnded heard passes gates seats rans
+  pub ended : AllEnded gate_calls passes gates seats rans
   pub least : IsOfLeastSeat fault rans
 
 -- a fault of starting or joining the threads, or that of a seat
-abbrev pub IsTold : {G : Type 0} → Type 0 → (Parts → Rules) → (G → Option (List Heard)) → (G → Bool) → List G
+abbrev pub IsFaultOfOne : {G : Type 0} → Type 0 → (Parts → Rules) → (G → Option (List GateCall)) → (G → Bool) → List G
     → Parts → ℕ → List (List Command) → ThreadFault → Type 0
-IsTold T rules heard passes gates setup turns scripts fault =
-    IsFaultOfThreads fault ⊎ IsFaultBehind T rules heard passes gates setup turns scripts fault
+IsFaultOfOne T rules gate_calls passes gates setup turns scripts fault =
+    IsFaultOfThreads fault ⊎ IsFaultBehind T rules gate_calls passes gates setup turns scripts fault

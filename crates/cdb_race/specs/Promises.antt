@@ -10,7 +10,7 @@ use Rattle.cdb_race.specs.declared.worker.Ran.{Ran}
 use Rattle.cdb_race.specs.declared.worker.SeatPromise.{SeatPromise}
 use Rattle.cdb_rules.specs.Rules.{Rules}
 use Rattle.cdb_setup.specs.Parts.{Parts}
-use Rattle.cdb_shared.specs.Gates.{Heard, Hears}
+use Rattle.cdb_shared.specs.Gates.{GateCall, CallsGate}
 use Rattle.cdb_shared.specs.Seats.{SeatView, RestsAt}
 use Rattle.cdb_shared.specs.declared.session.End.{End}
 use Rattle.cdb_shared.specs.declared.session.End.TheVariants.{Stopped}
@@ -36,11 +36,11 @@ ArePromises {T} {G} plan seats gates handles =
 abbrev pub HasRan : {T : Type 0} → (Parts → Rules) → Plan → SeatView → Ran T → Type 0
 HasRan rules plan before ran = HasRun rules plan before ran.seat (map reply_view ran.replies.items) ran.end
 
--- how a session ended, by its gate: the gate has heard of it, and one that lets all calls go on has stopped none
-pub record HasEndedAtGate {G : Type 0} (heard : G → Option (List Heard))
+-- how a session ended, by its gate: its calls of the gate, and one that lets all calls go on has stopped none
+pub record HasEndedAtGate {G : Type 0} (gate_calls : G → Option (List GateCall))
     (passes : G → Bool) (gate : G) (before after : SeatView) (end : End) : Type 0 where
   pub last : G
-  pub hears : Hears (heard gate) (heard last) before after end
+  pub calls : CallsGate (gate_calls gate) (gate_calls last) before after end
   pub passed : passes gate ≡ true → end ≢ Stopped
 
 -- a seat of the plan that has seen nothing yet

@@ -16,12 +16,12 @@ use Rattle.cdb_race.specs.declared.threads.Raced.{Raced}
 use Rattle.cdb_race.specs.declared.worker.Ran.{Ran}
 use Rattle.cdb_rules.specs.Rules.{Rules}
 use Rattle.cdb_setup.specs.Parts.{Parts}
-use Rattle.cdb_shared.specs.Gates.{Heard}
+use Rattle.cdb_shared.specs.Gates.{GateCall}
 use Rattle.cdb_shared.specs.Seats.{SeatView}
 
 -- what lists of replies hold
-abbrev pub all_told : List (Vec Reply Global) → List (List ReplyView)
-all_told replies = map (λ list. map reply_view list.items) replies
+abbrev pub all_reply_views : List (Vec Reply Global) → List (List ReplyView)
+all_reply_views replies = map (λ list. map reply_view list.items) replies
 
 -- the outcomes of the threads of these seats, the last seat's first
 abbrev pub AllRan : {T : Type 0} → (Parts → Rules) → Plan → List SeatView → List (Ran T) → Type 0
@@ -30,12 +30,12 @@ AllRan {T} rules plan seats rans =
     → HasRan rules plan (slice_index_or seats (length seats - 1 - k) before) (slice_index_or rans k ran)
 
 -- how the sessions of these outcomes ended, by their gates; the last gate's and seat's first
-abbrev pub AllEnded : {T G : Type 0} → (G → Option (List Heard))
+abbrev pub AllEnded : {T G : Type 0} → (G → Option (List GateCall))
     → (G → Bool) → List G → List SeatView → List (Ran T) → Type 0
-AllEnded {T} {G} heard passes gates seats rans =
+AllEnded {T} {G} gate_calls passes gates seats rans =
     (k : ℕ) (ran : Ran T) (gate : G) → k < length rans → (before : SeatView)
     → let of_k = slice_index_or rans k ran in
-    HasEndedAtGate heard passes (slice_index_or gates (length gates - 1 - k) gate)
+    HasEndedAtGate gate_calls passes (slice_index_or gates (length gates - 1 - k) gate)
     (slice_index_or seats (length seats - 1 - k) before) of_k.seat of_k.end
 
 -- each of these gates lets every call go on
@@ -87,7 +87,7 @@ most_calls setup turns scripts = setup.processes * turns + sum (map length scrip
 -- a race whose final control and replies are these
 abbrev pub HasRaced : {T : Type 0} → (Parts → Rules) → Parts → ℕ → List (List Command) → Raced T → Type 0
 HasRaced rules setup turns scripts raced =
-    IsRaced rules setup turns scripts raced.control (all_told raced.replies.items)
+    IsRaced rules setup turns scripts raced.control (all_reply_views raced.replies.items)
 
 -- a race under way has come to a full journal
 abbrev pub FillsJournal : Parts → ℕ → List (List Command) → Type 0

@@ -120,8 +120,8 @@ module _ {L : Type 0} (machine : Machine L) where
     alike_exchanged alike = shown_exchanged machine history others to other (shown alike) h g
 
     -- where the histories reach the same state, they tell the same
-    told_alike : to ≡ other → AreAlike history others
-    told_alike same = (
+    runs_are_alike : to ≡ other → AreAlike history others
+    runs_are_alike same = (
       λ k p within. let q = slice_index_or all_processes k p in
           sym (own_of_history machine history to h q) ∙ ap (λ state. own_of state q) same ∙ own_of_history machine others other g q,
       λ copy.
@@ -134,7 +134,7 @@ module _ {L : Type 0} (machine : Machine L) where
     alike_folds : AreAlike history others ↔ (fold machine history ≡ fold machine others)
     alike_folds = (
       λ alike. fold_exchanged machine history others (alike_exchanged alike),
-      λ same. told_alike (same_Some to other (sym h ∙ same ∙ g)),
+      λ same. runs_are_alike (same_Some to other (sym h ∙ same ∙ g)),
     )
 
     alike_exchanges : AreAlike history others ↔ IsExchanged depends history others
@@ -142,13 +142,13 @@ module _ {L : Type 0} (machine : Machine L) where
 
   -- what a call says of two valid histories
   module _ (few : length machine.firsts ≤ 9) (history others : List Event) (valid : IsValid machine history)
-      (other_valid : IsValid machine others) (returned : Bool) (told : IsTrue returned ↔ AreAlike history others) where
+      (other_valid : IsValid machine others) (returned : Bool) (said : IsTrue returned ↔ AreAlike history others) where
     pub answered : (IsTrue returned ↔ (fold machine history ≡ fold machine others)) × (IsTrue returned ↔ IsExchanged depends history others)
     answered =
         let to = some_of (fold machine history) valid in
         let other = some_of (fold machine others) other_valid in
         let folds = alike_folds few history others to.0 other.0 to.1 other.1 in
         let exchanges = alike_exchanges few history others to.0 other.0 to.1 other.1 in (
-          (λ yes. folds.0 (told.0 yes), λ same. told.1 (folds.1 same)),
-          (λ yes. exchanges.0 (told.0 yes), λ exchanged. told.1 (exchanges.1 exchanged)),
+          (λ yes. folds.0 (said.0 yes), λ same. said.1 (folds.1 same)),
+          (λ yes. exchanges.0 (said.0 yes), λ exchanged. said.1 (exchanges.1 exchanged)),
         )

@@ -40,8 +40,8 @@ ComparesText rules json first second text =
     OfRunsLeft rules json first second (λ run other. IsTextOfTwo run.history other.history text)
 
 -- it is true exactly where exchanges of independent neighbours lead from the history of one to that of the other
-abbrev pub TellsSame : (Parts → Rules) → List ℕ → List ℕ → List ℕ → Bool → Type 0
-TellsSame rules json first second same =
+abbrev pub DecidesSame : (Parts → Rules) → List ℕ → List ℕ → List ℕ → Bool → Type 0
+DecidesSame rules json first second same =
     OfRunsLeft rules json first second (λ run other. IsTrue same ↔ IsExchanged depends run.history other.history)
 
 -- how the writing of such a text ended, which is whole before any of it is written

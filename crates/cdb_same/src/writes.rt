@@ -6,7 +6,7 @@ ghost use Rattle.cdb_causal.specs.Exchange.{IsExchanged};
 ghost use Rattle.cdb_explain.specs.RunLeft.{IsRunLeft};
 ghost use Rattle.cdb_rules.specs.ByRules.{IsInOrder};
 ghost use Rattle.cdb_same.specs.Same.{as_second, same_ending, ComparesText, IsFaultOfOutput};
-ghost use Rattle.cdb_same.specs.Same.{IsFaultOfRun, IsFaultOfSame, IsTextOfTwo, TellsSame};
+ghost use Rattle.cdb_same.specs.Same.{IsFaultOfRun, IsFaultOfSame, IsTextOfTwo, DecidesSame};
 ghost use Rattle.cdb_streams.specs.Written.{IsWritten};
 
 use crate::compare::Comparison;
@@ -92,7 +92,7 @@ pub fn same<T: Runs, W: Sink>(
 ) -> Result<bool, PlayFault>
     ensures wrote { IsWritten W.stream (same_ending result) out.old out.new
         (ComparesText T.rules setup.now first.now second.now) }
-    ensures same { IfOk result (TellsSame T.rules setup.now first.now second.now) }
+    ensures same { IfOk result (DecidesSame T.rules setup.now first.now second.now) }
     ensures fault { IfErr result (IsFaultOfSame setup.now first.now second.now) }
 {
     let first = run_of::<T>(alloc, setup, first)?;

@@ -10,7 +10,7 @@ use Rattle.cdb_control.specs.Journal.{entry}
 use Rattle.cdb_control.specs.declared.control.Entry.{Entry}
 use Rattle.cdb_rules.specs.RunView.{RunView}
 use Rattle.cdb_text.specs.Texts.{text_of}
-use Rattle.cdb_session.specs.Answers.{AnswersNow, AreTold, IsAnsweredAfter, IsDoneAfter, HasExchanges}
+use Rattle.cdb_session.specs.Answers.{AnswersNow, EachLine, IsAnsweredAfter, IsDoneAfter, HasExchanges}
 use Rattle.cdb_session.specs.Exchanges.{Answer, Exchange, Effect, given_at, commands_among}
 use Rattle.cdb_session.specs.Moves.{says}
 use Rattle.cdb_session.specs.declared.inquiry.Inquiry.{Inquiry}
@@ -26,7 +26,7 @@ use Rattle.cdb_session.specs.Lines.{HasBegun, HasGot, HasDone}
 use Rattle.cdb_session.specs.News.{AreNews, HasNews, HasNewsAfter, watched_next, watches}
 use Rattle.cdb_session.specs.Parts.{HaveJust, IsGiven, all_asked, asked_of, entries_of, seat_next, seat_behind, all_of, HasCommands}
 use Rattle.cdb_session.proofs.Along.{all_asked-more}
-use Rattle.cdb_session.proofs.ToldOn.{AsManyLater, all_told_on, news_on}
+use Rattle.cdb_session.proofs.LaterParts.{AsManyLater, each_line_on, news_on}
 
 GoesOn-refl : (part : Part) → GoesOn part part
 GoesOn-refl part = record { before = refl; longer = omega arith; calls_in = λ first few. refl; left_by = λ first few. refl; news = λ from to few. refl }
@@ -227,14 +227,14 @@ module _ (Answers : RunView → Inquiry → Answer → Type 0) (style : StyleVie
       )
 
   -- one line more
-  one_told : (Told : ℕ → Option ℕ → Exchange → Type 0) (count : ℕ) (watched : Option ℕ) (its : List Exchange) (exchange : Exchange)
-      → AreTold Told count watched its → Told (count + commands_among its) (fold watched_next watched its) exchange
-      → AreTold Told count watched (its ++ exchange ∷ [])
-  one_told Told count watched [] exchange told is = (subst (λ n. Told n watched exchange) (omega arith) is, tt)
-  one_told Told count watched (first ∷ its) exchange told is =
+  one_line_more : (IsSo : ℕ → Option ℕ → Exchange → Type 0) (count : ℕ) (watched : Option ℕ) (its : List Exchange) (exchange : Exchange)
+      → EachLine IsSo count watched its → IsSo (count + commands_among its) (fold watched_next watched its) exchange
+      → EachLine IsSo count watched (its ++ exchange ∷ [])
+  one_line_more IsSo count watched [] exchange said is = (subst (λ n. IsSo n watched exchange) (omega arith) is, tt)
+  one_line_more IsSo count watched (first ∷ its) exchange said is =
       let next = watched_next watched first in (
-        told.0,
-        one_told Told (count + given_at first) next its exchange told.1 (subst (λ n. Told n (fold watched_next next its) exchange) (omega arith) is),
+        said.0,
+        one_line_more IsSo (count + given_at first) next its exchange said.1 (subst (λ n. IsSo n (fold watched_next next its) exchange) (omega arith) is),
       )
 
   -- what was seen at the lines before stands in the journal
@@ -245,13 +245,13 @@ module _ (Answers : RunView → Inquiry → Answer → Type 0) (style : StyleVie
   seen_next part count least watched false true seen news has = has.seen_is.within
   seen_next part count least watched true true seen news has = has.seen_is.within
 
-  seen_all : (part : Part) (count : ℕ) (watched : Option ℕ) (its : List Exchange) → AreTold (IsDoneAfter Answers part) count watched its
+  seen_all : (part : Part) (count : ℕ) (watched : Option ℕ) (its : List Exchange) → EachLine (IsDoneAfter Answers part) count watched its
       → unwrap_or watched 0 ≤ part.entries → unwrap_or (fold watched_next watched its) 0 ≤ part.entries
-  seen_all part count watched [] told low = low
-  seen_all part count watched (exchange ∷ its) told low =
-      seen_all part (count + given_at exchange) (watched_next watched exchange) its told.1
+  seen_all part count watched [] said low = low
+  seen_all part count watched (exchange ∷ its) said low =
+      seen_all part (count + given_at exchange) (watched_next watched exchange) its said.1
       (seen_next part count (unwrap_or watched 0) watched (is_some watched) (watches (is_some watched) exchange.0)
-      exchange.1.seen exchange.1.news told.0.news)
+      exchange.1.seen exchange.1.news said.0.news)
 
   -- out of memory nothing was done of a line, or its command was given, once or more often
   abbrev pub HasPart : List Exchange → List ReplyView → Part → Request → Type 0
@@ -315,29 +315,29 @@ module _ (Answers : RunView → Inquiry → Answer → Type 0) (style : StyleVie
     no_more_than part (inr some) = omega (arith, ap length some.2, length-append part.calls some.1, as_many_asked style.chooses style.first exchanges)
 
     module _ (replies : List ReplyView) (old new : Part) where
-      told_later : (request : Request) (got : List ReplyView) → HasGot seat old request got new
-          → HasExchanges Answers style (part_with replies old) exchanges → AreTold (IsDoneAfter Answers (part_with replies new)) 0 None exchanges
-      told_later request got calls has =
-          all_told_on Answers (part_with replies old) (part_with replies new) (on calls.goes_on)
+      answers_later : (request : Request) (got : List ReplyView) → HasGot seat old request got new
+          → HasExchanges Answers style (part_with replies old) exchanges → EachLine (IsDoneAfter Answers (part_with replies new)) 0 None exchanges
+      answers_later request got calls has =
+          each_line_on Answers (part_with replies old) (part_with replies new) (on calls.goes_on)
           refl 0 None exchanges (as_many_later old new request got calls has.0) has.1
         where
           on : GoesOn old new → GoesOn (part_with replies old) (part_with replies new)
           on k = record { before = k.before; longer = k.longer; calls_in = k.calls_in; left_by = k.left_by; news = k.news }
 
       -- the answer of the run as it stands, after all commands so far
-      told_at : (exchange : Exchange) → ((inquiry : Inquiry) → exchange.0 ≡ Ask inquiry → AnswersNow Answers new inquiry exchange.1.answer) → (given_at exchange
+      answers_at : (exchange : Exchange) → ((inquiry : Inquiry) → exchange.0 ≡ Ask inquiry → AnswersNow Answers new inquiry exchange.1.answer) → (given_at exchange
           ≡ 0 → length new.calls ≤ commands_among exchanges) → IsAnsweredAfter Answers (part_with replies new) (0 + commands_among exchanges) exchange
-      told_at (Call command times, effect) answer few = tt
-      told_at (Ask inquiry, effect) answer few = let now = answer inquiry refl in
+      answers_at (Call command times, effect) answer few = tt
+      answers_at (Ask inquiry, effect) answer few = let now = answer inquiry refl in
           let just : HaveJust (part_with replies new) (0 + commands_among exchanges) new.entries =
           record { since = now.0.since; within = omega arith; commands = omega (arith, now.0.commands, few refl) } in
           (new.entries, just, now.1)
-      told_at (Watch begins, effect) answer few = tt
-      told_at (Seat chosen, effect) answer few = tt
-      told_at (Help about, effect) answer few = tt
-      told_at (Quit, effect) answer few = tt
-      told_at (Fault fault, effect) answer few = tt
-      told_at (TooLong, effect) answer few = tt
+      answers_at (Watch begins, effect) answer few = tt
+      answers_at (Seat chosen, effect) answer few = tt
+      answers_at (Help about, effect) answer few = tt
+      answers_at (Quit, effect) answer few = tt
+      answers_at (Fault fault, effect) answer few = tt
+      answers_at (TooLong, effect) answer few = tt
 
       given_behind : (exchange : Exchange) (got more : List ReplyView) → IsGiven exchange got → length got ≤ given_at exchange → (length got < given_at exchange
           → more ≡ []) → drop (commands_among exchanges) replies ≡ got ++ more → IsGiven exchange (drop (0 + commands_among exchanges) replies)
@@ -388,9 +388,9 @@ module _ (Answers : RunView → Inquiry → Answer → Type 0) (style : StyleVie
             ∙ ap (λ (made : List Entry). old.calls ++ made) (no_entry seat exchange.0) ∙ append-nil old.calls in
             omega (arith, ap length same, no_more_than old has.0)) in (
               has_more old new exchange got done.calls done.fits done.full has.0,
-              one_told (IsDoneAfter Answers (part_with replies new)) 0 None exchanges exchange (told_later exchange.0 got done.calls has)
+              one_line_more (IsDoneAfter Answers (part_with replies new)) 0 None exchanges exchange (answers_later exchange.0 got done.calls has)
                   (record {
-                    answered = told_at exchange done.answer few;
+                    answered = answers_at exchange done.answer few;
                     given = given_behind exchange got more done.given done.fits (λ low. may (done.full low)) left;
                     news = news_behind exchange got done.calls looked has;
                   }),
@@ -406,7 +406,7 @@ module _ (Answers : RunView → Inquiry → Answer → Type 0) (style : StyleVie
               | inl all ↦ inl (same ∙ all)
               | inr some ↦ inr ((calls.full some.0).1, some.1, some.2 ∙ ap (λ (front : List Entry). front ++ some.1) (sym same))
             ],
-            told_later request got calls has,
+            answers_later request got calls has,
           )
 
       pub commands_lost : (request : Request) (begun : HasBegun seat old request new) (effect : Effect)

@@ -17,7 +17,7 @@ pub mod Emptiness
 pub mod HeldBytes
 pub mod CallChain
 pub mod Along
-pub mod ToldOn
+pub mod LaterParts
 pub mod GotReplies
 pub mod Repeated
 pub mod LineResponse

@@ -28,7 +28,7 @@ use Rattle.cdb_session.specs.Parts.{entries_of, seat_next}
 use Rattle.cdb_session.specs.Unfinished.{RespondsToLine}
 use Rattle.cdb_session.specs.Lines.{SessionView, HasBegun, HasDone, IsToBeGiven, Responds, PutsOut, Shows, outputs_of, outputs_with}
 use Rattle.cdb_session.proofs.GotReplies.{GoesOn-trans, MakesNone-refl, begun_where_done, none_done, none_got}
-use Rattle.cdb_session.proofs.ToldOn.{news_on}
+use Rattle.cdb_session.proofs.LaterParts.{news_on}
 
 -- what is done after the journal was looked at
 module _ (old mid new : Part) (none : MakesNone old mid) where

@@ -27,7 +27,7 @@ use Rattle.cdb_session.specs.Replies.{Along, shown_from, response, next_along, d
 use Rattle.cdb_session.specs.Dialogues.{prompt_after, saved_at, shown_by, shown_from_by}
 use Rattle.cdb_session.specs.Moves.{Output, file, says}
 use Rattle.cdb_session.specs.Alone.{all_replies_from, whole_part, nine}
-use Rattle.cdb_session.specs.Answers.{AreTold, HasExchanges, IsDoneAfter, IsTold, run_left}
+use Rattle.cdb_session.specs.Answers.{EachLine, HasExchanges, IsDoneAfter, AnswersAfter, run_left}
 use Rattle.cdb_session.specs.Parts.{all_asked, all_of, asked_of, seat_next, HasCommands}
 use Rattle.cdb_session.specs.declared.request.Request.{Request}
 use Rattle.cdb_session.proofs.HeldBytes.{take-take_append}
@@ -228,11 +228,11 @@ module _ (Answers : RunView → Inquiry → Answer → Type 0) (greeting prompt 
       shown ∙ ap (all_replies_from of (replay_from of t before)) (as_many before its (came rules c before) exchanges calls many (omega (arith, few, many)) has)
 
   -- the first of the lines
-  told_first : (Told : ℕ → Option ℕ → Exchange → Type 0) (count : ℕ) (watched : Option ℕ) (exchanges others : List Exchange)
-      → AreTold Told count watched (exchanges ++ others) → AreTold Told count watched exchanges
-  told_first Told count watched [] others told = tt
-  told_first Told count watched (exchange ∷ exchanges) others told =
-      (told.0, told_first Told (count + given_at exchange) (watched_next watched exchange) exchanges others told.1)
+  first_lines : (IsSo : ℕ → Option ℕ → Exchange → Type 0) (count : ℕ) (watched : Option ℕ) (exchanges others : List Exchange)
+      → EachLine IsSo count watched (exchanges ++ others) → EachLine IsSo count watched exchanges
+  first_lines IsSo count watched [] others said = tt
+  first_lines IsSo count watched (exchange ∷ exchanges) others said =
+      (said.0, first_lines IsSo (count + given_at exchange) (watched_next watched exchange) exchanges others said.1)
 
   -- nobody else has entries
   no_news : (rules : Parts → Rules) (c : Journaled) (before : List Entry) (count least : ℕ) (watched : Option ℕ) (looked : Bool) (seen : ℕ) (news : List ℕ)
@@ -242,11 +242,11 @@ module _ (Answers : RunView → Inquiry → Answer → Type 0) (greeting prompt 
   no_news rules c before count least watched false seen news none = none
 
   all_quiet : (rules : Parts → Rules) (c : Journaled) (before : List Entry) (count : ℕ) (watched : Option ℕ) (exchanges : List Exchange)
-      → AreTold (IsDoneAfter Answers (came rules c before)) count watched exchanges → AllByRecursion IsQuiet exchanges
-  all_quiet rules c before count watched [] told = tt
-  all_quiet rules c before count watched (exchange ∷ exchanges) told = (
-    no_news rules c before count (unwrap_or watched 0) watched (looks (is_some watched) exchange.0) exchange.1.seen exchange.1.news told.0.news,
-    all_quiet rules c before (count + given_at exchange) (watched_next watched exchange) exchanges told.1,
+      → EachLine (IsDoneAfter Answers (came rules c before)) count watched exchanges → AllByRecursion IsQuiet exchanges
+  all_quiet rules c before count watched [] said = tt
+  all_quiet rules c before count watched (exchange ∷ exchanges) said = (
+    no_news rules c before count (unwrap_or watched 0) watched (looks (is_some watched) exchange.0) exchange.1.seen exchange.1.news said.0.news,
+    all_quiet rules c before (count + given_at exchange) (watched_next watched exchange) exchanges said.1,
   )
 
   pub nothing_lost : (rules : Parts → Rules) (c : Journaled) (before : List Entry) (exchanges others : List Exchange)
@@ -259,7 +259,7 @@ module _ (Answers : RunView → Inquiry → Answer → Type 0) (greeting prompt 
       (came_replies rules c before (exchanges ++ others) seats begins few has.0)
       ∙ ap (λ outputs. says (greeting ++ prompt) ++ outputs)
       (quiet (along_of None (table.begun rules c.setup before) (exchanges ++ others)) exchanges
-      (all_quiet rules c before 0 None exchanges (told_first (IsDoneAfter Answers (came rules c before)) 0 None exchanges others has.1))
+      (all_quiet rules c before 0 None exchanges (first_lines (IsDoneAfter Answers (came rules c before)) 0 None exchanges others has.1))
       ∙ same None (table.begun rules c.setup before) exchanges others (omega (arith, few, ap length begins.1, length-append before begins.0)))
 
   -- ---- what the run was asked
@@ -291,12 +291,12 @@ module _ (Answers : RunView → Inquiry → Answer → Type 0) (greeting prompt 
       all : c.journal ≡ take MAX_ENTRIES (asked ++ all_asked true s.seat exchanges)
       left : drop count (came rules c before).replies ≡ replies_at s.rules s.control (all_asked true s.seat exchanges)
 
-    abbrev AreToldOf : ℕ → Option ℕ → List Exchange → Type 0
-    AreToldOf count watched exchanges = AreTold (IsDoneAfter Answers (came rules c before)) count watched exchanges
+    abbrev EachLineOf : ℕ → Option ℕ → List Exchange → Type 0
+    EachLineOf count watched exchanges = EachLine (IsDoneAfter Answers (came rules c before)) count watched exchanges
 
     answered_there : (s : table.Session) (asked : List Entry) (exchanges : List Exchange) (count : ℕ) (inquiry : Inquiry) (answer : Answer)
         → IsThere s asked exchanges count
-        → IsTold Answers (came rules c before) count inquiry answer → Answers (table.run_in s) inquiry answer
+        → AnswersAfter Answers (came rules c before) count inquiry answer → Answers (table.run_in s) inquiry answer
     answered_there s asked exchanges count inquiry answer at (first, just, answers) =
         let whole : first ≡ min (length before + count) (length c.journal) =
         omega (arith, just.since, just.within, just.commands, longer, length-drop (length before) c.journal) in
@@ -369,49 +369,49 @@ module _ (Answers : RunView → Inquiry → Answer → Type 0) (greeting prompt 
         }
 
     answered_from : (s : table.Session) (asked : List Entry) (exchanges others : List Exchange) (count : ℕ) (watched : Option ℕ)
-        → IsThere s asked (exchanges ++ others) count → AreToldOf count watched exchanges → table.AreAnswered Answers s exchanges
-    answered_from s asked [] others count watched at told = tt
-    answered_from s asked ((Call command times, effect) ∷ exchanges) others count watched at told = (
+        → IsThere s asked (exchanges ++ others) count → EachLineOf count watched exchanges → table.AreAnswered Answers s exchanges
+    answered_from s asked [] others count watched at said = tt
+    answered_from s asked ((Call command times, effect) ∷ exchanges) others count watched at said = (
       given_there s.rules s.seat command times effect.given s.control
-          (all_asked true s.seat (exchanges ++ others)) at.few (told.0.given ∙ ap (times_given times) at.left),
+          (all_asked true s.seat (exchanges ++ others)) at.few (said.0.given ∙ ap (times_given times) at.left),
       answered_from (table.after_line s (Call command times, effect)) (asked ++ replicate effect.given (entry s.seat command))
           exchanges others (count + effect.given) (watched_next watched (Call command times, effect))
-          (then_there s asked command times effect (exchanges ++ others) count at) told.1,
+          (then_there s asked command times effect (exchanges ++ others) count at) said.1,
     )
-    answered_from s asked ((Ask inquiry, effect) ∷ exchanges) others count watched at told = (
-      answered_there s asked ((Ask inquiry, effect) ∷ (exchanges ++ others)) count inquiry effect.answer at told.0.answered,
+    answered_from s asked ((Ask inquiry, effect) ∷ exchanges) others count watched at said = (
+      answered_there s asked ((Ask inquiry, effect) ∷ (exchanges ++ others)) count inquiry effect.answer at said.0.answered,
       answered_from (table.after_line s (Ask inquiry, effect)) asked exchanges others (count + 0) (watched_next watched (Ask inquiry, effect))
-          (unmoved s asked (Ask inquiry) effect (exchanges ++ others) count at refl refl) told.1,
+          (unmoved s asked (Ask inquiry) effect (exchanges ++ others) count at refl refl) said.1,
     )
-    answered_from s asked ((Watch begins, effect) ∷ exchanges) others count watched at told = (
+    answered_from s asked ((Watch begins, effect) ∷ exchanges) others count watched at said = (
       tt,
       answered_from (table.after_line s (Watch begins, effect)) asked exchanges others (count + 0) (watched_next watched (Watch begins, effect))
-          (unmoved s asked (Watch begins) effect (exchanges ++ others) count at refl refl) told.1,
+          (unmoved s asked (Watch begins) effect (exchanges ++ others) count at refl refl) said.1,
     )
-    answered_from s asked ((Seat chosen, effect) ∷ exchanges) others count watched at told = (
+    answered_from s asked ((Seat chosen, effect) ∷ exchanges) others count watched at said = (
       tt,
       answered_from (table.after_line s (Seat chosen, effect)) asked exchanges others (count + 0) (watched_next watched (Seat chosen, effect))
-          (unmoved s asked (Seat chosen) effect (exchanges ++ others) count at refl refl) told.1,
+          (unmoved s asked (Seat chosen) effect (exchanges ++ others) count at refl refl) said.1,
     )
-    answered_from s asked ((Help about, effect) ∷ exchanges) others count watched at told = (
+    answered_from s asked ((Help about, effect) ∷ exchanges) others count watched at said = (
       tt,
       answered_from (table.after_line s (Help about, effect)) asked exchanges others (count + 0) (watched_next watched (Help about, effect))
-          (unmoved s asked (Help about) effect (exchanges ++ others) count at refl refl) told.1,
+          (unmoved s asked (Help about) effect (exchanges ++ others) count at refl refl) said.1,
     )
-    answered_from s asked ((Quit, effect) ∷ exchanges) others count watched at told = (
+    answered_from s asked ((Quit, effect) ∷ exchanges) others count watched at said = (
       tt,
       answered_from (table.after_line s (Quit, effect)) asked exchanges others (count + 0) (watched_next watched (Quit, effect))
-          (unmoved s asked Quit effect (exchanges ++ others) count at refl refl) told.1,
+          (unmoved s asked Quit effect (exchanges ++ others) count at refl refl) said.1,
     )
-    answered_from s asked ((Fault fault, effect) ∷ exchanges) others count watched at told = (
+    answered_from s asked ((Fault fault, effect) ∷ exchanges) others count watched at said = (
       tt,
       answered_from (table.after_line s (Fault fault, effect)) asked exchanges others (count + 0) (watched_next watched (Fault fault, effect))
-          (unmoved s asked (Fault fault) effect (exchanges ++ others) count at refl refl) told.1,
+          (unmoved s asked (Fault fault) effect (exchanges ++ others) count at refl refl) said.1,
     )
-    answered_from s asked ((TooLong, effect) ∷ exchanges) others count watched at told = (
+    answered_from s asked ((TooLong, effect) ∷ exchanges) others count watched at said = (
       tt,
       answered_from (table.after_line s (TooLong, effect)) asked exchanges others (count + 0) (watched_next watched (TooLong, effect))
-          (unmoved s asked TooLong effect (exchanges ++ others) count at refl refl) told.1,
+          (unmoved s asked TooLong effect (exchanges ++ others) count at refl refl) said.1,
     )
 
   pub all_answered : (rules : Parts → Rules) (c : Journaled) (before : List Entry) (exchanges others : List Exchange)
@@ -439,4 +439,4 @@ module _ (Answers : RunView → Inquiry → Answer → Type 0) (greeting prompt 
         all = all;
         left = came_replies rules c before (exchanges ++ others) seats (its, is) few has.0;
       })
-      (told_first (IsDoneAfter Answers (came rules c before)) 0 None exchanges others has.1)
+      (first_lines (IsDoneAfter Answers (came rules c before)) 0 None exchanges others has.1)

@@ -110,9 +110,9 @@ module _ (Answers : RunView → Inquiry → Answer → Type 0) (style : StyleVie
       pub goes_on : bytes ≢ [] → (new : SessionView) (kept : List ℕ)
           → Feeds Answers style (Ok false) next behind session new unfinished kept bytes → Arrives before behind new kept (read + length bytes)
       unfolding given
-      goes_on some new kept hears =
+      goes_on some new kept feeds =
           let s = given in
-          let h = hears s.0 s.2 in
+          let h = feeds s.0 s.2 in
           let same = ap length (read-append s.0 h.0 ∙ ap (λ more. read_in s.0 ++ more) (nothing_read h.0 h.2) ∙ append-nil (read_in s.0)) in (
             s.0 ++ h.0,
             Makes-more before next behind s.0 h.0 s.1 h.1,
@@ -124,16 +124,16 @@ module _ (Answers : RunView → Inquiry → Answer → Type 0) (style : StyleVie
 
       pub quits : (new : SessionView) (kept : List ℕ) → Feeds Answers style (Ok true) next behind session new unfinished kept bytes
           → RespondsToAll Answers style ended_well before behind new
-      quits new kept hears =
+      quits new kept feeds =
           let s = given in
-          let h = hears s.0 s.2 in
+          let h = feeds s.0 s.2 in
           (s.0 ++ h.0, Makes-more before next behind s.0 h.0 s.1 h.1, h.3)
 
       pub breaks : (new : SessionView) (kept : List ℕ) (why : OutputFault)
           → Feeds Answers style (Err why) next behind session new unfinished kept bytes → RespondsToAll Answers style (ended_by why) before behind new
-      breaks new kept why hears =
+      breaks new kept why feeds =
           let s = given in
-          let h = hears s.0 s.2 in
+          let h = feeds s.0 s.2 in
           (s.0 ++ h.0, Makes-more before next behind s.0 h.0 s.1 h.1, h.3)
 
       -- the end of the input was found

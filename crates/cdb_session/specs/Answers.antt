@@ -24,21 +24,21 @@ run_left rules setup seats journal =
     record { setup = setup; history = (replay (rules setup) setup seats journal).history }
 
 -- of each of these lines, before which so many commands were given and somebody watched from there on, this holds
-abbrev pub AreTold : (ℕ → Option ℕ → Exchange → Type 0) → ℕ → Option ℕ → List Exchange → Type 0
-AreTold Told count watched [] = Unit {0}
-AreTold Told count watched (exchange ∷ exchanges) =
-    Told count watched exchange × AreTold Told (count + given_at exchange) (watched_next watched exchange) exchanges
+abbrev pub EachLine : (ℕ → Option ℕ → Exchange → Type 0) → ℕ → Option ℕ → List Exchange → Type 0
+EachLine IsSo count watched [] = Unit {0}
+EachLine IsSo count watched (exchange ∷ exchanges) =
+    IsSo count watched exchange × EachLine IsSo (count + given_at exchange) (watched_next watched exchange) exchanges
 
 -- of a run, what is asked of it and an answer, whether it is that answer
 module _ (Answers : RunView → Inquiry → Answer → Type 0) where
   -- this answers what is asked of the run that the first entries leave, with just these commands
-  abbrev pub IsTold : Part → ℕ → Inquiry → Answer → Type 0
-  IsTold part count inquiry answer =
+  abbrev pub AnswersAfter : Part → ℕ → Inquiry → Answer → Type 0
+  AnswersAfter part count inquiry answer =
       (first : ℕ) × HaveJust part count first × Answers (part.left_by first) inquiry answer
 
   -- what a line asks of the run is answered so
   abbrev pub IsAnsweredAfter : Part → ℕ → Exchange → Type 0
-  IsAnsweredAfter part count (Ask inquiry, effect) = IsTold part count inquiry effect.answer
+  IsAnsweredAfter part count (Ask inquiry, effect) = AnswersAfter part count inquiry effect.answer
   IsAnsweredAfter part count other = Unit {0}
 
   -- and its command was given as often as it is by the replies behind those to the commands before it
@@ -50,7 +50,7 @@ module _ (Answers : RunView → Inquiry → Answer → Type 0) where
   -- the journal has the commands of these lines, each as often as it is to be given, the questions are answered so, and
   -- whoever watches is shown the news
   abbrev pub HasExchanges : StyleView → Part → List Exchange → Type 0
-  HasExchanges style part exchanges = HasCommands style part exchanges × AreTold (IsDoneAfter part) 0 None exchanges
+  HasExchanges style part exchanges = HasCommands style part exchanges × EachLine (IsDoneAfter part) 0 None exchanges
 
   -- this answers what is asked of the run that the journal leaves as it stands
   abbrev pub AnswersNow : Part → Inquiry → Answer → Type 0

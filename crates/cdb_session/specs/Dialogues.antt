@@ -72,11 +72,11 @@ abbrev pub savings_of : Inquiry → Answer → Bool → List Saving
 savings_of (Draw name step) (Ok picture) saved = record { name = name; text = picture; done = saved } ∷ []
 savings_of inquiry answer saved = []
 
--- what `help` lists: the commands, and the other lines, with the one that chooses a seat or without it
 abbrev pub seats_help : Bool → List ℕ
 seats_help true = SEATS.now
 seats_help false = []
 
+-- what `help` lists: the commands, and the other lines, with the one that chooses a seat or without it
 abbrev pub help_text : Bool → List ℕ
 help_text seats = COMMANDS.now ++ (BESIDES.now ++ (seats_help seats ++ OTHERS.now))
 

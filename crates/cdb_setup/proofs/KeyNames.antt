@@ -20,7 +20,7 @@ use Rattle.cdb_setup.specs.Names.{is_key_name}
 use Rattle.cdb_setup.specs.Faults.{Holds}
 use Rattle.cdb_setup.specs.Order.{IsLookedForBefore, rank, key_number}
 use Rattle.cdb_setup.specs.Ranks.{IsFirstOfRank, HasNeededKeys, IsFirstMissing}
-use Rattle.cdb_setup.specs.Readings.{TellsKnownKeys}
+use Rattle.cdb_setup.specs.Readings.{ChecksKeys}
 
 -- one of the keys has the name
 some_key : (name : List ℕ) (keys : List Key) → list_any (λ k. bytes_eq name (name_of k)) keys ≡ true → (key : Key) × (name ≡ name_of key)
@@ -101,7 +101,7 @@ some_other (entry ∷ entries) e =
 
 -- what the test on all names says
 pub known_or_other : (entries : List Entry) (result : Bool) → result ≡ list_all (λ name. is_key_name (string_bytes name)) (keys_of entries)
-    → TellsKnownKeys result (object (members_view entries))
+    → ChecksKeys result (object (members_view entries))
 known_or_other entries true e = all_known entries (sym e)
 known_or_other entries false e = some_other entries (sym e)
 

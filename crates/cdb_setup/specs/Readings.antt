@@ -40,8 +40,8 @@ abbrev pub IsVersion : ℕ → Data → Type 0
 IsVersion version json = HasVersion version json × IsWithin 1 2 version
 
 -- only keys of a setup stand there, or another is the fault
-abbrev pub TellsKnownKeys : Bool → Data → Type 0
-TellsKnownKeys known json = MatchBool known (HasKnownKeys json) (Holds UnknownKey json)
+abbrev pub ChecksKeys : Bool → Data → Type 0
+ChecksKeys known json = MatchBool known (HasKnownKeys json) (Holds UnknownKey json)
 
 -- the values are these whole numbers, each from low to high
 abbrev pub AreRead : ℕ → ℕ → List Data → List ℕ → Type 0

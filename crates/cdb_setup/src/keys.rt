@@ -10,7 +10,7 @@ ghost use Rattle.serde_json.specs.Find.{get};
 ghost use Rattle.serde_json.specs.View.{view, members_view};
 ghost use Rattle.cdb_setup.specs.Format.{name_of, HasKnownKeys};
 ghost use Rattle.cdb_setup.specs.Ranks.{HasNeededKeys, IsFirstMissing, IsFirstOf, IsClearBelow};
-ghost use Rattle.cdb_setup.specs.Readings.{TellsKnownKeys};
+ghost use Rattle.cdb_setup.specs.Readings.{ChecksKeys};
 ghost use Rattle.cdb_setup.specs.Names.{is_key_name};
 
 use crate::fault::SetupFault;
@@ -40,7 +40,7 @@ fn is_key_name(name: &str) -> bool
 
 /// Whether only keys of a setup stand there, as the fault says it.
 fn has_known_keys(members: &Map<String, Value>) -> bool
-    ensures { TellsKnownKeys result (object (members_view members.now.entries)) }
+    ensures { ChecksKeys result (object (members_view members.now.entries)) }
 {
     are_key_names(members)
 }

@@ -8,49 +8,49 @@ use Rattle.cdb_shared.specs.declared.session.End.TheVariants.{All, Done, Stopped
 
 -- Asked before the call of this number, and whether it let it go on; or notified after it. Beside the number stand
 -- the calls that the seat had made then.
-pub data Heard : Type 0 where
-  Asked : ℕ → List Command → Bool → Heard
-  Told : ℕ → List Command → Heard
+pub data GateCall : Type 0 where
+  Asked : ℕ → List Command → Bool → GateCall
+  Notified : ℕ → List Command → GateCall
 
--- more than was heard before, where that is known
-abbrev pub heard_more : Option (List Heard) → List Heard → Option (List Heard)
-heard_more None more = None
-heard_more (Some heard) more = Some (heard ++ more)
+-- calls of a gate and more of them, where they are known
+abbrev pub and_calls : Option (List GateCall) → List GateCall → Option (List GateCall)
+and_calls None more = None
+and_calls (Some gate_calls) more = Some (gate_calls ++ more)
 
--- and one thing more
-abbrev pub Adds : Option (List Heard) → Option (List Heard) → Heard → Type 0
-Adds old new one = new ≡ heard_more old (one ∷ [])
+-- one call more
+abbrev pub Adds : Option (List GateCall) → Option (List GateCall) → GateCall → Type 0
+Adds old new one = new ≡ and_calls old (one ∷ [])
 
--- and that it was asked, or notified, of a call of the seat
-abbrev pub HearsAsked : Option (List Heard) → Option (List Heard) → ℕ → SeatView → Bool → Type 0
-HearsAsked old new call seat goes_on = Adds old new (Asked call (calls_of seat) goes_on)
+-- the gate is asked before a call of the seat, or notified after it
+abbrev pub IsAsked : Option (List GateCall) → Option (List GateCall) → ℕ → SeatView → Bool → Type 0
+IsAsked old new call seat goes_on = Adds old new (Asked call (calls_of seat) goes_on)
 
-abbrev pub HearsTold : Option (List Heard) → Option (List Heard) → ℕ → SeatView → Type 0
-HearsTold old new call seat = Adds old new (Told call (calls_of seat))
+abbrev pub IsNotified : Option (List GateCall) → Option (List GateCall) → ℕ → SeatView → Type 0
+IsNotified old new call seat = Adds old new (Notified call (calls_of seat))
 
 -- of calls with replies, numbered from this one on, after those made before: asked for each, which goes on, and
 -- notified of it
-abbrev pub heard_of : ℕ → List Command → List Command → List Heard
-heard_of number made [] = []
-heard_of number made (command ∷ rest) =
+abbrev pub gate_calls_of : ℕ → List Command → List Command → List GateCall
+gate_calls_of number made [] = []
+gate_calls_of number made (command ∷ rest) =
     let all = made ++ command ∷ [] in
-    Asked number made true ∷ Told number all ∷ heard_of (number + 1) all rest
+    Asked number made true ∷ Notified number all ∷ gate_calls_of (number + 1) all rest
 
 -- of the call that a session ended at: it was asked for, and there was nothing to notify of
-abbrev pub heard_last : End → ℕ → List Command → List Heard
-heard_last All number made = []
-heard_last Done number made = []
-heard_last Stopped number made = Asked number made false ∷ []
-heard_last (NoMemory refused) number made = Asked number made true ∷ []
-heard_last JournalFull number made = Asked number made true ∷ []
+abbrev pub last_gate_calls : End → ℕ → List Command → List GateCall
+last_gate_calls All number made = []
+last_gate_calls Done number made = []
+last_gate_calls Stopped number made = Asked number made false ∷ []
+last_gate_calls (NoMemory refused) number made = Asked number made true ∷ []
+last_gate_calls JournalFull number made = Asked number made true ∷ []
 
 -- of a session whose calls with replies are these, numbered from 1
-abbrev pub heard_in : List Command → List Command → End → List Heard
-heard_in made replied end =
-    heard_of 1 made replied ++ heard_last end (length replied + 1) (made ++ replied)
+abbrev pub gate_calls_in : List Command → List Command → End → List GateCall
+gate_calls_in made replied end =
+    gate_calls_of 1 made replied ++ last_gate_calls end (length replied + 1) (made ++ replied)
 
--- a gate has heard of a session that led one seat to the other
-pub record Hears (old new : Option (List Heard)) (before after : SeatView) (end : End) : Type 0 where
+-- the calls of a gate by a session that led one seat to the other
+pub record CallsGate (old new : Option (List GateCall)) (before after : SeatView) (end : End) : Type 0 where
   pub replied : List Command
   pub calls : calls_of after ≡ calls_of before ++ replied
-  pub heard : new ≡ heard_more old (heard_in (calls_of before) replied end)
+  pub gate_calls : new ≡ and_calls old (gate_calls_in (calls_of before) replied end)

@@ -3,7 +3,7 @@ ghost use Rattle.std.specs.Prelude.{◌≡◌, ◌≢◌, ◌++◌, ◌≤◌, �
 ghost use Rattle.std.specs.Prelude.{false, Option, None, IsTrue};
 ghost use Rattle.cdb_base.specs.Memory.{no_memory};
 ghost use Rattle.cdb_commands.specs.ReplyView.{Refused, reply_view};
-ghost use Rattle.cdb_shared.specs.Gates.{Heard, HearsAsked, HearsTold, Hears};
+ghost use Rattle.cdb_shared.specs.Gates.{GateCall, IsAsked, IsNotified, CallsGate};
 ghost use Rattle.cdb_shared.specs.Seats.{RestsAt, IsLater, SeesFull, SeesRoom};
 ghost use Rattle.cdb_shared.specs.Sessions.{calls_of, replies_to, end_at, IsDrivenFrom};
 
@@ -18,8 +18,8 @@ use std::sync::Wait;
 /// What is asked before each call of a session, and notified after each reply. The calls are numbered from 1, and
 /// the seat that is shown rests.
 pub trait Gate {
-    // What it has heard of calls, in order, where that is known.
-    ghost heard: { Self → Option (List Heard) } = { λ _. None };
+    // The calls of it, in order, where they are known.
+    ghost gate_calls: { Self → Option (List GateCall) } = { λ _. None };
 
     // Whether it lets every call go on from now on.
     ghost passes: { Self → Bool } = { λ _. false };
@@ -27,13 +27,13 @@ pub trait Gate {
     /// Whether the session goes on with this call.
     fn before<T: Runs>(&mut self, call: u32, seat: &Seat<T>) -> bool
         requires rests { seat.now.rests ≡ true }
-        ensures heard { HearsAsked (heard self.old) (heard self.new) call seat.now result }
+        ensures gate_calls { IsAsked (gate_calls self.old) (gate_calls self.new) call seat.now result }
         ensures passes { passes self.old ≡ true → (result ≡ true) × (passes self.new ≡ true) };
 
     /// This call has had its reply.
     fn after<T: Runs>(&mut self, call: u32, seat: &Seat<T>)
         requires rests { seat.now.rests ≡ true }
-        ensures heard { HearsTold (heard self.old) (heard self.new) call seat.now }
+        ensures gate_calls { IsNotified (gate_calls self.old) (gate_calls self.new) call seat.now }
         ensures passes { passes self.old ≡ true → passes self.new ≡ true };
 }
 
@@ -92,7 +92,7 @@ pub fn serve<T: Runs, G: Gate + Drop, R: Wait>(
     ensures done { result.2 ≢ End.Done }
     ensures full { result.2 ≡ End.JournalFull → SeesFull result.0 }
     ensures short { result.2 ≡ End.NoMemory no_memory → SeesRoom result.0 }
-    ensures gate { (last : G) × Hears (G.heard gate) (G.heard last) seat result.0 result.2 }
+    ensures gate { (last : G) × CallsGate (G.gate_calls gate) (G.gate_calls last) seat result.0 result.2 }
     ensures passes { G.passes gate ≡ true → result.2 ≢ End.Stopped }
 {
     let mut replies = Vec::new(alloc);
@@ -135,7 +135,7 @@ pub fn drive<T: Runs, G: Gate + Drop, R: Wait>(
     ensures replies { IsDrivenFrom T.rules seat result.0 result.2 result.1 turns }
     ensures full { result.2 ≡ End.JournalFull → SeesFull result.0 }
     ensures short { result.2 ≡ End.NoMemory no_memory → SeesRoom result.0 }
-    ensures gate { (last : G) × Hears (G.heard gate) (G.heard last) seat result.0 result.2 }
+    ensures gate { (last : G) × CallsGate (G.gate_calls gate) (G.gate_calls last) seat result.0 result.2 }
     ensures passes { G.passes gate ≡ true → result.2 ≢ End.Stopped }
 {
     for turn in 0..turns {

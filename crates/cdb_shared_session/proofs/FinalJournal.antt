@@ -21,7 +21,7 @@ use Rattle.cdb_session.specs.Styles.{Part, StyleView, GoesOn}
 use Rattle.cdb_session.specs.Answers.{HasExchanges, run_left}
 use Rattle.cdb_session.specs.Exchanges.{Answer, Exchange}
 use Rattle.cdb_session.specs.declared.inquiry.Inquiry.{Inquiry}
-use Rattle.cdb_session.proofs.ToldOn.{all_told_on}
+use Rattle.cdb_session.proofs.LaterParts.{each_line_on}
 use Rattle.cdb_setup.specs.Parts.{Parts}
 use Rattle.cdb_shared.specs.Seats.{SeatView, IsKnownBy}
 use Rattle.cdb_shared.specs.Sessions.{calls_of, replies_to}
@@ -73,7 +73,7 @@ module _ (rules : Parts → Rules) (Answers : RunView → Inquiry → Answer →
   has_known : (exchanges : List Exchange) → HasExchanges Answers style by_seat exchanges → HasExchanges Answers style by_journal exchanges
   has_known exchanges has = (
     commands_known exchanges has.0,
-    all_told_on Answers by_seat by_journal goes_on (ap (drop (length first.replies)) (sym replies_known))
+    each_line_on Answers by_seat by_journal goes_on (ap (drop (length first.replies)) (sym replies_known))
         0 None exchanges (λ m low. ap (λ (calls : List Entry). min m (length calls)) (sym came_known)) has.1,
   )
 

@@ -8,7 +8,7 @@ use Rattle.cdb_control.specs.declared.control.Entry.{Entry}
 use Rattle.cdb_control.proofs.Own.{Begins-trans}
 use Rattle.cdb_journal.specs.OpenedFrom.{opened_from}
 use Rattle.cdb_journal.specs.SeatReplies.{news, news_in}
-use Rattle.cdb_journal.proofs.NewsLines.{news_told, no_news}
+use Rattle.cdb_journal.proofs.NewsLines.{news_listed, no_news}
 use Rattle.cdb_rules.specs.Rules.{Rules}
 use Rattle.cdb_session.specs.News.{news_up_to}
 use Rattle.cdb_setup.specs.Parts.{Parts}
@@ -67,7 +67,7 @@ pub news_seen : (rules : Parts → Rules) (seat : SeatView) (from : Option ℕ) 
     → news_in rules (opened_from seat.setup seat.seats seat.seen) seat.number first ≡ news_up_to (part_seen rules seat) from seen
 news_seen rules seat None first seen is all =
     let k = opened_from seat.setup seat.seats seat.seen in
-    ap (news_in rules k seat.number) is ∙ sym (news_told rules k seat.number seen)
+    ap (news_in rules k seat.number) is ∙ sym (news_listed rules k seat.number seen)
     ∙ no_news rules k seat.number (min seen (length seat.seen)) (omega (arith, all))
 news_seen rules seat (Some from) first seen is all =
     λ i. news (rules seat.setup) seat.setup seat.seats seat.number seat.seen (is i) (sym all i)

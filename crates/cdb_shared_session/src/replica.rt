@@ -59,10 +59,10 @@ pub(crate) fn news_for<R: Runs, Rt: Wait>(
     ensures seat { IsLater seat.old seat.new }
     ensures calls { SameCalls seat.old seat.new.seen }
     ensures limit { length seat.new.seen ≤ MAX_ENTRIES }
-    ensures replica { IfOk result (λ told. IsReplica seat.new told.0) }
-    ensures seen { IfOk result (λ told. told.1.seen ≡ length seat.new.seen) }
+    ensures replica { IfOk result (λ said. IsReplica seat.new said.0) }
+    ensures seen { IfOk result (λ said. said.1.seen ≡ length seat.new.seen) }
     ensures news { IfOk result
-        (λ told. told.1.text.items ≡ news_up_to (part_seen R.rules seat.new) from told.1.seen) }
+        (λ said. said.1.text.items ≡ news_up_to (part_seen R.rules seat.new) from said.1.seen) }
 {
     let known = replica.journal().len();
     let entries = match shared.journal(rt, alloc, seat, known) {

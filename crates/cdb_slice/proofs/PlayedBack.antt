@@ -7,7 +7,7 @@ use Rattle.cdb_causal.proofs.Slices.{slice_to_front}
 use Rattle.cdb_causal.specs.Dependence.{depends}
 use Rattle.cdb_causal.specs.Past.{IsSlice}
 use Rattle.cdb_control.specs.Commands.{Outcome, granted, lost, outcome, obey, reply_of, step_done}
-use Rattle.cdb_control.specs.Headline.{TellsTaken}
+use Rattle.cdb_control.specs.Headline.{SaysTaken}
 use Rattle.cdb_control.specs.Journal.{replay_from, replay}
 use Rattle.cdb_control.specs.OneSeat.{journal_of}
 use Rattle.cdb_control.specs.State.{State, first_control_state}
@@ -20,14 +20,14 @@ use Rattle.cdb_slice.specs.Slices.{AreSliced}
 module _ (rules : Rules) (SameState : List Event → List Event → Type 0) (setup : Parts) (keeps : KeepHistories rules SameState setup) where
   -- the command for the event tells it as taken, and leaves it as the last
   record Takes (t : State) (event : Event) : Type 0 where
-    tells : TellsTaken (reply_of rules t 1 (command_for event)) event
+    says : SaysTaken (reply_of rules t 1 (command_for event)) event
     left : (obey rules t 1 (command_for event)).history ≡ t.history ++ event ∷ []
 
-  takes_by : (t : State) (event : Event) (does : Outcome) → outcome rules t 1 (command_for event) ≡ does → TellsTaken does.reply event
+  takes_by : (t : State) (event : Event) (does : Outcome) → outcome rules t 1 (command_for event) ≡ does → SaysTaken does.reply event
       → does.after.history ≡ t.history ++ event ∷ [] → Takes t event
-  takes_by t event does is tells left =
+  takes_by t event does is says left =
       record {
-        tells = subst (λ (o : Outcome). TellsTaken o.reply event) (sym is) tells;
+        says = subst (λ (o : Outcome). SaysTaken o.reply event) (sym is) says;
         left = subst (λ (o : Outcome). o.after.history ≡ t.history ++ event ∷ []) (sym is) left;
       }
 
@@ -46,7 +46,7 @@ module _ (rules : Rules) (SameState : List Event → List Event → Type 0) (set
       let one = takes t event (keeps.last_taken t.history event (keeps.beginning (t.history ++ event ∷ []) events all)) in
       let next = obey rules t 1 (command_for event) in
       let rest = plays events next (subst (λ (h : List Event). IsTrue (rules.valid (h ++ events))) (sym one.left) all) in
-      ((one.tells, rest.0), rest.1 ∙ ap (λ (h : List Event). h ++ events) one.left ∙ sym longer)
+      ((one.says, rest.0), rest.1 ∙ ap (λ (h : List Event). h ++ events) one.left ∙ sym longer)
 
   pub plays_back : (events : List Event) → IsTrue (rules.valid events) → PlaysBack rules setup events
   unfolding replay

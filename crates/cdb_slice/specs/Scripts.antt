@@ -6,7 +6,7 @@ use Rattle.cdb_base.specs.declared.event.Event.TheVariants as event
 use Rattle.cdb_commands.specs.declared.command.Command.{Command}
 use Rattle.cdb_commands.specs.declared.command.Command.TheVariants as command
 use Rattle.cdb_control.specs.Commands.{reply_of, obey}
-use Rattle.cdb_control.specs.Headline.{TellsTaken}
+use Rattle.cdb_control.specs.Headline.{SaysTaken}
 use Rattle.cdb_control.specs.Journal.{replay}
 use Rattle.cdb_control.specs.OneSeat.{journal_of}
 use Rattle.cdb_control.specs.State.{State, first_control_state}
@@ -32,7 +32,7 @@ script_text events = flat_map line_text events
 abbrev pub AreAnswered : Rules → State → List Event → Type 0
 AreAnswered rules t [] = Unit {0}
 AreAnswered rules t (event ∷ events) =
-    TellsTaken (reply_of rules t 1 (command_for event)) event
+    SaysTaken (reply_of rules t 1 (command_for event)) event
     × AreAnswered rules (obey rules t 1 (command_for event)) events
 
 -- Played from the start, the command for each event is answered with it, and in the end just these events stand, in

@@ -82,9 +82,9 @@ abbrev pub HasNone : List (List Entry) → List (List Sent) → Event → ℕ �
 HasNone steps sent cause behind effect ahead =
     (mark : ℕ) (it : Event) → IsBetween steps sent cause behind effect ahead mark it → ⊥
 
-abbrev pub TellsBetween : List (List Entry) → List (List Sent) → Event → ℕ → Event → ℕ → Bool → Type 0
-TellsBetween steps sent cause behind effect ahead told =
-    MatchBool told ((mark : ℕ) × (it : Event) × IsBetween steps sent cause behind effect ahead mark it)
+abbrev pub FindsBetween : List (List Entry) → List (List Sent) → Event → ℕ → Event → ℕ → Bool → Type 0
+FindsBetween steps sent cause behind effect ahead said =
+    MatchBool said ((mark : ℕ) × (it : Event) × IsBetween steps sent cause behind effect ahead mark it)
     (HasNone steps sent cause behind effect ahead)
 
 -- the l-th step of process q is a direct cause

@@ -5,7 +5,7 @@ ghost use Rattle.cdb_base.specs.declared.event.Event.TheVariants.{Step};
 ghost use Rattle.cdb_standing.specs.Accesses.{cell, IsRisingBy};
 ghost use Rattle.cdb_standing.specs.Causes.{sent_by, writes as writes_of, register_of_both, between_in};
 ghost use Rattle.cdb_standing.specs.Causes.{HasAccessBetween, IsLastByList, IsLastCause, IsLastCauseOrNone};
-ghost use Rattle.cdb_standing.specs.Causes.{TellsBetween, IsDirectOf, AreDirect, AreDirectByName};
+ghost use Rattle.cdb_standing.specs.Causes.{FindsBetween, IsDirectOf, AreDirect, AreDirectByName};
 ghost use Rattle.cdb_standing.specs.Kept.{AreKept};
 ghost use Rattle.cdb_standing.specs.Tables.{rows_in, row_of, IsEntry, Stands};
 
@@ -153,7 +153,7 @@ fn is_hidden_from_step(
     ensures { (q l : ℕ) →
         IsLastCause (rows_in tables.now.steps.items) (rows_in tables.now.sent.items)
         (Step p k kind.now) ahead q l cause.now.mark cause.now.kind →
-        TellsBetween (rows_in tables.now.steps.items) (rows_in tables.now.sent.items)
+        FindsBetween (rows_in tables.now.steps.items) (rows_in tables.now.sent.items)
         (Step q l cause.now.kind) cause.now.mark (Step p k kind.now) ahead result }
 {
     let Some(n) = common_register(&cause.kind, kind) else {
@@ -177,7 +177,7 @@ fn is_hidden(tables: &Tables, cause: &Entry, effect: &Event, ahead: u64) -> bool
     ensures { (q l : ℕ) →
         IsLastCause (rows_in tables.now.steps.items) (rows_in tables.now.sent.items)
         effect.now ahead q l cause.now.mark cause.now.kind →
-        TellsBetween (rows_in tables.now.steps.items) (rows_in tables.now.sent.items)
+        FindsBetween (rows_in tables.now.steps.items) (rows_in tables.now.sent.items)
         (Step q l cause.now.kind) cause.now.mark effect.now ahead result }
 {
     match effect {

@@ -3,6 +3,6 @@ use Rattle.std.proofs.Common.{◌≡◌, ℕ, Bool, false, Option, Some, None, o
 use Rattle.cdb_streams.specs.Streams.{counted}
 
 -- a call that doesn't tell it leaves the count
-pub same_ends : (told : Bool) (old : Option ℕ) → told ≡ false → option_map (counted told) old ≡ old
-same_ends told None not = refl
-same_ends told (Some count) not = rw not refl
+pub same_ends : (said : Bool) (old : Option ℕ) → said ≡ false → option_map (counted said) old ≡ old
+same_ends said None not = refl
+same_ends said (Some count) not = rw not refl

@@ -24,7 +24,7 @@ abbrev pub is_end : {E : Type 0} → Result ℕ E → List ℕ → Bool
 is_end (Err e) buffer = false
 is_end (Ok count) buffer = (count == 0) && not (length buffer == 0)
 
--- ---- failures, and ends
+-- ---- failures
 
 -- the call failed: it returned an error, or took none of a piece that is not empty
 abbrev pub is_failure : {E : Type 0} → Result ℕ E → List ℕ → Bool
@@ -45,7 +45,7 @@ FailsWhere stream Here old new =
     (Here → (stream new).failures ≡ one_more (stream old).failures)
     × ((Here → ⊥) → (stream new).failures ≡ (stream old).failures)
 
--- of a reader whose tellings of its end are counted: it told its end once at most
+-- of how often a reader said that it has ended, before and after: once more at most
 abbrev pub EndsOnceAtMost : Option ℕ → Option ℕ → Type 0
 EndsOnceAtMost old new = (new ≡ old) ⊎ (new ≡ option_map one_more old)
 

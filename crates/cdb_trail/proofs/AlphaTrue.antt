@@ -30,7 +30,7 @@ use Rattle.cdb_trail.specs.AlphaFlow as flows
 use Rattle.cdb_trail.specs.AlphaFlow.{Slot, slot_value, has_settled, settled_from, read_flow, write_flow, local_flow, flow, alpha_flows}
 use Rattle.cdb_trail.proofs.Numbers.{IsNumbered, numbered}
 use Rattle.cdb_trail.proofs.RunFlows.{Fits, taken, AreTrueOfOne}
-use Rattle.cdb_trail.proofs.Trails.{AreTold}
+use Rattle.cdb_trail.proofs.Trails.{SameOrNot}
 
 -- a process has decided at the last place alone
 abbrev pub DecidedLast : LocalState → Type 0
@@ -582,10 +582,10 @@ alpha_flows_are_true = record {
   sets_own = λ p s kind spot here. sets_own p s kind spot (contained_in (flow p s kind).sets spot here);
 }
 
-pub slots_apart : (x y : Slot) → AreTold x y
+pub slots_apart : (x y : Slot) → SameOrNot x y
 slots_apart (flows.seen n) (flows.seen k) = go (cases_eq n k)
   where
-    go : (n ≡ k) ⊎ (n ≡ k → ⊥) → AreTold (flows.seen n) (flows.seen k)
+    go : (n ≡ k) ⊎ (n ≡ k → ⊥) → SameOrNot (flows.seen n) (flows.seen k)
     go (inl same) = inl (ap flows.seen same)
     go (inr other) = inr (λ is. other (cc))
 slots_apart (flows.seen n) flows.input = inr (λ is. cc)

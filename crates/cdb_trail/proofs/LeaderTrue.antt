@@ -34,7 +34,7 @@ use Rattle.cdb_trail.specs.LeaderFlow.{Slot, received, estimate, aux, decision, 
 use Rattle.cdb_trail.specs.LeaderFlow.{send_flow, query_flow, local_flow, flow, leader_flows}
 use Rattle.cdb_trail.proofs.Numbers.{IsNumbered, numbered, given_found, given_none, found_passes}
 use Rattle.cdb_trail.proofs.RunFlows.{Fits, taken, AreTrueOfOne}
-use Rattle.cdb_trail.proofs.Trails.{AreTold}
+use Rattle.cdb_trail.proofs.Trails.{SameOrNot}
 
 -- ---- what a message reads as is what it carries
 
@@ -557,10 +557,10 @@ leader_flows_are_true = record {
   sets_own = λ p s kind spot here. sets_own p s kind spot (contained_in (flow p s kind).sets spot here);
 }
 
-pub slots_apart : (x y : Slot) → AreTold x y
+pub slots_apart : (x y : Slot) → SameOrNot x y
 slots_apart (received n) (received k) = go (cases_eq n k)
   where
-    go : (n ≡ k) ⊎ (n ≡ k → ⊥) → AreTold (received n) (received k)
+    go : (n ≡ k) ⊎ (n ≡ k → ⊥) → SameOrNot (received n) (received k)
     go (inl same) = inl (ap received same)
     go (inr other) = inr (λ is. other (cc))
 slots_apart (received n) estimate = inr (λ is. cc)

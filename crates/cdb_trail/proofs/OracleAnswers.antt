@@ -16,8 +16,8 @@ use Rattle.cdb_explain.specs.Flagged.{is_flagged}
 use Rattle.cdb_explain.specs.Rounds.{round_before, round_by}
 use Rattle.cdb_rules.specs.RunView.{RunView}
 use Rattle.cdb_rules.specs.Runs.{with_history}
-use Rattle.cdb_trail.specs.Oracle.{told_at, told_first}
-use Rattle.cdb_trail.specs.declared.oracle.Told.{Told}
+use Rattle.cdb_trail.specs.Oracle.{trail_event_at, first_trail_events}
+use Rattle.cdb_trail.specs.declared.oracle.TrailEvent.{TrailEvent}
 
 range_more : (a n : ℕ) → range_with_len a (suc n) ≡ range_with_len a n ++ (a + n) ∷ []
 range_more a zero = let e : a ≡ a + 0 = omega arith in ap (λ (x : ℕ). x ∷ []) e
@@ -26,24 +26,24 @@ range_more a (suc n) =
     ap (λ (xs : List ℕ). a ∷ xs) (range_more (a + 1) n ∙ ap (λ (x : ℕ). range_with_len (a + 1) n ++ x ∷ []) e)
 
 module _ (run : RunView) (flags : List Bool) (i : ℕ) (event : Event) (at : slice_get run.history i ≡ Some event) where
-  pub told_more : told_first run flags (i + 1) ≡ told_first run flags i ++ told_at run flags (suc i) event ∷ []
-  told_more =
+  pub one_trail_event_more : first_trail_events run flags (i + 1) ≡ first_trail_events run flags i ++ trail_event_at run flags (suc i) event ∷ []
+  one_trail_event_more =
       let next : i + 1 ≡ suc i = omega arith in
       let same : 1 + i ≡ suc i = omega arith in
-      let told = λ (position : ℕ). option_to_list (option_map (told_at run flags position) (nth run.history position)) in
-      ap (told_first run flags) next ∙ ap (flat_map told) (range_more 1 i ∙ ap (λ (x : ℕ). range_with_len 1 i ++ x ∷ []) same)
-      ∙ flat_map-append told (range_with_len 1 i) (suc i ∷ [])
-      ∙ ap (λ (ts : List Told). flat_map told (range_with_len 1 i) ++ ts)
-      (append-nil (told (suc i)) ∙ ap (λ o. option_to_list (option_map (told_at run flags (suc i)) o)) at)
+      let said = λ (position : ℕ). option_to_list (option_map (trail_event_at run flags position) (nth run.history position)) in
+      ap (first_trail_events run flags) next ∙ ap (flat_map said) (range_more 1 i ∙ ap (λ (x : ℕ). range_with_len 1 i ++ x ∷ []) same)
+      ∙ flat_map-append said (range_with_len 1 i) (suc i ∷ [])
+      ∙ ap (λ (ts : List TrailEvent). flat_map said (range_with_len 1 i) ++ ts)
+      (append-nil (said (suc i)) ∙ ap (λ o. option_to_list (option_map (trail_event_at run flags (suc i)) o)) at)
 
   module _ (again : RunView) (along : again ≡ with_history run (take i run.history)) where
     -- the round is asked for before the event is taken
     round_along : round_before rules run (suc i) ≡ round_by rules again event
     round_along = let last : suc i - 1 ≡ i = omega arith in rw (at, last) (ap (λ r. round_by rules r event) (sym along))
 
-    pub told_is : (flag : Bool) → is_flagged flags (suc i) ≡ flag
-        → record { event = event; deed = deed_in again event; round = round_by rules again event; on_trail = flag } ≡ told_at run flags (suc i) event
-    told_is flag marked =
+    pub trail_event_is : (flag : Bool) → is_flagged flags (suc i) ≡ flag
+        → record { event = event; deed = deed_in again event; round = round_by rules again event; on_trail = flag } ≡ trail_event_at run flags (suc i) event
+    trail_event_is flag marked =
         ap (λ (d : Deed). record { event = event; deed = d; round = round_by rules again event; on_trail = flag })
         (sym (deed_along rules ReachSameState rules_keep_histories run i event at again along))
         ∙ ap (λ (r : ℕ). record { event = event; deed = deed_at run (suc i); round = r; on_trail = flag }) (sym round_along)

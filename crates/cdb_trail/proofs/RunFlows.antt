@@ -34,7 +34,7 @@ use Rattle.cdb_rules.proofs.Stages.{sight_in, meets, sent_after, process_after, 
 use Rattle.cdb_rules.proofs.Taken.{IsAccepted, mapped, bound, both, some_of, taken_from, parts, where_true}
 use Rattle.cdb_setup.specs.Parts.{Parts}
 use Rattle.cdb_agreement.proofs.Firsts.{first_of_input, first_cells, first_decision}
-use Rattle.cdb_trail.proofs.Trails.{AreTold, same_register}
+use Rattle.cdb_trail.proofs.Trails.{SameOrNot, same_register}
 use Rattle.cdb_trail.specs.Flow.{Spot, slot, message, register, Flow, still, Flows, value_at, flow_of, flow_by, MayTake, MaySet, IsReached, FlowsAreTrue}
 
 -- an input of a step of that kind
@@ -373,7 +373,7 @@ module _ {L S : Type 0} (table : Table L) (flows : Flows L S) where
             it : Writes o
             it = writes o accepted
 
-            go : AreTold r o → shown (register_of t.registers r) ≡ Some v
+            go : SameOrNot r o → shown (register_of t.registers r) ≡ Some v
             go (inl same) =
                 absurd (never (subst (λ z. Contains (flows.flow p local (Write o)).sets (register z)) (sym same) (one.written p o local s it.0 it.3 it.1).0))
             go (inr other) =

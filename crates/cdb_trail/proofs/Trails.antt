@@ -41,36 +41,36 @@ within (y ∷ ys) (suc i) x is = let low = within ys i x is in omega arith
 -- ---- spots are told apart where slots are
 
 -- two things are one, or not
-abbrev pub AreTold : {A : Type 0} → A → A → Type 0
-AreTold x y = (x ≡ y) ⊎ (x ≡ y → ⊥)
+abbrev pub SameOrNot : {A : Type 0} → A → A → Type 0
+SameOrNot x y = (x ≡ y) ⊎ (x ≡ y → ⊥)
 
-pub same_register : (r o : Reg) → AreTold r o
+pub same_register : (r o : Reg) → SameOrNot r o
 same_register (R p) (R q) = go (cases_eq p q)
   where
-    go : (p ≡ q) ⊎ (p ≡ q → ⊥) → AreTold (R p) (R q)
+    go : (p ≡ q) ⊎ (p ≡ q → ⊥) → SameOrNot (R p) (R q)
     go (inl same) = inl (ap R same)
     go (inr other) = inr (λ is. other (cc))
 same_register (R p) Dec = inr (λ is. cc)
 same_register Dec (R q) = inr (λ is. cc)
 same_register Dec Dec = inl refl
 
-module _ {S : Type 0} (apart : (x y : S) → AreTold x y) where
-  same_spot : (x y : Spot S) → AreTold x y
+module _ {S : Type 0} (apart : (x y : S) → SameOrNot x y) where
+  same_spot : (x y : Spot S) → SameOrNot x y
   same_spot (slot p x) (slot q y) = go (cases_eq p q) (apart x y)
     where
-      go : (p ≡ q) ⊎ (p ≡ q → ⊥) → AreTold x y → AreTold {A = Spot S} (slot p x) (slot q y)
+      go : (p ≡ q) ⊎ (p ≡ q → ⊥) → SameOrNot x y → SameOrNot {A = Spot S} (slot p x) (slot q y)
       go (inl same) (inl also) = inl (cc)
       go (inl same) (inr other) = inr (λ is. other (cc))
       go (inr other) also = inr (λ is. other (cc))
   same_spot (message s m) (message o k) = go (cases_eq s o) (cases_eq m k)
     where
-      go : (s ≡ o) ⊎ (s ≡ o → ⊥) → (m ≡ k) ⊎ (m ≡ k → ⊥) → AreTold {A = Spot S} (message s m) (message o k)
+      go : (s ≡ o) ⊎ (s ≡ o → ⊥) → (m ≡ k) ⊎ (m ≡ k → ⊥) → SameOrNot {A = Spot S} (message s m) (message o k)
       go (inl same) (inl also) = inl (cc)
       go (inl same) (inr other) = inr (λ is. other (cc))
       go (inr other) also = inr (λ is. other (cc))
   same_spot (register r) (register o) = go (same_register r o)
     where
-      go : AreTold r o → AreTold {A = Spot S} (register r) (register o)
+      go : SameOrNot r o → SameOrNot {A = Spot S} (register r) (register o)
       go (inl same) = inl (ap register same)
       go (inr other) = inr (λ is. other (cc))
   same_spot (slot p x) (message o k) = inr (λ is. cc)
@@ -87,7 +87,7 @@ module _ {S : Type 0} (apart : (x y : S) → AreTold x y) where
       is_in [] = inr (λ none. none)
       is_in (y ∷ ys) = first (same_spot x y) (is_in ys)
         where
-          first : AreTold x y → IsIn x ys ⊎ (IsIn x ys → ⊥) → ((x ≡ y) ⊎ IsIn x ys) ⊎ ((x ≡ y) ⊎ IsIn x ys → ⊥)
+          first : SameOrNot x y → IsIn x ys ⊎ (IsIn x ys → ⊥) → ((x ≡ y) ⊎ IsIn x ys) ⊎ ((x ≡ y) ⊎ IsIn x ys → ⊥)
           first (inl same) later = inl (inl same)
           first (inr other) (inl later) = inl (inr later)
           first (inr other) (inr never) = inr (neither other never)
@@ -103,7 +103,7 @@ module _ {S : Type 0} (apart : (x y : S) → AreTold x y) where
 -- ---- a valid history
 
 module _ {L S : Type 0} (machine : Machine L) (flows : Flows L S) (inputs : List ℕ)
-    (true_flows : FlowsAreTrue machine flows inputs) (apart : (x y : S) → AreTold x y)
+    (true_flows : FlowsAreTrue machine flows inputs) (apart : (x y : S) → SameOrNot x y)
     (history : List Event) (valid : IsValid machine history) where
   abbrev at : ℕ → RunState L
   at i = state_after machine flows history i
@@ -318,17 +318,17 @@ module _ {L S : Type 0} (machine : Machine L) (flows : Flows L S) (inputs : List
 -- ---- decisions
 
 module _ {L S : Type 0} (machine : Machine L) (flows : Flows L S) (decision : L → Option ℕ) (inputs : List ℕ) (true_flows : FlowsAreTrue machine flows inputs)
-    (apart : (x y : S) → AreTold x y) (told : (local : L) → decision local ≡ flows.value local flows.decision)
+    (apart : (x y : S) → SameOrNot x y) (said : (local : L) → decision local ≡ flows.value local flows.decision)
     (history : List Event) (valid : IsValid machine history) where
   -- what a process has decided lies in its slot
   lies_in_slot : (state : RunState L) (p v : ℕ) → HasDecided machine flows inputs decision state p v → value_at flows state (slot p flows.decision) ≡ Some v
   lies_in_slot state p v it =
-      ap (λ o. option_and_then (λ (x : ProcessState L). flows.value x.progress.local flows.decision) o) it.1 ∙ sym (told it.0.progress.local) ∙ it.2
+      ap (λ o. option_and_then (λ (x : ProcessState L). flows.value x.progress.local flows.decision) o) it.1 ∙ sym (said it.0.progress.local) ∙ it.2
 
   decided_in_slot : (state : RunState L) (p v : ℕ) → value_at flows state (slot p flows.decision) ≡ Some v → HasDecided machine flows inputs decision state p v
   decided_in_slot state p v lies =
       let it = bound (λ (x : ProcessState L). flows.value x.progress.local flows.decision) (nth state.processes p) v lies in
-      (it.0, it.1, told it.0.progress.local ∙ it.2)
+      (it.0, it.1, said it.0.progress.local ∙ it.2)
 
   pub led_to_decision : (p v j : ℕ) → Decides machine flows inputs decision history p v j → IsLed machine flows inputs true_flows apart history valid v j
   led_to_decision p v zero decides = absurd (none-some decides.event decides.at)

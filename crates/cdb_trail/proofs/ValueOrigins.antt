@@ -63,14 +63,14 @@ pub unset_before : {S : Type 0} (flows : List (Flow S)) (spot : Spot S) (n i : �
     → n ≡ suc i → (here : Flow S) → slice_get flows i ≡ Some here → (b : Bool) → b ≡ false
     → IsTrue b ↔ Contains here.sets spot → ((k : ℕ) (flow : Flow S) → n ≤ k → slice_get flows k ≡ Some flow → Contains flow.sets spot → ⊥)
     → (k : ℕ) (flow : Flow S) → i ≤ k → slice_get flows k ≡ Some flow → Contains flow.sets spot → ⊥
-unset_before {S} flows spot n i next here at b not tells behind k flow low is sets = by (cases_lt i k)
+unset_before {S} flows spot n i next here at b not says behind k flow low is sets = by (cases_lt i k)
   where
     by : (i < k) ⊎ (k ≤ i) → ⊥
     by (inl more) = behind k flow (omega (arith, more, next)) is sets
     by (inr less) =
         let same : k ≡ i = omega (arith, low, less) in
         let its = same_Some flow here (sym is ∙ ap (slice_get flows) same ∙ at) in
-        true≢false (sym (tells.1 (subst (λ (f : Flow S). Contains f.sets spot) its sets)) ∙ not)
+        true≢false (sym (says.1 (subst (λ (f : Flow S). Contains f.sets spot) its sets)) ∙ not)
 
 -- an origin more
 pub one_origin_more : (IsIts : ℕ → Option Origin → Type 0) (origins : List (Option Origin)) (n : ℕ) (origin : Option Origin)

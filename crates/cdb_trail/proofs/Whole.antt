@@ -6,10 +6,10 @@ use Rattle.cdb_rules.specs.Step.{IsValid}
 use Rattle.cdb_trail.specs.Flow.{Flows, FlowsAreTrue}
 use Rattle.cdb_trail.specs.Trails.{HasTrail, EachValueHasATrail, EachDecisionHasATrail, TrailsAreUnique}
 use Rattle.cdb_trail.proofs.InPast.{all_in_past, one_trail}
-use Rattle.cdb_trail.proofs.Trails.{AreTold, IsLed, led_to_value, led_to_decision}
+use Rattle.cdb_trail.proofs.Trails.{SameOrNot, IsLed, led_to_value, led_to_decision}
 
 module _ {L S : Type 0} (machine : Machine L) (flows : Flows L S) (inputs : List ℕ)
-    (true_flows : FlowsAreTrue machine flows inputs) (apart : (x y : S) → AreTold x y) where
+    (true_flows : FlowsAreTrue machine flows inputs) (apart : (x y : S) → SameOrNot x y) where
   has_trail : (history : List Event) (valid : IsValid machine history) (v j : ℕ)
       → IsLed machine flows inputs true_flows apart history valid v j → HasTrail machine flows inputs history v j
   has_trail history valid v j led = (
@@ -31,5 +31,5 @@ module _ {L S : Type 0} (machine : Machine L) (flows : Flows L S) (inputs : List
 
   pub each_decision_has_a_trail : (decision : L → Option ℕ)
       → ((local : L) → decision local ≡ flows.value local flows.decision) → EachDecisionHasATrail machine flows inputs decision
-  each_decision_has_a_trail decision told history valid p v j decides =
-      has_trail history valid v j (led_to_decision machine flows decision inputs true_flows apart told history valid p v j decides)
+  each_decision_has_a_trail decision said history valid p v j decides =
+      has_trail history valid v j (led_to_decision machine flows decision inputs true_flows apart said history valid p v j decides)

@@ -16,11 +16,11 @@ use Rattle.cdb_explain.specs.Flagged.{is_flagged}
 use Rattle.cdb_explain.specs.Rounds.{round_before}
 use Rattle.cdb_rules.specs.RunView.{RunView}
 use Rattle.cdb_text.specs.Reports.{causes_text}
-use Rattle.cdb_trail.specs.declared.oracle.Told.{Told}
+use Rattle.cdb_trail.specs.declared.oracle.TrailEvent.{TrailEvent}
 
 -- the event at that position, what it did, the round of its process before it, and whether it is flagged
-abbrev pub told_at : RunView → List Bool → ℕ → Event → Told
-told_at run flags position event = record {
+abbrev pub trail_event_at : RunView → List Bool → ℕ → Event → TrailEvent
+trail_event_at run flags position event = record {
   event = event;
   deed = deed_at run position;
   round = round_before rules run position;
@@ -28,13 +28,13 @@ told_at run flags position event = record {
 }
 
 -- the first events, count of them
-abbrev pub told_first : RunView → List Bool → ℕ → List Told
-told_first run flags count =
-    flat_map (λ position. option_to_list (option_map (told_at run flags position) (nth run.history position)))
+abbrev pub first_trail_events : RunView → List Bool → ℕ → List TrailEvent
+first_trail_events run flags count =
+    flat_map (λ position. option_to_list (option_map (trail_event_at run flags position) (nth run.history position)))
     (range_with_len 1 count)
 
-abbrev pub all_told : RunView → List Bool → List Told
-all_told run flags = told_first run flags (length run.history)
+abbrev pub trail_events : RunView → List Bool → List TrailEvent
+trail_events run flags = first_trail_events run flags (length run.history)
 
 -- a step of process p that did that counts an answer to process q: a vote those to the senders that name the leader,
 -- and what settles the value of a round of Alpha the one to its own process
@@ -50,26 +50,26 @@ began (Round r) round = r == round
 began deed round = false
 
 -- the query began the round of the vote, and the vote counts its answer
-abbrev pub rests_by : Told → Told → Event → Event → Bool
+abbrev pub rests_by : TrailEvent → TrailEvent → Event → Event → Bool
 rests_by vote query (Step p k kind) (Step q l other) = counts vote.deed p q && began query.deed vote.round
 rests_by vote query event other = false
 
-abbrev pub rests : Told → Told → Bool
+abbrev pub rests : TrailEvent → TrailEvent → Bool
 rests vote query = rests_by vote query vote.event query.event
 
 -- one of the votes rests on the query
-abbrev pub is_answer : List Told → Told → Bool
+abbrev pub is_answer : List TrailEvent → TrailEvent → Bool
 is_answer votes query = list_any (λ vote. rests vote query) votes
 
 -- the names of those of the queries on which one of the votes rests, in order
-abbrev pub answers_among : List Told → List Told → List StepId
+abbrev pub answers_among : List TrailEvent → List TrailEvent → List StepId
 answers_among votes queries = map (λ query. event_name query.event) (filter (is_answer votes) queries)
 
-abbrev pub on_trail : List Told → List Told
+abbrev pub on_trail : List TrailEvent → List TrailEvent
 on_trail all = filter (λ it. it.on_trail) all
 
 abbrev pub answers_in : RunView → List Bool → List StepId
-answers_in run flags = answers_among (on_trail (all_told run flags)) (all_told run flags)
+answers_in run flags = answers_among (on_trail (trail_events run flags)) (trail_events run flags)
 
 -- `oracle answers P.K ..`, or `oracle answers none`
 unfoldable pub answers_word : List ℕ

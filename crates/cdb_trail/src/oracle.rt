@@ -5,14 +5,14 @@ ghost use Rattle.cdb_deeds.specs.Deeds.{deed_in, received_by_each};
 ghost use Rattle.cdb_explain.specs.Rounds.{round_by};
 ghost use Rattle.cdb_rules.specs.ByRules.{IsInOrder};
 ghost use Rattle.cdb_text.specs.Pushes.{Pushes};
-ghost use Rattle.cdb_trail.specs.Oracle.{all_told, answers_among, answers_in, answers_text, answers_word};
+ghost use Rattle.cdb_trail.specs.Oracle.{trail_events, answers_among, answers_in, answers_text, answers_word};
 ghost use Rattle.cdb_trail.specs.Oracle.{began, counts, is_answer, on_trail, rests};
 ghost use Rattle.std.specs.List.{list_any};
 ghost use Rattle.std.specs.Prelude.{◌≡◌, ◌==◌, length, map, IfOk};
 
 use cdb_any_run::AnyRun;
 use cdb_base::{Event, MsgName, NoMemory, Proc, StepId};
-use cdb_deeds::{Deed, ReceivedNames, Telling};
+use cdb_deeds::{Deed, HasDeeds, ReceivedNames};
 use cdb_explain::{fresh, round_by, take_next};
 use cdb_rules::Trace;
 use cdb_text::push_causes;
@@ -20,7 +20,7 @@ use std::alloc::{AllocError, Global};
 
 /// An event of a run, what it did, the round of its process before it, and whether it is on the trail.
 #[derive(Drop)]
-pub struct Told {
+pub struct TrailEvent {
     event: Event,
     deed: Deed,
     round: u32,
@@ -56,7 +56,7 @@ fn began(deed: &Deed, round: u32) -> bool
 }
 
 /// Whether the query began the round of the vote, and the vote counts its answer.
-fn rests(vote: &Told, query: &Told) -> bool
+fn rests(vote: &TrailEvent, query: &TrailEvent) -> bool
     ensures { result ≡ rests vote.now query.now }
 {
     match vote.event {
@@ -71,7 +71,7 @@ fn rests(vote: &Told, query: &Told) -> bool
 }
 
 /// Those of the events that are on the trail, in order.
-fn on_trail<'a>(alloc: Global, all: &'a [Told]) -> Result<Vec<&'a Told>, NoMemory>
+fn on_trail<'a>(alloc: Global, all: &'a [TrailEvent]) -> Result<Vec<&'a TrailEvent>, NoMemory>
     ensures { IfOk result (λ found. map (λ it. it.now) found.items ≡ on_trail all.now) }
 {
     let mut found = Vec::new(alloc);
@@ -84,7 +84,7 @@ fn on_trail<'a>(alloc: Global, all: &'a [Told]) -> Result<Vec<&'a Told>, NoMemor
 }
 
 /// Whether one of the votes rests on the query.
-fn is_answer(votes: &[&Told], query: &Told) -> bool
+fn is_answer(votes: &[&TrailEvent], query: &TrailEvent) -> bool
     ensures { result ≡ is_answer (map (λ vote. vote.now) votes.now) query.now }
 {
     for vote in votes {
@@ -96,7 +96,7 @@ fn is_answer(votes: &[&Told], query: &Told) -> bool
 }
 
 /// The names of the queries on which a vote on the trail rests, in order.
-fn answers(alloc: Global, all: &[Told]) -> Result<Vec<StepId>, NoMemory>
+fn answers(alloc: Global, all: &[TrailEvent]) -> Result<Vec<StepId>, NoMemory>
     ensures { IfOk result (λ names. names.items ≡ answers_among (on_trail all.now) all.now) }
 {
     let votes = on_trail(alloc, all)?;
@@ -117,13 +117,13 @@ fn round_before(again: &AnyRun, event: &Event) -> u32
 }
 
 /// What is told of the event that comes next.
-fn tell(
+fn trail_event(
     alloc: Global,
     again: &AnyRun,
     names: &ReceivedNames,
     event: &Event,
     on_trail: bool,
-) -> Result<Told, NoMemory>
+) -> Result<TrailEvent, NoMemory>
     requires { names.now ≡ received_by_each again.now.history }
     ensures { IfOk result (λ it. it
         ≡ record {
@@ -134,7 +134,7 @@ fn tell(
         }) }
 {
     let deed = again.deed(alloc, names, event)?;
-    Ok(Told {
+    Ok(TrailEvent {
         event: *event,
         deed,
         round: round_before(again, event),
@@ -143,10 +143,10 @@ fn tell(
 }
 
 /// What is told of all events of the run, where those on the trail are flagged.
-fn tell_all(alloc: Global, run: &Trace, flags: &[bool]) -> Result<Vec<Told>, NoMemory>
+fn trail_events(alloc: Global, run: &Trace, flags: &[bool]) -> Result<Vec<TrailEvent>, NoMemory>
     requires valid { IsInOrder rules run.now }
     requires a_flag_each { length flags.now ≡ length run.now.history }
-    ensures { IfOk result (λ all. all.items ≡ all_told run.now flags.now) }
+    ensures { IfOk result (λ all. all.items ≡ trail_events run.now flags.now) }
 {
     let mut again = fresh::<AnyRun>(alloc, run)?;
     // Its clause says that the parts of the setup are in range.
@@ -156,7 +156,7 @@ fn tell_all(alloc: Global, run: &Trace, flags: &[bool]) -> Result<Vec<Told>, NoM
     let mut all = Vec::new(alloc);
     for i in 0..events.len() {
         let event = &events[i];
-        all.push(tell(alloc, &again, &names, event, flags[i])?)?;
+        all.push(trail_event(alloc, &again, &names, event, flags[i])?)?;
         take_next(alloc, &mut again, event)?;
         names.add(event)?;
     }
@@ -173,7 +173,7 @@ pub(crate) fn answers_in(
     requires a_flag_each { length flags.now ≡ length run.now.history }
     ensures { IfOk result (λ names. names.items ≡ answers_in run.now flags.now) }
 {
-    let all = tell_all(alloc, run, flags)?;
+    let all = trail_events(alloc, run, flags)?;
     let names = answers(alloc, all.as_slice())?;
     Ok(names)
 }

@@ -12,17 +12,17 @@ use Rattle.revdbg.specs.declared.requested.ArgsError.{ArgsError}
 use Rattle.revdbg.specs.declared.requested.ArgsError.TheVariants.{Unread, Refused}
 
 -- it prints or reports this text
-abbrev pub Tells : Text → Action → Type 0
-Tells said (Print text) = text.now ≡ said
-Tells said (Refuse (fault.Refused text)) = text.now ≡ said
-Tells said action = ⊥
+abbrev pub Says : Text → Action → Type 0
+Says said (Print text) = text.now ≡ said
+Says said (Refuse (fault.Refused text)) = text.now ≡ said
+Says said action = ⊥
 
 -- the report why the arguments ask for nothing
 abbrev pub IsReportOf : ArgsError → Action → Type 0
 IsReportOf (Unread reason) action = IsUnread reason action
 IsReportOf (Refused fault text) action =
     ((kinds : Kinds) → IsOfKinds kinds fault → OrOutOfMemory (IsRefusal kinds) action)
-    × OrOutOfMemory (Tells (string_bytes text)) action
+    × OrOutOfMemory (Says (string_bytes text)) action
 
 -- the action for what the arguments ask for, or that report
 abbrev pub IsActionFor : Text → Result Request ArgsError → Action → Type 0

@@ -7,7 +7,7 @@ ghost use Rattle.cdb_arguments.specs.RequestsOfRows.{IsOfKinds};
 ghost use Rattle.cdb_base.specs.Memory.{no_memory};
 ghost use Rattle.cdb_base.specs.Requests.{asked_for, texts};
 ghost use Rattle.cdb_program.specs.Requests.{HasTurns, MayPerform};
-ghost use Rattle.revdbg.specs.ActionFor.{IsReportOf, Makes, Tells};
+ghost use Rattle.revdbg.specs.ActionFor.{IsReportOf, Makes, Says};
 ghost use Rattle.revdbg.specs.Requested.{IsAskedBy, IsOutOfMemory, IsPerformed, IsRefusal};
 ghost use Rattle.revdbg.specs.Requested.{IsUnread, OrOutOfMemory, unread_of};
 
@@ -60,7 +60,7 @@ fn out_of_memory<'a>(refused: NoMemory) -> Action<'a, 'a>
 fn refusal_of<'a>(fault: &ArgumentsFault, text: &'a str) -> Action<'a, 'a>
     ensures refusal { (kinds : Kinds) → IsOfKinds kinds fault.now →
         OrOutOfMemory (IsRefusal kinds) result }
-    ensures text { OrOutOfMemory (Tells text.entry.now) result }
+    ensures text { OrOutOfMemory (Says text.entry.now) result }
     ensures turns { MayPerform result }
 {
     match fault {

@@ -4,7 +4,7 @@ ghost use Rattle.std.specs.Prelude.{◌≡◌, ◌+◌, ◌≤◌, [], ◌++◌,
 ghost use Rattle.std.specs.List.{flat_map};
 ghost use Rattle.cdb_base.specs.Limits.{MAX_SEATS};
 ghost use Rattle.cdb_commands.specs.ReplyView.{reply_view};
-ghost use Rattle.cdb_race.specs.Races.{all_told};
+ghost use Rattle.cdb_race.specs.Races.{all_reply_views};
 ghost use Rattle.cdb_text.specs.Texts.{text_of};
 ghost use Rattle.cdb_play.specs.Races.{seat_heading, seat_text, seats_text, end_text, verdict_text, have_one_value};
 ghost use Rattle.cdb_play.specs.Races.{text_with};
@@ -70,7 +70,7 @@ fn put_seats<W: Sink>(
 ) -> Result<(), OutputFault>
     requires { first + length seats.now ≤ 65 }
     ensures { Puts W.stream result out.old buffer.old out.new buffer.new
-        (seats_text first (all_told seats.now)) }
+        (seats_text first (all_reply_views seats.now)) }
 {
     let mut seat = first;
     for replies in seats {
@@ -131,7 +131,7 @@ fn put_race<T: Runs, W: Sink>(
 ) -> Result<(), OutputFault>
     requires { control.now.setup.processes + length replies.now ≤ MAX_SEATS }
     ensures { Puts W.stream result out.old buffer.old out.new buffer.new
-        (text_with T.rules control.now (all_told replies.now)) }
+        (text_with T.rules control.now (all_reply_views replies.now)) }
 {
     let run = control.run();
     put_seats(usize::from(run.processes()) + 1, replies, text, buffer, out)?;
@@ -151,7 +151,7 @@ fn write_pieces<T: Runs, W: Sink>(
     requires seats { control.now.setup.processes + length replies.now ≤ MAX_SEATS }
     requires empty { buffer.old ≡ [] }
     ensures { IsWritten W.stream (pieces_ending result) out.old out.new
-        (Only (text_with T.rules control.now (all_told replies.now))) }
+        (Only (text_with T.rules control.now (all_reply_views replies.now))) }
 {
     put_race(alloc, control, replies, text, buffer, out)?;
     buffer.flush(out)?;
@@ -169,7 +169,7 @@ pub(super) fn write_race<T: Runs, W: Sink>(
     requires seats { control.now.setup.processes + length replies.now ≤ MAX_SEATS }
     requires empty { buffer ≡ [] }
     ensures { IsWritten W.stream (pieces_ending result) out.old out.new
-        (Only (text_with T.rules control.now (all_told replies.now))) }
+        (Only (text_with T.rules control.now (all_reply_views replies.now))) }
 {
     let mut buffer = buffer;
     let mut text = String::new(alloc);

@@ -1,5 +1,5 @@
-use Rattle.cdb_clocks.proofs.WrittenClocks.{clock_tells}
-use Rattle.cdb_clocks.proofs.laws.clocks_tell_what_led.Goals as goal
+use Rattle.cdb_clocks.proofs.WrittenClocks.{clock_shows}
+use Rattle.cdb_clocks.proofs.laws.clocks_show_what_led.Goals as goal
 
 pub returns : goal.returns
-returns c = clock_tells
+returns c = clock_shows

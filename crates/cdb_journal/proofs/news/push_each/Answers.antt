@@ -5,7 +5,7 @@ use Rattle.cdb_control.specs.Journal.{Journaled, extended}
 use Rattle.cdb_control.specs.declared.control.Entry.{Entry}
 use Rattle.cdb_journal.specs.SeatReplies.{news_line, news_lines, seat_replies_in}
 use Rattle.cdb_journal.proofs.CarriedOut.{carried_out, one_more}
-use Rattle.cdb_journal.proofs.NewsLines.{last_told, news_more, no_news}
+use Rattle.cdb_journal.proofs.NewsLines.{last_reply, news_more, no_news}
 use Rattle.cdb_journal.proofs.news.push_each.Goals as goal
 
 pub loop-entry-init : goal.loop-entry-init
@@ -32,7 +32,7 @@ loop-entry-preserved g c =
     ap (λ (other : Entry). take i entries ++ other ∷ []) c.entry-item.is ∙ sym (take_more _ i _ c.loop-entry-test.true) in
     let longer = ap (λ (k : Journaled). length k.journal) so.control in
     let news = news_lines c.args.reader (drop from (seat_replies_in rules before)) in
-    let line = news_line c.args.reader (last_told rules before c.args.reader from e) in
+    let line = news_line c.args.reader (last_reply rules before c.args.reader from e) in
     record {
       control =
           subst (λ (done : List Entry). c.push_entry.new.control ≡ carried_out first done) more

@@ -3,7 +3,7 @@ use Rattle.std.proofs.lemmas.List.{length-take, take_rest}
 use Rattle.cdb_control.specs.Journal.{Journaled}
 use Rattle.cdb_control.specs.declared.control.Entry.{Entry}
 use Rattle.cdb_journal.specs.SeatReplies.{news_lines, seat_replies_in}
-use Rattle.cdb_journal.proofs.NewsLines.{news_told}
+use Rattle.cdb_journal.proofs.NewsLines.{news_listed}
 use Rattle.cdb_journal.proofs.news.push_news.Goals as goal
 
 pub returns-clause-news : goal.returns-clause-news
@@ -24,4 +24,4 @@ returns-clause-news g c =
     ap (λ (v : Vec ℕ Global). v.items) c.into_bytes.ensures.value ∙ c.in_ok-push_each.ensures.text
     ∙ ap (λ (text : List ℕ). text ++ news_lines c.args.seat (drop (length first.journal) (seat_replies_in rules last))) c.new-text.ensures.bytes
     ∙ ap (λ (n : ℕ). news_lines c.args.seat (drop n (seat_replies_in rules last))) from
-    ∙ news_told rules last c.args.seat c.args.from
+    ∙ news_listed rules last c.args.seat c.args.from

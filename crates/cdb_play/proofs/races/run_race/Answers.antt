@@ -4,7 +4,7 @@ use Rattle.cdb_commands.specs.ReplyView.{reply_view}
 use Rattle.cdb_setup.specs.Parts.{Parts}
 use Rattle.std.proofs.lemmas.Result.{err_from_is_err_and}
 use Rattle.cdb_race.specs.Faults.{IsFaultBehind}
-use Rattle.cdb_race.specs.Races.{all_told}
+use Rattle.cdb_race.specs.Races.{all_reply_views}
 use Rattle.cdb_race.specs.declared.threads.ThreadFault.{ThreadFault}
 use Rattle.cdb_streams.specs.Endings.{Complete}
 use Rattle.cdb_play.specs.Races.{last_decisions, EndsInAgreement, EndsInProposed}
@@ -23,7 +23,7 @@ pub returns-in-Err-clause-fault : goal.returns-in-Err-clause-fault
 returns-in-Err-clause-fault g c =
     let said = c.in-Err.ensures in
     rw c.of_threads.ensures
-    (of_threads _ _ _ _ _ _ _ _ _ said.fault (λ is. said.most (ap (λ (f : ThreadFault). Err f) is)) said.told)
+    (of_threads _ _ _ _ _ _ _ _ _ said.fault (λ is. said.most (ap (λ (f : ThreadFault). Err f) is)) said.of_one)
 
 pub returns-in_err-written : goal.returns-in_err-written
 returns-in_err-written g c =
@@ -34,10 +34,10 @@ returns-in_err-written g c =
     rw (p.1, p.2) (record {
       wrote = race_wrote g.W.Sink.stream (Unit {0}) (IsTextOfCommands g.T.Runs.rules c.args.setup c.args.turns c.args.scripts.now)
           c.in_err-written.field-0.0 c.args.out.now c.write_race-written.new.out _
-          (raced.control, all_told raced.replies.items, c.in-Ok.ensures.raced, same) (rw c.in_err-written.was at c.write_race-written.ensures);
+          (raced.control, all_reply_views raced.replies.items, c.in-Ok.ensures.raced, same) (rw c.in_err-written.was at c.write_race-written.ensures);
       agree = λ majority. tt;
       proposed = tt;
-      fault = of_writing (IsFaultBehind g.row.T.Denot g.T.Runs.rules g.G.Gate.heard g.G.Gate.passes c.args.gates.items)
+      fault = of_writing (IsFaultBehind g.row.T.Denot g.T.Runs.rules g.G.Gate.gate_calls g.G.Gate.passes c.args.gates.items)
           c.args.turns c.args.setup c.args.scripts.now c.in_err-written.field-0.0;
       passes = λ all. not_of_writing _;
     })
@@ -50,7 +50,7 @@ returns-clause-wrote g c =
     c.deref.result.now c.from-processes.result c.deref.ensures.value (c.from-processes.ensures ∙ c.n.ensures.value) c.in-Ok.ensures.raced in
     only_as g.W.Sink.stream Complete c.args.out.now c.write_race-written.new.out _
     (IsTextOfCommands g.T.Runs.rules c.args.setup c.args.turns c.args.scripts.now)
-    (raced.control, all_told raced.replies.items, c.in-Ok.ensures.raced, same) (rw c.in_ok-written.was at c.write_race-written.ensures)
+    (raced.control, all_reply_views raced.replies.items, c.in-Ok.ensures.raced, same) (rw c.in_ok-written.was at c.write_race-written.ensures)
 
 pub returns-clause-agree : goal.returns-clause-agree
 returns-clause-agree g c = λ majority.

@@ -13,7 +13,7 @@ returns-clause-does g c =
     let json = c.in_ok-json.json.items in
     let one = c.in_ok-json.one.items in
     let other = c.in_ok-json.other.items in
-    let said = c.same-told.ensures in
+    let said = c.same-compared.ensures in
     let json_is : c.as_slice.result.now ≡ json = c.as_slice.ensures.value in
     let one_is : c.as_slice-2.result.now ≡ one = c.as_slice-2.ensures.value in
     let other_is : c.as_slice-3.result.now ≡ other = c.as_slice-3.ensures.value in
@@ -23,11 +23,11 @@ returns-clause-does g c =
         json ∷ one ∷ other ∷ [],
         c.in_ok-json.ensures,
         (
-          c.same-told.result,
+          c.same-compared.result,
           c.of_same.ensures,
           rw (← json_is, ← one_is, ← other_is)
               (compared_seen g.O.Sink.stream c.as_slice.result.now c.as_slice-2.result.now
-              c.as_slice-3.result.now c.same-told.result _ _ said.wrote said.same said.fault),
+              c.as_slice-3.result.now c.same-compared.result _ _ said.wrote said.same said.fault),
         ),
       ),
     )

@@ -5,7 +5,7 @@ use Rattle.cdb_commands.specs.ReplyView.{ReplyView, reply_view}
 use Rattle.cdb_commands.specs.declared.reply.Reply.{Reply}
 use Rattle.cdb_race.specs.Faults.{fault_in}
 use Rattle.cdb_race.specs.Promises.{HasRan}
-use Rattle.cdb_race.specs.Races.{all_told}
+use Rattle.cdb_race.specs.Races.{all_reply_views}
 use Rattle.cdb_race.specs.Runs.{HasFinished}
 use Rattle.cdb_race.specs.declared.worker.Ran.{Ran}
 use Rattle.cdb_shared.specs.Seats.{SeatView}
@@ -40,9 +40,9 @@ loop-ran-preserved g c =
     let front = c.pop.new.self.ok.0 in
     let seats_now = c.loop-ran.seats.ok.0 in
     let answered_now = c.loop-ran.replied.ok.0 in
-    let tells : List ReplyView = map reply_view ran.replies.items in
+    let says : List ReplyView = map reply_view ran.replies.items in
     let told_more =
-    ap all_told replied.items ∙ map-append (λ (list : Vec Reply Global). map reply_view list.items) c.loop-ran.replied.items (ran.replies ∷ []) in
+    ap all_reply_views replied.items ∙ map-append (λ (list : Vec Reply Global). map reply_view list.items) c.loop-ran.replied.items (ran.replies ∷ []) in
     let whole : all ≡ c.pop.new.self.items ++ (ran ∷ was.left.0) =
     was.left.1 ∙ ap (λ l. l ++ was.left.0) popped ∙ append_assoc c.pop.new.self.items (ran ∷ []) was.left.0 in
     let at : length all - 1 - length c.loop-ran.seats.items ≡ length c.pop.new.self.items =
@@ -67,10 +67,10 @@ loop-ran-preserved g c =
           _ _ _ popped (was.rans plan before same outcomes)).1 in
           let position : length before - 1 - length c.pop.new.self.items ≡ length c.loop-ran.seats.items =
           omega (arith, same, was.count, left, front, seats_now) in
-          let long : length (all_told c.loop-ran.replied.items) ≡ length c.loop-ran.seats.items =
+          let long : length (all_reply_views c.loop-ran.replied.items) ≡ length c.loop-ran.seats.items =
           length-map c.loop-ran.replied.items _ ∙ omega (arith, was.replied, seats_now, answered_now) in
           pair_push (λ (k : ℕ) (s : SeatView) (a : List ReplyView). (b : SeatView) → HasFinished g.T.Runs.rules plan (get_or before k b) s a)
-          c.loop-ran.seats.items _ (all_told c.loop-ran.replied.items) _ ran.seat tells seats.items told_more long (was.each plan before same outcomes none)
-          (λ b. subst (λ n. HasFinished g.T.Runs.rules plan (get_or before n b) ran.seat tells) position
-          (finished g.T.Runs.rules plan _ ran.seat tells ran.end (ends_well _ _ clean) (one b)));
+          c.loop-ran.seats.items _ (all_reply_views c.loop-ran.replied.items) _ ran.seat says seats.items told_more long (was.each plan before same outcomes none)
+          (λ b. subst (λ n. HasFinished g.T.Runs.rules plan (get_or before n b) ran.seat says) position
+          (finished g.T.Runs.rules plan _ ran.seat says ran.end (ends_well _ _ clean) (one b)));
     }

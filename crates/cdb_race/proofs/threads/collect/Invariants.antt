@@ -1,6 +1,6 @@
 use Rattle.std.proofs.Common.{◌≡◌, ℕ, ◌+◌, ◌-◌, ◌<◌, ◌≤◌, ◌++◌, List, All, None, length, get_or, vec_len, vec_capacity}
 use Rattle.cdb_race.specs.Faults.{fault_in}
-use Rattle.cdb_race.specs.Races.{all_told, AllRan, AllFinished}
+use Rattle.cdb_race.specs.Races.{all_reply_views, AllRan, AllFinished}
 use Rattle.cdb_race.specs.declared.plan.Plan.{Plan}
 use Rattle.cdb_race.specs.declared.worker.Ran.{Ran}
 use Rattle.cdb_shared.specs.Seats.{SeatView}
@@ -18,7 +18,7 @@ invariant-loop-ran g l = record {
   gathered : (k : ℕ) (seat : SeatView) (ran : Ran g.row.T.Denot) → k < length l.seats.items
       → get_or l.seats.items k seat ≡ (get_or l.fn.rans.items (length l.fn.rans.items - 1 - k) ran).seat;
   each : (plan : Plan) (seats : List SeatView) → length seats ≡ vec_len l.fn.rans → AllRan g.T.Runs.rules plan seats l.fn.rans.items
-      → All (λ ran. fault_in ran ≡ None) l.fn.rans.items → AllFinished g.T.Runs.rules plan seats l.seats.items (all_told l.replied.items);
+      → All (λ ran. fault_in ran ≡ None) l.fn.rans.items → AllFinished g.T.Runs.rules plan seats l.seats.items (all_reply_views l.replied.items);
 }
 
 abbrev pub decreases-loop-ran : goal.decreases-loop-ran

@@ -3,14 +3,14 @@ use Rattle.std.proofs.lemmas.List.{length-map}
 use Rattle.cdb_race.specs.Faults.{fault_in, IsAmongSeats}
 use Rattle.cdb_race.specs.LastFault.{IsLastFault}
 use Rattle.cdb_race.specs.Plans.{seats_of}
-use Rattle.cdb_race.specs.Races.{all_told}
+use Rattle.cdb_race.specs.Races.{all_reply_views}
 use Rattle.cdb_race.specs.declared.plan.Plan.{Plan}
 use Rattle.cdb_race.specs.declared.threads.ThreadFault.{ThreadFault}
 use Rattle.cdb_race.specs.declared.threads.ThreadFault.TheVariants as fault
 use Rattle.cdb_race.specs.declared.worker.Ran.{Ran}
 use Rattle.cdb_race.proofs.Outcomes.{all_ready, all_rest, raced}
 use Rattle.cdb_race.proofs.Most.{few_calls}
-use Rattle.cdb_race.proofs.Stops.{least_seat, of_last, told_passes}
+use Rattle.cdb_race.proofs.Stops.{least_seat, of_last, passes_or_threads}
 use Rattle.cdb_race.proofs.Underway.{same_fault, met_full, under_way, full_at}
 use Rattle.cdb_shared.proofs.Fresh.{fresh_of}
 use Rattle.cdb_race.proofs.threads.race.Goals as goal
@@ -76,7 +76,7 @@ returns-in-None-clause-raced g c =
     subst (λ (l : List (Ran g.row.T.Denot)). All (λ ran. fault_in ran ≡ None) l) c.as_slice.ensures.value c.in-None.ensures in
     let finished = got.each plan before.items (omega (arith, c.in-Ok.ensures.count, before.ok.0)) c.in-Ok.ensures.each clean in
     let many : length seats.items ≡ length before.items = omega (arith, got.count.0, c.in-Ok.ensures.count, seats.ok.0, before.ok.0) in
-    let long : length (all_told replies.items) ≡ length seats.items =
+    let long : length (all_reply_views replies.items) ≡ length seats.items =
     length-map replies.items _ ∙ omega (arith, got.count.0, got.count.1, replies.ok.0, seats.ok.0) in
     raced g.T.Runs.rules c.in_ok-shared.shared plan c.args.setup c.finish-control.result before.items seats.items _ c.n-processes.ensures.value
     new (many ∙ new.many) finished c.finish-control.ensures.known c.n-processes.ensures.ranges.processes.0 long c.journal.ensures.seats
@@ -117,8 +117,8 @@ returns-in-Some-clause-full g c = λ full.
     last.position last.within (ap (λ (r : Ran g.row.T.Denot). r.end) last.at ∙ met) c.journal.ensures.limit in
     (final, so_far, whole)
 
-pub returns-in-Some-clause-told : goal.returns-in-Some-clause-told
-returns-in-Some-clause-told g c =
+pub returns-in-Some-clause-of_one : goal.returns-in-Some-clause-of_one
+returns-in-Some-clause-of_one g c =
     let plan : Plan = record { processes = c.n-processes.result; turns = c.args.turns; scripts = c.args.scripts } in
     let new = fresh_of c.in_ok-shared.shared c.args.setup (seats_of plan) _ _ (omega arith) c.in_ok-shared.ensures.seats in
     let rans = c.in-Ok.rans in
@@ -151,5 +151,5 @@ pub returns-in-Some-clause-passes : goal.returns-in-Some-clause-passes
 returns-in-Some-clause-passes g c = λ all.
     let why = c.in-Some.fault in
     let many : length c.args.gates.items ≡ c.args.setup.processes + length c.args.scripts.now = omega (arith, c.requires.gates, c.args.gates.ok.0) in
-    told_passes g.row.T.Denot g.T.Runs.rules g.G.Gate.heard g.G.Gate.passes c.args.gates.items
-    c.args.setup c.args.turns c.args.scripts.now why many (returns-in-Some-clause-told g c) all
+    passes_or_threads g.row.T.Denot g.T.Runs.rules g.G.Gate.gate_calls g.G.Gate.passes c.args.gates.items
+    c.args.setup c.args.turns c.args.scripts.now why many (returns-in-Some-clause-of_one g c) all

@@ -3,7 +3,7 @@ use Rattle.std.proofs.lemmas.List.{length-replicate}
 use Rattle.cdb_base.specs.declared.refusal.Refusal.TheVariants.{Done}
 use Rattle.cdb_commands.specs.ReplyView.{Refused, reply_view}
 use Rattle.cdb_commands.specs.declared.command.Command.TheVariants.{Auto}
-use Rattle.cdb_shared.proofs.Hears.{heard_asked, heard_told, hears_all, hears_asked, hears_fault}
+use Rattle.cdb_shared.proofs.GateCalls.{calls_with_asked, calls_with_notified, gate_notified, gate_asked, gate_at_fault}
 use Rattle.cdb_shared.proofs.Steps.{IsLater-trans, calls_of-call, calls_of-fault, replies_to-call, replies_to-fault, driven_fault, NoneDone-push, append_one}
 use Rattle.cdb_shared.proofs.Steps.{replicate-push}
 use Rattle.cdb_shared.proofs.session.drive.Goals as goal
@@ -21,7 +21,7 @@ returns-then-not-before g c =
       replies = (was.replies.0, was.replies.1, (c.loop-turn-test.true, was.replies.2));
       full = λ is. cc;
       short = λ is. cc;
-      gate = (_, hears_asked _ was.calls refl (heard_asked _ _ _ was.heard was.calls count refused c.before-in-loop-turn.ensures.heard));
+      gate = (_, gate_asked _ was.calls refl (calls_with_asked _ _ _ was.gate_calls was.calls count refused c.before-in-loop-turn.ensures.gate_calls));
       passes = λ always same. true≢false (sym (c.before-in-loop-turn.ensures.passes (was.passes always)).0 ∙ refused);
     }
 
@@ -32,7 +32,7 @@ returns-in-Err-clause-gate g c =
     let count : c.loop-turn.turn + 1 ≡ length (replicate c.loop-turn.turn (Auto c.args.process)) + 1 =
     omega (arith, length-replicate c.loop-turn.turn (Auto c.args.process)) in
     let calls = calls_of-fault _ _ c.call.ensures.seat c.in-Err.ensures.fault ∙ was.calls in
-    (_, hears_fault _ _ c.ended_by.ensures calls (heard_asked _ _ _ was.heard was.calls count passed c.before-in-loop-turn.ensures.heard))
+    (_, gate_at_fault _ _ c.ended_by.ensures calls (calls_with_asked _ _ _ was.gate_calls was.calls count passed c.before-in-loop-turn.ensures.gate_calls))
 
 pub returns-in-Err-clause-replies : goal.returns-in-Err-clause-replies
 returns-in-Err-clause-replies g c =
@@ -65,8 +65,8 @@ returns-then-is_done g c =
       short = λ is. cc;
       gate = (
         _,
-        hears_all _ calls refl
-            (heard_told _ _ _ _ was.heard was.calls count passed c.before-in-loop-turn.ensures.heard call c.after.ensures.heard longer),
+        gate_notified _ calls refl
+            (calls_with_notified _ _ _ _ was.gate_calls was.calls count passed c.before-in-loop-turn.ensures.gate_calls call c.after.ensures.gate_calls longer),
       );
       passes = λ always is. cc;
     }
@@ -87,7 +87,7 @@ loop-turn-preserved g c =
         append_one _ _ _ was.replies.1 (replies_to-call g.T.Runs.rules _ _ _ _ c.call.ensures.seat c.in-Ok.ensures.call) refl,
         NoneDone-push _ _ was.replies.2 (λ is. true≢false (sym (c.is_done.ensures.1 is) ∙ c.if-is_done.false)),
       );
-      heard = heard_told _ _ _ _ was.heard was.calls count passed c.before-in-loop-turn.ensures.heard call c.after.ensures.heard longer;
+      gate_calls = calls_with_notified _ _ _ _ was.gate_calls was.calls count passed c.before-in-loop-turn.ensures.gate_calls call c.after.ensures.gate_calls longer;
       passes = λ always. c.after.ensures.passes (c.before-in-loop-turn.ensures.passes (was.passes always)).1;
     }
 
@@ -107,4 +107,4 @@ pub returns-clause-passes : goal.returns-clause-passes
 returns-clause-passes g c = λ always. λ is. cc
 
 pub returns-clause-gate : goal.returns-clause-gate
-returns-clause-gate g c = (_, hears_all _ c.loop-turn.invariant.calls refl c.loop-turn.invariant.heard)
+returns-clause-gate g c = (_, gate_notified _ c.loop-turn.invariant.calls refl c.loop-turn.invariant.gate_calls)

@@ -1,7 +1,7 @@
 use Rattle.std.proofs.Common.{◌≡◌, ◌++◌, List, replicate, true}
 use Rattle.cdb_commands.specs.declared.command.Command.TheVariants.{Auto}
 use Rattle.cdb_commands.specs.ReplyView.{ReplyView}
-use Rattle.cdb_shared.specs.Gates.{heard_more, heard_of}
+use Rattle.cdb_shared.specs.Gates.{and_calls, gate_calls_of}
 use Rattle.cdb_shared.specs.Seats.{IsLater}
 use Rattle.cdb_shared.specs.Sessions.{calls_of, replies_to, NoneDone}
 use Rattle.cdb_shared.proofs.session.drive.Given as goal
@@ -11,6 +11,6 @@ invariant-loop-turn g l = record {
   seat : IsLater l.fn.seat l.seat;
   calls : calls_of l.seat ≡ calls_of l.fn.seat ++ replicate l.turn (Auto l.process);
   replies : (replies : List ReplyView) × (replies_to g.T.Runs.rules l.seat ≡ replies_to g.T.Runs.rules l.fn.seat ++ replies) × NoneDone replies;
-  heard : g.G.Gate.heard l.gate ≡ heard_more (g.G.Gate.heard l.fn.gate) (heard_of 1 (calls_of l.fn.seat) (replicate l.turn (Auto l.process)));
+  gate_calls : g.G.Gate.gate_calls l.gate ≡ and_calls (g.G.Gate.gate_calls l.fn.gate) (gate_calls_of 1 (calls_of l.fn.seat) (replicate l.turn (Auto l.process)));
   passes : g.G.Gate.passes l.fn.gate ≡ true → g.G.Gate.passes l.gate ≡ true;
 }

@@ -3,7 +3,7 @@ use Rattle.std.proofs.lemmas.List.{map-append}
 use Rattle.cdb_commands.specs.ReplyView.{reply_view}
 use Rattle.cdb_commands.specs.declared.reply.Reply.{Reply}
 use Rattle.cdb_shared.specs.Sessions.{calls_of, replies_to}
-use Rattle.cdb_shared.proofs.Hears.{heard_asked, heard_told, hears_all, hears_asked, hears_fault}
+use Rattle.cdb_shared.proofs.GateCalls.{calls_with_asked, calls_with_notified, gate_notified, gate_asked, gate_at_fault}
 use Rattle.cdb_shared.proofs.Steps.{IsLater-trans, calls_of-call, calls_of-fault, replies_to-call, replies_to-fault, append_one, ends_at_fault, take_one_more}
 use Rattle.cdb_shared.proofs.Steps.{few_calls}
 use Rattle.cdb_shared.proofs.session.serve.Goals as goal
@@ -23,7 +23,7 @@ returns-then-not-before g c =
       done = λ is. cc;
       full = λ is. cc;
       short = λ is. cc;
-      gate = (_, hears_asked _ was.calls refl (heard_asked _ _ _ was.heard was.calls count refused c.before-in-loop-command.ensures.heard));
+      gate = (_, gate_asked _ was.calls refl (calls_with_asked _ _ _ was.gate_calls was.calls count refused c.before-in-loop-command.ensures.gate_calls));
       passes = λ always same. true≢false (sym (c.before-in-loop-command.ensures.passes (was.passes always)).0 ∙ refused);
     }
 
@@ -34,7 +34,7 @@ returns-in-Err-clause-gate g c =
     let count : c.loop-command.number + 1 ≡ length (take c.loop-command.command-index c.args.commands.now) + 1 =
     omega (arith, length-take c.loop-command.command-index c.args.commands.now, was.number) in
     let calls = calls_of-fault _ _ c.no_room-fault.ensures.seat.0 c.no_room-fault.ensures.seat.1 ∙ was.calls in
-    (_, hears_fault _ _ c.ended_by.ensures calls (heard_asked _ _ _ was.heard was.calls count passed c.before-in-loop-command.ensures.heard))
+    (_, gate_at_fault _ _ c.ended_by.ensures calls (calls_with_asked _ _ _ was.gate_calls was.calls count passed c.before-in-loop-command.ensures.gate_calls))
 
 pub returns-in-Err-clause-replies : goal.returns-in-Err-clause-replies
 returns-in-Err-clause-replies g c =
@@ -48,7 +48,7 @@ returns-in-Err-call-clause-gate g c =
     let count : c.loop-command.number + 1 ≡ length (take c.loop-command.command-index c.args.commands.now) + 1 =
     omega (arith, length-take c.loop-command.command-index c.args.commands.now, was.number) in
     let calls = calls_of-fault _ _ c.call.ensures.seat c.in-Err-call.ensures.fault ∙ was.calls in
-    (_, hears_fault _ _ c.ended_by-in-Err-call.ensures calls (heard_asked _ _ _ was.heard was.calls count passed c.before-in-loop-command.ensures.heard))
+    (_, gate_at_fault _ _ c.ended_by-in-Err-call.ensures calls (calls_with_asked _ _ _ was.gate_calls was.calls count passed c.before-in-loop-command.ensures.gate_calls))
 
 pub returns-in-Err-call-clause-replies : goal.returns-in-Err-call-clause-replies
 returns-in-Err-call-clause-replies g c =
@@ -75,7 +75,7 @@ loop-command-preserved g c =
       count = omega arith;
       number = omega arith;
       limit = omega (arith, length-take (index + 1) commands);
-      heard = heard_told _ _ _ _ was.heard was.calls count_is passed c.before-in-loop-command.ensures.heard call c.after.ensures.heard longer;
+      gate_calls = calls_with_notified _ _ _ _ was.gate_calls was.calls count_is passed c.before-in-loop-command.ensures.gate_calls call c.after.ensures.gate_calls longer;
       passes = λ always. c.after.ensures.passes (c.before-in-loop-command.ensures.passes (was.passes always)).1;
     }
 
@@ -116,4 +116,4 @@ pub returns-clause-passes : goal.returns-clause-passes
 returns-clause-passes g c = λ always. λ is. cc
 
 pub returns-clause-gate : goal.returns-clause-gate
-returns-clause-gate g c = (_, hears_all _ c.loop-command.invariant.calls refl c.loop-command.invariant.heard)
+returns-clause-gate g c = (_, gate_notified _ c.loop-command.invariant.calls refl c.loop-command.invariant.gate_calls)

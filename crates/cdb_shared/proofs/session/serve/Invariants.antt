@@ -1,6 +1,6 @@
 use Rattle.std.proofs.Common.{◌≡◌, ◌≤◌, ◌++◌, map, take, true, vec_len}
 use Rattle.cdb_commands.specs.ReplyView.{reply_view}
-use Rattle.cdb_shared.specs.Gates.{heard_more, heard_of}
+use Rattle.cdb_shared.specs.Gates.{and_calls, gate_calls_of}
 use Rattle.cdb_shared.specs.Seats.{IsLater}
 use Rattle.cdb_shared.specs.Sessions.{calls_of, replies_to}
 use Rattle.cdb_shared.proofs.session.serve.Given as goal
@@ -13,6 +13,6 @@ invariant-loop-command g l = record {
   count : vec_len l.replies ≡ l.command-index;
   number : l.number ≡ l.command-index;
   limit : l.number ≤ 999999;
-  heard : g.G.Gate.heard l.gate ≡ heard_more (g.G.Gate.heard l.fn.gate) (heard_of 1 (calls_of l.fn.seat) (take l.command-index l.commands));
+  gate_calls : g.G.Gate.gate_calls l.gate ≡ and_calls (g.G.Gate.gate_calls l.fn.gate) (gate_calls_of 1 (calls_of l.fn.seat) (take l.command-index l.commands));
   passes : g.G.Gate.passes l.fn.gate ≡ true → g.G.Gate.passes l.gate ≡ true;
 }

@@ -56,11 +56,11 @@ returns-in-Ok-clause-ok g c =
       redo =
           set now.state.redo (c.args.seat - 1) (without_last (redo_of now.state c.args.seat));
     } in u) c.self.view_is in
-    let tells =
+    let says =
     c.decides-decides.ensures
     ∙ (λ j. decides (g.R.Runs.rules (did.after j).setup) (did.after j).history event)
     ∙ ap (λ (v : StoredState). decides (g.R.Runs.rules v.state.setup) (with_taken v.state.history r) event) c.self.view_is in
-    redone-as rules now.state _ c.args.seat c.in-Some.undone event c.decides-decides.result r last returned after tells c.in-Ok.is
+    redone-as rules now.state _ c.args.seat c.in-Some.undone event c.decides-decides.result r last returned after says c.in-Ok.is
 
 pub returns-in-Ok-clause-capacities : goal.returns-in-Ok-clause-capacities
 returns-in-Ok-clause-capacities g c =

@@ -1,6 +1,6 @@
 use Rattle.std.proofs.Common.{◌≡◌, ◌∙◌, ◌+◌, ap, refl}
 use Rattle.std.proofs.lemmas.Result.{err_from_is_err_and}
-use Rattle.cdb_race.specs.Races.{all_told}
+use Rattle.cdb_race.specs.Races.{all_reply_views}
 use Rattle.cdb_play.specs.Races.{seats_text, end_text, last_decisions}
 use Rattle.cdb_streams.proofs.PiecesPut.{put_nothing, cut_short, put_last}
 use Rattle.cdb_play.proofs.races.text.put_race.Goals as goal
@@ -12,7 +12,7 @@ returns-in_err-put_seats g c =
     let first : c.from.result ≡ control.setup.processes = c.from.ensures ∙ c.processes.ensures ∙ ap (λ s. s.processes) c.run-run.ensures.setup in
     rw (p.1, p.2)
     (cut_short g.W.Sink.stream (Unit {0}) c.in_err-put_seats.field-0.0 _ _ _ _ _ _ _
-    (seats_text (control.setup.processes + 1) (all_told c.args.replies.now)) (end_text (last_decisions g.T.Runs.rules control))
+    (seats_text (control.setup.processes + 1) (all_reply_views c.args.replies.now)) (end_text (last_decisions g.T.Runs.rules control))
     _ (put_nothing g.W.Sink.stream _ _) refl (rw first at c.in_err-put_seats.ensures))
 
 pub returns : goal.returns

@@ -2,7 +2,7 @@ use Rattle.std.proofs.Common.{subst, sym, take, drop, ◌+◌, map, arith}
 use Rattle.std.proofs.lemmas.List.{take_all}
 use Rattle.std.proofs.lemmas.Result.{err_from_is_err_and}
 use Rattle.cdb_commands.specs.ReplyView.{reply_view}
-use Rattle.cdb_race.specs.Races.{all_told}
+use Rattle.cdb_race.specs.Races.{all_reply_views}
 use Rattle.cdb_streams.specs.Buffers.{IsPut}
 use Rattle.cdb_play.specs.Races.{seat_text, seats_text}
 use Rattle.cdb_streams.proofs.PiecesPut.{put_nothing, put_more, cut_short}
@@ -21,8 +21,8 @@ returns-in_err-put_seat g c =
     let replies = c.replies-item.result in
     let so = c.loop-replies.invariant in
     rw (p.1, p.2)
-    (cut_short g.W.Sink.stream (Unit {0}) c.in_err-put_seat.field-0.0 _ _ _ _ _ _ (seats_text first (all_told (take i seats)))
-    (seat_text (first + i) (map reply_view replies.items)) (seats_text (first + i + 1) (all_told (drop (i + 1) seats))) _
+    (cut_short g.W.Sink.stream (Unit {0}) c.in_err-put_seat.field-0.0 _ _ _ _ _ _ (seats_text first (all_reply_views (take i seats)))
+    (seat_text (first + i) (map reply_view replies.items)) (seats_text (first + i + 1) (all_reply_views (drop (i + 1) seats))) _
     so.put (parted_seats _ _ i _ c.replies-item.is c.loop-replies-test.true) (rw (c.as_slice.ensures.value, so.seat) at c.in_err-put_seat.ensures))
 
 pub loop-replies-preserved : goal.loop-replies-preserved

@@ -5,7 +5,7 @@ use Rattle.cdb_commands.specs.ReplyView.{ReplyView}
 use Rattle.cdb_session.specs.News.{AreNews, HasNews, looks, news_up_to, watched_next}
 use Rattle.cdb_session.specs.Parts.{HaveJust, IsGiven}
 use Rattle.cdb_rules.specs.RunView.{RunView}
-use Rattle.cdb_session.specs.Answers.{AreTold, IsTold, IsAnsweredAfter, IsDoneAfter}
+use Rattle.cdb_session.specs.Answers.{EachLine, AnswersAfter, IsAnsweredAfter, IsDoneAfter}
 use Rattle.cdb_session.specs.Exchanges.{Answer, Exchange, commands_among, given_at}
 use Rattle.cdb_session.specs.Styles.{Part, GoesOn}
 use Rattle.cdb_session.specs.declared.inquiry.Inquiry.{Inquiry}
@@ -49,16 +49,16 @@ module _ (old new : Part) (on : GoesOn old new) where
 
 module _ (Answers : RunView → Inquiry → Answer → Type 0) (old new : Part) (on : GoesOn old new) where
   -- what was told of the journal so far is told of it later
-  told_on : (count : ℕ) (inquiry : Inquiry) (answer : Answer) → min count (length new.calls) ≡ min count (length old.calls)
-      → IsTold Answers old count inquiry answer → IsTold Answers new count inquiry answer
-  told_on count inquiry answer many (first, just, answers) =
+  answers_on : (count : ℕ) (inquiry : Inquiry) (answer : Answer) → min count (length new.calls) ≡ min count (length old.calls)
+      → AnswersAfter Answers old count inquiry answer → AnswersAfter Answers new count inquiry answer
+  answers_on count inquiry answer many (first, just, answers) =
       let run = on.left_by first just.within in
       (first, just_on old new on count count first many just, rw run answers)
 
   answered_on : (count : ℕ) → min count (length new.calls) ≡ min count (length old.calls)
       → (exchange : Exchange) → IsAnsweredAfter Answers old count exchange → IsAnsweredAfter Answers new count exchange
   answered_on count many (Call command times, effect) is = tt
-  answered_on count many (Ask inquiry, effect) is = told_on count inquiry effect.answer many is
+  answered_on count many (Ask inquiry, effect) is = answers_on count inquiry effect.answer many is
   answered_on count many (Watch begins, effect) is = tt
   answered_on count many (Seat chosen, effect) is = tt
   answered_on count many (Help about, effect) is = tt
@@ -66,16 +66,16 @@ module _ (Answers : RunView → Inquiry → Answer → Type 0) (old new : Part) 
   answered_on count many (Fault fault, effect) is = tt
   answered_on count many (TooLong, effect) is = tt
 
-  pub all_told_on : new.replies ≡ old.replies → (count : ℕ) (watched : Option ℕ) (its : List Exchange) → AsManyLater old new (count + commands_among its)
-      → AreTold (IsDoneAfter Answers old) count watched its → AreTold (IsDoneAfter Answers new) count watched its
-  all_told_on same count watched [] many told = tt
-  all_told_on same count watched (exchange ∷ its) many told =
+  pub each_line_on : new.replies ≡ old.replies → (count : ℕ) (watched : Option ℕ) (its : List Exchange) → AsManyLater old new (count + commands_among its)
+      → EachLine (IsDoneAfter Answers old) count watched its → EachLine (IsDoneAfter Answers new) count watched its
+  each_line_on same count watched [] many said = tt
+  each_line_on same count watched (exchange ∷ its) many said =
       let now = many count (omega arith) in (
         record {
-          answered = answered_on count now exchange told.0.answered;
-          given = subst (λ (replies : List ReplyView). IsGiven exchange (drop count replies)) (sym same) told.0.given;
+          answered = answered_on count now exchange said.0.answered;
+          given = subst (λ (replies : List ReplyView). IsGiven exchange (drop count replies)) (sym same) said.0.given;
           news = news_on old new on count count (unwrap_or watched 0) (unwrap_or watched 0) (omega arith) now watched
-              exchange.0 exchange.1.seen exchange.1.news told.0.news;
+              exchange.0 exchange.1.seen exchange.1.news said.0.news;
         },
-        all_told_on same (count + given_at exchange) (watched_next watched exchange) its (λ n low. many n (omega (arith, low))) told.1,
+        each_line_on same (count + given_at exchange) (watched_next watched exchange) its (λ n low. many n (omega (arith, low))) said.1,
       )

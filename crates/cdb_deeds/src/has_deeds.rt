@@ -10,7 +10,7 @@ use cdb_rules::Runs;
 use std::alloc::Global;
 
 /// A run of which it is known what its next event does.
-pub trait Telling: Runs {
+pub trait HasDeeds: Runs {
     /// What an event does that comes next in the run, in which these messages were received. `NoMemory` if an
     /// allocation fails.
     fn deed(&self, alloc: Global, names: &ReceivedNames, event: &Event) -> Result<Deed, NoMemory>

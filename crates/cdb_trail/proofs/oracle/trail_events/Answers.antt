@@ -9,10 +9,10 @@ use Rattle.cdb_explain.proofs.Flags.{flag_read}
 use Rattle.cdb_rules.proofs.Flagged.{item_at}
 use Rattle.cdb_rules.specs.RunView.{RunView}
 use Rattle.cdb_setup.specs.Parts.{AreInRange}
-use Rattle.cdb_trail.specs.Oracle.{told_first}
-use Rattle.cdb_trail.specs.declared.oracle.Told.{Told}
-use Rattle.cdb_trail.proofs.OracleAnswers.{told_is, told_more}
-use Rattle.cdb_trail.proofs.oracle.tell_all.Goals as goal
+use Rattle.cdb_trail.specs.Oracle.{first_trail_events}
+use Rattle.cdb_trail.specs.declared.oracle.TrailEvent.{TrailEvent}
+use Rattle.cdb_trail.proofs.OracleAnswers.{trail_event_is, one_trail_event_more}
+use Rattle.cdb_trail.proofs.oracle.trail_events.Goals as goal
 
 pub take_next-requires : goal.take_next-requires
 take_next-requires c =
@@ -32,10 +32,10 @@ loop-i-preserved c =
     let so = c.loop-i.invariant in
     let at = item_at c.events-events.ensures i event (omega arith) c.index-events-i.is in
     let within : i < length flags = omega (arith, ap length c.events-events.ensures) in
-    let told = told_is run flags i event at _ so.again _ (flag_read flags i _ _ within refl) in
+    let said = trail_event_is run flags i event at _ so.again _ (flag_read flags i _ _ within refl) in
     record {
       again = next_along rules ReachSameState rules_keep_histories run i event at _ so.again _ c.in_ok-take_next.ensures;
       names = c.in_ok-add.ensures c.loop-i.again.history so.names ∙ ap (λ (r : RunView). received_by_each r.history) (sym c.in_ok-take_next.ensures);
-      all = c.in_ok-push.ensures.items ∙ ap (λ (ts : List Told). ts ++ c.in_ok-tell.field-0 ∷ []) so.all
-          ∙ ap (λ (t : Told). told_first run flags i ++ t ∷ []) (c.in_ok-tell.ensures ∙ told) ∙ sym (told_more run flags i event at);
+      all = c.in_ok-push.ensures.items ∙ ap (λ (ts : List TrailEvent). ts ++ c.in_ok-trail_event.field-0 ∷ []) so.all
+          ∙ ap (λ (t : TrailEvent). first_trail_events run flags i ++ t ∷ []) (c.in_ok-trail_event.ensures ∙ said) ∙ sym (one_trail_event_more run flags i event at);
     }

@@ -7,7 +7,7 @@ ghost use Rattle.cdb_setup.specs.declared.setup.Algorithm.TheVariants.{Leader as
 use crate::any::{AnyRun, ByMachine};
 use cdb_alpha::Alpha;
 use cdb_base::{Event, Kind, NoMemory, Proc};
-use cdb_deeds::{Deed, ReceivedNames, Telling, alpha_deed, leader_deed};
+use cdb_deeds::{Deed, HasDeeds, ReceivedNames, alpha_deed, leader_deed};
 use cdb_leader::Leader;
 use cdb_run::Run;
 use std::alloc::Global;
@@ -39,7 +39,7 @@ fn deed_by_alpha(run: &Run<Alpha>, p: Proc, kind: &Kind) -> Deed
     }
 }
 
-impl Telling for AnyRun {
+impl HasDeeds for AnyRun {
     fn deed(&self, alloc: Global, names: &ReceivedNames, event: &Event) -> Result<Deed, NoMemory> {
         match event {
             Event::Step { p, kind, .. } => match &self.run {

@@ -1,6 +1,6 @@
 use Rattle.std.proofs.Common.{◌≡◌, IfOk, sym, ap, subst, ◌∙◌}
 use Rattle.cdb_any_run.specs.Any.{run_view, IsTrueToSetup}
-use Rattle.cdb_any_run.proofs.telling.AnyRunTelling.deed.Goals as goal
+use Rattle.cdb_any_run.proofs.has_deeds.AnyRunHasDeeds.deed.Goals as goal
 use Rattle.cdb_deeds.specs.Deeds.{deed_by}
 use Rattle.cdb_rules.specs.RunView.{RunView}
 use Rattle.cdb_setup.specs.declared.setup.Algorithm.{Algorithm}
