@@ -51,7 +51,8 @@ news_listed rules c reader from =
     let all : take (length c.journal) c.journal ≡ c.journal = take_all (length c.journal) c.journal (omega arith) in
     let said : List Entry → List SeatReply = seat_replies_along (rules c.setup) c.setup c.seats in
     ap (news_lines reader)
-    (drop_min from (length c.journal) (seat_replies_in rules c) (omega (arith, seat_replies-length (rules c.setup) (first_control_state c.setup c.seats) c.journal)))
+    (drop_min from (length c.journal) (seat_replies_in rules c)
+    (omega (arith, seat_replies-length (rules c.setup) (first_control_state c.setup c.seats) c.journal)))
     ∙ ap (λ (entries : List Entry). news_lines reader (drop from (said entries))) (sym all)
   where
     drop_min : (n most : ℕ) (xs : List SeatReply) → length xs ≤ most → drop (min n most) xs ≡ drop n xs

@@ -40,7 +40,8 @@ module _ (first : ℕ) (seats : List (Vec Reply Global)) (i : ℕ) (replies : Ve
   behind : (others : List (List ReplyView))
       → seats_text first (all_reply_views (take i seats) ++ others) ≡ seats_text first (all_reply_views (take i seats)) ++ seats_text (first + i) others
   behind others =
-      seats_text-append first (all_reply_views (take i seats)) others ∙ ap (λ n. seats_text first (all_reply_views (take i seats)) ++ seats_text (first + n) others) count
+      seats_text-append first (all_reply_views (take i seats)) others
+      ∙ ap (λ n. seats_text first (all_reply_views (take i seats)) ++ seats_text (first + n) others) count
 
   pub one_seat : seats_text first (all_reply_views (take (i + 1) seats))
       ≡ seats_text first (all_reply_views (take i seats)) ++ seat_text (first + i) (map reply_view replies.items)

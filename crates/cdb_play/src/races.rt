@@ -110,7 +110,7 @@ fn run_race<T: Runs + Send, G: Gate + Drop + Send, R: Threads + Wait + Sync, W: 
     ensures agree { HasMajorityIfNeeded setup → AgreesAtEnd W.stream result out.old out.new }
     ensures proposed { ProposedAtEnd W.stream setup result out.old out.new }
     ensures fault { IfErr result
-        (IsFaultOfCommands (IsFaultBehind T T.rules G.gate_calls G.passes gates.items)
+        (IsFaultOfCommands (IsFaultBehind T T.rules G.calls G.passes gates.items)
         setup turns scripts.now) }
     ensures passes { AllPass G.passes gates.items → IfErr result StopsNoSeat }
 {
@@ -166,7 +166,7 @@ pub fn race_on_with<T: Runs + Send, G: Gate + Drop + Send, R: Threads + Wait + S
     ensures agree { HasMajorityIfNeeded setup → AgreesAtEnd W.stream result out.old out.new }
     ensures proposed { ProposedAtEnd W.stream setup result out.old out.new }
     ensures fault { IfErr result
-        (IsFaultOnSetup (IsFaultBehind T T.rules G.gate_calls G.passes gates.items)
+        (IsFaultOnSetup (IsFaultBehind T T.rules G.calls G.passes gates.items)
         setup turns (bytes_of scripts.now)) }
     ensures passes { AllPass G.passes gates.items → IfErr result StopsNoSeat }
 {
@@ -217,7 +217,7 @@ pub fn race_with<T: Runs + Send, G: Gate + Drop + Send, R: Threads + Wait + Sync
     ensures proposed { (parts : Parts) → Encodes setup.now parts →
         ProposedAtEnd W.stream parts result out.old out.new }
     ensures fault { IfErr result
-        (IsFaultOfRace (IsFaultBehind T T.rules G.gate_calls G.passes gates.items)
+        (IsFaultOfRace (IsFaultBehind T T.rules G.calls G.passes gates.items)
         setup.now turns (bytes_of scripts.now)) }
     ensures passes { AllPass G.passes gates.items → IfErr result StopsNoSeat }
 {

@@ -90,7 +90,8 @@ search_seen writer json goal walks searched old new wrote fault =
 -- what a comparison of runs says of its writer
 pub compared_seen : {W : Type 0} (writer : W → Stream) (json first second : List ℕ) (said : Result Bool PlayFault) (old new : W)
     → IsWritten writer (same_ending said) old new (ComparesText rules json first second)
-    → IfOk said (DecidesSame rules json first second) → IfErr said (IsFaultOfSame json first second) → IsCompared json first second said (writer old) (writer new)
+    → IfOk said (DecidesSame rules json first second) → IfErr said (IsFaultOfSame json first second)
+    → IsCompared json first second said (writer old) (writer new)
 compared_seen writer json first second said old new wrote same fault =
     record { wrote = stream_written writer (same_ending said) old new (ComparesText rules json first second) wrote; same = same; fault = fault }
 

@@ -27,4 +27,5 @@ module _ {T G : Type 0} (rules : Parts → Rules) (plan : Plan) (seat : SeatView
 
   pub kept_ended : (gate_calls : G → Option (List GateCall)) (passes : G → Bool) (after : SeatView) (end : End)
       → HasEndedAtGate gate_calls passes handle.promise.gate.value handle.promise.seat.value after end → HasEndedAtGate gate_calls passes gate seat after end
-  kept_ended gate_calls passes after end kept = subst (λ (x : G × SeatView). HasEndedAtGate gate_calls passes x.0 x.1 after end) (λ i. (gate_is i, seat_is i)) kept
+  kept_ended gate_calls passes after end kept =
+      subst (λ (x : G × SeatView). HasEndedAtGate gate_calls passes x.0 x.1 after end) (λ i. (gate_is i, seat_is i)) kept

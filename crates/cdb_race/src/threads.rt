@@ -78,7 +78,7 @@ fn start_one<'s, E, T: Runs + Send + 's, G: Gate + Drop + Send + 's, R: Threads 
         move || -> Ran<T>
             requires { IsReady shared.now plan seat }
             ensures ran { HasRan T.rules plan.entry seat result }
-            ensures ended { HasEndedAtGate G.gate_calls G.passes gate seat result.seat result.end }
+            ensures ended { HasEndedAtGate G.calls G.passes gate seat result.seat result.end }
         { run(shared, rt, alloc, plan, seat, gate) },
     );
     started.map_err(ThreadFault::Spawn)
@@ -128,7 +128,7 @@ fn run_all<T: Runs + Send, G: Gate + Drop + Send, R: Threads + Wait + Sync>(
     ensures count { IfOk result (λ rans. vec_len rans ≡ vec_len seats) }
     ensures each { IfOk result (λ rans. AllRan T.rules plan.entry seats.items rans.items) }
     ensures ended { IfOk result
-        (λ rans. AllEnded G.gate_calls G.passes gates.items seats.items rans.items) }
+        (λ rans. AllEnded G.calls G.passes gates.items seats.items rans.items) }
     ensures fault { IfErr result IsFaultOfThreads }
 {
     thread::scope(
@@ -140,7 +140,7 @@ fn run_all<T: Runs + Send, G: Gate + Drop + Send, R: Threads + Wait + Sync>(
             ensures count { IfOk result (λ rans. vec_len rans ≡ vec_len seats) }
             ensures each { IfOk result (λ rans. AllRan T.rules plan.entry seats.items rans.items) }
             ensures ended { IfOk result
-                (λ rans. AllEnded G.gate_calls G.passes gates.items seats.items rans.items) }
+                (λ rans. AllEnded G.calls G.passes gates.items seats.items rans.items) }
             ensures fault { IfErr result IsFaultOfThreads }
         {
             let handles = start_all(scope, rt, alloc, shared, plan, seats, gates)?;
@@ -286,7 +286,7 @@ pub fn race<T: Runs + Send, G: Gate + Drop + Send, R: Threads + Wait + Sync>(
     ensures full { result ≡ Err ThreadFault.JournalFull → FillsJournal setup turns scripts.now }
     ensures most { result ≡ Err ThreadFault.JournalFull → MayFill setup turns scripts.now }
     ensures of_one { IfErr result
-        (IsFaultOfOne T T.rules G.gate_calls G.passes gates.items setup turns scripts.now) }
+        (IsFaultOfOne T T.rules G.calls G.passes gates.items setup turns scripts.now) }
     ensures passes { AllPass G.passes gates.items → IfErr result IsNotStopped }
 {
     let processes = setup.n();

@@ -30,7 +30,7 @@ impl<'a, T: Runs, G: Gate> Promise<Ran<T>> for SeatPromise<'a, T, G> {
     ghost use Rattle.cdb_race.specs.Promises.{HasRan, HasEndedAtGate};
 
     ghost kept_by = { λ p r. HasRan T.rules p.plan p.seat.value r
-        × HasEndedAtGate G.gate_calls G.passes p.gate.value p.seat.value r.seat r.end };
+        × HasEndedAtGate G.calls G.passes p.gate.value p.seat.value r.seat r.end };
 }
 
 /// Drives a process, or serves a script, by the seat's number.
@@ -44,7 +44,7 @@ pub(crate) fn run<T: Runs, G: Gate + Drop, R: Wait>(
 ) -> Ran<T>
     requires { IsReady shared.now plan seat }
     ensures ran { HasRan T.rules plan.entry seat result }
-    ensures ended { HasEndedAtGate G.gate_calls G.passes gate seat result.seat result.end }
+    ensures ended { HasEndedAtGate G.calls G.passes gate seat result.seat result.end }
 {
     let number = seat.number();
     if number <= plan.processes {

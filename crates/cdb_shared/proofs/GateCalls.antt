@@ -18,7 +18,8 @@ abbrev pub calls_of_one : ℕ → List Command → Command → List GateCall
 calls_of_one number made command = Asked number made true ∷ Notified number (made ++ command ∷ []) ∷ []
 
 pub gate_calls_of-push : (number : ℕ) (made replied : List Command) (command : Command)
-    → gate_calls_of number made (replied ++ command ∷ []) ≡ gate_calls_of number made replied ++ calls_of_one (number + length replied) (made ++ replied) command
+    → gate_calls_of number made (replied ++ command ∷ [])
+    ≡ gate_calls_of number made replied ++ calls_of_one (number + length replied) (made ++ replied) command
 gate_calls_of-push number made [] command = λ i. calls_of_one (none i) (sym (append-nil made) i) command
   where
     none : number ≡ number + 0
@@ -27,7 +28,8 @@ gate_calls_of-push number made (c ∷ cs) command =
     let all = made ++ c ∷ [] in
     let next : number + 1 + length cs ≡ number + length (c ∷ cs) = omega arith in
     ap (λ l. Asked number made true ∷ Notified number all ∷ l)
-    (gate_calls_of-push (number + 1) all cs command ∙ (λ i. gate_calls_of (number + 1) all cs ++ calls_of_one (next i) (append_assoc made (c ∷ []) cs i) command))
+    (gate_calls_of-push (number + 1) all cs command
+    ∙ (λ i. gate_calls_of (number + 1) all cs ++ calls_of_one (next i) (append_assoc made (c ∷ []) cs i) command))
 
 -- asked before the call after these
 pub calls_with_asked : (old : Option (List GateCall)) (made replied : List Command) {was new : Option (List GateCall)} {calls : List Command} {number : ℕ}

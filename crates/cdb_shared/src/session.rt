@@ -19,7 +19,7 @@ use std::sync::Wait;
 /// the seat that is shown rests.
 pub trait Gate {
     // The calls of it, in order, where they are known.
-    ghost gate_calls: { Self → Option (List GateCall) } = { λ _. None };
+    ghost calls: { Self → Option (List GateCall) } = { λ _. None };
 
     // Whether it lets every call go on from now on.
     ghost passes: { Self → Bool } = { λ _. false };
@@ -27,13 +27,13 @@ pub trait Gate {
     /// Whether the session goes on with this call.
     fn before<T: Runs>(&mut self, call: u32, seat: &Seat<T>) -> bool
         requires rests { seat.now.rests ≡ true }
-        ensures gate_calls { IsAsked (gate_calls self.old) (gate_calls self.new) call seat.now result }
+        ensures called { IsAsked (calls self.old) (calls self.new) call seat.now result }
         ensures passes { passes self.old ≡ true → (result ≡ true) × (passes self.new ≡ true) };
 
     /// This call has had its reply.
     fn after<T: Runs>(&mut self, call: u32, seat: &Seat<T>)
         requires rests { seat.now.rests ≡ true }
-        ensures gate_calls { IsNotified (gate_calls self.old) (gate_calls self.new) call seat.now }
+        ensures called { IsNotified (calls self.old) (calls self.new) call seat.now }
         ensures passes { passes self.old ≡ true → passes self.new ≡ true };
 }
 
@@ -92,7 +92,7 @@ pub fn serve<T: Runs, G: Gate + Drop, R: Wait>(
     ensures done { result.2 ≢ End.Done }
     ensures full { result.2 ≡ End.JournalFull → SeesFull result.0 }
     ensures short { result.2 ≡ End.NoMemory no_memory → SeesRoom result.0 }
-    ensures gate { (last : G) × CallsGate (G.gate_calls gate) (G.gate_calls last) seat result.0 result.2 }
+    ensures gate { (last : G) × CallsGate (G.calls gate) (G.calls last) seat result.0 result.2 }
     ensures passes { G.passes gate ≡ true → result.2 ≢ End.Stopped }
 {
     let mut replies = Vec::new(alloc);
@@ -135,7 +135,7 @@ pub fn drive<T: Runs, G: Gate + Drop, R: Wait>(
     ensures replies { IsDrivenFrom T.rules seat result.0 result.2 result.1 turns }
     ensures full { result.2 ≡ End.JournalFull → SeesFull result.0 }
     ensures short { result.2 ≡ End.NoMemory no_memory → SeesRoom result.0 }
-    ensures gate { (last : G) × CallsGate (G.gate_calls gate) (G.gate_calls last) seat result.0 result.2 }
+    ensures gate { (last : G) × CallsGate (G.calls gate) (G.calls last) seat result.0 result.2 }
     ensures passes { G.passes gate ≡ true → result.2 ≢ End.Stopped }
 {
     for turn in 0..turns {

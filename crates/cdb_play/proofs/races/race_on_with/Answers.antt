@@ -14,7 +14,7 @@ returns-in_err-commands g c =
       wrote = race_unwritten_scripts g.W.Sink.stream (Unit {0}) _ _ c.in_err-commands.field-0.0 (bytes_of c.args.scripts.now) c.in_err-commands.ensures.fault;
       agree = λ majority. tt;
       proposed = tt;
-      fault = of_reading (IsFaultBehind g.row.T.Denot g.T.Runs.rules g.G.Gate.gate_calls g.G.Gate.passes c.args.gates.items)
+      fault = of_reading (IsFaultBehind g.row.T.Denot g.T.Runs.rules g.G.Gate.calls g.G.Gate.passes c.args.gates.items)
           c.args.turns c.args.setup (bytes_of c.args.scripts.now) c.in_err-commands.field-0.0 c.in_err-commands.ensures.fault;
       passes = λ all. not_of_reading _ _ c.in_err-commands.ensures.fault;
     })
@@ -27,5 +27,5 @@ returns-clause-wrote g c =
 
 pub returns-clause-fault : goal.returns-clause-fault
 returns-clause-fault g c =
-    IfErr-weaker c.run_race.result _ _ (on_setup (IsFaultBehind g.row.T.Denot g.T.Runs.rules g.G.Gate.gate_calls g.G.Gate.passes
+    IfErr-weaker c.run_race.result _ _ (on_setup (IsFaultBehind g.row.T.Denot g.T.Runs.rules g.G.Gate.calls g.G.Gate.passes
     c.args.gates.items) c.args.turns _ _ _ c.in_ok-commands.ensures.read) (rw c.as_slice.ensures.value at c.run_race.ensures.fault)

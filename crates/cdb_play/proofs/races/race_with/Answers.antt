@@ -16,7 +16,7 @@ returns-in_err-parts g c =
       wrote = race_unwritten_setup g.W.Sink.stream (Unit {0}) _ _ c.in_err-parts.field-0.0;
       agree = λ majority. tt;
       proposed = λ parts encodes. tt;
-      fault = of_setup_read (IsFaultBehind g.row.T.Denot g.T.Runs.rules g.G.Gate.gate_calls g.G.Gate.passes c.args.gates.items)
+      fault = of_setup_read (IsFaultBehind g.row.T.Denot g.T.Runs.rules g.G.Gate.calls g.G.Gate.passes c.args.gates.items)
           c.args.turns c.args.setup.now (bytes_of c.args.scripts.now) c.in_err-parts.field-0.0 c.in_err-parts.ensures.fault
           (λ long. cc (c.in_err-parts.ensures.too_long long));
       passes = λ all. not_of_setup _;
@@ -30,7 +30,7 @@ returns-clause-wrote g c =
 
 pub returns-clause-fault : goal.returns-clause-fault
 returns-clause-fault g c =
-    IfErr-weaker _ _ _ (of_race (IsFaultBehind g.row.T.Denot g.T.Runs.rules g.G.Gate.gate_calls g.G.Gate.passes c.args.gates.items) _ _
+    IfErr-weaker _ _ _ (of_race (IsFaultBehind g.row.T.Denot g.T.Runs.rules g.G.Gate.calls g.G.Gate.passes c.args.gates.items) _ _
     _ _ c.in_ok-parts.ensures.found) c.race_on_with.ensures.fault
 
 pub returns-clause-proposed : goal.returns-clause-proposed

@@ -37,7 +37,7 @@ returns-in_err-written g c =
           (raced.control, all_reply_views raced.replies.items, c.in-Ok.ensures.raced, same) (rw c.in_err-written.was at c.write_race-written.ensures);
       agree = λ majority. tt;
       proposed = tt;
-      fault = of_writing (IsFaultBehind g.row.T.Denot g.T.Runs.rules g.G.Gate.gate_calls g.G.Gate.passes c.args.gates.items)
+      fault = of_writing (IsFaultBehind g.row.T.Denot g.T.Runs.rules g.G.Gate.calls g.G.Gate.passes c.args.gates.items)
           c.args.turns c.args.setup c.args.scripts.now c.in_err-written.field-0.0;
       passes = λ all. not_of_writing _;
     })

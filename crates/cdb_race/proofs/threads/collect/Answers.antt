@@ -41,7 +41,7 @@ loop-ran-preserved g c =
     let seats_now = c.loop-ran.seats.ok.0 in
     let answered_now = c.loop-ran.replied.ok.0 in
     let says : List ReplyView = map reply_view ran.replies.items in
-    let told_more =
+    let views_more =
     ap all_reply_views replied.items ∙ map-append (λ (list : Vec Reply Global). map reply_view list.items) c.loop-ran.replied.items (ran.replies ∷ []) in
     let whole : all ≡ c.pop.new.self.items ++ (ran ∷ was.left.0) =
     was.left.1 ∙ ap (λ l. l ++ was.left.0) popped ∙ append_assoc c.pop.new.self.items (ran ∷ []) was.left.0 in
@@ -70,7 +70,8 @@ loop-ran-preserved g c =
           let long : length (all_reply_views c.loop-ran.replied.items) ≡ length c.loop-ran.seats.items =
           length-map c.loop-ran.replied.items _ ∙ omega (arith, was.replied, seats_now, answered_now) in
           pair_push (λ (k : ℕ) (s : SeatView) (a : List ReplyView). (b : SeatView) → HasFinished g.T.Runs.rules plan (get_or before k b) s a)
-          c.loop-ran.seats.items _ (all_reply_views c.loop-ran.replied.items) _ ran.seat says seats.items told_more long (was.each plan before same outcomes none)
+          c.loop-ran.seats.items _ (all_reply_views c.loop-ran.replied.items) _ ran.seat says seats.items views_more long
+          (was.each plan before same outcomes none)
           (λ b. subst (λ n. HasFinished g.T.Runs.rules plan (get_or before n b) ran.seat says) position
           (finished g.T.Runs.rules plan _ ran.seat says ran.end (ends_well _ _ clean) (one b)));
     }

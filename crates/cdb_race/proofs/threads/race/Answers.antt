@@ -151,5 +151,5 @@ pub returns-in-Some-clause-passes : goal.returns-in-Some-clause-passes
 returns-in-Some-clause-passes g c = λ all.
     let why = c.in-Some.fault in
     let many : length c.args.gates.items ≡ c.args.setup.processes + length c.args.scripts.now = omega (arith, c.requires.gates, c.args.gates.ok.0) in
-    passes_or_threads g.row.T.Denot g.T.Runs.rules g.G.Gate.gate_calls g.G.Gate.passes c.args.gates.items
+    passes_or_threads g.row.T.Denot g.T.Runs.rules g.G.Gate.calls g.G.Gate.passes c.args.gates.items
     c.args.setup c.args.turns c.args.scripts.now why many (returns-in-Some-clause-of_one g c) all

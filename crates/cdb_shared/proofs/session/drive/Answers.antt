@@ -21,7 +21,7 @@ returns-then-not-before g c =
       replies = (was.replies.0, was.replies.1, (c.loop-turn-test.true, was.replies.2));
       full = λ is. cc;
       short = λ is. cc;
-      gate = (_, gate_asked _ was.calls refl (calls_with_asked _ _ _ was.gate_calls was.calls count refused c.before-in-loop-turn.ensures.gate_calls));
+      gate = (_, gate_asked _ was.calls refl (calls_with_asked _ _ _ was.gate_calls was.calls count refused c.before-in-loop-turn.ensures.called));
       passes = λ always same. true≢false (sym (c.before-in-loop-turn.ensures.passes (was.passes always)).0 ∙ refused);
     }
 
@@ -32,7 +32,7 @@ returns-in-Err-clause-gate g c =
     let count : c.loop-turn.turn + 1 ≡ length (replicate c.loop-turn.turn (Auto c.args.process)) + 1 =
     omega (arith, length-replicate c.loop-turn.turn (Auto c.args.process)) in
     let calls = calls_of-fault _ _ c.call.ensures.seat c.in-Err.ensures.fault ∙ was.calls in
-    (_, gate_at_fault _ _ c.ended_by.ensures calls (calls_with_asked _ _ _ was.gate_calls was.calls count passed c.before-in-loop-turn.ensures.gate_calls))
+    (_, gate_at_fault _ _ c.ended_by.ensures calls (calls_with_asked _ _ _ was.gate_calls was.calls count passed c.before-in-loop-turn.ensures.called))
 
 pub returns-in-Err-clause-replies : goal.returns-in-Err-clause-replies
 returns-in-Err-clause-replies g c =
@@ -66,7 +66,7 @@ returns-then-is_done g c =
       gate = (
         _,
         gate_notified _ calls refl
-            (calls_with_notified _ _ _ _ was.gate_calls was.calls count passed c.before-in-loop-turn.ensures.gate_calls call c.after.ensures.gate_calls longer),
+            (calls_with_notified _ _ _ _ was.gate_calls was.calls count passed c.before-in-loop-turn.ensures.called call c.after.ensures.called longer),
       );
       passes = λ always is. cc;
     }
@@ -87,7 +87,7 @@ loop-turn-preserved g c =
         append_one _ _ _ was.replies.1 (replies_to-call g.T.Runs.rules _ _ _ _ c.call.ensures.seat c.in-Ok.ensures.call) refl,
         NoneDone-push _ _ was.replies.2 (λ is. true≢false (sym (c.is_done.ensures.1 is) ∙ c.if-is_done.false)),
       );
-      gate_calls = calls_with_notified _ _ _ _ was.gate_calls was.calls count passed c.before-in-loop-turn.ensures.gate_calls call c.after.ensures.gate_calls longer;
+      gate_calls = calls_with_notified _ _ _ _ was.gate_calls was.calls count passed c.before-in-loop-turn.ensures.called call c.after.ensures.called longer;
       passes = λ always. c.after.ensures.passes (c.before-in-loop-turn.ensures.passes (was.passes always)).1;
     }
 

@@ -11,6 +11,6 @@ invariant-loop-turn g l = record {
   seat : IsLater l.fn.seat l.seat;
   calls : calls_of l.seat ≡ calls_of l.fn.seat ++ replicate l.turn (Auto l.process);
   replies : (replies : List ReplyView) × (replies_to g.T.Runs.rules l.seat ≡ replies_to g.T.Runs.rules l.fn.seat ++ replies) × NoneDone replies;
-  gate_calls : g.G.Gate.gate_calls l.gate ≡ and_calls (g.G.Gate.gate_calls l.fn.gate) (gate_calls_of 1 (calls_of l.fn.seat) (replicate l.turn (Auto l.process)));
+  gate_calls : g.G.Gate.calls l.gate ≡ and_calls (g.G.Gate.calls l.fn.gate) (gate_calls_of 1 (calls_of l.fn.seat) (replicate l.turn (Auto l.process)));
   passes : g.G.Gate.passes l.fn.gate ≡ true → g.G.Gate.passes l.gate ≡ true;
 }

@@ -13,6 +13,6 @@ invariant-loop-command g l = record {
   count : vec_len l.replies ≡ l.command-index;
   number : l.number ≡ l.command-index;
   limit : l.number ≤ 999999;
-  gate_calls : g.G.Gate.gate_calls l.gate ≡ and_calls (g.G.Gate.gate_calls l.fn.gate) (gate_calls_of 1 (calls_of l.fn.seat) (take l.command-index l.commands));
+  gate_calls : g.G.Gate.calls l.gate ≡ and_calls (g.G.Gate.calls l.fn.gate) (gate_calls_of 1 (calls_of l.fn.seat) (take l.command-index l.commands));
   passes : g.G.Gate.passes l.fn.gate ≡ true → g.G.Gate.passes l.gate ≡ true;
 }

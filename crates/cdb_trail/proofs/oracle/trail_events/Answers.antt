@@ -37,5 +37,6 @@ loop-i-preserved c =
       again = next_along rules ReachSameState rules_keep_histories run i event at _ so.again _ c.in_ok-take_next.ensures;
       names = c.in_ok-add.ensures c.loop-i.again.history so.names ∙ ap (λ (r : RunView). received_by_each r.history) (sym c.in_ok-take_next.ensures);
       all = c.in_ok-push.ensures.items ∙ ap (λ (ts : List TrailEvent). ts ++ c.in_ok-trail_event.field-0 ∷ []) so.all
-          ∙ ap (λ (t : TrailEvent). first_trail_events run flags i ++ t ∷ []) (c.in_ok-trail_event.ensures ∙ said) ∙ sym (one_trail_event_more run flags i event at);
+          ∙ ap (λ (t : TrailEvent). first_trail_events run flags i ++ t ∷ []) (c.in_ok-trail_event.ensures ∙ said)
+          ∙ sym (one_trail_event_more run flags i event at);
     }

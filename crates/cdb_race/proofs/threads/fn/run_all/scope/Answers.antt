@@ -28,9 +28,9 @@ returns g c =
           let seat_position : vec_len seats - 1 - k ≡ length seats.items - 1 - k = omega (arith, seats.ok.0) in
           let gate_position : vec_len gates - 1 - k ≡ length gates.items - 1 - k = omega (arith, gates.ok.0) in
           let r = get_or rans.items k ran in
-          subst (λ (x : ℕ × ℕ). HasEndedAtGate g.G.Gate.gate_calls g.G.Gate.passes (get_or gates.items x.1 gate) (get_or seats.items x.0 before) r.seat r.end)
+          subst (λ (x : ℕ × ℕ). HasEndedAtGate g.G.Gate.calls g.G.Gate.passes (get_or gates.items x.1 gate) (get_or seats.items x.0 before) r.seat r.end)
           (λ i. (seat_position i, gate_position i))
           (kept_ended g.T.Runs.rules plan _ _ at.handle (get_or handles.items k at.handle)
-          at.handle_is promise g.G.Gate.gate_calls g.G.Gate.passes r.seat r.end at.kept.1);
+          at.handle_is promise g.G.Gate.calls g.G.Gate.passes r.seat r.end at.kept.1);
       fault = tt;
     }
