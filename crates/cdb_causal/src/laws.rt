@@ -59,7 +59,7 @@ pub fn same_order_exchanged<E>()
 
 /// Lists that are equal up to exchange have the same events, each once in both or in neither, and
 /// their dependent pairs stand in the same order.
-#[tactic(auto, using(crate::proofs::Orders::exchanged_in, crate::proofs::Orders::exchanged_once, crate::proofs::Orders::exchanged_order))]
+#[tactic(auto, using(crate::proofs::Orders::same_order_exchanged))]
 pub fn exchanged_same_order<E>()
     ensures same_events { OfExchanged E (λ depends events others.
         HaveSameEvents events others) }
@@ -70,7 +70,7 @@ pub fn exchanged_same_order<E>()
 {}
 
 /// Equality up to exchange is an equivalence.
-#[tactic(auto, using(crate::proofs::Exchanges::itself, crate::proofs::Exchanges::joined, crate::proofs::Exchanges::back))]
+#[tactic(auto, using(crate::proofs::Exchanges::equivalence))]
 pub fn exchange_is_equivalence<E>()
     ensures reflexive { (depends : E → E → Bool) (events : List E) →
         IsExchanged depends events events }

@@ -326,7 +326,8 @@ module _ (Answers : RunView → Inquiry → Answer → Type 0) (style : StyleVie
 
       -- the answer of the run as it stands, after all commands so far
       answers_at : (exchange : Exchange) → ((inquiry : Inquiry) → exchange.0 ≡ Ask inquiry → AnswersNow Answers new inquiry exchange.1.answer)
-          → (given_at exchange ≡ 0 → length new.calls ≤ commands_among exchanges) → IsAnsweredAfter Answers (part_with replies new) (0 + commands_among exchanges) exchange
+          → (given_at exchange ≡ 0 → length new.calls ≤ commands_among exchanges)
+          → IsAnsweredAfter Answers (part_with replies new) (0 + commands_among exchanges) exchange
       answers_at (Call command times, effect) answer few = tt
       answers_at (Ask inquiry, effect) answer few = let now = answer inquiry refl in
           let just : HaveJust (part_with replies new) (0 + commands_among exchanges) new.entries =

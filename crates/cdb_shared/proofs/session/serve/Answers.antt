@@ -48,7 +48,8 @@ returns-in-Err-call-clause-gate g c =
     let count : c.loop-command.number + 1 ≡ length (take c.loop-command.command-index c.args.commands.now) + 1 =
     omega (arith, length-take c.loop-command.command-index c.args.commands.now, was.number) in
     let calls = calls_of-fault _ _ c.call.ensures.seat c.in-Err-call.ensures.fault ∙ was.calls in
-    (_, gate_at_fault _ _ c.ended_by-in-Err-call.ensures calls (calls_with_asked _ _ _ was.gate_calls was.calls count passed c.before-in-loop-command.ensures.called))
+    (_, gate_at_fault _ _ c.ended_by-in-Err-call.ensures calls
+    (calls_with_asked _ _ _ was.gate_calls was.calls count passed c.before-in-loop-command.ensures.called))
 
 pub returns-in-Err-call-clause-replies : goal.returns-in-Err-call-clause-replies
 returns-in-Err-call-clause-replies g c =
@@ -75,7 +76,8 @@ loop-command-preserved g c =
       count = omega arith;
       number = omega arith;
       limit = omega (arith, length-take (index + 1) commands);
-      gate_calls = calls_with_notified _ _ _ _ was.gate_calls was.calls count_is passed c.before-in-loop-command.ensures.called call c.after.ensures.called longer;
+      gate_calls = calls_with_notified _ _ _ _ was.gate_calls was.calls count_is passed
+          c.before-in-loop-command.ensures.called call c.after.ensures.called longer;
       passes = λ always. c.after.ensures.passes (c.before-in-loop-command.ensures.passes (was.passes always)).1;
     }
 
