@@ -1,4 +1,4 @@
--- Why nothing was written of a step that was asked for.
+-- Why an answer about a run was not written.
 use Rattle.std.specs.Prelude.{◌≡◌, ℕ, List}
 use Rattle.cdb_explain.specs.RunLeft.{Leaves}
 use Rattle.cdb_explain.specs.declared.fault.AnswerFault.{AnswerFault}

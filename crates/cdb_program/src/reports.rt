@@ -16,9 +16,9 @@ use cdb_streams::{
     write_race_fault,
 };
 
-/// The status after a step that doesn't stand, takes no value or has to be named, after a goal that doesn't hold, and
-/// after runs that differ.
-const NO_STEP: u8 = 1;
+/// The status after an answer that is no: of a step that doesn't stand, takes no value or has to be named, of a goal that
+/// doesn't hold, and of runs that differ.
+const NO: u8 = 1;
 
 /// The status after arguments that can't be carried out.
 const USAGE: u8 = 2;
@@ -33,7 +33,7 @@ fn answer_status_of(fault: &AnswerFault) -> u8
         | AnswerFault::NoValue
         | AnswerFault::TooManyEvents
         | AnswerFault::NotFound(_)
-        | AnswerFault::DoesNotHold => NO_STEP,
+        | AnswerFault::DoesNotHold => NO,
     }
 }
 
@@ -46,7 +46,7 @@ fn status_after(fault: &Fault<'_>) -> u8
         Fault::Race(fault) => race_status_of(fault),
         Fault::Answer(fault, _) | Fault::Page(fault) => answer_status_of(fault),
         Fault::Journal(fault) => status_of(&PlayFault::from(*fault)),
-        Fault::Different => NO_STEP,
+        Fault::Different => NO,
         Fault::NoGoal | Fault::TooManySeats | Fault::Refused(_) => USAGE,
     }
 }
