@@ -12,7 +12,7 @@ use std::sync::Wait;
 use std::thread::Threads;
 
 /// Calls a command from the first seat, compares the text of the reply, and exchanges the seats once they met.
-fn said<R: Wait + Abort + AllocGlobal>(rt: &R, pair: Pair, command: Command, text: &str) -> Pair {
+fn told<R: Wait + Abort + AllocGlobal>(rt: &R, pair: Pair, command: Command, text: &str) -> Pair {
     pair.call(rt, command, text).meet(rt).exchanged()
 }
 
@@ -35,10 +35,10 @@ pub fn ends_so<R: Wait + Abort + AllocGlobal>(
 fn each_seat_redoes_what_it_undid(rt: HostRuntime) {
     let pair = Pair::after(&rt, 0);
     let query = Command::Step(1, Act::Query(None));
-    let pair = said(&rt, pair, query, "1.1 query 1\n");
-    let pair = said(&rt, pair, Command::Undo(1, 1), "undone 1.1 query 1\n");
-    let pair = said(&rt, pair, Command::Redo, "refused 14 NothingToRedo\n");
-    let pair = said(&rt, pair, Command::Redo, "redone 1.1 query 1\n");
+    let pair = told(&rt, pair, query, "1.1 query 1\n");
+    let pair = told(&rt, pair, Command::Undo(1, 1), "undone 1.1 query 1\n");
+    let pair = told(&rt, pair, Command::Redo, "refused 14 NothingToRedo\n");
+    let pair = told(&rt, pair, Command::Redo, "redone 1.1 query 1\n");
     assert_eq!(&rt; pair.numbers(), (1, 2));
     ends_so(&rt, pair, 4, &[1, 2, 1, 2], 1);
 }
