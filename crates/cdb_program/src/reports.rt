@@ -16,8 +16,8 @@ use cdb_streams::{
     write_race_fault,
 };
 
-/// The status after an answer that is no: of a step that doesn't stand, takes no value or has to be named, of a goal that
-/// doesn't hold, and of runs that differ.
+/// The status after an answer that is no: of a step that doesn't stand, takes no value or has to be named, of a goal
+/// that doesn't hold, and of runs that differ.
 const NO: u8 = 1;
 
 /// The status after arguments that can't be carried out.
