@@ -1,6 +1,6 @@
 -- What the table of the commands leaves alone.
 use Rattle.std.proofs.Common.{◌≡◌, ◌≢◌, ◌∙◌, ℕ, ◌+◌, ◌-◌, ◌≤◌, Bool, true, false, not, List, [], length, get_or, set, Option}
-use Rattle.std.proofs.Common.{Some, None, Result, Ok, Err, IfOk, OnOk, refl, sym, ap, subst, arith, nat_eq, nat_le, is_some}
+use Rattle.std.proofs.Common.{Some, None, Result, Ok, Err, refl, sym, ap, subst, arith, nat_eq, nat_le, is_some}
 use Rattle.std.proofs.lemmas.List.{get_or-set_other}
 use Rattle.std.specs.Map.{lookup}
 use Rattle.cdb_base.specs.declared.event.Event.{Event}
@@ -26,8 +26,6 @@ use Rattle.cdb_rules.specs.Undo.{undo_of, rollback_of, causes_of}
 use Rattle.cdb_control.specs.State.{State, redo_of, last_of}
 use Rattle.cdb_control.proofs.Numbers.{AreNumbered, AreBelow-push, AreBelow-remove, AreRising-push, AreRising-remove}
 use Rattle.cdb_commands.specs.ReplyView.{ReplyView, is_refused, reply_view}
-use Rattle.cdb_commands.specs.declared.reply.Reply.{Reply}
-use Rattle.cdb_control.specs.declared.control.CallFault.{CallFault}
 use Rattle.cdb_control.specs.Commands.{Outcome, unless, granted, found, unpaused, step_done, step, lost}
 use Rattle.cdb_control.specs.Commands.{undo, rollback, why, redone, show, outcome, reply_of, obey}
 use Rattle.cdb_control.specs.Journal.{Journaled, control_state, extended, reply_in}

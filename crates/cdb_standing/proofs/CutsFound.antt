@@ -2,7 +2,7 @@
 use Rattle.std.proofs.lemmas.Grind.{common_steps}
 use Rattle.std.proofs.lemmas.Bool.{cases_eq, cases_lt}
 use Rattle.std.proofs.Common.{◌≡◌, ◌≢◌, ℕ, zero, suc, ◌+◌, ◌<◌, ◌≤◌, false}
-use Rattle.std.proofs.Common.{true≢false, List, [], ◌∷◌, length, set, slice_index, length-set, ◌-◌, Option}
+use Rattle.std.proofs.Common.{List, [], ◌∷◌, length, set, slice_index, length-set, ◌-◌, Option}
 use Rattle.std.proofs.Common.{Some, None, ◌⊎◌, inl, inr, ⊎_elim, refl, sym, ap, ap₂, ◌∙◌, subst, arith}
 use Rattle.std.proofs.lemmas.Option.{same_Some, none-some, gets}
 use Rattle.cdb_base.specs.Event.{event_name, is_step_of}

@@ -1,5 +1,5 @@
 -- How many events depend directly on one, and that there are none exactly where it is free.
-use Rattle.std.proofs.Common.{◌≡◌, ◌↔◌, ℕ, zero, suc, ◌+◌, ◌<◌, ◌≤◌, List, [], ◌∷◌, ◌++◌, length, take, refl, sym, ap, ◌∙◌, subst, arith}
+use Rattle.std.proofs.Common.{◌≡◌, ◌↔◌, ℕ, zero, suc, ◌+◌, ◌<◌, List, [], ◌∷◌, ◌++◌, length, take, refl, sym, ap, ◌∙◌, subst, arith}
 use Rattle.std.proofs.Math.Seq.{length-take-le, take-length}
 use Rattle.std.proofs.lemmas.List.{length_push}
 use Rattle.cdb_base.specs.declared.event.Event.{Event}

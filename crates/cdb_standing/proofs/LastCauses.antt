@@ -1,5 +1,5 @@
 -- The last step of a process on which an event depends.
-use Rattle.std.proofs.Common.{◌≡◌, ◌≢◌, ℕ, ◌+◌, ◌<◌, ◌≤◌, true, true≢false, ◌&&◌, List, Option}
+use Rattle.std.proofs.Common.{◌≡◌, ◌≢◌, ℕ, ◌+◌, ◌<◌, ◌≤◌, true, true≢false, List, Option}
 use Rattle.std.proofs.Common.{Some, None, ◌⊎◌, inl, inr, ⊎_elim, refl, sym, ap, ◌∙◌, subst, eq-eqb, arith}
 use Rattle.std.proofs.lemmas.Bool.{ne_eqb, cases_eq}
 use Rattle.std.proofs.lemmas.Option.{none-some}
@@ -11,7 +11,6 @@ use Rattle.cdb_base.specs.declared.event.Kind.{Kind}
 use Rattle.cdb_base.specs.declared.event.Kind.TheVariants.{Send, Recv, Read, Write}
 use Rattle.cdb_base.specs.declared.name.CopyName.{CopyName}
 use Rattle.cdb_base.specs.declared.register.Reg.{Reg}
-use Rattle.cdb_causal.specs.Dependence.{depends, sends}
 use Rattle.cdb_standing.specs.Accesses.{number_of, accessed, written, cell, AreListed, IsLastBeforeOrNone}
 use Rattle.cdb_standing.specs.Causes.{sent_by, writes, IsLastByList, IsCause, IsLastCauseOrNone}
 use Rattle.cdb_standing.specs.Tables.{row_of, entry_of, IsEntry, IsCopy, IsSound}

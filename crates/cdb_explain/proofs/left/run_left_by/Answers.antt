@@ -1,9 +1,7 @@
 use Rattle.std.proofs.Common.{◌∙◌}
-use Rattle.std.proofs.lemmas.Result.{err_from_is_err_and}
 use Rattle.cdb_control.specs.Journal.{Journaled}
 use Rattle.cdb_control.specs.OneSeat.{HasCarriedOut}
 use Rattle.cdb_explain.proofs.CarriedOut.{headline_left, run_left}
-use Rattle.cdb_streams.proofs.WholeTexts.{no_failed_write, setup_writes_none}
 use Rattle.cdb_explain.proofs.left.run_left_by.Goals as goal
 
 pub returns-clause-left : goal.returns-clause-left
@@ -29,8 +27,3 @@ returns-clause-left g c =
       );
       headline = headline_left rules setup commands control along g.T.Runs.same_state c.trace_of.ensures.headline;
     }
-
-pub returns-in_err-setup-clause-written : goal.returns-in_err-setup-clause-written
-returns-in_err-setup-clause-written g c =
-    let p = err_from_is_err_and c.from_residual.result c.from_residual.ensures.1 in
-    no_failed_write c.from_residual.result p.0 _ p.1 p.2 (setup_writes_none c.in_err-setup.field-0.0)

@@ -100,25 +100,3 @@ returns-clause-unfinished g c =
     let more : List ℕ = c.loop-line.unfinished.items ++ c.loop-line.rest.now in
     let held : c.hold-2.new.unfinished.items ≡ take (longest + 1) more = c.in_ok-hold-2.ensures in
     omega (arith, ap length held, length-take (longest + 1) more)
-
-pub returns-then-branch-clause-lines : goal.returns-then-branch-clause-lines
-returns-then-branch-clause-lines g c =
-    let one_line = c.in_ok-respond_to_line.ensures.unfinished.2.lines in
-    let cut = ap length c.in-Some.ensures.some.1 in
-    let parts = length-append c.in-Some.line.now (10 ∷ c.in-Some.behind.now) in
-    omega (arith, c.loop-line.invariant.lines, one_line, cut, parts)
-
-pub respond_to_line-requires-clause-lines : goal.respond_to_line-requires-clause-lines
-respond_to_line-requires-clause-lines g c =
-    let cut = ap length c.in-Some.ensures.some.1 in
-    let parts = length-append c.in-Some.line.now (10 ∷ c.in-Some.behind.now) in
-    omega (arith, c.requires.lines, c.loop-line.invariant.lines, cut, parts)
-
-pub loop-line-smaller : goal.loop-line-smaller
-loop-line-smaller g c =
-    let cut = ap length c.in-Some.ensures.some.1 in
-    let parts = length-append c.in-Some.line.now (10 ∷ c.in-Some.behind.now) in
-    omega (arith, cut, parts)
-
-pub returns-clause-lines : goal.returns-clause-lines
-returns-clause-lines g c = omega (arith, c.loop-line.invariant.lines)

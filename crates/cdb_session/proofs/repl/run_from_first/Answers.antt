@@ -96,9 +96,6 @@ loop-read-preserved g c =
           (seen_by g.C.Caller.part c.feed.new.session) c.feed.new.unfinished.items (rw c.if-branch.false at c.in_ok-feed.ensures.feeds));
     }
 
-pub respond_to_last-requires-2-clause-lines : goal.respond_to_last-requires-2-clause-lines
-respond_to_last-requires-2-clause-lines g c = omega (arith, c.loop-read.invariant.lines, c.loop-read.invariant.bound)
-
 pub returns-clause-all : goal.returns-clause-all
 returns-clause-all g c =
     over_at_most g.C.Caller.answers c.args.style.now _ _ (seen_by g.C.Caller.part c.loop-read.session) c.loop-read.unfinished.items
@@ -107,17 +104,3 @@ returns-clause-all g c =
 
 pub returns-clause-later : goal.returns-clause-later
 returns-clause-later g c = Onward-trans g.C.Caller.later _ _ _ c.loop-read.invariant.later c.respond_to_last-2.ensures.later
-
-pub respond_to_last-requires-clause-lines : goal.respond_to_last-requires-clause-lines
-respond_to_last-requires-clause-lines g c = omega (arith, c.loop-read.invariant.lines, c.loop-read-test.true)
-
-pub overflow_add-read : goal.overflow_add-read
-overflow_add-read g c = omega (arith, c.loop-read-test.true, c.in-Ok-read.ensures.within)
-
-pub feed-requires-clause-lines : goal.feed-requires-clause-lines
-feed-requires-clause-lines g c =
-    let buffer : List ℕ = c.read.new.buffer in
-    omega (arith, c.loop-read.invariant.lines, c.loop-read-test.true, c.in-Ok-read.ensures.within, length-take c.in-Ok-read.count buffer)
-
-pub loop-read-smaller : goal.loop-read-smaller
-loop-read-smaller g c = omega (arith, c.loop-read-test.true, c.if-count-eq0.false)

@@ -1,17 +1,10 @@
-use Rattle.std.proofs.Common.{inl, inr, rules, ◌≢◌, refl, sym}
+use Rattle.std.proofs.Common.{inr, rules, ◌≢◌, refl, sym}
 use Rattle.std.specs.Prelude.{Ok, Err}
 use Rattle.cdb_session.specs.Requests.{quit_line}
-use Rattle.cdb_session.proofs.OneRequest.{only_help, only_inquiry, only_repeat, only_seat, only_watch, only_call, only_fault}
+use Rattle.cdb_session.proofs.OneRequest.{only_inquiry, only_repeat, only_seat, only_call, only_fault}
 use Rattle.cdb_session.proofs.InquiryLines.{inquiry_says, no_inquiry, no_repeat, repeat_says}
 use Rattle.cdb_session.proofs.SeatLines.{not_own}
 use Rattle.cdb_session.proofs.request.request_of.Goals as goal
-
-pub returns-in-Some-clause-only : goal.returns-in-Some-clause-only
-returns-in-Some-clause-only c = only_help c.args.line.now c.if-line-gt-MAX_BYTES.false c.in-Some.about c.in-Some.ensures.some
-
-pub returns-in-Some-watch_of-clause-only : goal.returns-in-Some-watch_of-clause-only
-returns-in-Some-watch_of-clause-only c =
-    only_watch c.args.line.now c.if-line-gt-MAX_BYTES.false c.in-Some-watch_of.begins c.in-Some-watch_of.ensures.some
 
 pub returns-in-Some-seat_of-clause-only : goal.returns-in-Some-seat_of-clause-only
 returns-in-Some-seat_of-clause-only c =
@@ -37,19 +30,6 @@ pub returns-in-Some-repeat_of-clause-only : goal.returns-in-Some-repeat_of-claus
 returns-in-Some-repeat_of-clause-only c =
     only_repeat c.args.line.now c.if-line-gt-MAX_BYTES.false c.in-Some-repeat_of.p c.in-Some-repeat_of.times
     (repeat_says c.args.line.now c.in-Some-repeat_of.p c.in-Some-repeat_of.times (sym c.in-Some-repeat_of.ensures))
-
-pub returns-in-Ok-clause-asks : goal.returns-in-Ok-clause-asks
-returns-in-Ok-clause-asks c =
-    let line = c.args.line.now in
-    let no_quit : line ≢ quit_line = search rules in (
-      c.if-line-gt-MAX_BYTES.false,
-      inl (
-        not_own line c.in_default.ensures.none no_quit c.in_default-seat_of.ensures.none (no_inquiry line
-            (sym c.in_default-inquiry_of.ensures)) (no_repeat line (sym c.in_default-repeat_of.ensures)) c.in_default-watch_of.ensures.none,
-        (c.in-Ok.ensures.command c.in-Ok.command).0 refl,
-        refl,
-      ),
-    )
 
 pub returns-in-Ok-clause-only : goal.returns-in-Ok-clause-only
 returns-in-Ok-clause-only c =

@@ -1,31 +1,8 @@
-use Rattle.std.proofs.Common.{map, refl}
+use Rattle.std.proofs.Common.{map}
 use Rattle.serde_json.specs.View.{view}
 use Rattle.std.proofs.lemmas.Result.{err_from_is_err_and}
-use Rattle.cdb_setup.specs.declared.fault.SetupFault.TheVariants.{BadAlgorithm, BadCount, BadQuorum}
-use Rattle.cdb_setup.proofs.Stages.{joined, alone_first, after_algorithm, after_count, after_quorum, after_inputs, after_answers, version_last}
+use Rattle.cdb_setup.proofs.Stages.{joined, after_inputs, after_answers, version_last}
 use Rattle.cdb_setup.proofs.reading.setup_of.Goals as goal
-
-pub returns-in_default-clause-fault : goal.returns-in_default-clause-fault
-returns-in_default-clause-fault c = λ _. alone_first BadAlgorithm (view c.args.value.now) c.in_ok-check_keys.ensures.ok.1 refl c.in_default.ensures
-
-pub returns-in_default-count_of-clause-fault : goal.returns-in_default-count_of-clause-fault
-returns-in_default-count_of-clause-fault c = λ _.
-    let json = view c.args.value.now in
-    alone_first BadCount json (after_algorithm c.in-Some.algorithm json c.in_ok-check_keys.ensures.ok.1 c.in-Some.ensures) refl c.in_default-count_of.ensures
-
-pub returns-in_default-quorum_of-clause-fault : goal.returns-in_default-quorum_of-clause-fault
-returns-in_default-quorum_of-clause-fault c = λ _.
-    let json = view c.args.value.now in
-    alone_first BadQuorum json (after_count c.in-Some.algorithm c.in-Some-count_of.processes json c.in_ok-check_keys.ensures.ok.1
-    c.in-Some.ensures c.in-Some-count_of.ensures) refl c.in_default-quorum_of.ensures
-
-pub returns-in_err-inputs-clause-fault : goal.returns-in_err-inputs-clause-fault
-returns-in_err-inputs-clause-fault c =
-    let json = view c.args.value.now in
-    let p = err_from_is_err_and c.from_residual-in_err-inputs.result c.from_residual-in_err-inputs.ensures.1 in
-    let eight = after_quorum c.in-Some.algorithm c.in-Some-count_of.processes c.in-Some-quorum_of.quorum json c.in_ok-check_keys.ensures.ok.1
-    c.in-Some.ensures c.in-Some-count_of.ensures c.in-Some-quorum_of.ensures.0 c.in-Some-quorum_of.ensures.1 in
-    rw (p.1, p.2) (λ differs. joined 8 c.in_err-inputs.field-0.0 json eight (c.in_err-inputs.ensures.fault differs))
 
 pub returns-in_err-answers-clause-fault : goal.returns-in_err-answers-clause-fault
 returns-in_err-answers-clause-fault c =

@@ -1,7 +1,7 @@
 use Rattle.std.proofs.Common.{◌≡◌, ◌+◌, ◌*◌, suc, sym, ap, ◌∙◌, arith}
 use Rattle.cdb_standing.specs.Accesses.{cell}
 use Rattle.cdb_standing.specs.Tables.{rows_in, row_of}
-use Rattle.cdb_standing.proofs.PartCounts.{left_all, left_none, next_counted}
+use Rattle.cdb_standing.proofs.PartCounts.{left_all, next_counted}
 use Rattle.cdb_standing.proofs.EarliestFound.{list_rising}
 use Rattle.cdb_standing.proofs.RowUpdates.{row_at, rows_length}
 use Rattle.cdb_standing.proofs.compare.writes_before.Goals as goal
@@ -39,9 +39,3 @@ loop-i-preserved c =
     c.count_before-count.result c.count_before-count.ensures in
     let few = more.0 in
     record { counted = omega arith; few = omega arith }
-
-pub returns : goal.returns
-returns c =
-    let t = c.args.tables.now in
-    let none = left_none (rows_in t.steps.items) (rows_in t.sent.items) c.args.n c.args.mark c.loop-i.i (omega arith) in
-    omega arith

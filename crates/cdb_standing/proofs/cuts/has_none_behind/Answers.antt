@@ -2,12 +2,9 @@ use Rattle.std.proofs.Common.{◌≡◌, ◌+◌, ◌-◌, Some, slice_get, leb-
 use Rattle.std.specs.Option.{option_copied}
 use Rattle.cdb_base.specs.Positions.{nth}
 use Rattle.cdb_standing.specs.Tables.{rows_in, row_of}
-use Rattle.cdb_standing.proofs.CutsFound.{none_behind, none_below_two}
+use Rattle.cdb_standing.proofs.CutsFound.{none_behind}
 use Rattle.cdb_standing.proofs.RowUpdates.{item_at, looked_up, rows_length}
 use Rattle.cdb_standing.proofs.cuts.has_none_behind.Goals as goal
-
-pub returns-then-cut-lt2 : goal.returns-then-cut-lt2
-returns-then-cut-lt2 c = λ _. none_below_two c.requires.sound c.args.q c.args.cut c.args.mark (omega arith)
 
 pub returns-in-Some : goal.returns-in-Some
 returns-in-Some c = λ le.

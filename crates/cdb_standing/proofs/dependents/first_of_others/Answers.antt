@@ -2,12 +2,9 @@ use Rattle.std.proofs.Common.{◌+◌, sym, ap, ◌∙◌, subst}
 use Rattle.cdb_base.specs.declared.event.Event.TheVariants.{Step}
 use Rattle.cdb_standing.specs.Dependents.{earlier_of, IsFoundOfOthers, IsFoundByOthers}
 use Rattle.cdb_standing.specs.Tables.{rows_in}
-use Rattle.cdb_standing.proofs.EarliestFound.{none_yet, one_process_more, earlier_alone}
+use Rattle.cdb_standing.proofs.EarliestFound.{one_process_more, earlier_alone}
 use Rattle.cdb_standing.proofs.dependents.first_of_others.Goals as goal
 use Rattle.cdb_standing.proofs.dependents.first_of_others.Goals.{in-Some, in_default}
-
-pub loop-i-init : goal.loop-i-init
-loop-i-init c = let entry = c.args.entry.now in none_yet c.requires.kept.sound c.args.p c.args.k entry.mark entry.kind c.requires.at
 
 pub loop-i-preserved : goal.loop-i-preserved
 loop-i-preserved c =

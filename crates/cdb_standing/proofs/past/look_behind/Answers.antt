@@ -1,15 +1,6 @@
 use Rattle.std.proofs.Common.{◌≡◌, sym, arith}
-use Rattle.cdb_standing.proofs.Led.{raise_higher, raise_few, raise_sound, causes_few, causes_led, causes_within, none_within}
+use Rattle.cdb_standing.proofs.Led.{raise_higher, raise_few, raise_sound, causes_few, causes_led, causes_within}
 use Rattle.cdb_standing.proofs.past.look_behind.Goals as goal
-
-pub loop-i-init : goal.loop-i-init
-loop-i-init c =
-    record {
-      sound = λ one end led was. was;
-      within = none_within c.requires.kept.sound c.args.effect.now c.args.ahead c.args.numbers.now;
-      higher = λ q. omega arith;
-      few = c.requires.few;
-    }
 
 pub loop-i-preserved : goal.loop-i-preserved
 loop-i-preserved c =

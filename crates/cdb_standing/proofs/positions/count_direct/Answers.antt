@@ -1,6 +1,6 @@
-use Rattle.std.proofs.Common.{◌≡◌, length, arith}
+use Rattle.std.proofs.Common.{arith}
 use Rattle.cdb_causal.proofs.Linked.{false_only}
-use Rattle.cdb_standing.proofs.DirectCounts.{none_counted, one_counted, other_counted, all_counted}
+use Rattle.cdb_standing.proofs.DirectCounts.{none_counted, one_counted, other_counted}
 use Rattle.cdb_standing.proofs.positions.count_direct.Goals as goal
 use Rattle.cdb_standing.proofs.positions.count_direct.Goals.{then-is_direct_cause, else-is_direct_cause}
 
@@ -25,9 +25,3 @@ loop-i-preserved c =
         few = omega arith;
       }
     ]
-
-pub returns : goal.returns
-returns c =
-    let events = c.args.events.now in
-    let end : c.loop-i.i ≡ length events = omega arith in
-    all_counted events c.args.at c.loop-i.count (rw end at c.loop-i.invariant.counted)

@@ -1,13 +1,9 @@
-use Rattle.std.proofs.Common.{◌∙◌, refl, take, drop, ap, ◌+◌}
+use Rattle.std.proofs.Common.{◌∙◌, take, drop, ap, ◌+◌}
 use Rattle.std.proofs.lemmas.Result.{err_from_is_err_and}
-use Rattle.std.proofs.KnownBytes.{Appends-nil}
 use Rattle.cdb_streams.specs.Pieces.{piece_text, pieces_text}
 use Rattle.cdb_streams.specs.Streams.{one_more}
-use Rattle.cdb_streams.proofs.Added.{parted_texts, beginning_of_all, one_text}
+use Rattle.cdb_streams.proofs.Added.{parted_texts, beginning_of_all}
 use Rattle.cdb_streams.proofs.piece.write_each.Goals as goal
-
-pub loop-piece-init : goal.loop-piece-init
-loop-piece-init g c = (Appends-nil _, refl)
 
 pub returns-in_err-write_piece : goal.returns-in_err-write_piece
 returns-in_err-write_piece g c =
@@ -21,11 +17,3 @@ returns-in_err-write_piece g c =
           _ so.0 (parted_texts piece_text pieces i _ c.loop-piece-test.true) failed.0,
       failed.1 ∙ ap one_more so.1,
     )
-
-pub loop-piece-preserved : goal.loop-piece-preserved
-loop-piece-preserved g c =
-    let pieces = c.args.pieces.now in
-    let i = c.loop-piece.piece-index in
-    let so = c.loop-piece.invariant in
-    let wrote = c.in_ok-write_piece.ensures in
-    (one_text piece_text _ _ _ pieces i _ c.loop-piece-test.true so.0 wrote.0, wrote.1 ∙ so.1)

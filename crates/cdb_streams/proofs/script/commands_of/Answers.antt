@@ -1,6 +1,6 @@
 use Rattle.std.proofs.Common.{◌≡◌, ◌<◌, rules, length, refl}
 use Rattle.cdb_text.specs.declared.fault.LineFault.TheVariants.{Empty}
-use Rattle.cdb_streams.proofs.LinesRead.{begun, one_line, bad_line, ended, not_empty}
+use Rattle.cdb_streams.proofs.LinesRead.{one_line, ended, not_empty}
 use Rattle.cdb_streams.proofs.script.commands_of.Goals as goal
 
 pub loop-rest-preserved : goal.loop-rest-preserved
@@ -16,14 +16,3 @@ pub returns-clause-commands : goal.returns-clause-commands
 returns-clause-commands c =
     let none : length c.loop-rest.rest.now ≡ 0 = search rules in
     ended c.args.script.now c.loop-rest.commands.items c.loop-rest.rest.now c.loop-rest.invariant none
-
-pub loop-rest-init : goal.loop-rest-init
-loop-rest-init c = rw c.in_ok-commands.ensures.items (begun c.args.script.now)
-
-pub returns-in-Err-clause-fault : goal.returns-in-Err-clause-fault
-returns-in-Err-clause-fault c =
-    let bad =
-    bad_line c.args.script.now c.loop-rest.commands.items c.loop-rest.rest.now c.first_line.result.0.now c.first_line.result.1.now
-    c.loop-rest.invariant c.first_line.ensures.lines c.in-Err.fault ((c.in-Err.ensures.fault c.in-Err.fault).0 refl) in
-    let number : c.len.result ≡ length c.loop-rest.commands.items = search rules in
-    (search rules, rw number bad)

@@ -1,29 +1,15 @@
 use Rattle.std.proofs.Common.{◌≢◌, length, sym, ap, subst, ◌∙◌, []}
-use Rattle.std.proofs.lemmas.Bool.{eqb-true, eqb-false}
-use Rattle.std.proofs.lemmas.List.{nil_from_length}
+use Rattle.std.proofs.lemmas.Bool.{eqb-false}
 use Rattle.std.proofs.lemmas.Result.{err_from_is_err_and}
 use Rattle.cdb_text.specs.Entries.{BeginWithNoSeat}
 use Rattle.cdb_text.specs.Grammar.{words_of}
 use Rattle.cdb_text.proofs.Cut.{some_word}
-use Rattle.cdb_text.proofs.Entries.{empty_is_none, empty_is_empty, no_seat_is_none, no_seat_is_no_number}
+use Rattle.cdb_text.proofs.Entries.{no_seat_is_no_number}
 use Rattle.cdb_text.proofs.Entries.{whole_entry, whole_has_no_fault, faulty_is_none, its_fault}
 use Rattle.cdb_text.proofs.entry.parse_entry.Goals as goal
 
-pub returns-then-is_empty-clause-entry : goal.returns-then-is_empty-clause-entry
-returns-then-is_empty-clause-entry c = empty_is_none c.args.line.now (nil_from_length _ (eqb-true (length c.args.line.now) 0 (sym c.if-is_empty.ensures)))
-
-pub returns-then-is_empty-clause-fault : goal.returns-then-is_empty-clause-fault
-returns-then-is_empty-clause-fault c = empty_is_empty c.args.line.now (nil_from_length _ (eqb-true (length c.args.line.now) 0 (sym c.if-is_empty.ensures)))
-
 pub seat-requires : goal.seat-requires
 seat-requires c = λ none. some_word c.args.line.now (sym c.of-words.ensures ∙ none)
-
-pub returns-in_err-seat-clause-entry : goal.returns-in_err-seat-clause-entry
-returns-in_err-seat-clause-entry c =
-    let p = err_from_is_err_and c.from_residual.result c.from_residual.ensures.1 in
-    let some : c.args.line.now ≢ [] = λ empty. eqb-false (length c.args.line.now) 0 (sym c.if-is_empty.ensures) (ap length empty) in
-    let no : BeginWithNoSeat (words_of c.args.line.now) = subst BeginWithNoSeat c.of-words.ensures c.in_err-seat.ensures.fault.1 in
-    rw (p.1, p.2, c.in_err-seat.ensures.fault.0) (no_seat_is_none c.args.line.now some no)
 
 pub returns-in_err-seat-clause-fault : goal.returns-in_err-seat-clause-fault
 returns-in_err-seat-clause-fault c =

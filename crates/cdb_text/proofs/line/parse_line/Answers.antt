@@ -1,17 +1,10 @@
 use Rattle.std.proofs.Common.{ap, sym, subst, length, ℕ, List, []}
-use Rattle.std.proofs.lemmas.Bool.{eqb-true, eqb-false}
-use Rattle.std.proofs.lemmas.List.{nil_from_length}
+use Rattle.std.proofs.lemmas.Bool.{eqb-false}
 use Rattle.std.specs.Prelude.{Ok}
 use Rattle.cdb_commands.specs.declared.command.Command.TheVariants.{Auto}
 use Rattle.cdb_text.specs.Readers.{IsReadAfter}
-use Rattle.cdb_text.proofs.Whole.{one_command, fault_of_line, empty_is_none, empty_is_empty}
+use Rattle.cdb_text.proofs.Whole.{one_command, fault_of_line}
 use Rattle.cdb_text.proofs.line.parse_line.Goals as goal
-
-pub returns-then-is_empty-clause-command : goal.returns-then-is_empty-clause-command
-returns-then-is_empty-clause-command c = empty_is_none c.args.line.now (nil_from_length _ (eqb-true (length c.args.line.now) 0 (sym c.if-is_empty.ensures)))
-
-pub returns-then-is_empty-clause-fault : goal.returns-then-is_empty-clause-fault
-returns-then-is_empty-clause-fault c = empty_is_empty c.args.line.now (nil_from_length _ (eqb-true (length c.args.line.now) 0 (sym c.if-is_empty.ensures)))
 
 pub returns-in-Some-clause-command : goal.returns-in-Some-clause-command
 returns-in-Some-clause-command c = λ command. one_command _ (Ok (Auto c.in-Some.p)) command c.in-Some.ensures

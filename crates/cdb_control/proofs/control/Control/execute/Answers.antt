@@ -1,12 +1,12 @@
-use Rattle.std.proofs.Common.{ℕ, ◌+◌, ◌-◌, ◌<◌, ◌≤◌, arith, ap, ◌∙◌, sym, subst, List, [], ◌∷◌, ◌++◌, length, vec_len, vec_capacity, inl, inr, true≢false}
+use Rattle.std.proofs.Common.{ℕ, ◌+◌, ◌-◌, ◌<◌, ◌≤◌, arith, ap, ◌∙◌, sym, subst, List, [], ◌∷◌, ◌++◌, length, vec_len, vec_capacity}
 use Rattle.std.proofs.lemmas.List.{length-map}
-use Rattle.cdb_commands.specs.ReplyView.{reply_view, is_refused}
+use Rattle.cdb_commands.specs.ReplyView.{reply_view}
 use Rattle.cdb_control.specs.declared.control.Entry.{Entry}
 use Rattle.cdb_control.specs.Commands.{Outcome, reply_of, outcome}
 use Rattle.cdb_control.specs.Headline.{Headline}
 use Rattle.cdb_control.specs.Journal.{Journaled, entry, extended, reply_in}
 use Rattle.cdb_control.specs.Kept.{IsReplayed, HoldsRooms, rooms_at}
-use Rattle.cdb_control.specs.Room.{cost, lowered, room_of}
+use Rattle.cdb_control.specs.Room.{cost, lowered}
 use Rattle.cdb_control.specs.State.{State}
 use Rattle.cdb_control.proofs.Along.{obey-setup, IsReplayed-next}
 use Rattle.cdb_control.proofs.Headline.{replayed-headline}
@@ -87,9 +87,6 @@ returns-clause-journal g c =
     (λ j. let v : Journaled = record { setup = same j; seats = i.seats; journal = added j; rooms = rooms j } in v)
     ∙ ap (λ (v : Journaled). extended g.R.Runs.rules v seat c.args.command) c.self.view_is
 
-pub returns-clause-spared : goal.returns-clause-spared
-returns-clause-spared g c = λ needs refused same. cc
-
 pub invariant_of-self-in-Err : goal.invariant_of-self-in-Err
 invariant_of-self-in-Err g c =
     let rules = g.R.Runs.rules in
@@ -131,33 +128,6 @@ returns-clause-headline g c =
     let next = c.perform.new.self.state in
     replayed-headline run.rules run.same_state laws.lawful laws.histories next.setup
     c.self.inside.seats c.push_entry.new.journal.items next (invariant_of-self-2 g c).0
-
-pub returns-in-Err-clause-spared : goal.returns-in-Err-clause-spared
-returns-in-Err-clause-spared g c = λ needs refused same.
-    let i = c.self.inside in
-    let rules = g.R.Runs.rules in
-    let seat = c.args.seat in
-    let command = c.args.command in
-    let some : 0 < room_of (rooms_at (vec_len i.journal) i.room_ends.items) seat =
-    subst (λ (v : Journaled). 0 < room_of v.rooms seat) (sym c.self.view_is) needs.0 in
-    let events_kept = c.self.invariant.1.lists (seat - 1) some in
-    let as_shown =
-    ap (λ (t : State). is_refused (reply_of (rules i.state.state.setup) t seat command)) (sym c.self.invariant.0.replayed)
-    ∙ ap (λ (v : Journaled). is_refused (reply_in rules v seat command)) c.self.view_is in
-    elim needs.1 [
-      | inl spared ↦ absurd (let impossible = c.in-Err.ensures.spared spared (omega (arith, some, events_kept)) in cc)
-      | inr refused ↦ absurd (true≢false (sym refused ∙ sym as_shown ∙ c.in-Err.ensures.memory))
-    ]
-
-pub lower-requires-clause-to_last : goal.lower-requires-clause-to_last
-lower-requires-clause-to_last g c =
-    let i = c.self.inside in
-    let many = length-map i.room_ends.items (λ room_end. room_end - vec_len i.journal) in
-    let high = ap (λ (v : Journaled). v.seats) c.self.view_is in
-    let to_last = c.requires.to_last in
-    let lists = c.self.invariant.0.lists in
-    let seats = c.self.invariant.1.seats in
-    omega (arith, many, high, to_last, lists, seats)
 
 pub returns-clause-reply : goal.returns-clause-reply
 returns-clause-reply g c =

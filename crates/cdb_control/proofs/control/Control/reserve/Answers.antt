@@ -1,6 +1,6 @@
 use Rattle.std.proofs.Common.{ℕ, ◌+◌, ◌-◌, ◌<◌, arith, ap, ◌∙◌, sym, subst, max, length, List, vec_len, vec_capacity}
 use Rattle.std.proofs.lemmas.List.{length-map}
-use Rattle.cdb_control.proofs.Room.{HoldsRooms-kept, HoldsRooms-raised, rooms-raised}
+use Rattle.cdb_control.proofs.Room.{HoldsRooms-raised, rooms-raised}
 use Rattle.cdb_control.specs.Journal.{Journaled}
 use Rattle.cdb_control.specs.Kept.{IsReplayed, HoldsRooms, rooms_at}
 use Rattle.cdb_control.specs.Room.{raised, room_of, with_room}
@@ -67,30 +67,3 @@ returns-clause-ok g c =
     let items = c.reserve.ensures.items in
     (λ j. let v : Journaled = record { setup = (state j).setup; seats = i.seats; journal = items j; rooms = rooms j } in v)
     ∙ ap (λ (v : Journaled). let w : Journaled = record v { rooms = raised v.rooms seat count } in w) c.self.view_is
-
-pub invariant_of-self-in_err-reserve-2 : goal.invariant_of-self-in_err-reserve-2
-invariant_of-self-in_err-reserve-2 g c =
-    let i = c.self.inside in
-    let was = c.self.invariant in
-    let next = c.reserve-2.new.self in
-    let grown = c.reserve.new.self in
-    let rooms = rooms_at (vec_len i.journal) i.room_ends.items in
-    let same = c.in_err-reserve-2.ensures.state in
-    let room =
-    HoldsRooms-kept (vec_len i.journal) (vec_capacity i.journal) (vec_capacity grown) rooms
-    i.state next was.1 c.reserve.ensures.capacity same c.reserve-2.ensures.capacities in (
-      subst (λ (t : State). IsReplayed (g.R.Runs.rules t.setup) t.setup i.seats grown.items t) (sym same)
-          (subst (λ (l : List Entry). IsReplayed (g.R.Runs.rules i.state.state.setup) i.state.state.setup i.seats l i.state.state)
-          (sym c.reserve.ensures.items) was.0),
-      subst (λ (m : ℕ). HoldsRooms m (vec_capacity grown) (rooms_at m i.room_ends.items) next) (sym c.reserve.ensures.len) room,
-    )
-
-pub raise-requires-clause-to_last : goal.raise-requires-clause-to_last
-raise-requires-clause-to_last g c =
-    let i = c.self.inside in
-    let many = length-map i.room_ends.items (λ room_end. room_end - vec_len i.journal) in
-    let high = ap (λ (v : Journaled). v.seats) c.self.view_is in
-    let to_last = c.requires.to_last in
-    let lists = c.self.invariant.0.lists in
-    let seats = c.self.invariant.1.seats in
-    omega (arith, many, high, to_last, lists, seats)

@@ -1,10 +1,10 @@
-use Rattle.std.proofs.Common.{arith, ◌-◌, ap, ◌∙◌, sym, subst, [], List, map, set}
+use Rattle.std.proofs.Common.{arith, ◌-◌, ap, ◌∙◌, sym, subst, [], List, set}
 use Rattle.std.specs.List.{AllByRecursion}
 use Rattle.cdb_base.specs.Positions.{without_last}
 use Rattle.cdb_base.specs.declared.event.Event.{Event}
 use Rattle.cdb_rules.proofs.Alls.{all-get_or, all-slice_get}
 use Rattle.cdb_control.proofs.Room.{swap}
-use Rattle.cdb_control.proofs.Steps.{redone-as, redo_none, redo_refused-as, taken_in}
+use Rattle.cdb_control.proofs.Steps.{redone-as}
 use Rattle.cdb_control.specs.Commands.{decides}
 use Rattle.cdb_control.specs.Room.{StoredState, StoredList}
 use Rattle.cdb_control.specs.State.{State, redo_of, last_of}
@@ -70,35 +70,3 @@ returns-in-Ok-clause-capacities g c =
     (ap (λ (v : StoredState). v.capacities) c.self.view_is) c.requires.from_one c.requires.to_last c.index_mut.ensures.value in
     let same = ap (λ (l : StoredList). l.capacity) c.drop_last.ensures in
     w.grown (omega (arith, same))
-
-pub returns-in_default-clause-ok : goal.returns-in_default-clause-ok
-returns-in_default-clause-ok g c =
-    let now = c.args.self.now in
-    let w =
-    swap now c.self.inside.redo.items c.args.seat c.index.result.now c.index.result.now (ap (λ (v : StoredState). v.state.redo) c.self.view_is)
-    (ap (λ (v : StoredState). v.capacities) c.self.view_is) c.requires.from_one c.requires.to_last c.index.ensures in
-    rw c.refused.ensures (redo_none (g.R.Runs.rules now.state.setup) now.state c.args.seat (c.in_default.ensures ∙ ap last_of (sym w.at)))
-
-pub returns-in-Err-clause-ok : goal.returns-in-Err-clause-ok
-returns-in-Err-clause-ok g c =
-    let now = c.args.self.now in
-    let w =
-    swap now c.self.inside.redo.items c.args.seat c.index.result.now c.index.result.now (ap (λ (v : StoredState). v.state.redo) c.self.view_is)
-    (ap (λ (v : StoredState). v.capacities) c.self.view_is) c.requires.from_one c.requires.to_last c.index.ensures in
-    let r = c.in_ok-event.field-0 in
-    let did = c.in_ok-event.ensures in
-    let last = c.in-Some.ensures ∙ ap last_of (sym w.at) in
-    let returned = did.returns ∙ ap (λ (v : StoredState). (g.R.Runs.rules v.state.setup).again v.state.history c.in-Some.undone) c.self.view_is in
-    let after =
-    (λ j. let u : State = record {
-      setup = (did.after j).setup;
-      history = (did.after j).history;
-      stops = c.self.inside.breakpoints.stops;
-      next =
-          c.self.inside.breakpoints.next;
-      pause = c.self.inside.pause;
-      redo = map (λ (l : StoredList). l.events) c.self.inside.redo.items;
-    } in u)
-    ∙ ap (λ (v : StoredState). taken_in v.state r) c.self.view_is in
-    rw c.refused-in-Err.ensures
-    (redo_refused-as (g.R.Runs.rules now.state.setup) now.state _ c.args.seat c.in-Some.undone r c.in-Err.refusal last returned after c.in-Err.is)

@@ -1,9 +1,6 @@
-use Rattle.std.proofs.Common.{◌≡◌, false, length, refl, subst, IsOk, ◌-◌, ap, ◌∙◌, sym, List, set, map}
+use Rattle.std.proofs.Common.{◌-◌, ap, ◌∙◌, sym, List, set, map}
 use Rattle.cdb_base.specs.declared.event.Event.{Event}
-use Rattle.cdb_commands.specs.ReplyView.{is_refused}
-use Rattle.cdb_commands.specs.ReplyView as reply
-use Rattle.cdb_control.specs.Commands.{rollback, undone_by}
-use Rattle.cdb_control.proofs.Steps.{on_error, unchanged, rolled_back-as, rollback_refused-as, granted_goes_on, alone_ok}
+use Rattle.cdb_control.proofs.Steps.{on_error, unchanged, rolled_back-as, rollback_refused-as}
 use Rattle.cdb_control.proofs.Room.{swap}
 use Rattle.cdb_rules.specs.EventRefs.{name_given}
 use Rattle.cdb_control.specs.Room.{StoredState, StoredList}
@@ -87,16 +84,3 @@ returns-in_err-count-clause-capacities g c =
     swap now c.self.inside.redo.items c.args.seat c.index_mut-list.result.now c.rollback.new.self (ap (λ (v : StoredState). v.state.redo) c.self.view_is)
     (ap (λ (v : StoredState). v.capacities) c.self.view_is) c.requires.from_one c.requires.to_last c.index_mut-list.ensures.value in
     w.grown c.rollback.ensures.capacity
-
-pub returns-in_err-count-clause-memory : goal.returns-in_err-count-clause-memory
-returns-in_err-count-clause-memory g c =
-    let now = c.args.self.now in
-    let name = name_given c.args.event in
-    let removed = rollback_of now.state.setup.processes now.state.history name in
-    let taken : is_refused (rollback now.state c.args.seat name).reply ≡ false =
-    granted_goes_on removed now.state
-    (λ (done : List Event × List Event). record { reply = reply.RolledBack (length done.0); after = undone_by now.state c.args.seat done.0 done.1 })
-    (alone_ok removed (subst (λ (v : StoredState). IsOk (result_alone (rollback_of v.state.setup.processes v.state.history name)))
-    c.self.view_is c.in_err-count.ensures.rolled_back.memory))
-    (λ done. refl) in
-    on_error c.from_residual.result taken

@@ -1,9 +1,6 @@
-use Rattle.std.proofs.Common.{◌≡◌, false, [], ◌∷◌, refl, subst, IsOk, arith, ◌-◌, ap, ◌∙◌, sym, length, List, set, map}
+use Rattle.std.proofs.Common.{◌-◌, ap, ◌∙◌, sym, List, set, map}
 use Rattle.cdb_base.specs.declared.event.Event.{Event}
-use Rattle.cdb_commands.specs.ReplyView.{is_refused}
-use Rattle.cdb_commands.specs.ReplyView as reply
-use Rattle.cdb_control.specs.Commands.{undo, undone_by}
-use Rattle.cdb_control.proofs.Steps.{on_error, unchanged, undone-as, undo_refused-as, granted_goes_on, alone_ok}
+use Rattle.cdb_control.proofs.Steps.{on_error, unchanged, undone-as, undo_refused-as}
 use Rattle.cdb_control.proofs.Room.{swap}
 use Rattle.cdb_rules.specs.EventRefs.{name_given}
 use Rattle.cdb_control.specs.Room.{StoredState, StoredList}
@@ -53,23 +50,6 @@ returns-clause-capacities g c =
     (ap (λ (v : StoredState). v.capacities) c.self.view_is) c.requires.from_one c.requires.to_last c.index_mut-list.ensures.value in
     w.grown c.undo.ensures.capacity
 
-pub returns-clause-spared : goal.returns-clause-spared
-returns-clause-spared g c =
-    elim c.match-branch-2.branch [
-      | in-Ok w ↦ rw w.result-is (λ more. refl)
-      | in-Err w ↦ rw w.result-is (rw w.refused.ensures (λ more. refl))
-    ]
-
-pub returns-in_err-event-clause-spared : goal.returns-in_err-event-clause-spared
-returns-in_err-event-clause-spared g c = λ more.
-    let now = c.args.self.now in
-    let w =
-    swap now c.self.inside.redo.items c.args.seat c.index_mut-list.result.now c.undo.new.self (ap (λ (v : StoredState). v.state.redo) c.self.view_is)
-    (ap (λ (v : StoredState). v.capacities) c.self.view_is) c.requires.from_one c.requires.to_last c.index_mut-list.ensures.value in
-    let long = ap (λ (l : List Event). length l) w.at in
-    let position = w.position in
-    absurd (let impossible = c.in_err-event.ensures.spared (omega (arith, long, position, more)) in cc)
-
 pub returns-in_err-event-clause-err : goal.returns-in_err-event-clause-err
 returns-in_err-event-clause-err g c =
     let now = c.args.self.now in
@@ -100,16 +80,3 @@ returns-in_err-event-clause-capacities g c =
     swap now c.self.inside.redo.items c.args.seat c.index_mut-list.result.now c.undo.new.self (ap (λ (v : StoredState). v.state.redo) c.self.view_is)
     (ap (λ (v : StoredState). v.capacities) c.self.view_is) c.requires.from_one c.requires.to_last c.index_mut-list.ensures.value in
     w.grown c.undo.ensures.capacity
-
-pub returns-in_err-event-clause-memory : goal.returns-in_err-event-clause-memory
-returns-in_err-event-clause-memory g c =
-    let now = c.args.self.now in
-    let name = name_given c.args.event in
-    let undone = undo_of now.state.setup.processes now.state.history name in
-    let taken : is_refused (undo now.state c.args.seat name).reply ≡ false =
-    granted_goes_on undone now.state
-    (λ (done : Event × List Event). record { reply = reply.Undone done.0; after = undone_by now.state c.args.seat (done.0 ∷ []) done.1 })
-    (alone_ok undone
-    (subst (λ (v : StoredState). IsOk (result_alone (undo_of v.state.setup.processes v.state.history name))) c.self.view_is c.in_err-event.ensures.memory))
-    (λ done. refl) in
-    on_error c.from_residual.result taken

@@ -1,4 +1,4 @@
-use Rattle.std.proofs.Common.{◌≡◌, ◌∙◌, [], length, replicate, ap, sym, arith}
+use Rattle.std.proofs.Common.{◌∙◌, [], length, ap, sym, arith}
 use Rattle.std.proofs.lemmas.List.{length-replicate}
 use Rattle.std.specs.FinSet as set
 use Rattle.cdb_message.proofs.mail.Mail.new.Goals as goal
@@ -11,15 +11,3 @@ invariant_of-result c =
       omega (arith, sent),
       λ p s m from is. absurd (c.new-passed.ensures p s m from is),
     )
-
-pub loop-init : goal.loop-init
-loop-init c = (c.new-sent.ensures.items, c.new-received.ensures.items)
-
-pub returns : goal.returns
-returns c =
-    let all : c.loop.counter ≡ c.args.n = omega arith in
-    λ j. record {
-      sent = (c.loop.invariant.0 ∙ ap (λ k. replicate k []) all) j;
-      received = (c.loop.invariant.1 ∙ ap (λ k. replicate k set.empty) all) j;
-      lost = c.new-lost.ensures j;
-    }

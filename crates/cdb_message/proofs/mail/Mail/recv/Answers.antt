@@ -1,5 +1,4 @@
 use Rattle.std.proofs.Common.{length-set, sym, ◌∙◌}
-use Rattle.std.proofs.lemmas.Result.{err_from_is_err_and}
 use Rattle.std.specs.FinSet as finite
 use Rattle.cdb_message.specs.Mail.{MailState}
 use Rattle.cdb_message.proofs.Changed.{changed_at, kept_at}
@@ -8,11 +7,6 @@ use Rattle.cdb_message.proofs.mail.Mail.recv.Goals as goal
 
 pub invariant_of-self : goal.invariant_of-self
 invariant_of-self c = rw (kept_at c.self.inside.received.items c.index.result c.in_err-insert.ensures.err c.index_mut-names.ensures.value) c.self.invariant
-
-pub returns-in_err-insert-clause-err : goal.returns-in_err-insert-clause-err
-returns-in_err-insert-clause-err c =
-    let same = kept_at c.self.inside.received.items c.index.result c.in_err-insert.ensures.err c.index_mut-names.ensures.value in
-    rw ((err_from_is_err_and c.from_residual.result c.from_residual.ensures.1).1, same) c.self.view_is
 
 pub invariant_of-self-2 : goal.invariant_of-self-2
 invariant_of-self-2 c =

@@ -1,22 +1,12 @@
-use Rattle.std.proofs.Common.{rules, ◌≡◌, ◌<◌, ◌≤◌, length, false, Result, Ok, Err, ap, ◌∙◌, sym, subst, refl, IfOk, arith}
+use Rattle.std.proofs.Common.{rules, ◌≡◌, ◌<◌, ◌≤◌, length, Result, Ok, Err, ap, ◌∙◌, sym, subst, refl, IfOk, arith}
 use Rattle.std.proofs.lemmas.Grind.{common_steps}
 use Rattle.cdb_rules.specs.RunView.{RunView}
 use Rattle.cdb_rules.specs.Runs.{IsNext, result_of_step}
 use Rattle.cdb_rules.specs.Machines.{machine_of}
-use Rattle.cdb_rules.specs.Step.{is_among}
 use Rattle.cdb_rules.proofs.Granted.{IsLawful}
 use Rattle.cdb_run.proofs.AtStart.{machine_each}
-use Rattle.cdb_run.proofs.Views.{index_below, receives_shown, queries_shown, plan_shown, plan_absent, result_enabled}
+use Rattle.cdb_run.proofs.Views.{index_below, receives_shown, queries_shown, plan_shown, result_enabled}
 use Rattle.cdb_run.proofs.run.Run.plan.Goals as goal
-
-pub returns-in_default-clause-returns : goal.returns-in_default-clause-returns
-returns-in_default-clause-returns g c =
-    let process = g.P.Process in
-    let setup = c.self.inside.setup in
-    let number = machine_each process.table setup c.n-ranges.ensures.ranges in
-    let none = subst (λ (s : RunView). is_among s.setup.processes c.args.p ≡ false) (sym c.self.view_is) c.in_default.ensures.number in
-    plan_absent c.self.invariant setup.processes number c.args.p setup c.args.act none
-    ∙ ap (λ (s : RunView). result_of_step process.table s c.args.p c.args.act) c.self.view_is
 
 pub index-progress-requires : goal.index-progress-requires
 index-progress-requires g c =

@@ -45,22 +45,6 @@ plan_again-requires-clause-steps g c =
     let last = (subst (IsOfRun setup) c.in-Step.is of_run).0 in
     steps_shown c.self.invariant setup.processes number c.index.result p c.index-progress.result.now c.index.ensures.value last c.index-progress.ensures
 
-pub plan_loss_again-requires-clause-loses : goal.plan_loss_again-requires-clause-loses
-plan_loss_again-requires-clause-loses g c =
-    let process = g.P.Process in
-    let setup = c.self.inside.setup in
-    let number = machine_each process.table setup c.n-ranges.ensures.ranges in
-    let of_run = subst (λ (s : RunView). IsOfRun s.setup c.args.event.now) (sym c.self.view_is) c.requires in
-    (subst (IsOfRun setup) c.in-Lost.is of_run).0
-
-pub plan_loss_again-requires-clause-among : goal.plan_loss_again-requires-clause-among
-plan_loss_again-requires-clause-among g c =
-    let process = g.P.Process in
-    let setup = c.self.inside.setup in
-    let number = machine_each process.table setup c.n-ranges.ensures.ranges in
-    let of_run = subst (λ (s : RunView). IsOfRun s.setup c.args.event.now) (sym c.self.view_is) c.requires in
-    (subst (IsOfRun setup) c.in-Lost.is of_run).1
-
 pub plan_loss_again-requires-clause-receivers : goal.plan_loss_again-requires-clause-receivers
 plan_loss_again-requires-clause-receivers g c =
     let process = g.P.Process in
@@ -144,11 +128,3 @@ returns-in-Lost-clause-taken g c =
     IsOk c.plan_loss_again.result ↔ IsSome (after machine (state_of machine s.history) c.args.event.now)) c.self.view_is
     (again_exact machine lawful setup number refl (state_of machine (events_of c.self.inside.records)) c.args.event.now of_run c.plan_loss_again.result
     (returned ∙ ap (λ (s : RunView). result_of_again process.table s c.args.event.now) (sym c.self.view_is)))
-
-pub returns-in-Lost-clause-same : goal.returns-in-Lost-clause-same
-returns-in-Lost-clause-same g c =
-    let process = g.P.Process in
-    let setup = c.args.self.now.setup in
-    let machine = machine_of process.table setup in
-    subst (λ returned. IfOk returned (λ taken. taken ≡ c.args.event.now)) (sym (returns-in-Lost-clause-returns g c))
-    (again_same machine setup (state_of machine c.args.self.now.history) c.args.event.now)

@@ -2,27 +2,14 @@ use Rattle.std.proofs.Common.{sym, ◌∙◌}
 use Rattle.cdb_message.specs.Mail.{next_pending}
 use Rattle.std.specs.Prelude.{None}
 use Rattle.cdb_rules.specs.Runs.{mail_in, result_of_step}
-use Rattle.cdb_run.proofs.FirstStep.{then_idle, learns, receives, goes, asks}
+use Rattle.cdb_run.proofs.FirstStep.{then_idle, receives, asks}
 use Rattle.cdb_run.proofs.run.Run.plan_first.Goals as goal
-
-pub returns-in-Some-clause-returns : goal.returns-in-Some-clause-returns
-returns-in-Some-clause-returns g c =
-    let table = g.P.Process.table in
-    sym (learns (result_of_step table c.args.self.now c.args.p)
-    (next_pending (mail_in table c.args.self.now) c.args.p None) c.in-Some.event (sym c.in-Some.ensures.learnt))
 
 pub returns-in-Some-plan_receive-clause-returns : goal.returns-in-Some-plan_receive-clause-returns
 returns-in-Some-plan_receive-clause-returns g c =
     let table = g.P.Process.table in
     sym (receives (result_of_step table c.args.self.now c.args.p) (sym c.plan_learn.ensures.learnt ∙ c.in_default.is)
     (next_pending (mail_in table c.args.self.now) c.args.p None) c.in-Some-plan_receive.event (sym c.in-Some-plan_receive.ensures.received))
-
-pub returns-in-Ok-clause-returns : goal.returns-in-Ok-clause-returns
-returns-in-Ok-clause-returns g c =
-    let table = g.P.Process.table in
-    sym (goes (result_of_step table c.args.self.now c.args.p) (sym c.plan_learn.ensures.learnt ∙ c.in_default.is)
-    (next_pending (mail_in table c.args.self.now) c.args.p None) c.in-Ok.event
-    (sym c.plan_receive.ensures.received ∙ c.in_default-plan_receive.is) (sym c.in-Ok.ensures.returns))
 
 pub returns-in-Ok-plan-clause-returns : goal.returns-in-Ok-plan-clause-returns
 returns-in-Ok-plan-clause-returns g c =

@@ -1,4 +1,4 @@
-use Rattle.std.proofs.Common.{List, [], ◌∷◌, ◌≡◌, ℕ, length, length-append, refl, sym, ap, ◌∙◌, subst, arith}
+use Rattle.std.proofs.Common.{List, [], ◌∷◌, ◌≡◌, ℕ, length, length-append, sym, ap, ◌∙◌, subst, arith}
 use Rattle.std.proofs.lemmas.Result.{err_from_is_err_and}
 use Rattle.cdb_base.specs.declared.event.Event.{Event}
 use Rattle.cdb_causal.specs.Dependence.{depends}
@@ -6,27 +6,8 @@ use Rattle.cdb_causal.specs.Names.{IsNamedAt}
 use Rattle.cdb_causal.specs.Rollback.{without, rolled_back}
 use Rattle.cdb_setup.specs.Parts.{AreInRange}
 use Rattle.cdb_run.proofs.Found.{rollback_granted, number_result, list_result, after_result}
-use Rattle.cdb_run.proofs.RollingBack.{AreLeft, all_left, next_free, none_left, all_went}
+use Rattle.cdb_run.proofs.RollingBack.{AreLeft, next_free, none_left, all_went}
 use Rattle.cdb_run.proofs.run.Run.roll_back.Goals as goal
-
-pub loop-event-init : goal.loop-event-init
-loop-event-init g c =
-    let history = c.args.self.now.history in
-    let into = c.args.removed.now.items in
-    let found = c.in_ok-events.events.items in
-    let are = subst (λ h. (at : ℕ) → IsNamedAt h at c.args.name → found ≡ rolled_back depends h at) c.history.ensures.events c.in_ok-events.ensures in
-    let made = c.in_ok-reserve.ensures in
-    let number = c.len-number.ensures in
-    let long = c.in_ok-events.events.ok.0 in
-    let enough = made.ok in
-    record {
-      setup = refl;
-      left = λ at named.
-          subst (λ (removed : List Event). AreLeft history at into history found removed) (sym made.items)
-          (all_left history at into named.0 named.1 found (are at named));
-      kept = made.capacity;
-      room = omega (arith, enough, number, long);
-    }
 
 pub restore-requires : goal.restore-requires
 restore-requires g c =
@@ -64,12 +45,6 @@ loop-event-preserved g c =
       room = omega (arith, longer, same_room, fewer, room, length-append rest (event ∷ []));
     }
 
-pub push_reserved-requires : goal.push_reserved-requires
-push_reserved-requires g c =
-    let room = c.loop-event.invariant.room in
-    let fewer = ap (λ (l : List Event). length l) c.in-Some.ensures.items in
-    omega (arith, room, fewer, length-append c.pop.new.self.items (c.in-Some.event ∷ []))
-
 pub returns-clause-number : goal.returns-clause-number
 returns-clause-number g c =
     let run = c.args.self.now in
@@ -98,9 +73,6 @@ returns-clause-list g c =
     list_result g.P.Process.table c.args.self.now ranges c.history.ensures.valid c.args.name stands.0 stands.1 c.args.removed.now.items
     c.loop-event.removed.items
     (all_went c.loop-event.events.items c.loop-event.events.ok.0 c.in_default.ensures.cases.0 (c.loop-event.invariant.left stands.0 stands.1))
-
-pub returns-clause-capacity : goal.returns-clause-capacity
-returns-clause-capacity g c = c.loop-event.invariant.kept
 
 pub returns-in_err-events-clause-memory : goal.returns-in_err-events-clause-memory
 returns-in_err-events-clause-memory g c =

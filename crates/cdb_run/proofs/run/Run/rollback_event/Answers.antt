@@ -1,31 +1,12 @@
-use Rattle.std.proofs.Common.{IsOk, sym, ap, ◌∙◌, subst}
-use Rattle.std.proofs.lemmas.Result.{err_from_is_err_and}
+use Rattle.std.proofs.Common.{ap, ◌∙◌, subst}
 use Rattle.cdb_base.specs.declared.name.StepId.{StepId}
 use Rattle.cdb_rules.specs.EventRefs.{name_given}
-use Rattle.cdb_rules.specs.Runs.{with_left, result_of_rollback, after_rollback}
-use Rattle.cdb_rules.specs.Undo.{number_removed, result_alone, with_removed}
+use Rattle.cdb_rules.specs.Runs.{result_of_rollback, after_rollback}
+use Rattle.cdb_rules.specs.Undo.{number_removed, with_removed}
 use Rattle.cdb_rules.proofs.OfRun.{removed_of_run}
 use Rattle.cdb_setup.specs.Parts.{AreInRange}
-use Rattle.cdb_run.proofs.Found.{not_rolled_back, left_exact, leads_back}
+use Rattle.cdb_run.proofs.Found.{left_exact, leads_back}
 use Rattle.cdb_run.proofs.run.Run.rollback_event.Goals as goal
-
-pub returns-in_err-roll_back-in-Ok-clause-rolled_back : goal.returns-in_err-roll_back-in-Ok-clause-rolled_back
-returns-in_err-roll_back-in-Ok-clause-rolled_back g c =
-    let did = c.in_err-roll_back-in-Ok.ensures in
-    rw (err_from_is_err_and c.from_residual.result c.from_residual.ensures.1).1 (record {
-      returns = tt;
-      after = tt;
-      list = tt;
-      err = did.err;
-      list_err = did.list_err;
-      memory = subst (λ (name : StepId). IsOk (result_of_rollback c.args.self.now name)) c.in-Ok.ensures.0 did.memory;
-    })
-
-pub returns-in_err-roll_back-in-Ok-clause-exact : goal.returns-in_err-roll_back-in-Ok-clause-exact
-returns-in_err-roll_back-in-Ok-clause-exact g c = rw (err_from_is_err_and c.from_residual.result c.from_residual.ensures.1).1 tt
-
-pub returns-in_err-roll_back-in-Ok-clause-again : goal.returns-in_err-roll_back-in-Ok-clause-again
-returns-in_err-roll_back-in-Ok-clause-again g c = rw (err_from_is_err_and c.from_residual.result c.from_residual.ensures.1).1 tt
 
 pub returns-in_ok-roll_back-in-Ok-clause-rolled_back : goal.returns-in_ok-roll_back-in-Ok-clause-rolled_back
 returns-in_ok-roll_back-in-Ok-clause-rolled_back g c =
@@ -51,28 +32,6 @@ returns-in_ok-roll_back-in-Ok-clause-again g c =
     (subst AreInRange c.setup.ensures c.n-ranges.ensures.ranges)
     c.history-valid.ensures.valid
 
-pub returns-in-Err-clause-rolled_back : goal.returns-in-Err-clause-rolled_back
-returns-in-Err-clause-rolled_back g c =
-    let run = c.args.self.now in
-    let refused = not_rolled_back run (name_given c.args.event) c.in-Err.refusal c.in-Err.ensures in
-    record {
-      returns = sym (ap (λ a. number_removed (result_alone a)) refused);
-      after = sym (ap (with_left run) refused);
-      list = sym (ap (λ a. with_removed c.args.removed.now.items (result_alone a)) refused);
-      err = tt;
-      list_err = tt;
-      memory = tt;
-    }
-
-pub returns-in-Err-clause-exact : goal.returns-in-Err-clause-exact
-returns-in-Err-clause-exact g c = left_exact c.args.self.now c.args.self.now (name_given c.args.event) (returns-in-Err-clause-rolled_back g c).after
-
-pub returns-in-Err-clause-again : goal.returns-in-Err-clause-again
-returns-in-Err-clause-again g c =
-    leads_back c.args.self.now c.args.self.now (name_given c.args.event) (returns-in-Err-clause-rolled_back g c).after g.P.Process.table
-    (subst AreInRange c.setup.ensures c.n-ranges.ensures.ranges)
-    c.history-valid.ensures.valid
-
 pub returns-in_err-roll_back-in-Ok-clause-of_run : goal.returns-in_err-roll_back-in-Ok-clause-of_run
 returns-in_err-roll_back-in-Ok-clause-of_run g c =
     removed_of_run g.P.Process.table c.args.self.now (subst AreInRange c.setup.ensures c.n-ranges.ensures.ranges) c.history-valid.ensures.valid
@@ -80,10 +39,5 @@ returns-in_err-roll_back-in-Ok-clause-of_run g c =
 
 pub returns-in_ok-roll_back-in-Ok-clause-of_run : goal.returns-in_ok-roll_back-in-Ok-clause-of_run
 returns-in_ok-roll_back-in-Ok-clause-of_run g c =
-    removed_of_run g.P.Process.table c.args.self.now (subst AreInRange c.setup.ensures c.n-ranges.ensures.ranges) c.history-valid.ensures.valid
-    (name_given c.args.event)
-
-pub returns-in-Err-clause-of_run : goal.returns-in-Err-clause-of_run
-returns-in-Err-clause-of_run g c =
     removed_of_run g.P.Process.table c.args.self.now (subst AreInRange c.setup.ensures c.n-ranges.ensures.ranges) c.history-valid.ensures.valid
     (name_given c.args.event)

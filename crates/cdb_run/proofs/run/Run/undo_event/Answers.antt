@@ -40,14 +40,6 @@ returns-clause-after g c =
     undo_leaves g.P.Process.table c.args.self.now ranges c.history-valid.ensures.valid (name_given c.args.event) free.0 free.1 c.restore.result
     c.restore.new.self c.restore.ensures.setup taken free.2
 
-pub returns-clause-free : goal.returns-clause-free
-returns-clause-free g c =
-    let table = g.P.Process.table in
-    let run = c.args.self.now in
-    let ranges = subst AreInRange c.setup.ensures c.n-ranges.ensures.ranges in
-    undo_ok_free (machine_of table run.setup) run.setup.processes (machine_each table run.setup ranges) run.history c.history-valid.ensures.valid
-    (name_given c.args.event) (Ok c.restore.result) (returns-clause-returns g c)
-
 pub returns-clause-back : goal.returns-clause-back
 returns-clause-back g c =
     let table = g.P.Process.table in

@@ -4,19 +4,6 @@ use Rattle.cdb_rules.proofs.Positions.{set_at}
 use Rattle.cdb_run.proofs.StepsTaken.{found_there}
 use Rattle.cdb_run.proofs.state.State.take_back.Goals as goal
 
-pub restore_change-requires-clause-countable : goal.restore_change-requires-clause-countable
-restore_change-requires-clause-countable g c =
-    let held =
-    found_there c.args.self.now.processes.items c.index.result c.args.p c.index_mut-progress.result.now
-    c.index.ensures.value c.requires.process c.index_mut-progress.ensures.value in
-    c.requires.may_take_back.countable c.index_mut-progress.result.now held
-
-pub restore_change-requires-clause-unpostable : goal.restore_change-requires-clause-unpostable
-restore_change-requires-clause-unpostable g c = c.requires.may_take_back.unpostable
-
-pub restore_change-requires-clause-restorable : goal.restore_change-requires-clause-restorable
-restore_change-requires-clause-restorable g c = c.requires.may_take_back.restorable
-
 pub returns : goal.returns
 returns g c =
     let processes = c.args.self.now.processes.items in

@@ -1,7 +1,7 @@
 use Rattle.cdb_base.specs.declared.event.Event.TheVariants.{Step}
 use Rattle.cdb_base.specs.declared.name.StepId.TheVariants as named
 use Rattle.cdb_standing.specs.Kept.{AreKept}
-use Rattle.cdb_standing.proofs.Counted.{some, one_event_less}
+use Rattle.cdb_standing.proofs.Counted.{one_event_less}
 use Rattle.cdb_standing.proofs.Undos.{has_some, has_listed, take_kept, take_history, was_last, last_left}
 use Rattle.cdb_standing.proofs.history.History.take_step.Goals as goal
 
@@ -39,6 +39,3 @@ returns c =
       was_last = rw (← c.self.view_is) (was_last c.self.invariant.kept c.args.k free entry.new.tables entry.ensures.taken);
       last = last_left c.self.invariant.kept c.args.k free entry.new.tables entry.ensures.taken kept;
     }
-
-pub overflow_sub-self : goal.overflow_sub-self
-overflow_sub-self c = let free = rw (← c.self.view_is) at c.requires in some c.self.invariant free.0 free.1.0 free.1.1

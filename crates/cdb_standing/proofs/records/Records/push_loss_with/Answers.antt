@@ -1,5 +1,5 @@
 use Rattle.cdb_standing.specs.Tables.{rows_in}
-use Rattle.cdb_standing.proofs.Beside.{history_seen, beside_loss, loss_recorded}
+use Rattle.cdb_standing.proofs.Beside.{history_seen, beside_loss}
 use Rattle.cdb_standing.proofs.records.Records.push_loss_with.Goals as goal
 
 pub push_loss_with-requires-clause-pending : goal.push_loss_with-requires-clause-pending
@@ -7,7 +7,3 @@ push_loss_with-requires-clause-pending g c = rw (history_seen (rows_in c.self.in
 
 pub invariant_of-self-2 : goal.invariant_of-self-2
 invariant_of-self-2 g c = rw c.in_ok-push_loss_with.ensures.added (beside_loss c.self.invariant c.args.copy)
-
-pub returns-clause-added : goal.returns-clause-added
-returns-clause-added g c =
-    rw (← c.self.view_is, c.in_ok-push_loss_with.ensures.added) (loss_recorded (rows_in c.self.inside.left.items) c.self.inside.history c.args.copy)

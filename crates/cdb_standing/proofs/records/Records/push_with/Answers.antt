@@ -9,9 +9,6 @@ push_step_with-requires-clause-next g c = rw (history_seen (rows_in c.self.insid
 pub push_step_with-requires-clause-may : goal.push_step_with-requires-clause-may
 push_step_with-requires-clause-may g c = rw (history_seen (rows_in c.self.inside.left.items) c.self.inside.history c.self.view_is) c.requires.may.1
 
-pub put_on-requires : goal.put_on-requires
-put_on-requires g c = c.in_ok-reserve_step_in.ensures.room
-
 pub invariant_of-self-2 : goal.invariant_of-self-2
 invariant_of-self-2 g c =
     let low = rows_in c.self.inside.left.items in

@@ -1,9 +1,9 @@
-use Rattle.std.proofs.Common.{◌≡◌, ◌∙◌, refl, sym, ap, subst, arith, List, ℕ, [], length, take, drop, ◌-◌, ◌++◌, take-append-drop}
+use Rattle.std.proofs.Common.{◌∙◌, refl, sym, ap, subst, arith, List, ℕ, [], length, take, drop, ◌-◌, ◌++◌, take-append-drop}
 use Rattle.std.proofs.lemmas.Result.{err_from_is_err_and}
-use Rattle.std.proofs.lemmas.List.{length-drop, length-take, take_all, take_rest}
+use Rattle.std.proofs.lemmas.List.{length-drop, length-take, take_rest}
 use Rattle.std.proofs.Math.Seq.{take-add}
 use Rattle.cdb_streams.specs.Buffers.{IsPut}
-use Rattle.cdb_streams.proofs.PiecesPut.{fails_after, put_more, put_nothing, stays}
+use Rattle.cdb_streams.proofs.PiecesPut.{fails_after, put_more, stays}
 use Rattle.cdb_streams.proofs.buffer.Buffer.put_in_pieces.Goals as goal
 
 pub returns-in_err-make_room-clause-err : goal.returns-in_err-make_room-clause-err
@@ -39,14 +39,3 @@ loop-done-preserved g c =
       within = omega (arith, c.fill-done.ensures.within, length-take (length bytes - done) (drop done bytes), length-drop done bytes);
       put = subst (IsPut stream old held new left) same all;
     }
-
-pub loop-done-init : goal.loop-done-init
-loop-done-init g c = record { within = omega arith; put = put_nothing g.W.Sink.stream _ _ }
-
-pub returns-clause-ok : goal.returns-clause-ok
-returns-clause-ok g c =
-    let bytes = c.args.bytes.now in
-    let done = c.loop-done.done in
-    let last = c.loop-done-test.false in
-    let whole : take done bytes ≡ bytes = take_all done bytes (search (last, arith)) in
-    subst (λ (text : List ℕ). IsPut g.W.Sink.stream c.args.out.now c.args.self.now c.loop-done.out c.loop-done.self text) whole c.loop-done.invariant.put

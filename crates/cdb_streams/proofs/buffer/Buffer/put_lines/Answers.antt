@@ -5,7 +5,7 @@ use Rattle.std.proofs.lemmas.Result.{err_from_is_err_and}
 use Rattle.cdb_streams.specs.Buffers.{IsPut}
 use Rattle.cdb_streams.specs.Streams.{Fails}
 use Rattle.cdb_streams.specs.declared.buffer.OutputFault.TheVariants.{Write}
-use Rattle.cdb_streams.proofs.PiecesPut.{put_item, cut_at_item, put_nothing}
+use Rattle.cdb_streams.proofs.PiecesPut.{put_item, cut_at_item}
 use Rattle.cdb_streams.proofs.buffer.Buffer.put_lines.Goals as goal
 
 pub returns-in_err-put_line : goal.returns-in_err-put_line
@@ -24,9 +24,6 @@ loop-line-preserved g c =
     put_item g.W.Sink.stream g.L.Line.text _ _ _ _ _ _ c.args.lines.now c.loop-line.line-index line c.loop-line-test.true c.loop-line.invariant
     (subst (λ shown. IsPut g.W.Sink.stream c.loop-line.out c.loop-line.self c.put_line.new.out c.put_line.new.self (g.L.Line.text shown))
     c.line-item.is c.in_ok-put_line.ensures.ok)
-
-pub loop-line-init : goal.loop-line-init
-loop-line-init g c = put_nothing g.W.Sink.stream _ _
 
 pub returns : goal.returns
 returns g c =

@@ -1,5 +1,0 @@
-use Rattle.cdb_streams.proofs.Held.{held}
-use Rattle.cdb_streams.proofs.buffer.Buffer.hold_line.Goals as goal
-
-pub returns : goal.returns
-returns g c = held _ _ _ _ _ _ _ _ c.write-self-inside.ensures c.as_mut_slice.ensures.value c.as_mut_slice.ensures.len c.self.view_is
