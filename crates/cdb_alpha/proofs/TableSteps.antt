@@ -1,10 +1,12 @@
 -- Each input that the table takes is one of the steps on which agreement rests.
+use Rattle.std.proofs.lemmas.Grind.{common_steps}
+use Rattle.std.proofs.lemmas.Option.{gets}
 use Rattle.std.specs.Prelude.{◌≡◌, ℕ, suc, ◌+◌, ◌<◌, ◌≤◌, Bool, true, false, ◌==◌, ◌||◌, nat_lt, nat_le, List}
 use Rattle.std.specs.Prelude.{[], ◌∷◌, ◌++◌, length, Option, Some, None, All, ◌⊎◌, refl, if◌then◌else◌}
 use Rattle.std.specs.List.{list_any}
 use Rattle.std.specs.Option.{unwrap_or, option_map}
 use Rattle.std.proofs.Common.{inl, inr, arith, sym, ◌∙◌, ap, subst, eqb-true, add-one}
-use Rattle.std.proofs.lemmas.Bool.{ltb-true, ltb-false, eqb-false}
+use Rattle.std.proofs.lemmas.Bool.{ltb-false, eqb-false}
 use Rattle.std.proofs.lemmas.Option.{same_Some}
 use Rattle.std.proofs.lemmas.List.Elements.{All-head, All-tail}
 use Rattle.cdb_base.specs.declared.register.Cell.{Cell}
@@ -153,12 +155,7 @@ module _ (own : ℕ → Cell) (dec : Option ℕ) (s : LocalState) (own_writes : 
 
   -- the register that is read is the next of the pass
   next_is : (x : Reg) → next_register s ≡ Some x → (x ≡ R (length s.seen + 1)) × (length s.seen < s.processes)
-  next_is x h = go (nat_lt (length s.seen) s.processes) refl h
-    where
-      go : (b : Bool) → nat_lt (length s.seen) s.processes ≡ b → (if b then Some (R (length s.seen + 1)) else None) ≡ Some x
-          → (x ≡ R (length s.seen + 1)) × (length s.seen < s.processes)
-      go true e k = (sym (same_Some _ x k), ltb-true (length s.seen) s.processes e)
-      go false e k = absurd (cc)
+  next_is x h1 = grind (arith, common_steps, gets)
 
   sees : (reading over : Place) (x : Reg) (c : Cell) (t : LocalState) → next_register s ≡ Some x → ReadsRegisters own dec (input.Read x c)
       → place_number over ≡ suc (place_number reading)

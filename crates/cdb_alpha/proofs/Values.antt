@@ -1,4 +1,7 @@
 -- The Alpha machine makes no value of its own.
+use Rattle.std.proofs.Common.{arith}
+use Rattle.std.proofs.lemmas.Grind.{common_steps}
+use Rattle.std.proofs.lemmas.Option.{gets}
 use Rattle.std.specs.Prelude.{◌≡◌, ℕ, ◌+◌, Bool, true, false, ◌==◌, ◌<◌, nat_le, List, [], ◌∷◌, ◌++◌, length, Option, Some, None, All, ◌⊎◌, refl, if◌then◌else◌}
 use Rattle.std.specs.Option.{unwrap_or}
 use Rattle.std.proofs.Common.{inl, inr, sym, ◌∙◌, ap, subst}
@@ -15,7 +18,7 @@ use Rattle.cdb_alpha.specs.Choice.{IsLatest}
 use Rattle.cdb_alpha.specs.LocalState.{LocalState, first_state}
 use Rattle.cdb_alpha.specs.Machine.{alpha_table}
 use Rattle.cdb_alpha.specs.Seen.{chosen_value, is_overtaken}
-use Rattle.cdb_alpha.specs.Table.{Row, asks, reads, writes, goes_on, rests, row_at, wish_by, next_state, next_round, judge}
+use Rattle.cdb_alpha.specs.Table.{Row, reads, writes, goes_on, row_at, wish_by, next_state, next_round, judge}
 use Rattle.cdb_alpha.specs.Table.{see_decision, entered, with_value, decision_cell, begin_pass, next_register, see}
 use Rattle.cdb_alpha.specs.Values.{HoldsValue, as_input, as_value, as_decision, in_own, in_cell}
 use Rattle.cdb_alpha.proofs.Choice.{chooses_the_latest_write}
@@ -138,36 +141,22 @@ taken : (s t : LocalState) (i : Input) → next_state s i ≡ Some t → (v : �
 taken s t i is = row_taken s s.place i t (leads (row_at s.place s) i t is)
 
 first : (me n given v : ℕ) → HoldsValue (first_state me n given) v → v ≡ given
-first me n given v (as_input is) = sym is
-first me n given v (as_value is) = sym is
-first me n given v (as_decision is) = absurd (cc)
-first me n given v (in_own is) = absurd (cc)
-first me n given v (in_cell c here is) = let none = contained_in [] c here in elim none [ ]
+first me n given v h1 = grind (arith, common_steps, gets)
 
 -- ---- what is written
 
 sends_none : (row : Row) → wished_payload (wish_by row) ≡ None
-sends_none (asks after) = refl
-sends_none (reads (Some r) after) = refl
-sends_none (reads None after) = refl
-sends_none (writes r c (Some t)) = refl
-sends_none (writes r c None) = refl
-sends_none (goes_on (Some t)) = refl
-sends_none (goes_on None) = refl
-sends_none rests = refl
+sends_none row = grind (arith, common_steps, gets)
 
 -- the cell that a row writes, where it writes one
 writes_due : (r : Reg) (d c : Cell) (after : Option LocalState) → wished_cell (wish_by (writes r d after)) ≡ Some c → d ≡ c
-writes_due r d c (Some t) is = some_is d c is
-writes_due r d c None is = absurd (cc)
+writes_due r d c after h1 = grind (arith, common_steps, gets)
 
 reads_none : (r : Option Reg) (after : Cell → LocalState) (c : Cell) → wished_cell (wish_by (reads r after)) ≡ Some c → ⊥
-reads_none (Some r) after c is = cc
-reads_none None after c is = cc
+reads_none r after c h1 = grind (arith, common_steps, gets)
 
 goes_none : (after : Option LocalState) (c : Cell) → wished_cell (wish_by (goes_on after)) ≡ Some c → ⊥
-goes_none (Some t) c is = cc
-goes_none None c is = cc
+goes_none after c h1 = grind (arith, common_steps, gets)
 
 cell_held : (p : Place) (s : LocalState) (c : Cell) (v : ℕ) → wished_cell (wish_by (row_at p s)) ≡ Some c → c.val ≡ Some v → HoldsValue s v
 cell_held A0 s c v is val = absurd (cc)

@@ -1,5 +1,7 @@
 -- The consequences of an event, parted from the list by the least set.
-use Rattle.std.proofs.Common.{◌≡◌, ℕ, zero, suc, ◌<◌, ◌≤◌, Bool, inl, inr, List, [], ◌∷◌, drop, refl, subst, arith, lt_irrefl}
+use Rattle.std.proofs.lemmas.Grind.{common_steps}
+use Rattle.std.proofs.lemmas.Option.{gets}
+use Rattle.std.proofs.Common.{◌≡◌, ℕ, zero, suc, ◌<◌, ◌≤◌, Bool, inl, inr, List, [], ◌∷◌, drop, subst, arith, lt_irrefl}
 use Rattle.cdb_causal.specs.Causality.{IsConsequence}
 use Rattle.cdb_causal.specs.Rollback.{IsParted, done, kept, gone, IsRolledBack, consequences, rolled_back}
 use Rattle.cdb_causal.proofs.Chains.{later_consequence, parted}
@@ -32,9 +34,7 @@ module _ {E : Type 0} (depends : E → E → Bool) (history : List E) (i : ℕ) 
 
 module _ {E : Type 0} (depends : E → E → Bool) where
   consequences_are : (history : List E) (i : ℕ) → drop 1 (rolled_back depends history (suc i)) ≡ consequences depends history (suc i)
-  consequences_are [] i = refl
-  consequences_are (x ∷ xs) zero = refl
-  consequences_are (x ∷ xs) (suc i) = consequences_are xs i
+  consequences_are history i = grind (arith, common_steps, gets)
 
   pub consequences_parted : (history : List E) (at : ℕ) → 1 ≤ at → IsPartedBut depends history at 1 history (consequences depends history at)
   consequences_parted history zero from_one = absurd (omega (arith, from_one))

@@ -1,7 +1,7 @@
 -- Lists by positions from 1, and a list with one element more.
 use Rattle.std.proofs.lemmas.Grind.{common_steps}
-use Rattle.std.proofs.lemmas.Option.{gets, none-some, same_Some, slice_get_within, slice_get-map}
-use Rattle.std.proofs.Common.{◌≡◌, ℕ, zero, suc, ◌+◌, ◌-◌, ◌<◌, ◌≤◌, ◌⊎◌, List, [], ◌∷◌, ◌++◌, Some, length, slice_get, take, drop, map, option_map, refl, sym}
+use Rattle.std.proofs.lemmas.Option.{gets, none-some, same_Some}
+use Rattle.std.proofs.Common.{◌≡◌, ℕ, zero, suc, ◌+◌, ◌-◌, ◌<◌, ◌≤◌, ◌⊎◌, List, [], ◌∷◌, ◌++◌, Some, length, slice_get, take, drop, map, refl, sym}
 use Rattle.std.proofs.Common.{ap, ap₂, ◌∙◌, subst, arith}
 use Rattle.std.proofs.lemmas.List.{map-append, take-map, drop-map}
 use Rattle.std.specs.List.{AllByRecursion}
@@ -33,24 +33,19 @@ pub push_front : {A : Type 0} (xs : List A) (y x : A) (k : ℕ) → slice_get xs
 push_front xs y x k h1 = grind (arith, common_steps, gets)
 
 pub push_back : {A : Type 0} (xs : List A) (y : A) → slice_get (xs ++ y ∷ []) (length xs) ≡ Some y
-push_back [] y = refl
-push_back (z ∷ zs) y = push_back zs y
+push_back xs y = grind (arith, common_steps, gets)
 
 pub nth_front : {A : Type 0} (xs : List A) (y x : A) (k : ℕ) → nth xs k ≡ Some x → nth (xs ++ y ∷ []) k ≡ Some x
-nth_front xs y x zero stands = absurd (none-some x stands)
-nth_front xs y x (suc k) stands = push_front xs y x k stands
+nth_front xs y x k h1 = grind (arith, common_steps, gets)
 
 pub nth_in_front : {A : Type 0} (xs : List A) (y x : A) (k : ℕ) → k ≤ length xs → nth (xs ++ y ∷ []) k ≡ Some x → nth xs k ≡ Some x
-nth_in_front xs y x zero h1 h2 = absurd (none-some x h2)
-nth_in_front xs y x (suc k) h1 h2 = grind (arith, common_steps, gets)
+nth_in_front xs y x k h1 h2 = grind (arith, common_steps, gets)
 
 pub nth_within : {A : Type 0} (xs : List A) (k : ℕ) (x : A) → nth xs k ≡ Some x → k ≤ length xs
-nth_within xs zero x stands = absurd (none-some x stands)
-nth_within xs (suc k) x stands = slice_get_within xs k x stands
+nth_within xs k x h1 = grind (arith, common_steps, gets)
 
 pub nth_map : {A B : Type 0} (f : A → B) (xs : List A) (at : ℕ) (x : A) → nth xs at ≡ Some x → nth (map f xs) at ≡ Some (f x)
-nth_map f xs zero x stands = absurd (none-some x stands)
-nth_map f xs (suc i) x stands = slice_get-map f xs i ∙ ap (option_map f) stands
+nth_map f xs at x h1 = grind (arith, common_steps, gets)
 
 pub map-without : {A B : Type 0} (f : A → B) (xs : List A) (at : ℕ) → map f (without xs at) ≡ without (map f xs) at
 map-without f xs zero = refl

@@ -1,5 +1,7 @@
 -- A rollback, undone one by one from the last consequence back: the last of what is rolled back is free, and without
 -- it the others are what is rolled back.
+use Rattle.std.proofs.lemmas.Grind.{common_steps}
+use Rattle.std.proofs.lemmas.Option.{gets}
 use Rattle.std.proofs.Common.{◌≡◌, ℕ, zero, suc, ◌≤◌, Bool, true, false, ◌||◌, List, [], ◌∷◌, ◌++◌, Some, slice_get, drop, inl, inr, refl, sym, ap, ◌∙◌}
 use Rattle.std.proofs.Common.{arith}
 use Rattle.std.proofs.lemmas.Bool.{or_parts, cases_Bool}
@@ -19,8 +21,7 @@ module _ {E : Type 0} where
   same_rest x y xs ys h = ap (drop 1) h
 
   not_empty : (x : E) (xs : List E) → [] ≡ xs ++ x ∷ [] → ⊥
-  not_empty x [] h = none-some x (ap (λ l. slice_get l 0) h)
-  not_empty x (y ∷ ys) h = none-some y (ap (λ l. slice_get l 0) h)
+  not_empty x xs h1 = grind (arith, common_steps, gets)
 
   not_cons : (x : E) (xs : List E) → x ∷ xs ≡ [] → ⊥
   not_cons x xs h = none-some x (sym (ap (λ l. slice_get l 0) h))

@@ -1,7 +1,9 @@
 -- Links and free events by what stands at positions.
+use Rattle.std.proofs.lemmas.Grind.{common_steps}
+use Rattle.std.proofs.lemmas.Option.{gets}
 use Rattle.std.proofs.lemmas.Bool.{false_from_ne_true, cases_lt, cases_Bool}
 use Rattle.std.proofs.lemmas.Option.{same_Some, none-some}
-use Rattle.std.proofs.Common.{◌≡◌, ℕ, zero, suc, ◌+◌, ◌-◌, ◌<◌, ◌≤◌, Bool, true, false, ◌⊎◌, inl, inr, List, Option, Some, None, drop, refl, sym, ap, ap₂, ◌∙◌}
+use Rattle.std.proofs.Common.{◌≡◌, ℕ, zero, suc, ◌+◌, ◌-◌, ◌<◌, ◌≤◌, Bool, true, false, ◌⊎◌, inl, inr, List, Option, Some, None, drop, refl, sym, ap, ◌∙◌}
 use Rattle.std.proofs.Common.{true≢false, arith}
 use Rattle.std.specs.List.{AllByRecursion}
 use Rattle.cdb_base.specs.Positions.{nth}
@@ -20,8 +22,7 @@ module _ {E : Type 0} (depends : E → E → Bool) where
 
     -- what a link says of the events at its ends
     pub linked_events : IsLink depends history i j → depends cause effect ≡ true
-    linked_events l =
-        sym (ap₂ depends (same_Some l.cause cause (sym l.at_cause ∙ at_cause)) (same_Some l.effect effect (sym l.at_effect ∙ at_effect))) ∙ l.linked
+    linked_events h1 = grind (arith, common_steps, gets)
 
   -- whether a position is linked to another can be looked up
   pub linked_or_not : (history : List E) (i j : ℕ) → IsLink depends history i j ⊎ (IsLink depends history i j → ⊥)

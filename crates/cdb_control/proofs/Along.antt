@@ -1,4 +1,6 @@
 -- What one entry more does to a replay.
+use Rattle.std.proofs.lemmas.Grind.{common_steps}
+use Rattle.std.proofs.lemmas.Option.{gets}
 use Rattle.std.proofs.Common.{◌≡◌, ℕ, zero, suc, ◌<◌, ◌≤◌, List, [], ◌∷◌, ◌++◌, length, replicate, refl, sym, ap, ◌∙◌, subst, arith, length-append}
 use Rattle.std.proofs.lemmas.List.Sums.{fold-append}
 use Rattle.cdb_base.specs.declared.event.Event.{Event}
@@ -28,8 +30,7 @@ waiting-none zero = refl
 waiting-none (suc n) = omega (arith, waiting-none n)
 
 length-none : (n : ℕ) → length (replicate n (let none : List Event = [] in none)) ≡ n
-length-none zero = refl
-length-none (suc n) = omega (arith, length-none n)
+length-none n = grind (arith, common_steps, gets)
 
 -- a control that was just opened
 pub IsReplayed-first : (rules : Rules) (setup : Parts) (seats : ℕ) → AreInRange setup → 1 ≤ seats

@@ -1,7 +1,9 @@
 -- The headline holds of every journal.
-use Rattle.std.proofs.Common.{◌≡◌, ◌⊎◌, ⊎_elim, ℕ, zero, suc, ◌-◌, ◌<◌, ◌≤◌, Bool, true, false, not, List, [], ◌∷◌, ◌++◌, length}
-use Rattle.std.proofs.Common.{reverse, get_or, take, Option, Some, None, Result, Ok, Err, IsTrue, slice_get, nat_eq, nat_le}
-use Rattle.std.proofs.Common.{is_some, refl, sym, ap, ◌∙◌, subst, arith, append-nil, append_assoc, length-append}
+use Rattle.std.proofs.lemmas.Grind.{common_steps}
+use Rattle.std.proofs.lemmas.Option.{gets}
+use Rattle.std.proofs.Common.{◌≡◌, ◌⊎◌, ⊎_elim, ℕ, suc, ◌-◌, ◌<◌, ◌≤◌, Bool, true, false, not, List, [], ◌∷◌, ◌++◌, length}
+use Rattle.std.proofs.Common.{reverse, get_or, Option, Some, None, Result, Ok, Err, IsTrue, nat_eq, nat_le}
+use Rattle.std.proofs.Common.{is_some, refl, sym, ap, ◌∙◌, subst, arith, append-nil, append_assoc}
 use Rattle.std.specs.List.{AllByRecursion}
 use Rattle.std.specs.Map.{lookup}
 use Rattle.std.proofs.lemmas.List.{get_or-set_same, length-replicate, length-reverse, reverse-append}
@@ -210,9 +212,7 @@ rolled-is rules t seat name r is = rolling-is rules t seat name ∙ ap (λ x. gr
 redone-is : (rules : Rules) (t : State) (seat : ℕ) (event : Event) → last_of (redo_of t seat) ≡ Some event
     → rules.again t.history event ≡ Ok event → outcome rules t seat Redo ≡ redone rules t seat event
 unfolding outcome
-redone-is rules t seat event last again =
-    ap (λ o. found o NothingToRedo t (λ e. granted (rules.again t.history e) t (redone rules t seat))) last
-    ∙ ap (λ r. granted r t (redone rules t seat)) again
+redone-is rules t seat event h1 h2 = grind (arith, common_steps, gets)
 
 decisions-are : (rules : Rules) (t : State) (seat : ℕ) → reply_of rules t seat Decisions ≡ reply.Decisions (rules.decisions t.history)
 unfolding outcome
@@ -283,26 +283,14 @@ undone_last rules SameState before after event seat keeps valid is =
 -- ---- redos
 
 last_pushed : (xs : List Event) (x : Event) → last_of (xs ++ x ∷ []) ≡ Some x
-last_pushed xs x =
-    let long = length-append xs (x ∷ []) in
-    let position : length (xs ++ x ∷ []) - 1 ≡ length xs = omega (arith, long) in
-    ap (slice_get (xs ++ x ∷ [])) position ∙ push_back xs x
+last_pushed xs x = grind (arith, common_steps, gets)
 
 front_pushed : (xs : List Event) (x : Event) → without_last (xs ++ x ∷ []) ≡ xs
-front_pushed xs x =
-    let long = length-append xs (x ∷ []) in
-    let position : length (xs ++ x ∷ []) - 1 ≡ length xs = omega (arith, long) in
-    ap (λ n. take n (xs ++ x ∷ [])) position ∙ taken xs x
-  where
-    taken : (xs : List Event) (x : Event) → take (length xs) (xs ++ x ∷ []) ≡ xs
-    taken [] x = refl
-    taken (y ∷ ys) x = ap (λ l. y ∷ l) (taken ys x)
+front_pushed xs x = grind (arith, common_steps, gets)
 
 -- a list that holds an event is one of the lists
 within_lists : (lists : List (List Event)) (i : ℕ) (xs : List Event) (x : Event) → get_or lists i [] ≡ xs ++ x ∷ [] → i < length lists
-within_lists [] i xs x is = absurd (omega (arith, ap length is, length-append xs (x ∷ [])))
-within_lists (l ∷ more) zero xs x is = omega arith
-within_lists (l ∷ more) (suc i) xs x is = omega (arith, within_lists more i xs x is)
+within_lists lists i xs x h1 = grind (arith, common_steps, gets)
 
 module _ (rules : Rules) (SameState : List Event → List Event → Type 0) (setup : Parts)
     (keeps : KeepHistories rules SameState setup) (before : State) (seat : ℕ) where

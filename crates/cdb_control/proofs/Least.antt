@@ -1,7 +1,8 @@
 -- The first breakpoint that a step fires is the least.
-use Rattle.std.proofs.Common.{◌≡◌, ◌⊎◌, ⊎_elim, inl, inr, ℕ, zero, suc, ◌<◌, ◌≤◌, Bool, true, false, cond, List, []}
+use Rattle.std.proofs.lemmas.Grind.{common_steps}
+use Rattle.std.proofs.lemmas.Option.{gets}
+use Rattle.std.proofs.Common.{◌≡◌, ◌⊎◌, ⊎_elim, inl, inr, ℕ, zero, suc, ◌≤◌, Bool, true, false, cond, List, []}
 use Rattle.std.proofs.Common.{◌∷◌, Option, Some, None, Result, Ok, Err, find, option_map, refl, sym, ap, ◌∙◌, arith}
-use Rattle.std.proofs.lemmas.List.Elements.{All-contains, All-from_recursion}
 use Rattle.cdb_base.specs.declared.act.Act.{Act}
 use Rattle.cdb_base.specs.declared.event.Event.{Event}
 use Rattle.cdb_base.specs.declared.refusal.Refusal.{Refusal}
@@ -38,9 +39,7 @@ module _ (taken : TakenStep) where
 
   -- those of the rest have greater numbers
   above : (b : ℕ × Stop) (more : Stops) → AreRising (b ∷ more) → (number : ℕ) → IsFired taken more number → b.0 ≤ number
-  above b more rising number (stop, its, fired) =
-      let less = All-contains (λ (c : ℕ × Stop). b.0 < c.0) more (number, stop) (All-from_recursion (λ (c : ℕ × Stop). b.0 < c.0) more rising.0) its in
-      omega (arith, less)
+  above b more h1 number h2 = grind (arith, common_steps, gets)
 
   not_head : (b : ℕ × Stop) (more : Stops) → fires taken b.1 ≡ false → (number : ℕ) → IsFired taken (b ∷ more) number → IsFired taken more number
   not_head b more quiet number its = ⊎_elim (λ h. absurd (cc)) (λ rest. rest) (head_or_rest b more number its)

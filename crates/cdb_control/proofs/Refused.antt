@@ -1,4 +1,6 @@
 -- What the table of the commands leaves alone.
+use Rattle.std.proofs.lemmas.Grind.{common_steps}
+use Rattle.std.proofs.lemmas.Option.{gets}
 use Rattle.std.proofs.Common.{◌≡◌, ◌≢◌, ◌∙◌, ℕ, ◌+◌, ◌-◌, ◌≤◌, Bool, true, false, not, List, [], length, get_or, set, Option}
 use Rattle.std.proofs.Common.{Some, None, Result, Ok, Err, refl, sym, ap, subst, arith, nat_eq, nat_le, is_some}
 use Rattle.std.proofs.lemmas.List.{get_or-set_other}
@@ -76,8 +78,7 @@ step-leaves rules t seat p act =
 
 other-list : (t : State) (seat other : ℕ) (events : List Event) → 1 ≤ seat → 1 ≤ other
     → other ≢ seat → get_or (set t.redo (seat - 1) events) (other - 1) [] ≡ get_or t.redo (other - 1) []
-other-list t seat other events low from apart =
-    get_or-set_other t.redo (seat - 1) (other - 1) events [] (λ same. apart (omega (arith, same, low, from)))
+other-list t seat other events h1 h2 h3 = grind (arith, common_steps, gets)
 
 undo-leaves : (t : State) (seat : ℕ) (name : StepId) → Leaves t seat (undo t seat name)
 undo-leaves t seat name =
@@ -227,8 +228,7 @@ forget_keeps_the_history rules t seat = refl
 unless-sets : (b : Bool) (r : Refusal) (t : State) (go : Outcome) (number : ℕ)
     → (go.reply ≡ reply.BreakSet number → (number ≡ t.next) × (go.after.next ≡ t.next + 1))
     → (unless b r t go).reply ≡ reply.BreakSet number → (number ≡ t.next) × ((unless b r t go).after.next ≡ t.next + 1)
-unless-sets true r t go number h is = absurd (cc)
-unless-sets false r t go number h is = h is
+unless-sets b r t go number h1 h2 = grind (arith, common_steps, gets)
 
 abbrev number_in : ReplyView → ℕ
 number_in (reply.BreakSet number) = number
@@ -248,8 +248,7 @@ pub state_extended : (rules : Parts → Rules) (c : Journaled) (seat : ℕ) (com
 state_extended rules c seat command = replay-push (rules c.setup) c.setup c.seats c.journal _
 
 refused_is : (it : ReplyView) → is_refused it ≡ true → (why : Refusal) × (it ≡ reply.Refused why)
-refused_is (reply.Refused why) is = (why, refl)
-refused_is _ is = absurd (cc)
+refused_is it h1 = grind (arith, common_steps, gets)
 
 pub kept_if_refused : (rules : Parts → Rules) (old : Journaled) (seat : ℕ) (command : Command) {new : Journaled} {reply_view : ReplyView}
     → new ≡ extended rules old seat command → reply_view ≡ reply_in rules old seat command → IsKeptIfRefused rules old new reply_view

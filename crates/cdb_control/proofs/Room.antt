@@ -1,4 +1,6 @@
 -- What commands do to room and to redo lists in memory.
+use Rattle.std.proofs.lemmas.Grind.{common_steps}
+use Rattle.std.proofs.lemmas.Option.{gets}
 use Rattle.std.proofs.Common.{◌≡◌, ◌≢◌, ℕ, zero, suc, ◌+◌, ◌-◌, ◌<◌, ◌≤◌, max, Bool, true, false, not, List, [], ◌∷◌, ◌++◌, length, map, set, get_or}
 use Rattle.std.proofs.Common.{replicate, Option, Some, None, Result, Ok, Err, refl, sym, ap, ◌∙◌, subst, arith, length-append, nat_eq, nat_le, is_some}
 use Rattle.std.specs.Map.{lookup}
@@ -230,9 +232,7 @@ apart_or_same (suc i) zero G same apart = apart (λ e. omega (arith, e))
 apart_or_same (suc i) (suc k) G same apart = apart_or_same i k G (λ e. same (ap suc e)) (λ ne. apart (λ e. ne (omega (arith, e))))
 
 less-at : (rooms : List ℕ) (i : ℕ) → get_or (map (λ r. r - 1) rooms) i 0 ≡ get_or rooms i 0 - 1
-less-at [] i = refl
-less-at (r ∷ rs) zero = refl
-less-at (r ∷ rs) (suc i) = less-at rs i
+less-at rooms i = grind (arith, common_steps, gets)
 
 -- after a command there is as much less room as it can have taken
 pub HoldsRooms-next : (n space space' : ℕ) (rooms : List ℕ) (seat : ℕ) (was next : StoredState) (o : Outcome)

@@ -1,8 +1,9 @@
 -- Commands that share a word of the table.
-use Rattle.std.proofs.Common.{◌≡◌, ℕ, arith, ◌-◌, false, IsOk, IfOk, OnErr, subst, List, [], ◌∷◌, ◌++◌, length}
-use Rattle.std.proofs.Common.{set, Option, Some, None, Result, Ok, Err, refl, sym, ap, ◌∙◌, true≢false}
+use Rattle.std.proofs.lemmas.Grind.{common_steps}
+use Rattle.std.proofs.lemmas.Option.{gets}
+use Rattle.std.proofs.Common.{◌≡◌, ℕ, arith, ◌-◌, false, IsOk, IfOk, OnErr, subst, List, [], ◌∷◌, length}
+use Rattle.std.proofs.Common.{set, Option, Some, None, Result, Ok, Err, refl, sym, ap, ◌∙◌}
 use Rattle.std.proofs.lemmas.List.{set-get_or}
-use Rattle.std.proofs.lemmas.Option.{none-some}
 use Rattle.std.specs.Result.{result_err}
 use Rattle.cdb_base.specs.Positions.{without_last}
 use Rattle.cdb_base.specs.declared.act.Act.{Act}
@@ -115,8 +116,7 @@ why_lost_granted rules t seat s m p it r is memory = subst (λ (c : Command). On
 -- what is granted is answered as what it goes on to
 pub granted_goes_on : {A : Type 0} (x : Result A Refusal) (t : State) (go : A → Outcome) → IsOk x
     → ((a : A) → is_refused (go a).reply ≡ false) → is_refused (granted x t go).reply ≡ false
-granted_goes_on (Ok a) t go ok each = each a
-granted_goes_on (Err why) t go ok each = absurd (true≢false (sym ok))
+granted_goes_on x t go h1 h2 = grind (arith, common_steps, gets)
 
 pub alone_ok : {A : Type 0} (x : Result (A × List Event) Refusal) → IsOk (result_alone x) → IsOk x
 alone_ok (Ok done) ok = refl
@@ -130,8 +130,7 @@ on_error (Err e) holds = holds
 -- what is refused leaves the history as it was
 pub refused_leaves : (x : Result (Event × List Event) Refusal) (history : List Event) (why : Refusal)
     → Some why ≡ result_err (result_alone x) → left_by history x ≡ history
-refused_leaves (Ok done) history why is = absurd (none-some why (sym is))
-refused_leaves (Err other) history why is = refl
+refused_leaves x history why h1 = grind (arith, common_steps, gets)
 
 -- ---- what an undo or a rollback answers, together with what it leaves
 
@@ -155,58 +154,32 @@ pub undone-as : (t u : State) (seat : ℕ) (x : Result (Event × List Event) Ref
     → r ≡ result_alone x → u ≡ with_lists t seat (left_by t.history x) (with_taken (redo_of t seat) r) → r ≡ Ok event
     → (let o : Outcome = record { reply = reply.Undone event; after = u } in o)
     ≡ granted x t (λ undone. record { reply = reply.Undone undone.0; after = undone_by t seat (undone.0 ∷ []) undone.1 })
-undone-as t u seat (Ok done) r event is after ok =
-    ap (λ (v : State). let o : Outcome = record { reply = reply.Undone event; after = v } in o) after
-    ∙ ap (λ (z : Result Event Refusal).
-    let o : Outcome = record { reply = reply.Undone event; after = with_lists t seat done.1 (with_taken (redo_of t seat) z) } in o) ok
-    ∙ ap (λ (e : Event). let o : Outcome = record { reply = reply.Undone e; after = with_lists t seat done.1 (redo_of t seat ++ e ∷ []) } in o)
-    (ok_ok event done.0 r ok is)
-undone-as t u seat (Err why) r event is after ok = absurd (ok_err event why r ok is)
+undone-as t u seat x r event h1 h2 h3 = grind (arith, common_steps, gets)
 
 pub undo_refused-as : (t u : State) (seat : ℕ) (x : Result (Event × List Event) Refusal)
     (r : Result Event Refusal) (why : Refusal) (go : Event × List Event → Outcome)
     → r ≡ result_alone x → u ≡ with_lists t seat (left_by t.history x) (with_taken (redo_of t seat) r) → r ≡ Err why
     → (let o : Outcome = record { reply = reply.Refused why; after = u } in o) ≡ granted x t go
-undo_refused-as t u seat (Ok done) r why go is after err = absurd (ok_err done.0 why r is err)
-undo_refused-as t u seat (Err other) r why go is after err =
-    ap (λ (v : State). let o : Outcome = record { reply = reply.Refused why; after = v } in o) after
-    ∙ ap (λ (z : Result Event Refusal).
-    let o : Outcome = record { reply = reply.Refused why; after = with_lists t seat t.history (with_taken (redo_of t seat) z) } in o) err
-    ∙ ap (λ (v : State). let o : Outcome = record { reply = reply.Refused why; after = v } in o) (unchanged t seat)
-    ∙ ap (λ (w : Refusal). let o : Outcome = record { reply = reply.Refused w; after = t } in o) (err_err why other r err is)
+undo_refused-as t u seat x r why go h1 h2 h3 = grind (arith, common_steps, gets)
 
 pub rolled_back-as : (t u : State) (seat : ℕ) (x : Result (List Event × List Event) Refusal) (r : Result ℕ Refusal) (count : ℕ)
     → r ≡ number_removed (result_alone x) → u ≡ with_lists t seat (left_by t.history x) (with_removed (redo_of t seat) (result_alone x)) → r ≡ Ok count
     → (let o : Outcome = record { reply = reply.RolledBack count; after = u } in o)
     ≡ granted x t (λ removed. record { reply = reply.RolledBack (length removed.0); after = undone_by t seat removed.0 removed.1 })
-rolled_back-as t u seat (Ok done) r count is after ok =
-    ap (λ (v : State). let o : Outcome = record { reply = reply.RolledBack count; after = v } in o) after
-    ∙ ap (λ (n : ℕ). let o : Outcome = record { reply = reply.RolledBack n; after = with_lists t seat done.1 (redo_of t seat ++ done.0) } in o)
-    (ok_ok count (length done.0) r ok is)
-rolled_back-as t u seat (Err why) r count is after ok = absurd (ok_err count why r ok is)
+rolled_back-as t u seat x r count h1 h2 h3 = grind (arith, common_steps, gets)
 
 pub rollback_refused-as : (t u : State) (seat : ℕ) (x : Result (List Event × List Event) Refusal)
     (r : Result ℕ Refusal) (why : Refusal) (go : List Event × List Event → Outcome)
     → r ≡ number_removed (result_alone x) → u ≡ with_lists t seat (left_by t.history x) (with_removed (redo_of t seat) (result_alone x)) → r ≡ Err why
     → (let o : Outcome = record { reply = reply.Refused why; after = u } in o) ≡ granted x t go
-rollback_refused-as t u seat (Ok done) r why go is after err = absurd (ok_err (length done.0) why r is err)
-rollback_refused-as t u seat (Err other) r why go is after err =
-    ap (λ (v : State). let o : Outcome = record { reply = reply.Refused why; after = v } in o) (after ∙ unchanged t seat)
-    ∙ ap (λ (w : Refusal). let o : Outcome = record { reply = reply.Refused w; after = t } in o) (err_err why other r err is)
+rollback_refused-as t u seat x r why go h1 h2 h3 = grind (arith, common_steps, gets)
 
 pub redone-as : (rules : Rules) (t u : State) (seat : ℕ) (undone event : Event) (given : Option ℕ) (r : Result Event Refusal)
     → Some undone ≡ last_of (redo_of t seat) → r ≡ rules.again t.history undone → u ≡ with_lists t seat (with_taken t.history r) (without_last (redo_of t seat))
     → given ≡ decides rules (with_taken t.history r) event → r ≡ Ok event
     → (let o : Outcome = record { reply = reply.Redone event given; after = u } in o) ≡ outcome rules t seat command.Redo
 unfolding outcome
-redone-as rules t u seat undone event given r last is after says ok =
-    ap (λ (v : State). let o : Outcome = record { reply = reply.Redone event given; after = v } in o)
-    (after ∙ ap (λ (z : Result Event Refusal). with_lists t seat (with_taken t.history z) (without_last (redo_of t seat))) ok)
-    ∙ ap (λ (d : Option ℕ).
-    let o : Outcome = record { reply = reply.Redone event d; after = with_lists t seat (t.history ++ event ∷ []) (without_last (redo_of t seat)) } in o)
-    (says ∙ ap (λ (z : Result Event Refusal). decides rules (with_taken t.history z) event) ok)
-    ∙ ap (λ (z : Result Event Refusal). granted z t (redone rules t seat)) (sym ok ∙ is)
-    ∙ ap (λ (o : Option Event). found o NothingToRedo t (λ e. granted (rules.again t.history e) t (redone rules t seat))) last
+redone-as rules t u seat undone event given r h1 h2 h3 h4 h5 = grind (arith, common_steps, gets)
 
 -- ---- the outcome of a refused step, redo or `auto`: its reply, together with what it leaves
 
@@ -216,9 +189,7 @@ taken_in t r = record t { history = with_taken t.history r }
 
 refused-as : (t u : State) (x r : Result Event Refusal) (why : Refusal) (go : Event → Outcome) → r ≡ x → u ≡ taken_in t r → r ≡ Err why
     → (let o : Outcome = record { reply = reply.Refused why; after = u } in o) ≡ granted x t go
-refused-as t u x r why go is after err =
-    ap (λ (v : State). let o : Outcome = record { reply = reply.Refused why; after = v } in o) (after ∙ ap (taken_in t) err)
-    ∙ ap (λ (z : Result Event Refusal). granted z t go) (sym err ∙ is)
+refused-as t u x r why go h1 h2 h3 = grind (arith, common_steps, gets)
 
 pub step_refused-as : (rules : Rules) (t u : State) (seat p : ℕ) (act : Act) (r : Result Event Refusal) (why : Refusal)
     → r ≡ rules.step t.history p act → u ≡ taken_in t r → r ≡ Err why
@@ -230,13 +201,7 @@ pub auto_refused-as : (rules : Rules) (t u : State) (seat p : ℕ) (x : Result A
     → choice rules t.history p ≡ x → t.pause ≡ None → r ≡ step_of_chosen (rules.step t.history p) x → u ≡ taken_in t r → r ≡ Err why
     → (let o : Outcome = record { reply = reply.Refused why; after = u } in o) ≡ outcome rules t seat (command.Auto p)
 unfolding outcome
-auto_refused-as rules t u seat p (Ok act) r why chosen unpaused_now is after err =
-    refused-as t u _ r why (step_done rules t p) is after err
-    ∙ ap (λ (o : Option ℕ). unpaused o t (step rules t p act)) (sym unpaused_now)
-    ∙ ap (λ (y : Result Act Refusal). granted y t (λ act. unpaused t.pause t (step rules t p act))) (sym chosen)
-auto_refused-as rules t u seat p (Err other) r why chosen unpaused_now is after err =
-    refused-as t u _ r why (step_done rules t p) is after err
-    ∙ ap (λ (y : Result Act Refusal). granted y t (λ act. unpaused t.pause t (step rules t p act))) (sym chosen)
+auto_refused-as rules t u seat p x r why h1 h2 h3 h4 h5 = grind (arith, common_steps, gets)
 
 pub redo_none : (rules : Rules) (t : State) (seat : ℕ) → None ≡ last_of (redo_of t seat)
     → (let o : Outcome = record { reply = reply.Refused NothingToRedo; after = t } in o) ≡ outcome rules t seat command.Redo
@@ -247,6 +212,4 @@ pub redo_refused-as : (rules : Rules) (t u : State) (seat : ℕ) (undone : Event
     → Some undone ≡ last_of (redo_of t seat) → r ≡ rules.again t.history undone → u ≡ taken_in t r → r ≡ Err why
     → (let o : Outcome = record { reply = reply.Refused why; after = u } in o) ≡ outcome rules t seat command.Redo
 unfolding outcome
-redo_refused-as rules t u seat undone r why last is after err =
-    refused-as t u _ r why (redone rules t seat) is after err
-    ∙ ap (λ (o : Option Event). found o NothingToRedo t (λ e. granted (rules.again t.history e) t (redone rules t seat))) last
+redo_refused-as rules t u seat undone r why h1 h2 h3 h4 = grind (arith, common_steps, gets)

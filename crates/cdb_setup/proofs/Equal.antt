@@ -1,19 +1,18 @@
 -- The test whether two setups are equal decides whether their parts are.
+use Rattle.std.proofs.Common.{arith}
+use Rattle.std.proofs.lemmas.Grind.{common_steps}
+use Rattle.std.proofs.lemmas.Option.{gets}
 use Rattle.std.proofs.Common.{◌≡◌, ℕ, Bool, true, false, ◌&&◌, ◌==◌, List, refl}
 use Rattle.std.specs.Prelude.{Decides}
 use Rattle.std.specs.Cmp.{unsigned_Decides}
 use Rattle.std.specs.Cmp.Lexicographic.{pointwise, pointwise_decides}
 use Rattle.cdb_setup.specs.declared.setup.Algorithm.{Algorithm}
-use Rattle.cdb_setup.specs.declared.setup.Algorithm.TheVariants.{Leader, Alpha}
 use Rattle.cdb_setup.specs.Parts.{Parts}
 use Rattle.cdb_setup.specs.Equal.{algorithm_number, are_equal}
 use Rattle.cdb_setup.proofs.Fields.{same_fields}
 
 same_algorithm : (a b : Algorithm) → Decides (algorithm_number a == algorithm_number b) (a ≡ b)
-same_algorithm Leader Leader = (λ e. refl, λ e. refl)
-same_algorithm Leader Alpha = (λ e. absurd cc, λ e. cc)
-same_algorithm Alpha Leader = (λ e. absurd cc, λ e. cc)
-same_algorithm Alpha Alpha = (λ e. refl, λ e. refl)
+same_algorithm a b = grind (arith, common_steps, gets)
 
 -- where both tests decide, so does their conjunction
 both : {P Q R : Type 0} (a b : Bool) → Decides a P → Decides b Q → (P → Q → R) → (R → P) → (R → Q) → Decides (a && b) R

@@ -1,4 +1,7 @@
 -- Parts of a setup are equal where each of their fields is.
+use Rattle.std.proofs.Common.{arith}
+use Rattle.std.proofs.lemmas.Grind.{common_steps}
+use Rattle.std.proofs.lemmas.Option.{gets}
 use Rattle.std.proofs.Common.{◌≡◌, ℕ, List}
 use Rattle.cdb_setup.specs.declared.setup.Algorithm.{Algorithm}
 use Rattle.cdb_setup.specs.Parts.{Parts}
@@ -10,6 +13,4 @@ same_built build s t version algorithm processes quorum inputs answers = cc
 
 pub same_fields : (s t : Parts)
     → s.version ≡ t.version → s.algorithm ≡ t.algorithm → s.processes ≡ t.processes → s.quorum ≡ t.quorum → s.inputs ≡ t.inputs → s.answers ≡ t.answers → s ≡ t
-same_fields s t version algorithm processes quorum inputs answers =
-    same_built (λ v a n q xs ls. record { version = v; algorithm = a; processes = n; quorum = q; inputs = xs; answers = ls }) s t
-    version algorithm processes quorum inputs answers
+same_fields s t h1 h2 h3 h4 h5 h6 = grind (arith, common_steps, gets)

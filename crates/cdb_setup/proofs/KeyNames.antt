@@ -1,5 +1,7 @@
 -- The keys of an object, and the first needed key that is not there.
-use Rattle.std.proofs.Common.{◌≡◌, ◌≢◌, ℕ, ◌<◌, ◌+◌, Bool, true, false, ◌&&◌, cond, List, [], ◌∷◌, Option, Some, None, String, Global, string_bytes, bytes_eq}
+use Rattle.std.proofs.lemmas.Grind.{common_steps}
+use Rattle.std.proofs.lemmas.Option.{gets}
+use Rattle.std.proofs.Common.{◌≡◌, ◌≢◌, ℕ, ◌<◌, ◌+◌, Bool, true, false, ◌&&◌, cond, List, [], ◌∷◌, Option, Some, String, Global, string_bytes, bytes_eq}
 use Rattle.std.proofs.Common.{refl, sym, subst, ◌∙◌, arith, inl, inr}
 use Rattle.std.specs.Prelude.{MatchOption, is_none, find}
 use Rattle.std.specs.List.{list_all, list_any}
@@ -45,12 +47,7 @@ is_name name e =
     ]
 
 name_is : (key : Key) → is_key_name (name_of key) ≡ true
-name_is Algorithm = refl
-name_is Processes = refl
-name_is Quorum = refl
-name_is Inputs = refl
-name_is Oracle = refl
-name_is Version = refl
+name_is key = grind (arith, common_steps, gets)
 
 not_name : (name : List ℕ) → is_key_name name ≡ false → (key : Key) → name ≢ name_of key
 not_name name e key same = let here : is_key_name name ≡ true = subst (λ (n : List ℕ). is_key_name n ≡ true) (sym same) (name_is key) in cc
@@ -59,8 +56,7 @@ abbrev test : String Global → Bool
 test name = is_key_name (string_bytes name)
 
 both : (a b : Bool) → (a && b) ≡ true → (a ≡ true) × (b ≡ true)
-both true b e = (refl, e)
-both false b e = absurd cc
+both a b h1 = grind (arith, common_steps, gets)
 
 -- where each name is that of a key, what is found has the name of a key
 all_known : (entries : List Entry) → list_all test (keys_of entries) ≡ true → (name : List ℕ) (value : Data)
@@ -111,25 +107,17 @@ abbrev IsThere : Data → Key → Type 0
 IsThere json key = ¬ Holds (faults.Missing key) json
 
 absent : (found : Option Data) (value : Data) → is_none found ≡ true → found ≢ Some value
-absent None value e there = cc
-absent (Some found) value e there = cc
+absent found value h1 = grind (arith, common_steps, gets)
 
 present : (found : Option Data) → is_none found ≡ false → ((value : Data) → found ≢ Some value) → ⊥
-present None e none = cc
-present (Some value) e none = none value refl
+present found h1 h2 = grind (arith, common_steps, gets)
 
 -- the keys of the positions below n are there
 abbrev AreThereBelow : Data → ℕ → Type 0
 AreThereBelow json n = (key : Key) → key_number key < n → IsThere json key
 
 same_number : (j k : Key) → key_number j ≡ key_number k → j ≡ k
-same_number Algorithm Algorithm e = refl
-same_number Processes Processes e = refl
-same_number Quorum Quorum e = refl
-same_number Inputs Inputs e = refl
-same_number Oracle Oracle e = refl
-same_number Version Version e = refl
-same_number j k e = absurd (omega arith)
+same_number j k h1 = grind (arith, common_steps, gets)
 
 one_more : (json : Data) (k : Key) → AreThereBelow json (key_number k) → IsThere json k → AreThereBelow json (key_number k + 1)
 one_more json k before here j below =

@@ -1,9 +1,11 @@
 -- Reading the values of an array one after the other.
+use Rattle.std.proofs.Common.{arith}
+use Rattle.std.proofs.lemmas.Grind.{common_steps}
+use Rattle.std.proofs.lemmas.Option.{gets}
 use Rattle.std.proofs.Common.{◌≡◌, ℕ, ◌+◌, ◌<◌, List, [], ◌∷◌, ◌++◌, length, get_or, map, take, Some, refl, sym, ap, subst, ◌∙◌}
 use Rattle.std.specs.List.{AllByRecursion}
 use Rattle.std.specs.Prelude.{slice_get, option_map}
-use Rattle.std.proofs.lemmas.List.{take_more, map_push}
-use Rattle.std.proofs.lemmas.Option.{get_or_from_slice_get, slice_get_within, slice_get_read, slice_get-map}
+use Rattle.std.proofs.lemmas.Option.{slice_get_read, slice_get-map}
 use Rattle.serde_json.specs.Data.{Data}
 use Rattle.cdb_setup.specs.Parts.{IsWithin}
 use Rattle.cdb_setup.specs.Format.{whole, array_of_whole}
@@ -14,10 +16,7 @@ use Rattle.cdb_setup.specs.Readings.{IsFirstNot, IsAnswerList}
 pub push_read : {A : Type 0} (form : A → Data) (values : List Data) (parts : List A) (i : ℕ) (part : A)
     → slice_get values i ≡ Some (form part) → take i values ≡ map form parts
     → take (i + 1) values ≡ map form (parts ++ part ∷ [])
-push_read form values parts i part there read =
-    let more = take_more values i (form part) (slice_get_within values i (form part) there) in
-    let last = get_or_from_slice_get values i (form part) (form part) there in
-    rw (more, last, read, map_push form parts part) refl
+push_read form values parts i part h1 h2 = grind (arith, common_steps, gets)
 
 pub push_all : {A : Type 0} (P : A → Type 0) (parts : List A) (part : A) → AllByRecursion P parts → P part → AllByRecursion P (parts ++ part ∷ [])
 push_all P [] part all one = (one, tt)

@@ -1,9 +1,10 @@
 -- The bytes as a whole: what encodes a setup has no fault, and encodes no other.
+use Rattle.std.proofs.lemmas.Grind.{common_steps}
+use Rattle.std.proofs.lemmas.Option.{gets}
 use Rattle.std.proofs.Common.{◌≡◌, ◌≢◌, ◌⊎◌, ℕ, ◌<◌, ◌≤◌, List, [], ◌∷◌, length, map, Some, refl, sym, ap, subst, ◌∙◌, arith, inl, inr}
 use Rattle.std.specs.Prelude.{Result, Ok, Err, IfOk, IfErr}
-use Rattle.serde_json.specs.Data.{Data, null, boolean, number, string, array, object, Members}
+use Rattle.serde_json.specs.Data.{Data, string, object, Members}
 use Rattle.cdb_setup.specs.declared.setup.Algorithm.{Algorithm}
-use Rattle.cdb_setup.specs.declared.setup.Algorithm.TheVariants.{Leader, Alpha}
 use Rattle.cdb_setup.specs.declared.key.Key.TheVariants as key
 use Rattle.cdb_base.specs.Memory.{no_memory}
 use Rattle.cdb_setup.specs.declared.fault.SetupFault.{SetupFault}
@@ -53,12 +54,7 @@ same_at : {A : Type 0} {a b : A} → Some a ≡ Some b → a ≡ b
 same_at e = cc
 
 is_object : (json : Data) (parts : Parts) → IsSetupOf json parts → ¬ ((members : Members) → json ≢ object members)
-is_object null parts is none = let there = is.processes in cc
-is_object (boolean b) parts is none = let there = is.processes in cc
-is_object (number n) parts is none = let there = is.processes in cc
-is_object (string s) parts is none = let there = is.processes in cc
-is_object (array vs) parts is none = let there = is.processes in cc
-is_object (object members) parts is none = none members refl
+is_object json parts h1 = grind (arith, common_steps, gets)
 
 no_setup : (fault : SetupFault) (json : Data) (parts : Parts) → IsSetupOf json parts → ¬ Holds fault json
 no_setup NotObject json parts is holds = is_object json parts is holds
@@ -88,10 +84,7 @@ no_setup_of_bytes fault bytes parts stands holds = no_setup fault stands.1 parts
 -- ---- what encodes a setup encodes no other
 
 same_name : (a b : Algorithm) → string (algorithm_name a) ≡ string (algorithm_name b) → a ≡ b
-same_name Leader Leader e = refl
-same_name Leader Alpha e = cc
-same_name Alpha Leader e = cc
-same_name Alpha Alpha e = refl
+same_name a b h1 = grind (arith, common_steps, gets)
 
 lists_same : (xs ys : List (List ℕ)) → map array_of_whole xs ≡ map array_of_whole ys → xs ≡ ys
 lists_same [] [] e = refl
@@ -104,10 +97,7 @@ lists_same (x ∷ xs) (y ∷ ys) e =
     let rest = lists_same xs ys tails in cc
 
 same_version : (json : Data) (v w : ℕ) → HasVersion v json → HasVersion w json → v ≡ w
-same_version json v w (inl a) (inl b) = cc
-same_version json v w (inl a) (inr b) = let nothing = b.0 in cc
-same_version json v w (inr a) (inl b) = let nothing = a.0 in cc
-same_version json v w (inr a) (inr b) = a.1 ∙ sym b.1
+same_version json v w h1 h2 = grind (arith, common_steps, gets)
 
 same_parts : (json : Data) (s t : Parts) → IsSetupOf json s → IsSetupOf json t → s ≡ t
 same_parts json s t a b =

@@ -1,4 +1,7 @@
 -- What is read from the left is the command of all the words, or their first fault.
+use Rattle.std.proofs.Common.{arith}
+use Rattle.std.proofs.lemmas.Grind.{common_steps}
+use Rattle.std.proofs.lemmas.Option.{gets}
 use Rattle.std.proofs.Common.{◌≡◌, ℕ, List, [], ◌∷◌, ◌++◌, map, Option, Some, None, refl, sym, ap, subst, ◌∙◌, append_assoc}
 use Rattle.std.specs.Prelude.{ok_or, Result, Ok, Err, codes, decimal}
 use Rattle.std.specs.List.{AllByRecursion}
@@ -109,10 +112,7 @@ longer before words word (Ok command) is = subst (λ (ws : List (List ℕ)). Are
 longer before words word (Err fault) is = subst (λ (ws : List (List ℕ)). IsFirstFaultOfWords fault ws) (append_assoc before (word ∷ []) words) is
 
 word_says : (words : List (List ℕ)) (word : List ℕ) (rest : List (List ℕ)) → word_at words ≡ Ok (word, rest) → words ≡ word ∷ rest
-word_says [] word rest e = absurd cc
-word_says (w ∷ ws) word rest e =
-    let both : (w, ws) ≡ (word, rest) = cc in
-    ap (λ (x : List ℕ × List (List ℕ)). x.0 ∷ x.1) both
+word_says words word rest h1 = grind (arith, common_steps, gets)
 
 -- behind a fixed word
 pub behind_word : (before words : List (List ℕ)) (word : List ℕ) (rest : List (List ℕ)) (k : Keyword) (read : Result Command LineFault)

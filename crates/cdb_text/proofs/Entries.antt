@@ -1,9 +1,10 @@
 -- The lines of a journal.
-use Rattle.std.proofs.Common.{◌≡◌, ◌≢◌, ◌↔◌, ℕ, ◌<◌, ◌≤◌, List, [], ◌∷◌, ◌++◌, map, length, Option}
+use Rattle.std.proofs.lemmas.Grind.{common_steps}
+use Rattle.std.proofs.lemmas.Option.{gets}
+use Rattle.std.proofs.Common.{◌≡◌, ◌≢◌, ◌↔◌, ℕ, ◌<◌, ◌≤◌, List, [], ◌∷◌, ◌++◌, map, Option}
 use Rattle.std.proofs.Common.{Some, None, refl, sym, ap, subst, ◌∙◌, inl, inr, arith, append_assoc}
-use Rattle.std.specs.Prelude.{codes, decimal, ok_or, Result, Ok, Err}
+use Rattle.std.specs.Prelude.{codes, decimal, Result, Ok, Err}
 use Rattle.std.specs.List.{join_with_byte}
-use Rattle.std.proofs.lemmas.Fmt.{decimal_nonempty}
 use Rattle.std.proofs.lemmas.List.Splits.{slice_split_at, join_with_byte-slice_split}
 use Rattle.cdb_base.specs.Limits.{MAX_SEATS}
 use Rattle.cdb_commands.specs.declared.command.Command.{Command}
@@ -13,7 +14,7 @@ use Rattle.cdb_text.specs.Commands.{CommandPart, command_parts}
 use Rattle.cdb_text.specs.Entries.{EachEntryHasOneLine, entry_text, IsSeat, IsEntryLine, BeginWithNoSeat, IsFaultOfEntryWords, IsFaultOfEntry}
 use Rattle.cdb_text.specs.Faults.{IsFirstFaultOfWords}
 use Rattle.cdb_text.specs.Grammar.{AreWordsOf, HasNumbersInRange, part_text, printed, words_of}
-use Rattle.cdb_text.specs.Readers.{◌>>=◌, IsReadAfter, number_at, number_of}
+use Rattle.cdb_text.specs.Readers.{IsReadAfter, number_at, number_of}
 use Rattle.cdb_text.proofs.Cut.{is_space}
 use Rattle.cdb_text.proofs.Numbers.{number_says, number_again}
 use Rattle.cdb_text.proofs.Printed.{none_is_space, number_is_spaceless, printed_is_line, some_part}
@@ -75,22 +76,14 @@ pair_read (Ok read) = read
 pair_read (Err fault) = (0, [])
 
 read_is : (word : List ℕ) (words : Words) → number_at (word ∷ words) ≡ number_read (number_of word) words
-read_is word words = by_found (number_of word)
-  where
-    by_found : (found : Option ℕ) → (ok_or found Number >>= λ m. let read : NumberRead = Ok (m, words) in read) ≡ number_read found words
-    by_found None = refl
-    by_found (Some n) = refl
+read_is word words = grind (arith, common_steps, gets)
 
 found_in : (word : List ℕ) (words : Words) (n : ℕ) (rest : Words) (found : Option ℕ) → number_of word ≡ found → number_read found words ≡ Ok (n, rest)
     → (its : List ℕ) × (word ∷ words ≡ its ∷ rest) × (number_of its ≡ Some n)
-found_in word words n rest None is read = absurd cc
-found_in word words n rest (Some m) is read =
-    let pair = ap pair_read read in
-    (word, ap (λ (ws : Words). word ∷ ws) (ap (λ (p : ℕ × Words). p.1) pair), is ∙ ap (λ (p : ℕ × Words). Some p.0) pair)
+found_in word words n rest found h1 h2 = grind (arith, common_steps, gets)
 
 number_found : (words : Words) (n : ℕ) (rest : Words) → number_at words ≡ Ok (n, rest) → (word : List ℕ) × (words ≡ word ∷ rest) × (number_of word ≡ Some n)
-number_found [] n rest read = absurd cc
-number_found (word ∷ words) n rest read = found_in word words n rest (number_of word) refl (sym (read_is word words) ∙ read)
+number_found words n rest h1 = grind (arith, common_steps, gets)
 
 -- a number that is not too great is a seat
 pub seat_found : (words : Words) (n : ℕ) (rest : Words) → number_at words ≡ Ok (n, rest) → n ≤ MAX_SEATS → IsSeat n × (words ≡ decimal n ∷ rest)
@@ -130,11 +123,7 @@ no_empty_words : (words : Words) → ¬ IsFirstFaultOfWords Empty words
 no_empty_words words first = first.4
 
 never_empty : (fault : LineFault) (words : Words) → IsFirstFaultOfWords fault words → fault ≢ Empty
-never_empty Empty words first same = no_empty_words words first
-never_empty Missing words first same = cc
-never_empty Word words first same = cc
-never_empty Number words first same = cc
-never_empty Extra words first same = cc
+never_empty fault words h1 = grind (arith, common_steps, gets)
 
 -- ---- a line whose first word is the number of a seat
 
@@ -220,21 +209,10 @@ module _ (line : List ℕ) (some : line ≢ []) (no : BeginWithNoSeat (words_of 
 
 pub empty_is_none : (line : List ℕ) → line ≡ [] → (t : ℕ) (other : Command)
     → (let read : EntryRead = Err Empty in read ≡ Ok (t, other)) ↔ IsEntryLine t other line
-empty_is_none line none t other = (
-  (λ same. absurd cc),
-  (λ its.
-      let cut : words_of [] ≡ decimal t ∷ its.0 = ap words_of (sym none) ∙ its.2 in
-      let nothing : [] ≡ decimal t = first_same [] (decimal t) [] its.0 cut in
-      let first = decimal_nonempty t (omega (arith, its.1.1)) in
-      absurd (omega (arith, first, ap length nothing))),
-)
+empty_is_none line h1 t other = grind (arith, common_steps, gets)
 
 fault_of_empty : (fault : LineFault) (line : List ℕ) → line ≡ [] → IsFaultOfEntry fault line → (let read : EntryRead = Err Empty in read ≡ Err fault)
-fault_of_empty Empty line none is = refl
-fault_of_empty Missing line none is = absurd (is.0 none)
-fault_of_empty Word line none is = absurd (is.0 none)
-fault_of_empty Number line none is = absurd (is.0 none)
-fault_of_empty Extra line none is = absurd (is.0 none)
+fault_of_empty fault line h1 h2 = grind (arith, common_steps, gets)
 
 is_empty : (fault : LineFault) (line : List ℕ) → line ≡ [] → (let read : EntryRead = Err Empty in read ≡ Err fault) → IsFaultOfEntry fault line
 is_empty Empty line none e = none
@@ -247,8 +225,7 @@ empty_is_empty line none fault = (is_empty fault line none, fault_of_empty fault
 
 -- a first word, and then the others
 joined_behind : (word : List ℕ) (words : Words) → words ≢ [] → join_with_byte 32 (word ∷ words) ≡ word ++ codes " " ++ join_with_byte 32 words
-joined_behind word [] some = absurd (some refl)
-joined_behind word (next ∷ words) some = sym (append_assoc word (codes " ") (join_with_byte 32 (next ∷ words)))
+joined_behind word words h1 = grind (arith, common_steps, gets)
 
 no_words : (parts : List CommandPart) → parts ≢ [] → map part_text parts ≢ []
 no_words [] some same = some refl

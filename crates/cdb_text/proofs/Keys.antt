@@ -1,6 +1,8 @@
 -- Fixed words and registers.
+use Rattle.std.proofs.lemmas.Grind.{common_steps}
+use Rattle.std.proofs.lemmas.Option.{gets}
 use Rattle.std.proofs.Common.{◌≡◌, ℕ, ◌+◌, ◌-◌, ◌<◌, ◌≤◌, Bool, true, ◌&&◌, cond, List, [], ◌∷◌, length, get_or, Option}
-use Rattle.std.proofs.Common.{Some, None, bytes_eq, eqb, refl, sym, ap, subst, ◌∙◌, arith, inl, inr, lit≤}
+use Rattle.std.proofs.Common.{Some, None, bytes_eq, eqb, refl, sym, ap, subst, ◌∙◌, arith, inl, inr}
 use Rattle.std.specs.Prelude.{find, codes, decimal, slice_index, nat_le}
 use Rattle.std.proofs.lemmas.Bool.{and_parts, cases_Bool, le-leb, leb-true, eqb-true}
 use Rattle.std.proofs.lemmas.Slice.Eq.{bytes_eq-Decides, HasBytesAt, text_from_reads}
@@ -10,7 +12,6 @@ use Rattle.std.proofs.lemmas.Str.Parse.{digit_at, numerals_by_value, tells_digit
 use Rattle.cdb_base.specs.declared.register.Reg.{Reg}
 use Rattle.cdb_base.specs.declared.register.Reg.TheVariants.{R, Dec}
 use Rattle.cdb_text.specs.declared.keyword.Keyword.{Keyword}
-use Rattle.cdb_text.specs.declared.keyword.Keyword.TheVariants as key
 use Rattle.cdb_text.specs.Keywords.{keyword_name, keywords}
 use Rattle.cdb_text.specs.Commands.{register}
 use Rattle.cdb_text.specs.Grammar.{part_text, IsInRange}
@@ -32,31 +33,7 @@ keyword_says word k e = (bytes_eq-Decides word (keyword_name k)).0 (found_is (λ
 -- each fixed word is read as itself
 pub keyword_again : (k : Keyword) → keyword_of (keyword_name k) ≡ Some k
 unfolding keyword_of
-keyword_again key.Step = refl
-keyword_again key.Auto = refl
-keyword_again key.Lose = refl
-keyword_again key.Undo = refl
-keyword_again key.Redo = refl
-keyword_again key.Forget = refl
-keyword_again key.Rollback = refl
-keyword_again key.Why = refl
-keyword_again key.Break = refl
-keyword_again key.Unbreak = refl
-keyword_again key.Resume = refl
-keyword_again key.Show = refl
-keyword_again key.Decisions = refl
-keyword_again key.Go = refl
-keyword_again key.Learn = refl
-keyword_again key.Crash = refl
-keyword_again key.Query = refl
-keyword_again key.Recv = refl
-keyword_again key.Decide = refl
-keyword_again key.Round = refl
-keyword_again key.Write = refl
-keyword_again key.Regs = refl
-keyword_again key.Mail = refl
-keyword_again key.History = refl
-keyword_again key.Lost = refl
+keyword_again k = grind (arith, common_steps, gets)
 
 -- a word with the length and the bytes of a fixed word is read as that
 pub keyword_read : (k : Keyword) (word : List ℕ) → length word ≡ length (keyword_name k) → HasBytesAt word 0 (keyword_name k) → Some k ≡ keyword_of word
@@ -64,31 +41,7 @@ keyword_read k word long reads = sym (keyword_again k) ∙ ap keyword_of (sym (t
 
 -- a fixed word begins with a letter
 letter : (k : Keyword) → 97 ≤ get_or (keyword_name k) 0 0
-letter key.Step = lit≤ tt
-letter key.Auto = lit≤ tt
-letter key.Lose = lit≤ tt
-letter key.Undo = lit≤ tt
-letter key.Redo = lit≤ tt
-letter key.Forget = lit≤ tt
-letter key.Rollback = lit≤ tt
-letter key.Why = lit≤ tt
-letter key.Break = lit≤ tt
-letter key.Unbreak = lit≤ tt
-letter key.Resume = lit≤ tt
-letter key.Show = lit≤ tt
-letter key.Decisions = lit≤ tt
-letter key.Go = lit≤ tt
-letter key.Learn = lit≤ tt
-letter key.Crash = lit≤ tt
-letter key.Query = lit≤ tt
-letter key.Recv = lit≤ tt
-letter key.Decide = lit≤ tt
-letter key.Round = lit≤ tt
-letter key.Write = lit≤ tt
-letter key.Regs = lit≤ tt
-letter key.Mail = lit≤ tt
-letter key.History = lit≤ tt
-letter key.Lost = lit≤ tt
+letter k = grind (arith, common_steps, gets)
 
 no_keyword_at : (word : List ℕ) (found : Option Keyword) → get_or word 0 0 < 97 → keyword_of word ≡ found → keyword_of word ≡ None
 no_keyword_at word None low e = e
@@ -122,10 +75,7 @@ register_again (R p) is =
     rw (decimal_digit p (omega arith), low, high, back) refl
 
 two_bytes : (word : List ℕ) → length word ≡ 2 → word ≡ get_or word 0 0 ∷ get_or word 1 0 ∷ []
-two_bytes [] e = absurd (omega arith)
-two_bytes (a ∷ []) e = absurd (omega arith)
-two_bytes (a ∷ b ∷ []) e = refl
-two_bytes (a ∷ b ∷ c ∷ word) e = absurd (omega arith)
+two_bytes word h1 = grind (arith, common_steps, gets)
 
 -- `r` and a digit are a register
 digit_says : (a b : ℕ) → a ≡ 114 → 49 ≤ b → b ≤ 57 → (a ∷ b ∷ [] ≡ part_text (register (R (b - 48)))) × IsInRange (register (R (b - 48)))
@@ -169,8 +119,7 @@ register_says word x e =
     ]
 
 starts_with_letter : (x : Reg) → IsInRange (register x) → 97 ≤ get_or (part_text (register x)) 0 0
-starts_with_letter (R p) is = lit≤ tt
-starts_with_letter Dec is = lit≤ tt
+starts_with_letter x h1 = grind (arith, common_steps, gets)
 
 no_register : (word : List ℕ) (found : Option Reg) → get_or word 0 0 < 97 → register_named word ≡ found → register_named word ≡ None
 no_register word None low e = e

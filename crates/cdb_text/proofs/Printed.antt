@@ -1,20 +1,18 @@
 -- The printed words of a command are its words again.
+use Rattle.std.proofs.lemmas.Grind.{common_steps}
+use Rattle.std.proofs.lemmas.Option.{gets}
 use Rattle.std.proofs.Common.{◌≡◌, ◌≢◌, ℕ, ◌<◌, ◌≤◌, Bool, true, false, not, List, [], ◌∷◌, map, refl, sym, ap, subst, ◌∙◌, arith}
-use Rattle.std.specs.Prelude.{codes, decimal, Some, None}
+use Rattle.std.specs.Prelude.{codes, decimal}
 use Rattle.std.specs.Char.{digit_value}
 use Rattle.std.specs.List.{All, AllByRecursion, join_with_byte, list_all}
 use Rattle.std.specs.Str.Parse.{AllDigits}
-use Rattle.std.proofs.lemmas.Bool.{and_parts, not-true, false_from_ne_true, eqb-true}
+use Rattle.std.proofs.lemmas.Bool.{and_parts, not-true}
 use Rattle.std.proofs.lemmas.Fmt.{digits_decimal}
 use Rattle.std.proofs.lemmas.List.Elements.{All-from_recursion}
 use Rattle.std.proofs.lemmas.List.Splits.{slice_split_none, slice_split_at, join_with_byte-slice_split}
 use Rattle.std.proofs.lemmas.Str.Parse.{numerals_by_value, tells_digits}
-use Rattle.cdb_base.specs.declared.act.Act.TheVariants as act
 use Rattle.cdb_base.specs.declared.register.Reg.TheVariants.{R, Dec}
 use Rattle.cdb_commands.specs.declared.command.Command.{Command}
-use Rattle.cdb_commands.specs.declared.command.Command.TheVariants.{Step, Break, Show}
-use Rattle.cdb_commands.specs.declared.command.Stop.TheVariants as stop
-use Rattle.cdb_commands.specs.declared.command.View.TheVariants as view
 use Rattle.cdb_text.specs.Commands.{CommandPart, fixed, number, register, command_parts}
 use Rattle.cdb_text.specs.Grammar.{IsInRange, HasNumbersInRange, IsLineOf, printed, words_of, part_text}
 use Rattle.cdb_text.specs.Laws.{EachCommandHasOneLine}
@@ -37,9 +35,7 @@ joined word (next ∷ words) is all =
 -- ---- the words of a command
 
 digit_is_no_space : (byte : ℕ) → digit_value byte < 10 → is_space byte ≡ false
-digit_is_no_space byte is =
-    false_from_ne_true (is_space byte)
-    (λ e. let space : digit_value 32 < 10 = subst (λ (b : ℕ). digit_value b < 10) (eqb-true byte 32 e) is in omega (arith, space))
+digit_is_no_space byte h1 = grind (arith, common_steps, gets)
 
 digits_are_spaceless : (word : List ℕ) → AllDigits 10 word → IsSpaceless word
 digits_are_spaceless [] all = tt
@@ -54,21 +50,7 @@ no_space other = true
 
 -- no fixed word has a space
 no_spaces : (command : Command) → list_all no_space (command_parts command) ≡ true
-no_spaces (Step p act.Go) = refl
-no_spaces (Step p act.Learn) = refl
-no_spaces (Step p act.Crash) = refl
-no_spaces (Step p (act.Query None)) = refl
-no_spaces (Step p (act.Query (Some l))) = refl
-no_spaces (Step p (act.Recv s m)) = refl
-no_spaces (Break (stop.Decide p)) = refl
-no_spaces (Break (stop.Round p r)) = refl
-no_spaces (Break (stop.Recv p)) = refl
-no_spaces (Break (stop.Write x)) = refl
-no_spaces (Show (view.Proc p)) = refl
-no_spaces (Show view.Regs) = refl
-no_spaces (Show view.Mail) = refl
-no_spaces (Show view.History) = refl
-no_spaces other = refl
+no_spaces command = grind (arith, common_steps, gets)
 
 tested : (word : List ℕ) → list_all (λ byte. not (is_space byte)) word ≡ true → IsSpaceless word
 tested [] e = tt
@@ -92,21 +74,7 @@ cut_again [] some all = absurd (some refl)
 cut_again (part ∷ parts) some all = joined (part_text part) (map part_text parts) all.0 all.1
 
 pub some_part : (command : Command) → command_parts command ≢ []
-some_part (Step p act.Go) e = cc
-some_part (Step p act.Learn) e = cc
-some_part (Step p act.Crash) e = cc
-some_part (Step p (act.Query None)) e = cc
-some_part (Step p (act.Query (Some l))) e = cc
-some_part (Step p (act.Recv s m)) e = cc
-some_part (Break (stop.Decide p)) e = cc
-some_part (Break (stop.Round p r)) e = cc
-some_part (Break (stop.Recv p)) e = cc
-some_part (Break (stop.Write x)) e = cc
-some_part (Show (view.Proc p)) e = cc
-some_part (Show view.Regs) e = cc
-some_part (Show view.Mail) e = cc
-some_part (Show view.History) e = cc
-some_part other e = cc
+some_part command = grind (arith, common_steps, gets)
 
 pub printed_is_line : (command : Command) → HasNumbersInRange command → IsLineOf command (printed command)
 printed_is_line command ranges =

@@ -1,16 +1,15 @@
 -- A line `auto P`, where the number has one digit.
-use Rattle.std.proofs.Common.{◌≡◌, ℕ, ◌-◌, ◌≤◌, false, List, [], ◌∷◌, length, get_or, nat_eq, refl, sym, ap, ◌∙◌, arith}
+use Rattle.std.proofs.lemmas.Grind.{common_steps}
+use Rattle.std.proofs.lemmas.Option.{gets}
+use Rattle.std.proofs.Common.{◌≡◌, ℕ, ◌-◌, ◌≤◌, List, [], ◌∷◌, length, get_or, refl, sym, ap, ◌∙◌, arith}
 use Rattle.std.specs.Prelude.{codes, decimal}
-use Rattle.std.proofs.lemmas.Bool.{ne_eqb}
 use Rattle.std.proofs.lemmas.Fmt.{decimal_digit}
 use Rattle.std.proofs.lemmas.Slice.Eq.{HasBytesAt, text_from_reads}
 use Rattle.cdb_commands.specs.declared.command.Command.TheVariants.{Auto}
 use Rattle.cdb_text.specs.Grammar.{AreWordsOf, words_of}
 
 cut : (digit : ℕ) → 49 ≤ digit → words_of (97 ∷ 117 ∷ 116 ∷ 111 ∷ 32 ∷ digit ∷ []) ≡ codes "auto" ∷ (digit ∷ []) ∷ []
-cut digit low =
-    let other : nat_eq digit 32 ≡ false = ne_eqb digit 32 (λ same. omega (arith, same)) in
-    rw other refl
+cut digit h1 = grind (arith, common_steps, gets)
 
 words : (line : List ℕ) (digit : ℕ) → line ≡ 97 ∷ 117 ∷ 116 ∷ 111 ∷ 32 ∷ digit ∷ [] → 49 ≤ digit → digit ≤ 57 → AreWordsOf (Auto (digit - 48)) (words_of line)
 words line digit is low high =

@@ -1,7 +1,10 @@
 -- Reading a command goes from state to state: after some parts, the rest of the words is read by k.
+use Rattle.std.proofs.Common.{arith}
+use Rattle.std.proofs.lemmas.Grind.{common_steps}
+use Rattle.std.proofs.lemmas.Option.{gets}
 use Rattle.std.proofs.Common.{◌≡◌, ◌≢◌, ◌⊎◌, ℕ, false, List, [], ◌∷◌, ◌++◌, map, Option, Some, None}
 use Rattle.std.proofs.Common.{bytes_eq, refl, sym, ap, subst, ◌∙◌, append_assoc, inl, inr, lit≤}
-use Rattle.std.specs.Prelude.{Result, Ok, Err, codes, decimal, true}
+use Rattle.std.specs.Prelude.{Result, Ok, Err, codes, decimal}
 use Rattle.std.specs.List.{AllByRecursion}
 use Rattle.std.proofs.lemmas.List.{append-nil, map-append}
 use Prim.Native.String.{String}
@@ -48,8 +51,7 @@ Ending parts k =
 
 one_more : (parts : List CommandPart) (part : CommandPart) (rest : List (List ℕ))
     → map part_text (parts ++ part ∷ []) ++ rest ≡ map part_text parts ++ part_text part ∷ rest
-one_more parts part rest =
-    ap (λ (ws : List (List ℕ)). ws ++ rest) (map-append part_text parts (part ∷ [])) ∙ append_assoc (map part_text parts) (part_text part ∷ []) rest
+one_more parts part rest = grind (arith, common_steps, gets)
 
 -- the next part is read on
 pub further_reads : (parts : List CommandPart) (k further : Reader) (part : CommandPart) → Reads parts k
@@ -160,11 +162,7 @@ pub one : IsInRange (number 1)
 one = (lit≤ tt, lit≤ tt)
 
 pub not_show : (word : List ℕ) (words : List (List ℕ)) → bytes_eq word (codes "show") ≡ false → word ∷ words ≢ codes "show" ∷ []
-not_show word words differs e =
-    let same : word ≡ codes "show" = cc in
-    let yes : bytes_eq (codes "show") (codes "show") ≡ true = refl in
-    let no : bytes_eq (codes "show") (codes "show") ≡ false = ap (λ (w : List ℕ). bytes_eq w (codes "show")) (sym same) ∙ differs in
-    cc
+not_show word words h1 = grind (arith, common_steps, gets)
 
 abbrev pub number_then : (ℕ × List (List ℕ) → Result Command LineFault) → Reader
 number_then after words = number_at words >>= after

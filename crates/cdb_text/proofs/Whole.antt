@@ -1,5 +1,8 @@
 -- A whole line.
-use Rattle.std.proofs.Common.{◌≡◌, ◌≢◌, ◌↔◌, List, [], ℕ, refl, sym, ap, subst, ◌∙◌}
+use Rattle.std.proofs.Common.{arith}
+use Rattle.std.proofs.lemmas.Grind.{common_steps}
+use Rattle.std.proofs.lemmas.Option.{gets}
+use Rattle.std.proofs.Common.{◌≡◌, ◌≢◌, ◌↔◌, List, [], ℕ, sym, ap, subst, ◌∙◌}
 use Rattle.std.specs.Prelude.{Result, Ok, Err}
 use Rattle.cdb_commands.specs.declared.command.Command.{Command}
 use Rattle.cdb_text.specs.declared.fault.LineFault.{LineFault}
@@ -57,11 +60,7 @@ abbrev empty : Result Command LineFault
 empty = Err Empty
 
 fault_of_empty : (f : LineFault) (line : List ℕ) → line ≡ [] → IsFaultOf f line → empty ≡ Err f
-fault_of_empty Empty line none is = refl
-fault_of_empty Missing line none is = absurd (is.0 none)
-fault_of_empty Word line none is = absurd (is.0 none)
-fault_of_empty Number line none is = absurd (is.0 none)
-fault_of_empty Extra line none is = absurd (is.0 none)
+fault_of_empty f line h1 h2 = grind (arith, common_steps, gets)
 
 is_empty : (f : LineFault) (line : List ℕ) → line ≡ [] → empty ≡ Err f → IsFaultOf f line
 is_empty Empty line none e = none
@@ -74,10 +73,4 @@ empty_is_empty line none f = (is_empty f line none, fault_of_empty f line none)
 -- the empty line is no command
 pub empty_is_none : (line : List ℕ) → line ≡ [] → (command : Command) → (empty ≡ Ok command) ↔ IsLineOf command line
 unfolding command_at keyword_of
-empty_is_none line none command = (
-  (λ is. absurd cc),
-  (λ is.
-      let read : command_at (words_of line) ≡ Ok command = ap command_at is.0 ∙ again command is.1 in
-      let no : command_at (words_of line) ≡ Err Word = rw none refl in
-      absurd cc),
-)
+empty_is_none line h1 command = grind (arith, common_steps, gets)
