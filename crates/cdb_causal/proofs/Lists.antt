@@ -2,7 +2,7 @@
 use Rattle.std.proofs.lemmas.Grind.{common_steps}
 use Rattle.std.proofs.lemmas.Option.{gets, none-some, same_Some}
 use Rattle.std.proofs.Common.{◌≡◌, ℕ, zero, suc, ◌+◌, ◌-◌, ◌<◌, ◌≤◌, ◌⊎◌, List, [], ◌∷◌, ◌++◌, Some, length, slice_get, take, drop, map, refl, sym}
-use Rattle.std.proofs.Common.{ap, ap₂, ◌∙◌, subst, arith}
+use Rattle.std.proofs.Common.{ap₂, ◌∙◌, subst, arith}
 use Rattle.std.proofs.lemmas.List.{map-append, take-map, drop-map}
 use Rattle.std.specs.List.{AllByRecursion}
 use Rattle.cdb_base.specs.Positions.{nth}
@@ -14,9 +14,6 @@ next_is at from_one = omega (arith, from_one)
 -- what holds of a position that is not named as a successor
 pub by_next : (Holds : ℕ → Type 0) (at : ℕ) → 1 ≤ at → Holds (suc (at - 1)) → Holds at
 by_next Holds at from_one h = subst Holds (next_is at from_one) h
-
-pub nth_below : {A : Type 0} (xs : List A) (at : ℕ) (x : A) → 1 ≤ at → nth xs at ≡ Some x → nth xs (suc (at - 1)) ≡ Some x
-nth_below xs at x from_one h = ap (nth xs) (next_is at from_one) ∙ h
 
 pub nth_drop : {A : Type 0} (xs : List A) (n k : ℕ) → nth (drop n xs) (suc k) ≡ nth xs (suc (n + k))
 nth_drop xs n k = grind (arith, common_steps, gets)

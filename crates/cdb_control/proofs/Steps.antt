@@ -61,21 +61,6 @@ why_lost_ok rules t seat s m p it r is ok = subst (λ (c : Command). IfOk r (Cam
 -- ---- commands that are carried out by a method of their own: what it does is done by the command, for its seat or for any
 
 module _ (rules : Parts → Rules) (t u : State) (seat : ℕ) (one it : Command) (is : it ≡ one) where
-  pub same_ok : (r : Result Reply NoMemory) → IfOk r (IsCarriedOut rules t seat one u) → IfOk r (IsCarriedOut rules t seat it u)
-  same_ok (Ok reply) ok = subst (λ (c : Command). IsCarriedOut rules t seat c u reply) (sym is) ok
-  same_ok (Err fault) ok = ok
-
-  pub any_ok : (r : Result Reply NoMemory) → IfOk r (IsCarriedOutForAny rules t one u) → IfOk r (IsCarriedOut rules t seat it u)
-  any_ok (Ok reply) ok = same_ok (Ok reply) (ok seat)
-  any_ok (Err fault) ok = ok
-
-  pub same_granted : (r : Result Reply NoMemory) → OnErr r (IsGranted rules t seat one) → OnErr r (IsGranted rules t seat it)
-  same_granted (Ok a) granted = granted
-  same_granted (Err fault) granted = subst (λ (c : Command). IsGranted rules t seat c) (sym is) granted
-
-  pub any_granted : (r : Result Reply NoMemory) → OnErr r (IsGrantedFromAny rules t one) → OnErr r (IsGranted rules t seat it)
-  any_granted (Ok a) granted = granted
-  any_granted (Err fault) granted = same_granted (Err fault) (granted seat)
 
 -- what stays the same does not shrink
 pub as_many : (old new : List ℕ) → new ≡ old → NoneShrinks old new
@@ -113,15 +98,6 @@ pub why_lost_granted : (rules : Rules) (t : State) (seat s m p : ℕ) (it : Comm
 unfolding outcome
 why_lost_granted rules t seat s m p it r is memory = subst (λ (c : Command). OnErr r (IsNoRefusal (outcome rules t seat c))) (sym is) memory
 
--- what is granted is answered as what it goes on to
-pub granted_goes_on : {A : Type 0} (x : Result A Refusal) (t : State) (go : A → Outcome) → IsOk x
-    → ((a : A) → is_refused (go a).reply ≡ false) → is_refused (granted x t go).reply ≡ false
-granted_goes_on x t go h1 h2 = grind (arith, common_steps, gets)
-
-pub alone_ok : {A : Type 0} (x : Result (A × List Event) Refusal) → IsOk (result_alone x) → IsOk x
-alone_ok (Ok done) ok = refl
-alone_ok (Err why) ok = ok
-
 -- what holds anyway holds on an error
 pub on_error : {A E P : Type 0} (r : Result A E) → P → OnErr r P
 on_error (Ok a) holds = tt
@@ -133,15 +109,6 @@ pub refused_leaves : (x : Result (Event × List Event) Refusal) (history : List 
 refused_leaves x history why h1 = grind (arith, common_steps, gets)
 
 -- ---- what an undo or a rollback answers, together with what it leaves
-
-ok_ok : {A : Type 0} (a b : A) (r : Result A Refusal) → r ≡ Ok a → r ≡ Ok b → a ≡ b
-ok_ok {A = A} a b r one other = let both : (let x : Result A Refusal = Ok a in x) ≡ Ok b = sym one ∙ other in cc
-
-ok_err : {A : Type 0} (a : A) (why : Refusal) (r : Result A Refusal) → r ≡ Ok a → r ≡ Err why → ⊥
-ok_err {A = A} a why r one other = let both : (let x : Result A Refusal = Ok a in x) ≡ Err why = sym one ∙ other in cc
-
-err_err : {A : Type 0} (a b : Refusal) (r : Result A Refusal) → r ≡ Err a → r ≡ Err b → a ≡ b
-err_err {A = A} a b r one other = let both : (let x : Result A Refusal = Err a in x) ≡ Err b = sym one ∙ other in cc
 
 -- the state with another history and another redo list of a seat
 abbrev pub with_lists : State → ℕ → List Event → List Event → State
@@ -183,33 +150,3 @@ redone-as rules t u seat undone event given r h1 h2 h3 h4 h5 = grind (arith, com
 
 -- ---- the outcome of a refused step, redo or `auto`: its reply, together with what it leaves
 
--- the state with what was taken, if anything was
-abbrev pub taken_in : State → Result Event Refusal → State
-taken_in t r = record t { history = with_taken t.history r }
-
-refused-as : (t u : State) (x r : Result Event Refusal) (why : Refusal) (go : Event → Outcome) → r ≡ x → u ≡ taken_in t r → r ≡ Err why
-    → (let o : Outcome = record { reply = reply.Refused why; after = u } in o) ≡ granted x t go
-refused-as t u x r why go h1 h2 h3 = grind (arith, common_steps, gets)
-
-pub step_refused-as : (rules : Rules) (t u : State) (seat p : ℕ) (act : Act) (r : Result Event Refusal) (why : Refusal)
-    → r ≡ rules.step t.history p act → u ≡ taken_in t r → r ≡ Err why
-    → (let o : Outcome = record { reply = reply.Refused why; after = u } in o) ≡ outcome rules t seat (command.Step p act)
-unfolding outcome
-step_refused-as rules t u seat p act r why is after err = refused-as t u _ r why (step_done rules t p) is after err
-
-pub auto_refused-as : (rules : Rules) (t u : State) (seat p : ℕ) (x : Result Act Refusal) (r : Result Event Refusal) (why : Refusal)
-    → choice rules t.history p ≡ x → t.pause ≡ None → r ≡ step_of_chosen (rules.step t.history p) x → u ≡ taken_in t r → r ≡ Err why
-    → (let o : Outcome = record { reply = reply.Refused why; after = u } in o) ≡ outcome rules t seat (command.Auto p)
-unfolding outcome
-auto_refused-as rules t u seat p x r why h1 h2 h3 h4 h5 = grind (arith, common_steps, gets)
-
-pub redo_none : (rules : Rules) (t : State) (seat : ℕ) → None ≡ last_of (redo_of t seat)
-    → (let o : Outcome = record { reply = reply.Refused NothingToRedo; after = t } in o) ≡ outcome rules t seat command.Redo
-unfolding outcome
-redo_none rules t seat none = ap (λ (o : Option Event). found o NothingToRedo t (λ e. granted (rules.again t.history e) t (redone rules t seat))) none
-
-pub redo_refused-as : (rules : Rules) (t u : State) (seat : ℕ) (undone : Event) (r : Result Event Refusal) (why : Refusal)
-    → Some undone ≡ last_of (redo_of t seat) → r ≡ rules.again t.history undone → u ≡ taken_in t r → r ≡ Err why
-    → (let o : Outcome = record { reply = reply.Refused why; after = u } in o) ≡ outcome rules t seat command.Redo
-unfolding outcome
-redo_refused-as rules t u seat undone r why h1 h2 h3 h4 = grind (arith, common_steps, gets)

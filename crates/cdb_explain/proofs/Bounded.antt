@@ -11,10 +11,6 @@ use Rattle.cdb_rules.specs.Lawful.{AreLawful}
 use Rattle.cdb_rules.specs.Rules.{Rules}
 use Rattle.cdb_setup.specs.Parts.{Parts, AreInRange}
 
-none_wait : (n : ℕ) → waiting (replicate n []) ≡ 0
-none_wait zero = refl
-none_wait (suc n) = omega (arith, none_wait n)
-
 -- each entry adds one event at most
 held_after : (rules : Rules) (journal : List Entry) (t : State) (seats : ℕ) → AreLawful rules t.setup → length t.redo ≡ seats → AreOfSeats seats journal
     → events_kept (replay_from rules t journal) ≤ events_kept t + length journal
@@ -25,13 +21,3 @@ held_after rules (e ∷ journal) t seats lawful lists of_seats =
     let more = held_after rules journal u seats (subst (AreLawful rules) (sym adds.setup) lawful) (adds.lists ∙ lists) of_seats.1 in
     omega (arith, more, adds.events)
 
-pub few_events : (rules : Parts → Rules) → ((setup : Parts) → AreInRange setup → AreLawful (rules setup) setup)
-    → (control : Journaled) → AreInRange control.setup
-    → AreOfSeats control.seats control.journal → length (control_state rules control).history ≤ length control.journal
-unfolding replay
-few_events rules lawful control in_range of_seats =
-    let t = first_control_state control.setup control.seats in
-    let none = none_wait control.seats in
-    let lists : length t.redo ≡ control.seats = length-replicate control.seats [] in
-    let most = held_after (rules control.setup) control.journal t control.seats (lawful control.setup in_range) lists of_seats in
-    omega (arith, most, none)

@@ -134,8 +134,6 @@ module _ (n p : ℕ) where
   among_is first last = grind (arith, nat_tests)
 
   module _ (found : Option ℕ) (is : found ≡ (if is_among n p then Some p else None)) where
-    pub among_some : MatchOption found (is_among n p ≡ false) (λ q. (q ≡ p) × (p ≤ n) × (1 ≤ p))
-    among_some = grind (arith, common_steps, gets)
 
     pub among_none : {P : Type 0} → (is_among n p ≡ false → P) → IfNone found P
     among_none {P = P} none =

@@ -68,9 +68,6 @@ writer = fresh_process 1
 query : after machine (stands (fresh_process 0) registers) (Step 1 1 (Query 2)) ≡ Some (stands (stepped 1 true 1 [] set.empty (Query 2) None) registers)
 query = refl
 
-no_leader : after machine (stands (fresh_process 0) registers) (Step 1 1 (Query 3)) ≡ None
-no_leader = refl
-
 send : after machine (stands (fresh_process 0) registers) (Step 1 1 (Send 1))
     ≡ Some (stands (stepped 1 true 0 (payload ∷ []) set.empty (Send 1) None) registers)
 send = refl

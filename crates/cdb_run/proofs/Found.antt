@@ -37,13 +37,6 @@ module _ (run : RunView) (name : StepId) (why : Refusal) (none : IsNotFound run 
   pub not_undone : undo_in run name ≡ Err why
   not_undone = ap (λ found. for_standing found (undo_found run.history)) none
 
-  pub not_rolled_back : rollback_in run name ≡ Err why
-  not_rolled_back =
-      ap
-      (λ (f : Result Found Refusal).
-      for_standing f (λ found. Ok (reverse (rolled_back depends run.history found.position), remaining depends run.history found.position)))
-      none
-
 module _ {L : Type 0} (table : Table L) (run : RunView) (ranges : AreInRange run.setup) (valid : IsInOrder table run) where
   abbrev machine : Machine L
   machine = machine_of table run.setup

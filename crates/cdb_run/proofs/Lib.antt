@@ -4,7 +4,6 @@ pub mod FirstStep
 pub mod Decisions
 pub mod Held
 pub mod StepsTaken
-pub mod Planned
 pub mod Views
 -- an event is taken back by its record, whatever came later
 pub mod Records

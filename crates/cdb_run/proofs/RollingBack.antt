@@ -33,12 +33,6 @@ module _ (before : List Event) (at : ℕ) (into : List Event) (first : Event) (s
   from_one : 1 ≤ at
   from_one = stands_from_one before at first stands
 
-  pub all_left : (events : List Event) → events ≡ rolled_back depends before at → AreLeft before at into before events into
-  all_left events are =
-      let split = rolled_back_split depends before at first stands in
-      subst (λ l. AreLeft before at into before l into) (sym (are ∙ split))
-      (record { still = (split, refl); went = ap (λ l. into ++ reverse l) (sym split) })
-
   pub next_free : {history removed : List Event} (rest : List Event) (event : Event) → AreLeft before at into history (rest ++ event ∷ []) removed
       → IsNextFree before at into history rest event removed
   next_free {history = history} {removed = removed} rest event left = by rest left.still went

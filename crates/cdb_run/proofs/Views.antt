@@ -95,13 +95,6 @@ module _ {L B : Type 0} {machine : Machine L} {before : L → B → L} {processe
   process_none p none =
       ap (λ (state : RunState L). nth state.processes p) (state_is current) ∙ process_absent current p (subst (λ m. is_among m p ≡ false) (sym number) none)
 
-  pub plan_absent : (p : ℕ) (setup : Parts) (act : Act) → is_among n p ≡ false
-      → Err NoProcess ≡ step_result machine setup (state_of machine (events_of entries)) p act
-  plan_absent p setup act none =
-      sym (ap (λ o. option_map_or (λ (x : ProcessState L). planned machine setup (mail_of current.state) current.state.registers x.progress p act)
-      o (Err NoProcess)) (process_absent current p (subst (λ m. is_among m p ≡ false) (sym number) none)))
-      ∙ ap (λ (state : RunState L). step_result machine setup state p act) (sym (state_is current))
-
 map-map : {A B C : Type 0} (f : B → C) (g : A → B) (xs : List A) → map f (map g xs) ≡ map (λ x. f (g x)) xs
 map-map f g [] = refl
 map-map f g (x ∷ xs) = ap (λ l. f (g x) ∷ l) (map-map f g xs)

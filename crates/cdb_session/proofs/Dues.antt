@@ -12,11 +12,6 @@ pub any_of_texts : (p : List ℕ → Bool) (its : List (Bor (List ℕ)))
 any_of_texts p [] = refl
 any_of_texts p (it ∷ its) = ap (λ b. p it.now || b) (any_of_texts p its)
 
--- from one place to the next
-pub at_place : (chooses : Bool) (dues : List Due) (i : ℕ) (default : Due) (words : List (List ℕ)) → i < length dues
-    → first_amiss chooses (drop i dues) words ≡ first_amiss chooses (get_or dues i default ∷ drop (i + 1) dues) words
-at_place chooses dues i default words within = rw (add-one, drop-cons dues i default) refl
-
 abbrev pub texts : List (Bor (List ℕ)) → List (List ℕ)
 texts its = map (λ (it : Bor (List ℕ)). it.now) its
 
@@ -24,23 +19,9 @@ abbrev first : List (Bor (List ℕ)) → List ℕ
 first its = (get_or its 0 (record { ref_ptr = (0, 0); now = [] })).now
 
 module _ (chooses : Bool) (dues : List Due) (i : ℕ) where
-  -- the words have ended
-  pub ends_there : (left : List (Bor (List ℕ))) → i < length dues → length left < 1
-      → first_amiss chooses (drop i dues) (texts left) ≡ ends (get_or dues i Command)
-  ends_there [] within few = at_place chooses dues i Command [] within
-  ends_there (it ∷ its) within few = absurd (omega arith)
-
-  pub stands_there : (left : List (Bor (List ℕ))) → i < length dues → 1 ≤ length left → may_stand chooses (get_or dues i Command) (first left) ≡ false
-      → first_amiss chooses (drop i dues) (texts left) ≡ stands (get_or dues i Command) (first left)
-  stands_there [] within some not = absurd (omega arith)
-  stands_there (it ∷ its) within some not = at_place chooses dues i Command (texts (it ∷ its)) within ∙ rw not refl
 
   -- nothing more is due
   pub all_there : (left : List (Bor (List ℕ))) → length dues ≤ i → length left < 1 → first_amiss chooses (drop i dues) (texts left) ≡ nothing
   all_there [] behind few = rw (drop_all i dues behind) refl
   all_there (it ∷ its) behind few = absurd (omega arith)
 
-  pub stands_behind : (left : List (Bor (List ℕ))) → length dues ≤ i → 1 ≤ length left
-      → first_amiss chooses (drop i dues) (texts left) ≡ stands Nothing (first left)
-  stands_behind [] behind some = absurd (omega arith)
-  stands_behind (it ∷ its) behind some = rw (drop_all i dues behind) refl

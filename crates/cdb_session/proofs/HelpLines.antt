@@ -51,9 +51,6 @@ its_topic (Some word) = elim word as (λ (t : Topic). topic_in (help_line (Some 
   | topic.Seat ↦ refl
 ]
 
-pub same_topic : (one other : Option Topic) → help_line one ≡ help_line other → one ≡ other
-same_topic one other is = sym (its_topic one) ∙ ap topic_in is ∙ its_topic other
-
 found_is : {A : Type 0} (p : A → Bool) (xs : List A) (x : A) → find p xs ≡ Some x → p x ≡ true
 found_is p [] x e = absurd cc
 found_is p (y ∷ xs) x e =
@@ -93,11 +90,3 @@ one_more t lines i none within =
 
 -- ---- a word that no line is about
 
-pub fault_where_none : (line : ℕ) (topic : Topic) (text : List ℕ) → length text ≡ 0
-    → or_word_fault line topic text ≡ faulty_line_text line Word (stands Command (topic_word topic))
-fault_where_none line topic [] none = refl
-fault_where_none line topic (byte ∷ text) none = absurd (omega (arith, none))
-
-pub no_fault_where_some : (line : ℕ) (topic : Topic) (text : List ℕ) → 0 < length text → or_word_fault line topic text ≡ text
-no_fault_where_some line topic [] some = absurd (omega (arith, some))
-no_fault_where_some line topic (byte ∷ text) some = refl

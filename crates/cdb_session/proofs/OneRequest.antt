@@ -13,7 +13,7 @@ use Rattle.cdb_session.specs.Repeats.{IsRepeatLine}
 use Rattle.cdb_session.specs.declared.topic.Topic.{Topic}
 use Rattle.cdb_session.specs.declared.request.Request.{Request}
 use Rattle.cdb_session.specs.declared.request.Request.TheVariants.{Call, Ask, Watch, Seat, Help, Quit, Fault, TooLong}
-use Rattle.cdb_session.proofs.HelpLines.{begins_with_h, same_topic}
+use Rattle.cdb_session.proofs.HelpLines.{begins_with_h}
 use Rattle.cdb_session.proofs.InquiryLines.{no_help, no_quit, no_seat, no_watch, one_inquiry, one_repeat, repeats_no_other, repeats_no_inquiry}
 use Rattle.cdb_session.proofs.SeatLines.{digit}
 use Rattle.cdb_session.specs.Inquiries.{IsInquiryLine}
@@ -41,21 +41,6 @@ module _ (line : List ℕ) where
   only_too_long long TooLong asks = refl
 
   module _ (few : length line ≤ longest) where
-    pub only_help : (about : Option Topic) → line ≡ help_line about → (other : Request) → AsksFor other line → other ≡ Help about
-    only_help about is (Call command times) asks =
-        absurd (let r = repeats line command times asks.1 (inl (about, is)) in
-        repeats_no_other line (help_line about) 104 r.0 times r.2 is (begins_with_h about) (λ e. omega (arith, e)))
-    only_help about is (Ask inquiry) asks = absurd (no_help line inquiry asks.1 about is)
-    only_help about is (Watch true) asks =
-        absurd (let e : 104 ≡ 119 = sym (begins_with_h about) ∙ first line (help_line about) (watch_line true) is asks.1 in omega (arith, e))
-    only_help about is (Watch false) asks =
-        absurd (let e : 104 ≡ 117 = sym (begins_with_h about) ∙ first line (help_line about) (watch_line false) is asks.1 in omega (arith, e))
-    only_help about is (Seat seat) asks =
-        absurd (let e : 104 ≡ 115 = sym (begins_with_h about) ∙ first line (help_line about) (seat_line seat) is asks.1.1 in omega (arith, e))
-    only_help about is (Help another) asks = ap (λ (o : Option Topic). Help o) (same_topic another about (sym asks.1 ∙ is))
-    only_help about is Quit asks = absurd (let e : 104 ≡ 113 = sym (begins_with_h about) ∙ first line (help_line about) quit_line is asks.1 in omega (arith, e))
-    only_help about is (Fault fault) asks = absurd (asks.1.0 (inl (about, is)))
-    only_help about is TooLong asks = absurd (omega (arith, few, asks))
 
     pub only_seat : (seat : ℕ) → IsWithin 1 most_seats seat → line ≡ seat_line seat → (other : Request) → AsksFor other line → other ≡ Seat seat
     only_seat seat within is (Call command times) asks =
@@ -99,27 +84,6 @@ module _ (line : List ℕ) where
     only_repeat p times is Quit asks = absurd (repeats_no_other line quit_line 113 p times is asks.1 refl (λ e. omega (arith, e)))
     only_repeat p times is (Fault fault) asks = absurd (asks.1.0 (inr (inr (inr (inr (inl (p, times, is)))))))
     only_repeat p times is TooLong asks = absurd (omega (arith, few, asks))
-
-    same_watch : (begins other : Bool) → line ≡ watch_line begins → line ≡ watch_line other → other ≡ begins
-    same_watch true true is is_other = refl
-    same_watch true false is is_other =
-        absurd (let e : 119 ≡ 117 = first line (watch_line true) (watch_line false) is is_other in omega (arith, e))
-    same_watch false true is is_other =
-        absurd (let e : 117 ≡ 119 = first line (watch_line false) (watch_line true) is is_other in omega (arith, e))
-    same_watch false false is is_other = refl
-
-    pub only_watch : (begins : Bool) → line ≡ watch_line begins → (other : Request) → AsksFor other line → other ≡ Watch begins
-    only_watch begins is (Call command times) asks =
-        absurd (let r = repeats line command times asks.1 (inr (inr (inr (inr (inr (begins, is)))))) in
-        let e = only_repeat r.0 times r.2 (Watch begins) (few, is) in cc)
-    only_watch begins is (Ask inquiry) asks = absurd (no_watch line inquiry asks.1 begins is)
-    only_watch begins is (Watch another) asks = ap (λ (b : Bool). Watch b) (same_watch begins another is asks.1)
-    only_watch begins is (Seat seat) asks = absurd (let e = only_seat seat asks.1.0 asks.1.1 (Watch begins) (few, is) in cc)
-    only_watch begins is (Help about) asks = absurd (let e = only_help about asks.1 (Watch begins) (few, is) in cc)
-    only_watch true is Quit asks = absurd (let e : 119 ≡ 113 = first line (watch_line true) quit_line is asks.1 in omega (arith, e))
-    only_watch false is Quit asks = absurd (let e : 117 ≡ 113 = first line (watch_line false) quit_line is asks.1 in omega (arith, e))
-    only_watch begins is (Fault fault) asks = absurd (asks.1.0 (inr (inr (inr (inr (inr (begins, is)))))))
-    only_watch begins is TooLong asks = absurd (omega (arith, few, asks))
 
     module _ (other_line : ¬ IsOwn line) (read : Result Command LineFault)
         (command_is : (c : Command) → IsLineOf c line → read ≡ Ok c) (fault_is : (f : LineFault) → IsFaultOf f line → read ≡ Err f) where

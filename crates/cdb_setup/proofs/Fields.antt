@@ -6,11 +6,6 @@ use Rattle.std.proofs.Common.{◌≡◌, ℕ, List}
 use Rattle.cdb_setup.specs.declared.setup.Algorithm.{Algorithm}
 use Rattle.cdb_setup.specs.Parts.{Parts}
 
-same_built : (build : ℕ → Algorithm → ℕ → ℕ → List ℕ → List (List ℕ) → Parts) (s t : Parts)
-    → s.version ≡ t.version → s.algorithm ≡ t.algorithm → s.processes ≡ t.processes → s.quorum ≡ t.quorum → s.inputs ≡ t.inputs → s.answers ≡ t.answers
-    → build s.version s.algorithm s.processes s.quorum s.inputs s.answers ≡ build t.version t.algorithm t.processes t.quorum t.inputs t.answers
-same_built build s t version algorithm processes quorum inputs answers = cc
-
 pub same_fields : (s t : Parts)
     → s.version ≡ t.version → s.algorithm ≡ t.algorithm → s.processes ≡ t.processes → s.quorum ≡ t.quorum → s.inputs ≡ t.inputs → s.answers ≡ t.answers → s ≡ t
 same_fields s t h1 h2 h3 h4 h5 h6 = grind (arith, common_steps, gets)

@@ -26,22 +26,6 @@ joined t fault json clear found = record {
   ];
 }
 
--- as is a fault that is alone in its rank
-pub alone_first : (fault : SetupFault) (json : Data) → IsClearBelow (rank fault) json → numbers_in fault ≡ (0, 0) → Holds fault json → IsFirstOf fault json
-alone_first fault json clear none holds = record {
-  holds = holds;
-  first = λ other before. elim before [
-    | inl lt ↦ clear other lt
-    | inr same ↦ absurd (no_pair (numbers_in other) (subst (IsPairBefore (numbers_in other)) none same.1))
-  ];
-}
-  where
-    no_pair : (a : ℕ × ℕ) → ¬ IsPairBefore a (0, 0)
-    no_pair a before = elim before [
-      | inl lt ↦ omega (arith, lt)
-      | inr same ↦ (let lt = same.1 in omega (arith, lt))
-    ]
-
 passes : (t : ℕ) (json : Data) → IsClearBelow t json → ((other : SetupFault) → rank other ≡ t → ¬ Holds other json) → IsClearBelow (t + 1) json
 passes t json clear none other below =
     elim (cases_lt (rank other) t) [ inl lt ↦ clear other lt | inr le ↦ none other (omega arith) ]

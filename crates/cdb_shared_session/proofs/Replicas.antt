@@ -55,12 +55,6 @@ module _ (seat : SeatView) (c : Journaled) (so : IsReplica seat c) where
   pub replica_new_seen : (new : Journaled) → new ≡ opened_from seat.setup seat.seats seat.seen → IsReplica seat new
   replica_new_seen new is = subst (IsReplica seat) (sym is) (record { opened_is = refl; begins = ([], sym (append-nil seat.seen)) })
 
--- each entry behind a position is of a seat
-pub seats_behind : (seats from : ℕ) (es : List Entry) → AreOfSeats seats es → AreOfSeats seats (drop from es)
-seats_behind seats zero es all = all
-seats_behind seats (suc from) [] all = tt
-seats_behind seats (suc from) (e ∷ es) all = seats_behind seats from es all.1
-
 -- what it tells then, from the entry on where somebody watches, is the news up to what was seen
 pub news_seen : (rules : Parts → Rules) (seat : SeatView) (from : Option ℕ) (first seen : ℕ)
     → first ≡ unwrap_or from seen → seen ≡ length seat.seen

@@ -118,14 +118,3 @@ asked_now rules Answers seat inquiry (Ok answer) is =
     (just_now rules seat, subst (λ (seen : List Entry). Answers (run_left rules seat.setup seat.seats seen) inquiry (answer_seen answer)) (sym all) is)
 asked_now rules Answers seat inquiry (Err fault) is = tt
 
--- the news up to the end of the journal that the seat has seen
-pub seen_now : (rules : Parts → Rules) (seat : SeatView) (from : Option ℕ) (seen : ℕ) (text : List ℕ) → seen ≡ length seat.seen
-    → text ≡ news_up_to (part_seen rules seat) from (length seat.seen)
-    → let part = part_seen rules seat in AreNews part (length part.calls) part.entries from seen text
-seen_now rules seat from seen text is news =
-    let part = part_seen rules seat in
-    record {
-      no_less = omega (arith, is);
-      seen_is = subst (HaveJust part (length part.calls)) (sym is) (just_now rules seat);
-      news_are = news ∙ ap (news_up_to part from) (sym is);
-    }

@@ -20,9 +20,6 @@ use Rattle.cdb_standing.specs.declared.tables.Entry.{Entry}
 use Rattle.cdb_standing.specs.declared.tables.Sent.{Sent}
 use Rattle.cdb_standing.proofs.CutsFound.{cut_set, cut_set_other}
 
-pub index_at : {A : Type 0} (xs : List A) (i : ℕ) (d : A) → i < length xs → slice_get xs i ≡ Some (slice_index_or xs i d)
-index_at xs i d h1 = grind (arith, common_steps, gets)
-
 pub row_there : {T : Type 0} (table : List (List T)) (i : ℕ) → i < length table → slice_get table i ≡ Some (row_of table (suc i))
 row_there [] i less = absurd (omega arith)
 row_there (x ∷ xs) zero less = refl
@@ -31,18 +28,6 @@ row_there (x ∷ xs) (suc i) less = row_there xs i (omega arith)
 -- ---- what is still to be added of what each element gives
 
 module _ {A B : Type 0} (f : ℕ → A → List B) (xs : List A) (whole : List B) where
-  pub next_added : (found new : List B) (i : ℕ) (x : A) → slice_get xs i ≡ Some x
-      → new ≡ found ++ f (suc i) x → found ++ each_from f (suc i) (drop i xs) ≡ whole
-      → new ++ each_from f (suc (i + 1)) (drop (i + 1) xs) ≡ whole
-  next_added found new i x h1 h2 h3 = grind (arith, common_steps, gets)
-
-  pub next_indexed : (d : A) {n : ℕ} (found new : List B) (i : ℕ) → i < length xs → n ≡ suc i
-      → new ≡ found ++ f n (slice_index_or xs i d) → found ++ each_from f (suc i) (drop i xs) ≡ whole
-      → new ++ each_from f (suc (i + 1)) (drop (i + 1) xs) ≡ whole
-  next_indexed d {n} found new i less is more = next_added found new i (slice_index_or xs i d) (index_at xs i d less) (rw is at more)
-
-  pub all_added : (found : List B) (i : ℕ) → length xs ≤ i → found ++ each_from f (suc i) (drop i xs) ≡ whole → found ≡ whole
-  all_added found i past rest = sym (append-nil found) ∙ ap (λ l. found ++ each_from f (suc i) l) (sym (drop_all i xs past)) ∙ rest
 
 -- ---- the next step of one process is gathered
 
@@ -162,10 +147,3 @@ module _ (steps : List (List Entry)) (sent : List (List Sent)) (nine : length st
 
 -- ---- without the marks
 
-pub next_event : (xs : List Marked) (found new : List Event) (i : ℕ) (x : Marked) → i < length xs
-    → x ≡ slice_index_or xs i x → new ≡ found ++ x.event ∷ [] → found ++ events_of (drop i xs) ≡ events_of xs
-    → new ++ events_of (drop (i + 1) xs) ≡ events_of xs
-next_event xs found new i x h1 h2 h3 h4 = grind (arith, common_steps, gets)
-
-pub all_events : (xs : List Marked) (found : List Event) (i : ℕ) → length xs ≤ i → found ++ events_of (drop i xs) ≡ events_of xs → found ≡ events_of xs
-all_events xs found i past rest = sym (append-nil found) ∙ ap (λ l. found ++ events_of l) (sym (drop_all i xs past)) ∙ rest

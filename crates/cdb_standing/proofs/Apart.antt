@@ -35,11 +35,6 @@ turned c = record { n = c.n; one = c.two; two = c.one; written = ⊎_elim (λ e.
 why : (p : ℕ) (kind other : Kind) → Affects p kind other → IsMail p kind other ⊎ AreInConflict kind other
 why p kind other h1 = grind (arith, common_steps, gets)
 
-pub writes_is : (kind : Kind) (n : ℕ) → writes kind ≡ true → accessed kind ≡ Some n
-    → (other : Kind) → accessed other ≡ Some n → (p : ℕ) → kind_affects p kind other ≡ true
-writes_is (Write register) n w one other two p = is_accessed register other (two ∙ sym one)
-writes_is _ n w one other two p = absurd (true≢false (sym w))
-
 module _ {next : ℕ} {steps : List (List Entry)} {sent : List (List Sent)} (sound : IsSound next steps sent) where
   pub links_apart : (p k a : ℕ) (kind : Kind) (q l b : ℕ) (other : Kind) → IsEntry steps p k a kind → IsEntry steps q l b other → a < b → p ≢ q
       → depends (event.Step p k kind) (event.Step q l other) ≡ true → IsMail p kind other ⊎ AreInConflict kind other

@@ -57,11 +57,6 @@ module _ {B : Type 0} where
       → history ≡ events_of records
   history_seen lefts history is = sym (events_recorded lefts history) ∙ ap events_of is
 
-  -- the loss of a copy at the end
-  pub loss_recorded : (lefts : List (List (UndoData B))) (history : List Event) (copy : CopyName)
-      → recorded_with lefts (history ++ Lost copy ∷ []) ≡ recorded_with lefts history ++ recorded_of (Lost copy) nothing ∷ []
-  loss_recorded lefts history copy = map-append _ history (Lost copy ∷ [])
-
   same_recorded : (low high : List (List (UndoData B))) (history : List Event) → ((it : Event) → Has history it → undo_data_of high it ≡ undo_data_of low it)
       → recorded_with high history ≡ recorded_with low history
   same_recorded low high [] same = refl

@@ -218,13 +218,3 @@ module _ {next : ℕ} {steps : List (List Entry)} {sent : List (List Sent)} (sou
     none_without none x (event.Lost copy) b = no_loss at b.to_effect
     none_without none x (event.Step s j other) b = let lies = lies_between s j x other b in none-some lies.n (sym none ∙ same_register lies)
 
-  -- nothing lies between a send and the loss of a copy
-  pub none_before_loss : {copy : CopyName} {a q l c : ℕ} {cause : Kind}
-      → Stands steps sent a (event.Lost copy) → IsLastCause steps sent (event.Lost copy) a q l c cause
-      → HasNone steps sent (event.Step q l cause) c (event.Lost copy) a
-  none_before_loss at is x (event.Lost other) b = no_loss at b.to_effect
-  none_before_loss {copy} {a} {q} {l} {c} {cause} at is x (event.Step s j other) b =
-      let one = loss_needs sound copy q l c cause at is.is.stands is.is.linked in
-      let two = loss_needs sound copy s j x other at b.of_cause.stands b.to_effect.linked in
-      let e : s ≡ q = two.0 ∙ sym one.0 in
-      let past = is.last j x other (rw e at b.to_effect) in omega arith

@@ -146,9 +146,6 @@ module _ {next : ℕ} {steps : List (List Entry)} {sent : List (List Sent)} (sou
   pub none_behind : (q cut a mark : ℕ) (kind : Kind) → IsEntry steps q (cut - 1) a kind → a ≤ mark → HasNoneBehind steps q cut mark
   none_behind q cut a mark kind at le l b other there later = let above = number_below sound q (cut - 1) l a b kind other at there (omega arith) in omega arith
 
-  pub none_below_two : (q cut mark : ℕ) → cut < 2 → HasNoneBehind steps q cut mark
-  none_below_two q cut mark few l b other there later = let within = nth_within (row_of steps q) l (entry_of b other) there in omega arith
-
   -- the steps of one process more are cut off
   pub one_more_closed : (one : Event) (mark top r : ℕ) (old new : List ℕ) → r ≡ top + 1
       → IsLower old new → IsClosedOf steps sent one mark r new → IsClosedAt steps sent one mark top old
@@ -159,13 +156,6 @@ module _ {next : ℕ} {steps : List (List Entry)} {sent : List (List Sent)} (sou
       omega arith)
       (λ ne. let h = was b q j other dependent (omega arith) in let n = lower q in omega arith)
       (cases_eq q r)
-
-  no_step_of_none : (a : ℕ) (one : Event) (mark : ℕ) (cuts : List ℕ) → IsClosedAt steps sent one mark 0 cuts
-  no_step_of_none a one mark cuts b r j other dependent le =
-      let within = nth_within steps r (row_of steps r) (is_row steps r j (entry_of b other) dependent.stands) in absurd (omega arith)
-
-  pub nothing_open : (one : Event) (mark : ℕ) (cuts : List ℕ) → IsClosedAt steps sent one mark 0 cuts
-  nothing_open one mark cuts = no_step_of_none 0 one mark cuts
 
 -- ---- numbers in an array
 

@@ -134,9 +134,6 @@ module _ {next : ℕ} {steps : List (List Entry)} {sent : List (List Sent)} (sou
                   | inr not ↦ omega arith
                 ]
 
-  pub none_within : (effect : Event) (ahead : ℕ) (ends : List ℕ) → HasCausesWithin steps sent effect ahead 0 ends
-  none_within effect ahead ends q l a kind c le = let low = (process_within sound q l a kind c.stands).0 in absurd (omega arith)
-
   pub within_more : (effect : Event) (ahead top : ℕ) (old new : List ℕ) → IsLower new old
       → HasCausesWithin steps sent effect ahead top old → HasCausesWithin steps sent effect ahead top new
   within_more effect ahead top old new higher was q l a kind c le = let h = was q l a kind c le in let more = higher q in omega arith

@@ -16,9 +16,6 @@ use Rattle.cdb_standing.proofs.Places.{stands_in, in_stands}
 
 -- two tests that say the same answer the same
 
-pub told_same : {P Q : Type 0} (a b : Bool) → (IsTrue a ↔ P) → (IsTrue b ↔ Q) → P ↔ Q → a ≡ b
-told_same a b h1 h2 h3 = grind (arith, common_steps, gets)
-
 -- messages behind both rows were not sent
 
 pub all_messages : (row other : List Sent) (end : ℕ) → length row ≤ end → length other ≤ end

@@ -97,9 +97,6 @@ module _ (one other : Event → Bool) (same : (e : Event) → one e ≡ other e)
       let right = sum_by-cons (λ e. cond (other e) 1 0) z.event (take i (events_of xs)) in
       omega arith
 
-tests_same : (register other : Reg) → nat_eq (number_of other) (number_of register) ≡ same_register other register
-tests_same register other = grind (arith, common_steps, gets)
-
 same_writes : (register : Reg) (e : Event) → writes_register (number_of register) e ≡ is_write_of register e
 same_writes register e = grind (arith, common_steps, gets)
 
@@ -114,9 +111,6 @@ module _ (steps : List (List Entry)) (sent : List (List Sent)) (n mark : ℕ) wh
   -- what is still to be counted
   abbrev pub left : ℕ → ℕ
   left i = sum_by weight (each_from (λ p row. steps_from sent (cut_of [] p) p row) (suc i) (drop i steps))
-
-  pub left_none : (i : ℕ) → length steps ≤ i → left i ≡ 0
-  left_none i past = ap (λ l. sum_by weight (each_from (λ p row. steps_from sent (cut_of [] p) p row) (suc i) l)) (drop_all i steps past)
 
   module _ {next : ℕ} (sound : IsSound next steps sent) where
     losses_weigh : (p : ℕ) (kind : Kind) → sum_by weight (losses_of sent p kind) ≡ 0

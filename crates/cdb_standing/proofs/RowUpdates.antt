@@ -56,11 +56,6 @@ module _ {T Z : Type 0} where
   room_within (x ∷ xs) zero v at = omega arith
   room_within (x ∷ xs) (suc i) v at = let less = room_within xs i v at in omega (arith, less)
 
-  pub room_is : (table : List (Vec T Z)) (i : ℕ) (v w : Vec T Z) → w ≡ slice_index_or table i w → slice_get table i ≡ Some v → w ≡ v
-  room_is [] i v w is at = absurd (none-some v at)
-  room_is (x ∷ xs) zero v w is at = is ∙ same_Some x v at
-  room_is (x ∷ xs) (suc i) v w is at = room_is xs i v w is at
-
   set_at : (table : List (Vec T Z)) (i : ℕ) (v : Vec T Z) → i < length table → slice_get (set table i v) i ≡ Some v
   set_at [] i v less = absurd (omega (arith, less))
   set_at (x ∷ xs) zero v less = refl

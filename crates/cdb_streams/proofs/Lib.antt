@@ -4,6 +4,4 @@ pub mod CutLines
 pub mod LinesRead
 pub mod StreamEnds
 pub mod Numbered
-pub mod WholeTexts
 pub mod Held
-pub mod Ends

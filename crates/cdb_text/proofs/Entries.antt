@@ -71,10 +71,6 @@ abbrev number_read : Option ℕ → Words → NumberRead
 number_read (Some n) words = Ok (n, words)
 number_read None words = Err Number
 
-abbrev pair_read : NumberRead → ℕ × Words
-pair_read (Ok read) = read
-pair_read (Err fault) = (0, [])
-
 read_is : (word : List ℕ) (words : Words) → number_at (word ∷ words) ≡ number_read (number_of word) words
 read_is word words = grind (arith, common_steps, gets)
 
@@ -118,9 +114,6 @@ words_of_entry Missing line some is = is.1
 words_of_entry Word line some is = is.1
 words_of_entry Number line some is = is.1
 words_of_entry Extra line some is = is.1
-
-no_empty_words : (words : Words) → ¬ IsFirstFaultOfWords Empty words
-no_empty_words words first = first.4
 
 never_empty : (fault : LineFault) (words : Words) → IsFirstFaultOfWords fault words → fault ≢ Empty
 never_empty fault words h1 = grind (arith, common_steps, gets)
@@ -191,8 +184,6 @@ module _ (line : List ℕ) (some : line ≢ []) (s : ℕ) (rest : Words) (is : I
 -- ---- a line whose first word is no seat
 
 module _ (line : List ℕ) (some : line ≢ []) (no : BeginWithNoSeat (words_of line)) where
-  pub no_seat_is_none : (t : ℕ) (other : Command) → (let read : EntryRead = Err Number in read ≡ Ok (t, other)) ↔ IsEntryLine t other line
-  no_seat_is_none t other = ((λ same. absurd cc), (λ its. absurd (no t its.0 its.1 its.2)))
 
   pub no_seat_is_no_number : (fault : LineFault) → (let read : EntryRead = Err Number in read ≡ Err fault) ↔ IsFaultOfEntry fault line
   no_seat_is_no_number fault = (

@@ -6,19 +6,6 @@ use Rattle.std.proofs.Common.{arith}
 use Rattle.cdb_base.specs.declared.register.Cell.{Cell}
 use Rattle.cdb_text.specs.Reports.{register_line, decision_line, registers_from}
 
-two_more : (i : ℕ) (cells : List Cell) (cell : Cell) → 0 < length cells → registers_from i (cell ∷ cells) ≡ register_line i cell ++ registers_from (i + 1) cells
-two_more i cells cell h1 = grind (arith, common_steps, gets)
-
--- a register that isn't the last
-register_next : (cells : List Cell) (i : ℕ) (cell : Cell) → i + 1 < length cells → cell ≡ get_or cells i cell
-    → registers_from (i + 1) (drop i cells) ≡ register_line (i + 1) cell ++ registers_from (i + 1 + 1) (drop (i + 1) cells)
-register_next cells i cell h1 h2 = grind (arith, common_steps, gets)
-
--- the last
-register_last : (cells : List Cell) (i : ℕ) (cell : Cell) → i + 1 ≡ length cells → cell ≡ get_or cells i cell
-    → (drop (i + 1) cells ≡ []) × (registers_from (i + 1) (drop i cells) ≡ decision_line cell)
-register_last cells i cell h1 h2 = grind (arith, common_steps, gets)
-
 pub goes_on : (before after : List ℕ) (cells : List Cell) (i : ℕ) (cell : Cell) (all : List ℕ) → i + 1 < length cells → cell ≡ get_or cells i cell
     → after ≡ before ++ register_line (i + 1) cell → before ++ registers_from (i + 1) (drop i cells) ≡ all
     → after ++ registers_from (i + 1 + 1) (drop (i + 1) cells) ≡ all

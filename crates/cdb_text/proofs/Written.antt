@@ -26,12 +26,3 @@ pub first_of : {X : Type 0} (text : X → List ℕ) (xs : List X) (x : X) → 1 
     → x ≡ get_or xs 0 x → text x ++ flat_map text (take (length xs - 1) (drop 1 xs)) ≡ flat_map text xs
 first_of text xs x h1 h2 = grind (arith, common_steps, gets)
 
--- the first pair of a list, its parts taken one after the other
-pub first_pair : {X Y : Type 0} (pairs : List (X × Y)) (a b : X × Y) → 1 ≤ length pairs
-    → ((get_or pairs 0 a).0, (get_or pairs 0 b).1) ≡ get_or pairs 0 ((get_or pairs 0 a).0, (get_or pairs 0 b).1)
-first_pair pairs a b h1 = grind (arith, common_steps, gets)
-
--- the line of the first of two registers or more, and of the others
-pub first_register : (i : ℕ) (cells : List Cell) (cell : Cell) → 2 ≤ length cells → cell ≡ get_or cells 0 cell
-    → register_line i cell ++ registers_from (i + 1) (take (length cells - 1) (drop 1 cells)) ≡ registers_from i cells
-first_register i cells cell h1 h2 = grind (arith, common_steps, gets)

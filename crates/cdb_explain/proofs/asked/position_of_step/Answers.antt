@@ -12,6 +12,3 @@ module _ (events : List Event) (p : ℕ) (k : Option ℕ) (n : ℕ)
   none_behind position low zero later less stands = absurd (none-some later stands)
   none_behind position low (suc j) later less stands = none j later (omega arith) stands
 
-  none_at_all : n ≡ 0 → StandsNoStep events p k
-  none_at_all first zero event stands = absurd (none-some event stands)
-  none_at_all first (suc j) event stands = none j event (omega arith) stands
