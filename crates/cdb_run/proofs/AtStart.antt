@@ -1,7 +1,8 @@
 -- What is held of a run in which nothing has happened.
-use Rattle.std.proofs.Common.{◌≡◌, ℕ, zero, suc, ◌+◌, ◌≤◌, List, [], ◌∷◌, ◌++◌, length, map, replicate, drop, Some, slice_get}
+use Rattle.std.proofs.lemmas.Grind.{common_steps}
+use Rattle.std.proofs.lemmas.Option.{gets}
+use Rattle.std.proofs.Common.{◌≡◌, ℕ, suc, ◌+◌, ◌≤◌, List, [], ◌∷◌, ◌++◌, length, map, replicate, drop, Some, slice_get}
 use Rattle.std.proofs.Common.{if◌then◌else◌, refl, sym, ap, ap₂, ◌∙◌, subst, add-one, append_assoc, arith}
-use Rattle.std.proofs.lemmas.Option.{none-some, same_Some}
 use Rattle.std.specs.FinSet as set
 use Rattle.cdb_base.specs.Positions.{nth}
 use Rattle.cdb_causal.specs.Paths.{IsPath}
@@ -18,9 +19,7 @@ use Rattle.cdb_rules.proofs.FirstStates.{length-first_states}
 use Rattle.cdb_setup.specs.Parts.{Parts, AreInRange}
 
 drop_at : (xs : List ℕ) (i value : ℕ) → slice_get xs i ≡ Some value → drop i xs ≡ value ∷ drop (suc i) xs
-drop_at [] i value at = absurd (none-some value at)
-drop_at (x ∷ xs) zero value at = ap (λ y. y ∷ xs) (same_Some x value at)
-drop_at (x ∷ xs) (suc i) value at = drop_at xs i value at
+drop_at xs i value h1 = grind (arith, common_steps, gets)
 
 -- one process more is made
 pub first_added : {L : Type 0} (first : ℕ → ℕ → ℕ → ℕ → L) (n q i p value : ℕ) (values : List ℕ) (local : L) (made more whole : List (Progress L))

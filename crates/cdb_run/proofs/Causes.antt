@@ -1,6 +1,8 @@
 -- The direct causes of an event, sought by process, are those that are looked for in the history.
-use Rattle.std.proofs.Common.{◌≡◌, ℕ, zero, suc, ◌+◌, ◌<◌, ◌≤◌, true, not, ◌&&◌, ◌||◌, ◌==◌, inl, inr, ⊎_elim, List, [], ◌∷◌, ◌++◌, Some, length, take}
-use Rattle.std.proofs.Common.{drop, map, filter, nat_eq, slice_get, if◌then◌else◌, refl, sym, ap, ap₂, ◌∙◌, subst, true≢false, arith}
+use Rattle.std.proofs.lemmas.Grind.{common_steps}
+use Rattle.std.proofs.lemmas.Option.{gets}
+use Rattle.std.proofs.Common.{◌≡◌, ℕ, zero, suc, ◌+◌, ◌<◌, ◌≤◌, true, not, ◌&&◌, ◌==◌, inl, inr, ⊎_elim, List, [], ◌∷◌, ◌++◌, Some, length, take}
+use Rattle.std.proofs.Common.{drop, map, filter, slice_get, if◌then◌else◌, refl, sym, ap, ap₂, ◌∙◌, subst, true≢false, arith}
 use Rattle.std.proofs.lemmas.Bool.{cases_Bool}
 use Rattle.std.proofs.lemmas.Bool.Decides.{nat_tests}
 use Rattle.std.proofs.lemmas.Option.{none-some, same_Some}
@@ -11,10 +13,7 @@ use Rattle.cdb_base.specs.Processes.{all_processes}
 use Rattle.cdb_base.specs.declared.event.Event.{Event}
 use Rattle.cdb_base.specs.declared.event.Event.TheVariants.{Step, Lost}
 use Rattle.cdb_base.specs.declared.name.StepId.{StepId}
-use Rattle.cdb_base.specs.declared.name.StepId.TheVariants as named
 use Rattle.cdb_causal.specs.Dependence.{depends}
-use Rattle.cdb_causal.specs.Effects.{affects}
-use Rattle.cdb_causal.proofs.Effects.{by_effect}
 use Rattle.cdb_causal.specs.DirectCauses.{AreDirectCauses, NamesDirectCause, ComesBefore}
 use Rattle.cdb_causal.specs.DirectDependents.{is_direct}
 use Rattle.cdb_causal.specs.Exchange.{IsIn, here, there}
@@ -26,7 +25,7 @@ use Rattle.cdb_rules.specs.State.{Machine}
 use Rattle.cdb_rules.specs.Step.{IsValid}
 use Rattle.cdb_rules.specs.Undo.{direct_among}
 use Rattle.cdb_rules.proofs.Kept.{is_false}
-use Rattle.cdb_rules.proofs.ListMembers.{nothing_in, position_in, in_filter, from_filter, filter_none, any_none, get-take, get_up_to, length_up_to, in_map}
+use Rattle.cdb_rules.proofs.ListMembers.{nothing_in, position_in, in_filter, from_filter, filter_none, any_none, length_up_to, in_map}
 use Rattle.cdb_rules.proofs.ListMembers.{from_map, in_flat, from_flat}
 use Rattle.cdb_rules.proofs.Mails.{not_true}
 use Rattle.cdb_rules.proofs.NamedEvents.{in_cases, in_position, of_processes, loss_free}
@@ -39,9 +38,7 @@ IsRising [] = Unit {0}
 IsRising (name ∷ names) = ((other : StepId) → IsIn other names → ComesBefore name other) × IsRising names
 
 not_both : (a b : StepId) → ComesBefore a b → ComesBefore b a → ⊥
-not_both (named.Step a) (named.Step b) one two = omega (arith, one, two)
-not_both (named.Step a) (named.Lost b) one two = two
-not_both (named.Lost a) b one two = one
+not_both a b h1 h2 = grind (arith, common_steps, gets)
 
 after_itself : (name : StepId) {other : StepId} → other ≡ name → ComesBefore name other → ⊥
 after_itself name same before = let itself = subst (ComesBefore name) same before in not_both name name itself itself
@@ -106,14 +103,7 @@ module _ (effect : Event) where
       ]
 
   same_process_depends : (p : ℕ) (one other : Event) → is_step_of p one ≡ true → is_step_of p other ≡ true → depends one other ≡ true
-  same_process_depends p (Step q k kind) (Step r l other) one two =
-      by_effect (Step q k kind) (Step r l other)
-      ∙ ap (λ b. b || (affects (Step q k kind) (Step r l other) || affects (Step r l other) (Step q k kind))) (same q r one two)
-    where
-      same : (q r : ℕ) → (q == p) ≡ true → (r == p) ≡ true → nat_eq q r ≡ true
-      same q r one two = grind (arith, nat_tests)
-  same_process_depends p (Step q k kind) (Lost copy) one two = absurd (true≢false (sym two))
-  same_process_depends p (Lost copy) other one two = absurd (true≢false (sym one))
+  same_process_depends p one other h1 h2 = grind (arith, common_steps, gets)
 
   no_other : (p : ℕ) (cause : Event) (between : List Event) → is_step_of p cause ≡ true → is_direct depends cause between effect ≡ true
       → filter (is_step_of p) (direct_among between effect) ≡ []
@@ -263,12 +253,10 @@ module _ {L : Type 0} (machine : Machine L) (history : List Event) (valid : IsVa
     causes = direct_among earlier event
 
     in_earlier : (k : ℕ) → k ≤ j → nth earlier k ≡ nth history k
-    in_earlier zero low = refl
-    in_earlier (suc k) low = get-take history j k low
+    in_earlier k h1 = grind (arith, common_steps, gets)
 
     up_to : (k : ℕ) → k ≤ suc j → nth longer k ≡ nth history k
-    up_to zero low = refl
-    up_to (suc k) low = get_up_to history j event at k (omega (arith, low))
+    up_to k h1 = grind (arith, common_steps, gets)
 
     number : length earlier ≡ j
     number = length_up_to history j event at

@@ -1,7 +1,9 @@
 -- An enabled event may come: a step is the next of its process, what it sends is the next message, and a copy that is received or
 -- lost is pending.
+use Rattle.std.proofs.lemmas.Grind.{common_steps}
+use Rattle.std.proofs.lemmas.Option.{gets}
 use Rattle.std.proofs.Common.{◌≡◌, ℕ, suc, ◌+◌, ◌-◌, ◌≤◌, true, false, ◌⊎◌, inl, inr, ⊎_elim, List, [], ◌∷◌, Option}
-use Rattle.std.proofs.Common.{None, Some, IsSome, nat_eq, refl, sym, ap, ◌∙◌, subst, true≢false, le_trans, arith}
+use Rattle.std.proofs.Common.{Some, IsSome, nat_eq, refl, sym, ap, ◌∙◌, subst, true≢false, le_trans, arith}
 use Rattle.std.proofs.lemmas.Option.{same_Some}
 use Rattle.cdb_base.specs.Positions.{nth}
 use Rattle.cdb_base.specs.declared.event.Event.{Event}
@@ -96,8 +98,7 @@ module _ {L : Type 0} (machine : Machine L) where
       inl (subst (λ (x : RunState L). k ≤ steps_of x p) (sym (lost_from machine state next copy one).1) few)
 
   none_counted : (o : Option (ProcessState L)) → ((process : ProcessState L) → o ≡ Some process → process.progress.steps ≡ 0) → of_process steps o ≡ 0
-  none_counted None fresh = refl
-  none_counted (Some process) fresh = fresh process refl
+  none_counted o h1 = grind (arith, common_steps, gets)
 
   start_counts_none : (p : ℕ) → steps_of (start machine) p ≡ 0
   start_counts_none p = none_counted (nth (start machine).processes p) (λ process at. ap steps (sym (nth-fresh machine p process at).1))

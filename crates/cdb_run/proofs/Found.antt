@@ -1,5 +1,8 @@
 -- What an undo, a rollback and a question for causes are answered, by the event that is found under the name.
-use Rattle.std.proofs.Common.{◌≡◌, ℕ, List, ◌++◌, length, Result, Ok, Err, IsOk, reverse, map, filter, None, refl, ap, ap₂, sym, ◌∙◌, subst}
+use Rattle.std.proofs.Common.{arith}
+use Rattle.std.proofs.lemmas.Grind.{common_steps}
+use Rattle.std.proofs.lemmas.Option.{gets}
+use Rattle.std.proofs.Common.{◌≡◌, ℕ, List, ◌++◌, length, Ok, Err, IsOk, reverse, map, filter, None, refl, ap, ap₂, sym, ◌∙◌, subst}
 use Rattle.std.proofs.lemmas.List.{length-reverse}
 use Rattle.std.proofs.lemmas.Option.{same_Some}
 use Rattle.std.specs.List.{flat_map}
@@ -21,7 +24,7 @@ use Rattle.cdb_rules.specs.RunView.{RunView}
 use Rattle.cdb_rules.specs.Runs.{IsInOrder, with_left, undo_in, result_of_undo, after_undo, rollback_in, result_of_rollback}
 use Rattle.cdb_rules.specs.Runs.{after_rollback, IsExactRollback, RollbackLeadsBack, causes_in}
 use Rattle.cdb_rules.specs.State.{Machine}
-use Rattle.cdb_rules.specs.Undo.{Found, IsEventNamed, for_standing, undo_found, result_alone, number_removed, with_removed, direct_among}
+use Rattle.cdb_rules.specs.Undo.{IsEventNamed, for_standing, undo_found, result_alone, number_removed, with_removed, direct_among}
 use Rattle.cdb_rules.proofs.NamesFound.{stands_named}
 use Rattle.cdb_rules.proofs.Results.{found_is}
 use Rattle.cdb_rules.proofs.AllStanding.{valid_named, free_undone, needed_refused, standing_rolled_back}

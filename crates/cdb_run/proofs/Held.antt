@@ -1,6 +1,8 @@
 -- What is held of a run, before and after an event.
+use Rattle.std.proofs.lemmas.Grind.{common_steps}
+use Rattle.std.proofs.lemmas.Option.{gets}
 use Rattle.std.proofs.Common.{◌≡◌, ℕ, zero, suc, ◌<◌, ◌≤◌, true, false, not, ◌&&◌, if◌then◌else◌, List, [], ◌∷◌, ◌++◌, length, map, Option, Some}
-use Rattle.std.proofs.Common.{None, IsSome, option_and_then, option_map, unwrap_or, refl, sym, ap, ap₂, ◌∙◌, subst, true≢false, arith}
+use Rattle.std.proofs.Common.{None, IsSome, option_and_then, option_map, unwrap_or, refl, sym, ap, ap₂, ◌∙◌, subst, arith}
 use Rattle.std.proofs.lemmas.List.{length-map}
 use Rattle.std.proofs.lemmas.Option.{same_Some}
 use Rattle.std.specs.Option.{ForSome}
@@ -55,16 +57,7 @@ stands_at (x ∷ xs) (suc zero) first last = (x, refl)
 stands_at (x ∷ xs) (suc (suc i)) first last = stands_at xs (suc i) (omega arith) (omega (arith, last))
 
 absent : {A : Type 0} (xs : List A) (p : ℕ) → is_among (length xs) p ≡ false → nth xs p ≡ None
-absent xs zero none = refl
-absent [] (suc i) none = refl
-absent (x ∷ xs) (suc zero) none = absurd (true≢false (sym (inside (length xs)) ∙ none))
-  where
-    inside : (n : ℕ) → is_among (suc n) 1 ≡ true
-    inside n = grind (arith, nat_tests)
-absent (x ∷ xs) (suc (suc i)) none = absent xs (suc i) (less (length xs) i none)
-  where
-    less : (n i : ℕ) → is_among (suc n) (suc (suc i)) ≡ false → is_among n (suc i) ≡ false
-    less n i none = grind (arith, nat_tests)
+absent xs p h1 = grind (arith, common_steps, gets)
 
 is_at_most : (n p : ℕ) → is_among n p ≡ true → p ≤ n
 is_at_most n p h = grind (arith, nat_tests)
@@ -97,9 +90,7 @@ module _ {L B : Type 0} {machine : Machine L} {before : L → B → L} where
 
     pub progress_at : (p : ℕ) (process : ProcessState L) (progress : Progress L)
         → nth current.state.processes p ≡ Some process → nth processes p ≡ Some progress → progress ≡ process.progress
-    progress_at p process progress at held =
-        same_Some progress process.progress (sym held ∙ ap (λ l. nth l p) current.processes_are
-        ∙ nth-map (λ (x : ProcessState L). x.progress) current.state.processes p ∙ ap (option_map (λ (x : ProcessState L). x.progress)) at)
+    progress_at p process progress h1 h2 = grind (arith, common_steps, gets)
 
     -- each process is there, and no other
     pub count_is : length processes ≡ length machine.firsts

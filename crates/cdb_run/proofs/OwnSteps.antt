@@ -1,5 +1,7 @@
 -- The steps of a process, each with the writes that it meets, by their names.
-use Rattle.std.proofs.Common.{◌≡◌, ℕ, zero, suc, ◌+◌, ◌<◌, Bool, true, false, cond, if◌then◌else◌, List, [], ◌∷◌, length}
+use Rattle.std.proofs.lemmas.Grind.{common_steps}
+use Rattle.std.proofs.lemmas.Option.{gets}
+use Rattle.std.proofs.Common.{◌≡◌, ℕ, zero, suc, ◌+◌, ◌<◌, Bool, true, false, cond, List, [], ◌∷◌, length}
 use Rattle.std.proofs.Common.{take, map, filter, slice_get, Option, Some, None, refl, sym, ap, ap₂, ◌∙◌, eq-eqb, arith}
 use Rattle.std.proofs.lemmas.List.{length-map}
 use Rattle.std.proofs.lemmas.List.Sums.{sum_by-cons}
@@ -7,11 +9,8 @@ use Rattle.std.proofs.lemmas.Option.{none-some, same_Some}
 use Rattle.std.specs.List.{count_by}
 use Rattle.cdb_base.specs.Event.{event_name, is_step_of}
 use Rattle.cdb_base.specs.Positions.{nth}
-use Rattle.cdb_base.specs.Registers.{same_register}
 use Rattle.cdb_base.specs.declared.event.Event.{Event}
 use Rattle.cdb_base.specs.declared.event.Event.TheVariants.{Step, Lost}
-use Rattle.cdb_base.specs.declared.event.Kind.TheVariants.{Query, Send, Recv, Read, Write, Local, Learn, Crash}
-use Rattle.cdb_base.specs.declared.name.StepName.{StepName}
 use Rattle.cdb_base.specs.declared.register.Reg.{Reg}
 use Rattle.cdb_causal.specs.Names.{IsNewName}
 use Rattle.cdb_rules.specs.OwnSteps.{no_writes, writes_with, writes_met, as_own_events, own_steps}
@@ -21,37 +20,14 @@ use Rattle.cdb_standing.specs.Comparisons.{steps_by, AreNumbered, is_write_of, w
 
 -- a name says which step of which process it is
 name_parts : (p k q l : ℕ) → step_name p k ≡ step_name q l → (p ≡ q) × (k ≡ l)
-name_parts p k q l e = let same : record { p = p; k = k } ≡ step_of q l = cc in (ap (λ (x : StepName). x.p) same, ap (λ (x : StepName). x.k) same)
-  where
-    step_of : ℕ → ℕ → StepName
-    step_of p k = record { p = p; k = k }
+name_parts p k q l h1 = grind (arith, common_steps, gets)
 
 met_same : (writes others : Reg → ℕ) → ((register : Reg) → writes register ≡ others register)
     → (event : Event) → writes_met writes event ≡ writes_met others event
-met_same writes others same (Step p k (Read register)) = ap Some (same register)
-met_same writes others same (Step p k (Write register)) = ap Some (same register)
-met_same writes others same (Step p k (Query leader)) = refl
-met_same writes others same (Step p k (Send m)) = refl
-met_same writes others same (Step p k (Recv s m)) = refl
-met_same writes others same (Step p k Local) = refl
-met_same writes others same (Step p k Learn) = refl
-met_same writes others same (Step p k Crash) = refl
-met_same writes others same (Lost copy) = refl
+met_same writes others h1 event = grind (arith, common_steps, gets)
 
 one_with : (writes : Reg → ℕ) (event : Event) (register : Reg) → writes_with writes event register ≡ writes register + cond (is_write_of register event) 1 0
-one_with writes (Step p k (Write other)) register = by (same_register other register)
-  where
-    by : (b : Bool) → (if b then writes register + 1 else writes register) ≡ writes register + cond b 1 0
-    by true = refl
-    by false = omega arith
-one_with writes (Step p k (Query leader)) register = omega arith
-one_with writes (Step p k (Send m)) register = omega arith
-one_with writes (Step p k (Recv s m)) register = omega arith
-one_with writes (Step p k (Read other)) register = omega arith
-one_with writes (Step p k Local) register = omega arith
-one_with writes (Step p k Learn) register = omega arith
-one_with writes (Step p k Crash) register = omega arith
-one_with writes (Lost copy) register = omega arith
+one_with writes event register = grind (arith, common_steps, gets)
 
 module _ (p : ℕ) where
   abbrev is_its : OwnEvent → Bool
@@ -109,9 +85,7 @@ module _ (p : ℕ) where
   own_length history = sym (length-map (own_steps p history) (λ (own : OwnEvent). own.event)) ∙ ap length (own_events no_writes history)
 
   event_of : (xs : List OwnEvent) (i : ℕ) (own : OwnEvent) → slice_get xs i ≡ Some own → slice_get (map (λ (own : OwnEvent). own.event) xs) i ≡ Some own.event
-  event_of [] i own at = absurd (none-some own at)
-  event_of (x ∷ xs) zero own at = ap (λ (o : OwnEvent). Some o.event) (same_Some x own at)
-  event_of (x ∷ xs) (suc i) own at = event_of xs i own at
+  event_of xs i own h1 = grind (arith, common_steps, gets)
 
   stands_at : (events : List Event) (i : ℕ) (event : Event) → slice_get (steps_by p events) i ≡ Some event → (j : ℕ) × (slice_get events j ≡ Some event)
   stands_at [] i event at = absurd (none-some event at)

@@ -1,7 +1,8 @@
 -- The last event of a run is taken back: what its record restores is the state that the other events reach.
+use Rattle.std.proofs.lemmas.Grind.{common_steps}
+use Rattle.std.proofs.lemmas.Option.{gets}
 use Rattle.std.proofs.Common.{◌==◌, option_to_list, ◌≡◌, ℕ, zero, suc, ◌+◌, ◌-◌, ◌<◌, ◌≤◌, Bool, true, false, ◌&&◌, List, [], ◌∷◌, ◌++◌, length}
 use Rattle.std.proofs.Common.{map, take, Option, Some, IsSome, is_some, option_map, unwrap_or, nat_eq, refl, sym, ap, ap₂, ◌∙◌, subst, arith}
-use Rattle.std.proofs.Math.Seq.{take-append_seam}
 use Rattle.std.proofs.lemmas.List.{length_push}
 use Rattle.std.proofs.lemmas.Option.{same_Some}
 use Rattle.std.specs.FinSet as set
@@ -57,15 +58,12 @@ set_nth-set_nth_same (z ∷ zs) (suc zero) x y = refl
 set_nth-set_nth_same (z ∷ zs) (suc (suc i)) x y = ap (λ l. z ∷ l) (set_nth-set_nth_same zs (suc i) x y)
 
 take_but_last : {A : Type 0} (xs : List A) (x : A) → take (length (xs ++ x ∷ []) - 1) (xs ++ x ∷ []) ≡ xs
-take_but_last xs x =
-    let n : length (xs ++ x ∷ []) - 1 ≡ length xs = (let more = length_push xs x in omega (arith, more)) in
-    ap (λ i. take i (xs ++ x ∷ [])) n ∙ take-append_seam xs (x ∷ [])
+take_but_last xs x = grind (arith, common_steps, gets)
 
 -- the progress
 
 queries_again : (queries : ℕ) (kind : Kind) → queries_before (queries_after queries kind) kind ≡ queries
-queries_again queries (Query leader) = omega arith
-queries_again queries _ = refl
+queries_again queries kind = grind (arith, common_steps, gets)
 
 one_step_less : (n : ℕ) → n + 1 - 1 ≡ n
 one_step_less n = omega arith
@@ -93,9 +91,7 @@ remove_send-add_send mail p payload sent at =
 -- the cell that a write of a register that is there overwrites
 overwritten_there : (registers : RegisterStates) (register : Reg) → is_some (register_of registers register) ≡ true
     → (stands : RegisterState) × (register_of registers register ≡ Some stands) × (overwritten_cell registers (Write register) ≡ Some stands.cell)
-overwritten_there registers register there =
-    let stands = some_of (register_of registers register) there in
-    (stands.0, stands.1, ap (option_map (λ (x : RegisterState). x.cell)) stands.1)
+overwritten_there registers register h1 = grind (arith, common_steps, gets)
 
 register_written : (registers : RegisterStates) (register : Reg) (cell : Cell)
     → register_of (with_register (put_cell cell) registers register) register ≡ option_map (put_cell cell) (register_of registers register)
@@ -141,8 +137,7 @@ module _ {L : Type 0} (machine : Machine L) (process : ProcessState L) (mail : M
   mail_again _ due at fresh = refl
 
 and_false : (b : Bool) → (b && false) ≡ false
-and_false true = refl
-and_false false = refl
+and_false b = grind (arith, common_steps, gets)
 
 -- a step that was taken from a state which a history reached
 module _ {L : Type 0} (machine : Machine L) (last to : RunState L) (p k : ℕ) (kind : Kind) (t : IsTaken machine last p k kind to) where
@@ -239,13 +234,7 @@ module _ {L : Type 0} (machine : Machine L) (last to : RunState L) (p k : ℕ) (
   -- the progress of the process before
   module _ {B : Type 0} (before : L → B → L) (back : Option B) (leads_back : put_back before left_process.progress.local back ≡ t.process.progress.local) where
     progress_restored : progress_before before left_process.progress kind back ≡ t.process.progress
-    progress_restored = λ i.
-        record {
-          local = leads_back i;
-          alive = sym what_it_took.alive i;
-          steps = one_step_less t.process.progress.steps i;
-          queries = queries_again t.process.progress.queries kind i;
-        }
+    progress_restored = grind (arith, common_steps, gets)
 
     processes_restored : set_nth (map progress to.processes) p (progress_before before left_process.progress kind back) ≡ map progress last.processes
     processes_restored =

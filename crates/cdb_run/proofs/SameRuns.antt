@@ -1,6 +1,8 @@
 -- Two runs are in the same state where their histories say the same of each process and of what is lost.
-use Rattle.std.proofs.Common.{◌≡◌, ℕ, zero, suc, ◌-◌, ◌<◌, ◌≤◌, ◌↔◌, Bool, true, false, List, [], ◌∷◌, length, Option, Some, None, IsTrue, option_and_then}
-use Rattle.std.proofs.Common.{option_map, unwrap_or, slice_get, slice_index_or, refl, sym, ap, ◌∙◌, subst, ◌⊎◌, ⊎_elim, arith}
+use Rattle.std.proofs.lemmas.Grind.{common_steps}
+use Rattle.std.proofs.lemmas.Option.{gets}
+use Rattle.std.proofs.Common.{◌≡◌, ℕ, zero, suc, ◌-◌, ◌<◌, ◌≤◌, ◌↔◌, Bool, true, List, [], ◌∷◌, length, Some, None, IsTrue}
+use Rattle.std.proofs.Common.{slice_get, slice_index_or, refl, sym, ap, ◌∙◌, subst, ◌⊎◌, ⊎_elim, arith}
 use Rattle.std.proofs.lemmas.List.{length-map}
 use Rattle.std.proofs.lemmas.Option.{same_Some}
 use Rattle.cdb_base.specs.Positions.{nth}
@@ -15,7 +17,7 @@ use Rattle.cdb_rules.specs.Mail.{mail_of}
 use Rattle.cdb_rules.specs.OwnSteps.{own_steps, own_of}
 use Rattle.cdb_run.specs.Alike.{AreAlike}
 use Rattle.cdb_standing.specs.Moves.{StandsIn}
-use Rattle.cdb_rules.specs.State.{Machine, ProcessState, RunState, fresh_process, start}
+use Rattle.cdb_rules.specs.State.{Machine, RunState, fresh_process, start}
 use Rattle.cdb_rules.specs.Step.{after, fold, IsValid}
 use Rattle.cdb_rules.proofs.FoldKeeps.{reached_keeps}
 use Rattle.cdb_rules.proofs.Histories.{fold_exchanged}
@@ -38,16 +40,10 @@ is_in : (events : List Event) (event : Event) → StandsIn events event → IsIn
 is_in events event (at, stands) = in_position events at event stands
 
 same_bool : (a b : Bool) → (a ≡ true → b ≡ true) → (b ≡ true → a ≡ true) → a ≡ b
-same_bool true b h g = sym (h refl)
-same_bool false true h g = g refl
-same_bool false false h g = refl
+same_bool a b h1 h2 = grind (arith, common_steps, gets)
 
 nothing_at : {X : Type 0} (xs : List X) (p : ℕ) → length xs < p → nth xs p ≡ None
-nothing_at [] zero beyond = refl
-nothing_at (x ∷ xs) zero beyond = refl
-nothing_at [] (suc i) beyond = refl
-nothing_at (x ∷ xs) (suc zero) beyond = absurd (omega (arith, beyond))
-nothing_at (x ∷ xs) (suc (suc i)) beyond = nothing_at xs (suc i) (omega (arith, beyond))
+nothing_at xs p h1 = grind (arith, common_steps, gets)
 
 within_or_beyond : (p : ℕ) → (p ≤ 9) ⊎ (9 < p)
 within_or_beyond p = grind arith
@@ -62,13 +58,7 @@ at_process p low high = grind arith
 
 module _ {L : Type 0} (machine : Machine L) where
   own_at-own_of : (state : RunState L) (p k : ℕ) → own_at state p k ≡ nth (own_of state p) k
-  own_at-own_of state p k = by_process (nth state.processes p) k
-    where
-      by_process : (o : Option (ProcessState L)) (i : ℕ) → option_and_then (λ (process : ProcessState L). nth process.own i) o
-          ≡ nth (unwrap_or (option_map (λ (process : ProcessState L). process.own) o) []) i
-      by_process None zero = refl
-      by_process None (suc i) = refl
-      by_process (Some process) i = refl
+  own_at-own_of state p k = grind (arith, common_steps, gets)
 
   -- what the mail has lost was lost in the history
   lost_in : (history : List Event) (to : RunState L) → fold machine history ≡ Some to
@@ -90,8 +80,7 @@ module _ {L : Type 0} (machine : Machine L) where
       (h : fold machine history ≡ Some to) (g : fold machine others ≡ Some other) where
     -- beyond the processes nobody has own events
     none_beyond : (state : RunState L) → length state.processes ≤ 9 → (p : ℕ) → 9 < p → own_of state p ≡ []
-    none_beyond state within p beyond =
-        ap (λ o. unwrap_or (option_map (λ (process : ProcessState L). process.own) o) []) (nothing_at state.processes p (omega (arith, within, beyond)))
+    none_beyond state h1 p h2 = grind (arith, common_steps, gets)
 
     same_own : AreAlike history others → (p : ℕ) → own_of to p ≡ own_of other p
     same_own alike zero = refl

@@ -1,5 +1,7 @@
 -- What a run received or lost was sent.
-use Rattle.std.proofs.Common.{◌≡◌, ℕ, true, false, ◌&&◌, ⊎_elim, List, [], ◌∷◌, Option, Some, None, nat_eq}
+use Rattle.std.proofs.lemmas.Grind.{common_steps}
+use Rattle.std.proofs.lemmas.Option.{gets}
+use Rattle.std.proofs.Common.{◌≡◌, ℕ, true, false, ◌&&◌, ⊎_elim, List, [], ◌∷◌, Option, Some, nat_eq}
 use Rattle.std.proofs.Common.{is_some, option_map, unwrap_or, refl, sym, ap, ◌∙◌, subst, true≢false, arith}
 use Rattle.std.proofs.lemmas.Option.{same_Some}
 use Rattle.std.specs.FinSet as set
@@ -76,8 +78,7 @@ module _ {L : Type 0} (machine : Machine L) where
 
   unreceived_by : (o : Option (ProcessState L)) → ((process : ProcessState L) → o ≡ Some process → process.received ≡ set.empty)
       → unwrap_or (option_map (λ (x : ProcessState L). x.received) o) set.empty ≡ set.empty
-  unreceived_by None fresh = refl
-  unreceived_by (Some process) fresh = fresh process refl
+  unreceived_by o h1 = grind (arith, common_steps, gets)
 
   start_unreceived : (q : ℕ) (name : MsgName) → is_received (mail_of (start machine)) q name ≡ true → ⊥
   start_unreceived q name h =

@@ -1,6 +1,7 @@
 -- A step of a process, by what a run holds.
-use Rattle.std.proofs.Common.{◌≡◌, ℕ, ◌+◌, ◌<◌, ◌≤◌, List, [], ◌∷◌, ◌++◌, length, Some, IsSome, get_or, refl, sym, ◌∙◌, subst, arith}
-use Rattle.std.proofs.lemmas.Option.{slice_get_read}
+use Rattle.std.proofs.lemmas.Grind.{common_steps}
+use Rattle.std.proofs.lemmas.Option.{gets}
+use Rattle.std.proofs.Common.{◌≡◌, ℕ, ◌+◌, ◌≤◌, List, [], ◌∷◌, ◌++◌, length, Some, IsSome, get_or, sym, ◌∙◌, subst, arith}
 use Rattle.cdb_base.specs.Positions.{nth}
 use Rattle.cdb_base.specs.declared.event.Event.TheVariants.{Step}
 use Rattle.cdb_base.specs.declared.event.Kind.{Kind}
@@ -17,15 +18,12 @@ use Rattle.cdb_setup.specs.Parts.{Parts}
 use Rattle.cdb_run.specs.Current.{IsCurrent}
 use Rattle.cdb_run.specs.Stepped.{MayStep, HasStepped, IsSameState}
 use Rattle.cdb_run.specs.declared.state.State.{State}
-use Rattle.cdb_rules.proofs.Positions.{get_at}
 use Rattle.cdb_run.proofs.Held.{steps_few, queries_few, accepted_input, may_post, may_write, current_stepped}
 
 module _ {A : Type 0} (xs : List A) where
   -- what stands at the position i from 0
   pub found_there : (i p : ℕ) (x : A) → i + 1 ≡ p → p ≤ length xs → x ≡ get_or xs i x → nth xs p ≡ Some x
-  found_there i p x position within read =
-      let below : i < length xs = omega (arith, position, within) in
-      sym (get_at xs i p position) ∙ slice_get_read xs (length xs) i x refl below read
+  found_there i p x h1 h2 h3 = grind (arith, common_steps, gets)
 
 -- an enabled step may be taken in the state that is held
 pub may_step : {L B : Type 0} {table : Table L} (setup : Parts) {before : L → B → L} {state : State L} {entries : List (Recorded B)}

@@ -1,11 +1,12 @@
 -- What the state that is held shows.
+use Rattle.std.proofs.lemmas.Grind.{common_steps}
+use Rattle.std.proofs.lemmas.Option.{gets}
 use Rattle.std.proofs.Common.{◌≡◌, ℕ, ◌+◌, ◌<◌, ◌≤◌, true, false, List, [], ◌∷◌, length, map, Option, Some, None}
 use Rattle.std.proofs.Common.{Result, Ok, Err, option_map, IsSome, get_or, refl, sym, ap, ap₂, ◌∙◌, subst, arith}
 use Rattle.std.proofs.lemmas.List.{length-map}
 use Rattle.std.specs.Option.{option_map_or}
 use Rattle.std.specs.Prelude.{IfSome}
-use Rattle.std.proofs.lemmas.Option.{none-some, same_Some, slice_get_read}
-use Rattle.std.proofs.lemmas.Bool.Decides.{nat_tests}
+use Rattle.std.proofs.lemmas.Option.{slice_get_read}
 use Rattle.cdb_base.specs.Positions.{nth}
 use Rattle.cdb_base.specs.declared.act.Act.{Act}
 use Rattle.cdb_base.specs.declared.event.Event.{Event}
@@ -100,11 +101,7 @@ map-map f g [] = refl
 map-map f g (x ∷ xs) = ap (λ l. f (g x) ∷ l) (map-map f g xs)
 
 within_among : (n : ℕ) (answer : Option ℕ) → IfSome answer (IsWithin 1 n) → (leader : ℕ) → answer ≡ Some leader → is_among n leader ≡ true
-within_among n None within leader answered = absurd (none-some leader answered)
-within_among n (Some found) within leader answered = subst (λ l. is_among n l ≡ true) (same_Some found leader answered) (tests n found within.0 within.1)
-  where
-    tests : (n l : ℕ) → 1 ≤ l → l ≤ n → is_among n l ≡ true
-    tests n l first last = grind (arith, nat_tests)
+within_among n answer h1 leader h2 = grind (arith, common_steps, gets)
 
 module _ {L B : Type 0} {machine : Machine L} {before : L → B → L} {processes : List (Progress L)} {mail : MailState}
     {registers : RegisterStates} {entries : List (Recorded B)} (current : IsCurrent machine before processes mail registers entries) where
