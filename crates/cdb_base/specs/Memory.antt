@@ -1,5 +1,4 @@
 -- What a refused allocation leaves.
-use Rattle.std.specs.Prelude.{◌≡◌}
 use Rattle.cdb_base.specs.declared.no_memory.NoMemory.{NoMemory}
 
 -- its only value, which code makes of an error of the library alone

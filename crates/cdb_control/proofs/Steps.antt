@@ -1,31 +1,26 @@
 -- Commands that share a word of the table.
 use Rattle.std.proofs.lemmas.Grind.{common_steps}
 use Rattle.std.proofs.lemmas.Option.{gets}
-use Rattle.std.proofs.Common.{◌≡◌, ℕ, arith, ◌-◌, false, IsOk, IfOk, OnErr, subst, List, [], ◌∷◌, length}
-use Rattle.std.proofs.Common.{set, Option, Some, None, Result, Ok, Err, refl, sym, ap, ◌∙◌}
+use Rattle.std.proofs.Common.{◌≡◌, ℕ, arith, ◌-◌, IfOk, OnErr, subst, List, [], ◌∷◌, length}
+use Rattle.std.proofs.Common.{set, Option, Some, Result, Ok, Err, sym, ap}
 use Rattle.std.proofs.lemmas.List.{set-get_or}
 use Rattle.std.specs.Result.{result_err}
 use Rattle.cdb_base.specs.Positions.{without_last}
-use Rattle.cdb_base.specs.declared.act.Act.{Act}
 use Rattle.cdb_base.specs.declared.no_memory.NoMemory.{NoMemory}
 use Rattle.cdb_base.specs.declared.event.Event.{Event}
 use Rattle.cdb_base.specs.declared.refusal.Refusal.{Refusal}
-use Rattle.cdb_base.specs.declared.refusal.Refusal.TheVariants.{NothingToRedo}
 use Rattle.cdb_commands.specs.ReplyView.{is_refused}
 use Rattle.cdb_commands.specs.ReplyView as reply
-use Rattle.cdb_control.specs.Auto.{choice}
-use Rattle.cdb_control.specs.Commands.{Outcome, granted, found, unpaused, undone_by, redone, decides, step, step_done, undo, rollback, why, outcome}
-use Rattle.cdb_rules.specs.Auto.{step_of_chosen}
+use Rattle.cdb_control.specs.Commands.{Outcome, granted, undone_by, decides, undo, rollback, why, outcome}
 use Rattle.cdb_rules.specs.EventRefs.{name_given}
 use Rattle.cdb_control.specs.State.{State, redo_of, last_of}
-use Rattle.cdb_control.specs.Done.{CameOutAs, IsNoRefusal, IsCarriedOut, IsCarriedOutForAny, IsGranted, IsGrantedFromAny, NoneShrinks}
+use Rattle.cdb_control.specs.Done.{CameOutAs, IsNoRefusal, NoneShrinks}
 use Rattle.cdb_commands.specs.declared.command.Command.{Command}
 use Rattle.cdb_commands.specs.declared.command.Command.TheVariants as command
 use Rattle.cdb_commands.specs.declared.reply.Reply.{Reply}
 use Rattle.cdb_rules.specs.declared.event_ref.EventRef.TheVariants.{Step, Lost}
 use Rattle.cdb_rules.specs.Refusals.{with_taken}
 use Rattle.cdb_rules.specs.Rules.{Rules}
-use Rattle.cdb_setup.specs.Parts.{Parts}
 use Rattle.cdb_rules.specs.Undo.{result_alone, left_by, number_removed, with_removed}
 
 pub undo_ok : (rules : Rules) (t u : State) (seat p k : ℕ) (it : Command) (r : Result Reply NoMemory) → it ≡ command.Undo p k
@@ -59,8 +54,6 @@ unfolding outcome
 why_lost_ok rules t seat s m p it r is ok = subst (λ (c : Command). IfOk r (CameOutAs (outcome rules t seat c) t)) (sym is) ok
 
 -- ---- commands that are carried out by a method of their own: what it does is done by the command, for its seat or for any
-
-module _ (rules : Parts → Rules) (t u : State) (seat : ℕ) (one it : Command) (is : it ≡ one) where
 
 -- what stays the same does not shrink
 pub as_many : (old new : List ℕ) → new ≡ old → NoneShrinks old new
@@ -147,6 +140,3 @@ pub redone-as : (rules : Rules) (t u : State) (seat : ℕ) (undone event : Event
     → (let o : Outcome = record { reply = reply.Redone event given; after = u } in o) ≡ outcome rules t seat command.Redo
 unfolding outcome
 redone-as rules t u seat undone event given r h1 h2 h3 h4 h5 = grind (arith, common_steps, gets)
-
--- ---- the outcome of a refused step, redo or `auto`: its reply, together with what it leaves
-

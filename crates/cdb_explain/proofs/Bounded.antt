@@ -1,15 +1,13 @@
 -- A run has no more events than its journal has entries.
-use Rattle.std.proofs.Common.{◌≡◌, ℕ, zero, suc, ◌+◌, ◌≤◌, List, [], ◌∷◌, length, replicate, refl, sym, ◌∙◌, subst, arith}
-use Rattle.std.proofs.lemmas.List.{length-replicate}
+use Rattle.std.proofs.Common.{◌≡◌, ℕ, ◌+◌, ◌≤◌, List, [], ◌∷◌, length, sym, ◌∙◌, subst, arith}
 use Rattle.cdb_control.proofs.Table.{obey-adds}
 use Rattle.cdb_control.specs.Commands.{obey}
-use Rattle.cdb_control.specs.Journal.{AreOfSeats, Journaled, replay, replay_from, control_state}
-use Rattle.cdb_control.specs.State.{State, first_control_state}
-use Rattle.cdb_control.specs.Kept.{events_kept, waiting}
+use Rattle.cdb_control.specs.Journal.{AreOfSeats, replay_from}
+use Rattle.cdb_control.specs.State.{State}
+use Rattle.cdb_control.specs.Kept.{events_kept}
 use Rattle.cdb_control.specs.declared.control.Entry.{Entry}
 use Rattle.cdb_rules.specs.Lawful.{AreLawful}
 use Rattle.cdb_rules.specs.Rules.{Rules}
-use Rattle.cdb_setup.specs.Parts.{Parts, AreInRange}
 
 -- each entry adds one event at most
 held_after : (rules : Rules) (journal : List Entry) (t : State) (seats : ℕ) → AreLawful rules t.setup → length t.redo ≡ seats → AreOfSeats seats journal

@@ -5,19 +5,17 @@ use Rattle.std.proofs.lemmas.Bool.Decides.{nat_tests}
 use Rattle.std.proofs.lemmas.Option.{same_Some}
 use Rattle.std.specs.Option.{option_map_or}
 use Rattle.cdb_base.specs.Positions.{nth}
-use Rattle.cdb_base.specs.declared.event.Event.{Event}
 use Rattle.cdb_base.specs.declared.event.Event.TheVariants.{Step}
 use Rattle.cdb_base.specs.declared.event.Kind.{Kind}
 use Rattle.cdb_base.specs.declared.event.Kind.TheVariants.{Query, Send, Recv, Read, Write, Local, Learn, Crash}
 use Rattle.cdb_base.specs.declared.name.MsgName.{MsgName}
 use Rattle.cdb_base.specs.declared.refusal.Refusal.TheVariants as refusal
-use Rattle.cdb_message.specs.Mail.{copy_name, message_name, sent_by, is_sent, is_received, is_lost}
+use Rattle.cdb_message.specs.Mail.{copy_name, sent_by, is_sent, is_received, is_lost}
 use Rattle.cdb_process.specs.declared.Input.TheVariants as input
-use Rattle.cdb_process.specs.declared.Wish.{Wish}
 use Rattle.cdb_register.specs.Registers.{register_of}
 use Rattle.cdb_register.specs.declared.RegisterState.{RegisterState}
 use Rattle.cdb_rules.specs.Mail.{mail_of}
-use Rattle.cdb_rules.specs.Refusals.{act_for, accepts_act, accepts_kind, asks_for, first_refusal, lacks_answer, named_event, named_kind}
+use Rattle.cdb_rules.specs.Refusals.{act_for, accepts_act, accepts_kind, asks_for, lacks_answer, named_event, named_kind}
 use Rattle.cdb_rules.specs.Refusals.{names_no_leader, planned, step_checks, step_result, unless_refused, wished_kind}
 use Rattle.cdb_rules.specs.Refusals.{receives_such}
 use Rattle.cdb_rules.specs.State.{Machine, ProcessState, RunState}

@@ -2,7 +2,7 @@
 use Rattle.std.proofs.lemmas.Grind.{common_steps}
 use Rattle.std.proofs.lemmas.Option.{gets, none-some, same_Some}
 use Rattle.std.proofs.Common.{◌≡◌, ℕ, zero, suc, ◌+◌, ◌*◌, ◌<◌, ◌≤◌, ◌≢◌, ◌==◌, slice_get, slice_set, true, false, List, [], ◌∷◌, length, map}
-use Rattle.std.proofs.Common.{replicate, Option, Some, None, option_map, option_to_list, if◌then◌else◌, refl, sym, ap, ◌∙◌, subst, arith}
+use Rattle.std.proofs.Common.{Option, Some, None, option_map, if◌then◌else◌, refl, sym, ap, ◌∙◌, subst, arith}
 use Rattle.std.proofs.lemmas.List.{length-map}
 use Rattle.std.proofs.lemmas.Bool.Decides.{nat_tests}
 use Rattle.cdb_base.specs.Positions.{nth, set_nth, update_nth}
@@ -13,7 +13,7 @@ use Rattle.cdb_base.specs.declared.event.Kind.TheVariants.{Query, Write}
 use Rattle.cdb_base.specs.declared.register.Cell.{Cell}
 use Rattle.cdb_base.specs.declared.register.Reg.{Reg}
 use Rattle.cdb_base.specs.declared.register.Reg.TheVariants.{R, Dec}
-use Rattle.cdb_register.specs.Registers.{RegisterStates, fresh_register, fresh_registers, register_of, with_register, put_cell}
+use Rattle.cdb_register.specs.Registers.{RegisterStates, fresh_registers, register_of, with_register, put_cell}
 use Rattle.cdb_register.specs.declared.RegisterState.{RegisterState}
 use Rattle.std.specs.FinSet as set
 use Rattle.cdb_rules.specs.Mail.{mail_of}

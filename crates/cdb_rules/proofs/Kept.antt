@@ -1,8 +1,8 @@
 -- What an event leaves of what another one meets, where the one does not affect the other.
 use Rattle.std.proofs.lemmas.Grind.{common_steps}
 use Rattle.std.proofs.lemmas.Option.{gets}
-use Rattle.std.proofs.Common.{◌≡◌, ℕ, ◌+◌, ◌≢◌, Bool, true, false, not, ◌&&◌, ◌||◌, ◌==◌, List, [], ◌++◌, length, Option, Some, None, is_some, option_map}
-use Rattle.std.proofs.Common.{option_to_list, unwrap_or, nat_eq, if◌then◌else◌, refl, sym, ap, ap₂, ◌∙◌, subst, true≢false, eq-eqb, eqb-true, append-nil}
+use Rattle.std.proofs.Common.{◌≡◌, ℕ, ◌+◌, ◌≢◌, Bool, true, false, not, ◌&&◌, ◌||◌, ◌==◌, [], length, Option, Some, None, is_some, option_map}
+use Rattle.std.proofs.Common.{unwrap_or, nat_eq, if◌then◌else◌, refl, sym, ap, ap₂, ◌∙◌, subst, true≢false, eq-eqb, eqb-true}
 use Rattle.std.proofs.Common.{arith}
 use Rattle.std.proofs.lemmas.Bool.Decides.{nat_tests}
 use Rattle.std.specs.FinSet as set
@@ -15,7 +15,6 @@ use Rattle.cdb_base.specs.declared.event.Kind.{Kind}
 use Rattle.cdb_base.specs.declared.event.Kind.TheVariants.{Send, Recv, Read, Write}
 use Rattle.cdb_base.specs.declared.name.CopyName.{CopyName}
 use Rattle.cdb_base.specs.declared.name.MsgName.{MsgName}
-use Rattle.cdb_base.specs.declared.payload.Payload.{Payload}
 use Rattle.cdb_base.specs.declared.register.Cell.{Cell}
 use Rattle.cdb_base.specs.declared.register.Reg.{Reg}
 use Rattle.cdb_base.specs.declared.register.Reg.TheVariants.{R, Dec}
@@ -32,7 +31,7 @@ use Rattle.cdb_rules.specs.Step.{is_among, may_lose}
 use Rattle.cdb_rules.specs.InputsTaken.{Sight, arriving, registers_after}
 use Rattle.cdb_rules.proofs.Stages.{sight_in, accepted, sent_after, received_after, process_after}
 use Rattle.cdb_rules.proofs.Mails.{sent_is, received_is}
-use Rattle.cdb_rules.proofs.Positions.{nth-map, nth-set_nth_other, nth-set_nth_same, nth_push_other, nth-update_nth_other, update_nth-update_nth}
+use Rattle.cdb_rules.proofs.Positions.{nth-map, nth-set_nth_other, nth-set_nth_same, nth-update_nth_other, update_nth-update_nth}
 use Rattle.cdb_rules.proofs.Taken.{IsTaken}
 
 pub nat_eq-ne : (a b : ℕ) → nat_eq a b ≡ false → a ≢ b

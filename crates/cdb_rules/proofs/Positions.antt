@@ -1,5 +1,5 @@
 -- What stands at a position of a list after a write to another position, or to that one.
-use Rattle.std.proofs.Common.{arith, map, ◌≡◌, ℕ, zero, suc, ◌+◌, ◌≤◌, ◌≢◌, ◌⊎◌, inl, List, [], ◌∷◌, ◌++◌, Some}
+use Rattle.std.proofs.Common.{arith, map, ◌≡◌, ℕ, zero, suc, ◌+◌, ◌≤◌, ◌≢◌, List, [], ◌∷◌, ◌++◌, Some}
 use Rattle.std.proofs.Common.{option_map, length, slice_get, slice_set, refl, sym, ap, subst, ◌∙◌, add-one}
 use Rattle.std.proofs.lemmas.Grind.{common_steps}
 use Rattle.std.proofs.lemmas.Option.{gets, none-some, slice_get_within}

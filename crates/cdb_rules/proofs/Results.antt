@@ -1,7 +1,7 @@
 -- What an undo is answered, by what is found.
 use Rattle.std.proofs.lemmas.Option.{none-some, same_Some}
 use Rattle.std.proofs.Common.{◌≡◌, ℕ, zero, suc, ◌+◌, ◌<◌, Bool, true, false, List, [], ◌∷◌, Some, None}
-use Rattle.std.proofs.Common.{Ok, Err, find, drop, ◌-◌, slice_get, refl, sym, ap, ap₂, ◌∙◌, arith, cond}
+use Rattle.std.proofs.Common.{Ok, Err, find, drop, ◌-◌, refl, sym, ap, ap₂, ◌∙◌, arith}
 use Rattle.std.specs.List.{AllByRecursion}
 use Rattle.std.specs.Option.{option_map_or}
 use Rattle.cdb_base.specs.Event.{event_name}

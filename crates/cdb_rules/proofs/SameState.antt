@@ -1,16 +1,14 @@
 -- Histories that reach the same state are equal up to exchange.
 use Rattle.std.proofs.lemmas.Grind.{common_steps}
-use Rattle.std.proofs.lemmas.Option.{gets, same_Some}
-use Rattle.std.proofs.Common.{◌≡◌, ℕ, Bool, true, false, ◌||◌, ◌⊎◌, inl, inr, ⊎_elim, List, [], ◌∷◌, Option}
+use Rattle.std.proofs.lemmas.Option.{gets}
+use Rattle.std.proofs.Common.{◌≡◌, ℕ, Bool, true, false, ◌||◌, ◌⊎◌, inl, inr, ⊎_elim, List, [], ◌∷◌}
 use Rattle.std.proofs.Common.{Some, nat_eq, refl, sym, ap, ap₂, ◌∙◌, subst, true≢false, lt_irrefl, arith}
 use Rattle.cdb_base.specs.declared.event.Event.{Event}
 use Rattle.cdb_base.specs.declared.event.Event.TheVariants.{Step, Lost}
 use Rattle.cdb_base.specs.declared.event.Kind.{Kind}
-use Rattle.cdb_base.specs.declared.event.Kind.TheVariants.{Send, Recv, Write}
+use Rattle.cdb_base.specs.declared.event.Kind.TheVariants.{Send, Recv}
 use Rattle.cdb_base.specs.declared.name.CopyName.{CopyName}
-use Rattle.cdb_base.specs.declared.register.Reg.{Reg}
-use Rattle.cdb_causal.specs.Dependence.{accesses, sends, receives, depends}
-use Rattle.cdb_causal.specs.Effects.{kind_affects}
+use Rattle.cdb_causal.specs.Dependence.{sends, receives, depends}
 use Rattle.cdb_causal.specs.Exchange.{IsExchanged, IsIn, here, there, IsBefore, IsEachOnce, KeepsOrder}
 use Rattle.cdb_causal.proofs.Orders.{exchanged_from_order}
 use Rattle.cdb_message.specs.Mail.{is_lost}
@@ -18,7 +16,7 @@ use Rattle.cdb_rules.specs.Mail.{mail_of}
 use Rattle.cdb_rules.specs.State.{Machine, OwnEvent, RunState, start}
 use Rattle.cdb_rules.specs.Step.{fold}
 use Rattle.cdb_rules.proofs.Kept.{nat_eq-is}
-use Rattle.cdb_rules.proofs.Members.{IsOrdered, AreStepsOrdered, member, ordered, own_comes, lost_comes, start_counted, start_empty, start_unlost}
+use Rattle.cdb_rules.proofs.Members.{IsOrdered, member, ordered, own_comes, lost_comes, start_counted, start_empty, start_unlost}
 use Rattle.cdb_rules.proofs.Numbers.{own_at}
 use Rattle.cdb_rules.proofs.Taken.{both}
 

@@ -1,5 +1,5 @@
 -- The step by the two tables of its kind is the step in its stages.
-use Rattle.std.proofs.Common.{arith, ◌≡◌, ℕ, Bool, true, false, not, ◌&&◌, Option, Some, None, is_some, option_and_then, option_map, if◌then◌else◌, refl}
+use Rattle.std.proofs.Common.{arith, ◌≡◌, ℕ, Bool, true, not, ◌&&◌, Option, Some, None, is_some, option_and_then, option_map, if◌then◌else◌, refl}
 use Rattle.std.proofs.lemmas.Grind.{common_steps}
 use Rattle.std.proofs.lemmas.Option.{gets}
 use Rattle.cdb_base.specs.Positions.{nth}

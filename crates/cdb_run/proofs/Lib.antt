@@ -1,7 +1,6 @@
 -- what is held of a run: at the start, before and after an event, and what it shows
 pub mod AtStart
 pub mod FirstStep
-pub mod Decisions
 pub mod Held
 pub mod StepsTaken
 pub mod Views

@@ -1,12 +1,11 @@
 -- A rollback, event by event, from the last consequence back.
-use Rattle.std.proofs.Common.{◌≡◌, ℕ, ◌≤◌, List, [], ◌∷◌, ◌++◌, length, reverse, Some, append_assoc, append-nil, refl, sym, ap, ◌∙◌, subst, arith}
+use Rattle.std.proofs.Common.{◌≡◌, ℕ, ◌≤◌, List, [], ◌∷◌, ◌++◌, length, reverse, Some, append_assoc, append-nil, sym, ap, ◌∙◌, arith}
 use Rattle.std.proofs.lemmas.List.{reverse-append}
 use Rattle.cdb_base.specs.Positions.{nth}
 use Rattle.cdb_base.specs.declared.event.Event.{Event}
 use Rattle.cdb_causal.specs.Causality.{IsFree}
 use Rattle.cdb_causal.specs.Dependence.{depends}
 use Rattle.cdb_causal.specs.Rollback.{without, rolled_back, remaining}
-use Rattle.cdb_causal.proofs.Chains.{rolled_back_split}
 use Rattle.cdb_causal.proofs.Undone.{rolled_back_alone, rolled_back_last}
 use Rattle.cdb_rules.proofs.NamesFound.{stands_from_one}
 

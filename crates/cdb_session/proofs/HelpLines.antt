@@ -87,6 +87,3 @@ pub one_more : (t : Topic) (lines : List (Bor (List ℕ))) (i : ℕ) (none : Bor
     → about t (map (λ it. it.now) (take (i + 1) lines)) ≡ about t (map (λ it. it.now) (take i lines)) ++ line_about t (get_or lines i none).now
 one_more t lines i none within =
     ap (about t) (map_more (λ (it : Bor (List ℕ)). it.now) lines i none within) ∙ about_push t (map (λ it. it.now) (take i lines)) (get_or lines i none).now
-
--- ---- a word that no line is about
-

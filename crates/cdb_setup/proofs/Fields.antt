@@ -2,8 +2,7 @@
 use Rattle.std.proofs.Common.{arith}
 use Rattle.std.proofs.lemmas.Grind.{common_steps}
 use Rattle.std.proofs.lemmas.Option.{gets}
-use Rattle.std.proofs.Common.{◌≡◌, ℕ, List}
-use Rattle.cdb_setup.specs.declared.setup.Algorithm.{Algorithm}
+use Rattle.std.proofs.Common.{◌≡◌}
 use Rattle.cdb_setup.specs.Parts.{Parts}
 
 pub same_fields : (s t : Parts)

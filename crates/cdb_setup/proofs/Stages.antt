@@ -1,5 +1,5 @@
 -- The parts are read one after the other: what was read leaves no fault of its rank.
-use Rattle.std.proofs.Common.{◌≡◌, ℕ, ◌+◌, List, length, map, subst, arith, inl, inr}
+use Rattle.std.proofs.Common.{◌≡◌, ℕ, ◌+◌, List, length, map, arith, inl, inr}
 use Rattle.std.specs.List.{AllByRecursion}
 use Rattle.std.proofs.lemmas.Bool.{cases_lt}
 use Rattle.serde_json.specs.Data.{Data, Members, object}
@@ -12,7 +12,7 @@ use Rattle.cdb_setup.specs.declared.fault.SetupFault.TheVariants.{BadOracle, Too
 use Rattle.cdb_setup.specs.Parts.{IsWithin}
 use Rattle.cdb_setup.specs.Format.{whole, array_of, array_of_whole, HasAt, HasAlgorithm, HasKnownKeys}
 use Rattle.cdb_setup.specs.Faults.{Holds, IsCount}
-use Rattle.cdb_setup.specs.Order.{rank, numbers_in, IsPairBefore, IsLookedForBefore}
+use Rattle.cdb_setup.specs.Order.{rank, IsLookedForBefore}
 use Rattle.cdb_setup.specs.Ranks.{IsFirstOfRank, HasNeededKeys, IsFirstOf, IsClearBelow}
 use Rattle.cdb_setup.proofs.NoFault.{no_bad_input, no_bad_answer}
 

@@ -1,20 +1,18 @@
 -- The events that numbers cut off, gathered.
-use Rattle.std.proofs.lemmas.Grind.{common_steps}
 use Rattle.std.proofs.lemmas.Bool.{cases_lt}
 use Rattle.std.proofs.Common.{◌≡◌, ◌≢◌, ℕ, zero, suc, ◌+◌, ◌-◌, ◌<◌, ◌≤◌, List, [], ◌∷◌, ◌++◌, length, drop, set, slice_get}
-use Rattle.std.proofs.Common.{slice_index_or, Some, ⊎_elim, refl, sym, ap, ap₂, ◌∙◌, subst, arith}
+use Rattle.std.proofs.Common.{Some, ⊎_elim, refl, sym, ap, ap₂, ◌∙◌, subst, arith}
 use Rattle.std.specs.List.{sum_by}
 use Rattle.std.specs.Prelude.{IsPermutation}
 use Rattle.std.proofs.lemmas.List.Sums.{sum_by-cons, sum_by-append}
 use Rattle.std.proofs.lemmas.List.Sorted.{IsPermutation-refl, IsPermutation-trans, IsPermutation-append, IsPermutation-append_comm, sum_by-IsPermutation}
-use Rattle.std.proofs.lemmas.Option.{none-some, same_Some, slice_get_within, gets}
+use Rattle.std.proofs.lemmas.Option.{none-some, same_Some, slice_get_within}
 use Rattle.std.proofs.lemmas.List.{append_assoc, append-nil, drop_all}
 use Rattle.cdb_causal.proofs.Lists.{drop_from}
-use Rattle.cdb_base.specs.declared.event.Event.{Event}
 use Rattle.cdb_base.specs.declared.event.Event.TheVariants.{Step}
 use Rattle.cdb_standing.specs.Cuts.{cut_of}
 use Rattle.cdb_standing.specs.Gathered.{losses_of, of_step, steps_from, all_from, NoneIsLeft, IsGathered}
-use Rattle.cdb_standing.specs.InOrder.{Marked, each_from, events_of}
+use Rattle.cdb_standing.specs.InOrder.{Marked, each_from}
 use Rattle.cdb_standing.specs.Tables.{row_of, step_at}
 use Rattle.cdb_standing.specs.declared.tables.Entry.{Entry}
 use Rattle.cdb_standing.specs.declared.tables.Sent.{Sent}
@@ -24,10 +22,6 @@ pub row_there : {T : Type 0} (table : List (List T)) (i : ℕ) → i < length ta
 row_there [] i less = absurd (omega arith)
 row_there (x ∷ xs) zero less = refl
 row_there (x ∷ xs) (suc i) less = row_there xs i (omega arith)
-
--- ---- what is still to be added of what each element gives
-
-module _ {A B : Type 0} (f : ℕ → A → List B) (xs : List A) (whole : List B) where
 
 -- ---- the next step of one process is gathered
 
@@ -144,6 +138,3 @@ module _ (steps : List (List Entry)) (sent : List (List Sent)) (nine : length st
   pub nothing_left : (whole : List Marked) (from : List ℕ) (found : List Marked) → NoneIsLeft steps from 0 9
       → IsPermutation whole (found ++ all_from from steps sent) → IsPermutation whole found
   nothing_left whole from found none was = subst (IsPermutation whole) (ap (λ l. found ++ l) (none_left from none) ∙ append-nil found) was
-
--- ---- without the marks
-

@@ -2,10 +2,10 @@
 use Rattle.std.proofs.lemmas.Option.{gets}
 use Rattle.std.proofs.lemmas.Grind.{common_steps}
 use Rattle.std.proofs.lemmas.Bool.{or_cases}
-use Rattle.std.proofs.Common.{◌≡◌, ◌≢◌, ℕ, ◌<◌, true, ◌||◌, nat_eq, true≢false, eqb-true, List, Some, ◌⊎◌, inl, inr, ⊎_elim, sym, ◌∙◌, arith}
+use Rattle.std.proofs.Common.{◌≡◌, ◌≢◌, ℕ, ◌<◌, true, ◌||◌, nat_eq, eqb-true, List, Some, ◌⊎◌, inl, inr, ⊎_elim, sym, ◌∙◌, arith}
 use Rattle.cdb_base.specs.declared.event.Event.TheVariants as event
 use Rattle.cdb_base.specs.declared.event.Kind.{Kind}
-use Rattle.cdb_base.specs.declared.event.Kind.TheVariants.{Send, Recv, Write}
+use Rattle.cdb_base.specs.declared.event.Kind.TheVariants.{Send, Recv}
 use Rattle.cdb_causal.specs.Dependence.{depends}
 use Rattle.cdb_causal.specs.Effects.{kind_affects}
 use Rattle.cdb_causal.proofs.Effects.{by_effect}
@@ -14,7 +14,7 @@ use Rattle.cdb_standing.specs.Causes.{writes}
 use Rattle.cdb_standing.specs.Tables.{IsEntry, IsSound}
 use Rattle.cdb_standing.specs.declared.tables.Entry.{Entry}
 use Rattle.cdb_standing.specs.declared.tables.Sent.{Sent}
-use Rattle.cdb_standing.proofs.LaterLinks.{is_accessed, Affects, affects_is}
+use Rattle.cdb_standing.proofs.LaterLinks.{Affects, affects_is}
 
 -- a step of process p of the first kind sends what one of the other kind receives
 pub record IsMail (p : ℕ) (kind other : Kind) : Type 0 where

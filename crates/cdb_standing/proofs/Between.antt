@@ -20,7 +20,7 @@ use Rattle.cdb_standing.specs.declared.tables.Entry.{Entry}
 use Rattle.cdb_standing.specs.declared.tables.Sent.{Sent}
 use Rattle.cdb_standing.proofs.Apart.{IsMail, AreInConflict, links_apart, conflict_links}
 use Rattle.cdb_standing.proofs.CutsFound.{process_within}
-use Rattle.cdb_standing.proofs.EarliestFound.{own_links, loss_found, loss_needs}
+use Rattle.cdb_standing.proofs.EarliestFound.{own_links, loss_found}
 use Rattle.cdb_standing.proofs.LastCauses.{written_is, is_written_too}
 use Rattle.cdb_standing.proofs.Lasts.{is_listed, listed_is}
 use Rattle.cdb_standing.proofs.MailRows.{same_copy}

@@ -1,8 +1,7 @@
 -- The copies that are lost, in the rows and in the history.
-use Rattle.std.proofs.lemmas.Grind.{common_steps}
-use Rattle.std.proofs.Common.{◌≡◌, ◌↔◌, ◌<◌, ◌≤◌, ℕ, zero, suc, Bool, List, length, IsTrue, inl, inr, arith}
+use Rattle.std.proofs.Common.{◌↔◌, ◌<◌, ◌≤◌, ℕ, zero, suc, List, length, inl, inr, arith}
 use Rattle.std.proofs.lemmas.Bool.{cases_lt}
-use Rattle.std.proofs.lemmas.Option.{none-some, slice_get_within, gets}
+use Rattle.std.proofs.lemmas.Option.{none-some, slice_get_within}
 use Rattle.cdb_base.specs.declared.event.Event.TheVariants as event
 use Rattle.cdb_base.specs.declared.name.CopyName.{CopyName}
 use Rattle.cdb_standing.specs.Comparisons.{LoseSame}
@@ -13,8 +12,6 @@ use Rattle.cdb_standing.specs.declared.tables.Entry.{Entry}
 use Rattle.cdb_standing.specs.declared.tables.Sent.{Sent}
 use Rattle.cdb_standing.proofs.Rows.{none_at, nth_within, is_row}
 use Rattle.cdb_standing.proofs.Places.{stands_in, in_stands}
-
--- two tests that say the same answer the same
 
 -- messages behind both rows were not sent
 

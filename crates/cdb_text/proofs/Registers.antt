@@ -1,7 +1,7 @@
 -- The lines of the registers, one after the other.
 use Rattle.std.proofs.lemmas.Grind.{common_steps}
 use Rattle.std.proofs.lemmas.Option.{gets}
-use Rattle.std.proofs.Common.{◌≡◌, ℕ, ◌+◌, ◌<◌, ◌≤◌, List, [], ◌∷◌, ◌++◌, length, get_or, drop}
+use Rattle.std.proofs.Common.{◌≡◌, ℕ, ◌+◌, ◌<◌, ◌≤◌, List, ◌++◌, length, get_or, drop}
 use Rattle.std.proofs.Common.{arith}
 use Rattle.cdb_base.specs.declared.register.Cell.{Cell}
 use Rattle.cdb_text.specs.Reports.{register_line, decision_line, registers_from}

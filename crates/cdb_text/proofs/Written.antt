@@ -1,11 +1,9 @@
 -- Texts that are written one behind the other.
 use Rattle.std.proofs.lemmas.Grind.{common_steps}
 use Rattle.std.proofs.lemmas.Option.{gets}
-use Rattle.std.proofs.Common.{◌≡◌, ℕ, ◌+◌, ◌-◌, ◌≤◌, List, ◌++◌, length, get_or, take, drop, ap, ◌∙◌, append_assoc, arith}
+use Rattle.std.proofs.Common.{◌≡◌, ℕ, ◌-◌, ◌≤◌, List, ◌++◌, length, get_or, take, drop, ap, ◌∙◌, append_assoc, arith}
 use Rattle.std.specs.List.{flat_map}
-use Rattle.cdb_base.specs.declared.register.Cell.{Cell}
 use Rattle.cdb_text.specs.Pushes.{Writes}
-use Rattle.cdb_text.specs.Reports.{register_line, registers_from}
 
 pub both : (from next end : ℕ) (old middle new first second : List ℕ) → Writes from next old middle first
     → Writes next end middle new second → Writes from end old new (first ++ second)

@@ -2,7 +2,7 @@ use Rattle.std.proofs.Common.{◌≡◌, ℕ, zero, suc, ◌<◌, ◌≤◌, fal
 use Rattle.std.proofs.lemmas.Option.{none-some}
 use Rattle.cdb_base.specs.Positions.{nth}
 use Rattle.cdb_base.specs.declared.event.Event.{Event}
-use Rattle.cdb_explain.specs.Asked.{is_asked, StandsNoStep}
+use Rattle.cdb_explain.specs.Asked.{is_asked}
 
 module _ (events : List Event) (p : ℕ) (k : Option ℕ) (n : ℕ)
     (none : (j : ℕ) (event : Event) → n ≤ j → slice_get events j ≡ Some event → is_asked p k event ≡ false) where

@@ -1,28 +1,15 @@
-use Rattle.std.proofs.Common.{◌≡◌, sym, ap, subst, ◌∙◌, ◌∷◌, [], ◌++◌, take, drop, ◌+◌, refl, arith, List, ℕ, length, get_or, length-append}
+use Rattle.std.proofs.Common.{◌≡◌, sym, ap, subst, ◌∙◌, ◌∷◌, [], ◌++◌, take, drop, ◌+◌, arith, List, ℕ, length, length-append}
 use Rattle.std.proofs.lemmas.List.{take_all, take_more}
 use Rattle.std.proofs.lemmas.Result.{err_from_is_err_and}
 use Rattle.cdb_streams.specs.Buffers.{IsPut}
 use Rattle.cdb_streams.proofs.Added.{parted}
-use Rattle.cdb_streams.proofs.PiecesPut.{put_nothing, put_more, cut_short}
+use Rattle.cdb_streams.proofs.PiecesPut.{put_more, cut_short}
 use Rattle.cdb_control.specs.Commands.{obey, reply_of}
 use Rattle.cdb_control.specs.Journal.{Journaled, control_state, entry, extended, reply_in, replay_from}
 use Rattle.cdb_control.specs.declared.control.Entry.{Entry}
 use Rattle.cdb_journal.specs.SeatReplies.{seat_replies_from, seat_reply_line, seat_replies_text}
-use Rattle.cdb_journal.proofs.RepliesToSeats.{next_state, state_behind, text_behind, parted_text, one_reply, seat_at}
+use Rattle.cdb_journal.proofs.RepliesToSeats.{next_state, state_behind, text_behind, parted_text, one_reply}
 use Rattle.cdb_journal.proofs.replays.perform_each.Goals as goal
-
-pub loop-entry-init : goal.loop-entry-init
-loop-entry-init g c = record { setup = refl; seats = refl; len = omega arith; state = refl; put = put_nothing _ _ _ }
-
-pub perform-requires-clause-seat : goal.perform-requires-clause-seat
-perform-requires-clause-seat g c =
-    let i = c.loop-entry.entry-index in
-    let at = seat_at c.args.control.now.seats c.args.entries.now i c.entry-item.result c.requires.seats c.loop-entry-test.true in
-    let same : (get_or c.args.entries.now i c.entry-item.result).seat ≡ c.entry-item.result.seat = ap (λ (e : Entry). e.seat) (sym c.entry-item.is) in
-    (omega (arith, at.0, same), omega (arith, at.1, same, c.loop-entry.invariant.seats))
-
-pub perform-requires-clause-room : goal.perform-requires-clause-room
-perform-requires-clause-room g c = omega (arith, c.loop-entry.invariant.len, c.loop-entry-test.true, c.requires.room)
 
 pub returns-in_err-perform : goal.returns-in_err-perform
 returns-in_err-perform g c =

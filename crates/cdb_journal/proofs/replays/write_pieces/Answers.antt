@@ -1,14 +1,7 @@
 use Rattle.std.proofs.Common.{refl}
 use Rattle.std.proofs.lemmas.Result.{err_from_is_err_and}
-use Rattle.cdb_streams.proofs.PiecesPut.{left_written, written_at_end, fails_at_end}
+use Rattle.cdb_streams.proofs.PiecesPut.{written_at_end, fails_at_end}
 use Rattle.cdb_journal.proofs.replays.write_pieces.Goals as goal
-
-pub returns-in_err-perform_all : goal.returns-in_err-perform_all
-returns-in_err-perform_all g c =
-    let p = err_from_is_err_and c.from_residual.result c.from_residual.ensures.1 in
-    rw (p.1, p.2)
-    (left_written g.W.Sink.stream (Unit {0}) c.in_err-perform_all.field-0.0 c.args.out.now c.perform_all.new.out
-    c.perform_all.new.buffer _ (rw c.requires.empty at c.in_err-perform_all.ensures))
 
 pub returns-in_err-flush : goal.returns-in_err-flush
 returns-in_err-flush g c =

@@ -2,7 +2,6 @@ use Rattle.std.proofs.Common.{List, subst}
 use Rattle.cdb_base.specs.declared.event.Event.{Event}
 use Rattle.cdb_explain.specs.Asked.{IsStepAsked}
 use Rattle.cdb_slice.specs.Flagged.{unflagged}
-use Rattle.cdb_slice.specs.Slices.{AreSliced}
 use Rattle.cdb_slice.proofs.SliceFlags.{flags_slice}
 use Rattle.cdb_slice.proofs.events.events_for.Goals as goal
 

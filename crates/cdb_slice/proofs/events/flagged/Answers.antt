@@ -1,4 +1,4 @@
-use Rattle.std.proofs.Common.{◌<◌, ◌∙◌, ℕ, Some, length, true, false, refl, ap, arith}
+use Rattle.std.proofs.Common.{◌<◌, ◌∙◌, ℕ, Some, length, refl, ap, arith}
 use Rattle.std.proofs.lemmas.Option.{slice_get-get_or}
 use Rattle.cdb_rules.proofs.Flagged.{item_at}
 use Rattle.cdb_slice.specs.Flagged.{flagged}

@@ -1,12 +1,7 @@
-use Rattle.std.proofs.Common.{◌≡◌, ◌<◌, ◌≤◌, ◌-◌, ◌∙◌, ℕ, zero, suc, Bool, List, Result, Ok, Err, IfOk}
-use Rattle.std.proofs.Common.{Some, true, inl, length, slice_get, ap, subst, sym, refl, arith}
+use Rattle.std.proofs.Common.{◌≡◌, ◌<◌, ◌≤◌, ◌∙◌, ℕ, zero, suc, Bool, List, Result, Ok, Err, IfOk}
+use Rattle.std.proofs.Common.{Some, true, inl, length, ap, subst, sym, refl, arith}
 use Rattle.cdb_base.specs.Positions.{nth}
 use Rattle.cdb_base.specs.declared.event.Event.{Event}
-use Rattle.cdb_causal.proofs.Lists.{by_next}
-use Rattle.cdb_causal.specs.Dependence.{depends}
-use Rattle.cdb_causal.specs.Past.{IsSlice}
-use Rattle.cdb_rules.specs.ByRules.{IsInOrder}
-use Rattle.cdb_rules.specs.Flags.{FlagsPast}
 use Rattle.cdb_rules.specs.RunView.{RunView}
 use Rattle.cdb_rules.specs.Runs.{with_history}
 use Rattle.cdb_setup.specs.Parts.{AreInRange}
@@ -47,10 +42,6 @@ returns-clause-past g c =
     rw (c.as_slice-2.ensures.value, c.in_ok-events.ensures, c.as_slice.ensures.value, c.events.ensures) refl in
     let whole = sym c.into_parts-setup.ensures.run ∙ c.in_ok-again.ensures ∙ ap (with_history run) events in
     kept_as c.new.result (λ past is. (flagged flags run.history, unflagged flags run.history, slice, is ∙ whole)) c.new.ensures
-
-pub returns-clause-valid : goal.returns-clause-valid
-returns-clause-valid g c =
-    kept_as c.new.result (λ past is. subst (IsInOrder g.T.Runs.rules) (c.into_parts-setup.ensures.run ∙ sym is) c.into_parts-setup.ensures.valid) c.new.ensures
 
 pub returns-clause-some : goal.returns-clause-some
 returns-clause-some g c =

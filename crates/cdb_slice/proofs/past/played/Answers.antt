@@ -1,6 +1,5 @@
-use Rattle.std.proofs.Common.{◌≡◌, ◌<◌, ◌∙◌, ℕ, refl, arith}
-use Rattle.cdb_base.specs.declared.event.Event.{Event}
-use Rattle.cdb_explain.proofs.Along.{next_along, next_valid}
+use Rattle.std.proofs.Common.{refl, arith}
+use Rattle.cdb_explain.proofs.Along.{next_valid}
 use Rattle.cdb_rules.proofs.Flagged.{item_at}
 use Rattle.cdb_rules.specs.RunView.{RunView}
 use Rattle.cdb_rules.specs.Runs.{with_history}
@@ -13,10 +12,3 @@ take_next-requires g c =
     let at = item_at refl c.loop-i.i c.index-events-i.result (omega arith) c.index-events-i.is in
     let range : AreInRange run.setup = rw c.setup.ensures at c.n-ranges.ensures.ranges in
     next_valid g.T.Runs.rules g.T.Runs.same_state g.met.T.Runs.histories run c.loop-i.i c.index-events-i.result at _ c.loop-i.invariant range c.requires
-
-pub loop-i-preserved : goal.loop-i-preserved
-loop-i-preserved g c =
-    let run : RunView = with_history c.args.run.now c.args.events.now in
-    let at = item_at refl c.loop-i.i c.index-events-i.result (omega arith) c.index-events-i.is in
-    next_along g.T.Runs.rules g.T.Runs.same_state g.met.T.Runs.histories run c.loop-i.i
-    c.index-events-i.result at _ c.loop-i.invariant _ c.in_ok-take_next.ensures

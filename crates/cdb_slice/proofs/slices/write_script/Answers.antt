@@ -1,4 +1,4 @@
-use Rattle.std.proofs.Common.{List, ℕ, Err, IsTrue, refl, ap, ◌∙◌}
+use Rattle.std.proofs.Common.{Err, refl, ap, ◌∙◌}
 use Rattle.std.proofs.lemmas.Result.{err_from_is_err_and}
 use Rattle.cdb_explain.proofs.Returned.{text_ends}
 use Rattle.cdb_rules.specs.RunView.{RunView}

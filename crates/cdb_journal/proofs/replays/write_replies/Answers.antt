@@ -1,8 +1,0 @@
-use Rattle.std.proofs.Common.{refl, inl}
-use Rattle.std.proofs.lemmas.Result.{err_from_is_err_and}
-use Rattle.cdb_journal.proofs.replays.write_replies.Goals as goal
-
-pub returns-in_err-buffer : goal.returns-in_err-buffer
-returns-in_err-buffer g c =
-    let p = err_from_is_err_and c.from_residual.result c.from_residual.ensures.1 in
-    rw (p.1, p.2) (inl refl)
