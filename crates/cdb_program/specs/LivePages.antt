@@ -1,6 +1,6 @@
 -- What sessions do of whose run a page is shown, as it goes on.
 use Rattle.std.specs.Prelude.{◌≡◌, ◌⊎◌, ◌==◌, ℕ, if◌then◌else◌, List, [], ◌∷◌, ◌++◌}
-use Rattle.std.specs.Prelude.{Option, Some, None, Result, Ok, Err, IfSome}
+use Rattle.std.specs.Prelude.{Option, Some, Result, Ok, Err, IfSome}
 use Rattle.cdb_agreement.specs.Algorithms.{rules}
 use Rattle.cdb_explain.specs.declared.fault.AnswerFault.{AnswerFault}
 use Rattle.cdb_page.specs.Live.{IsMadeWith, KeepsUp, Live, Versions, stream_of}

@@ -1,5 +1,5 @@
 -- One pass over commands, from the last to the first.
-use Rattle.std.proofs.Common.{◌≡◌, ◌⊎◌, inl, inr, ℕ, suc, ◌+◌, ◌<◌, ◌≤◌, List, length, refl, sym, subst, arith}
+use Rattle.std.proofs.Common.{◌≡◌, inl, inr, ℕ, suc, ◌+◌, ◌<◌, ◌≤◌, List, length, sym, subst, arith}
 use Rattle.std.proofs.lemmas.Bool.Decides.{eqb_tells}
 use Rattle.cdb_causal.specs.Rollback.{without}
 use Rattle.cdb_commands.specs.declared.command.Command.{Command}
@@ -7,7 +7,7 @@ use Rattle.cdb_goal.specs.declared.goal.Goal.{Goal}
 use Rattle.cdb_rules.specs.Rules.{Rules}
 use Rattle.cdb_search.proofs.Sublists.{joined, no_longer, one_shorter, whole, without_one}
 use Rattle.cdb_search.specs.Passes.{IsPassed}
-use Rattle.cdb_search.specs.Shrunk.{CannotSpareOne, HoldsAfter, IsShrunk, IsSublist}
+use Rattle.cdb_search.specs.Shrunk.{HoldsAfter, IsShrunk, IsSublist}
 use Rattle.cdb_setup.specs.Parts.{Parts}
 
 module _ (rules : Rules) (setup : Parts) (goal : Goal) (commands : List Command) where

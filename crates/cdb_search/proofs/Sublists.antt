@@ -1,5 +1,5 @@
 -- Sublists, and lists without one element.
-use Rattle.std.proofs.Common.{◌≡◌, ℕ, zero, suc, ◌+◌, ◌<◌, ◌≤◌, List, [], ◌∷◌, ◌++◌, length, take, drop, refl, ap, arith}
+use Rattle.std.proofs.Common.{◌≡◌, ℕ, zero, suc, ◌+◌, ◌<◌, ◌≤◌, List, [], ◌∷◌, ◌++◌, length, take, drop, arith}
 use Rattle.cdb_causal.specs.Rollback.{without}
 use Rattle.cdb_search.specs.Shrunk.{IsSublist, none, kept, left_out}
 

@@ -1,11 +1,10 @@
 -- What is amiss in a line, place by place.
-use Rattle.std.proofs.Common.{◌≡◌, ℕ, ◌+◌, ◌<◌, ◌≤◌, Bool, false, List, [], ◌∷◌, length, drop, map, get_or, Bor, refl, ap, ◌∙◌, drop-cons, add-one, arith}
+use Rattle.std.proofs.Common.{◌≡◌, ℕ, ◌<◌, ◌≤◌, Bool, List, [], ◌∷◌, length, drop, map, get_or, Bor, refl, ap, arith}
 use Rattle.std.specs.List.{list_any}
 use Rattle.std.specs.Prelude.{◌||◌}
 use Rattle.std.proofs.lemmas.List.{drop_all}
-use Rattle.cdb_session.specs.Due.{first_amiss, may_stand, nothing, ends, stands}
+use Rattle.cdb_session.specs.Due.{first_amiss, nothing}
 use Rattle.cdb_session.specs.declared.due.Due.{Due}
-use Rattle.cdb_session.specs.declared.due.Due.TheVariants.{Command, Nothing}
 
 pub any_of_texts : (p : List ℕ → Bool) (its : List (Bor (List ℕ)))
     → list_any (λ (it : Bor (List ℕ)). p it.now) its ≡ list_any p (map (λ (it : Bor (List ℕ)). it.now) its)

@@ -7,12 +7,9 @@ use Rattle.std.proofs.lemmas.Bool.{cases_Bool}
 use Rattle.std.proofs.lemmas.List.{map_more}
 use Rattle.std.proofs.lemmas.Slice.Eq.{bytes_eq-Decides}
 use Rattle.std.specs.Str.{bytes_eq}
-use Rattle.cdb_text.specs.declared.fault.LineFault.TheVariants.{Word}
-use Rattle.cdb_session.specs.Dialogues.{faulty_line_text, line_about, or_word_fault}
-use Rattle.cdb_session.specs.Due.{stands}
+use Rattle.cdb_session.specs.Dialogues.{line_about}
 use Rattle.cdb_session.specs.Requests.{help_line}
 use Rattle.cdb_session.specs.Topics.{topic_of, topic_word, topics}
-use Rattle.cdb_session.specs.declared.due.Due.TheVariants.{Command}
 use Rattle.cdb_session.specs.declared.topic.Topic.{Topic}
 use Rattle.cdb_session.specs.declared.topic.Topic.TheVariants as topic
 

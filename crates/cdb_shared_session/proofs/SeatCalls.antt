@@ -2,7 +2,7 @@
 use Rattle.std.proofs.Common.{◌≡◌, ◌↔◌, ℕ, ◌≤◌, true, List, [], ◌∷◌, ◌++◌, drop, length, map, take, Vec, Global}
 use Rattle.std.proofs.Common.{refl, sym, ap, subst, ◌∙◌, arith, length-append}
 use Rattle.std.proofs.lemmas.List.{take-append-le, take_all}
-use Rattle.std.specs.Prelude.{Result, Ok, Err, IfOk, IfErr, OnErr, Option}
+use Rattle.std.specs.Prelude.{Result, Ok, Err, IfOk, IfErr, OnErr}
 use Rattle.cdb_base.specs.Limits.{MAX_ENTRIES}
 use Rattle.cdb_commands.specs.ReplyView.{ReplyView, reply_view}
 use Rattle.cdb_commands.specs.declared.command.Command.{Command}
@@ -21,7 +21,6 @@ use Rattle.cdb_shared.proofs.Steps.{calls_of-call, calls_of-fault, replies_to-ca
 use Rattle.cdb_session.specs.Styles.{GoesOn, MakesNone, Calls, Onward, stays, goes}
 use Rattle.cdb_session.specs.Answers.{run_left, answer_seen, AnswersNow}
 use Rattle.cdb_session.specs.Exchanges.{Answer}
-use Rattle.cdb_session.specs.News.{AreNews, news_up_to}
 use Rattle.cdb_session.specs.Parts.{HaveJust}
 use Rattle.cdb_session.specs.declared.inquiry.Inquiry.{Inquiry}
 use Rattle.cdb_rules.specs.RunView.{RunView}

@@ -1,10 +1,7 @@
-use Rattle.std.proofs.Common.{◌≡◌, Result, Ok, Err, IfErr, subst, sym, ◌∙◌}
-use Rattle.cdb_goal.specs.Holds.{Holds}
+use Rattle.std.proofs.Common.{subst, sym}
 use Rattle.cdb_rules.specs.RunView.{RunView}
 use Rattle.cdb_search.proofs.Scripts.{fault_of_writing, found_so, same_ending}
-use Rattle.cdb_explain.specs.Explained.{answer_ending}
-use Rattle.cdb_search.specs.Found.{IsFaultOfSearch, IsFound, IsReached, IsScriptTo, after_writing}
-use Rattle.cdb_explain.specs.declared.fault.AnswerFault.{AnswerFault}
+use Rattle.cdb_search.specs.Found.{IsFound, IsReached, IsScriptTo}
 use Rattle.cdb_streams.proofs.StreamEnds.{written_as}
 use Rattle.cdb_streams.specs.Endings.{Ending, whole_ending}
 use Rattle.cdb_streams.specs.Written.{IsWritten}

@@ -1,5 +1,4 @@
-use Rattle.std.proofs.Common.{List, sym, ap, ◌∙◌}
-use Rattle.cdb_base.specs.declared.event.Event.{Event}
+use Rattle.std.proofs.Common.{sym, ap, ◌∙◌}
 use Rattle.cdb_rules.specs.RunView.{RunView}
 use Rattle.cdb_search.proofs.Scripts.{is_script}
 use Rattle.cdb_search.specs.Found.{IsScriptTo}

@@ -1,17 +1,10 @@
-use Rattle.std.proofs.Common.{◌≡◌, ◌∙◌, ◌↔◌, ℕ, List, map, refl, ap, sym, subst}
+use Rattle.std.proofs.Common.{◌≡◌, ◌∙◌, map, refl, ap, sym}
 use Rattle.std.proofs.lemmas.Bool.{false≢true}
 use Rattle.std.proofs.lemmas.Result.{err_from_is_err_and}
-use Rattle.cdb_commands.specs.declared.command.Command.{Command}
 use Rattle.cdb_rules.specs.RunView.{RunView}
-use Rattle.cdb_goal.specs.Holds.{Holds}
-use Rattle.cdb_search.proofs.Scripts.{same_ending, same_left}
-use Rattle.cdb_explain.specs.Explained.{answer_ending}
-use Rattle.cdb_search.specs.Shrunk.{HoldsAfter, IsShrunk, IsShrunkText, lines_text}
-use Rattle.cdb_setup.specs.Parts.{AreInRange, Parts}
+use Rattle.cdb_search.proofs.Scripts.{same_left}
+use Rattle.cdb_setup.specs.Parts.{AreInRange}
 use Rattle.cdb_slice.specs.Scripts.{command_for}
-use Rattle.cdb_streams.proofs.StreamEnds.{only_as}
-use Rattle.cdb_streams.specs.Endings.{Ending, whole_ending}
-use Rattle.cdb_streams.specs.Written.{IsWritten}
 use Rattle.cdb_streams.specs.declared.buffer.OutputFault.TheVariants as output
 use Rattle.cdb_search.proofs.shrinks.write_small.Goals as goal
 

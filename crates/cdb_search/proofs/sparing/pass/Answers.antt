@@ -1,7 +1,5 @@
-use Rattle.std.proofs.Common.{◌≡◌, ◌-◌, ◌+◌, ◌∙◌, ◌≤◌, ℕ, suc, List, length, ap, sym, subst, arith}
-use Rattle.cdb_commands.specs.declared.command.Command.{Command}
+use Rattle.std.proofs.Common.{◌≡◌, ◌-◌, ◌+◌, ◌∙◌, ℕ, suc, sym, subst, arith}
 use Rattle.cdb_causal.specs.Rollback.{without}
-use Rattle.cdb_rules.specs.Rules.{Rules}
 use Rattle.cdb_search.proofs.Spared.{Tried, all_tried, few_left, needed, none_tried, spared}
 use Rattle.cdb_search.specs.Shrunk.{HoldsAfter}
 use Rattle.cdb_search.proofs.sparing.pass.Goals as goal

@@ -1,8 +1,6 @@
-use Rattle.std.proofs.Common.{◌≡◌, ◌∙◌, ℕ, List, length, sym, subst, arith}
-use Rattle.cdb_commands.specs.declared.command.Command.{Command}
+use Rattle.std.proofs.Common.{◌≡◌, length, arith}
 use Rattle.cdb_search.proofs.Spared.{all_spared, more_spared, none_spared}
 use Rattle.cdb_search.specs.Passes.{IsPassed}
-use Rattle.cdb_search.specs.Shrunk.{HoldsAfter}
 use Rattle.cdb_search.proofs.sparing.shrunk.Goals as goal
 
 pub loop-init : goal.loop-init
