@@ -18,4 +18,3 @@ held_after rules (e ∷ journal) t seats lawful lists of_seats =
     let u = obey rules t e.seat e.command in
     let more = held_after rules journal u seats (subst (AreLawful rules) (sym adds.setup) lawful) (adds.lists ∙ lists) of_seats.1 in
     omega (arith, more, adds.events)
-

@@ -134,7 +134,6 @@ module _ (n p : ℕ) where
   among_is first last = grind (arith, nat_tests)
 
   module _ (found : Option ℕ) (is : found ≡ (if is_among n p then Some p else None)) where
-
     pub among_none : {P : Type 0} → (is_among n p ≡ false → P) → IfNone found P
     among_none {P = P} none =
         subst (λ o. IfNone o P) (sym is)

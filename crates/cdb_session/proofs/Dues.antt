@@ -18,9 +18,7 @@ abbrev first : List (Bor (List ℕ)) → List ℕ
 first its = (get_or its 0 (record { ref_ptr = (0, 0); now = [] })).now
 
 module _ (chooses : Bool) (dues : List Due) (i : ℕ) where
-
   -- nothing more is due
   pub all_there : (left : List (Bor (List ℕ))) → length dues ≤ i → length left < 1 → first_amiss chooses (drop i dues) (texts left) ≡ nothing
   all_there [] behind few = rw (drop_all i dues behind) refl
   all_there (it ∷ its) behind few = absurd (omega arith)
-

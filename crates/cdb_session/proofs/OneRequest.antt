@@ -40,7 +40,6 @@ module _ (line : List ℕ) where
   only_too_long long TooLong asks = refl
 
   module _ (few : length line ≤ longest) where
-
     pub only_seat : (seat : ℕ) → IsWithin 1 most_seats seat → line ≡ seat_line seat → (other : Request) → AsksFor other line → other ≡ Seat seat
     only_seat seat within is (Call command times) asks =
         absurd (let r = repeats line command times asks.1 (inr (inr (inl (seat, within, is)))) in

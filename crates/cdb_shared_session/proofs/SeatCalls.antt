@@ -116,4 +116,3 @@ asked_now rules Answers seat inquiry (Ok answer) is =
     let all : take (length seat.seen) seat.seen ≡ seat.seen = take_all (length seat.seen) seat.seen (omega arith) in
     (just_now rules seat, subst (λ (seen : List Entry). Answers (run_left rules seat.setup seat.seats seen) inquiry (answer_seen answer)) (sym all) is)
 asked_now rules Answers seat inquiry (Err fault) is = tt
-

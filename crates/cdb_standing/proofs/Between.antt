@@ -217,4 +217,3 @@ module _ {next : ℕ} {steps : List (List Entry)} {sent : List (List Sent)} (sou
     pub none_without : register_of_both cause kind ≡ None → HasNone steps sent (event.Step q l cause) c (event.Step p k kind) a
     none_without none x (event.Lost copy) b = no_loss at b.to_effect
     none_without none x (event.Step s j other) b = let lies = lies_between s j x other b in none-some lies.n (sym none ∙ same_register lies)
-

@@ -184,7 +184,6 @@ module _ (line : List ℕ) (some : line ≢ []) (s : ℕ) (rest : Words) (is : I
 -- ---- a line whose first word is no seat
 
 module _ (line : List ℕ) (some : line ≢ []) (no : BeginWithNoSeat (words_of line)) where
-
   pub no_seat_is_no_number : (fault : LineFault) → (let read : EntryRead = Err Number in read ≡ Err fault) ↔ IsFaultOfEntry fault line
   no_seat_is_no_number fault = (
     (λ same.

@@ -11,4 +11,3 @@ module _ (events : List Event) (p : ℕ) (k : Option ℕ) (n : ℕ)
       → is_asked p k later ≡ false
   none_behind position low zero later less stands = absurd (none-some later stands)
   none_behind position low (suc j) later less stands = none j later (omega arith) stands
-

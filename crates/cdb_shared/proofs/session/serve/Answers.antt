@@ -47,9 +47,11 @@ returns-in-Err-call-clause-gate g c =
     let passed : c.before-in-loop-command.result ≡ true = search rules in
     let count : c.loop-command.number + 1 ≡ length (take c.loop-command.command-index c.args.commands.now) + 1 =
     omega (arith, length-take c.loop-command.command-index c.args.commands.now, was.number) in
-    let calls = calls_of-fault _ _ c.call.ensures.seat c.in-Err-call.ensures.fault ∙ was.calls in
-    (_, gate_at_fault _ _ c.ended_by-in-Err-call.ensures calls
-    (calls_with_asked _ _ _ was.gate_calls was.calls count passed c.before-in-loop-command.ensures.called))
+    let calls = calls_of-fault _ _ c.call.ensures.seat c.in-Err-call.ensures.fault ∙ was.calls in (
+      _,
+      gate_at_fault _ _ c.ended_by-in-Err-call.ensures calls
+          (calls_with_asked _ _ _ was.gate_calls was.calls count passed c.before-in-loop-command.ensures.called),
+    )
 
 pub returns-in-Err-call-clause-replies : goal.returns-in-Err-call-clause-replies
 returns-in-Err-call-clause-replies g c =
