@@ -36,7 +36,7 @@ ArePromises {T} {G} plan seats gates handles =
 abbrev pub HasRan : {T : Type 0} → (Parts → Rules) → Plan → SeatView → Ran T → Type 0
 HasRan rules plan before ran = HasRun rules plan before ran.seat (map reply_view ran.replies.items) ran.end
 
--- how a session ended, by its gate: its calls of the gate, and one that lets all calls go on has stopped none
+-- how a session ended: these were its calls of the gate, and a gate that lets all calls go on has stopped none
 pub record HasEndedAtGate {G : Type 0} (gate_calls : G → Option (List GateCall))
     (passes : G → Bool) (gate : G) (before after : SeatView) (end : End) : Type 0 where
   pub last : G

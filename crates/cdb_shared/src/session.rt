@@ -18,7 +18,7 @@ use std::sync::Wait;
 /// What is asked before each call of a session, and notified after each reply. The calls are numbered from 1, and
 /// the seat that is shown rests.
 pub trait Gate {
-    // The calls of it, in order, where they are known.
+    // The calls that it has had, in order, where they are known.
     ghost calls: { Self → Option (List GateCall) } = { λ _. None };
 
     // Whether it lets every call go on from now on.
