@@ -56,7 +56,7 @@ pub record Lawful (n : ℕ) (t : RunState LocalState) : Type 0 where
   pub dec : (r : RegisterState) → t.registers.of_decision ≡ Some r → r.cell ≡ decided run.dec
 
 pub nth_low : {A : Type 0} (xs : List A) (i : ℕ) (x : A) → nth xs i ≡ Some x → 1 ≤ i
-nth_low xs i x h1 = grind (arith, common_steps, gets)
+nth_low xs i x is = grind (arith, common_steps, gets)
 
 -- ---- the start
 
@@ -95,7 +95,7 @@ put_same : (traced : ℕ → Traced) (p : ℕ) (k : Traced) → put traced p k p
 put_same traced p k = ap (λ b. if b then k else traced p) (eq-eqb p p refl)
 
 put_other : (traced : ℕ → Traced) (p : ℕ) (k : Traced) (s : ℕ) → (s ≡ p → ⊥) → put traced p k s ≡ traced s
-put_other traced p k s h1 = grind (arith, common_steps, gets)
+put_other traced p k s other = grind (arith, common_steps, gets)
 
 -- what a step of the process x to the local state s leaves
 pub record Kinded (n : ℕ) (t : RunState LocalState) (run : Run) (x : ProcessState LocalState) (s : LocalState) (left : RegisterStates) : Type 0 where
@@ -360,7 +360,7 @@ module _ (n : ℕ) (setup : Parts) (t : RunState LocalState) (lawful : Lawful n 
 
   -- register i is written by process i alone
   pub writes_alone : (p k i : ℕ) (to : RunState LocalState) → after (alpha_machine setup) t (happening.Step p k (Write (R i))) ≡ Some to → p ≡ i
-  writes_alone p k i to h1 = grind (arith, common_steps, gets)
+  writes_alone p k i to is = grind (arith, common_steps, gets)
 
   -- whatever event comes next, the rounds in the registers never fall
   pub rises : (event : Event) (to : RunState LocalState) → after (alpha_machine setup) t event ≡ Some to → (i : ℕ) (before later : RegisterState)

@@ -128,7 +128,7 @@ module _ (n j : ℕ) (some_process : 1 ≤ n) (somebody : ℕ → ℕ → Type 0
   -- in a first pass after the step nothing is seen yet, or the pass stood before
 
   pub pass_from : (k : Traced) (published : Option ℕ) → Step n own dec l k published → 3 ≤ k.place → k.place ≤ 4 → (k.seen ≡ []) ⊎ PassFrom own l k
-  pass_from k published h1 h2 h3 = grind (arith, common_steps, gets)
+  pass_from k published first second third = grind (arith, common_steps, gets)
 
   -- a value to be written after the step was before, or rests on what was seen
 

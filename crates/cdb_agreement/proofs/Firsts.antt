@@ -45,7 +45,7 @@ module _ {L : Type 0} (first : ℕ → ℕ → ℕ → ℕ → L) (n q : ℕ) wh
 -- ---- registers
 
 pub first_cells : (m p : ℕ) (r : RegisterState) → nth (fresh_registers m).of_processes p ≡ Some r → r ≡ fresh_register
-first_cells m p r h1 = grind (arith, common_steps, gets)
+first_cells m p r is = grind (arith, common_steps, gets)
 
 pub first_decision : (m : ℕ) (r : RegisterState) → (fresh_registers m).of_decision ≡ Some r → r ≡ fresh_register
-first_decision m r h1 = grind (arith, common_steps, gets)
+first_decision m r is = grind (arith, common_steps, gets)

@@ -46,20 +46,20 @@ use Rattle.cdb_setup.specs.declared.setup.Algorithm.{Algorithm}
 use Rattle.cdb_setup.specs.declared.setup.Algorithm.TheVariants.{Leader, Alpha}
 
 answered : (o : Option Refusal) (e : Option Event) (event : Event) → unless_refused o e ≡ Ok event → (o ≡ None) × (e ≡ Some event)
-answered o e event h1 = grind (arith, common_steps, gets)
+answered o e event is = grind (arith, common_steps, gets)
 
 pub of_some : {A : Type 0} (f : A → Result Event Refusal) (o : Option A) (why : Refusal) (event : Event)
     → option_map_or f o (Err why) ≡ Ok event → (a : A) × (o ≡ Some a) × (f a ≡ Ok event)
-of_some f o why event h1 = grind (arith, common_steps, gets)
+of_some f o why event is = grind (arith, common_steps, gets)
 
 not_false : (b : Bool) → not b ≡ false → b ≡ true
-not_false b h1 = grind (arith, common_steps, gets)
+not_false b is = grind (arith, common_steps, gets)
 
 within : {A : Type 0} (xs : List A) (i : ℕ) (x : A) → slice_get xs i ≡ Some x → suc i ≤ length xs
-within xs i x h1 = grind (arith, common_steps, gets)
+within xs i x at = grind (arith, common_steps, gets)
 
 nth_among : {A : Type 0} (xs : List A) (p : ℕ) (x : A) → nth xs p ≡ Some x → (1 ≤ p) × (p ≤ length xs)
-nth_among xs p x h1 = grind (arith, common_steps, gets)
+nth_among xs p x at = grind (arith, common_steps, gets)
 
 among : (n p : ℕ) → 1 ≤ p → p ≤ n → is_among n p ≡ true
 among n p low high = grind (arith, nat_tests, low, high)
@@ -199,7 +199,7 @@ module _ {L : Type 0} (machine : Machine L) where
 
     there_where_shown : (A : Type 0) (show : ProcessState L → A) (state : RunState L) (p : ℕ) (it : A) → length state.processes ≡ length machine.firsts
         → option_map show (nth state.processes p) ≡ Some it → is_among setup.processes p ≡ true
-    there_where_shown A show state p it h1 h2 = grind (arith, common_steps, gets)
+    there_where_shown A show state p it first second = grind (arith, common_steps, gets)
 
     step_planned : (state : RunState L) (p : ℕ) (a : Act) (event : Event) → length state.processes ≡ length machine.firsts
         → step_result machine setup state p a ≡ Ok event → IsPlanned p event

@@ -121,7 +121,7 @@ mailed t s m y is q = go (nth t.processes s) (sym (ap (λ sent. nth (unwrap_or s
 
 -- a payload that arrives is there
 carried : (mail : MailState) (p : ℕ) (name : MsgName) (y : Payload) → arriving mail p name ≡ Some y → payload_of mail name ≡ Some y
-carried mail p name y h1 = grind (arith, common_steps, gets)
+carried mail p name y is = grind (arith, common_steps, gets)
 
 module _ (n : ℕ) (setup : Parts) (t : RunState LocalState) (lawful : Lawful n setup.quorum t) where
   abbrev mail : ℕ → List Payload

@@ -141,10 +141,10 @@ module _ {L : Type 0} (machine : Machine L) where
         go (Some process) fresh = fresh process refl
 
     step_named : (k : ℕ) (x : Event) → is_step_of p x ≡ true → step_number x ≡ k → event_name x ≡ step_name p k
-    step_named k x h1 h2 = grind (arith, common_steps, gets)
+    step_named k x is number = grind (arith, common_steps, gets)
 
     is_of : (k : ℕ) (x : Event) → event_name x ≡ step_name p k → (is_step_of p x ≡ true) × (step_number x ≡ k)
-    is_of k x h1 = grind (arith, common_steps, gets)
+    is_of k x same = grind (arith, common_steps, gets)
 
   pub steps_numbered : (history : List Event) → IsValid machine history → AreStepsNumbered history
   steps_numbered history valid p k event = (at_number k, λ named. stands k named.0 (is_of p k event named.1))
@@ -228,7 +228,7 @@ module _ {L : Type 0} (machine : Machine L) where
         go (Some process) fresh = fresh process refl
 
     send_is : (m : ℕ) (x : Event) → is_send_by p x ≡ true → message_number x ≡ m → (k : ℕ) × (x ≡ Step p k (Send m))
-    send_is m x h1 h2 = grind (arith, common_steps, gets)
+    send_is m x is number = grind (arith, common_steps, gets)
 
   pub sends_numbered : (history : List Event) → IsValid machine history → AreSendsNumbered history
   sends_numbered history valid p m event =

@@ -81,7 +81,7 @@ module _ {L : Type 0} (table : Table L) (holds : L → ℕ → Type 0) (makes : 
       (suc k, omega arith, omega arith, at)
 
   fresh_shows_none : (m : ℕ) (r : Reg) (stands : RegisterState) → register_of (fresh_registers m) r ≡ Some stands → stands.cell.val ≡ None
-  fresh_shows_none m r stands h1 = grind (arith, common_steps, gets)
+  fresh_shows_none m r stands is = grind (arith, common_steps, gets)
 
   start_sourced : Sourced (start machine)
   start_sourced = record {

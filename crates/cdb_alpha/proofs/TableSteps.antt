@@ -155,7 +155,7 @@ module _ (own : ℕ → Cell) (dec : Option ℕ) (s : LocalState) (own_writes : 
 
   -- the register that is read is the next of the pass
   next_is : (x : Reg) → next_register s ≡ Some x → (x ≡ R (length s.seen + 1)) × (length s.seen < s.processes)
-  next_is x h1 = grind (arith, common_steps, gets)
+  next_is x is = grind (arith, common_steps, gets)
 
   sees : (reading over : Place) (x : Reg) (c : Cell) (t : LocalState) → next_register s ≡ Some x → ReadsRegisters own dec (input.Read x c)
       → place_number over ≡ suc (place_number reading)

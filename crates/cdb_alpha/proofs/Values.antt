@@ -141,7 +141,7 @@ taken : (s t : LocalState) (i : Input) → next_state s i ≡ Some t → (v : �
 taken s t i is = row_taken s s.place i t (leads (row_at s.place s) i t is)
 
 first : (me n given v : ℕ) → HoldsValue (first_state me n given) v → v ≡ given
-first me n given v h1 = grind (arith, common_steps, gets)
+first me n given v is = grind (arith, common_steps, gets)
 
 -- ---- what is written
 
@@ -150,13 +150,13 @@ sends_none row = grind (arith, common_steps, gets)
 
 -- the cell that a row writes, where it writes one
 writes_due : (r : Reg) (d c : Cell) (after : Option LocalState) → wished_cell (wish_by (writes r d after)) ≡ Some c → d ≡ c
-writes_due r d c after h1 = grind (arith, common_steps, gets)
+writes_due r d c after is = grind (arith, common_steps, gets)
 
 reads_none : (r : Option Reg) (after : Cell → LocalState) (c : Cell) → wished_cell (wish_by (reads r after)) ≡ Some c → ⊥
-reads_none r after c h1 = grind (arith, common_steps, gets)
+reads_none r after c is = grind (arith, common_steps, gets)
 
 goes_none : (after : Option LocalState) (c : Cell) → wished_cell (wish_by (goes_on after)) ≡ Some c → ⊥
-goes_none after c h1 = grind (arith, common_steps, gets)
+goes_none after c is = grind (arith, common_steps, gets)
 
 cell_held : (p : Place) (s : LocalState) (c : Cell) (v : ℕ) → wished_cell (wish_by (row_at p s)) ≡ Some c → c.val ≡ Some v → HoldsValue s v
 cell_held A0 s c v is val = absurd (cc)

@@ -11,7 +11,7 @@ use Rattle.cdb_causal.specs.Rollback.{IsParted, done, kept, gone, IsRolledBack, 
 use Rattle.cdb_causal.specs.Exchange.{IsIn, here, there}
 
 below_suc : (j k : ℕ) → j < suc k → (j < k) ⊎ (j ≡ k)
-below_suc j k h1 = grind (arith, common_steps, gets)
+below_suc j k is = grind (arith, common_steps, gets)
 
 module _ {E : Type 0} where
   in_front : (event cause : E) {causes : List E} → IsIn cause causes → IsIn cause (causes ++ event ∷ [])
@@ -23,7 +23,7 @@ module _ {E : Type 0} where
   in_back (c ∷ cs) cause event e = there (in_back cs cause event e)
 
   in_one : (cause event : E) → IsIn cause (event ∷ []) → cause ≡ event
-  in_one cause event h1 = grind (arith, common_steps, gets)
+  in_one cause event here = grind (arith, common_steps, gets)
 
   in_push : (causes : List E) (cause event : E) → IsIn cause (causes ++ event ∷ []) → IsIn cause causes ⊎ (cause ≡ event)
   in_push [] cause event i = inr (in_one cause event i)
@@ -32,7 +32,7 @@ module _ {E : Type 0} where
       elim (in_push cs cause event i) as (λ _. IsIn cause (c ∷ cs) ⊎ (cause ≡ event)) [ inl j ↦ inl (there j) | inr e ↦ inr e ]
 
   at_drop : (xs : List E) (k : ℕ) (x : E) (rest : List E) → drop k xs ≡ x ∷ rest → nth xs (suc k) ≡ Some x
-  at_drop xs k x rest h1 = grind (arith, common_steps, gets)
+  at_drop xs k x rest e = grind (arith, common_steps, gets)
 
   drop_next : (xs : List E) (k : ℕ) (x : E) (rest : List E) → drop k xs ≡ x ∷ rest → drop (suc k) xs ≡ rest
   drop_next [] zero x rest e = ap (drop 1) e

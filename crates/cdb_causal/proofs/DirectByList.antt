@@ -23,7 +23,7 @@ module _ {E : Type 0} where
       ]
 
   at_any : (test : E → Bool) (xs : List E) (i : ℕ) (x : E) → nth xs (suc i) ≡ Some x → test x ≡ true → list_any test xs ≡ true
-  at_any test xs i x h1 h2 = grind (arith, common_steps, gets)
+  at_any test xs i x first second = grind (arith, common_steps, gets)
 
 module _ {E : Type 0} (depends : E → E → Bool) (history : List E) (at : ℕ) (cause : E) (stands : nth history at ≡ Some cause) (event : E) where
   abbrev longer : List E

@@ -20,29 +20,29 @@ nth_drop xs n k = grind (arith, common_steps, gets)
 
 -- what is left of a list, from a position on
 pub drop_from : {A : Type 0} (xs : List A) (k : ℕ) (x : A) → slice_get xs k ≡ Some x → drop k xs ≡ x ∷ drop (suc k) xs
-drop_from xs k x h1 = grind (arith, common_steps, gets)
+drop_from xs k x at = grind (arith, common_steps, gets)
 
 pub push_cases : {A : Type 0} (xs : List A) (y x : A) (k : ℕ) → slice_get (xs ++ y ∷ []) k ≡ Some x
     → ((slice_get xs k ≡ Some x) × (k < length xs)) ⊎ ((y ≡ x) × (k ≡ length xs))
-push_cases xs y x k h1 = grind (arith, common_steps, gets)
+push_cases xs y x k is = grind (arith, common_steps, gets)
 
 pub push_front : {A : Type 0} (xs : List A) (y x : A) (k : ℕ) → slice_get xs k ≡ Some x → slice_get (xs ++ y ∷ []) k ≡ Some x
-push_front xs y x k h1 = grind (arith, common_steps, gets)
+push_front xs y x k is = grind (arith, common_steps, gets)
 
 pub push_back : {A : Type 0} (xs : List A) (y : A) → slice_get (xs ++ y ∷ []) (length xs) ≡ Some y
 push_back xs y = grind (arith, common_steps, gets)
 
 pub nth_front : {A : Type 0} (xs : List A) (y x : A) (k : ℕ) → nth xs k ≡ Some x → nth (xs ++ y ∷ []) k ≡ Some x
-nth_front xs y x k h1 = grind (arith, common_steps, gets)
+nth_front xs y x k stands = grind (arith, common_steps, gets)
 
 pub nth_in_front : {A : Type 0} (xs : List A) (y x : A) (k : ℕ) → k ≤ length xs → nth (xs ++ y ∷ []) k ≡ Some x → nth xs k ≡ Some x
-nth_in_front xs y x k h1 h2 = grind (arith, common_steps, gets)
+nth_in_front xs y x k first second = grind (arith, common_steps, gets)
 
 pub nth_within : {A : Type 0} (xs : List A) (k : ℕ) (x : A) → nth xs k ≡ Some x → k ≤ length xs
-nth_within xs k x h1 = grind (arith, common_steps, gets)
+nth_within xs k x stands = grind (arith, common_steps, gets)
 
 pub nth_map : {A B : Type 0} (f : A → B) (xs : List A) (at : ℕ) (x : A) → nth xs at ≡ Some x → nth (map f xs) at ≡ Some (f x)
-nth_map f xs at x h1 = grind (arith, common_steps, gets)
+nth_map f xs at x stands = grind (arith, common_steps, gets)
 
 pub map-without : {A B : Type 0} (f : A → B) (xs : List A) (at : ℕ) → map f (without xs at) ≡ without (map f xs) at
 map-without f xs zero = refl

@@ -21,7 +21,7 @@ module _ {E : Type 0} where
   same_rest x y xs ys h = ap (drop 1) h
 
   not_empty : (x : E) (xs : List E) → [] ≡ xs ++ x ∷ [] → ⊥
-  not_empty x xs h1 = grind (arith, common_steps, gets)
+  not_empty x xs is = grind (arith, common_steps, gets)
 
   not_cons : (x : E) (xs : List E) → x ∷ xs ≡ [] → ⊥
   not_cons x xs h = none-some x (sym (ap (λ l. slice_get l 0) h))

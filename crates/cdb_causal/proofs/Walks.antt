@@ -22,7 +22,7 @@ module _ {E : Type 0} (depends : E → E → Bool) where
 
     -- what a link says of the events at its ends
     pub linked_events : IsLink depends history i j → depends cause effect ≡ true
-    linked_events h1 = grind (arith, common_steps, gets)
+    linked_events l = grind (arith, common_steps, gets)
 
   -- whether a position is linked to another can be looked up
   pub linked_or_not : (history : List E) (i j : ℕ) → IsLink depends history i j ⊎ (IsLink depends history i j → ⊥)

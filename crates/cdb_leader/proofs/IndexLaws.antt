@@ -25,7 +25,7 @@ push_by : {X : Type 0} (test : X → Bool) (x : X) (xs : List X) (y : X) (a b : 
     → (if a then Some zero else option_map suc (first_position test (xs ++ y ∷ [])))
     ≡ (if b then noted (suc (length xs)) (if a then Some zero else option_map suc (first_position test xs)) else
     (if a then Some zero else option_map suc (first_position test xs)))
-push_by test x xs y a b h1 = grind (arith, common_steps, gets)
+push_by test x xs y a b is = grind (arith, common_steps, gets)
 
 pub first_position-push : {X : Type 0} (test : X → Bool) (xs : List X) (y : X)
     → first_position test (xs ++ y ∷ []) ≡ (if test y then noted (length xs) (first_position test xs) else first_position test xs)
@@ -34,7 +34,7 @@ first_position-push test (x ∷ xs) y = push_by test x xs y _ _ (first_position-
 
 within_by : {X : Type 0} (xs : List X) (i : ℕ) (a : Bool) (o : Option ℕ) → ((j : ℕ) → o ≡ Some j → j < length xs)
     → (if a then Some zero else option_map suc o) ≡ Some i → i < suc (length xs)
-within_by xs i a o h1 h2 = grind (arith, common_steps, gets)
+within_by xs i a o below e = grind (arith, common_steps, gets)
 
 pub first_position-within : {X : Type 0} (test : X → Bool) (xs : List X) (i : ℕ) → first_position test xs ≡ Some i → i < length xs
 first_position-within test [] i h = absurd (cc)
@@ -42,7 +42,7 @@ first_position-within test (x ∷ xs) i h = within_by xs i _ _ (λ j. first_posi
 
 -- the first of a list with one more is forgotten, where it is that one
 kept : (n : ℕ) (o : Option ℕ) → ((i : ℕ) → o ≡ Some i → i < n) → forgotten n (noted n o) ≡ o
-kept n o h1 = grind (arith, common_steps, gets)
+kept n o is = grind (arith, common_steps, gets)
 
 pub first_position-forget : {X : Type 0} (test : X → Bool) (xs : List X) (y : X)
     → first_position test xs ≡ (if test y then forgotten (length xs) (first_position test (xs ++ y ∷ [])) else first_position test (xs ++ y ∷ []))
@@ -55,10 +55,10 @@ first_position-forget test xs y = by_last (test y) (first_position test (xs ++ y
 -- ---- a position is forgotten, whatever the last element was
 
 below : (n : ℕ) (o : Option ℕ) → ((i : ℕ) → o ≡ Some i → i < n) → forgotten n o ≡ o
-below n o h1 = grind (arith, common_steps, gets)
+below n o is = grind (arith, common_steps, gets)
 
 back_by : (n : ℕ) (b : Bool) (o p : Option ℕ) → ((i : ℕ) → o ≡ Some i → i < n) → p ≡ (if b then noted n o else o) → forgotten n p ≡ o
-back_by n b o p h1 h2 = grind (arith, common_steps, gets)
+back_by n b o p first second = grind (arith, common_steps, gets)
 
 -- an element that does not pass changes nothing
 pub first_position-silent : {X : Type 0} (test : X → Bool) (xs : List X) (y : X) → test y ≡ false
@@ -135,10 +135,10 @@ module _ {X : Type 0} (f : X → Option (Option ℕ)) where
 -- ---- what a message reads as
 
 read_true : {A : Type 0} (a : Bool) (o : Option A) (v : A) → o ≡ Some v → is_some (if a then o else None) ≡ a
-read_true a o v h1 = grind (arith, common_steps, gets)
+read_true a o v e = grind (arith, common_steps, gets)
 
 read_false : {A : Type 0} (a : Bool) (o : Option A) → o ≡ None → is_some (if a then o else None) ≡ false
-read_false a o h1 = grind (arith, common_steps, gets)
+read_false a o e = grind (arith, common_steps, gets)
 
 module _ {A : Type 0} (reading : Payload → Option A) (inbox : List Received) (y : Received) where
   -- a message that reads as something is noted for its sender
@@ -265,19 +265,19 @@ module _ (r : ℕ) (inbox : List Received) (y : Received) where
 
 pub first_of : (x : Payload) (r round est lead : ℕ) → x ≡ P1 round est lead → message_round x ≡ Some r
     → first_phase r x ≡ Some (record { estimate = est; lead = lead })
-first_of x r round est lead h1 h2 = grind (arith, common_steps, gets)
+first_of x r round est lead is at = grind (arith, common_steps, gets)
 
 pub second_of : (x : Payload) (r round : ℕ) (aux : Option ℕ) → x ≡ P2 round aux → message_round x ≡ Some r → second_phase r x ≡ Some aux
-second_of x r round aux h1 h2 = grind (arith, common_steps, gets)
+second_of x r round aux is at = grind (arith, common_steps, gets)
 
 not_first : (x : Payload) (r q : ℕ) → message_round x ≡ Some r → (r == q) ≡ false → first_phase q x ≡ None
-not_first x r q h1 h2 = grind (arith, common_steps, gets)
+not_first x r q at other = grind (arith, common_steps, gets)
 
 not_second : (x : Payload) (r q : ℕ) → message_round x ≡ Some r → (r == q) ≡ false → second_phase q x ≡ None
-not_second x r q h1 h2 = grind (arith, common_steps, gets)
+not_second x r q at other = grind (arith, common_steps, gets)
 
 not_decision : (x : Payload) (r : ℕ) → message_round x ≡ Some r → as_decision x ≡ None
-not_decision x r h1 = grind (arith, common_steps, gets)
+not_decision x r at = grind (arith, common_steps, gets)
 
 a_decision : (x : Payload) → message_round x ≡ None
     → (v : ℕ) × (as_decision x ≡ Some v) × ((q : ℕ) → first_phase q x ≡ None) × ((q : ℕ) → second_phase q x ≡ None)

@@ -89,10 +89,10 @@ only_parts r w inbox =
 -- ---- where the index knows all
 
 without_end : {X : Type 0} (xs ys : List X) → ys ≡ [] → xs ++ ys ≡ xs
-without_end xs ys h1 = grind (arith, common_steps, gets)
+without_end xs ys none = grind (arith, common_steps, gets)
 
 pub is_nil : {X : Type 0} (xs : List X) → length xs ≡ 0 → xs ≡ []
-is_nil xs h1 = grind (arith, common_steps, gets)
+is_nil xs none = grind (arith, common_steps, gets)
 
 pub knows_all : (inbox : List Received) → later inbox ≡ [] → known inbox ≡ inbox
 knows_all inbox none = sym (without_end _ _ none) ∙ parts inbox
@@ -105,14 +105,14 @@ count_all_kept reading kept inbox h none = count_kept reading kept inbox (subst 
 -- ---- no decision
 
 kept_nowhere : (os : List (Option ℕ)) (i : ℕ) → list_all (λ position. not (is_some position)) os ≡ true → option_flatten (slice_get os i) ≡ None
-kept_nowhere os i h1 = grind (arith, common_steps, gets)
+kept_nowhere os i is = grind (arith, common_steps, gets)
 
 nowhere : (kept : Firsts) → keeps_none kept ≡ true → (s : ℕ) → position_from s kept ≡ None
 unfolding position_from
-nowhere kept h1 s = grind (arith, common_steps, gets)
+nowhere kept is s = grind (arith, common_steps, gets)
 
 is_none : {A : Type 0} (o : Option A) → false ≡ is_some o → o ≡ None
-is_none o h1 = grind (arith, common_steps, gets)
+is_none o is = grind (arith, common_steps, gets)
 
 none_given : {X A : Type 0} (f : X → Option A) (xs : List X) → ((x : X) → f x ≡ None) → None ≡ first_given f xs
 none_given f [] h = refl

@@ -216,7 +216,7 @@ module _ (q r : ℕ) (said : FirstPhases) (inbox : List Received) (h : All (λ s
 
 pub nth_process : (k d : ℕ) → k < 9 → slice_index_or all_processes k d ≡ suc k
 unfolding all_processes
-nth_process k d h1 = grind (arith, common_steps, gets)
+nth_process k d is = grind (arith, common_steps, gets)
 
 -- what a map over the processes gives stands under each
 pub said_is : (ys : List (Option FirstPhase)) (f : ℕ → Option FirstPhase) → length ys ≡ 9

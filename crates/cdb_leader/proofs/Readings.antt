@@ -56,7 +56,7 @@ all_pass {X} test (z ∷ zs) is x here = go (test z) refl is here (λ it. all_pa
     go false at it any later = absurd (cc)
 
 both_true : (a b : Bool) → a && b ≡ true → (a ≡ true) × (b ≡ true)
-both_true a b h1 = grind (arith, common_steps, gets)
+both_true a b is = grind (arith, common_steps, gets)
 
 -- ---- the processes 1 to 9
 
@@ -84,13 +84,13 @@ first_from_heard {A} s reading inbox a is = let found = given_from _ inbox a is 
     go e here false same is_read = absurd (cc)
 
 first_phase_is : (r : ℕ) (x : Payload) (said : FirstPhase) → first_phase r x ≡ Some said → x ≡ P1 r said.estimate said.lead
-first_phase_is r x said h1 = grind (arith, common_steps, gets)
+first_phase_is r x said is = grind (arith, common_steps, gets)
 
 second_phase_is : (r : ℕ) (x : Payload) (a : Option ℕ) → second_phase r x ≡ Some a → x ≡ P2 r a
-second_phase_is r x a h1 = grind (arith, common_steps, gets)
+second_phase_is r x a is = grind (arith, common_steps, gets)
 
 decision_is : (x : Payload) (v : ℕ) → as_decision x ≡ Some v → x ≡ D v
-decision_is x v h1 = grind (arith, common_steps, gets)
+decision_is x v is = grind (arith, common_steps, gets)
 
 -- ---- what the table adopts
 

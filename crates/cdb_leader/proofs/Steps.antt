@@ -109,7 +109,7 @@ module _ (q : ℕ) (sent posted : Payload → Type 0) (heard more : ℕ → Payl
   }
 
   pub first_or_leave_follows : (r e : ℕ) → (r ≡ 0) ⊎ LeaveBasis q sent heard r e → (r ≡ 0) ⊎ LeaveBasis q posted more r e
-  first_or_leave_follows r e h1 = grind (arith, common_steps, gets)
+  first_or_leave_follows r e is = grind (arith, common_steps, gets)
 
   pub decision_follows : (v : ℕ) → DecisionBasis q heard v → DecisionBasis q more v
   decision_follows v (inl learnt) = inl (learnt.0, more_heard learnt.0 (D v) learnt.1)

@@ -88,7 +88,7 @@ sent_messages_are_founded q input is =
 
 -- what the input carries, where it has that payload for the process
 carried : (i : Input) (from : ℕ) (x : Payload) → IsIn x (mail_of i from) → i ≡ input.Recv from x
-carried i from x h1 = grind (arith, common_steps, gets)
+carried i from x none = grind (arith, common_steps, gets)
 
 pub received_is_brought : ReceivedIsBrought
 received_is_brought s t i taken from x here =

@@ -169,7 +169,7 @@ taken s t input.Local is v holds = inl (went_on s s.place t is v holds)
 taken s t input.Learn is v holds = inl (learns s s.place t is v holds)
 
 first : (q given v : ℕ) → HoldsValue (first_state q given) v → v ≡ given
-first q given v h1 = grind (arith, common_steps, gets)
+first q given v is = grind (arith, common_steps, gets)
 
 -- what is sent is the estimate or what came of the first phase
 payload_held : (p : Place) (s : LocalState) (x : Payload) (v : ℕ) → payload_at p s ≡ Some x → payload_value x ≡ Some v → HoldsValue s v

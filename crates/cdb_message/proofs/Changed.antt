@@ -11,7 +11,7 @@ module _ {A : Type 0} (xs : List A) (default : A) (i : ℕ) {p : ℕ} {x : A} (p
   stands_at = grind (arith, common_steps, gets)
 
   pub changed_at : (change : A → A) {new : A} → new ≡ change x → slice_set xs i new ≡ set_nth xs p (change (unwrap_or (nth xs p) default))
-  changed_at change h1 = grind (arith, common_steps, gets)
+  changed_at change is = grind (arith, common_steps, gets)
 
 -- an item that is put back as it was changes nothing
 pub kept_at : {A : Type 0} (xs : List A) (i : ℕ) {x new : A} → new ≡ x → x ≡ get_or xs i x → slice_set xs i new ≡ xs

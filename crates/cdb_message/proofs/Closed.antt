@@ -38,7 +38,7 @@ set_received-cases : (mail : MailState) (p q : ℕ) (names : NameSet) (other : M
     → (q ≡ p → finite.contains (received_by mail p) other ≡ true → finite.contains names other ≡ true)
     → is_received mail q other ≡ true
     → is_received (record mail { received = set_nth mail.received p names }) q other ≡ true
-set_received-cases mail p q names other h1 h2 = grind (arith, common_steps, gets)
+set_received-cases mail p q names other first second = grind (arith, common_steps, gets)
 
 stays-add_receive : (mail : MailState) (p q : ℕ) (name other : MsgName)
     → is_received mail q other ≡ true → is_received (add_receive mail p name) q other ≡ true
@@ -57,7 +57,7 @@ stays-remove_receive mail p q name other differs h =
 -- what is not open stays so where it stays received or lost
 still_closed : (received lost received' lost' : Bool) → (received ≡ true → received' ≡ true) → (lost ≡ true → lost' ≡ true)
     → (not received && not lost) ≡ false → (not received' && not lost') ≡ false
-still_closed received lost received' lost' h1 h2 h3 = grind (arith, common_steps, gets)
+still_closed received lost received' lost' first second third = grind (arith, common_steps, gets)
 
 module _ (passed : Passed) (mail : MailState) (closed : AreClosed passed mail) where
   pub closed-add_receive : (p : ℕ) (name : MsgName) → AreClosed passed (add_receive mail p name)

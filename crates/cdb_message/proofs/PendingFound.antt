@@ -56,7 +56,7 @@ module _ (above is_open : MsgName → Bool) where
       → ((from n : ℕ) → from ≡ max low (m + 1) → n ≡ m + 1 + k - from
       → first_pending (map name (range_with_len (m + 1) k)) ≡ find is_open (map name (range_with_len from n)))
       → first_pending (name m ∷ map name (range_with_len (m + 1) k)) ≡ find is_open (map name (range_with_len start len))
-  next-number b name low m k start len h1 h2 h3 h4 h5 = grind (arith, common_steps, gets)
+  next-number b name low m k start len e stands s l rest = grind (arith, common_steps, gets)
 
   -- the names from `low` on are those that stand above
   pub first-numbers : (name : ℕ → MsgName) (low m k start len : ℕ) → ((j : ℕ) → above (name j) ≡ nat_le low j)

@@ -27,4 +27,4 @@ none_at (suc m) = refl
 
 -- where there is no process, nothing was sent
 pub unsent_by_none : (mail : MailState) (s m : ℕ) → nat_le s (length mail.sent) ≡ false → is_sent mail (message_name s m) ≡ false
-unsent_by_none mail s m h1 = grind (arith, common_steps, gets)
+unsent_by_none mail s m none = grind (arith, common_steps, gets)

@@ -12,7 +12,7 @@ use Rattle.cdb_message.specs.Names.{name_cmp, copy_cmp}
 -- ---- the orders
 
 then-Equal : (a b : Ordering) → ordering_then a b ≡ Equal → (a ≡ Equal) × (b ≡ Equal)
-then-Equal a b h1 = grind (arith, common_steps, gets)
+then-Equal a b is = grind (arith, common_steps, gets)
 
 pub name_cmp_total : IsTotalOrder name_cmp
 name_cmp_total = then_total (on_total (λ n. n.s) nat_cmp_total) (on_total (λ n. n.m) nat_cmp_total)

@@ -89,14 +89,14 @@ cell_itself n = grind (arith, nat_tests)
 
 module _ {K : Type 0} {R : K → K → Ordering} {table : KeyTable R} (is_table : IsTable table) where
   differ : (j k : K) → table.is_key j ≡ true → table.is_key k ≡ true → eq_by_cmp R j k ≡ false → (table.cell j == table.cell k) ≡ false
-  differ j k h1 h2 h3 = grind (arith, common_steps, gets)
+  differ j k is_j is_k ne = grind (arith, common_steps, gets)
 
   module _ (old new : List Bool) (k : K) (flag : Bool) (is_key : table.is_key k ≡ true) (sets : SetsFlag old new (table.cell k) flag) where
     is_set : has_key table new k ≡ flag
     is_set = ap (λ b. b && flag_in new (table.cell k)) is_key ∙ sets (table.cell k) ∙ rw (cell_itself (table.cell k)) refl
 
     is_kept : (q : K) → eq_by_cmp R q k ≡ false → has_key table new q ≡ has_key table old q
-    is_kept q h1 = grind (arith, common_steps, gets)
+    is_kept q ne = grind (arith, common_steps, gets)
 
   -- a flag that is set adds its key, one that is cleared takes it out
   pub key_inserted : (old new : List Bool) (k : K) → table.is_key k ≡ true → SetsFlag old new (table.cell k) true
@@ -166,7 +166,7 @@ is_listed_name k named =
 -- ---- the tables of names and of copies
 
 same_name : (j k : MsgName) → is_name j ≡ true → is_name k ≡ true → name_table.cell j ≡ name_table.cell k → j ≡ k
-same_name j k h1 h2 h3 = grind (arith, common_steps, gets)
+same_name j k is_j is_k e = grind (arith, common_steps, gets)
 
 pub name_table-IsTable : IsTable name_table
 name_table-IsTable =
@@ -200,7 +200,7 @@ module _ (k : CopyName) (named : is_copy k ≡ true) where
   is_listed_copy = among all_names (is_listed_name k.msg (and_parts (is_name k.msg) (is_process k.to) named).0)
 
 same_copy : (j k : CopyName) → is_copy j ≡ true → is_copy k ≡ true → copy_table.cell j ≡ copy_table.cell k → j ≡ k
-same_copy j k h1 h2 h3 = grind (arith, common_steps, gets)
+same_copy j k is_j is_k e = grind (arith, common_steps, gets)
 
 pub copy_table-IsTable : IsTable copy_table
 copy_table-IsTable =

@@ -21,7 +21,7 @@ module _ (rows : List Row) (i p s number : ℕ) (d row changed : Row) (at : i + 
 
   there : (same_p : Bool) (q t : ℕ) → (q == p) ≡ same_p
       → numbers (nth after q) t ≡ (if same_p && t == s then number else numbers (nth rows q) t)
-  there same_p q t h1 = grind (arith, common_steps, gets)
+  there same_p q t e = grind (arith, common_steps, gets)
 
   pub watermark_of-set : (q t : ℕ)
       → watermark_of (record { rows = after }) q t ≡ (if q == p && t == s then number else watermark_of (record { rows = rows }) q t)

@@ -104,7 +104,7 @@ module _ {L : Type 0} (machine : Machine L) (setup : Parts) (number : length mac
         all_of a b c d e p q r s t = cc
 
     pub loss_again : IsSome (after machine state (Lost copy)) → again_result machine setup state (Lost copy) ≡ Ok (Lost copy)
-    loss_again h1 = grind (arith, common_steps, gets)
+    loss_again enabled = grind (arith, common_steps, gets)
 
 module _ {L : Type 0} (machine : Machine L) (lawful : IsLawful machine) (setup : Parts)
     (number : length machine.firsts ≡ setup.processes) (loses : machine.loses_copies ≡ (setup.version == 2)) (state : RunState L) where
@@ -163,7 +163,7 @@ module _ {L : Type 0} (machine : Machine L) (lawful : IsLawful machine) (setup :
       (first_refusal (again_checks machine (mail_of state) state.registers x.progress p k kind)) (Some (Step p k kind))) o (Err refusal.NoProcess)) at
 
   none_after : (p k : ℕ) (kind : Kind) → nth state.processes p ≡ None → IsSome (after machine state (Step p k kind)) → ⊥
-  none_after p k kind h1 h2 = grind (arith, common_steps, gets)
+  none_after p k kind at enabled = grind (arith, common_steps, gets)
 
   -- an event of the run is taken again exactly where it is enabled
   pub again_exact : (event : Event) → IsOfRun setup event → (returned : Result Event Refusal)

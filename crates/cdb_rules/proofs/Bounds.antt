@@ -61,7 +61,7 @@ queries_few queries steps _ few = omega (arith, few)
 
 written_more : (cell : Cell) (o : Option RegisterState) (stands : RegisterState) (most : ℕ)
     → ((old : RegisterState) → o ≡ Some old → old.writes ≤ most) → option_map (put_cell cell) o ≡ Some stands → stands.writes ≤ most + 1
-written_more cell o stands most h1 h2 = grind (arith, common_steps, gets)
+written_more cell o stands most few at = grind (arith, common_steps, gets)
 
 kept_few : (o : Option RegisterState) (stands : RegisterState) (most : ℕ)
     → ((old : RegisterState) → o ≡ Some old → old.writes ≤ most) → o ≡ Some stands → stands.writes ≤ most + 1
@@ -115,7 +115,7 @@ module _ {L : Type 0} where
 
   sends_few : (machine : Machine L) (process : ProcessState L) (kind : Kind)
       → length process.sent ≤ process.progress.steps → length (sent_after machine process kind) ≤ process.progress.steps + 1
-  sends_few machine process kind h1 = grind (arith, common_steps, gets)
+  sends_few machine process kind few = grind (arith, common_steps, gets)
 
   module _ (machine : Machine L) where
     module _ (state to : RunState L) (p k : ℕ) (kind : Kind) (t : IsTaken machine state p k kind to) (sound : IsSound machine state) where
@@ -175,7 +175,7 @@ module _ {L : Type 0} where
     fresh_at (x ∷ xs) (suc i) process at = fresh_at xs i process at
 
     unwritten : (n : ℕ) (register : Reg) (stands : RegisterState) → register_of (fresh_registers n) register ≡ Some stands → stands.writes ≡ 0
-    unwritten n register stands h1 = grind (arith, common_steps, gets)
+    unwritten n register stands at = grind (arith, common_steps, gets)
 
     pub start_sound : IsSound machine (start machine)
     start_sound =

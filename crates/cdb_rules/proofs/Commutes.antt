@@ -53,12 +53,12 @@ lacked lost a b h =
 
 module _ {L : Type 0} (machine : Machine L) where
   pub after_taken : (state to : RunState L) (p k : ℕ) (kind : Kind) → IsTaken machine state p k kind to → after machine state (Step p k kind) ≡ Some to
-  after_taken state to p k kind h1 = grind (arith, common_steps, gets)
+  after_taken state to p k kind t = grind (arith, common_steps, gets)
 
   -- a loss that is taken
   pub lost_from : (state to : RunState L) (copy : CopyName) → after machine state (Lost copy) ≡ Some to
       → (may_lose machine (mail_of state) copy ≡ true) × (with_loss state copy ≡ to)
-  lost_from state to copy h1 = grind (arith, common_steps, gets)
+  lost_from state to copy is = grind (arith, common_steps, gets)
 
   pub after_lost : (state : RunState L) (copy : CopyName) → may_lose machine (mail_of state) copy ≡ true
       → after machine state (Lost copy) ≡ Some (with_loss state copy)

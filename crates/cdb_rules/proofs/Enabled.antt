@@ -29,7 +29,7 @@ module _ {L : Type 0} (machine : Machine L) (lawful : IsLawful machine) (state :
 
   pub accepts_by : (k : ℕ) (kind : Kind) (next : L) → IsAccepted machine process k kind (sight_in state p kind) next
       → accepts_kind machine process.progress.local sends state.registers kind ≡ true
-  accepts_by k kind next h1 = grind (arith, common_steps, gets)
+  accepts_by k kind next a = grind (arith, common_steps, gets)
 
   pub fits_by : (k : ℕ) (kind : Kind) (next : L) → IsAccepted machine process k kind (sight_in state p kind) next → Fits machine (mail_of state) p kind
   fits_by k (Query leader) next a = a.due

@@ -66,7 +66,7 @@ map_or_true test (Some a) h = (a, refl, h)
 
 comes : (mail : MailState) (p s m : ℕ) → is_sent mail (message_name s m) ≡ true
     → is_lost mail (copy_name (message_name s m) p) ≡ false → (payload : Payload) × (arriving mail p (message_name s m) ≡ Some payload)
-comes mail p s m h1 h2 = grind (arith, common_steps, gets)
+comes mail p s m sent kept = grind (arith, common_steps, gets)
 
 module _ {L : Type 0} (machine : Machine L) (lawful : IsLawful machine) where
   module _ (state : RunState L) (p : ℕ) (process : ProcessState L) (at : nth state.processes p ≡ Some process) where

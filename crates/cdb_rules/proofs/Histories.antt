@@ -32,7 +32,7 @@ module _ {L : Type 0} (machine : Machine L) where
       sym (reached_push (after machine) (start machine) (without history at) event) ∙ fold_free history at event stands free
 
   pub reached_state : (history : List Event) → IsValid machine history → fold machine history ≡ Some (state_of machine history)
-  reached_state history h1 = grind (arith, common_steps, gets)
+  reached_state history valid = grind (arith, common_steps, gets)
 
   -- the event, taken again last, leads to the state that the history reached
   pub undo_again : (history : List Event) (at : ℕ) (event : Event) → nth history at ≡ Some event → IsFree depends history at

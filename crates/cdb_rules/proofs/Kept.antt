@@ -122,12 +122,12 @@ module _ {L : Type 0} (machine : Machine L) where
   -- a send has the next number
   pub next_number : (process : ProcessState L) (k m : ℕ) (around : Sight) (next : L)
       → accepted machine process k (Send m) around ≡ Some next → m ≡ length process.sent + 1
-  next_number process k m around next h1 = grind (arith, common_steps, gets)
+  next_number process k m around next is = grind (arith, common_steps, gets)
 
   -- a step that does not send the m-th message leaves it as it is
   sent_other : (process : ProcessState L) (k : ℕ) (kind : Kind) (around : Sight) (next : L) → accepted machine process k kind around ≡ Some next
       → (m : ℕ) → (kind ≡ Send m → ⊥) → nth (sent_after machine process kind) m ≡ nth process.sent m
-  sent_other process k kind around next h1 m h2 = grind (arith, common_steps, gets)
+  sent_other process k kind around next first m second = grind (arith, common_steps, gets)
 
   -- what a step leaves
   module _ (state to : RunState L) (p k : ℕ) (kind : Kind) (t : IsTaken machine state p k kind to) where

@@ -69,13 +69,13 @@ module _ {E : Type 0} where
 
   -- a list up to a position, with what stands there
   pub get-take : (xs : List E) (j k : ℕ) → k < j → slice_get (take j xs) k ≡ slice_get xs k
-  get-take xs j k h1 = grind (arith, common_steps, gets)
+  get-take xs j k below = grind (arith, common_steps, gets)
 
   pub get_up_to : (xs : List E) (j : ℕ) (x : E) → slice_get xs j ≡ Some x → (k : ℕ) → k ≤ j → slice_get (take j xs ++ x ∷ []) k ≡ slice_get xs k
-  get_up_to xs j x h1 k h2 = grind (arith, common_steps, gets)
+  get_up_to xs j x at k last = grind (arith, common_steps, gets)
 
   pub length_up_to : (xs : List E) (j : ℕ) (x : E) → slice_get xs j ≡ Some x → length (take j xs) ≡ j
-  length_up_to xs j x h1 = grind (arith, common_steps, gets)
+  length_up_to xs j x at = grind (arith, common_steps, gets)
 
 module _ {A B : Type 0} where
   pub in_map : (f : A → B) (x : A) (xs : List A) → IsIn x xs → IsIn (f x) (map f xs)

@@ -20,7 +20,7 @@ use Rattle.cdb_rules.proofs.Positions.{nth-map, map-set_nth, set_nth_same, nth_w
 -- what a receive meets was sent and is not lost
 pub arrives : (mail : MailState) (p s m : ℕ) → is_some (arriving mail p (message_name s m)) ≡ true
     → (is_sent mail (message_name s m) ≡ true) × (is_lost mail (copy_name (message_name s m) p) ≡ false)
-arrives mail p s m h1 = grind (arith, common_steps, gets)
+arrives mail p s m is = grind (arith, common_steps, gets)
 
 pub not_true : (b : Bool) → not b ≡ true → b ≡ false
 not_true true h = absurd (true≢false (sym h))

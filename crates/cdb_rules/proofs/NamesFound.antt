@@ -66,7 +66,7 @@ itself : (a : ℕ) → (a == a) ≡ true
 itself a = grind (arith, nat_tests)
 
 pub has_name_is : (name : StepId) (event : Event) → is_named name event ≡ true → event_name event ≡ name
-has_name_is name event h1 = grind (arith, common_steps, gets)
+has_name_is name event is = grind (arith, common_steps, gets)
 
 has_own_name : (event : Event) → is_named (event_name event) event ≡ true
 has_own_name (Step p k kind) = ap₂ (λ a b. a && b) (itself p) (itself k)

@@ -67,7 +67,7 @@ IsCounted {L} state = (p : ℕ) (process : ProcessState L) → nth state.process
 
 -- what accesses a register reads or writes it
 access_cases : (register : Reg) (kind : Kind) → accesses register kind ≡ true → (kind ≡ Read register) ⊎ (kind ≡ Write register)
-access_cases register kind h1 = grind (arith, common_steps, gets)
+access_cases register kind is = grind (arith, common_steps, gets)
 
 of_register-put_cell : (cell : Cell) (o : Option RegisterState) → of_register o ≤ of_register (option_map (put_cell cell) o)
 of_register-put_cell cell None = le_refl 0
@@ -187,7 +187,7 @@ module _ {L : Type 0} (machine : Machine L) (state to : RunState L) (p k : ℕ) 
   number_after = let is = ap (of_process (λ process. process.progress.steps)) at_next in let n = goes_on.number in omega (arith, is, n)
 
   pub send_number : (m : ℕ) → kind ≡ Send m → m ≡ sends_of state p + 1
-  send_number m h1 = grind (arith, common_steps, gets)
+  send_number m e = grind (arith, common_steps, gets)
 
   -- what is received was sent, and is neither received nor lost
   pub arrived : (s m : ℕ) → kind ≡ Recv s m
@@ -201,7 +201,7 @@ module _ {L : Type 0} (machine : Machine L) (state to : RunState L) (p k : ℕ) 
   received_not_lost s m e = (arrived s m e).1
 
   pub received_first : (s m : ℕ) → kind ≡ Recv s m → is_received (mail_of state) p (message_name s m) ≡ false
-  received_first s m h1 = grind (arith, common_steps, gets)
+  received_first s m e = grind (arith, common_steps, gets)
 
   pub received_now : (s m : ℕ) → kind ≡ Recv s m → is_received (mail_of to) p (message_name s m) ≡ true
   received_now s m e =
@@ -214,13 +214,13 @@ module _ {L : Type 0} (machine : Machine L) (state to : RunState L) (p k : ℕ) 
   noted = own_event p k kind (sight_in state p kind)
 
   pub step_stands : IsCounted state → own_at to p k ≡ Some noted
-  step_stands h1 = grind (arith, common_steps, gets)
+  step_stands counted = grind (arith, common_steps, gets)
 
   step_own_kept : (q l : ℕ) (own : OwnEvent) → own_at state q l ≡ Some own → own_at to q l ≡ Some own
-  step_own_kept q l own h1 = grind (arith, common_steps, gets)
+  step_own_kept q l own is = grind (arith, common_steps, gets)
 
   step_own_cases : (q l : ℕ) (own : OwnEvent) → own_at to q l ≡ Some own → (own_at state q l ≡ Some own) ⊎ (Step p k kind ≡ own.event)
-  step_own_cases q l own h1 = grind (arith, common_steps, gets)
+  step_own_cases q l own is = grind (arith, common_steps, gets)
 
   step_counted : IsCounted state → IsCounted to
   step_counted counted q process at =
@@ -246,7 +246,7 @@ module _ {L : Type 0} (machine : Machine L) (state to : RunState L) (p k : ℕ) 
       (cases, met.0, met.1)
 
   pub access_noted : (register : Reg) → accesses register kind ≡ true → noted.writes_before ≡ Some (writes_of state register)
-  access_noted register h1 = grind (arith, common_steps, gets)
+  access_noted register is = grind (arith, common_steps, gets)
 
   -- a write counts
   pub write_counts : (register : Reg) → kind ≡ Write register → writes_of to register ≡ writes_of state register + 1

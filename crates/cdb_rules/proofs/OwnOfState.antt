@@ -26,7 +26,7 @@ use Rattle.cdb_rules.proofs.Taken.{IsTaken, taken_from}
 -- what is noted depends on the counts of the registers alone
 pub noted_same : (writes others : Reg → ℕ) → ((register : Reg) → writes register ≡ others register)
     → (events : List Event) → as_own_events writes events ≡ as_own_events others events
-noted_same writes others h1 events = grind (arith, common_steps, gets)
+noted_same writes others same events = grind (arith, common_steps, gets)
 
 -- the steps of process p among the events, where this many writes of each register stand before them
 abbrev steps_behind : (Reg → ℕ) → ℕ → List Event → List OwnEvent

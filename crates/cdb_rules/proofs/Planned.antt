@@ -26,7 +26,7 @@ use Rattle.cdb_setup.specs.Parts.{Parts, answer_of}
 
 -- an event that is answered was refused by nothing
 pub unrefused : (why : Option Refusal) (named : Option Event) (event : Event) → unless_refused why named ≡ Ok event → (why ≡ None) × (named ≡ Some event)
-unrefused why named event h1 = grind (arith, common_steps, gets)
+unrefused why named event is = grind (arith, common_steps, gets)
 
 pub not_false : (b : Bool) → not b ≡ false → b ≡ true
 not_false true h = refl

@@ -7,7 +7,7 @@ use Rattle.cdb_base.specs.Positions.{nth, set_nth, update, update_nth}
 
 module _ {A : Type 0} where
   slice_get-slice_set_same : (xs : List A) (i : ℕ) (a old : A) → slice_get xs i ≡ Some old → slice_get (slice_set xs i a) i ≡ Some a
-  slice_get-slice_set_same xs i a old h1 = grind (arith, common_steps, gets)
+  slice_get-slice_set_same xs i a old at = grind (arith, common_steps, gets)
 
   slice_set-slice_set : (xs : List A) (i j : ℕ) (a b : A) → i ≢ j → slice_set (slice_set xs i a) j b ≡ slice_set (slice_set xs j b) i a
   slice_set-slice_set [] i j a b ne = refl
@@ -17,7 +17,7 @@ module _ {A : Type 0} where
   slice_set-slice_set (x ∷ xs) (suc i) (suc j) a b ne = ap (λ l. x ∷ l) (slice_set-slice_set xs i j a b (λ e. ne (ap suc e)))
 
   pub nth-set_nth_other : (xs : List A) (i j : ℕ) (a : A) → i ≢ j → nth (set_nth xs i a) j ≡ nth xs j
-  nth-set_nth_other xs i j a h1 = grind (arith, common_steps, gets)
+  nth-set_nth_other xs i j a ne = grind (arith, common_steps, gets)
 
   pub nth-set_nth_same : (xs : List A) (i : ℕ) (a old : A) → nth xs i ≡ Some old → nth (set_nth xs i a) i ≡ Some a
   nth-set_nth_same xs zero a old at = absurd (none-some old at)
@@ -30,7 +30,7 @@ module _ {A : Type 0} where
   set_nth-set_nth xs (suc i) (suc j) a b ne = slice_set-slice_set xs i j a b (λ e. ne (ap suc e))
 
   slice_get_push_other : (xs : List A) (a : A) (j : ℕ) → j ≢ length xs → slice_get (xs ++ a ∷ []) j ≡ slice_get xs j
-  slice_get_push_other xs a j h1 = grind (arith, common_steps, gets)
+  slice_get_push_other xs a j ne = grind (arith, common_steps, gets)
 
   pub nth_push_other : (xs : List A) (a : A) (j : ℕ) → j ≢ length xs + 1 → nth (xs ++ a ∷ []) j ≡ nth xs j
   nth_push_other xs a zero ne = refl
@@ -82,7 +82,7 @@ module _ {A : Type 0} where
   nth_within xs (suc j) x h = slice_get_within xs j x h
 
   slice_set_same : (xs : List A) (i : ℕ) (a : A) → slice_get xs i ≡ Some a → slice_set xs i a ≡ xs
-  slice_set_same xs i a h1 = grind (arith, common_steps, gets)
+  slice_set_same xs i a at = grind (arith, common_steps, gets)
 
   -- what stands there, written again
   pub set_nth_same : (xs : List A) (i : ℕ) (a : A) → nth xs i ≡ Some a → set_nth xs i a ≡ xs

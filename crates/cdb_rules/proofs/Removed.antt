@@ -124,7 +124,7 @@ module _ (P : Event → Type 0) where
 -- a rollback removes one event at least
 pub removed-one : (n : ℕ) (history : List Event) (name : StepId) (removed : List Event × List Event)
     → rollback_of n history name ≡ Ok removed → 1 ≤ length removed.0
-removed-one n history name removed h1 = grind (arith, common_steps, gets)
+removed-one n history name removed is = grind (arith, common_steps, gets)
 
 -- no more events are removed than stood
 pub few-removed : (n : ℕ) (history : List Event) (name : StepId) (count most : ℕ) → length history ≤ most

@@ -47,11 +47,11 @@ module _ {L : Type 0} (machine : Machine L) where
   module _ (to : RunState L) where
     pub step_loss_not_both : (p k : ℕ) (kind : Kind) (copy : CopyName)
         → depends (Step p k kind) (Lost copy) ≡ true → IsOrdered machine to (Lost copy) (Step p k kind) → ⊥
-    step_loss_not_both p k kind copy h1 h2 = grind (arith, common_steps, gets)
+    step_loss_not_both p k kind copy first second = grind (arith, common_steps, gets)
 
     -- two events that depend on each other cannot stand in both orders
     not_both_orders : (x y : Event) → depends x y ≡ true → IsOrdered machine to x y → IsOrdered machine to y x → ⊥
-    not_both_orders x y h1 h2 h3 = grind (arith, common_steps, gets)
+    not_both_orders x y first second third = grind (arith, common_steps, gets)
 
     once_ordered : (event : Event) → IsOrdered machine to event event → ⊥
     once_ordered (Step p k kind) o = lt_irrefl k (o.numbers refl)

@@ -19,7 +19,7 @@ use Rattle.cdb_rules.proofs.FirstStates.{length-first_states}
 use Rattle.cdb_setup.specs.Parts.{Parts, AreInRange}
 
 drop_at : (xs : List ℕ) (i value : ℕ) → slice_get xs i ≡ Some value → drop i xs ≡ value ∷ drop (suc i) xs
-drop_at xs i value h1 = grind (arith, common_steps, gets)
+drop_at xs i value at = grind (arith, common_steps, gets)
 
 -- one process more is made
 pub first_added : {L : Type 0} (first : ℕ → ℕ → ℕ → ℕ → L) (n q i p value : ℕ) (values : List ℕ) (local : L) (made more whole : List (Progress L))

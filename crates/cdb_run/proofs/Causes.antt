@@ -38,7 +38,7 @@ IsRising [] = Unit {0}
 IsRising (name ∷ names) = ((other : StepId) → IsIn other names → ComesBefore name other) × IsRising names
 
 not_both : (a b : StepId) → ComesBefore a b → ComesBefore b a → ⊥
-not_both a b h1 h2 = grind (arith, common_steps, gets)
+not_both a b one two = grind (arith, common_steps, gets)
 
 after_itself : (name : StepId) {other : StepId} → other ≡ name → ComesBefore name other → ⊥
 after_itself name same before = let itself = subst (ComesBefore name) same before in not_both name name itself itself
@@ -103,7 +103,7 @@ module _ (effect : Event) where
       ]
 
   same_process_depends : (p : ℕ) (one other : Event) → is_step_of p one ≡ true → is_step_of p other ≡ true → depends one other ≡ true
-  same_process_depends p one other h1 h2 = grind (arith, common_steps, gets)
+  same_process_depends p one other first second = grind (arith, common_steps, gets)
 
   no_other : (p : ℕ) (cause : Event) (between : List Event) → is_step_of p cause ≡ true → is_direct depends cause between effect ≡ true
       → filter (is_step_of p) (direct_among between effect) ≡ []
@@ -253,10 +253,10 @@ module _ {L : Type 0} (machine : Machine L) (history : List Event) (valid : IsVa
     causes = direct_among earlier event
 
     in_earlier : (k : ℕ) → k ≤ j → nth earlier k ≡ nth history k
-    in_earlier k h1 = grind (arith, common_steps, gets)
+    in_earlier k low = grind (arith, common_steps, gets)
 
     up_to : (k : ℕ) → k ≤ suc j → nth longer k ≡ nth history k
-    up_to k h1 = grind (arith, common_steps, gets)
+    up_to k low = grind (arith, common_steps, gets)
 
     number : length earlier ≡ j
     number = length_up_to history j event at

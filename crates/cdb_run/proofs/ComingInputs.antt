@@ -98,7 +98,7 @@ module _ {L : Type 0} (machine : Machine L) where
       inl (subst (λ (x : RunState L). k ≤ steps_of x p) (sym (lost_from machine state next copy one).1) few)
 
   none_counted : (o : Option (ProcessState L)) → ((process : ProcessState L) → o ≡ Some process → process.progress.steps ≡ 0) → of_process steps o ≡ 0
-  none_counted o h1 = grind (arith, common_steps, gets)
+  none_counted o fresh = grind (arith, common_steps, gets)
 
   start_counts_none : (p : ℕ) → steps_of (start machine) p ≡ 0
   start_counts_none p = none_counted (nth (start machine).processes p) (λ process at. ap steps (sym (nth-fresh machine p process at).1))

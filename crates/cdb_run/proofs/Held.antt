@@ -57,7 +57,7 @@ stands_at (x ∷ xs) (suc zero) first last = (x, refl)
 stands_at (x ∷ xs) (suc (suc i)) first last = stands_at xs (suc i) (omega arith) (omega (arith, last))
 
 absent : {A : Type 0} (xs : List A) (p : ℕ) → is_among (length xs) p ≡ false → nth xs p ≡ None
-absent xs p h1 = grind (arith, common_steps, gets)
+absent xs p none = grind (arith, common_steps, gets)
 
 is_at_most : (n p : ℕ) → is_among n p ≡ true → p ≤ n
 is_at_most n p h = grind (arith, nat_tests)
@@ -90,7 +90,7 @@ module _ {L B : Type 0} {machine : Machine L} {before : L → B → L} where
 
     pub progress_at : (p : ℕ) (process : ProcessState L) (progress : Progress L)
         → nth current.state.processes p ≡ Some process → nth processes p ≡ Some progress → progress ≡ process.progress
-    progress_at p process progress h1 h2 = grind (arith, common_steps, gets)
+    progress_at p process progress at held = grind (arith, common_steps, gets)
 
     -- each process is there, and no other
     pub count_is : length processes ≡ length machine.firsts

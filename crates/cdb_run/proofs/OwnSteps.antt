@@ -20,11 +20,11 @@ use Rattle.cdb_standing.specs.Comparisons.{steps_by, AreNumbered, is_write_of, w
 
 -- a name says which step of which process it is
 name_parts : (p k q l : ℕ) → step_name p k ≡ step_name q l → (p ≡ q) × (k ≡ l)
-name_parts p k q l h1 = grind (arith, common_steps, gets)
+name_parts p k q l e = grind (arith, common_steps, gets)
 
 met_same : (writes others : Reg → ℕ) → ((register : Reg) → writes register ≡ others register)
     → (event : Event) → writes_met writes event ≡ writes_met others event
-met_same writes others h1 event = grind (arith, common_steps, gets)
+met_same writes others same event = grind (arith, common_steps, gets)
 
 one_with : (writes : Reg → ℕ) (event : Event) (register : Reg) → writes_with writes event register ≡ writes register + cond (is_write_of register event) 1 0
 one_with writes event register = grind (arith, common_steps, gets)
@@ -85,7 +85,7 @@ module _ (p : ℕ) where
   own_length history = sym (length-map (own_steps p history) (λ (own : OwnEvent). own.event)) ∙ ap length (own_events no_writes history)
 
   event_of : (xs : List OwnEvent) (i : ℕ) (own : OwnEvent) → slice_get xs i ≡ Some own → slice_get (map (λ (own : OwnEvent). own.event) xs) i ≡ Some own.event
-  event_of xs i own h1 = grind (arith, common_steps, gets)
+  event_of xs i own at = grind (arith, common_steps, gets)
 
   stands_at : (events : List Event) (i : ℕ) (event : Event) → slice_get (steps_by p events) i ≡ Some event → (j : ℕ) × (slice_get events j ≡ Some event)
   stands_at [] i event at = absurd (none-some event at)

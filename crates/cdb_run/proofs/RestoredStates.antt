@@ -91,7 +91,7 @@ remove_send-add_send mail p payload sent at =
 -- the cell that a write of a register that is there overwrites
 overwritten_there : (registers : RegisterStates) (register : Reg) → is_some (register_of registers register) ≡ true
     → (stands : RegisterState) × (register_of registers register ≡ Some stands) × (overwritten_cell registers (Write register) ≡ Some stands.cell)
-overwritten_there registers register h1 = grind (arith, common_steps, gets)
+overwritten_there registers register there = grind (arith, common_steps, gets)
 
 register_written : (registers : RegisterStates) (register : Reg) (cell : Cell)
     → register_of (with_register (put_cell cell) registers register) register ≡ option_map (put_cell cell) (register_of registers register)

@@ -40,10 +40,10 @@ is_in : (events : List Event) (event : Event) → StandsIn events event → IsIn
 is_in events event (at, stands) = in_position events at event stands
 
 same_bool : (a b : Bool) → (a ≡ true → b ≡ true) → (b ≡ true → a ≡ true) → a ≡ b
-same_bool a b h1 h2 = grind (arith, common_steps, gets)
+same_bool a b first second = grind (arith, common_steps, gets)
 
 nothing_at : {X : Type 0} (xs : List X) (p : ℕ) → length xs < p → nth xs p ≡ None
-nothing_at xs p h1 = grind (arith, common_steps, gets)
+nothing_at xs p beyond = grind (arith, common_steps, gets)
 
 within_or_beyond : (p : ℕ) → (p ≤ 9) ⊎ (9 < p)
 within_or_beyond p = grind arith
@@ -80,7 +80,7 @@ module _ {L : Type 0} (machine : Machine L) where
       (h : fold machine history ≡ Some to) (g : fold machine others ≡ Some other) where
     -- beyond the processes nobody has own events
     none_beyond : (state : RunState L) → length state.processes ≤ 9 → (p : ℕ) → 9 < p → own_of state p ≡ []
-    none_beyond state h1 p h2 = grind (arith, common_steps, gets)
+    none_beyond state within p beyond = grind (arith, common_steps, gets)
 
     same_own : AreAlike history others → (p : ℕ) → own_of to p ≡ own_of other p
     same_own alike zero = refl

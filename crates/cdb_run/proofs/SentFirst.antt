@@ -78,7 +78,7 @@ module _ {L : Type 0} (machine : Machine L) where
 
   unreceived_by : (o : Option (ProcessState L)) → ((process : ProcessState L) → o ≡ Some process → process.received ≡ set.empty)
       → unwrap_or (option_map (λ (x : ProcessState L). x.received) o) set.empty ≡ set.empty
-  unreceived_by o h1 = grind (arith, common_steps, gets)
+  unreceived_by o fresh = grind (arith, common_steps, gets)
 
   start_unreceived : (q : ℕ) (name : MsgName) → is_received (mail_of (start machine)) q name ≡ true → ⊥
   start_unreceived q name h =

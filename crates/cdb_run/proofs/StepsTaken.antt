@@ -23,7 +23,7 @@ use Rattle.cdb_run.proofs.Held.{steps_few, queries_few, accepted_input, may_post
 module _ {A : Type 0} (xs : List A) where
   -- what stands at the position i from 0
   pub found_there : (i p : ℕ) (x : A) → i + 1 ≡ p → p ≤ length xs → x ≡ get_or xs i x → nth xs p ≡ Some x
-  found_there i p x h1 h2 h3 = grind (arith, common_steps, gets)
+  found_there i p x position within read = grind (arith, common_steps, gets)
 
 -- an enabled step may be taken in the state that is held
 pub may_step : {L B : Type 0} {table : Table L} (setup : Parts) {before : L → B → L} {state : State L} {entries : List (Recorded B)}

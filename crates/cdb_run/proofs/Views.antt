@@ -101,7 +101,7 @@ map-map f g [] = refl
 map-map f g (x ∷ xs) = ap (λ l. f (g x) ∷ l) (map-map f g xs)
 
 within_among : (n : ℕ) (answer : Option ℕ) → IfSome answer (IsWithin 1 n) → (leader : ℕ) → answer ≡ Some leader → is_among n leader ≡ true
-within_among n answer h1 leader h2 = grind (arith, common_steps, gets)
+within_among n answer within leader answered = grind (arith, common_steps, gets)
 
 module _ {L B : Type 0} {machine : Machine L} {before : L → B → L} {processes : List (Progress L)} {mail : MailState}
     {registers : RegisterStates} {entries : List (Recorded B)} (current : IsCurrent machine before processes mail registers entries) where

@@ -7,4 +7,4 @@ use Rattle.cdb_setup.specs.Parts.{Parts}
 
 pub same_fields : (s t : Parts)
     → s.version ≡ t.version → s.algorithm ≡ t.algorithm → s.processes ≡ t.processes → s.quorum ≡ t.quorum → s.inputs ≡ t.inputs → s.answers ≡ t.answers → s ≡ t
-same_fields s t h1 h2 h3 h4 h5 h6 = grind (arith, common_steps, gets)
+same_fields s t version algorithm processes quorum inputs answers = grind (arith, common_steps, gets)

@@ -56,7 +56,7 @@ abbrev test : String Global → Bool
 test name = is_key_name (string_bytes name)
 
 both : (a b : Bool) → (a && b) ≡ true → (a ≡ true) × (b ≡ true)
-both a b h1 = grind (arith, common_steps, gets)
+both a b e = grind (arith, common_steps, gets)
 
 -- where each name is that of a key, what is found has the name of a key
 all_known : (entries : List Entry) → list_all test (keys_of entries) ≡ true → (name : List ℕ) (value : Data)
@@ -107,17 +107,17 @@ abbrev IsThere : Data → Key → Type 0
 IsThere json key = ¬ Holds (faults.Missing key) json
 
 absent : (found : Option Data) (value : Data) → is_none found ≡ true → found ≢ Some value
-absent found value h1 = grind (arith, common_steps, gets)
+absent found value is = grind (arith, common_steps, gets)
 
 present : (found : Option Data) → is_none found ≡ false → ((value : Data) → found ≢ Some value) → ⊥
-present found h1 h2 = grind (arith, common_steps, gets)
+present found e none = grind (arith, common_steps, gets)
 
 -- the keys of the positions below n are there
 abbrev AreThereBelow : Data → ℕ → Type 0
 AreThereBelow json n = (key : Key) → key_number key < n → IsThere json key
 
 same_number : (j k : Key) → key_number j ≡ key_number k → j ≡ k
-same_number j k h1 = grind (arith, common_steps, gets)
+same_number j k e = grind (arith, common_steps, gets)
 
 one_more : (json : Data) (k : Key) → AreThereBelow json (key_number k) → IsThere json k → AreThereBelow json (key_number k + 1)
 one_more json k before here j below =

@@ -16,7 +16,7 @@ use Rattle.cdb_setup.specs.Readings.{IsFirstNot, IsAnswerList}
 pub push_read : {A : Type 0} (form : A → Data) (values : List Data) (parts : List A) (i : ℕ) (part : A)
     → slice_get values i ≡ Some (form part) → take i values ≡ map form parts
     → take (i + 1) values ≡ map form (parts ++ part ∷ [])
-push_read form values parts i part h1 h2 = grind (arith, common_steps, gets)
+push_read form values parts i part there read = grind (arith, common_steps, gets)
 
 pub push_all : {A : Type 0} (P : A → Type 0) (parts : List A) (part : A) → AllByRecursion P parts → P part → AllByRecursion P (parts ++ part ∷ [])
 push_all P [] part all one = (one, tt)

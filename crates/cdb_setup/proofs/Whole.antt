@@ -54,7 +54,7 @@ same_at : {A : Type 0} {a b : A} → Some a ≡ Some b → a ≡ b
 same_at e = cc
 
 is_object : (json : Data) (parts : Parts) → IsSetupOf json parts → ¬ ((members : Members) → json ≢ object members)
-is_object json parts h1 = grind (arith, common_steps, gets)
+is_object json parts is = grind (arith, common_steps, gets)
 
 no_setup : (fault : SetupFault) (json : Data) (parts : Parts) → IsSetupOf json parts → ¬ Holds fault json
 no_setup NotObject json parts is holds = is_object json parts is holds
@@ -84,7 +84,7 @@ no_setup_of_bytes fault bytes parts stands holds = no_setup fault stands.1 parts
 -- ---- what encodes a setup encodes no other
 
 same_name : (a b : Algorithm) → string (algorithm_name a) ≡ string (algorithm_name b) → a ≡ b
-same_name a b h1 = grind (arith, common_steps, gets)
+same_name a b e = grind (arith, common_steps, gets)
 
 lists_same : (xs ys : List (List ℕ)) → map array_of_whole xs ≡ map array_of_whole ys → xs ≡ ys
 lists_same [] [] e = refl
@@ -97,7 +97,7 @@ lists_same (x ∷ xs) (y ∷ ys) e =
     let rest = lists_same xs ys tails in cc
 
 same_version : (json : Data) (v w : ℕ) → HasVersion v json → HasVersion w json → v ≡ w
-same_version json v w h1 h2 = grind (arith, common_steps, gets)
+same_version json v w first second = grind (arith, common_steps, gets)
 
 same_parts : (json : Data) (s t : Parts) → IsSetupOf json s → IsSetupOf json t → s ≡ t
 same_parts json s t a b =

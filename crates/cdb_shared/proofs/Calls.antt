@@ -35,7 +35,7 @@ pub only_is : (ps : List KnownSeat) (one : length ps ≡ 1) → ps ≡ only_of p
 only_is ps one = grind (arith, common_steps, gets)
 
 pub only_at : (ps : List KnownSeat) (one : length ps ≡ 1) {p : KnownSeat} → ps ≡ p ∷ [] → only_of ps one ≡ p
-only_at ps one h1 = grind (arith, common_steps, gets)
+only_at ps one is = grind (arith, common_steps, gets)
 
 -- what one seat knows of the control that it took
 pub knows_one : (v : Knowledge) (c : Story) (one : IsOfOneSeat v) → AllKnow c v.known_seats → Knows c (known_seat_of v one)
@@ -44,7 +44,7 @@ knows_one v c one all = (subst (λ (ps : List KnownSeat). AllKnow c ps) (only_is
 -- a pass that has had the turn is of the one seat that it was of, which has seen the journal
 given_one : (v w x : Knowledge) (c after : Journaled) (one : IsOfOneSeat v) → TurnTaken v c w → TurnGiven w after x
     → x ≡ resting (seen_at (story after) (known_seat_of v one) ∷ [])
-given_one v w x c after one h1 h2 = grind (arith, common_steps, gets)
+given_one v w x c after one taken given = grind (arith, common_steps, gets)
 
 pub still_one : (v w x : Knowledge) (c after : Journaled) → IsOfOneSeat v → TurnTaken v c w → TurnGiven w after x → IsOfOneSeat x
 still_one v w x c after one taken given =
@@ -97,7 +97,7 @@ later {home} {home'} v w x c after one other is same taken given begins =
     subst (λ (s : SeatView). IsLater s (seat_of_pass home' x other)) is (later_of home home' v w x c after one other same taken given begins)
 
 rests_stage : (stage : Stage) → is_resting stage ≡ true → stage ≡ Resting
-rests_stage stage h1 = grind (arith, common_steps, gets)
+rests_stage stage e = grind (arith, common_steps, gets)
 
 -- the pass of a seat at rest
 pub rests_of : (home : TableId) (v : Knowledge) (one : IsOfOneSeat v) {seat : SeatView} → seat_of_pass home v one ≡ seat → seat.rests ≡ true → v.stage ≡ Resting
@@ -107,7 +107,7 @@ rests_of home v one is rests = rests_stage v.stage (ap (λ (s : SeatView). s.res
 pub known_seats_from-next : (c : Journaled) (dealt count : ℕ) → dealt < count
     → known_seats_from (story c) (dealt + 1) (count - dealt)
     ≡ known_seat_at (story c) (dealt + 1) ∷ known_seats_from (story c) (dealt + 1 + 1) (count - (dealt + 1))
-known_seats_from-next c dealt count h1 = grind (arith, common_steps, gets)
+known_seats_from-next c dealt count low = grind (arith, common_steps, gets)
 
 -- the pass of the next seat, and that of the others
 dealt_next : (c : Journaled) (dealt count : ℕ) (v alone : Knowledge) → dealt < count
@@ -140,7 +140,7 @@ dealt_rest c {dealt} {count} low is cut = cut ∙ ap without_first (is ∙ ap re
 pub dealt_seat : {home home' : TableId} (c : Journaled) {dealt count : ℕ} {v alone : Knowledge} (one : IsOfOneSeat alone)
     → dealt < count → v ≡ resting (known_seats_from (story c) (dealt + 1) (count - dealt)) → alone ≡ first_alone v → home ≡ home'
     → seat_of_pass home alone one ≡ fresh_seat home' c (1 + dealt)
-dealt_seat c one h1 h2 h3 h4 = grind (arith, common_steps, gets)
+dealt_seat c one first second third fourth = grind (arith, common_steps, gets)
 
 pub fresh_seats-push : (shared : TableId) (c : Journaled) (first n : ℕ)
     → fresh_seats shared c first (n + 1) ≡ fresh_seats shared c first n ++ fresh_seat shared c (first + n) ∷ []
@@ -202,7 +202,7 @@ rest_dealt shared c n is = subst (λ (l : List SeatView). All (λ seat. RestsAt 
 pub met_pass : (u v : Knowledge) {j : Knowledge} (w : Knowledge) {x : Knowledge} (c : Journaled) (one : IsOfOneSeat u)
     (two : IsOfOneSeat v) → j ≡ joined_pass v u → TurnTaken j c w → TurnGiven w c x
     → x ≡ resting (seen_at (story c) (known_seat_of u one) ∷ seen_at (story c) (known_seat_of v two) ∷ [])
-met_pass u v w c one two h1 h2 h3 = grind (arith, common_steps, gets)
+met_pass u v w c one two first second third = grind (arith, common_steps, gets)
 
 pub met_known : (u v : Knowledge) {j : Knowledge} (w : Knowledge) (c : Journaled) (one : IsOfOneSeat u) (two : IsOfOneSeat v)
     → j ≡ joined_pass v u → TurnTaken j c w → Knows (story c) (known_seat_of u one) × Knows (story c) (known_seat_of v two)
@@ -314,7 +314,7 @@ fault_full v w x c after (Err fault) one other taken given err full =
 -- a call leaves the setup and the number of seats
 same_parts : (rules : Parts → Rules) (c after : Journaled) (number : ℕ) (command : Command) (r : Result Reply CallFault)
     → IfOk r (λ _. after ≡ extended rules c number command) → OnErr r (after ≡ c) → (after.setup ≡ c.setup) × (after.seats ≡ c.seats)
-same_parts rules c after number command r h1 h2 = grind (arith, common_steps, gets)
+same_parts rules c after number command r ok err = grind (arith, common_steps, gets)
 
 -- the headline of the control that is given back is that of the seat
 pub sees_headline : (rules : Parts → Rules) (SameState : Parts → List Event → List Event → Type 0) (number : ℕ) (home' : TableId)

@@ -5,14 +5,14 @@ use Rattle.std.proofs.Common.{◌≡◌, ℕ, zero, suc, ◌<◌, List, [], ◌�
 
 module _ {A : Type 0} where
   get_or-front : (xs ys : List A) (k : ℕ) (d : A) → k < length xs → get_or (xs ++ ys) k d ≡ get_or xs k d
-  get_or-front xs ys k d h1 = grind (arith, common_steps, gets)
+  get_or-front xs ys k d low = grind (arith, common_steps, gets)
 
   get_or-last : (xs : List A) (x d : A) (k : ℕ) → k ≡ length xs → get_or (xs ++ x ∷ []) k d ≡ x
-  get_or-last xs x d k h1 = grind (arith, common_steps, gets)
+  get_or-last xs x d k is = grind (arith, common_steps, gets)
 
   -- an element between two parts
   pub get_or-middle : (front rest xs : List A) (x d : A) (k : ℕ) → xs ≡ front ++ x ∷ rest → k ≡ length front → get_or xs k d ≡ x
-  get_or-middle front rest xs x d k h1 h2 = grind (arith, common_steps, gets)
+  get_or-middle front rest xs x d k whole is = grind (arith, common_steps, gets)
 
   -- what holds of each element, by its position
   abbrev pub EachAt : (ℕ → A → Type 0) → List A → Type 0

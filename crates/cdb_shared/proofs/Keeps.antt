@@ -28,7 +28,7 @@ begins = inl (refl, refl)
 
 -- the one view at the start
 only_view : (views : List Knowledge) (pass : ℕ) (v : Knowledge) → views ≡ opening ∷ [] → get_elem? views pass ≡ some v → (pass ≡ 0) × (v ≡ opening)
-only_view views pass v h1 h2 = grind (arith, common_steps, gets)
+only_view views pass v is at = grind (arith, common_steps, gets)
 
 -- a fact of each view, after one of them has changed
 each_set : (F : ℕ → Knowledge → Type 0) (views : List Knowledge) (pass : ℕ) (w : Knowledge) → F pass w
@@ -125,7 +125,7 @@ AllKnow-others c [] a = tt
 AllKnow-others c (p ∷ ps) a = a.1
 
 apart_from : (number n : ℕ) (rest : ℕ) → cond (number == n) 1 0 + rest ≡ 0 → n ≢ number
-apart_from number n rest h1 = grind (arith, common_steps, gets)
+apart_from number n rest is = grind (arith, common_steps, gets)
 
 -- a command of a seat that isn't among these
 AllKnow-push : (c : Story) (ps : List KnownSeat) (seat : ℕ) (command : Command) → seat_count seat ps ≡ 0 → AllKnow c ps → AllKnow (longer c seat command) ps
@@ -172,7 +172,7 @@ resting_holds v rests holds = let e : Resting ≡ Holding = sym rests ∙ holds 
 
 stood : (turn : Whereabouts) (c : Story) (x : Journaled) (items : List Journaled) → map story (x ∷ items) ≡ queued turn c
     → (turn ≡ InQueue) × (story x ≡ c) × (map story items ≡ [])
-stood turn c x items h1 = grind (arith, common_steps, gets)
+stood turn c x items e = grind (arith, common_steps, gets)
 
 take_other : (stage : Stage) (c : Story) (turn : Whereabouts) (pass j : ℕ) (u : Knowledge) → turn ≡ InQueue
     → FitsAt stage c turn j u → FitsAt stage c (HeldBy pass) j u

@@ -56,7 +56,7 @@ pub calls_of-fault : (old new : SeatView) → IsLater old new → SameCalls old 
 calls_of-fault old new later same = ap (λ n. own n new.seen) later.number ∙ same
 
 shorter_if : (b : Bool) (x : Command) (xs : List Command) (n : ℕ) → length xs ≤ n → length (cond b (x ∷ xs) xs) ≤ suc n
-shorter_if b x xs n h1 = grind (arith, common_steps, gets)
+shorter_if b x xs n low = grind (arith, common_steps, gets)
 
 -- a seat has no more calls than the journal has entries
 pub length-own : (seat : ℕ) (es : List Entry) → length (own seat es) ≤ length es
@@ -69,7 +69,7 @@ NoneDone-push (x ∷ rs) r none apart = (none.0, NoneDone-push rs r none.1 apart
 
 -- a driven seat whose call met a fault
 pub ends_at_fault : (fault : CallFault) {end : End} → end ≡ end_at fault → (end ≢ All) × (end ≢ Done) × (end ≢ Stopped)
-ends_at_fault fault h1 = grind (arith, common_steps, gets)
+ends_at_fault fault is = grind (arith, common_steps, gets)
 
 pub driven_fault : (fault : CallFault) {end : End} {count turns : ℕ} (replies : List ReplyView) → end ≡ end_at fault
     → count < turns → NoneDone replies → IsDriven end count turns replies

@@ -42,7 +42,7 @@ none_between (x ∷ xs) (suc a) = none_between xs a
 
 -- what was seen first is seen later
 front : (xs ys : List Entry) (a b : ℕ) → b ≤ length xs → drop a (take b (xs ++ ys)) ≡ drop a (take b xs)
-front xs ys a b h1 = grind (arith, common_steps, gets)
+front xs ys a b is = grind (arith, common_steps, gets)
 
 -- what is behind the first so many, as a slice
 pub behind : (xs : List Entry) (n : ℕ) → take (length xs - n) (drop n xs) ≡ drop n xs

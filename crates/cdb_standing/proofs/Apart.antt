@@ -33,7 +33,7 @@ turned : {kind other : Kind} → AreInConflict kind other → AreInConflict othe
 turned c = record { n = c.n; one = c.two; two = c.one; written = ⊎_elim (λ e. inr e) (λ e. inl e) c.written }
 
 why : (p : ℕ) (kind other : Kind) → Affects p kind other → IsMail p kind other ⊎ AreInConflict kind other
-why p kind other h1 = grind (arith, common_steps, gets)
+why p kind other is = grind (arith, common_steps, gets)
 
 module _ {next : ℕ} {steps : List (List Entry)} {sent : List (List Sent)} (sound : IsSound next steps sent) where
   pub links_apart : (p k a : ℕ) (kind : Kind) (q l b : ℕ) (other : Kind) → IsEntry steps p k a kind → IsEntry steps q l b other → a < b → p ≢ q
@@ -53,4 +53,4 @@ module _ {next : ℕ} {steps : List (List Entry)} {sent : List (List Sent)} (sou
       (or_cases (nat_eq p q) (kind_affects p kind other || kind_affects q other kind) (sym (by_effect (event.Step p k kind) (event.Step q l other)) ∙ linked))
 
   pub conflict_links : (p k q l : ℕ) {kind other : Kind} → AreInConflict kind other → depends (event.Step p k kind) (event.Step q l other) ≡ true
-  conflict_links p k q l h1 = grind (arith, common_steps, gets)
+  conflict_links p k q l is = grind (arith, common_steps, gets)

@@ -65,7 +65,7 @@ module _ {B : Type 0} where
 -- ---- beside the steps
 
 steps_front : (history : List Event) (copy : CopyName) (p k : ℕ) → HasStep (history ++ Lost copy ∷ []) p k → HasStep history p k
-steps_front history copy p k h1 = grind (arith, common_steps, gets)
+steps_front history copy p k is = grind (arith, common_steps, gets)
 
 module _ {B : Type 0} {lefts : List (List (UndoData B))} {history : List Event} (beside : AreBeside lefts history) (copy : CopyName) where
   pub beside_loss : AreBeside lefts (history ++ Lost copy ∷ [])

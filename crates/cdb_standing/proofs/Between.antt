@@ -40,13 +40,13 @@ pub same_register : {cause : Kind} {p : ℕ} {kind : Kind} {s : ℕ} {other : Ki
 same_register lies = rw (lies.of_cause, lies.of_step) (rw (eq-eqb lies.n lies.n refl) refl)
 
 of_options : (o u : Option ℕ) (n : ℕ) → option_and_then (λ m. cond (is_that u m) (Some m) None) o ≡ Some n → (o ≡ Some n) × (u ≡ Some n)
-of_options o u n h1 = grind (arith, common_steps, gets)
+of_options o u n e = grind (arith, common_steps, gets)
 
 both_access : (cause kind : Kind) (n : ℕ) → register_of_both cause kind ≡ Some n → (accessed cause ≡ Some n) × (accessed kind ≡ Some n)
 both_access cause kind n e = of_options (accessed cause) (accessed kind) n e
 
 and_or : (a b c : Bool) → a ≡ true → (b ≡ true) ⊎ (c ≡ true) → (a && (b || c)) ≡ true
-and_or a b c h1 h2 = grind (arith, common_steps, gets)
+and_or a b c first second = grind (arith, common_steps, gets)
 
 module _ {next : ℕ} {steps : List (List Entry)} {sent : List (List Sent)} (sound : IsSound next steps sent) where
   -- nothing depends on a loss

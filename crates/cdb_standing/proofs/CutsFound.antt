@@ -34,7 +34,7 @@ pub lowered_le : (f : Option Found) (q n : ℕ) → lowered f q n ≤ n
 lowered_le f q n = grind (arith, common_steps, gets)
 
 pub lowered_far : (f : Found) (q k n : ℕ) → f.name ≡ named.Step (step_named q k) → lowered (Some f) q n ≤ k
-lowered_far f q k n h1 = grind (arith, common_steps, gets)
+lowered_far f q k n e = grind (arith, common_steps, gets)
 
 module _ {next : ℕ} {steps : List (List Entry)} {sent : List (List Sent)} (sound : IsSound next steps sent) where
   -- a step of the same process depends on one before it
@@ -60,7 +60,7 @@ module _ {next : ℕ} {steps : List (List Entry)} {sent : List (List Sent)} (sou
     This = event.Step p k kind
 
     not_own_step : (r j : ℕ) (other : Kind) → r ≢ p → is_step_of p (event.Step r j other) ≡ false
-    not_own_step r j other h1 = grind (arith, common_steps, gets)
+    not_own_step r j other not_own = grind (arith, common_steps, gets)
 
     not_both : {r j a b : ℕ} {other : Kind} {copy : CopyName} → r ≢ p → IsDependent steps sent This mark b (event.Step r j other)
         → IsDependent steps sent This mark a (event.Lost copy) → copy.to ≡ r → ⊥
@@ -165,10 +165,10 @@ cut_at (x ∷ xs) zero = refl
 cut_at (x ∷ xs) (suc i) = cut_at xs i
 
 pub cut_set : (cuts : List ℕ) (i n : ℕ) → i < length cuts → cut_of (set cuts i n) (suc i) ≡ n
-cut_set cuts i n h1 = grind (arith, common_steps, gets)
+cut_set cuts i n less = grind (arith, common_steps, gets)
 
 pub cut_set_other : (cuts : List ℕ) (i n q : ℕ) → q ≢ suc i → cut_of (set cuts i n) q ≡ cut_of cuts q
-cut_set_other cuts i n q h1 = grind (arith, common_steps, gets)
+cut_set_other cuts i n q other = grind (arith, common_steps, gets)
 
 pub cut_past : (cuts : List ℕ) (q : ℕ) → length cuts < q → cut_of cuts q ≡ 0
 cut_past cuts zero more = refl

@@ -118,7 +118,7 @@ module _ {next : ℕ} {steps : List (List Entry)} {sent : List (List Sent)} (sou
 
   -- the marks of one process rise with its numbers
   pub mark_le : (p k l a b : ℕ) (kind other : Kind) → IsEntry steps p k a kind → IsEntry steps p l b other → k ≤ l → a ≤ b
-  mark_le p k l a b kind other h1 h2 h3 = grind (arith, sound.rises p k l a b kind other h1 h2)
+  mark_le p k l a b kind other here there le = grind (arith, sound.rises p k l a b kind other here there)
 
   pub number_below : (p k l a b : ℕ) (kind other : Kind) → IsEntry steps p k a kind → IsEntry steps p l b other → a < b → k < l
   number_below p k l a b kind other here there less =
@@ -209,11 +209,11 @@ module _ {next : ℕ} {steps : List (List Entry)} {sent : List (List Sent)} (sou
     -- a step that sends does not stand behind the receive
     backward : (some : Kind) → IsEntry steps p k mark some → (q l b : ℕ) (other : Kind)
         → IsEntry steps q l b other → mark < b → Affects q other some → Reason some b (event.Step q l other)
-    backward some h1 q l b other h2 h3 h4 = grind (arith, common_steps, gets)
+    backward some here q l b other there later is = grind (arith, common_steps, gets)
 
     lost_after_send : (some : Kind) (b : ℕ) (copy : CopyName) → Stands steps sent b (event.Lost copy)
         → some ≡ Send (copy.msg).m → p ≡ (copy.msg).s → Reason some b (event.Lost copy)
-    lost_after_send some b copy h1 h2 h3 = grind (arith, common_steps, gets)
+    lost_after_send some b copy there is p_is = grind (arith, common_steps, gets)
 
     pub reason : (b : ℕ) (it : Event) → Dependent b it → is_step_of p it ≡ false → Reason kind b it
     reason b (event.Step q l other) dependent not_own =
@@ -375,7 +375,7 @@ module _ {next : ℕ} {steps : List (List Entry)} {sent : List (List Sent)} (sou
   process_from_one mark (event.Lost copy) at = (nth_within (at.it).copies copy.to (Lost mark) at.became).0
 
   process_to_nine : (mark : ℕ) (it : Event) → Stands steps sent mark it → process_of it ≤ 9
-  process_to_nine mark it h1 = grind (arith, common_steps, gets)
+  process_to_nine mark it at = grind (arith, common_steps, gets)
 
   module _ (p k mark : ℕ) (kind : Kind) (at : IsEntry steps p k mark kind) where
     abbrev One : Event

@@ -28,7 +28,7 @@ Joins steps sent next new steps' sent' =
 
 single_more : {next : ℕ} {steps : List (List Entry)} {sent : List (List Sent)} (new : Event) (steps' : List (List Entry)) (sent' : List (List Sent))
     → IsSound next steps sent → Joins steps sent next new steps' sent' → IsSingleIn steps' sent'
-single_more new steps' sent' h1 h2 = grind (arith, common_steps, gets)
+single_more new steps' sent' first second = grind (arith, common_steps, gets)
 
 module _ {next p k : ℕ} {kind : Kind} {steps : List (List Entry)} {sent : List (List Sent)} {steps' : List (List Entry)} {sent' : List (List Sent)}
     (sound : IsSound next steps sent) (may : MayAdd p k kind steps sent) (added : IsStepAdded next p k kind steps sent steps' sent') where
@@ -36,7 +36,7 @@ module _ {next p k : ℕ} {kind : Kind} {steps : List (List Entry)} {sent : List
   mail = grown p k kind sent sent' may.mail added.mailed
 
   entry_cases : (q l a : ℕ) (other : Kind) → IsEntry steps' q l a other → IsEntry steps q l a other ⊎ ((q ≡ p) × (l ≡ k) × (a ≡ next) × (other ≡ kind))
-  entry_cases q l a other h1 = grind (arith, put_cases added.put)
+  entry_cases q l a other at = grind (arith, put_cases added.put)
 
   entry_keeps : (q l a : ℕ) (other : Kind) → IsEntry steps q l a other → IsEntry steps' q l a other
   entry_keeps q l a other at = put_keeps added.put q l (entry_of a other) at
@@ -65,7 +65,7 @@ module _ {next p k : ℕ} {kind : Kind} {steps : List (List Entry)} {sent : List
   few q = grind (arith, common_steps, gets)
 
   rises : (q l m a b : ℕ) (one other : Kind) → IsEntry steps' q l a one → IsEntry steps' q m b other → l < m → a < b
-  rises q l m a b one other h1 h2 h3 = grind (arith, entry_cases, own_last, entry_old)
+  rises q l m a b one other here there less = grind (arith, entry_cases, own_last, entry_old)
 
   received_is : (s m to l : ℕ) → IsCopy sent' s m to (Received l) → (mark : ℕ) × IsEntry steps' to l mark (Recv s m)
   received_is s m to l copy =

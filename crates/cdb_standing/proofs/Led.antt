@@ -90,7 +90,7 @@ module _ {next : ℕ} {steps : List (List Entry)} {sent : List (List Sent)} (sou
     raise_higher r = rw (are r) (raised_ge q found r (end_of old r))
 
     pub raise_few : AreFew old → ((l : ℕ) → found ≡ Some l → l ≤ 65535) → AreFew new
-    raise_few h1 h2 = grind (arith, common_steps, gets)
+    raise_few first second = grind (arith, common_steps, gets)
 
     pub raise_sound : (one : Event) (end : ℕ) → IsFoundLed one end q found → IsSoundPast steps sent one end old → IsSoundPast steps sent one end new
     raise_sound one end led was r l a kind at le =

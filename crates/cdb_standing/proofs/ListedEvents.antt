@@ -134,7 +134,7 @@ is_that_none : (o : Option ℕ) (n : ℕ) → o ≡ None → is_that o n ≡ fal
 is_that_none o n e = ap (λ x. is_that x n) e
 
 is_that_other : (o : Option ℕ) (m n : ℕ) → o ≡ Some m → m ≢ n → is_that o n ≡ false
-is_that_other o m n h1 h2 = grind (arith, common_steps, gets)
+is_that_other o m n e other = grind (arith, common_steps, gets)
 
 module _ (of : Kind → Option ℕ) {mark p : ℕ} (k : ℕ) {kind : Kind} {low high : List (List Entry)} (put : IsPutOn p low (entry_of mark kind) high)
     (number : k ≡ length (row_of low p) + 1) (from_one : 1 ≤ p) (register : IsRegisterOf of kind) where

@@ -14,7 +14,7 @@ use Rattle.cdb_standing.proofs.Rows.{same_at, put_cases, put_keeps, put_joins}
 
 -- one copy became one thing
 pub same_copy : {sent : List (List Sent)} {r n q s m to : ℕ} {c d : Copied} → IsCopy sent r n q c → IsCopy sent s m to d → (r ≡ s) × (n ≡ m) × (q ≡ to) → c ≡ d
-same_copy h1 h2 h3 = grind (arith, common_steps, gets)
+same_copy first second third = grind (arith, common_steps, gets)
 
 -- ---- one copy set
 
@@ -26,7 +26,7 @@ module _ {old : List (List Sent)} {s m to : ℕ} {copied : Copied} {new : List (
   set_at r n = grind arith
 
   pub set_cases : {r n q : ℕ} {c : Copied} → IsCopy new r n q c → IsCopy old r n q c ⊎ ((r ≡ s) × (n ≡ m) × (q ≡ to) × (c ≡ copied))
-  set_cases h1 = grind (arith, common_steps, gets)
+  set_cases is = grind (arith, common_steps, gets)
 
   pub set_keeps : {r n q : ℕ} {c : Copied} → IsCopy old r n q c → ((r ≡ s) × (n ≡ m) × (q ≡ to) → ⊥) → IsCopy new r n q c
   set_keeps {r} {n} {q} {c} copy other =
@@ -42,10 +42,10 @@ module _ {old : List (List Sent)} {s m to : ℕ} {copied : Copied} {new : List (
       (set_at r n)
 
   pub set_message : {r n k : ℕ} → IsMessage old r n k → IsMessage new r n k
-  set_message h1 = grind (arith, common_steps, gets)
+  set_message is = grind (arith, common_steps, gets)
 
   pub set_message_only : {r n k : ℕ} → IsMessage new r n k → IsMessage old r n k
-  set_message_only h1 = grind (arith, common_steps, gets)
+  set_message_only is = grind (arith, common_steps, gets)
 
 -- ---- one message more
 
@@ -54,14 +54,14 @@ module _ {p : ℕ} {low : List (List Sent)} {it : Sent} {high : List (List Sent)
   send_message {s} {m} message = record { it = message.it; was_sent = put_keeps put s m message.it message.was_sent; by = message.by }
 
   pub send_message_cases : {s m k : ℕ} → IsMessage high s m k → IsMessage low s m k ⊎ ((s ≡ p) × (m ≡ length (row_of low p) + 1) × (it.k ≡ k))
-  send_message_cases h1 = grind (arith, put_cases put)
+  send_message_cases is = grind (arith, put_cases put)
 
   pub send_copy : {s m to : ℕ} {c : Copied} → IsCopy low s m to c → IsCopy high s m to c
   send_copy {s} {m} copy = record { it = copy.it; was_sent = put_keeps put s m copy.it copy.was_sent; became = copy.became }
 
   pub send_copy_cases : {s m to : ℕ} {c : Copied} → IsCopy high s m to c
       → IsCopy low s m to c ⊎ ((s ≡ p) × (m ≡ length (row_of low p) + 1) × (nth it.copies to ≡ Some c))
-  send_copy_cases h1 = grind (arith, put_cases put)
+  send_copy_cases is = grind (arith, put_cases put)
 
 -- ---- what any step makes of them
 

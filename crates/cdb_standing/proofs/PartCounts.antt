@@ -73,10 +73,10 @@ module _ (one other : Event → Bool) (same : (e : Event) → one e ≡ other e)
   is_one_before mark x = one x.event && nat_lt x.mark mark
 
   not_before : (mark : ℕ) (x : Marked) → mark ≤ x.mark → one_if (is_one_before mark x) ≡ 0
-  not_before mark x h1 = grind (arith, common_steps, gets)
+  not_before mark x high = grind (arith, common_steps, gets)
 
   is_before_one : (mark : ℕ) (x : Marked) → x.mark < mark → one_if (is_one_before mark x) ≡ one_if (other x.event)
-  is_before_one mark x h1 = grind (arith, common_steps, gets)
+  is_before_one mark x low = grind (arith, common_steps, gets)
 
   pub counted_before : (xs : List Marked) (i : ℕ) (x : Marked) → IsRising xs → slice_get xs i ≡ Some x
       → count_by (is_one_before x.mark) xs ≡ count_by other (take i (events_of xs))

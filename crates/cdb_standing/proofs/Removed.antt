@@ -83,16 +83,16 @@ module _ {next mark p k : ℕ} {kind : Kind} {steps : List (List Entry)} {sent :
   entry_was = put_joins taken.put k taken.number
 
   entry_cases : (q l b : ℕ) (other : Kind) → IsEntry steps q l b other → IsEntry steps' q l b other ⊎ ((q ≡ p) × (l ≡ k) × (b ≡ mark) × (other ≡ kind))
-  entry_cases q l b other h1 = grind (arith, put_cases taken.put)
+  entry_cases q l b other at = grind (arith, put_cases taken.put)
 
   entry_old : (q l b : ℕ) (other : Kind) → IsEntry steps' q l b other → IsEntry steps q l b other
   entry_old q l b other at = put_keeps taken.put q l (entry_of b other) at
 
   entry_other : (q l b : ℕ) (other : Kind) → IsEntry steps' q l b other → q ≡ p → l ≡ k → ⊥
-  entry_other q l b other h1 h2 h3 = grind (arith, nth_within)
+  entry_other q l b other at same_p same_k = grind (arith, nth_within)
 
   own_last : (l b : ℕ) (other : Kind) → IsEntry steps p l b other → l ≤ k
-  own_last l b other h1 = grind (arith, nth_within, entry_cases p l b other h1)
+  own_last l b other at = grind (arith, nth_within, entry_cases p l b other at)
 
   last_sent : IsLastSent p kind sent'
   last_sent m e = by kind e taken.mailed entry_was

@@ -97,7 +97,7 @@ module _ {T Z : Type 0} where
 -- ---- an item that was looked up
 
 pub got : {A : Type 0} (xs : List A) (k : ℕ) (x : A) → k < length xs → x ≡ slice_index_or xs k x → slice_get xs k ≡ Some x
-got xs k x h1 h2 = grind (arith, common_steps, gets)
+got xs k x less is = grind (arith, common_steps, gets)
 
 pub looked_up : {A : Type 0} (o : Option (Bor A)) (xs : List A) (k : ℕ)
     → MatchOption o (length xs ≤ k) (λ x. (k < length xs) × HoldsAt (λ y. x.now ≡ y) xs k) → option_copied o ≡ slice_get xs k
@@ -107,10 +107,10 @@ looked_up (Some x) xs k at = sym (got xs k x.now at.0 (at.1 x.now))
 -- ---- a list with one item set
 
 pub get_set : {A : Type 0} (xs : List A) (j : ℕ) (x y : A) → slice_get xs j ≡ Some x → slice_get (set xs j y) j ≡ Some y
-get_set xs j x y h1 = grind (arith, common_steps, gets)
+get_set xs j x y at = grind (arith, common_steps, gets)
 
 pub get_set_other : {A : Type 0} (xs : List A) (i j : ℕ) (y : A) → j ≢ i → slice_get (set xs i y) j ≡ slice_get xs j
-get_set_other xs i j y h1 = grind (arith, common_steps, gets)
+get_set_other xs i j y other = grind (arith, common_steps, gets)
 
 -- ---- one copy set
 

@@ -22,7 +22,7 @@ abbrev pub is_at : ℕ → Marked → ℕ
 is_at m x = one_if (nat_eq x.mark m)
 
 is_at_other : (m : ℕ) (x : Marked) → x.mark ≢ m → is_at m x ≡ 0
-is_at_other m x h1 = grind (arith, common_steps, gets)
+is_at_other m x other = grind (arith, common_steps, gets)
 
 is_at_same : (m : ℕ) (x : Marked) → x.mark ≡ m → is_at m x ≡ 1
 is_at_same m x e = ap one_if (eq-eqb x.mark m e)
