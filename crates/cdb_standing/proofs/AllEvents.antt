@@ -1,4 +1,6 @@
 -- The events that numbers cut off, gathered.
+use Rattle.std.proofs.lemmas.Grind.{common_steps}
+use Rattle.std.proofs.lemmas.Option.{gets}
 use Rattle.std.proofs.lemmas.Bool.{cases_lt}
 use Rattle.std.proofs.Common.{◌≡◌, ◌≢◌, ℕ, zero, suc, ◌+◌, ◌-◌, ◌<◌, ◌≤◌, List, [], ◌∷◌, ◌++◌, length, drop, set, slice_get}
 use Rattle.std.proofs.Common.{Some, ⊎_elim, refl, sym, ap, ap₂, ◌∙◌, subst, arith}
@@ -19,9 +21,7 @@ use Rattle.cdb_standing.specs.declared.tables.Sent.{Sent}
 use Rattle.cdb_standing.proofs.CutsFound.{cut_set, cut_set_other}
 
 pub row_there : {T : Type 0} (table : List (List T)) (i : ℕ) → i < length table → slice_get table i ≡ Some (row_of table (suc i))
-row_there [] i less = absurd (omega arith)
-row_there (x ∷ xs) zero less = refl
-row_there (x ∷ xs) (suc i) less = row_there xs i (omega arith)
+row_there table i less = grind (arith, common_steps, gets)
 
 -- ---- the next step of one process is gathered
 

@@ -100,11 +100,7 @@ some_left lefts history beside p k (at, (it, there, is), free) = by it there is
 
 module _ {B : Type 0} {low high : List (List (UndoData B))} {p : ℕ} {left : UndoData B} (put : IsPutOn p low left high) where
   other_nth : (xs : List (UndoData B)) (k : ℕ) → k ≢ length xs + 1 → nth (xs ++ left ∷ []) k ≡ nth xs k
-  other_nth xs zero other = refl
-  other_nth [] (suc zero) other = absurd (other (omega arith))
-  other_nth [] (suc (suc k)) other = refl
-  other_nth (x ∷ xs) (suc zero) other = refl
-  other_nth (x ∷ xs) (suc (suc k)) other = other_nth xs (suc k) (λ e. other (omega arith))
+  other_nth xs k other = grind (arith, common_steps, gets)
 
   left_otherwise : (k : ℕ) → k ≡ length (row_of low p) + 1 → (it : Event) → ((kind : Kind) → it ≢ Step p k kind) → undo_data_of high it ≡ undo_data_of low it
   left_otherwise k last (Lost copy) other = refl

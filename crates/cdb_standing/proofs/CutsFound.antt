@@ -64,22 +64,7 @@ module _ {next : ℕ} {steps : List (List Entry)} {sent : List (List Sent)} (sou
 
     not_both : {r j a b : ℕ} {other : Kind} {copy : CopyName} → r ≢ p → IsDependent steps sent This mark b (event.Step r j other)
         → IsDependent steps sent This mark a (event.Lost copy) → copy.to ≡ r → ⊥
-    not_both {r} {j} {a} {b} {other} {copy} not_own step lost to_is =
-        by kind at (reason sound p k mark kind at b (event.Step r j other) step (not_own_step r j other not_own))
-        (reason sound p k mark kind at a (event.Lost copy) lost refl)
-      where
-        by : (some : Kind) → (at : IsEntry steps p k mark some) → Reason sound p k mark some at some b (event.Step r j other)
-            → Reason sound p k mark some at some a (event.Lost copy) → ⊥
-        by (Send m) at one two =
-            let c_is = same_copy one.1 two.1 (refl, refl, sym to_is) in
-            let e : Some (found b (named.Step (step_named r j))) ≡ Some (found a (named.Lost copy)) =
-            sym one.2 ∙ ap₂ (λ to c. found_copy steps p m to c) (sym to_is) c_is ∙ two.2 in
-            let f = same_Some (found b (named.Step (step_named r j))) (found a (named.Lost copy)) e in
-            let g : named.Step (step_named r j) ≡ named.Lost copy = ap (λ (x : Found). x.name) f in
-            absurd (cc)
-        by (Read register) at one two = let e = two.3 in absurd (cc)
-        by (Write register) at one two = absurd (cc)
-        by _ at one two = absurd one
+    not_both is its also then = grind (arith, common_steps, gets)
 
     -- what is found of a process cuts off all of its steps that depend on this one
     pub found_closes : {r : ℕ} (it : Option Found) → IsFoundOfOthers steps sent p This mark r it
@@ -160,9 +145,7 @@ module _ {next : ℕ} {steps : List (List Entry)} {sent : List (List Sent)} (sou
 -- ---- numbers in an array
 
 pub cut_at : (cuts : List ℕ) (i : ℕ) → cut_of cuts (suc i) ≡ slice_index cuts i
-cut_at [] i = refl
-cut_at (x ∷ xs) zero = refl
-cut_at (x ∷ xs) (suc i) = cut_at xs i
+cut_at cuts i = grind (arith, common_steps, gets)
 
 pub cut_set : (cuts : List ℕ) (i n : ℕ) → i < length cuts → cut_of (set cuts i n) (suc i) ≡ n
 cut_set cuts i n less = grind (arith, common_steps, gets)
@@ -171,10 +154,7 @@ pub cut_set_other : (cuts : List ℕ) (i n q : ℕ) → q ≢ suc i → cut_of (
 cut_set_other cuts i n q other = grind (arith, common_steps, gets)
 
 pub cut_past : (cuts : List ℕ) (q : ℕ) → length cuts < q → cut_of cuts q ≡ 0
-cut_past cuts zero more = refl
-cut_past [] (suc q) more = refl
-cut_past (x ∷ xs) (suc zero) more = absurd (omega (arith, more))
-cut_past (x ∷ xs) (suc (suc q)) more = cut_past xs (suc q) (omega (arith, more))
+cut_past cuts q more = grind (arith, common_steps, gets)
 
 pub sum_less : (xs : List ℕ) (i : ℕ) → i < length xs → 0 < slice_index xs i → total (set xs i (slice_index xs i - 1)) < total xs
 sum_less [] i less some = absurd (omega (arith, less))

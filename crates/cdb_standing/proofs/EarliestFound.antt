@@ -89,8 +89,7 @@ module _ (Those : ℕ → Event → Type 0) where
   of_none These no_one = record { only = λ f e. absurd (none-some f e); each = λ mark it q. absurd (no_one mark it q) }
 
 pub earlier_alone : (one : Option Found) → earlier_of one None ≡ one
-earlier_alone None = refl
-earlier_alone (Some found) = refl
+earlier_alone one = grind (arith, common_steps, gets)
 
 -- it depends where one affects the other
 pub affecting : (x y : Event) → affects x y ≡ true → depends x y ≡ true
@@ -121,8 +120,7 @@ module _ {next : ℕ} {steps : List (List Entry)} {sent : List (List Sent)} (sou
   mark_le p k l a b kind other here there le = grind (arith, sound.rises p k l a b kind other here there)
 
   pub number_below : (p k l a b : ℕ) (kind other : Kind) → IsEntry steps p k a kind → IsEntry steps p l b other → a < b → k < l
-  number_below p k l a b kind other here there less =
-      elim (cases_lt k l) [ inl below ↦ below | inr not ↦ absurd (omega (arith, mark_le p l k b a other kind there here not)) ]
+  number_below p k l a b kind other here there less = grind (arith, common_steps, gets)
 
   -- the loss of a copy depends only on its send, and only that on it
   pub loss_needs : (copy : CopyName) {a : ℕ} (q j b : ℕ) (other : Kind) → IsCopy sent copy.msg.s copy.msg.m copy.to (Lost a) → IsEntry steps q j b other
@@ -371,8 +369,7 @@ module _ {next : ℕ} {steps : List (List Entry)} {sent : List (List Sent)} (sou
   -- ---- of one process after another
 
   process_from_one : (mark : ℕ) (it : Event) → Stands steps sent mark it → 1 ≤ process_of it
-  process_from_one mark (event.Step q l other) at = (nth_within steps q (row_of steps q) (is_row steps q l (entry_of mark other) at)).0
-  process_from_one mark (event.Lost copy) at = (nth_within (at.it).copies copy.to (Lost mark) at.became).0
+  process_from_one mark it at = grind (arith, common_steps, gets)
 
   process_to_nine : (mark : ℕ) (it : Event) → Stands steps sent mark it → process_of it ≤ 9
   process_to_nine mark it at = grind (arith, common_steps, gets)

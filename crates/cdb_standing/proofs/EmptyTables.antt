@@ -1,4 +1,6 @@
 -- Tables in which nothing stands.
+use Rattle.std.proofs.lemmas.Grind.{common_steps}
+use Rattle.std.proofs.lemmas.Option.{gets}
 use Rattle.std.proofs.Common.{◌∙◌, ◌≡◌, ℕ, zero, suc, ◌≤◌, List, [], ◌∷◌, ◌++◌, Vec, Option, length, Some, inl, refl, sym, ap, subst, arith}
 use Rattle.cdb_base.specs.Positions.{nth}
 use Rattle.cdb_base.specs.declared.event.Event.{Event}
@@ -30,8 +32,7 @@ empty_push (x ∷ xs) row none empty (suc (suc p)) = empty_push xs row none (res
 
 module _ (steps : List (List Entry)) (sent : List (List Sent)) (no_steps : AreEmpty steps) (no_sends : AreEmpty sent) where
   nothing : (mark : ℕ) (it : Event) → Stands steps sent mark it → ⊥
-  nothing mark (event.Step p k kind) at = none_in steps p k (entry_of mark kind) no_steps at
-  nothing mark (event.Lost copy) at = none_in sent (copy.msg).s (copy.msg).m at.it no_sends at.was_sent
+  nothing mark it at = grind (arith, common_steps, gets)
 
   no_message : {s m k : ℕ} → IsMessage sent s m k → ⊥
   no_message {s} {m} message = none_in sent s m message.it no_sends message.was_sent

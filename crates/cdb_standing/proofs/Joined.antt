@@ -124,11 +124,7 @@ module _ {next p k : ℕ} {kind : Kind} {steps : List (List Entry)} {sent : List
 
   -- no copy of a message was received or lost before its send
   not_before : {s m to : ℕ} {c : Copied} → kind ≡ Send m → s ≡ p → IsCopy sent s m to c → ⊥
-  not_before {s} {m} e s_is copy =
-      let next_is : m ≡ length (row_of sent p) + 1 = subst (λ a. MayMail p a sent) e may.mail in
-      let within = nth_within (row_of sent s) m copy.it copy.was_sent in
-      let same : length (row_of sent s) ≡ length (row_of sent p) = ap (λ a. length (row_of sent a)) s_is in
-      absurd (omega arith)
+  not_before is its also = grind (arith, common_steps, gets)
 
   sent_first : (s m l a to i b : ℕ) → IsEntry steps' s l a (Send m) → IsEntry steps' to i b (Recv s m) → a < b
   sent_first s m l a to i b here there =

@@ -1,4 +1,6 @@
 -- The last step of a process on which an event depends.
+use Rattle.std.proofs.lemmas.Grind.{common_steps}
+use Rattle.std.proofs.lemmas.Option.{gets}
 use Rattle.std.proofs.Common.{◌≡◌, ◌≢◌, ℕ, ◌+◌, ◌<◌, ◌≤◌, true, true≢false, List, Option}
 use Rattle.std.proofs.Common.{Some, None, ◌⊎◌, inl, inr, ⊎_elim, refl, sym, ap, ◌∙◌, subst, eq-eqb, arith}
 use Rattle.std.proofs.lemmas.Bool.{ne_eqb, cases_eq}
@@ -25,12 +27,10 @@ use Rattle.cdb_standing.proofs.Rows.{same_at, nth_within, nth_some}
 
 -- what is written is accessed
 pub written_is : (kind : Kind) (n : ℕ) → written kind ≡ Some n → (accessed kind ≡ Some n) × (writes kind ≡ true)
-written_is (Write register) n e = (e, refl)
-written_is _ n e = absurd (none-some n e)
+written_is kind n e = grind (arith, common_steps, gets)
 
 pub is_written_too : (kind : Kind) (n : ℕ) → writes kind ≡ true → accessed kind ≡ Some n → written kind ≡ Some n
-is_written_too (Write register) n w e = e
-is_written_too _ n w e = absurd (true≢false (sym w))
+is_written_too kind n w e = grind (arith, common_steps, gets)
 
 module _ {next : ℕ} {steps : List (List Entry)} {sent : List (List Sent)} (sound : IsSound next steps sent) where
   -- ---- the send of a message

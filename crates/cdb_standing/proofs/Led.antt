@@ -54,10 +54,7 @@ pub record IsRaising (steps : List (List Entry)) (sent : List (List Sent)) (one 
   pub long : length looked ≡ 9
 
 zero_ends : (n q : ℕ) → end_of (replicate n 0) q ≡ 0
-zero_ends n zero = refl
-zero_ends zero (suc q) = refl
-zero_ends (suc n) (suc zero) = refl
-zero_ends (suc n) (suc (suc q)) = zero_ends n (suc q)
+zero_ends n q = grind (arith, common_steps, gets)
 
 module _ {next : ℕ} {steps : List (List Entry)} {sent : List (List Sent)} (sound : IsSound next steps sent) where
   number_from_one : (q l a : ℕ) (kind : Kind) → IsEntry steps q l a kind → 1 ≤ l

@@ -45,15 +45,7 @@ listed_push of n k (x ∷ xs) entry = by (is_that (of x.kind) n) (listed_push of
 
 -- a list without its last item
 same_front : {A : Type 0} (xs ys : List A) (x y : A) → xs ++ x ∷ [] ≡ ys ++ y ∷ [] → xs ≡ ys
-same_front [] [] x y e = refl
-same_front [] (z ∷ []) x y e = absurd (cc)
-same_front [] (z ∷ (w ∷ ys)) x y e = absurd (cc)
-same_front (z ∷ []) [] x y e = absurd (cc)
-same_front (z ∷ (w ∷ xs)) [] x y e = absurd (cc)
-same_front (z ∷ xs) (w ∷ ys) x y e =
-    let rest : xs ++ x ∷ [] ≡ ys ++ y ∷ [] = cc in
-    let first : z ≡ w = cc in
-    ap₂ (λ a l. a ∷ l) first (same_front xs ys x y rest)
+same_front xs ys x y e = grind (arith, common_steps, gets)
 
 module _ (of : Kind → Option ℕ) (n : ℕ) where
   pub listed_only : (k : ℕ) (row : List Entry) (it : Access) → Has (listed of n k row) it
@@ -227,9 +219,7 @@ module _ (of : Kind → Option ℕ) {mark p : ℕ} (k : ℕ) {kind : Kind} {low 
 -- ---- the first behind a mark
 
 got_or : {A : Type 0} (xs : List A) (k : ℕ) (d : A) → k < length xs → slice_get xs k ≡ Some (slice_index_or xs k d)
-got_or [] k d less = absurd (omega (arith, less))
-got_or (x ∷ xs) zero d less = refl
-got_or (x ∷ xs) (suc k) d less = got_or xs k d (omega (arith, less))
+got_or xs k d less = grind (arith, common_steps, gets)
 
 pub rising_or : (xs : List Access) → IsRisingBy xs → (i j : ℕ) (d : Access) → i ≤ j
     → j < length xs → (slice_index_or xs i d).mark ≤ (slice_index_or xs j d).mark

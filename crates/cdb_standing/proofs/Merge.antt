@@ -1,4 +1,6 @@
 -- What numbers cut off, in the order of its marks.
+use Rattle.std.proofs.lemmas.Grind.{common_steps}
+use Rattle.std.proofs.lemmas.Option.{gets}
 use Rattle.std.proofs.Common.{◌≡◌, ◌≢◌, ℕ, zero, suc, ◌+◌, ◌-◌, ◌≤◌, List, [], ◌∷◌, drop, slice_get, Option}
 use Rattle.std.proofs.Common.{Some, None, inl, inr, ⊎_elim, refl, sym, ap, ◌∙◌, subst, arith}
 use Rattle.std.specs.List.Sorted.{IsNonDecreasingBy}
@@ -26,9 +28,7 @@ use Rattle.cdb_standing.proofs.Rows.{same_at, row_is, is_row, each_one_only, eac
 use Rattle.cdb_standing.proofs.SortedMarks.{IsOnce, once_none, once_one, once_append, once_each, once_each_one, sorted_rises, moved_has, moved_only, moved_once}
 
 pub drop_get : {A : Type 0} (n : ℕ) (xs : List A) (i : ℕ) → slice_get (drop n xs) i ≡ slice_get xs (n + i)
-drop_get zero xs i = let e : i ≡ 0 + i = omega arith in ap (slice_get xs) e
-drop_get (suc n) [] i = refl
-drop_get (suc n) (x ∷ xs) i = let e : suc (n + i) ≡ suc n + i = omega arith in drop_get n xs i ∙ ap (slice_get (x ∷ xs)) e
+drop_get n xs i = grind (arith, common_steps, gets)
 
 module _ {next : ℕ} {steps : List (List Entry)} {sent : List (List Sent)} (sound : IsSound next steps sent) where
   -- the event is that of the step, or the loss of a copy of what it sent

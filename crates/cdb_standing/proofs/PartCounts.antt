@@ -99,8 +99,7 @@ same_writes : (register : Reg) (e : Event) → writes_register (number_of regist
 same_writes register e = grind (arith, common_steps, gets)
 
 none_below : (q : ℕ) → cut_of [] q ≡ 0
-none_below zero = refl
-none_below (suc q) = refl
+none_below q = grind (arith, common_steps, gets)
 
 module _ (steps : List (List Entry)) (sent : List (List Sent)) (n mark : ℕ) where
   abbrev weight : Marked → ℕ

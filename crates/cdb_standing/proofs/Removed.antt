@@ -224,10 +224,7 @@ module _ {next mark p k : ℕ} {kind : Kind} {steps : List (List Entry)} {sent :
 module _ {next mark s m to : ℕ} {steps : List (List Entry)} {sent : List (List Sent)} {sent' : List (List Sent)}
     (sound : IsSound next steps sent) (lost : IsCopy sent s m to (Lost mark)) (put : IsCopySet sent s m to Waits sent') where
   copy_old : {r n q : ℕ} {c : Copied} → IsCopy sent' r n q c → c ≢ Waits → IsCopy sent r n q c × ((r ≡ s) × (n ≡ m) × (q ≡ to) → ⊥)
-  copy_old {r} {n} {q} {c} copy other = (
-    ⊎_elim (λ old. old) (λ new. absurd (other new.3)) (set_cases put copy),
-    λ e. other (same_copy copy (set_new put) e),
-  )
+  copy_old is its = grind (arith, common_steps, gets)
 
   copy_keeps : (r n q : ℕ) (c : Copied) → IsCopy sent r n q c → c ≢ Lost mark → IsCopy sent' r n q c
   copy_keeps r n q c copy other = set_keeps put copy (λ e. other (same_copy copy lost e))

@@ -1,4 +1,6 @@
 -- The whole history, and a step with its consequences, in order.
+use Rattle.std.proofs.lemmas.Grind.{common_steps}
+use Rattle.std.proofs.lemmas.Option.{gets}
 use Rattle.std.proofs.Common.{◌≡◌, ℕ, zero, suc, ◌+◌, ◌≤◌, List, [], ◌∷◌, slice_get, replicate, Some, inl, inr, refl, sym, ap, ◌∙◌, subst, arith}
 use Rattle.std.proofs.lemmas.Option.{none-some, same_Some}
 use Rattle.cdb_base.specs.Event.{event_name}
@@ -102,10 +104,7 @@ free_alone history at it one there free =
     none i (onward first link) = none _ first
 
 pub zeros : (n q : ℕ) → cut_of (replicate n 0) q ≡ 0
-zeros n zero = refl
-zeros zero (suc q) = refl
-zeros (suc n) (suc zero) = refl
-zeros (suc n) (suc (suc q)) = zeros n (suc q)
+zeros n q = grind (arith, common_steps, gets)
 
 module _ {next : ℕ} {steps : List (List Entry)} {sent : List (List Sent)} (sound : IsSound next steps sent)
     {cuts : List ℕ} {events : List Event} (ordered : AreInOrder cuts steps sent events) where
@@ -178,8 +177,7 @@ module _ {next : ℕ} {steps : List (List Entry)} {sent : List (List Sent)} (sou
 -- ---- by name
 
 from_one : (history : List Event) (at : ℕ) (name : StepId) → IsNamedAt history at name → 1 ≤ at
-from_one history zero name (it, there, is) = absurd (none-some it there)
-from_one history (suc i) name h = omega arith
+from_one history at name h = grind (arith, common_steps, gets)
 
 module _ {t : Tables} (kept : AreKept t) where
   abbrev IsRolledBackFrom : StepId → List Event → Type 0

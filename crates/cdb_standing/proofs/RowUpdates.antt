@@ -27,18 +27,13 @@ module _ {T Z : Type 0} where
   row_set_other (x ∷ xs) (suc i) v (suc (suc q)) other = row_set_other xs i v (suc q) (λ e. other (ap suc e))
 
   rows_set_length : (table : List (Vec T Z)) (i : ℕ) (v : Vec T Z) → length (rows_in (set table i v)) ≡ length (rows_in table)
-  rows_set_length [] i v = refl
-  rows_set_length (x ∷ xs) zero v = refl
-  rows_set_length (x ∷ xs) (suc i) v = ap suc (rows_set_length xs i v)
+  rows_set_length table i v = grind (arith, common_steps, gets)
 
   pub rows_length : (table : List (Vec T Z)) → length (rows_in table) ≡ length table
-  rows_length [] = refl
-  rows_length (x ∷ xs) = ap suc (rows_length xs)
+  rows_length table = grind (arith, common_steps, gets)
 
   pub row_at : (table : List (Vec T Z)) (i : ℕ) (v : Vec T Z) → i < length table → v ≡ slice_index_or table i v → row_of (rows_in table) (suc i) ≡ v.items
-  row_at [] i v less is = absurd (omega (arith, less))
-  row_at (x ∷ xs) zero v less is = ap (λ (u : Vec T Z). u.items) (sym is)
-  row_at (x ∷ xs) (suc i) v less is = row_at xs i v (omega (arith, less)) is
+  row_at table i v less is = grind (arith, common_steps, gets)
 
   pub rows_same : (table : List (Vec T Z)) (i : ℕ) (v w : Vec T Z) → i < length table
       → v ≡ slice_index_or table i v → w.items ≡ v.items → rows_in (set table i w) ≡ rows_in table
@@ -47,19 +42,13 @@ module _ {T Z : Type 0} where
   rows_same (x ∷ xs) (suc i) v w less is same = ap (λ l. x.items ∷ l) (rows_same xs i v w (omega (arith, less)) is same)
 
   pub row_within : (table : List (Vec T Z)) (i : ℕ) → 0 < length (row_of (rows_in table) (suc i)) → i < length table
-  row_within [] i more = absurd (omega (arith, more))
-  row_within (x ∷ xs) zero more = omega arith
-  row_within (x ∷ xs) (suc i) more = let less = row_within xs i more in omega (arith, less)
+  row_within table i more = grind (arith, common_steps, gets)
 
   pub room_within : (table : List (Vec T Z)) (i : ℕ) (v : Vec T Z) → slice_get table i ≡ Some v → i < length table
-  room_within [] i v at = absurd (none-some v at)
-  room_within (x ∷ xs) zero v at = omega arith
-  room_within (x ∷ xs) (suc i) v at = let less = room_within xs i v at in omega (arith, less)
+  room_within table i v at = grind (arith, common_steps, gets)
 
   set_at : (table : List (Vec T Z)) (i : ℕ) (v : Vec T Z) → i < length table → slice_get (set table i v) i ≡ Some v
-  set_at [] i v less = absurd (omega (arith, less))
-  set_at (x ∷ xs) zero v less = refl
-  set_at (x ∷ xs) (suc i) v less = set_at xs i v (omega (arith, less))
+  set_at table i v less = grind (arith, common_steps, gets)
 
   pub room_made : (table : List (Vec T Z)) (i : ℕ) (v : Vec T Z) → i < length table → vec_len v < vec_capacity v → HasRoomIn (set table i v) i
   room_made table i v less room = record { row = v; at = set_at table i v less; room = room }
@@ -101,8 +90,7 @@ got xs k x less is = grind (arith, common_steps, gets)
 
 pub looked_up : {A : Type 0} (o : Option (Bor A)) (xs : List A) (k : ℕ)
     → MatchOption o (length xs ≤ k) (λ x. (k < length xs) × HoldsAt (λ y. x.now ≡ y) xs k) → option_copied o ≡ slice_get xs k
-looked_up None xs k past = sym (slice_get_past xs k past)
-looked_up (Some x) xs k at = sym (got xs k x.now at.0 (at.1 x.now))
+looked_up o xs k past = grind (arith, common_steps, gets)
 
 -- ---- a list with one item set
 
