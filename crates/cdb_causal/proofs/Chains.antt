@@ -23,7 +23,7 @@ module _ {E : Type 0} where
   in_back (c ∷ cs) cause event e = there (in_back cs cause event e)
 
   in_one : (cause event : E) → IsIn cause (event ∷ []) → cause ≡ event
-  in_one cause event here = grind (arith, common_steps, gets)
+  in_one cause event is = grind (arith, common_steps, gets)
 
   in_push : (causes : List E) (cause event : E) → IsIn cause (causes ++ event ∷ []) → IsIn cause causes ⊎ (cause ≡ event)
   in_push [] cause event i = inr (in_one cause event i)
