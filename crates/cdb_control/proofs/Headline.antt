@@ -1,21 +1,18 @@
 -- The headline holds of every journal.
 use Rattle.std.proofs.lemmas.Grind.{common_steps}
 use Rattle.std.proofs.lemmas.Option.{gets}
-use Rattle.std.proofs.Common.{◌≡◌, ◌⊎◌, ⊎_elim, ℕ, suc, ◌-◌, ◌<◌, ◌≤◌, Bool, true, false, not, List, [], ◌∷◌, ◌++◌, length}
-use Rattle.std.proofs.Common.{reverse, get_or, Option, Some, None, Result, Ok, Err, IsTrue, nat_eq, nat_le}
-use Rattle.std.proofs.Common.{is_some, refl, sym, ap, ◌∙◌, subst, arith, append-nil, append_assoc}
+use Rattle.std.proofs.Common.{◌≡◌, ◌⊎◌, ⊎_elim, ℕ, suc, ◌-◌, ◌<◌, ◌≤◌, List, [], ◌∷◌, ◌++◌, length}
+use Rattle.std.proofs.Common.{reverse, get_or, Some, Result, Ok, Err, IsTrue}
+use Rattle.std.proofs.Common.{refl, sym, ap, ◌∙◌, subst, arith, append-nil, append_assoc}
 use Rattle.std.specs.List.{AllByRecursion}
-use Rattle.std.specs.Map.{lookup}
 use Rattle.std.proofs.lemmas.List.{get_or-set_same, length-replicate, length-reverse, reverse-append}
 use Rattle.cdb_base.specs.Event.{event_name}
 use Rattle.cdb_base.specs.Positions.{nth, without_last}
-use Rattle.cdb_base.specs.declared.act.Act.{Act}
 use Rattle.cdb_base.specs.declared.event.Event.{Event}
 use Rattle.cdb_base.specs.declared.name.StepId.{StepId}
 use Rattle.cdb_base.specs.declared.name.StepId.TheVariants as id
 use Rattle.cdb_base.specs.declared.refusal.Refusal.{Refusal}
-use Rattle.cdb_base.specs.declared.refusal.Refusal.TheVariants.{NoProcess, NothingToRedo, NoBreak, BreakLimit, NeededBy}
-use Rattle.cdb_base.specs.Limits.{MAX_BREAKPOINTS}
+use Rattle.cdb_base.specs.declared.refusal.Refusal.TheVariants.{NeededBy}
 use Rattle.cdb_causal.specs.Causality.{IsFree}
 use Rattle.cdb_causal.specs.Dependence.{depends}
 use Rattle.cdb_causal.specs.Exchange.{IsExchanged}
@@ -27,169 +24,102 @@ use Rattle.cdb_causal.proofs.Exchanges.{free_to_end, rollback_to_end}
 use Rattle.cdb_causal.proofs.Lists.{push_back}
 use Rattle.cdb_commands.specs.ReplyView.{ReplyView}
 use Rattle.cdb_commands.specs.ReplyView as reply
-use Rattle.cdb_control.specs.Auto.{choice}
-use Rattle.cdb_control.specs.Commands.{Outcome, refused, unless, granted, found, unpaused, step_done, step, lost}
-use Rattle.cdb_control.specs.Commands.{undone_by, undo, rollback, why, redone, show, outcome, reply_of, obey}
+use Rattle.cdb_control.specs.Commands.{Outcome, refused, granted, step}
+use Rattle.cdb_control.specs.Commands.{undone_by, undo, rollback, why, redone, outcome, reply_of, obey}
 use Rattle.cdb_control.specs.Headline.{undoing, rolling_back, SaysTaken, SaysRedone, IsUndoneWhereFree, IsUndoneNext}
 use Rattle.cdb_control.specs.Headline.{RedosLeadBack, IsRolledBackAndForth, HoldsAt, Headline}
 use Rattle.cdb_control.specs.Journal.{replay_from, replay, AreOfSeats}
 use Rattle.cdb_control.specs.Kept.{IsReplayed, AreOfRun}
-use Rattle.cdb_rules.specs.EventRefs.{name_given}
 use Rattle.cdb_control.specs.State.{State, first_control_state, redo_of, last_of}
-use Rattle.cdb_control.specs.Stops.{names_none_of}
 use Rattle.cdb_commands.specs.declared.command.Command.{Command}
-use Rattle.cdb_commands.specs.declared.command.Command.TheVariants.{Step, Auto, Lose, Undo, UndoLost, Redo, Forget, Rollback, RollbackLost}
-use Rattle.cdb_commands.specs.declared.command.Command.TheVariants.{Why, WhyLost, Break, Unbreak, Resume, Show, Decisions}
-use Rattle.cdb_commands.specs.declared.command.View.{View}
-use Rattle.cdb_commands.specs.declared.command.View.TheVariants as view
+use Rattle.cdb_commands.specs.declared.command.Command.TheVariants.{Redo}
+use Rattle.cdb_commands.specs.declared.command.Command.TheVariants.{Decisions}
 use Rattle.cdb_control.specs.declared.control.Entry.{Entry}
-use Rattle.cdb_rules.specs.declared.event_ref.EventRef.TheVariants as named
 use Rattle.cdb_rules.proofs.Alls.{all-get_or, all-replicate, all-slice_get}
 use Rattle.cdb_control.proofs.FirstDependent.{free_or_needed}
+use Rattle.cdb_control.proofs.Outcomes.{of_command, TakesNone, undone_to, rolled_to}
+use Rattle.cdb_control.proofs.Refused.{leaves}
 use Rattle.cdb_control.proofs.Table.{obey-adds}
-use Rattle.cdb_message.specs.Mail.{message_name}
 use Rattle.cdb_rules.specs.Agreement.{AllAgree, AreProposed, HasMajorityIfNeeded}
 use Rattle.cdb_rules.specs.Lawful.{AreLawful, KeepHistories}
 use Rattle.cdb_rules.specs.Refusals.{IsOfRun}
 use Rattle.cdb_rules.specs.Rules.{Rules}
-use Rattle.cdb_rules.specs.Undo.{undo_of, rollback_of, causes_of}
+use Rattle.cdb_rules.specs.Undo.{undo_of, rollback_of}
 use Rattle.cdb_rules.proofs.WhereOk.{undone_free, rolled_back_where_ok}
 use Rattle.cdb_rules.proofs.NamesFound.{stands_from_one}
 use Rattle.cdb_rules.proofs.AllStanding.{free_undone, needed_refused, standing_rolled_back}
 use Rattle.cdb_setup.specs.Parts.{Parts, IsWithin, AreInRange}
 
+-- what is undone could as well have come last
+undone_exchanged : (n : ℕ) (history : List Event) (name : StepId) (done : Event × List Event) → undo_of n history name ≡ Ok done
+    → IsExchanged depends history (done.1 ++ done.0 ∷ [])
+undone_exchanged n history name done is =
+    let u = undone_free n history name done.0 done.1 is in
+    subst (λ (l : List Event). IsExchanged depends history (l ++ done.0 ∷ [])) (sym u.4) (free_to_end depends history u.0 done.0 u.2 u.3)
+
 -- ---- what one command does to a valid history
 
 module _ (rules : Rules) (SameState : List Event → List Event → Type 0) (t : State) (lawful : AreLawful rules t.setup)
     (keeps : KeepHistories rules SameState t.setup) (of_run : AreOfRun t) (valid : IsTrue (rules.valid t.history)) where
-  -- the history stays valid, the setup stays, and an event that the reply tells as taken is one more event at the end
+  -- the history stays valid, and an event that the reply tells as taken is one more event at the end
   pub record Keeps (o : Outcome) : Type 0 where
     pub valid_after : IsTrue (rules.valid o.after.history)
-    pub setup : o.after.setup ≡ t.setup
     pub taken : (event : Event) → SaysTaken o.reply event → o.after.history ≡ t.history ++ event ∷ []
 
   -- nothing is taken, and the history stays
-  quiet : (o : Outcome) → o.after.history ≡ t.history → o.after.setup ≡ t.setup → ((event : Event) → SaysTaken o.reply event → ⊥) → Keeps o
-  quiet o same setup none =
+  quiet : (o : Outcome) → o.after.history ≡ t.history → TakesNone o.reply → Keeps o
+  quiet o same none =
       record {
         valid_after = subst (λ (h : List Event). IsTrue (rules.valid h)) (sym same) valid;
-        setup = setup;
         taken = λ event says. absurd (none event says);
       }
 
-  refused-keeps : (why : Refusal) → Keeps (refused t why)
-  refused-keeps why = quiet (refused t why) refl refl (λ event says. says)
-
-  unless-keeps : (b : Bool) (why : Refusal) (go : Outcome) → Keeps go → Keeps (unless b why t go)
-  unless-keeps true why go h = refused-keeps why
-  unless-keeps false why go h = h
-
-  granted-keeps : {A : Type 0} (x : Result A Refusal) (go : A → Outcome) → ((a : A) → x ≡ Ok a → Keeps (go a)) → Keeps (granted x t go)
-  granted-keeps (Ok a) go h = h a refl
-  granted-keeps (Err why) go h = refused-keeps why
-
-  found-keeps : {A : Type 0} (x : Option A) (why : Refusal) (go : A → Outcome) → ((a : A) → x ≡ Some a → Keeps (go a)) → Keeps (found x why t go)
-  found-keeps (Some a) why go h = h a refl
-  found-keeps None why go h = refused-keeps why
-
-  unpaused-keeps : (x : Option ℕ) (go : Outcome) → Keeps go → Keeps (unpaused x t go)
-  unpaused-keeps (Some b) go h = refused-keeps _
-  unpaused-keeps None go h = h
-
   -- one event more
   one_more : (e : Event) (o : Outcome) → IsTrue (rules.valid (t.history ++ e ∷ [])) → o.after.history ≡ t.history ++ e ∷ []
-      → o.after.setup ≡ t.setup → ((event : Event) → SaysTaken o.reply event → e ≡ event) → Keeps o
-  one_more e o longer is setup says =
+      → ((event : Event) → SaysTaken o.reply event → e ≡ event) → Keeps o
+  one_more e o longer is says =
       record {
         valid_after = subst (λ (h : List Event). IsTrue (rules.valid h)) (sym is) longer;
-        setup = setup;
         taken = λ event said. is ∙ ap (λ (x : Event). t.history ++ x ∷ []) (says event said);
       }
 
-  step-keeps : (p : ℕ) (act : Act) → Keeps (step rules t p act)
-  step-keeps p act =
-      granted-keeps (rules.step t.history p act) (step_done rules t p)
-      (λ e h. one_more e (step_done rules t p e) (keeps.step t.history valid p act e h) refl refl (λ event said. said))
+  -- those that are left, where the others could as well have come last
+  left_valid : (left gone : List Event) → IsExchanged depends t.history (left ++ gone) → IsTrue (rules.valid left)
+  left_valid left gone exchanged = keeps.beginning left gone (keeps.exchanged t.history (left ++ gone) exchanged valid)
 
-  undo-keeps : (seat : ℕ) (name : StepId) → Keeps (undo t seat name)
-  undo-keeps seat name =
-      granted-keeps (undo_of t.setup.processes t.history name) _
-      (λ undone h.
-      let u = undone_free t.setup.processes t.history name undone.0 undone.1 h in
-      let longer = keeps.exchanged t.history (without t.history u.0 ++ undone.0 ∷ []) (free_to_end depends t.history u.0 undone.0 u.2 u.3) valid in
-      record {
-        valid_after = subst (λ (l : List Event). IsTrue (rules.valid l)) (sym u.4) (keeps.beginning (without t.history u.0) (undone.0 ∷ []) longer);
-        setup = refl;
-        taken = λ event says. absurd says;
-      })
-
-  rollback-keeps : (seat : ℕ) (name : StepId) → Keeps (rollback t seat name)
-  rollback-keeps seat name =
-      granted-keeps (rollback_of t.setup.processes t.history name) _
-      (λ removed h.
-      let u = rolled_back_where_ok t.setup.processes t.history name removed.0 removed.1 h in
-      let again : List Event = remaining depends t.history u.0 ++ rolled_back depends t.history u.0 in
-      let longer = keeps.exchanged t.history again (rollback_to_end depends t.history u.0) valid in
-      record {
-        valid_after =
-            subst (λ (l : List Event). IsTrue (rules.valid l)) (sym u.5)
-            (keeps.beginning (remaining depends t.history u.0) (rolled_back depends t.history u.0) longer);
-        setup = refl;
-        taken = λ event says. absurd says;
-      })
-
-  redo-keeps : (seat : ℕ) → Keeps (outcome rules t seat Redo)
-  unfolding outcome
-  redo-keeps seat =
-      found-keeps (last_of (redo_of t seat)) NothingToRedo _
-      (λ e last. granted-keeps (rules.again t.history e) (redone rules t seat)
-      (λ taken h.
-      let same = lawful.again t.history e taken h in
+  again_valid : (seat : ℕ) (e taken : Event) → last_of (redo_of t seat) ≡ Some e → rules.again t.history e ≡ Ok taken
+      → IsTrue (rules.valid (t.history ++ taken ∷ []))
+  again_valid seat e taken last is =
+      let same = lawful.again t.history e taken is in
       let waits = all-slice_get (IsOfRun t.setup) (redo_of t seat) _ e (all-get_or (AllByRecursion (IsOfRun t.setup)) t.redo (seat - 1) [] of_run.1 tt) last in
-      let again = subst (λ (x : Event). rules.again t.history e ≡ Ok x) same h in
-      let longer = subst (λ (x : Event). IsTrue (rules.valid (t.history ++ x ∷ []))) (sym same) (keeps.again t.history valid e waits again) in
-      one_more taken (redone rules t seat taken) longer refl refl (λ event said. said)))
-
-  why-keeps : (name : StepId) → Keeps (why t name)
-  why-keeps name = granted-keeps (causes_of t.setup.processes t.history name) _ (λ causes h. quiet _ refl refl (λ event says. says))
-
-  show-keeps : (v : View) → Keeps (show rules t v)
-  show-keeps (view.Proc p) = found-keeps (rules.process t.history p) NoProcess _ (λ process h. quiet _ refl refl (λ event says. says))
-  show-keeps view.Regs = quiet _ refl refl (λ event says. says)
-  show-keeps view.Mail = quiet _ refl refl (λ event says. says)
-  show-keeps view.History = quiet _ refl refl (λ event says. says)
+      let again = subst (λ (x : Event). rules.again t.history e ≡ Ok x) same is in
+      subst (λ (x : Event). IsTrue (rules.valid (t.history ++ x ∷ []))) (sym same) (keeps.again t.history valid e waits again)
 
   pub obeyed-keeps : (seat : ℕ) (command : Command) → Keeps (outcome rules t seat command)
-  unfolding outcome
-  obeyed-keeps seat (Step p act) = step-keeps p act
-  obeyed-keeps seat (Auto p) = granted-keeps (choice rules t.history p) _ (λ act h. unpaused-keeps t.pause _ (step-keeps p act))
-  obeyed-keeps seat (Lose s m p) =
-      granted-keeps (rules.lose t.history (message_name s m) p) (lost t)
-      (λ e h. one_more e (lost t e) (keeps.lose t.history valid (message_name s m) p e h) refl refl (λ event said. said))
-  obeyed-keeps seat (Undo p k) = undo-keeps seat (name_given (named.Step p k))
-  obeyed-keeps seat (UndoLost s m p) = undo-keeps seat (name_given (named.Lost s m p))
-  obeyed-keeps seat Redo = redo-keeps seat
-  obeyed-keeps seat Forget = quiet _ refl refl (λ event says. says)
-  obeyed-keeps seat (Rollback p k) = rollback-keeps seat (name_given (named.Step p k))
-  obeyed-keeps seat (RollbackLost s m p) = rollback-keeps seat (name_given (named.Lost s m p))
-  obeyed-keeps seat (Why p k) = why-keeps (name_given (named.Step p k))
-  obeyed-keeps seat (WhyLost s m p) = why-keeps (name_given (named.Lost s m p))
-  obeyed-keeps seat (Break stop) =
-      unless-keeps (names_none_of t.setup.processes stop) NoProcess _
-      (unless-keeps (nat_le MAX_BREAKPOINTS (length t.stops)) BreakLimit _ (quiet _ refl refl (λ event says. says)))
-  obeyed-keeps seat (Unbreak number) =
-      unless-keeps (not (is_some (lookup (nat_eq number) t.stops))) NoBreak _ (quiet _ refl refl (λ event says. says))
-  obeyed-keeps seat Resume = quiet _ refl refl (λ event says. says)
-  obeyed-keeps seat (Show v) = show-keeps v
-  obeyed-keeps seat Decisions = quiet _ refl refl (λ event says. says)
+  obeyed-keeps seat command =
+      of_command rules t seat Keeps command
+      (record {
+        replied = λ said none one. quiet _ refl none;
+        break_set = λ stop. quiet _ refl (λ event says. says);
+        break_gone = λ number. quiet _ refl (λ event says. says);
+        resumed = quiet _ refl (λ event says. says);
+      })
+      (λ acts. record {
+        step_done = λ p act e is. one_more e _ (keeps.step t.history valid p act e is) refl (λ event said. said);
+        lost = λ name p e is. one_more e _ (keeps.lose t.history valid name p e is) refl (λ event said. said);
+        undone = λ name done is.
+            let exchanged = undone_exchanged t.setup.processes t.history name done is in
+            record { valid_after = left_valid done.1 (done.0 ∷ []) exchanged; taken = λ event says. absurd says };
+        rolled_back = λ name removed is.
+            let u = rolled_back_where_ok t.setup.processes t.history name removed.0 removed.1 is in
+            let gone = rolled_back depends t.history u.0 in
+            let exchanged = subst (λ (l : List Event). IsExchanged depends t.history (l ++ gone)) (sym u.5) (rollback_to_end depends t.history u.0) in
+            record { valid_after = left_valid removed.1 gone exchanged; taken = λ event says. absurd says };
+        redone = λ e taken last is. one_more taken _ (again_valid seat e taken last is) refl (λ event said. said);
+        forgot = quiet _ refl (λ event says. says);
+      })
 
 -- ---- the commands that undo, roll back and redo
-
-abbrev undone_to : State → ℕ → Event × List Event → Outcome
-undone_to t seat done = record { reply = reply.Undone done.0; after = undone_by t seat (done.0 ∷ []) done.1 }
-
-abbrev rolled_to : State → ℕ → List Event × List Event → Outcome
-rolled_to t seat removed = record { reply = reply.RolledBack (length removed.0); after = undone_by t seat removed.0 removed.1 }
 
 undoing-is : (rules : Rules) (t : State) (seat : ℕ) (name : StepId) → outcome rules t seat (undoing name) ≡ undo t seat name
 unfolding outcome
@@ -335,7 +265,7 @@ module _ (rules : Rules) (SameState : List Event → List Event → Type 0) (t :
   then_undone seat command event says other =
       let kept = obeyed-keeps rules SameState t lawful keeps of_run valid seat command in
       undone_last rules SameState t (obey rules t seat command) event other
-      (subst (KeepHistories rules SameState) (sym kept.setup) keeps) kept.valid_after (kept.taken event says)
+      (subst (KeepHistories rules SameState) (sym (leaves rules t seat command).setup) keeps) kept.valid_after (kept.taken event says)
 
   module _ (seat : ℕ) (low : seat - 1 < length t.redo) where
     list_after : (events history : List Event) → redo_of (undone_by t seat events history) seat ≡ redo_of t seat ++ events
@@ -359,9 +289,7 @@ module _ (rules : Rules) (SameState : List Event → List Event → Type 0) (t :
         go (Ok done) is =
             let out = undone-is rules t seat name (Ok done) is in
             let same = same_undone done.0 event (sym (ap (λ (o : Outcome). o.reply) out) ∙ said) in
-            let u = undone_free t.setup.processes t.history name done.0 done.1 is in
-            let exchanged =
-            subst (λ (l : List Event). IsExchanged depends t.history (l ++ done.0 ∷ [])) (sym u.4) (free_to_end depends t.history u.0 done.0 u.2 u.3) in
+            let exchanged = undone_exchanged t.setup.processes t.history name done is in
             redone_after (event ∷ []) done.1 (obey rules t seat (undoing name))
             (subst (λ (e : Event). IsExchanged depends t.history (done.1 ++ e ∷ [])) same exchanged)
             (ap (λ (o : Outcome). o.after) out ∙ ap (λ (e : Event). undone_by t seat (e ∷ []) done.1) same)
@@ -432,7 +360,7 @@ module _ (rules : Rules) (SameState : List Event → List Event → Type 0) (set
       let adds = obey-adds rules t lawful_here e.seat e.command among.0 (omega (arith, high, lists)) in
       let kept = obeyed-keeps rules SameState t lawful_here keeps_here sound.of_run sound.valid e.seat e.command in
       record {
-        setup_is = kept.setup ∙ sound.setup_is;
+        setup_is = adds.setup ∙ sound.setup_is;
         lists = adds.lists ∙ sound.lists;
         of_run = adds.of_run sound.of_run;
         valid = kept.valid_after;

@@ -20,7 +20,7 @@ use Rattle.cdb_commands.specs.declared.command.Stop.{Stop}
 use Rattle.cdb_control.specs.declared.control.Entry.{Entry}
 use Rattle.cdb_control.specs.declared.stops.TakenStep.{TakenStep}
 use Rattle.cdb_control.proofs.Numbers.{AreNumbered, AreRising}
-use Rattle.cdb_control.proofs.Refused.{numbers_stay, numbers_rise, next_number_used, state_extended}
+use Rattle.cdb_control.proofs.Refused.{leaves, next_number_used, state_extended}
 use Rattle.cdb_rules.specs.Rules.{Rules}
 use Rattle.cdb_setup.specs.Parts.{Parts}
 
@@ -68,7 +68,7 @@ module _ (taken : TakenStep) where
 module _ (rules : Rules) where
   numbered_from : (journal : List Entry) (t : State) → AreNumbered t.next t.stops → let now = replay_from rules t journal in AreNumbered now.next now.stops
   numbered_from [] t all = all
-  numbered_from (e ∷ es) t all = numbered_from es (obey rules t e.seat e.command) (numbers_stay rules t e.seat e.command all)
+  numbered_from (e ∷ es) t all = numbered_from es (obey rules t e.seat e.command) ((leaves rules t e.seat e.command).stops all)
 
   pub numbered : (setup : Parts) (seats : ℕ) (journal : List Entry) → let now = replay rules setup seats journal in AreNumbered now.next now.stops
   unfolding replay
@@ -110,7 +110,7 @@ uses_numbers_once rules old seat command is same =
     let before = control_state rules old in
     let after = ap (control_state rules) is ∙ state_extended rules old seat command in (
       (numbered by old.setup old.seats old.journal).0,
-      rw after (numbers_rise by before seat command),
+      rw after (leaves by before seat command).numbers,
       λ stop number gives set.
           let used = next_number_used by before seat stop number (ap (reply_of by before seat) (sym gives) ∙ sym same ∙ set) in
           (used.0, ap (λ (t : State). t.next) after ∙ ap (λ c. (obey by before seat c).next) gives ∙ used.1),

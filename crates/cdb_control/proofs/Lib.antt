@@ -1,4 +1,5 @@
 pub mod Numbers
+pub mod Outcomes
 pub mod Held
 pub mod Table
 pub mod Room

@@ -1,35 +1,19 @@
 -- What commands do to room and to redo lists in memory.
 use Rattle.std.proofs.lemmas.Grind.{common_steps}
 use Rattle.std.proofs.lemmas.Option.{gets}
-use Rattle.std.proofs.Common.{◌≡◌, ◌≢◌, ℕ, zero, suc, ◌+◌, ◌-◌, ◌<◌, ◌≤◌, max, Bool, true, false, not, List, [], ◌∷◌, ◌++◌, length, map, set, get_or}
-use Rattle.std.proofs.Common.{replicate, Option, Some, None, Result, Ok, Err, refl, sym, ap, ◌∙◌, subst, arith, length-append, nat_eq, nat_le, is_some}
-use Rattle.std.specs.Map.{lookup}
+use Rattle.std.proofs.Common.{◌≡◌, ◌≢◌, ℕ, zero, suc, ◌+◌, ◌-◌, ◌<◌, ◌≤◌, max, List, [], ◌∷◌, length, map, set, get_or}
+use Rattle.std.proofs.Common.{replicate, refl, sym, ap, ◌∙◌, subst, arith, length-append}
 use Rattle.std.proofs.lemmas.List.{length-set, length-map, length-take, length-replicate, get_or-map, map-set, get_or-set_same, get_or-set_other}
-use Rattle.cdb_base.specs.Positions.{without_last}
-use Rattle.cdb_base.specs.declared.act.Act.{Act}
 use Rattle.cdb_base.specs.declared.event.Event.{Event}
-use Rattle.cdb_base.specs.declared.name.StepId.{StepId}
-use Rattle.cdb_base.specs.declared.refusal.Refusal.{Refusal}
-use Rattle.cdb_base.specs.declared.refusal.Refusal.TheVariants.{NoProcess, NothingToRedo, NoBreak, BreakLimit}
-use Rattle.cdb_base.specs.Limits.{MAX_BREAKPOINTS}
-use Rattle.cdb_control.specs.Auto.{choice}
-use Rattle.cdb_control.specs.Commands.{Outcome, unless, granted, found, unpaused, step_done, step, lost, undo, rollback, why, redone, show, outcome}
+use Rattle.cdb_control.specs.Commands.{Outcome, outcome}
 use Rattle.cdb_control.specs.Done.{NoneShrinks}
-use Rattle.cdb_rules.specs.EventRefs.{name_given}
 use Rattle.cdb_rules.proofs.Removed.{removed-one}
 use Rattle.cdb_control.specs.Room.{StoredList, StoredState, cost, room_of, lowered, raised}
 use Rattle.cdb_control.specs.Kept.{HoldsRooms, rooms_at}
-use Rattle.cdb_control.specs.State.{State, redo_of, last_of}
-use Rattle.cdb_control.specs.Stops.{names_none_of}
+use Rattle.cdb_control.proofs.Outcomes.{of_command}
+use Rattle.cdb_control.specs.State.{State, redo_of}
 use Rattle.cdb_commands.specs.declared.command.Command.{Command}
-use Rattle.cdb_commands.specs.declared.command.Command.TheVariants.{Step, Auto, Lose, Undo, UndoLost, Redo, Forget, Rollback, RollbackLost}
-use Rattle.cdb_commands.specs.declared.command.Command.TheVariants.{Why, WhyLost, Break, Unbreak, Resume, Show, Decisions}
-use Rattle.cdb_commands.specs.declared.command.View.{View}
-use Rattle.cdb_commands.specs.declared.command.View.TheVariants as view
-use Rattle.cdb_rules.specs.declared.event_ref.EventRef.TheVariants as named
-use Rattle.cdb_message.specs.Mail.{message_name}
 use Rattle.cdb_rules.specs.Rules.{Rules}
-use Rattle.cdb_rules.specs.Undo.{undo_of, rollback_of, causes_of}
 
 -- ---- lists of redo lists
 
@@ -131,29 +115,6 @@ kept seat t o same one =
       others = λ i apart. ap (λ (lists : List (List Event)). get_or lists i []) same;
     }
 
-unless-kept : (seat : ℕ) (b : Bool) (r : Refusal) (t : State) (go : Outcome) → Spends seat t go → Spends seat t (unless b r t go)
-unless-kept seat true r t go h = kept seat t _ refl (omega arith)
-unless-kept seat false r t go h = h
-
-granted-kept : (seat : ℕ) {A : Type 0} (x : Result A Refusal) (t : State) (go : A → Outcome) → ((a : A) → Spends seat t (go a)) → Spends seat t (granted x t go)
-granted-kept seat (Ok a) t go h = h a
-granted-kept seat (Err r) t go h = kept seat t _ refl (omega arith)
-
--- the same where what is granted is known
-granted-where : (seat : ℕ) {A : Type 0} (x : Result A Refusal) (t : State) (go : A → Outcome)
-    → ((a : A) → x ≡ Ok a → Spends seat t (go a)) → Spends seat t (granted x t go)
-granted-where seat (Ok a) t go h = h a refl
-granted-where seat (Err r) t go h = kept seat t _ refl (omega arith)
-
-found-kept : (seat : ℕ) {A : Type 0} (x : Option A) (r : Refusal) (t : State) (go : A → Outcome)
-    → ((a : A) → Spends seat t (go a)) → Spends seat t (found x r t go)
-found-kept seat (Some a) r t go h = h a
-found-kept seat None r t go h = kept seat t _ refl (omega arith)
-
-unpaused-kept : (seat : ℕ) (x : Option ℕ) (t : State) (go : Outcome) → Spends seat t go → Spends seat t (unpaused x t go)
-unpaused-kept seat (Some b) t go h = kept seat t _ refl (omega arith)
-unpaused-kept seat None t go h = h
-
 module _ (rules : Rules) (t : State) (seat : ℕ) (low : seat - 1 < length t.redo) where
   -- the seat's list is another, no longer than it was by more than what the command takes
   becomes : (o : Outcome) (events : List Event) → o.after.redo ≡ set t.redo (seat - 1) events
@@ -168,60 +129,24 @@ module _ (rules : Rules) (t : State) (seat : ℕ) (low : seat - 1 < length t.red
         others = λ i apart. ap (λ (lists : List (List Event)). get_or lists i []) is ∙ get_or-set_other t.redo (seat - 1) i events [] apart;
       }
 
-  undo-spends : (name : StepId) → Spends seat t (undo t seat name)
-  undo-spends name =
-      granted-kept seat (undo_of t.setup.processes t.history name) t _
-      (λ undone. becomes _ (redo_of t seat ++ undone.0 ∷ []) refl (omega (arith, length-append (redo_of t seat) (undone.0 ∷ []))) (omega arith))
-
-  rollback-spends : (name : StepId) → Spends seat t (rollback t seat name)
-  rollback-spends name =
-      granted-where seat (rollback_of t.setup.processes t.history name) t _
-      (λ removed is. becomes _ (redo_of t seat ++ removed.0) refl (omega (arith, length-append (redo_of t seat) removed.0))
-      (removed-one t.setup.processes t.history name removed is))
-
-  redo-spends : Spends seat t (outcome rules t seat Redo)
-  unfolding outcome
-  redo-spends =
-      found-kept seat (last_of (redo_of t seat)) NothingToRedo t _
-      (λ e. granted-kept seat (rules.again t.history e) t (redone rules t seat)
-      (λ taken. becomes _ (without_last (redo_of t seat)) refl (omega (arith, length-take (length (redo_of t seat) - 1) (redo_of t seat))) (omega arith)))
-
-  forget-spends : Spends seat t (outcome rules t seat Forget)
-  unfolding outcome
-  forget-spends = becomes _ [] refl (omega arith) (omega arith)
-
-  why-spends : (name : StepId) → Spends seat t (why t name)
-  why-spends name = granted-kept seat (causes_of t.setup.processes t.history name) t _ (λ causes. kept seat t _ refl (omega arith))
-
-  show-spends : (v : View) → Spends seat t (show rules t v)
-  show-spends (view.Proc p) = found-kept seat (rules.process t.history p) NoProcess t _ (λ process. kept seat t _ refl (omega arith))
-  show-spends view.Regs = kept seat t _ refl (omega arith)
-  show-spends view.Mail = kept seat t _ refl (omega arith)
-  show-spends view.History = kept seat t _ refl (omega arith)
-
-  step-spends : (p : ℕ) (act : Act) → Spends seat t (step rules t p act)
-  step-spends p act = granted-kept seat (rules.step t.history p act) t (step_done rules t p) (λ e. kept seat t _ refl (omega arith))
-
   pub spends : (command : Command) → Spends seat t (outcome rules t seat command)
-  unfolding outcome
-  spends (Step p act) = step-spends p act
-  spends (Auto p) = granted-kept seat (choice rules t.history p) t _ (λ act. unpaused-kept seat t.pause t _ (step-spends p act))
-  spends (Lose s m p) = granted-kept seat (rules.lose t.history (message_name s m) p) t (lost t) (λ e. kept seat t _ refl (omega arith))
-  spends (Undo p k) = undo-spends (name_given (named.Step p k))
-  spends (UndoLost s m p) = undo-spends (name_given (named.Lost s m p))
-  spends Redo = redo-spends
-  spends Forget = forget-spends
-  spends (Rollback p k) = rollback-spends (name_given (named.Step p k))
-  spends (RollbackLost s m p) = rollback-spends (name_given (named.Lost s m p))
-  spends (Why p k) = why-spends (name_given (named.Step p k))
-  spends (WhyLost s m p) = why-spends (name_given (named.Lost s m p))
-  spends (Break stop) =
-      unless-kept seat (names_none_of t.setup.processes stop) NoProcess t _
-      (unless-kept seat (nat_le MAX_BREAKPOINTS (length t.stops)) BreakLimit t _ (kept seat t _ refl (omega arith)))
-  spends (Unbreak number) = unless-kept seat (not (is_some (lookup (nat_eq number) t.stops))) NoBreak t _ (kept seat t _ refl (omega arith))
-  spends Resume = kept seat t _ refl (omega arith)
-  spends (Show v) = show-spends v
-  spends Decisions = kept seat t _ refl (omega arith)
+  spends command =
+      of_command rules t seat (Spends seat t) command
+      (record {
+        replied = λ said none one. kept seat t _ refl (omega (arith, one));
+        break_set = λ stop. kept seat t _ refl (omega arith);
+        break_gone = λ number. kept seat t _ refl (omega arith);
+        resumed = kept seat t _ refl (omega arith);
+      })
+      (λ acts. record {
+        step_done = λ p act e is. kept seat t _ refl (omega arith);
+        lost = λ name p e is. kept seat t _ refl (omega arith);
+        undone = λ name done is. becomes _ _ refl (omega (arith, length-append (redo_of t seat) (done.0 ∷ []))) (omega arith);
+        rolled_back = λ name removed is. becomes _ _ refl (omega (arith, length-append (redo_of t seat) removed.0))
+            (removed-one t.setup.processes t.history name removed is);
+        redone = λ e taken last is. becomes _ _ refl (omega (arith, length-take (length (redo_of t seat) - 1) (redo_of t seat))) (omega arith);
+        forgot = becomes _ [] refl (omega arith) (omega arith);
+      })
 
 -- ---- what is promised stays in memory
 
