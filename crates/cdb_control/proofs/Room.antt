@@ -35,11 +35,12 @@ pub record Swap (t : StoredState) (lists : List StoredList) (seat : ℕ) (old ne
   pub placed : get_or (map (λ l. l.capacity) (set lists (seat - 1) new)) (seat - 1) 0 ≡ new.capacity
   pub grown : old.capacity ≤ new.capacity → (i : ℕ) → get_or t.capacities i 0 ≤ get_or (map (λ l. l.capacity) (set lists (seat - 1) new)) i 0
 
-pub swap : (t : StoredState) (lists : List StoredList) (seat : ℕ) (old new : StoredList)
-    → map (λ l. l.events) lists ≡ t.state.redo → map (λ l. l.capacity) lists ≡ t.capacities
-    → 1 ≤ seat → seat ≤ length t.state.redo → old ≡ get_or lists (seat - 1) old
-    → Swap t lists seat old new
-swap t lists seat old new events capacities from_one to_last is =
+pub swap : {s t : StoredState} {seat : ℕ} {old : StoredList} (lists : List StoredList) (new : StoredList)
+    → map (λ l. l.events) lists ≡ s.state.redo → map (λ l. l.capacity) lists ≡ s.capacities → s ≡ t
+    → 1 ≤ seat → seat ≤ length t.state.redo → old ≡ get_or lists (seat - 1) old → Swap t lists seat old new
+swap {t = t} {seat = seat} {old = old} lists new seen held view from_one to_last is =
+    let events : map (λ l. l.events) lists ≡ t.state.redo = seen ∙ ap (λ (v : StoredState). v.state.redo) view in
+    let capacities : map (λ l. l.capacity) lists ≡ t.capacities = held ∙ ap (λ (v : StoredState). v.capacities) view in
     let many = length-map lists (λ (l : StoredList). l.events) in
     let same = ap (λ (e : List (List Event)). length e) events in
     let low : seat - 1 < length lists = omega (arith, many, same, from_one, to_last) in

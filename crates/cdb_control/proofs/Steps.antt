@@ -1,95 +1,24 @@
 -- Commands that share a word of the table.
 use Rattle.std.proofs.lemmas.Grind.{common_steps}
 use Rattle.std.proofs.lemmas.Option.{gets}
-use Rattle.std.proofs.Common.{◌≡◌, ℕ, arith, ◌-◌, IfOk, OnErr, subst, List, [], ◌∷◌, length}
+use Rattle.std.proofs.Common.{◌≡◌, ℕ, arith, ◌-◌, OnErr, ◌∙◌, List, [], ◌∷◌, length, map}
 use Rattle.std.proofs.Common.{set, Option, Some, Result, Ok, Err, sym, ap}
 use Rattle.std.proofs.lemmas.List.{set-get_or}
 use Rattle.std.specs.Result.{result_err}
 use Rattle.cdb_base.specs.Positions.{without_last}
-use Rattle.cdb_base.specs.declared.no_memory.NoMemory.{NoMemory}
 use Rattle.cdb_base.specs.declared.event.Event.{Event}
 use Rattle.cdb_base.specs.declared.refusal.Refusal.{Refusal}
 use Rattle.cdb_commands.specs.ReplyView.{is_refused}
 use Rattle.cdb_commands.specs.ReplyView as reply
-use Rattle.cdb_control.specs.Commands.{Outcome, granted, undone_by, decides, undo, rollback, why, outcome}
-use Rattle.cdb_rules.specs.EventRefs.{name_given}
+use Rattle.cdb_control.specs.Commands.{Outcome, granted, undone_by, decides, why, outcome}
 use Rattle.cdb_control.specs.State.{State, redo_of, last_of}
-use Rattle.cdb_control.specs.Done.{CameOutAs, IsNoRefusal, NoneShrinks}
-use Rattle.cdb_commands.specs.declared.command.Command.{Command}
+use Rattle.cdb_control.specs.Room.{StoredList, StoredState}
+use Rattle.cdb_control.proofs.Room.{Swap}
+use Rattle.cdb_rules.specs.RunView.{RunView}
 use Rattle.cdb_commands.specs.declared.command.Command.TheVariants as command
-use Rattle.cdb_commands.specs.declared.reply.Reply.{Reply}
-use Rattle.cdb_rules.specs.declared.event_ref.EventRef.TheVariants.{Step, Lost}
 use Rattle.cdb_rules.specs.Refusals.{with_taken}
 use Rattle.cdb_rules.specs.Rules.{Rules}
 use Rattle.cdb_rules.specs.Undo.{result_alone, left_by, number_removed, with_removed}
-
-pub undo_ok : (rules : Rules) (t u : State) (seat p k : ℕ) (it : Command) (r : Result Reply NoMemory) → it ≡ command.Undo p k
-    → IfOk r (CameOutAs (undo t seat (name_given (Step p k))) u) → IfOk r (CameOutAs (outcome rules t seat it) u)
-unfolding outcome
-undo_ok rules t u seat p k it r is ok = subst (λ (c : Command). IfOk r (CameOutAs (outcome rules t seat c) u)) (sym is) ok
-
-pub undo_lost_ok : (rules : Rules) (t u : State) (seat s m p : ℕ) (it : Command) (r : Result Reply NoMemory) → it ≡ command.UndoLost s m p
-    → IfOk r (CameOutAs (undo t seat (name_given (Lost s m p))) u) → IfOk r (CameOutAs (outcome rules t seat it) u)
-unfolding outcome
-undo_lost_ok rules t u seat s m p it r is ok = subst (λ (c : Command). IfOk r (CameOutAs (outcome rules t seat c) u)) (sym is) ok
-
-pub rollback_ok : (rules : Rules) (t u : State) (seat p k : ℕ) (it : Command) (r : Result Reply NoMemory) → it ≡ command.Rollback p k
-    → IfOk r (CameOutAs (rollback t seat (name_given (Step p k))) u) → IfOk r (CameOutAs (outcome rules t seat it) u)
-unfolding outcome
-rollback_ok rules t u seat p k it r is ok = subst (λ (c : Command). IfOk r (CameOutAs (outcome rules t seat c) u)) (sym is) ok
-
-pub rollback_lost_ok : (rules : Rules) (t u : State) (seat s m p : ℕ) (it : Command) (r : Result Reply NoMemory) → it ≡ command.RollbackLost s m p
-    → IfOk r (CameOutAs (rollback t seat (name_given (Lost s m p))) u) → IfOk r (CameOutAs (outcome rules t seat it) u)
-unfolding outcome
-rollback_lost_ok rules t u seat s m p it r is ok = subst (λ (c : Command). IfOk r (CameOutAs (outcome rules t seat c) u)) (sym is) ok
-
-pub why_ok : (rules : Rules) (t : State) (seat p k : ℕ) (it : Command) (r : Result Reply NoMemory) → it ≡ command.Why p k
-    → IfOk r (CameOutAs (why t (name_given (Step p k))) t) → IfOk r (CameOutAs (outcome rules t seat it) t)
-unfolding outcome
-why_ok rules t seat p k it r is ok = subst (λ (c : Command). IfOk r (CameOutAs (outcome rules t seat c) t)) (sym is) ok
-
-pub why_lost_ok : (rules : Rules) (t : State) (seat s m p : ℕ) (it : Command) (r : Result Reply NoMemory) → it ≡ command.WhyLost s m p
-    → IfOk r (CameOutAs (why t (name_given (Lost s m p))) t) → IfOk r (CameOutAs (outcome rules t seat it) t)
-unfolding outcome
-why_lost_ok rules t seat s m p it r is ok = subst (λ (c : Command). IfOk r (CameOutAs (outcome rules t seat c) t)) (sym is) ok
-
--- ---- commands that are carried out by a method of their own: what it does is done by the command, for its seat or for any
-
--- what stays the same does not shrink
-pub as_many : (old new : List ℕ) → new ≡ old → NoneShrinks old new
-as_many old new same = subst (λ (l : List ℕ). NoneShrinks old l) (sym same) (λ i. omega arith)
-
--- ---- commands that are not refused
-
-pub undo_granted : (rules : Rules) (t : State) (seat p k : ℕ) (it : Command) (r : Result Reply NoMemory) → it ≡ command.Undo p k
-    → OnErr r (IsNoRefusal (undo t seat (name_given (Step p k)))) → OnErr r (IsNoRefusal (outcome rules t seat it))
-unfolding outcome
-undo_granted rules t seat p k it r is memory = subst (λ (c : Command). OnErr r (IsNoRefusal (outcome rules t seat c))) (sym is) memory
-
-pub undo_lost_granted : (rules : Rules) (t : State) (seat s m p : ℕ) (it : Command) (r : Result Reply NoMemory) → it ≡ command.UndoLost s m p
-    → OnErr r (IsNoRefusal (undo t seat (name_given (Lost s m p)))) → OnErr r (IsNoRefusal (outcome rules t seat it))
-unfolding outcome
-undo_lost_granted rules t seat s m p it r is memory = subst (λ (c : Command). OnErr r (IsNoRefusal (outcome rules t seat c))) (sym is) memory
-
-pub rollback_granted : (rules : Rules) (t : State) (seat p k : ℕ) (it : Command) (r : Result Reply NoMemory) → it ≡ command.Rollback p k
-    → OnErr r (IsNoRefusal (rollback t seat (name_given (Step p k)))) → OnErr r (IsNoRefusal (outcome rules t seat it))
-unfolding outcome
-rollback_granted rules t seat p k it r is memory = subst (λ (c : Command). OnErr r (IsNoRefusal (outcome rules t seat c))) (sym is) memory
-
-pub rollback_lost_granted : (rules : Rules) (t : State) (seat s m p : ℕ) (it : Command) (r : Result Reply NoMemory) → it ≡ command.RollbackLost s m p
-    → OnErr r (IsNoRefusal (rollback t seat (name_given (Lost s m p)))) → OnErr r (IsNoRefusal (outcome rules t seat it))
-unfolding outcome
-rollback_lost_granted rules t seat s m p it r is memory = subst (λ (c : Command). OnErr r (IsNoRefusal (outcome rules t seat c))) (sym is) memory
-
-pub why_granted : (rules : Rules) (t : State) (seat p k : ℕ) (it : Command) (r : Result Reply NoMemory) → it ≡ command.Why p k
-    → OnErr r (IsNoRefusal (why t (name_given (Step p k)))) → OnErr r (IsNoRefusal (outcome rules t seat it))
-unfolding outcome
-why_granted rules t seat p k it r is memory = subst (λ (c : Command). OnErr r (IsNoRefusal (outcome rules t seat c))) (sym is) memory
-
-pub why_lost_granted : (rules : Rules) (t : State) (seat s m p : ℕ) (it : Command) (r : Result Reply NoMemory) → it ≡ command.WhyLost s m p
-    → OnErr r (IsNoRefusal (why t (name_given (Lost s m p)))) → OnErr r (IsNoRefusal (outcome rules t seat it))
-unfolding outcome
-why_lost_granted rules t seat s m p it r is memory = subst (λ (c : Command). OnErr r (IsNoRefusal (outcome rules t seat c))) (sym is) memory
 
 -- what holds anyway holds on an error
 pub on_error : {A E P : Type 0} (r : Result A E) → P → OnErr r P
@@ -109,6 +38,19 @@ with_lists t seat history events = record t { history = history; redo = set t.re
 
 pub unchanged : (t : State) (seat : ℕ) → with_lists t seat t.history (redo_of t seat) ≡ t
 unchanged t seat = ap (λ (lists : List (List Event)). let u : State = record t { redo = lists } in u) (set-get_or t.redo (seat - 1) [])
+
+-- where a seat's list gave way to another, and the run to one of the same setup
+pub changed : {s t : StoredState} {lists : List StoredList} {seat : ℕ} {old new : StoredList} {run : RunView} (history : State → List Event)
+    (own : State → List Event → List Event) → Swap t lists seat old new → s ≡ t → run ≡ record { setup = s.state.setup; history = history s.state }
+    → new.events ≡ own s.state old.events → (let u : State =
+    record s.state { setup = run.setup; history = run.history; redo = map (λ l. l.events) (set lists (seat - 1) new) } in u)
+    ≡ with_lists t.state seat (history t.state) (own t.state (redo_of t.state seat))
+changed {s = s} {t = t} {seat = seat} {old = old} history own w view ran is =
+    let list = w.put ∙ ap (λ (l : List Event). set t.state.redo (seat - 1) l) is in
+    (λ j. let u : State = record s.state { setup = (ran j).setup; history = (ran j).history; redo = list j } in u)
+    ∙ ap (λ (v : StoredState). let u : State =
+    record v.state { history = history v.state; redo = set t.state.redo (seat - 1) (own v.state old.events) } in u) view
+    ∙ ap (λ (l : List Event). with_lists t.state seat (history t.state) (own t.state l)) (sym w.at)
 
 pub undone-as : (t u : State) (seat : ℕ) (x : Result (Event × List Event) Refusal) (r : Result Event Refusal) (event : Event)
     → r ≡ result_alone x → u ≡ with_lists t seat (left_by t.history x) (with_taken (redo_of t seat) r) → r ≡ Ok event

@@ -1,22 +1,19 @@
-use Rattle.std.proofs.Common.{arith, ◌-◌, ap, ◌∙◌, sym, subst, [], List, set}
+use Rattle.std.proofs.Common.{refl, arith, ◌-◌, ap, ◌∙◌, sym, subst, []}
 use Rattle.std.specs.List.{AllByRecursion}
 use Rattle.cdb_base.specs.Positions.{without_last}
-use Rattle.cdb_base.specs.declared.event.Event.{Event}
 use Rattle.cdb_rules.proofs.Alls.{all-get_or, all-slice_get}
 use Rattle.cdb_control.proofs.Room.{swap}
-use Rattle.cdb_control.proofs.Steps.{redone-as}
+use Rattle.cdb_control.proofs.Steps.{changed, redone-as}
 use Rattle.cdb_control.specs.Commands.{decides}
 use Rattle.cdb_control.specs.Room.{StoredState, StoredList}
-use Rattle.cdb_control.specs.State.{State, redo_of, last_of}
+use Rattle.cdb_control.specs.State.{redo_of, last_of}
 use Rattle.cdb_rules.specs.Refusals.{IsOfRun, with_taken}
 use Rattle.cdb_control.proofs.state.ControlState.redo.Goals as goal
 
 pub again-requires : goal.again-requires
 again-requires g c =
     let now = c.args.self.now in
-    let w =
-    swap now c.self.inside.redo.items c.args.seat c.index.result.now c.index.result.now (ap (λ (v : StoredState). v.state.redo) c.self.view_is)
-    (ap (λ (v : StoredState). v.capacities) c.self.view_is) c.requires.from_one c.requires.to_last c.index.ensures in
+    let w = swap c.self.inside.redo.items c.index.result.now refl refl c.self.view_is c.requires.from_one c.requires.to_last c.index.ensures in
     let of_run = IsOfRun now.state.setup in
     let last = c.in-Some.ensures ∙ ap last_of (sym w.at) in
     let all = all-get_or (AllByRecursion of_run) now.state.redo (c.args.seat - 1) [] c.requires.of_run.1 tt in
@@ -26,36 +23,16 @@ again-requires g c =
 pub returns-in-Ok-clause-ok : goal.returns-in-Ok-clause-ok
 returns-in-Ok-clause-ok g c =
     let now = c.args.self.now in
-    let w =
-    swap now c.self.inside.redo.items c.args.seat c.index_mut.result.now c.drop_last.new.self (ap (λ (v : StoredState). v.state.redo) c.self.view_is)
-    (ap (λ (v : StoredState). v.capacities) c.self.view_is) c.requires.from_one c.requires.to_last c.index_mut.ensures.value in
-    let seen =
-    swap now c.self.inside.redo.items c.args.seat c.index.result.now c.index.result.now (ap (λ (v : StoredState). v.state.redo) c.self.view_is)
-    (ap (λ (v : StoredState). v.capacities) c.self.view_is) c.requires.from_one c.requires.to_last c.index.ensures in
+    let w = swap c.self.inside.redo.items c.drop_last.new.self refl refl c.self.view_is c.requires.from_one c.requires.to_last c.index_mut.ensures.value in
+    let seen = swap c.self.inside.redo.items c.index.result.now refl refl c.self.view_is c.requires.from_one c.requires.to_last c.index.ensures in
     let rules = g.R.Runs.rules now.state.setup in
     let r = c.in_ok-event.field-0 in
     let did = c.in_ok-event.ensures in
     let event = c.in-Ok.event in
     let last = c.in-Some.ensures ∙ ap last_of (sym seen.at) in
     let returned = did.returns ∙ ap (λ (v : StoredState). (g.R.Runs.rules v.state.setup).again v.state.history c.in-Some.undone) c.self.view_is in
-    let list =
-    w.put ∙ ap (λ (l : StoredList). set now.state.redo (c.args.seat - 1) l.events) c.drop_last.ensures
-    ∙ ap (λ (l : List Event). set now.state.redo (c.args.seat - 1) (without_last l)) (sym w.at) in
     let after =
-    (λ j. let u : State = record {
-      setup = (did.after j).setup;
-      history = (did.after j).history;
-      stops =
-          c.self.inside.breakpoints.stops;
-      next = c.self.inside.breakpoints.next;
-      pause = c.self.inside.pause;
-      redo = list j;
-    } in u)
-    ∙ ap (λ (v : StoredState). let u : State = record v.state {
-      history = with_taken v.state.history r;
-      redo =
-          set now.state.redo (c.args.seat - 1) (without_last (redo_of now.state c.args.seat));
-    } in u) c.self.view_is in
+    changed (λ u. with_taken u.history r) (λ u list. without_last list) w c.self.view_is did.after (ap (λ (l : StoredList). l.events) c.drop_last.ensures) in
     let says =
     c.decides-decides.ensures
     ∙ (λ j. decides (g.R.Runs.rules (did.after j).setup) (did.after j).history event)
@@ -64,9 +41,6 @@ returns-in-Ok-clause-ok g c =
 
 pub returns-in-Ok-clause-capacities : goal.returns-in-Ok-clause-capacities
 returns-in-Ok-clause-capacities g c =
-    let now = c.args.self.now in
-    let w =
-    swap now c.self.inside.redo.items c.args.seat c.index_mut.result.now c.drop_last.new.self (ap (λ (v : StoredState). v.state.redo) c.self.view_is)
-    (ap (λ (v : StoredState). v.capacities) c.self.view_is) c.requires.from_one c.requires.to_last c.index_mut.ensures.value in
+    let w = swap c.self.inside.redo.items c.drop_last.new.self refl refl c.self.view_is c.requires.from_one c.requires.to_last c.index_mut.ensures.value in
     let same = ap (λ (l : StoredList). l.capacity) c.drop_last.ensures in
     w.grown (omega (arith, same))
