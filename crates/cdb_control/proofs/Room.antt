@@ -1,7 +1,8 @@
 -- What commands do to room and to redo lists in memory.
+use Rattle.std.proofs.lemmas.Bool.{cases_eq}
 use Rattle.std.proofs.lemmas.Grind.{common_steps}
 use Rattle.std.proofs.lemmas.Option.{gets}
-use Rattle.std.proofs.Common.{◌≡◌, ◌≢◌, ℕ, zero, suc, ◌+◌, ◌-◌, ◌<◌, ◌≤◌, max, List, [], ◌∷◌, length, map, set, get_or}
+use Rattle.std.proofs.Common.{◌≡◌, ⊎_elim, ◌≢◌, ℕ, zero, suc, ◌+◌, ◌-◌, ◌<◌, ◌≤◌, max, List, [], ◌∷◌, length, map, set, get_or}
 use Rattle.std.proofs.Common.{replicate, refl, sym, ap, ◌∙◌, subst, arith, length-append}
 use Rattle.std.proofs.lemmas.List.{length-set, length-map, length-take, length-replicate, get_or-map, map-set, get_or-set_same, get_or-set_other}
 use Rattle.cdb_base.specs.declared.event.Event.{Event}
@@ -11,7 +12,8 @@ use Rattle.cdb_rules.proofs.Removed.{removed-one}
 use Rattle.cdb_control.specs.Room.{StoredList, StoredState, cost, room_of, lowered, raised}
 use Rattle.cdb_control.specs.Kept.{HoldsRooms, rooms_at}
 use Rattle.cdb_control.proofs.Outcomes.{of_command}
-use Rattle.cdb_control.specs.State.{State, redo_of}
+use Rattle.cdb_control.proofs.Refused.{Leaves}
+use Rattle.cdb_control.specs.State.{State, redo_of, with_redo}
 use Rattle.cdb_commands.specs.declared.command.Command.{Command}
 use Rattle.cdb_rules.specs.Rules.{Rules}
 
@@ -100,106 +102,79 @@ no-rooms zero i = refl
 no-rooms (suc n) zero = refl
 no-rooms (suc n) (suc i) = no-rooms n i
 
--- ---- how much longer a command makes the redo lists
+-- ---- how much longer a command makes its seat's redo list
 
+-- by no more than what it takes of the room
 pub record Spends (seat : ℕ) (t : State) (o : Outcome) : Type 0 where
   pub one : 1 ≤ cost o.reply
   pub own : length (redo_of o.after seat) ≤ length (redo_of t seat) + cost o.reply
-  pub others : (i : ℕ) → i ≢ seat - 1 → get_or o.after.redo i [] ≡ get_or t.redo i []
-
--- the lists are as they were
-kept : (seat : ℕ) (t : State) (o : Outcome) → o.after.redo ≡ t.redo → 1 ≤ cost o.reply → Spends seat t o
-kept seat t o same one =
-    record {
-      one = one;
-      own = (let long = ap (λ (lists : List (List Event)). length (get_or lists (seat - 1) [])) same in omega (arith, long));
-      others = λ i apart. ap (λ (lists : List (List Event)). get_or lists i []) same;
-    }
 
 module _ (rules : Rules) (t : State) (seat : ℕ) (low : seat - 1 < length t.redo) where
-  -- the seat's list is another, no longer than it was by more than what the command takes
-  becomes : (o : Outcome) (events : List Event) → o.after.redo ≡ set t.redo (seat - 1) events
-      → length events ≤ length (redo_of t seat) + cost o.reply → 1 ≤ cost o.reply → Spends seat t o
-  becomes o events is long one =
-      record {
-        one = one;
-        own =
-            (let here = ap (λ (lists : List (List Event)). length (get_or lists (seat - 1) [])) is in
-            let there = ap (λ (l : List Event). length l) (get_or-set_same t.redo (seat - 1) events [] low) in
-            omega (arith, long, here, there));
-        others = λ i apart. ap (λ (lists : List (List Event)). get_or lists i []) is ∙ get_or-set_other t.redo (seat - 1) i events [] apart;
-      }
+  becomes : (events : List Event) (most : ℕ) → length events ≤ most → length (redo_of (with_redo t seat events) seat) ≤ most
+  becomes events most few = rw (get_or-set_same t.redo (seat - 1) events [] low) few
 
   pub spends : (command : Command) → Spends seat t (outcome rules t seat command)
   spends command =
       of_command rules t seat (Spends seat t) command
       (record {
-        replied = λ said none one. kept seat t _ refl (omega (arith, one));
-        break_set = λ stop. kept seat t _ refl (omega arith);
-        break_gone = λ number. kept seat t _ refl (omega arith);
-        resumed = kept seat t _ refl (omega arith);
+        replied = λ said none one. record { one = omega (arith, one); own = omega arith };
+        break_set = λ stop. record { one = omega arith; own = omega arith };
+        break_gone = λ number. record { one = omega arith; own = omega arith };
+        resumed = record { one = omega arith; own = omega arith };
       })
       (λ acts. record {
-        step_done = λ p act e is. kept seat t _ refl (omega arith);
-        lost = λ name p e is. kept seat t _ refl (omega arith);
-        undone = λ name done is. becomes _ _ refl (omega (arith, length-append (redo_of t seat) (done.0 ∷ []))) (omega arith);
-        rolled_back = λ name removed is. becomes _ _ refl (omega (arith, length-append (redo_of t seat) removed.0))
-            (removed-one t.setup.processes t.history name removed is);
-        redone = λ e taken last is. becomes _ _ refl (omega (arith, length-take (length (redo_of t seat) - 1) (redo_of t seat))) (omega arith);
-        forgot = becomes _ [] refl (omega arith) (omega arith);
+        step_done = λ p act e is. record { one = omega arith; own = omega arith };
+        lost = λ name p e is. record { one = omega arith; own = omega arith };
+        undone = λ name done is. record { one = omega arith; own = becomes _ _ (omega (arith, length-append (redo_of t seat) (done.0 ∷ []))) };
+        rolled_back = λ name removed is. record {
+          one = removed-one t.setup.processes t.history name removed is;
+          own = becomes _ _ (omega (arith, length-append (redo_of t seat) removed.0));
+        };
+        redone = λ e taken last is. record {
+          one = omega arith;
+          own = becomes _ _ (omega (arith, length-take (length (redo_of t seat) - 1) (redo_of t seat)));
+        };
+        forgot = record { one = omega arith; own = becomes [] _ (omega arith) };
       })
 
 -- ---- what is promised stays in memory
 
-apart_or_same : (i k : ℕ) (G : Type 0) → (i ≡ k → G) → (i ≢ k → G) → G
-apart_or_same zero zero G same apart = same refl
-apart_or_same zero (suc k) G same apart = apart (λ e. omega (arith, e))
-apart_or_same (suc i) zero G same apart = apart (λ e. omega (arith, e))
-apart_or_same (suc i) (suc k) G same apart = apart_or_same i k G (λ e. same (ap suc e)) (λ ne. apart (λ e. ne (omega (arith, e))))
+by_seat : {P : ℕ → Type 0} (seat : ℕ) → P (seat - 1) → ((i : ℕ) → i ≢ seat - 1 → P i) → (i : ℕ) → P i
+by_seat {P} seat own other i = ⊎_elim (λ same. subst P (sym same) own) (other i) (cases_eq i (seat - 1))
 
 less-at : (rooms : List ℕ) (i : ℕ) → get_or (map (λ r. r - 1) rooms) i 0 ≡ get_or rooms i 0 - 1
 less-at rooms i = grind (arith, common_steps, gets)
 
 -- after a command there is as much less room as it can have taken
 pub HoldsRooms-next : (n space space' : ℕ) (rooms : List ℕ) (seat : ℕ) (was next : StoredState) (o : Outcome)
-    → HoldsRooms n space rooms was → seat - 1 < length was.state.redo → Spends seat was.state o
-    → o.after ≡ next.state → length next.state.redo ≡ length was.state.redo
+    → HoldsRooms n space rooms was → seat - 1 < length was.state.redo → Spends seat was.state o → Leaves was.state seat o
+    → o.after ≡ next.state
     → ((i : ℕ) → get_or was.capacities i 0 ≤ get_or next.capacities i 0) → space ≤ space'
     → HoldsRooms (n + 1) space' (lowered rooms seat o.reply) next
-HoldsRooms-next n space space' rooms seat was next o room low spends after long grown more =
+HoldsRooms-next n space space' rooms seat was next o room low spends leaves after grown more =
     let seats = room.seats in
     let many = length-map rooms (λ r. r - 1) in
+    let own : room_of (lowered rooms seat o.reply) seat ≡ room_of rooms seat - cost o.reply =
+    get_or-set_same (map (λ r. r - 1) rooms) (seat - 1) (room_of rooms seat - cost o.reply) 0 (omega (arith, many, seats, low)) in
+    let other : (i : ℕ) → i ≢ seat - 1 → get_or (lowered rooms seat o.reply) i 0 ≡ get_or rooms i 0 - 1 =
+    λ i apart. get_or-set_other (map (λ r. r - 1) rooms) (seat - 1) i (room_of rooms seat - cost o.reply) 0 apart ∙ less-at rooms i in
     let one = spends.one in
-    let own = ap (λ (t : State). length (redo_of t seat)) after in
     record {
-      seats = length-set (map (λ r. r - 1) rooms) (seat - 1) _ ∙ many ∙ seats ∙ sym long;
-      journal = λ i some. apart_or_same i (seat - 1) _
-          (λ same.
-          let is =
-          ap (λ k. get_or (lowered rooms seat o.reply) k 0) same
-          ∙ get_or-set_same (map (λ r. r - 1) rooms) (seat - 1) (room_of rooms seat - cost o.reply) 0 (omega (arith, many, seats, low)) in
-          let promised = room.journal (seat - 1) (omega (arith, is, some)) in
-          omega (arith, is, some, promised, one, more))
-          (λ apart.
-          let is = get_or-set_other (map (λ r. r - 1) rooms) (seat - 1) i (room_of rooms seat - cost o.reply) 0 apart ∙ less-at rooms i in
-          let promised = room.journal i (omega (arith, is, some)) in
-          omega (arith, is, some, promised, more));
-      lists = λ i some. apart_or_same i (seat - 1) _
-          (λ same.
-          let is =
-          ap (λ k. get_or (lowered rooms seat o.reply) k 0) same
-          ∙ get_or-set_same (map (λ r. r - 1) rooms) (seat - 1) (room_of rooms seat - cost o.reply) 0 (omega (arith, many, seats, low)) in
-          let promised = room.lists (seat - 1) (omega (arith, is, some)) in
-          let here = ap (λ k. length (get_or next.state.redo k [])) same in
-          let there = ap (λ k. get_or next.capacities k 0) same in
+      seats = length-set (map (λ r. r - 1) rooms) (seat - 1) _ ∙ many ∙ seats ∙ sym leaves.lists ∙ ap (λ (t : State). length t.redo) after;
+      journal = by_seat seat
+          (λ some. let promised = room.journal (seat - 1) (omega (arith, own, some)) in omega (arith, own, some, promised, one, more))
+          (λ i apart some. let is = other i apart in let promised = room.journal i (omega (arith, is, some)) in omega (arith, is, some, promised, more));
+      lists = by_seat seat
+          (λ some.
+          let promised = room.lists (seat - 1) (omega (arith, own, some)) in
+          let long = ap (λ (t : State). length (redo_of t seat)) after in
           let taken = spends.own in
-          omega (arith, is, some, promised, here, there, taken, own, grown (seat - 1)))
-          (λ apart.
-          let is = get_or-set_other (map (λ r. r - 1) rooms) (seat - 1) i (room_of rooms seat - cost o.reply) 0 apart ∙ less-at rooms i in
+          omega (arith, own, some, promised, taken, long, grown (seat - 1)))
+          (λ i apart some.
+          let is = other i apart in
           let promised = room.lists i (omega (arith, is, some)) in
-          let here = ap (λ (t : State). length (get_or t.redo i [])) after in
-          let there = ap (λ (l : List Event). length l) (spends.others i apart) in
-          omega (arith, is, some, promised, here, there, grown i));
+          let long = ap (λ (t : State). length (get_or t.redo i [])) (sym after) ∙ ap (λ (l : List Event). length l) (leaves.others i apart) in
+          omega (arith, is, some, promised, long, grown i));
     }
 
 zero_or_some : (r : ℕ) (G : Type 0) → (r ≡ 0 → G) → (0 < r → G) → G
@@ -214,33 +189,27 @@ pub HoldsRooms-raised : (n space space' : ℕ) (rooms : List ℕ) (seat count : 
     → HoldsRooms n space' (raised rooms seat count) next
 HoldsRooms-raised n space space' rooms seat count was next room low same journal more list grown =
     let seats = room.seats in
-    let long = ap (λ (t : State). length t.redo) same in
-    let raised-there = get_or-set_same rooms (seat - 1) (max count (room_of rooms seat)) 0 (omega (arith, seats, low)) in
+    let own = get_or-set_same rooms (seat - 1) (max count (room_of rooms seat)) 0 (omega (arith, seats, low)) in
+    let other = λ (i : ℕ) (apart : i ≢ seat - 1). get_or-set_other rooms (seat - 1) i (max count (room_of rooms seat)) 0 apart in
     record {
-      seats = length-set rooms (seat - 1) _ ∙ seats ∙ sym long;
-      journal = λ i some. apart_or_same i (seat - 1) _
-          (λ here.
-          let is = ap (λ k. get_or (raised rooms seat count) k 0) here ∙ raised-there in
+      seats = length-set rooms (seat - 1) _ ∙ seats ∙ ap (λ (t : State). length t.redo) (sym same);
+      journal = by_seat seat
+          (λ some.
           zero_or_some (room_of rooms seat) _
-          (λ none. omega (arith, is, none, journal))
-          (λ positive. let promised = room.journal (seat - 1) positive in omega (arith, is, promised, journal, more)))
-          (λ apart.
-          let is = get_or-set_other rooms (seat - 1) i (max count (room_of rooms seat)) 0 apart in
-          let promised = room.journal i (omega (arith, is, some)) in
-          omega (arith, is, promised, more));
-      lists = λ i some. apart_or_same i (seat - 1) _
-          (λ here.
-          let is = ap (λ k. get_or (raised rooms seat count) k 0) here ∙ raised-there in
-          let events = ap (λ k. length (get_or next.state.redo k [])) here ∙ ap (λ (t : State). length (redo_of t seat)) same in
-          let space_there = ap (λ k. get_or next.capacities k 0) here in
+          (λ none. omega (arith, own, none, journal))
+          (λ positive. let promised = room.journal (seat - 1) positive in omega (arith, own, promised, journal, more)))
+          (λ i apart some. let is = other i apart in let promised = room.journal i (omega (arith, is, some)) in omega (arith, is, promised, more));
+      lists = by_seat seat
+          (λ some.
+          let long = ap (λ (t : State). length (redo_of t seat)) same in
           zero_or_some (room_of rooms seat) _
-          (λ none. omega (arith, is, none, events, space_there, list))
-          (λ positive. let promised = room.lists (seat - 1) positive in omega (arith, is, promised, events, space_there, list, grown (seat - 1))))
-          (λ apart.
-          let is = get_or-set_other rooms (seat - 1) i (max count (room_of rooms seat)) 0 apart in
+          (λ none. omega (arith, own, none, long, list))
+          (λ positive. let promised = room.lists (seat - 1) positive in omega (arith, own, promised, long, list, grown (seat - 1))))
+          (λ i apart some.
+          let is = other i apart in
           let promised = room.lists i (omega (arith, is, some)) in
-          let events = ap (λ (t : State). length (get_or t.redo i [])) same in
-          omega (arith, is, promised, events, grown i));
+          let long = ap (λ (t : State). length (get_or t.redo i [])) same in
+          omega (arith, is, promised, long, grown i));
     }
 
 -- nobody was promised anything

@@ -74,24 +74,22 @@ module _ (rules : Rules) (t : State) (lawful : AreLawful rules t.setup) where
           all-take (IsOfRun t.setup) (length (redo_of t seat) - 1) (redo_of t seat) (own_of_run all),
         ))
 
-pub obey-adds : (rules : Rules) (t : State) → AreLawful rules t.setup → (seat : ℕ) (command : Command)
-    → 1 ≤ seat → seat ≤ length t.redo → Adds t (obey rules t seat command)
-obey-adds rules t lawful seat command from_one to_last =
-    let low : seat - 1 < length t.redo = omega (arith, from_one, to_last) in
-    of_command rules t seat (λ o. Adds t o.after) command
-    (record {
-      replied = λ said none one. stops_only rules t lawful t.stops t.next t.pause (omega arith);
-      break_set = λ stop. stops_only rules t lawful _ _ t.pause (omega arith);
-      break_gone = λ number. stops_only rules t lawful _ t.next t.pause (omega arith);
-      resumed = stops_only rules t lawful t.stops t.next None (omega arith);
-    })
-    (λ acts. record {
-      step_done = λ p act e is. one_more rules t lawful e _ (lawful.step t.history p act e is);
-      lost = λ name p e is. one_more rules t lawful e _ (lawful.lose t.history name p e is);
-      undone = λ name done is. parted rules t lawful seat low (done.0 ∷ []) done.1
-          (undone-parted (IsOfRun t.setup) t.setup.processes t.history name done is);
-      rolled_back = λ name removed is. parted rules t lawful seat low removed.0 removed.1
-          (rolled_back-parted (IsOfRun t.setup) t.setup.processes t.history name removed is);
-      redone = taken_again rules t lawful seat low;
-      forgot = changed rules t lawful seat low t.history [] (omega arith) (λ all. (all.0, tt));
-    })
+  pub obey-adds : (seat : ℕ) (command : Command) → 1 ≤ seat → seat ≤ length t.redo → Adds t (obey rules t seat command)
+  obey-adds seat command from_one to_last =
+      let low : seat - 1 < length t.redo = omega (arith, from_one, to_last) in
+      of_command rules t seat (λ o. Adds t o.after) command
+      (record {
+        replied = λ said none one. stops_only t.stops t.next t.pause (omega arith);
+        break_set = λ stop. stops_only _ _ t.pause (omega arith);
+        break_gone = λ number. stops_only _ t.next t.pause (omega arith);
+        resumed = stops_only t.stops t.next None (omega arith);
+      })
+      (λ acts. record {
+        step_done = λ p act e is. one_more e _ (lawful.step t.history p act e is);
+        lost = λ name p e is. one_more e _ (lawful.lose t.history name p e is);
+        undone = λ name done is. parted seat low (done.0 ∷ []) done.1 (undone-parted (IsOfRun t.setup) t.setup.processes t.history name done is);
+        rolled_back = λ name removed is. parted seat low removed.0 removed.1
+            (rolled_back-parted (IsOfRun t.setup) t.setup.processes t.history name removed is);
+        redone = taken_again seat low;
+        forgot = changed seat low t.history [] (omega arith) (λ all. (all.0, tt));
+      })

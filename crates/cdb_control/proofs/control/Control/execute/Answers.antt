@@ -11,7 +11,7 @@ use Rattle.cdb_control.specs.State.{State}
 use Rattle.cdb_control.proofs.Along.{obey-setup, IsReplayed-next}
 use Rattle.cdb_control.proofs.Headline.{replayed-headline}
 use Rattle.cdb_control.proofs.Least.{uses_numbers_once}
-use Rattle.cdb_control.proofs.Refused.{keeps_other_lists, kept_if_refused}
+use Rattle.cdb_control.proofs.Refused.{leaves, keeps_other_lists, kept_if_refused}
 use Rattle.cdb_control.proofs.Room.{HoldsRooms-kept, HoldsRooms-next, rooms-lowered, spends}
 use Rattle.cdb_control.proofs.control.Control.execute.Goals as goal
 
@@ -47,7 +47,7 @@ invariant_of-self-2 g c =
     let more = c.make_room.ensures.capacity in
     let room =
     HoldsRooms-next n (vec_capacity i.journal) (vec_capacity c.make_room.new.journal) (rooms_at n room_ends) seat i.state next done was.1 low
-    spent (sym after) (replayed.lists ∙ sym lists) c.perform.ensures.capacities more in
+    spent (leaves rules i.state.state seat c.args.command) (sym after) c.perform.ensures.capacities more in
     let long = c.push_entry.ensures.len ∙ ap (λ (m : ℕ). m + 1) c.make_room.ensures.len in (
       replayed,
       subst (λ (m : ℕ). HoldsRooms m (vec_capacity c.push_entry.new.journal) (rooms_at m c.lower.new.room_ends.items) next) (sym long)

@@ -1,9 +1,8 @@
-use Rattle.std.proofs.Common.{refl, ◌+◌, ◌-◌, ◌≤◌, ap, ◌∙◌, sym, subst, length, ℕ, List, set, map, OnOk}
+use Rattle.std.proofs.Common.{refl, ◌+◌, ◌≤◌, ◌∙◌, sym, subst, length, ℕ, List, OnOk}
 use Rattle.cdb_base.specs.declared.event.Event.{Event}
 use Rattle.cdb_control.proofs.Room.{swap}
 use Rattle.cdb_control.proofs.Steps.{changed, unchanged}
-use Rattle.cdb_control.specs.Room.{StoredState, StoredList}
-use Rattle.cdb_control.specs.State.{State, redo_of}
+use Rattle.cdb_control.specs.State.{redo_of}
 use Rattle.cdb_control.proofs.state.ControlState.reserve.Goals as goal
 
 pub returns-clause-state : goal.returns-clause-state
