@@ -24,16 +24,15 @@ use Rattle.cdb_causal.proofs.Exchanges.{free_to_end, rollback_to_end}
 use Rattle.cdb_causal.proofs.Lists.{push_back}
 use Rattle.cdb_commands.specs.ReplyView.{ReplyView}
 use Rattle.cdb_commands.specs.ReplyView as reply
-use Rattle.cdb_control.specs.Commands.{Outcome, refused, granted, step}
-use Rattle.cdb_control.specs.Commands.{undone_by, undo, rollback, why, redone, outcome, reply_of, obey}
+use Rattle.cdb_control.specs.Commands.{Outcome, refused, granted}
+use Rattle.cdb_control.specs.Commands.{undone_by, undo, rollback, redone, outcome, reply_of, obey}
 use Rattle.cdb_control.specs.Headline.{undoing, rolling_back, SaysTaken, SaysRedone, IsUndoneWhereFree, IsUndoneNext}
 use Rattle.cdb_control.specs.Headline.{RedosLeadBack, IsRolledBackAndForth, HoldsAt, Headline}
 use Rattle.cdb_control.specs.Journal.{replay_from, replay, AreOfSeats}
 use Rattle.cdb_control.specs.Kept.{IsReplayed, AreOfRun}
 use Rattle.cdb_control.specs.State.{State, first_control_state, redo_of, last_of}
 use Rattle.cdb_commands.specs.declared.command.Command.{Command}
-use Rattle.cdb_commands.specs.declared.command.Command.TheVariants.{Redo}
-use Rattle.cdb_commands.specs.declared.command.Command.TheVariants.{Decisions}
+use Rattle.cdb_commands.specs.declared.command.Command.TheVariants.{Redo, Decisions}
 use Rattle.cdb_control.specs.declared.control.Entry.{Entry}
 use Rattle.cdb_rules.proofs.Alls.{all-get_or, all-replicate, all-slice_get}
 use Rattle.cdb_control.proofs.FirstDependent.{free_or_needed}

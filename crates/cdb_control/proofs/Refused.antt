@@ -2,8 +2,7 @@
 use Rattle.std.proofs.lemmas.Grind.{common_steps}
 use Rattle.std.proofs.lemmas.Option.{gets}
 use Rattle.std.proofs.lemmas.List.{length-set, get_or-set_other}
-use Rattle.std.proofs.Common.{◌≡◌, ◌≢◌, ◌∙◌, ℕ, ◌-◌, ◌≤◌, true, false, List, [], length, get_or, set}
-use Rattle.std.proofs.Common.{refl, ap, arith, nat_eq}
+use Rattle.std.proofs.Common.{◌≡◌, ◌≢◌, ◌∙◌, ℕ, ◌-◌, ◌≤◌, true, false, List, [], length, get_or, set, refl, ap, arith, nat_eq}
 use Rattle.cdb_base.specs.declared.event.Event.{Event}
 use Rattle.cdb_commands.specs.declared.command.Command.{Command}
 use Rattle.cdb_commands.specs.declared.command.Command.TheVariants.{Forget}
@@ -12,8 +11,7 @@ use Rattle.cdb_rules.specs.Rules.{Rules}
 use Rattle.cdb_control.specs.State.{State, redo_of}
 use Rattle.cdb_control.proofs.Numbers.{AreNumbered, AreBelow-push, AreBelow-remove, AreRising-push, AreRising-remove}
 use Rattle.cdb_commands.specs.ReplyView.{ReplyView, is_refused}
-use Rattle.cdb_control.specs.Commands.{Outcome, granted}
-use Rattle.cdb_control.specs.Commands.{outcome, obey}
+use Rattle.cdb_control.specs.Commands.{Outcome, outcome, obey}
 use Rattle.cdb_control.specs.Journal.{Journaled, control_state, extended, reply_in}
 use Rattle.cdb_control.specs.Laws.{ActsOnNoRun, IsKeptIfRefused, KeepsOtherLists, KeepsRun, UsesNextNumber}
 use Rattle.cdb_control.proofs.Along.{replay-push}

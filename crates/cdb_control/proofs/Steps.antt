@@ -1,18 +1,18 @@
--- Commands that share a word of the table.
+-- What undo, rollback and redo return and leave, in the words of the table.
 use Rattle.std.proofs.lemmas.Grind.{common_steps}
 use Rattle.std.proofs.lemmas.Option.{gets}
-use Rattle.std.proofs.Common.{◌≡◌, ℕ, arith, ◌-◌, OnErr, ◌∙◌, List, [], ◌∷◌, length, map}
+use Rattle.std.proofs.Common.{◌≡◌, ℕ, arith, ◌-◌, OnErr, ◌∙◌, List, [], map}
 use Rattle.std.proofs.Common.{set, Option, Some, Result, Ok, Err, sym, ap}
 use Rattle.std.proofs.lemmas.List.{set-get_or}
 use Rattle.std.specs.Result.{result_err}
 use Rattle.cdb_base.specs.Positions.{without_last}
 use Rattle.cdb_base.specs.declared.event.Event.{Event}
 use Rattle.cdb_base.specs.declared.refusal.Refusal.{Refusal}
-use Rattle.cdb_commands.specs.ReplyView.{is_refused}
 use Rattle.cdb_commands.specs.ReplyView as reply
-use Rattle.cdb_control.specs.Commands.{Outcome, granted, undone_by, decides, why, outcome}
+use Rattle.cdb_control.specs.Commands.{Outcome, granted, decides, outcome}
 use Rattle.cdb_control.specs.State.{State, redo_of, last_of}
 use Rattle.cdb_control.specs.Room.{StoredList, StoredState}
+use Rattle.cdb_control.proofs.Outcomes.{undone_to, rolled_to}
 use Rattle.cdb_control.proofs.Room.{Swap}
 use Rattle.cdb_rules.specs.RunView.{RunView}
 use Rattle.cdb_commands.specs.declared.command.Command.TheVariants as command
@@ -55,7 +55,7 @@ changed {s = s} {t = t} {seat = seat} {old = old} history own w view ran is =
 pub undone-as : (t u : State) (seat : ℕ) (x : Result (Event × List Event) Refusal) (r : Result Event Refusal) (event : Event)
     → r ≡ result_alone x → u ≡ with_lists t seat (left_by t.history x) (with_taken (redo_of t seat) r) → r ≡ Ok event
     → (let o : Outcome = record { reply = reply.Undone event; after = u } in o)
-    ≡ granted x t (λ undone. record { reply = reply.Undone undone.0; after = undone_by t seat (undone.0 ∷ []) undone.1 })
+    ≡ granted x t (undone_to t seat)
 undone-as t u seat x r event h1 h2 h3 = grind (arith, common_steps, gets)
 
 pub undo_refused-as : (t u : State) (seat : ℕ) (x : Result (Event × List Event) Refusal)
@@ -67,7 +67,7 @@ undo_refused-as t u seat x r why go h1 h2 h3 = grind (arith, common_steps, gets)
 pub rolled_back-as : (t u : State) (seat : ℕ) (x : Result (List Event × List Event) Refusal) (r : Result ℕ Refusal) (count : ℕ)
     → r ≡ number_removed (result_alone x) → u ≡ with_lists t seat (left_by t.history x) (with_removed (redo_of t seat) (result_alone x)) → r ≡ Ok count
     → (let o : Outcome = record { reply = reply.RolledBack count; after = u } in o)
-    ≡ granted x t (λ removed. record { reply = reply.RolledBack (length removed.0); after = undone_by t seat removed.0 removed.1 })
+    ≡ granted x t (rolled_to t seat)
 rolled_back-as t u seat x r count h1 h2 h3 = grind (arith, common_steps, gets)
 
 pub rollback_refused-as : (t u : State) (seat : ℕ) (x : Result (List Event × List Event) Refusal)

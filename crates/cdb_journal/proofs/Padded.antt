@@ -20,8 +20,8 @@ abbrev padded : List (List Event) → State → State
 padded more t = record t { redo = t.redo ++ more }
 
 -- the outcome with these redo lists
-abbrev with_lists : Outcome → List (List Event) → Outcome
-with_lists o lists = record o { after = record o.after { redo = lists } }
+abbrev with_all_lists : Outcome → List (List Event) → Outcome
+with_all_lists o lists = record o { after = record o.after { redo = lists } }
 
 -- of a seat that there is
 module _ (rules : Rules) (more : List (List Event)) (t : State) (seat : ℕ) (there : seat - 1 < length t.redo) where
@@ -37,18 +37,18 @@ module _ (rules : Rules) (more : List (List Event)) (t : State) (seat : ℕ) (th
 
   -- with further seats each outcome is the one without them, and these then
   pads : (command : Command)
-      → outcome rules (padded more t) seat command ≡ with_lists (outcome rules t seat command) ((obey rules t seat command).redo ++ more)
+      → outcome rules (padded more t) seat command ≡ with_all_lists (outcome rules t seat command) ((obey rules t seat command).redo ++ more)
   pads command =
-      of_command_in_both rules t seat (t.redo ++ more) its_list (λ narrow wide. wide ≡ with_lists narrow (narrow.after.redo ++ more)) command
+      of_command_in_both rules t seat (t.redo ++ more) its_list (λ narrow wide. wide ≡ with_all_lists narrow (narrow.after.redo ++ more)) command
       (record { replied = λ said none one. refl; break_set = λ stop. refl; break_gone = λ number. refl; resumed = refl })
       (λ acts. record {
         step_done = λ p act e is. refl;
         lost = λ name p e is. refl;
-        undone = λ name done is. ap (with_lists (undone_to t seat done)) (list_set (λ list. list ++ done.0 ∷ []));
-        rolled_back = λ name removed is. ap (with_lists (rolled_to t seat removed)) (list_set (λ list. list ++ removed.0));
-        redone = λ e taken last is. ap (with_lists (redone rules t seat taken)) (list_set without_last);
+        undone = λ name done is. ap (with_all_lists (undone_to t seat done)) (list_set (λ list. list ++ done.0 ∷ []));
+        rolled_back = λ name removed is. ap (with_all_lists (rolled_to t seat removed)) (list_set (λ list. list ++ removed.0));
+        redone = λ e taken last is. ap (with_all_lists (redone rules t seat taken)) (list_set without_last);
         forgot = ap (λ (list : List Event). record (forgotten (padded more t) seat) { reply = Forgot (length list) }) its_list
-            ∙ ap (with_lists (forgotten t seat)) (list_set (λ list. []));
+            ∙ ap (with_all_lists (forgotten t seat)) (list_set (λ list. []));
       })
 
 -- ---- along a journal
