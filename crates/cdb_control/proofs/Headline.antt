@@ -24,9 +24,9 @@ use Rattle.cdb_causal.proofs.Exchanges.{free_to_end, rollback_to_end}
 use Rattle.cdb_causal.proofs.Lists.{push_back}
 use Rattle.cdb_commands.specs.ReplyView.{ReplyView}
 use Rattle.cdb_commands.specs.ReplyView as reply
-use Rattle.cdb_control.specs.Commands.{Outcome, refused, granted}
-use Rattle.cdb_control.specs.Commands.{undone_by, undo, rollback, redone, outcome, reply_of, obey}
-use Rattle.cdb_control.specs.Headline.{undoing, rolling_back, SaysTaken, SaysRedone, IsUndoneWhereFree, IsUndoneNext}
+use Rattle.cdb_control.specs.Commands.{Outcome, granted}
+use Rattle.cdb_control.specs.Commands.{undone_by, redone, outcome, reply_of, obey}
+use Rattle.cdb_control.specs.Headline.{undoing, undo_reply, rolling_back, SaysTaken, SaysRedone, IsUndoneWhereFree, IsUndoneNext}
 use Rattle.cdb_control.specs.Headline.{RedosLeadBack, IsRolledBackAndForth, HoldsAt, Headline}
 use Rattle.cdb_control.specs.Journal.{replay_from, replay, AreOfSeats}
 use Rattle.cdb_control.specs.Kept.{IsReplayed, AreOfRun}
@@ -34,12 +34,12 @@ use Rattle.cdb_control.specs.State.{State, first_control_state, redo_of, last_of
 use Rattle.cdb_commands.specs.declared.command.Command.{Command}
 use Rattle.cdb_commands.specs.declared.command.Command.TheVariants.{Redo, Decisions}
 use Rattle.cdb_control.specs.declared.control.Entry.{Entry}
-use Rattle.cdb_rules.proofs.Alls.{all-get_or, all-replicate, all-slice_get}
+use Rattle.cdb_rules.proofs.Alls.{all-replicate}
 use Rattle.cdb_control.proofs.FirstDependent.{free_or_needed}
-use Rattle.cdb_control.proofs.Outcomes.{of_command, TakesNone, undone_to, rolled_to}
+use Rattle.cdb_control.proofs.Outcomes.{of_command, undone_to, rolled_to}
 use Rattle.cdb_control.proofs.Refused.{leaves}
-use Rattle.cdb_control.proofs.Table.{obey-adds}
-use Rattle.cdb_rules.specs.Agreement.{AllAgree, AreProposed, HasMajorityIfNeeded}
+use Rattle.cdb_control.proofs.Table.{last_of_run, obey-adds}
+use Rattle.cdb_rules.specs.Agreement.{AllAgree, AreProposed}
 use Rattle.cdb_rules.specs.Lawful.{AreLawful, KeepHistories}
 use Rattle.cdb_rules.specs.Refusals.{IsOfRun}
 use Rattle.cdb_rules.specs.Rules.{Rules}
@@ -65,23 +65,6 @@ module _ (rules : Rules) (SameState : List Event → List Event → Type 0) (t :
     pub valid_after : IsTrue (rules.valid o.after.history)
     pub taken : (event : Event) → SaysTaken o.reply event → o.after.history ≡ t.history ++ event ∷ []
 
-  -- nothing is taken, and the history stays
-  quiet : (o : Outcome) → o.after.history ≡ t.history → TakesNone o.reply → Keeps o
-  quiet o same none =
-      record {
-        valid_after = subst (λ (h : List Event). IsTrue (rules.valid h)) (sym same) valid;
-        taken = λ event says. absurd (none event says);
-      }
-
-  -- one event more
-  one_more : (e : Event) (o : Outcome) → IsTrue (rules.valid (t.history ++ e ∷ [])) → o.after.history ≡ t.history ++ e ∷ []
-      → ((event : Event) → SaysTaken o.reply event → e ≡ event) → Keeps o
-  one_more e o longer is says =
-      record {
-        valid_after = subst (λ (h : List Event). IsTrue (rules.valid h)) (sym is) longer;
-        taken = λ event said. is ∙ ap (λ (x : Event). t.history ++ x ∷ []) (says event said);
-      }
-
   -- those that are left, where the others could as well have come last
   left_valid : (left gone : List Event) → IsExchanged depends t.history (left ++ gone) → IsTrue (rules.valid left)
   left_valid left gone exchanged = keeps.beginning left gone (keeps.exchanged t.history (left ++ gone) exchanged valid)
@@ -90,22 +73,21 @@ module _ (rules : Rules) (SameState : List Event → List Event → Type 0) (t :
       → IsTrue (rules.valid (t.history ++ taken ∷ []))
   again_valid seat e taken last is =
       let same = lawful.again t.history e taken is in
-      let waits = all-slice_get (IsOfRun t.setup) (redo_of t seat) _ e (all-get_or (AllByRecursion (IsOfRun t.setup)) t.redo (seat - 1) [] of_run.1 tt) last in
       let again = subst (λ (x : Event). rules.again t.history e ≡ Ok x) same is in
-      subst (λ (x : Event). IsTrue (rules.valid (t.history ++ x ∷ []))) (sym same) (keeps.again t.history valid e waits again)
+      subst (λ (x : Event). IsTrue (rules.valid (t.history ++ x ∷ []))) (sym same) (keeps.again t.history valid e (last_of_run t seat e last of_run) again)
 
   pub obeyed-keeps : (seat : ℕ) (command : Command) → Keeps (outcome rules t seat command)
   obeyed-keeps seat command =
       of_command rules t seat Keeps command
       (record {
-        replied = λ said none one. quiet _ refl none;
-        break_set = λ stop. quiet _ refl (λ event says. says);
-        break_gone = λ number. quiet _ refl (λ event says. says);
-        resumed = quiet _ refl (λ event says. says);
+        replied = λ said none one. record { valid_after = valid; taken = λ event says. absurd (none event says) };
+        break_set = λ stop. record { valid_after = valid; taken = λ event says. absurd says };
+        break_gone = λ number. record { valid_after = valid; taken = λ event says. absurd says };
+        resumed = record { valid_after = valid; taken = λ event says. absurd says };
       })
       (λ acts. record {
-        step_done = λ p act e is. one_more e _ (keeps.step t.history valid p act e is) refl (λ event said. said);
-        lost = λ name p e is. one_more e _ (keeps.lose t.history valid name p e is) refl (λ event said. said);
+        step_done = λ p act e is. record { valid_after = keeps.step t.history valid p act e is; taken = λ event says. rw says refl };
+        lost = λ name p e is. record { valid_after = keeps.lose t.history valid name p e is; taken = λ event says. rw says refl };
         undone = λ name done is.
             let exchanged = undone_exchanged t.setup.processes t.history name done is in
             record { valid_after = left_valid done.1 (done.0 ∷ []) exchanged; taken = λ event says. absurd says };
@@ -114,38 +96,28 @@ module _ (rules : Rules) (SameState : List Event → List Event → Type 0) (t :
             let gone = rolled_back depends t.history u.0 in
             let exchanged = subst (λ (l : List Event). IsExchanged depends t.history (l ++ gone)) (sym u.5) (rollback_to_end depends t.history u.0) in
             record { valid_after = left_valid removed.1 gone exchanged; taken = λ event says. absurd says };
-        redone = λ e taken last is. one_more taken _ (again_valid seat e taken last is) refl (λ event said. said);
-        forgot = quiet _ refl (λ event says. says);
+        redone = λ e taken last is. record { valid_after = again_valid seat e taken last is; taken = λ event says. rw says refl };
+        forgot = record { valid_after = valid; taken = λ event says. absurd says };
       })
 
 -- ---- the commands that undo, roll back and redo
 
-undoing-is : (rules : Rules) (t : State) (seat : ℕ) (name : StepId) → outcome rules t seat (undoing name) ≡ undo t seat name
-unfolding outcome
-undoing-is rules t seat (id.Step step) = refl
-undoing-is rules t seat (id.Lost copy) = refl
-
-rolling-is : (rules : Rules) (t : State) (seat : ℕ) (name : StepId) → outcome rules t seat (rolling_back name) ≡ rollback t seat name
-unfolding outcome
-rolling-is rules t seat (id.Step step) = refl
-rolling-is rules t seat (id.Lost copy) = refl
-
 undone-is : (rules : Rules) (t : State) (seat : ℕ) (name : StepId) (r : Result (Event × List Event) Refusal)
     → undo_of t.setup.processes t.history name ≡ r → outcome rules t seat (undoing name) ≡ granted r t (undone_to t seat)
-undone-is rules t seat name r is = undoing-is rules t seat name ∙ ap (λ x. granted x t (undone_to t seat)) is
+unfolding outcome
+undone-is rules t seat (id.Step step) r is = ap (λ x. granted x t (undone_to t seat)) is
+undone-is rules t seat (id.Lost copy) r is = ap (λ x. granted x t (undone_to t seat)) is
 
 rolled-is : (rules : Rules) (t : State) (seat : ℕ) (name : StepId) (r : Result (List Event × List Event) Refusal)
     → rollback_of t.setup.processes t.history name ≡ r → outcome rules t seat (rolling_back name) ≡ granted r t (rolled_to t seat)
-rolled-is rules t seat name r is = rolling-is rules t seat name ∙ ap (λ x. granted x t (rolled_to t seat)) is
+unfolding outcome
+rolled-is rules t seat (id.Step step) r is = ap (λ x. granted x t (rolled_to t seat)) is
+rolled-is rules t seat (id.Lost copy) r is = ap (λ x. granted x t (rolled_to t seat)) is
 
 redone-is : (rules : Rules) (t : State) (seat : ℕ) (event : Event) → last_of (redo_of t seat) ≡ Some event
     → rules.again t.history event ≡ Ok event → outcome rules t seat Redo ≡ redone rules t seat event
 unfolding outcome
 redone-is rules t seat event h1 h2 = grind (arith, common_steps, gets)
-
-decisions-are : (rules : Rules) (t : State) (seat : ℕ) → reply_of rules t seat Decisions ≡ reply.Decisions (rules.decisions t.history)
-unfolding outcome
-decisions-are rules t seat = refl
 
 -- ---- an undo
 
@@ -167,25 +139,27 @@ module _ (rules : Rules) (SameState : List Event → List Event → Type 0) (t :
     replied_free : IsFree depends t.history i → outcome rules t seat (undoing name) ≡ undone_to t seat (event, without t.history i)
     replied_free free = undone-is rules t seat name _ (free_undone t.setup.processes t.history name i event (keeps.named t.history valid i event at) free)
 
-    replied_needed : (later : StepId) → IsFirstDependent t.history i later → outcome rules t seat (undoing name) ≡ refused t (NeededBy later)
-    replied_needed later first =
-        undone-is rules t seat name _ (needed_refused t.setup.processes t.history name i event (keeps.named t.history valid i event at) later first)
+    said_free : IsFree depends t.history i → undo_reply rules t seat event ≡ reply.Undone event
+    said_free free = ap (λ (o : Outcome). o.reply) (replied_free free)
+
+    said_needed : (later : StepId) → IsFirstDependent t.history i later → undo_reply rules t seat event ≡ reply.Refused (NeededBy later)
+    said_needed later first =
+        ap (λ (o : Outcome). o.reply)
+        (undone-is rules t seat name _ (needed_refused t.setup.processes t.history name i event (keeps.named t.history valid i event at) later first))
 
     pub undone_where_free : IsUndoneWhereFree rules t seat i event
     undone_where_free =
         record {
           exactly = (
-            λ said. ⊎_elim (λ free. free)
-                (λ later. not_undone event (NeededBy later.0) (sym (ap (λ (o : Outcome). o.reply) (replied_needed later.0 later.1)) ∙ said)) either,
-            λ free. ap (λ (o : Outcome). o.reply) (replied_free free),
+            λ said. ⊎_elim (λ free. free) (λ later. not_undone event (NeededBy later.0) (sym (said_needed later.0 later.1) ∙ said)) either,
+            said_free,
           );
           needed = λ later. (
             λ said. ⊎_elim
-                (λ free. not_undone event (NeededBy later) (sym said ∙ ap (λ (o : Outcome). o.reply) (replied_free free)))
-                (λ first. subst (IsFirstDependent t.history i)
-                (same_needed first.0 later (sym (ap (λ (o : Outcome). o.reply) (replied_needed first.0 first.1)) ∙ said)) first.1)
+                (λ free. not_undone event (NeededBy later) (sym said ∙ said_free free))
+                (λ first. subst (IsFirstDependent t.history i) (same_needed first.0 later (sym (said_needed first.0 first.1) ∙ said)) first.1)
                 either,
-            λ first. ap (λ (o : Outcome). o.reply) (replied_needed later first),
+            said_needed later,
           );
           either = either;
           loss = λ copy is. keeps.losses_free t.history valid i copy (at ∙ ap Some is);
@@ -259,23 +233,20 @@ module _ (rules : Rules) (SameState : List Event → List Event → Type 0) (set
 
 module _ (rules : Rules) (SameState : List Event → List Event → Type 0) (t : State) (lawful : AreLawful rules t.setup)
     (keeps : KeepHistories rules SameState t.setup) (of_run : AreOfRun t) (valid : IsTrue (rules.valid t.history)) where
-  then_undone : (seat : ℕ) (command : Command) (event : Event) → SaysTaken (reply_of rules t seat command) event
-      → (other : ℕ) → IsUndoneNext rules t (obey rules t seat command) event other
-  then_undone seat command event says other =
+  then_undone : (seat other : ℕ) (command : Command) (event : Event) → SaysTaken (reply_of rules t seat command) event
+      → IsUndoneNext rules t (obey rules t seat command) event other
+  then_undone seat other command event says =
       let kept = obeyed-keeps rules SameState t lawful keeps of_run valid seat command in
       undone_last rules SameState t (obey rules t seat command) event other
       (subst (KeepHistories rules SameState) (sym (leaves rules t seat command).setup) keeps) kept.valid_after (kept.taken event says)
 
   module _ (seat : ℕ) (low : seat - 1 < length t.redo) where
-    list_after : (events history : List Event) → redo_of (undone_by t seat events history) seat ≡ redo_of t seat ++ events
-    list_after events history = get_or-set_same t.redo (seat - 1) (redo_of t seat ++ events) [] low
-
     redone_after : (events left : List Event) (after : State) → IsExchanged depends t.history (left ++ events)
         → after ≡ undone_by t seat (reverse events) left → RedosLeadBack rules SameState t seat after events
     redone_after events left after exchanged is =
         lead_back rules SameState t.setup keeps t seat events after
         (subst (λ (s : State). IsTrue (rules.valid (s.history ++ events))) (sym is) (keeps.exchanged t.history (left ++ events) exchanged valid))
-        (ap (λ (s : State). redo_of s seat) is ∙ list_after (reverse events) left)
+        (ap (λ (s : State). redo_of s seat) is ∙ get_or-set_same t.redo (seat - 1) (redo_of t seat ++ reverse events) [] low)
         (subst (λ (s : State). SameState (s.history ++ events) t.history) (sym is) (keeps.same_state t.history (left ++ events) exchanged))
 
     then_redone : (name : StepId) (event : Event) → reply_of rules t seat (undoing name) ≡ reply.Undone event
@@ -313,28 +284,20 @@ module _ (rules : Rules) (SameState : List Event → List Event → Type 0) (t :
 
   -- what is told are the decisions that the history shows
   are_shown : (seat : ℕ) (pairs : List (ℕ × ℕ)) → reply_of rules t seat Decisions ≡ reply.Decisions pairs → rules.decisions t.history ≡ pairs
-  are_shown seat pairs said = same_listed (rules.decisions t.history) pairs (sym (decisions-are rules t seat) ∙ said)
-    where
-      same_listed : (one other : List (ℕ × ℕ)) → reply.Decisions one ≡ reply.Decisions other → one ≡ other
-      same_listed one other h = cc
-
-  agreed : HasMajorityIfNeeded t.setup → (seat : ℕ) (pairs : List (ℕ × ℕ)) → reply_of rules t seat Decisions ≡ reply.Decisions pairs → AllAgree pairs
-  agreed majority seat pairs said = subst AllAgree (are_shown seat pairs said) (keeps.agreement majority t.history valid)
-
-  proposed : (seat : ℕ) (pairs : List (ℕ × ℕ)) → reply_of rules t seat Decisions ≡ reply.Decisions pairs → AreProposed t.setup pairs
-  proposed seat pairs said = subst (AreProposed t.setup) (are_shown seat pairs said) (keeps.validity t.history valid)
+  unfolding outcome
+  are_shown seat pairs said = cc
 
   pub holds_at : (seats : ℕ) → length t.redo ≡ seats → HoldsAt rules SameState t.setup seats t
   holds_at seats lists =
       record {
         reached = valid;
         shown = keeps.shown t.history;
-        undone_where_free = λ seat i event at. undone_where_free rules SameState t keeps valid seat i event at;
-        step_then_undo = λ seat other command event says. then_undone seat command event says other;
+        undone_where_free = undone_where_free rules SameState t keeps valid;
+        step_then_undo = then_undone;
         undo_then_redo = λ seat event within said. then_redone seat (among seat within) (event_name event) event said;
         rolled_back = λ seat i event within at. back_and_forth seat (among seat within) i event at;
-        agreement = λ seat pairs majority said. agreed majority seat pairs said;
-        validity = proposed;
+        agreement = λ seat pairs majority said. subst AllAgree (are_shown seat pairs said) (keeps.agreement majority t.history valid);
+        validity = λ seat pairs said. subst (AreProposed t.setup) (are_shown seat pairs said) (keeps.validity t.history valid);
       }
     where
       among : (seat : ℕ) → IsWithin 1 seats seat → seat - 1 < length t.redo

@@ -28,6 +28,13 @@ pub record Adds (t u : State) : Type 0 where
   pub lists : length u.redo ≡ length t.redo
   pub of_run : AreOfRun t → AreOfRun u
 
+-- what waits in a seat's list is of the run
+own_of_run : (t : State) (seat : ℕ) → AreOfRun t → AllByRecursion (IsOfRun t.setup) (redo_of t seat)
+own_of_run t seat all = all-get_or (AllByRecursion (IsOfRun t.setup)) t.redo (seat - 1) [] all.1 tt
+
+pub last_of_run : (t : State) (seat : ℕ) (e : Event) → last_of (redo_of t seat) ≡ Some e → AreOfRun t → IsOfRun t.setup e
+last_of_run t seat e last all = all-slice_get (IsOfRun t.setup) (redo_of t seat) _ e (own_of_run t seat all) last
+
 module _ (rules : Rules) (t : State) (lawful : AreLawful rules t.setup) where
   stops_only : (stops : Stops) (next : ℕ) (pause : Option ℕ) → next ≤ t.next + 1 → Adds t (record t { stops = stops; next = next; pause = pause })
   stops_only stops next pause few = record { setup = refl; numbers = few; events = omega arith; lists = refl; of_run = λ all. all }
@@ -56,22 +63,18 @@ module _ (rules : Rules) (t : State) (lawful : AreLawful rules t.setup) where
           of_run = λ all. ((of_run all).0, all-set (AllByRecursion (IsOfRun t.setup)) t.redo (seat - 1) own all.1 (of_run all).1);
         }
 
-    own_of_run : AreOfRun t → AllByRecursion (IsOfRun t.setup) (redo_of t seat)
-    own_of_run all = all-get_or (AllByRecursion (IsOfRun t.setup)) t.redo (seat - 1) [] all.1 tt
-
     parted : (events left : List Event) → Parted (IsOfRun t.setup) t.history events left → Adds t (undone_by t seat events left)
     parted events left parts =
         changed left (redo_of t seat ++ events) (omega (arith, parts.count, length-append (redo_of t seat) events))
-        (λ all. (parts.left all.0, all-append (IsOfRun t.setup) (redo_of t seat) events (own_of_run all) (parts.gone all.0)))
+        (λ all. (parts.left all.0, all-append (IsOfRun t.setup) (redo_of t seat) events (own_of_run t seat all) (parts.gone all.0)))
 
     taken_again : (e taken : Event) → last_of (redo_of t seat) ≡ Some e → rules.again t.history e ≡ Ok taken → Adds t (redone rules t seat taken).after
     taken_again e taken last is =
         changed (t.history ++ taken ∷ []) (without_last (redo_of t seat))
         (omega (arith, length-append t.history (taken ∷ []), length-take (length (redo_of t seat) - 1) (redo_of t seat)))
-        (λ all.
-        let of_run = all-slice_get (IsOfRun t.setup) (redo_of t seat) _ e (own_of_run all) last in (
-          push_all (IsOfRun t.setup) t.history taken all.0 (subst (IsOfRun t.setup) (sym (lawful.again t.history e taken is)) of_run),
-          all-take (IsOfRun t.setup) (length (redo_of t seat) - 1) (redo_of t seat) (own_of_run all),
+        (λ all. (
+          push_all (IsOfRun t.setup) t.history taken all.0 (subst (IsOfRun t.setup) (sym (lawful.again t.history e taken is)) (last_of_run t seat e last all)),
+          all-take (IsOfRun t.setup) (length (redo_of t seat) - 1) (redo_of t seat) (own_of_run t seat all),
         ))
 
   pub obey-adds : (seat : ℕ) (command : Command) → 1 ≤ seat → seat ≤ length t.redo → Adds t (obey rules t seat command)

@@ -1,12 +1,11 @@
-use Rattle.std.proofs.Common.{refl, arith, ◌-◌, ap, ◌∙◌, sym, subst, []}
-use Rattle.std.specs.List.{AllByRecursion}
+use Rattle.std.proofs.Common.{refl, arith, ap, ◌∙◌, sym, subst}
 use Rattle.cdb_base.specs.Positions.{without_last}
-use Rattle.cdb_rules.proofs.Alls.{all-get_or, all-slice_get}
 use Rattle.cdb_control.proofs.Room.{swap}
+use Rattle.cdb_control.proofs.Table.{last_of_run}
 use Rattle.cdb_control.proofs.Steps.{changed, redone-as}
 use Rattle.cdb_control.specs.Commands.{decides}
 use Rattle.cdb_control.specs.Room.{StoredState, StoredList}
-use Rattle.cdb_control.specs.State.{redo_of, last_of}
+use Rattle.cdb_control.specs.State.{last_of}
 use Rattle.cdb_rules.specs.Refusals.{IsOfRun, with_taken}
 use Rattle.cdb_control.proofs.state.ControlState.redo.Goals as goal
 
@@ -14,11 +13,9 @@ pub again-requires : goal.again-requires
 again-requires g c =
     let now = c.args.self.now in
     let w = swap c.self.inside.redo.items c.index.result.now refl refl c.self.view_is c.requires.from_one c.requires.to_last c.index.ensures in
-    let of_run = IsOfRun now.state.setup in
     let last = c.in-Some.ensures ∙ ap last_of (sym w.at) in
-    let all = all-get_or (AllByRecursion of_run) now.state.redo (c.args.seat - 1) [] c.requires.of_run.1 tt in
     subst (λ (v : StoredState). IsOfRun v.state.setup c.in-Some.undone) (sym c.self.view_is)
-    (all-slice_get of_run (redo_of now.state c.args.seat) _ c.in-Some.undone all (sym last))
+    (last_of_run now.state c.args.seat c.in-Some.undone (sym last) c.requires.of_run)
 
 pub returns-in-Ok-clause-ok : goal.returns-in-Ok-clause-ok
 returns-in-Ok-clause-ok g c =
