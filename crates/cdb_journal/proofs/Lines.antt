@@ -22,10 +22,11 @@ use Rattle.cdb_control.specs.declared.control.Entry.{Entry}
 use Rattle.cdb_text.specs.Commands.{CommandPart, fixed, number, register, command_parts}
 use Rattle.cdb_text.specs.Entries.{IsEntryLine, IsSeat, entry_text}
 use Rattle.cdb_text.specs.Grammar.{IsInRange, HasNumbersInRange, part_text, printed}
-use Rattle.cdb_text.proofs.Again.{again}
+use Rattle.cdb_text.specs.Lines.{whole_line}
+use Rattle.cdb_text.specs.Readers.{read_by}
 use Rattle.cdb_text.proofs.Entries.{one_seat, one_entry_line}
 use Rattle.cdb_text.proofs.Printed.{some_part}
-use Rattle.cdb_text.proofs.ReaderSteps.{command_at}
+use Rattle.cdb_text.proofs.Whole.{one_command}
 use Rattle.cdb_streams.specs.Lines.{without_empty_end, lines_of}
 use Rattle.cdb_streams.proofs.CutLines.{is_newline, no_lines}
 use Rattle.cdb_journal.specs.Journals.{AreEntriesOf, IsJournal, IsTooLong, IsWritable, entry_line, journal_text, longest_line}
@@ -137,9 +138,9 @@ same_entry e f line a b =
     let words : decimal e.seat ∷ a.0 ≡ decimal f.seat ∷ b.0 = sym a.2 ∙ b.2 in
     let first : decimal e.seat ≡ decimal f.seat = cc in
     let others : a.0 ≡ b.0 = cc in
-    let one : command_at a.0 ≡ Ok e.command = ap command_at a.3.0 ∙ again e.command a.3.1 in
-    let two : command_at b.0 ≡ Ok f.command = ap command_at b.3.0 ∙ again f.command b.3.1 in
-    let read : command_at a.0 ≡ command_at b.0 = ap command_at others in
+    let one : read_by whole_line a.0 ≡ Ok e.command = (one_command a.0 e.command).1 a.3 in
+    let two : read_by whole_line b.0 ≡ Ok f.command = (one_command b.0 f.command).1 b.3 in
+    let read : read_by whole_line a.0 ≡ read_by whole_line b.0 = ap (read_by whole_line) others in
     let commands : e.command ≡ f.command = cc in
     let seats : e.seat ≡ f.seat = one_seat e.seat f.seat a.1 b.1 first in
     (λ i. record { seat = seats i; command = commands i })

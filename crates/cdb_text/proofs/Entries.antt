@@ -14,7 +14,8 @@ use Rattle.cdb_text.specs.Commands.{CommandPart, command_parts}
 use Rattle.cdb_text.specs.Entries.{EachEntryHasOneLine, entry_text, IsSeat, IsEntryLine, BeginWithNoSeat, IsFaultOfEntryWords, IsFaultOfEntry}
 use Rattle.cdb_text.specs.Faults.{IsFirstFaultOfWords}
 use Rattle.cdb_text.specs.Grammar.{AreWordsOf, HasNumbersInRange, part_text, printed, words_of}
-use Rattle.cdb_text.specs.Readers.{IsReadAfter, number_at, number_of}
+use Rattle.cdb_text.specs.Lines.{whole_line}
+use Rattle.cdb_text.specs.Readers.{number_at, number_of, read_by}
 use Rattle.cdb_text.proofs.Cut.{is_space}
 use Rattle.cdb_text.proofs.Numbers.{number_says, number_again}
 use Rattle.cdb_text.proofs.Printed.{none_is_space, number_is_spaceless, printed_is_line, some_part}
@@ -133,7 +134,7 @@ module _ (line : List ℕ) (some : line ≢ []) (s : ℕ) (rest : Words) (is : I
     | inr (t, others, seat, other, first) ↦ subst (λ (words : Words). IsFirstFaultOfWords fault words) (sym (its_seat t others seat other).1) first
   ]
 
-  pub whole_entry : (command : Command) → IsReadAfter [] rest (Ok command) → (t : ℕ) (other : Command)
+  pub whole_entry : (command : Command) → read_by whole_line rest ≡ Ok command → (t : ℕ) (other : Command)
       → (let read : EntryRead = Ok (s, command) in read ≡ Ok (t, other)) ↔ IsEntryLine t other line
   whole_entry command read t other = (
     (λ same.
@@ -142,41 +143,41 @@ module _ (line : List ℕ) (some : line ≢ []) (s : ℕ) (rest : Words) (is : I
           rest,
           subst IsSeat seats is,
           subst (λ (n : ℕ). words_of line ≡ decimal n ∷ rest) seats cut,
-          (one_command rest (Ok command) other read).0 (ap (λ (c : Command). Ok c) commands),
+          (one_command rest other).0 (read ∙ ap (λ (c : Command). Ok c) commands),
         )),
     (λ its.
         let at = its_seat t its.0 its.1 its.2 in
-        let commands = (one_command rest (Ok command) other read).1 (subst (AreWordsOf other) (sym at.1) its.3) in
+        let commands = (one_command rest other).1 (subst (AreWordsOf other) (sym at.1) its.3) in
         let same : command ≡ other = cc in
         rw (at.0, same) refl),
   )
 
-  pub whole_has_no_fault : (command : Command) → IsReadAfter [] rest (Ok command) → (fault : LineFault)
+  pub whole_has_no_fault : (command : Command) → read_by whole_line rest ≡ Ok command → (fault : LineFault)
       → (let read : EntryRead = Ok (s, command) in read ≡ Err fault) ↔ IsFaultOfEntry fault line
   whole_has_no_fault command read fault = (
     (λ same. absurd cc),
-    (λ its. let same = (one_fault rest (Ok command) fault read).1 (behind fault its) in absurd cc),
+    (λ its. let same = (one_fault rest fault).1 (behind fault its) in absurd cc),
   )
 
-  pub faulty_is_none : (why : LineFault) → IsReadAfter [] rest (Err why) → (t : ℕ) (other : Command)
+  pub faulty_is_none : (why : LineFault) → read_by whole_line rest ≡ Err why → (t : ℕ) (other : Command)
       → (let read : EntryRead = Err why in read ≡ Ok (t, other)) ↔ IsEntryLine t other line
   faulty_is_none why read t other = (
     (λ same. absurd cc),
     (λ its.
         let at = its_seat t its.0 its.1 its.2 in
-        let same = (one_command rest (Err why) other read).1 (subst (AreWordsOf other) (sym at.1) its.3) in
+        let same = (one_command rest other).1 (subst (AreWordsOf other) (sym at.1) its.3) in
         absurd cc),
   )
 
-  pub its_fault : (why : LineFault) → IsReadAfter [] rest (Err why) → (fault : LineFault)
+  pub its_fault : (why : LineFault) → read_by whole_line rest ≡ Err why → (fault : LineFault)
       → (let read : EntryRead = Err why in read ≡ Err fault) ↔ IsFaultOfEntry fault line
   its_fault why read fault = (
     (λ same.
         let faults : why ≡ fault = cc in
-        let first = (one_fault rest (Err why) fault read).0 (ap (λ (f : LineFault). Err f) faults) in
+        let first = (one_fault rest fault).0 (read ∙ ap (λ (f : LineFault). Err f) faults) in
         of_entry fault line some (never_empty fault rest first) (inr (s, rest, is, cut, first))),
     (λ its.
-        let same = (one_fault rest (Err why) fault read).1 (behind fault its) in
+        let same = (one_fault rest fault).1 (behind fault its) in
         let faults : why ≡ fault = cc in
         ap (λ (f : LineFault). Err f) faults),
   )

@@ -13,5 +13,5 @@ pub mod Reports
 pub mod Texts
 pub mod Pushes
 -- what the code keeps for itself: how words are read one after the other
-pub mod Keywords
 pub mod Verbs
+pub mod Lines

@@ -1,14 +1,9 @@
 -- The commands that name an event.
-use Rattle.std.specs.Prelude.{ℕ, List, codes}
+use Rattle.std.specs.Prelude.{ℕ}
 use Rattle.cdb_commands.specs.declared.command.Command.{Command}
 use Rattle.cdb_commands.specs.declared.command.Command.TheVariants as command
 use Rattle.cdb_text.specs.declared.verb.Verb.{Verb}
 use Rattle.cdb_text.specs.declared.verb.Verb.TheVariants.{Undo, Rollback, Why}
-
-abbrev pub verb_name : Verb → List ℕ
-verb_name Undo = codes "undo"
-verb_name Rollback = codes "rollback"
-verb_name Why = codes "why"
 
 abbrev pub on_step : Verb → ℕ → ℕ → Command
 on_step Undo = command.Undo

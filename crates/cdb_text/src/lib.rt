@@ -10,7 +10,6 @@
 
 mod entry;
 mod fault;
-mod keyword;
 pub mod laws;
 mod line;
 mod text;

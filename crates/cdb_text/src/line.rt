@@ -1,79 +1,65 @@
 //! Lines of a script.
 
-ghost use Rattle.std.specs.Prelude.{◌≡◌, ◌↔◌, ◌∷◌, [], codes, decimal, Ok, Err, IfSome};
+ghost use Rattle.std.specs.Prelude.{◌≡◌, ◌↔◌, Ok, Err, IfSome};
 ghost use Rattle.cdb_commands.specs.declared.command.Command.{Command as CommandName};
 ghost use Rattle.cdb_text.specs.declared.fault.LineFault.{LineFault as LineFaultName};
-ghost use Rattle.cdb_text.specs.Grammar.{IsInRange, IsLineOf, words_of};
+ghost use Rattle.cdb_text.specs.Grammar.{IsLineOf, words_of};
 ghost use Rattle.cdb_text.specs.Faults.{IsFaultOf};
-ghost use Rattle.cdb_text.specs.Commands.{number};
-ghost use Rattle.cdb_text.specs.Readers.{IsReadAfter};
-ghost use Rattle.cdb_text.specs.Verbs.{verb_name};
+ghost use Rattle.cdb_text.specs.Lines.{after_step, after_break, after_show, after_verb, whole_line};
+ghost use Rattle.cdb_text.specs.Readers.{read_by};
 
 use crate::fault::LineFault;
-use crate::keyword::Keyword;
 use crate::verb::Verb;
-use crate::words::{Words, number_of};
+use crate::words::{Words, is, number_of};
 use cdb_base::Act;
 use cdb_commands::{Command, Stop, View};
 
-/// The words after `step P query`.
-fn query(p: u32, mut words: Words<'_>) -> Result<Command, LineFault>
-    requires { IsInRange (number p) }
-    ensures { IsReadAfter (codes "step" ∷ decimal p ∷ codes "query" ∷ []) words.entry result }
-{
-    if words.is_empty() {
-        return Ok(Command::Step(p, Act::Query(None)));
-    }
-    let answer = words.number()?;
-    words.end(Command::Step(p, Act::Query(Some(answer))))
-}
-
-/// The words after `step P recv`.
-fn recv(p: u32, mut words: Words<'_>) -> Result<Command, LineFault>
-    requires { IsInRange (number p) }
-    ensures { IsReadAfter (codes "step" ∷ decimal p ∷ codes "recv" ∷ []) words.entry result }
-{
-    let sender = words.number()?;
-    let number = words.number()?;
-    words.end(Command::Step(p, Act::Recv(sender, number)))
-}
-
 /// The words after `step`.
+#[tactic(auto, unfolding(crate::specs::Lines::after_step))]
 fn step(mut words: Words<'_>) -> Result<Command, LineFault>
-    ensures { IsReadAfter (codes "step" ∷ []) words.entry result }
+    ensures { result ≡ read_by after_step words.entry }
 {
     let p = words.number()?;
-    let word = words.word()?;
-    match Keyword::of(word) {
-        Some(Keyword::Go) => words.end(Command::Step(p, Act::Go)),
-        Some(Keyword::Learn) => words.end(Command::Step(p, Act::Learn)),
-        Some(Keyword::Crash) => words.end(Command::Step(p, Act::Crash)),
-        Some(Keyword::Query) => query(p, words),
-        Some(Keyword::Recv) => recv(p, words),
+    match words.word()? {
+        word if is(word, b"go") => words.end(Command::Step(p, Act::Go)),
+        word if is(word, b"learn") => words.end(Command::Step(p, Act::Learn)),
+        word if is(word, b"crash") => words.end(Command::Step(p, Act::Crash)),
+        word if is(word, b"query") => {
+            if words.is_empty() {
+                return Ok(Command::Step(p, Act::Query(None)));
+            }
+            let answer = words.number()?;
+            words.end(Command::Step(p, Act::Query(Some(answer))))
+        }
+        word if is(word, b"recv") => {
+            let sender = words.number()?;
+            let number = words.number()?;
+            words.end(Command::Step(p, Act::Recv(sender, number)))
+        }
         _ => Err(LineFault::Word),
     }
 }
 
 /// The words after `break`.
+#[tactic(auto, unfolding(crate::specs::Lines::after_break))]
 fn break_at(mut words: Words<'_>) -> Result<Command, LineFault>
-    ensures { IsReadAfter (codes "break" ∷ []) words.entry result }
+    ensures { result ≡ read_by after_break words.entry }
 {
-    let word = words.word()?;
-    match Keyword::of(word) {
-        Some(Keyword::Decide) => {
+    match words.word()? {
+        word if is(word, b"decide") => {
             let p = words.number()?;
             words.end(Command::Break(Stop::Decide(p)))
         }
-        Some(Keyword::Round) => {
+        word if is(word, b"round") => {
             let p = words.number()?;
             let round = words.number()?;
             words.end(Command::Break(Stop::Round(p, round)))
         }
-        Some(Keyword::Recv) => {
+        word if is(word, b"recv") => {
             let p = words.number()?;
             words.end(Command::Break(Stop::Recv(p)))
         }
-        Some(Keyword::Write) => {
+        word if is(word, b"write") => {
             let register = words.register()?;
             words.end(Command::Break(Stop::Write(register)))
         }
@@ -82,14 +68,15 @@ fn break_at(mut words: Words<'_>) -> Result<Command, LineFault>
 }
 
 /// The words after `show`.
+#[tactic(auto, unfolding(crate::specs::Lines::after_show))]
 fn show(mut words: Words<'_>) -> Result<Command, LineFault>
-    ensures { IsReadAfter (codes "show" ∷ []) words.entry result }
+    ensures { result ≡ read_by after_show words.entry }
 {
     let word = words.word()?;
-    match Keyword::of(word) {
-        Some(Keyword::Regs) => words.end(Command::Show(View::Regs)),
-        Some(Keyword::Mail) => words.end(Command::Show(View::Mail)),
-        Some(Keyword::History) => words.end(Command::Show(View::History)),
+    match word {
+        word if is(word, b"regs") => words.end(Command::Show(View::Regs)),
+        word if is(word, b"mail") => words.end(Command::Show(View::Mail)),
+        word if is(word, b"history") => words.end(Command::Show(View::History)),
         _ => match number_of(word) {
             Some(p) => words.end(Command::Show(View::Proc(p))),
             None => Err(LineFault::Word),
@@ -98,12 +85,13 @@ fn show(mut words: Words<'_>) -> Result<Command, LineFault>
 }
 
 /// The words after `undo`, `rollback` or `why`.
+#[tactic(auto, unfolding(crate::specs::Lines::after_verb))]
 fn event(verb: Verb, mut words: Words<'_>) -> Result<Command, LineFault>
-    ensures { IsReadAfter (verb_name verb ∷ []) words.entry result }
+    ensures { result ≡ read_by (after_verb verb) words.entry }
 {
     let word = words.word()?;
-    match Keyword::of(word) {
-        Some(Keyword::Lost) => {
+    match word {
+        word if is(word, b"lost") => {
             let sender = words.number()?;
             let number = words.number()?;
             let p = words.number()?;
@@ -121,35 +109,36 @@ fn event(verb: Verb, mut words: Words<'_>) -> Result<Command, LineFault>
 
 /// The command of a line of words.
 #[inline(never)]
+#[tactic(auto, unfolding(crate::specs::Lines::whole_line))]
 pub(crate) fn command(mut words: Words<'_>) -> Result<Command, LineFault>
-    ensures { IsReadAfter [] words.entry result }
+    ensures { result ≡ read_by whole_line words.entry }
 {
-    let word = words.word()?;
-    match Keyword::of(word) {
-        Some(Keyword::Step) => step(words),
-        Some(Keyword::Auto) => {
-            let p = words.number()?;
-            words.end(Command::Auto(p))
-        }
-        Some(Keyword::Lose) => {
+    match words.word()? {
+        // Those that long scripts have most.
+        word if is(word, b"undo") => event(Verb::Undo, words),
+        word if is(word, b"redo") => words.end(Command::Redo),
+        word if is(word, b"why") => event(Verb::Why, words),
+        word if is(word, b"lose") => {
             let sender = words.number()?;
             let number = words.number()?;
             let p = words.number()?;
             words.end(Command::Lose(sender, number, p))
         }
-        Some(Keyword::Undo) => event(Verb::Undo, words),
-        Some(Keyword::Redo) => words.end(Command::Redo),
-        Some(Keyword::Forget) => words.end(Command::Forget),
-        Some(Keyword::Rollback) => event(Verb::Rollback, words),
-        Some(Keyword::Why) => event(Verb::Why, words),
-        Some(Keyword::Break) => break_at(words),
-        Some(Keyword::Unbreak) => {
+        word if is(word, b"step") => step(words),
+        word if is(word, b"auto") => {
+            let p = words.number()?;
+            words.end(Command::Auto(p))
+        }
+        word if is(word, b"forget") => words.end(Command::Forget),
+        word if is(word, b"rollback") => event(Verb::Rollback, words),
+        word if is(word, b"break") => break_at(words),
+        word if is(word, b"unbreak") => {
             let number = words.number()?;
             words.end(Command::Unbreak(number))
         }
-        Some(Keyword::Resume) => words.end(Command::Resume),
-        Some(Keyword::Show) => show(words),
-        Some(Keyword::Decisions) => words.end(Command::Decisions),
+        word if is(word, b"resume") => words.end(Command::Resume),
+        word if is(word, b"show") => show(words),
+        word if is(word, b"decisions") => words.end(Command::Decisions),
         _ => Err(LineFault::Word),
     }
 }
@@ -157,7 +146,7 @@ pub(crate) fn command(mut words: Words<'_>) -> Result<Command, LineFault>
 /// The process of a line `auto P`, where its number has one digit.
 #[inline(always)]
 fn short_auto(line: &[u8]) -> Option<u32>
-    ensures { IfSome result (λ p. IsReadAfter [] (words_of line.now) (Ok (Command.Auto p))) }
+    ensures { IfSome result (λ p. read_by whole_line (words_of line.now) ≡ Ok (Command.Auto p)) }
 {
     match line {
         [b'a', b'u', b't', b'o', b' ', digit] if b'1' <= *digit && *digit <= b'9' => {

@@ -1,14 +1,13 @@
 //! The words of a line, taken one after the other.
 
-ghost use Rattle.std.specs.Prelude.{◌≡◌, ◌≢◌, ◌≤◌, ◌∷◌, [], length};
-ghost use Rattle.std.specs.Prelude.{MatchOption, MatchBool, IfOk};
+ghost use Rattle.std.specs.Prelude.{◌≡◌, ◌≤◌, ◌∷◌, length, MatchOption};
+ghost use Rattle.std.specs.Str.{bytes_eq};
 ghost use Rattle.std.specs.Str.Parse.{AllDigits, digits_value};
 ghost use Rattle.cdb_base.specs.Results.{MapsTo};
-ghost use Rattle.cdb_text.specs.Commands.{number};
-ghost use Rattle.cdb_text.specs.Grammar.{IsInRange, words_of};
+ghost use Rattle.cdb_text.specs.Grammar.{words_of};
 ghost use Rattle.cdb_text.specs.Words.{words_left};
 ghost use Rattle.cdb_text.specs.Readers.{number_of, register_named};
-ghost use Rattle.cdb_text.specs.Readers.{word_at, number_at, register_at, ended};
+ghost use Rattle.cdb_text.specs.Readers.{word_at, number_at, register_at, none_left, ended};
 
 use crate::fault::LineFault;
 use cdb_base::{Proc, Reg};
@@ -40,7 +39,7 @@ impl<'a> Words<'a> {
 
     /// Whether no word is left.
     pub(crate) fn is_empty(&self) -> bool
-        ensures { MatchBool result (self.now ≡ []) (self.now ≢ []) }
+        ensures { result ≡ none_left self.now }
     {
         self.rest.is_none()
     }
@@ -59,8 +58,7 @@ impl<'a> Words<'a> {
 
     /// The next word, which is a number.
     pub(crate) fn number(&mut self) -> Result<u32, LineFault>
-        ensures next { MapsTo (λ n. (n, self.new)) result (number_at self.old) }
-        ensures in_range { IfOk result (λ n. IsInRange (number n)) }
+        ensures { MapsTo (λ n. (n, self.new)) result (number_at self.old) }
     {
         let word = self.word()?;
         match number_of(word) {
@@ -100,6 +98,15 @@ pub fn first_word(line: &[u8]) -> (&[u8], Option<&[u8]>)
         Some(end) => (&line[..end], Some(&line[end + 1..])),
         None => (line, None),
     }
+}
+
+/// Whether the word is this one.
+#[inline(always)]
+pub(crate) fn is(word: &[u8], name: &[u8]) -> bool
+    ensures { result ≡ bytes_eq word.now name.now }
+{
+    // (where the name is a literal, this is a compare or two)
+    word.len() == name.len() && name.starts_with(word)
 }
 
 /// The number that the digits write, if all the bytes are digits.

@@ -25,7 +25,7 @@ returns-in_err-command-clause-entry c =
     let its = c.in_ok-seat.ensures.seat in
     rw (p.1, p.2)
     (faulty_is_none c.args.line.now some c.in_ok-seat.seat c.seat.new.words its.0
-    (sym c.of-words.ensures ∙ its.1) c.in_err-command.field-0.0 c.in_err-command.ensures)
+    (sym c.of-words.ensures ∙ its.1) c.in_err-command.field-0.0 (sym c.in_err-command.ensures))
 
 pub returns-in_err-command-clause-fault : goal.returns-in_err-command-clause-fault
 returns-in_err-command-clause-fault c =
@@ -34,17 +34,17 @@ returns-in_err-command-clause-fault c =
     let its = c.in_ok-seat.ensures.seat in
     rw (p.1, p.2)
     (its_fault c.args.line.now some c.in_ok-seat.seat c.seat.new.words its.0
-    (sym c.of-words.ensures ∙ its.1) c.in_err-command.field-0.0 c.in_err-command.ensures)
+    (sym c.of-words.ensures ∙ its.1) c.in_err-command.field-0.0 (sym c.in_err-command.ensures))
 
 pub returns-clause-entry : goal.returns-clause-entry
 returns-clause-entry c =
     let some : c.args.line.now ≢ [] = λ empty. eqb-false (length c.args.line.now) 0 (sym c.if-is_empty.ensures) (ap length empty) in
     let its = c.in_ok-seat.ensures.seat in
-    whole_entry c.args.line.now some c.in_ok-seat.seat c.seat.new.words its.0 (sym c.of-words.ensures ∙ its.1) c.in_ok-command.command c.in_ok-command.ensures
+    whole_entry c.args.line.now some c.in_ok-seat.seat c.seat.new.words its.0 (sym c.of-words.ensures ∙ its.1) c.in_ok-command.command (sym c.in_ok-command.ensures)
 
 pub returns-clause-fault : goal.returns-clause-fault
 returns-clause-fault c =
     let some : c.args.line.now ≢ [] = λ empty. eqb-false (length c.args.line.now) 0 (sym c.if-is_empty.ensures) (ap length empty) in
     let its = c.in_ok-seat.ensures.seat in
     whole_has_no_fault c.args.line.now some c.in_ok-seat.seat c.seat.new.words its.0
-    (sym c.of-words.ensures ∙ its.1) c.in_ok-command.command c.in_ok-command.ensures
+    (sym c.of-words.ensures ∙ its.1) c.in_ok-command.command (sym c.in_ok-command.ensures)

@@ -1,58 +1,19 @@
--- Fixed words and registers.
+-- The words that are registers, and that a number is no other word.
 use Rattle.std.proofs.lemmas.Grind.{common_steps}
 use Rattle.std.proofs.lemmas.Option.{gets}
-use Rattle.std.proofs.Common.{◌≡◌, ℕ, ◌+◌, ◌-◌, ◌<◌, ◌≤◌, Bool, true, ◌&&◌, cond, List, [], ◌∷◌, length, get_or, Option}
-use Rattle.std.proofs.Common.{Some, None, bytes_eq, eqb, refl, sym, ap, subst, ◌∙◌, arith, inl, inr}
-use Rattle.std.specs.Prelude.{find, codes, decimal, slice_index, nat_le}
+use Rattle.std.proofs.Common.{◌≡◌, ℕ, ◌+◌, ◌-◌, ◌<◌, ◌≤◌, Bool, true, false, ◌&&◌, cond, List, [], ◌∷◌, length, get_or, Option}
+use Rattle.std.proofs.Common.{Some, None, bytes_eq, eqb, refl, ap, subst, ◌∙◌, arith, inl, inr}
+use Rattle.std.specs.Prelude.{codes, decimal, slice_index, nat_le}
 use Rattle.std.proofs.lemmas.Bool.{and_parts, cases_Bool, le-leb, leb-true, eqb-true}
-use Rattle.std.proofs.lemmas.Slice.Eq.{bytes_eq-Decides, HasBytesAt, text_from_reads}
+use Rattle.std.proofs.lemmas.Slice.Eq.{bytes_eq-Decides}
 use Rattle.std.proofs.lemmas.Fmt.{decimal_digit, decimal_nonempty, digits_decimal}
 use Rattle.std.specs.Str.Parse.{AllDigits}
 use Rattle.std.proofs.lemmas.Str.Parse.{digit_at, numerals_by_value, tells_digits}
 use Rattle.cdb_base.specs.declared.register.Reg.{Reg}
 use Rattle.cdb_base.specs.declared.register.Reg.TheVariants.{R, Dec}
-use Rattle.cdb_text.specs.declared.keyword.Keyword.{Keyword}
-use Rattle.cdb_text.specs.Keywords.{keyword_name, keywords}
-use Rattle.cdb_text.specs.Commands.{register}
+use Rattle.cdb_text.specs.Commands.{number, register}
 use Rattle.cdb_text.specs.Grammar.{part_text, IsInRange}
-use Rattle.cdb_text.specs.Readers.{keyword_of, register_named}
-
-found_is : {A : Type 0} (p : A → Bool) (xs : List A) (x : A) → find p xs ≡ Some x → p x ≡ true
-found_is p [] x e = absurd cc
-found_is p (y ∷ xs) x e =
-    elim (cases_Bool (p y)) [
-      | inl h ↦ let same : y ≡ x = (let there : Some y ≡ Some x = rw h at e in cc) in subst (λ z. p z ≡ true) same h
-      | inr h ↦ found_is p xs x (rw h at e)
-    ]
-
--- a word that is read as a fixed word is that word
-pub keyword_says : (word : List ℕ) (k : Keyword) → keyword_of word ≡ Some k → word ≡ keyword_name k
-unfolding keyword_of
-keyword_says word k e = (bytes_eq-Decides word (keyword_name k)).0 (found_is (λ k. bytes_eq word (keyword_name k)) keywords k e)
-
--- each fixed word is read as itself
-pub keyword_again : (k : Keyword) → keyword_of (keyword_name k) ≡ Some k
-unfolding keyword_of
-keyword_again k = grind (arith, common_steps, gets)
-
--- a word with the length and the bytes of a fixed word is read as that
-pub keyword_read : (k : Keyword) (word : List ℕ) → length word ≡ length (keyword_name k) → HasBytesAt word 0 (keyword_name k) → Some k ≡ keyword_of word
-keyword_read k word long reads = sym (keyword_again k) ∙ ap keyword_of (sym (text_from_reads word (keyword_name k) long reads))
-
--- a fixed word begins with a letter
-letter : (k : Keyword) → 97 ≤ get_or (keyword_name k) 0 0
-letter k = grind (arith, common_steps, gets)
-
-no_keyword_at : (word : List ℕ) (found : Option Keyword) → get_or word 0 0 < 97 → keyword_of word ≡ found → keyword_of word ≡ None
-no_keyword_at word None low e = e
-no_keyword_at word (Some k) low e =
-    let same = keyword_says word k e in
-    let first : get_or word 0 0 ≡ get_or (keyword_name k) 0 0 = ap (λ (w : List ℕ). get_or w 0 0) same in
-    absurd (omega (arith, first, letter k))
-
--- a word that begins with less than a letter is none
-pub no_keyword_below : (word : List ℕ) → slice_index word 0 < 97 → None ≡ keyword_of word
-no_keyword_below word low = sym (no_keyword_at word (keyword_of word) low refl)
+use Rattle.cdb_text.specs.Readers.{register_named}
 
 first_digit : (n : ℕ) → 1 ≤ n → n ≤ 999999 → get_or (decimal n) 0 0 < 97
 first_digit n low high =
@@ -60,9 +21,20 @@ first_digit n low high =
     let range = digit_at (decimal n) 0 digits (decimal_nonempty n (omega arith)) in
     omega (arith, range)
 
--- a number is no fixed word
-pub number_is_no_keyword : (n : ℕ) → 1 ≤ n → n ≤ 999999 → keyword_of (decimal n) ≡ None
-number_is_no_keyword n low high = no_keyword_at (decimal n) (keyword_of (decimal n)) (first_digit n low high) refl
+-- the word begins with a letter
+abbrev pub has_letter : List ℕ → Bool
+has_letter word = nat_le 97 (get_or word 0 0)
+
+-- so it is no number
+pub no_number : (word : List ℕ) (n : ℕ) → has_letter word ≡ true → IsInRange (number n) → bytes_eq (decimal n) word ≡ false
+no_number word n letter is =
+    elim (cases_Bool (bytes_eq (decimal n) word)) [
+      | inl h ↦
+          let same = (bytes_eq-Decides (decimal n) word).0 h in
+          let first : get_or (decimal n) 0 0 ≡ get_or word 0 0 = ap (λ (w : List ℕ). get_or w 0 0) same in
+          absurd (omega (arith, first, first_digit n is.0 is.1, leb-true _ _ letter))
+      | inr h ↦ h
+    ]
 
 -- each register is read as itself
 pub register_again : (x : Reg) → IsInRange (register x) → register_named (part_text (register x)) ≡ Some x
@@ -129,5 +101,5 @@ no_register word (Some x) low e =
     absurd (omega (arith, first, starts_with_letter x says.1))
 
 -- a number is no register
-pub number_is_no_register : (n : ℕ) → 1 ≤ n → n ≤ 999999 → register_named (decimal n) ≡ None
-number_is_no_register n low high = no_register (decimal n) (register_named (decimal n)) (first_digit n low high) refl
+pub number_is_no_register : (n : ℕ) → IsInRange (number n) → register_named (decimal n) ≡ None
+number_is_no_register n is = no_register (decimal n) (register_named (decimal n)) (first_digit n is.0 is.1) refl
