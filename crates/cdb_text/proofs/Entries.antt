@@ -1,216 +1,122 @@
 -- The lines of a journal.
 use Rattle.std.proofs.lemmas.Grind.{common_steps}
 use Rattle.std.proofs.lemmas.Option.{gets}
-use Rattle.std.proofs.Common.{◌≡◌, ◌≢◌, ◌↔◌, ℕ, ◌<◌, ◌≤◌, List, [], ◌∷◌, ◌++◌, map, Option}
-use Rattle.std.proofs.Common.{Some, None, refl, sym, ap, subst, ◌∙◌, inl, inr, arith, append_assoc}
-use Rattle.std.specs.Prelude.{codes, decimal, Result, Ok, Err}
+use Rattle.std.proofs.Common.{◌≡◌, ◌≢◌, ◌↔◌, ℕ, List, [], ◌∷◌, ◌++◌, map, refl, sym, ap, subst, ◌∙◌, inl, inr, arith, append_assoc}
+use Rattle.std.proofs.Common.{Option, Some, None, false, length, eqb}
+use Rattle.std.specs.Prelude.{codes, decimal, Result, Ok, Err, nat_lt}
 use Rattle.std.specs.List.{join_with_byte}
+use Rattle.std.proofs.lemmas.Bool.{cases_Bool, ltb-false, le-ltb}
 use Rattle.std.proofs.lemmas.List.Splits.{slice_split_at, join_with_byte-slice_split}
 use Rattle.cdb_base.specs.Limits.{MAX_SEATS}
 use Rattle.cdb_commands.specs.declared.command.Command.{Command}
 use Rattle.cdb_text.specs.declared.fault.LineFault.{LineFault}
-use Rattle.cdb_text.specs.declared.fault.LineFault.TheVariants.{Empty, Word, Number, Extra, Missing}
+use Rattle.cdb_text.specs.declared.fault.LineFault.TheVariants.{Empty, Number}
 use Rattle.cdb_text.specs.Commands.{CommandPart, command_parts}
 use Rattle.cdb_text.specs.Entries.{EachEntryHasOneLine, entry_text, IsSeat, IsEntryLine, BeginWithNoSeat, IsFaultOfEntryWords, IsFaultOfEntry}
-use Rattle.cdb_text.specs.Faults.{IsFirstFaultOfWords}
 use Rattle.cdb_text.specs.Grammar.{AreWordsOf, HasNumbersInRange, part_text, printed, words_of}
-use Rattle.cdb_text.specs.Lines.{whole_line}
-use Rattle.cdb_text.specs.Readers.{number_at, number_of, read_by}
-use Rattle.cdb_text.proofs.Cut.{is_space}
+use Rattle.cdb_text.specs.Lines.{whole_line, seat_at, entry_at}
+use Rattle.cdb_text.specs.Readers.{number_of, read_by}
+use Rattle.cdb_text.proofs.Cut.{is_space, some_byte, some_word}
 use Rattle.cdb_text.proofs.Numbers.{number_says, number_again}
 use Rattle.cdb_text.proofs.Printed.{none_is_space, number_is_spaceless, printed_is_line, some_part}
+use Rattle.cdb_text.proofs.Readers.{Words, ok_of, err_of}
 use Rattle.cdb_text.proofs.Whole.{one_command, one_fault}
 
-abbrev Words : Type 0
-Words = List (List ℕ)
+-- ---- the first word
 
-abbrev EntryRead : Type 0
-EntryRead = Result (ℕ × Command) LineFault
-
-abbrev seat_read : EntryRead → ℕ
-seat_read (Ok read) = read.0
-seat_read (Err fault) = 0
-
-abbrev command_read : Command → EntryRead → Command
-command_read none (Ok read) = read.1
-command_read none (Err fault) = none
+seat_again : (s : ℕ) (rest : Words) → IsSeat s → seat_at (decimal s ∷ rest) ≡ Ok (s, rest)
+seat_again s rest is = rw (number_again s is.0 (omega (arith, is.1)), le-ltb MAX_SEATS s is.1) refl
 
 -- a seat has one number
 pub one_seat : (s t : ℕ) → IsSeat s → IsSeat t → decimal s ≡ decimal t → s ≡ t
 one_seat s t is its same =
-    let first : number_of (decimal s) ≡ Some s = number_again s is.0 (omega (arith, is.1)) in
-    let second : number_of (decimal t) ≡ Some t = number_again t its.0 (omega (arith, its.1)) in
-    let both : number_of (decimal s) ≡ number_of (decimal t) = ap number_of same in
-    cc
+    let first = seat_again s [] is in
+    let second : seat_at (decimal s ∷ []) ≡ Ok (t, []) = ap (λ (w : List ℕ). seat_at (w ∷ [])) same ∙ seat_again t [] its in
+    let both : (s, []) ≡ (t, []) = cc in
+    ap (λ (x : ℕ × Words). x.0) both
 
-first_same : (word other : List ℕ) (words others : Words) → word ∷ words ≡ other ∷ others → word ≡ other
-first_same word other words others same = cc
+module _ (s : ℕ) (rest : Words) where
+  found_in : (word : List ℕ) (words : Words) (found : Option ℕ) → number_of word ≡ found
+      → seat_at (word ∷ words) ≡ Ok (s, rest) → IsSeat s × (word ∷ words ≡ decimal s ∷ rest)
+  found_in word words None is e = absurd (let a : Err Number ≡ Ok (s, rest) = rw is at e in cc)
+  found_in word words (Some n) is e =
+      elim (cases_Bool (nat_lt MAX_SEATS n)) [
+        | inl h ↦ absurd (let a : Err Number ≡ Ok (s, rest) = rw (is, h) at e in cc)
+        | inr h ↦
+            let same : (n, words) ≡ (s, rest) = (let a : Ok (n, words) ≡ Ok (s, rest) = rw (is, h) at e in cc) in
+            let says = number_says word n is in
+            subst (λ (x : ℕ × Words). IsSeat x.0 × (word ∷ words ≡ decimal x.0 ∷ x.1)) same
+            ((says.1, ltb-false MAX_SEATS n h), ap (λ (w : List ℕ). w ∷ words) says.0)
+      ]
 
-rest_same : (word other : List ℕ) (words others : Words) → word ∷ words ≡ other ∷ others → words ≡ others
-rest_same word other words others same = cc
+  seat_says : (words : Words) → seat_at words ≡ Ok (s, rest) → IsSeat s × (words ≡ decimal s ∷ rest)
+  seat_says [] e = absurd cc
+  seat_says (word ∷ words) e = found_in word words (number_of word) refl e
 
--- a first word that is no number, or a greater one, is no seat
-no_number : (word : List ℕ) (rest : Words) → number_of word ≡ None → BeginWithNoSeat (word ∷ rest)
-no_number word rest none seat others is same =
-    let again : number_of (decimal seat) ≡ Some seat = number_again seat is.0 (omega (arith, is.1)) in
-    let both : number_of word ≡ number_of (decimal seat) = ap number_of (first_same word (decimal seat) rest others same) in
-    absurd cc
+no_seat : (words : Words) (fault : LineFault) → seat_at words ≡ Err fault → BeginWithNoSeat words
+no_seat words fault e seat others is same =
+    let read : seat_at words ≡ Ok (seat, others) = ap seat_at same ∙ seat_again seat others is in absurd cc
 
-too_great : (word : List ℕ) (n : ℕ) (rest : Words) → number_of word ≡ Some n → MAX_SEATS < n → BeginWithNoSeat (word ∷ rest)
-too_great word n rest found great seat others is same =
-    let again : number_of (decimal seat) ≡ Some seat = number_again seat is.0 (omega (arith, is.1)) in
-    let both : number_of word ≡ number_of (decimal seat) = ap number_of (first_same word (decimal seat) rest others same) in
-    let equal : n ≡ seat = cc in
-    omega (arith, equal, great, is.1)
+number_fault : (words : Words) (fault : LineFault) → words ≢ [] → seat_at words ≡ Err fault → fault ≡ Number
+number_fault words fault h1 h2 = grind (arith, common_steps, gets)
 
--- ---- the first word is read as a number
+-- ---- the words of a line
 
-abbrev NumberRead : Type 0
-NumberRead = Result (ℕ × Words) LineFault
+-- they are those of this command of this seat
+abbrev IsEntry : ℕ → Command → Words → Type 0
+IsEntry s command words = (rest : Words) × IsSeat s × (words ≡ decimal s ∷ rest) × AreWordsOf command rest
 
-abbrev number_read : Option ℕ → Words → NumberRead
-number_read (Some n) words = Ok (n, words)
-number_read None words = Err Number
+entry_says : (words : Words) (s : ℕ) (command : Command) → entry_at words ≡ Ok (s, command) → IsEntry s command words
+entry_says words s command e =
+    let seat = ok_of (seat_at words) _ (s, command) e in
+    let read = ok_of (read_by whole_line seat.0.1) _ (s, command) seat.2 in
+    let says = seat_says seat.0.0 seat.0.1 words seat.1 in
+    let same : (seat.0.0, read.0) ≡ (s, command) = (let a = read.2 in cc) in
+    subst (λ (x : ℕ × Command). IsEntry x.0 x.1 words) same (seat.0.1, says.0, says.1, (one_command seat.0.1 read.0).0 read.1)
 
-read_is : (word : List ℕ) (words : Words) → number_at (word ∷ words) ≡ number_read (number_of word) words
-read_is word words = grind (arith, common_steps, gets)
+-- a line is read as a seat and a command exactly where it is theirs
+pub entry_of_line : (line : List ℕ) (s : ℕ) (command : Command) → (entry_at (words_of line) ≡ Ok (s, command)) ↔ IsEntryLine s command line
+entry_of_line line s command = (
+  entry_says (words_of line) s command,
+  λ its. rw (its.2, seat_again s its.0 its.1, (one_command its.0 command).1 its.3) refl,
+)
 
-found_in : (word : List ℕ) (words : Words) (n : ℕ) (rest : Words) (found : Option ℕ) → number_of word ≡ found → number_read found words ≡ Ok (n, rest)
-    → (its : List ℕ) × (word ∷ words ≡ its ∷ rest) × (number_of its ≡ Some n)
-found_in word words n rest found h1 h2 = grind (arith, common_steps, gets)
+fault_says : (words : Words) (fault : LineFault) → words ≢ [] → entry_at words ≡ Err fault → IsFaultOfEntryWords fault words
+fault_says words fault some e =
+    elim (err_of (seat_at words) _ fault e) [
+      | inl none ↦ inl (number_fault words fault some none, no_seat words fault none)
+      | inr (seat, is, on) ↦
+          let says = seat_says seat.0 seat.1 words is in
+          elim (err_of (read_by whole_line seat.1) _ fault on) [
+            | inl why ↦ inr (seat.0, seat.1, says.0, says.1, (one_fault seat.1 fault).0 why)
+            | inr (command, read, no_fault) ↦ absurd cc
+          ]
+    ]
 
-number_found : (words : Words) (n : ℕ) (rest : Words) → number_at words ≡ Ok (n, rest) → (word : List ℕ) × (words ≡ word ∷ rest) × (number_of word ≡ Some n)
-number_found words n rest h1 = grind (arith, common_steps, gets)
+no_seat_read : (words : Words) → words ≢ [] → BeginWithNoSeat words → (found : Result (ℕ × Words) LineFault) → seat_at words ≡ found
+    → entry_at words ≡ Err Number
+no_seat_read words some none (Ok seat) is = let says = seat_says seat.0 seat.1 words is in absurd (none seat.0 seat.1 says.0 says.1)
+no_seat_read words some none (Err fault) is = rw (is, number_fault words fault some is) refl
 
--- a number that is not too great is a seat
-pub seat_found : (words : Words) (n : ℕ) (rest : Words) → number_at words ≡ Ok (n, rest) → n ≤ MAX_SEATS → IsSeat n × (words ≡ decimal n ∷ rest)
-seat_found words n rest read few =
-    let found = number_found words n rest read in
-    let says = number_says found.0 n found.2 in
-    ((says.1, few), found.1 ∙ ap (λ (word : List ℕ). word ∷ rest) says.0)
+its_fault : (words : Words) (fault : LineFault) → words ≢ [] → IsFaultOfEntryWords fault words → entry_at words ≡ Err fault
+its_fault words fault some (inl none) = no_seat_read words some none.1 (seat_at words) refl ∙ ap (λ (f : LineFault). Err f) (sym none.0)
+its_fault words fault some (inr (s, rest, is, cut, first)) = rw (cut, seat_again s rest is, (one_fault rest fault).1 first) refl
 
-pub great_is_no_seat : (words : Words) (n : ℕ) (rest : Words) → number_at words ≡ Ok (n, rest) → MAX_SEATS < n → BeginWithNoSeat words
-great_is_no_seat words n rest read great =
-    let found = number_found words n rest read in
-    subst BeginWithNoSeat (sym found.1) (too_great found.0 n rest found.2 great)
-
-pub no_number_found : (words : Words) (why : LineFault) → words ≢ [] → number_at words ≡ Err why → (why ≡ Number) × BeginWithNoSeat words
-no_number_found [] why some read = absurd (some refl)
-no_number_found (word ∷ words) why some read = none_in (number_of word) refl (sym (read_is word words) ∙ read)
-  where
-    none_in : (found : Option ℕ) → number_of word ≡ found → number_read found words ≡ Err why → (why ≡ Number) × BeginWithNoSeat (word ∷ words)
-    none_in None is read = ((let same : Number ≡ why = cc in sym same), no_number word words is)
-    none_in (Some m) is read = absurd cc
-
-of_entry : (fault : LineFault) (line : List ℕ) → line ≢ [] → fault ≢ Empty → IsFaultOfEntryWords fault (words_of line) → IsFaultOfEntry fault line
-of_entry Empty line some other first = absurd (other refl)
-of_entry Missing line some other first = (some, first)
-of_entry Word line some other first = (some, first)
-of_entry Number line some other first = (some, first)
-of_entry Extra line some other first = (some, first)
+of_line : (fault : LineFault) (line : List ℕ) → line ≢ [] → IsFaultOfEntryWords fault (words_of line) → IsFaultOfEntry fault line
+of_line Empty line some (inl none) = absurd (let a = none.0 in cc)
+of_line Empty line some (inr (s, rest, is, cut, first)) = absurd first.4
+of_line fault line some its = (some, its)
 
 words_of_entry : (fault : LineFault) (line : List ℕ) → line ≢ [] → IsFaultOfEntry fault line → IsFaultOfEntryWords fault (words_of line)
 words_of_entry Empty line some none = absurd (some none)
-words_of_entry Missing line some is = is.1
-words_of_entry Word line some is = is.1
-words_of_entry Number line some is = is.1
-words_of_entry Extra line some is = is.1
+words_of_entry fault line some is = is.1
 
-never_empty : (fault : LineFault) (words : Words) → IsFirstFaultOfWords fault words → fault ≢ Empty
-never_empty fault words h1 = grind (arith, common_steps, gets)
-
--- ---- a line whose first word is the number of a seat
-
-module _ (line : List ℕ) (some : line ≢ []) (s : ℕ) (rest : Words) (is : IsSeat s) (cut : words_of line ≡ decimal s ∷ rest) where
-  -- so it is cut alone
-  its_seat : (t : ℕ) (others : Words) → IsSeat t → words_of line ≡ decimal t ∷ others → (s ≡ t) × (rest ≡ others)
-  its_seat t others its other =
-      let same : decimal s ∷ rest ≡ decimal t ∷ others = sym cut ∙ other in
-      (one_seat s t is its (first_same (decimal s) (decimal t) rest others same), rest_same (decimal s) (decimal t) rest others same)
-
-  behind : (fault : LineFault) → IsFaultOfEntry fault line → IsFirstFaultOfWords fault rest
-  behind fault its = elim (words_of_entry fault line some its) [
-    | inl bad ↦ absurd (bad.1 s rest is cut)
-    | inr (t, others, seat, other, first) ↦ subst (λ (words : Words). IsFirstFaultOfWords fault words) (sym (its_seat t others seat other).1) first
-  ]
-
-  pub whole_entry : (command : Command) → read_by whole_line rest ≡ Ok command → (t : ℕ) (other : Command)
-      → (let read : EntryRead = Ok (s, command) in read ≡ Ok (t, other)) ↔ IsEntryLine t other line
-  whole_entry command read t other = (
-    (λ same.
-        let seats : s ≡ t = ap seat_read same in
-        let commands : command ≡ other = ap (command_read command) same in (
-          rest,
-          subst IsSeat seats is,
-          subst (λ (n : ℕ). words_of line ≡ decimal n ∷ rest) seats cut,
-          (one_command rest other).0 (read ∙ ap (λ (c : Command). Ok c) commands),
-        )),
-    (λ its.
-        let at = its_seat t its.0 its.1 its.2 in
-        let commands = (one_command rest other).1 (subst (AreWordsOf other) (sym at.1) its.3) in
-        let same : command ≡ other = cc in
-        rw (at.0, same) refl),
-  )
-
-  pub whole_has_no_fault : (command : Command) → read_by whole_line rest ≡ Ok command → (fault : LineFault)
-      → (let read : EntryRead = Ok (s, command) in read ≡ Err fault) ↔ IsFaultOfEntry fault line
-  whole_has_no_fault command read fault = (
-    (λ same. absurd cc),
-    (λ its. let same = (one_fault rest fault).1 (behind fault its) in absurd cc),
-  )
-
-  pub faulty_is_none : (why : LineFault) → read_by whole_line rest ≡ Err why → (t : ℕ) (other : Command)
-      → (let read : EntryRead = Err why in read ≡ Ok (t, other)) ↔ IsEntryLine t other line
-  faulty_is_none why read t other = (
-    (λ same. absurd cc),
-    (λ its.
-        let at = its_seat t its.0 its.1 its.2 in
-        let same = (one_command rest other).1 (subst (AreWordsOf other) (sym at.1) its.3) in
-        absurd cc),
-  )
-
-  pub its_fault : (why : LineFault) → read_by whole_line rest ≡ Err why → (fault : LineFault)
-      → (let read : EntryRead = Err why in read ≡ Err fault) ↔ IsFaultOfEntry fault line
-  its_fault why read fault = (
-    (λ same.
-        let faults : why ≡ fault = cc in
-        let first = (one_fault rest fault).0 (read ∙ ap (λ (f : LineFault). Err f) faults) in
-        of_entry fault line some (never_empty fault rest first) (inr (s, rest, is, cut, first))),
-    (λ its.
-        let same = (one_fault rest fault).1 (behind fault its) in
-        let faults : why ≡ fault = cc in
-        ap (λ (f : LineFault). Err f) faults),
-  )
-
--- ---- a line whose first word is no seat
-
-module _ (line : List ℕ) (some : line ≢ []) (no : BeginWithNoSeat (words_of line)) where
-  pub no_seat_is_no_number : (fault : LineFault) → (let read : EntryRead = Err Number in read ≡ Err fault) ↔ IsFaultOfEntry fault line
-  no_seat_is_no_number fault = (
-    (λ same.
-        let faults : Number ≡ fault = cc in
-        of_entry fault line some (λ empty. absurd cc) (inl (sym faults, no))),
-    (λ its. elim (words_of_entry fault line some its) [
-      | inl bad ↦ ap (λ (f : LineFault). Err f) (sym bad.0)
-      | inr (t, others, seat, other, first) ↦ absurd (no t others seat other)
-    ]),
-  )
-
--- ---- the empty line
-
-pub empty_is_none : (line : List ℕ) → line ≡ [] → (t : ℕ) (other : Command)
-    → (let read : EntryRead = Err Empty in read ≡ Ok (t, other)) ↔ IsEntryLine t other line
-empty_is_none line h1 t other = grind (arith, common_steps, gets)
-
-fault_of_empty : (fault : LineFault) (line : List ℕ) → line ≡ [] → IsFaultOfEntry fault line → (let read : EntryRead = Err Empty in read ≡ Err fault)
-fault_of_empty fault line h1 h2 = grind (arith, common_steps, gets)
-
-is_empty : (fault : LineFault) (line : List ℕ) → line ≡ [] → (let read : EntryRead = Err Empty in read ≡ Err fault) → IsFaultOfEntry fault line
-is_empty Empty line none e = none
-is_empty other line none e = absurd cc
-
-pub empty_is_empty : (line : List ℕ) → line ≡ [] → (fault : LineFault) → (let read : EntryRead = Err Empty in read ≡ Err fault) ↔ IsFaultOfEntry fault line
-empty_is_empty line none fault = (is_empty fault line none, fault_of_empty fault line none)
+-- a line is refused with a fault exactly where that is its first
+pub fault_of_line : (line : List ℕ) → false ≡ eqb (length line) 0 → (fault : LineFault) → (entry_at (words_of line) ≡ Err fault) ↔ IsFaultOfEntry fault line
+fault_of_line line some fault = (
+  λ e. of_line fault line (some_byte line some) (fault_says (words_of line) fault (some_word line) e),
+  λ is. its_fault (words_of line) fault (some_word line) (words_of_entry fault line (some_byte line some) is),
+)
 
 -- ---- the written line
 

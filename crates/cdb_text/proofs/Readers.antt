@@ -44,6 +44,15 @@ chained : {A B C : Type 0} (read : Result A LineFault) (f : A → Result B LineF
 chained (Ok x) f g = refl
 chained (Err fault) f g = refl
 
+pub ok_of : {A B : Type 0} (read : Result A LineFault) (f : A → Result B LineFault) (b : B) → read >>= f ≡ Ok b → (a : A) × (read ≡ Ok a) × (f a ≡ Ok b)
+ok_of (Ok x) f b e = (x, refl, e)
+ok_of (Err fault) f b e = absurd cc
+
+pub err_of : {A B : Type 0} (read : Result A LineFault) (f : A → Result B LineFault) (fault : LineFault) → read >>= f ≡ Err fault
+    → (read ≡ Err fault) ⊎ ((a : A) × (read ≡ Ok a) × (f a ≡ Err fault))
+err_of (Ok x) f fault e = inr (x, refl, e)
+err_of (Err its) f fault e = inl (let same : its ≡ fault = cc in ap (λ (f : LineFault). Err f) same)
+
 pub reads_next : (r : Reader) (w : List ℕ) (words : Words) → read_by r (w ∷ words) ≡ (next r w >>= λ further. read_by further.1 words)
 reads_next (end command) w words = refl
 reads_next (word name behind others) w words =

@@ -87,10 +87,7 @@ stop_at_one f g line a b =
 
 missing_alone : (fault : LineFault) (line : Words) → IsFirstFaultOfWords Missing line → IsFirstFaultOfWords fault line → Missing ≡ fault
 missing_alone Missing line missing first = refl
-missing_alone Empty line missing first = absurd (begins_nowhere_stops Empty line (fault_begins Missing line None missing) first)
-missing_alone Word line missing first = absurd (begins_nowhere_stops Word line (fault_begins Missing line None missing) first)
-missing_alone Number line missing first = absurd (begins_nowhere_stops Number line (fault_begins Missing line None missing) first)
-missing_alone Extra line missing first = absurd (begins_nowhere_stops Extra line (fault_begins Missing line None missing) first)
+missing_alone fault line missing first = absurd (begins_nowhere_stops fault line (fault_begins Missing line None missing) first)
 
 pub one_first_fault : (f g : LineFault) (line : Words) → IsFirstFaultOfWords f line → IsFirstFaultOfWords g line → f ≡ g
 one_first_fault Missing g line a b = missing_alone g line a b

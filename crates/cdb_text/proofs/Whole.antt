@@ -1,17 +1,15 @@
 -- A whole line.
-use Rattle.std.proofs.Common.{arith}
-use Rattle.std.proofs.lemmas.Grind.{common_steps}
-use Rattle.std.proofs.lemmas.Option.{gets}
-use Rattle.std.proofs.Common.{◌≡◌, ◌≢◌, ◌↔◌, List, [], ℕ, refl, ap, ◌∙◌}
+use Rattle.std.proofs.Common.{◌≡◌, ◌≢◌, ◌↔◌, List, [], ℕ, false, length, eqb, refl, ap, ◌∙◌}
 use Rattle.std.specs.Prelude.{Result, Ok, Err}
 use Rattle.cdb_commands.specs.declared.command.Command.{Command}
 use Rattle.cdb_text.specs.declared.fault.LineFault.{LineFault}
 use Rattle.cdb_text.specs.declared.fault.LineFault.TheVariants.{Empty}
 use Rattle.cdb_text.specs.Faults.{IsFirstFaultOfWords, IsFaultOf}
-use Rattle.cdb_text.specs.Grammar.{AreWordsOf, IsLineOf, words_of}
+use Rattle.cdb_text.specs.Grammar.{AreWordsOf, words_of}
 use Rattle.cdb_text.specs.Lines.{whole_line}
 use Rattle.cdb_text.specs.Readers.{read_by}
 use Rattle.cdb_text.proofs.Again.{again}
+use Rattle.cdb_text.proofs.Cut.{some_byte}
 use Rattle.cdb_text.proofs.FirstFaults.{sound, first_fault}
 use Rattle.cdb_text.proofs.Unique.{one_first_fault, whole_has_no_fault}
 
@@ -32,24 +30,9 @@ of_line Empty line some = (λ first. absurd first.4, λ none. absurd (some none)
 of_line fault line some = (λ first. (some, first), λ is. is.1)
 
 -- a line is refused with a fault exactly where that is its first
-pub fault_of_line : (line : List ℕ) → line ≢ [] → (fault : LineFault) → (read_by whole_line (words_of line) ≡ Err fault) ↔ IsFaultOf fault line
+pub fault_of_line : (line : List ℕ) → false ≡ eqb (length line) 0 → (fault : LineFault)
+    → (read_by whole_line (words_of line) ≡ Err fault) ↔ IsFaultOf fault line
 fault_of_line line some fault =
-    let words = one_fault (words_of line) fault in let its = of_line fault line some in (λ e. its.0 (words.0 e), λ is. words.1 (its.1 is))
-
-abbrev empty : Result Command LineFault
-empty = Err Empty
-
-fault_of_empty : (f : LineFault) (line : List ℕ) → line ≡ [] → IsFaultOf f line → empty ≡ Err f
-fault_of_empty f line h1 h2 = grind (arith, common_steps, gets)
-
-is_empty : (f : LineFault) (line : List ℕ) → line ≡ [] → empty ≡ Err f → IsFaultOf f line
-is_empty Empty line none e = none
-is_empty other line none e = absurd cc
-
--- the empty line has the fault Empty alone
-pub empty_is_empty : (line : List ℕ) → line ≡ [] → (f : LineFault) → (empty ≡ Err f) ↔ IsFaultOf f line
-empty_is_empty line none f = (is_empty f line none, fault_of_empty f line none)
-
--- the empty line is no command
-pub empty_is_none : (line : List ℕ) → line ≡ [] → (command : Command) → (empty ≡ Ok command) ↔ IsLineOf command line
-empty_is_none line h1 command = grind (arith, common_steps, gets)
+    let words = one_fault (words_of line) fault in
+    let its = of_line fault line (some_byte line some) in
+    (λ e. its.0 (words.0 e), λ is. words.1 (its.1 is))

@@ -1,15 +1,18 @@
 -- How the lines of the commands are read, from the left.
-use Rattle.std.specs.Prelude.{ℕ, None, Some}
+use Rattle.std.specs.Prelude.{ℕ, nat_lt, List, None, Some, Result, Ok, Err, if◌then◌else◌}
+use Rattle.cdb_base.specs.Limits.{MAX_SEATS}
 use Rattle.cdb_base.specs.declared.act.Act.TheVariants as act
 use Rattle.cdb_commands.specs.declared.command.Command.{Command}
 use Rattle.cdb_commands.specs.declared.command.Command.TheVariants.{Step, Auto, Lose, Redo, Forget, Break, Unbreak}
 use Rattle.cdb_commands.specs.declared.command.Command.TheVariants.{Resume, Show, Decisions}
 use Rattle.cdb_commands.specs.declared.command.Stop.TheVariants as stop
 use Rattle.cdb_commands.specs.declared.command.View.TheVariants as view
+use Rattle.cdb_text.specs.declared.fault.LineFault.{LineFault}
 use Rattle.cdb_text.specs.declared.fault.LineFault.TheVariants.{Word, Number}
 use Rattle.cdb_text.specs.declared.verb.Verb.{Verb}
 use Rattle.cdb_text.specs.declared.verb.Verb.TheVariants as verb
 use Rattle.cdb_text.specs.Readers.{Reader, end, word, last_word, number, number_or_end, register, ◌or◌}
+use Rattle.cdb_text.specs.Readers.{◌>>=◌, number_at, read_by}
 use Rattle.cdb_text.specs.Verbs.{on_step, on_loss}
 
 -- ---- a command that ends with one number, with two or with three
@@ -70,3 +73,17 @@ whole_line =
     or word "resume" (end Resume)
     or word "show" after_show
     or last_word "decisions" (end Decisions)
+
+-- ---- a line of a journal
+
+-- the number of a seat, and the words after it
+abbrev pub seat_at : List (List ℕ) → Result (ℕ × List (List ℕ)) LineFault
+seat_at words = do
+  seat ← number_at words
+  if nat_lt MAX_SEATS seat.0 then Err Number else Ok seat
+
+abbrev pub entry_at : List (List ℕ) → Result (ℕ × Command) LineFault
+entry_at words = do
+  seat ← seat_at words
+  command ← read_by whole_line seat.1
+  Ok (seat.0, command)

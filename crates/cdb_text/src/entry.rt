@@ -1,9 +1,11 @@
 //! Lines of a journal.
 
-ghost use Rattle.std.specs.Prelude.{◌≡◌, ◌≢◌, ◌↔◌, ℕ, [], ◌∷◌, decimal, Ok, Err, IfOk, IfErr};
+ghost use Rattle.std.specs.Prelude.{◌≡◌, ◌↔◌, ℕ, Ok, Err};
 ghost use Rattle.cdb_commands.specs.declared.command.Command.{Command as CommandName};
 ghost use Rattle.cdb_text.specs.declared.fault.LineFault.{LineFault as LineFaultName};
-ghost use Rattle.cdb_text.specs.Entries.{IsEntryLine, IsFaultOfEntry, IsSeat, BeginWithNoSeat};
+ghost use Rattle.cdb_base.specs.Results.{MapsTo};
+ghost use Rattle.cdb_text.specs.Entries.{IsEntryLine, IsFaultOfEntry};
+ghost use Rattle.cdb_text.specs.Lines.{seat_at, entry_at};
 
 use crate::fault::LineFault;
 use crate::line::command;
@@ -13,16 +15,22 @@ use cdb_commands::Command;
 
 /// The next word, which is the number of a seat.
 fn seat(words: &mut Words<'_>) -> Result<u8, LineFault>
-    requires { words.old ≢ [] }
-    ensures seat { IfOk result (λ seat. IsSeat seat × (words.old ≡ decimal seat ∷ words.new)) }
-    ensures fault { IfErr result
-        (λ fault. (fault ≡ LineFault.Number) × BeginWithNoSeat words.old) }
+    ensures { MapsTo (λ seat. (seat, words.new)) result (seat_at words.old) }
 {
     let number = words.number()?;
     if number > u32::from(MAX_SEATS) {
         return Err(LineFault::Number);
     }
     Ok(number as u8)
+}
+
+/// The seat and the command of the words of a line.
+fn entry(mut words: Words<'_>) -> Result<(u8, Command), LineFault>
+    ensures { result ≡ entry_at words.entry }
+{
+    let seat = seat(&mut words)?;
+    let command = command(words)?;
+    Ok((seat, command))
 }
 
 /// The seat, from 1 to 64, and the command of a line of a journal, which is given without the byte 10 at its end; else
@@ -36,8 +44,5 @@ pub fn parse_entry(line: &[u8]) -> Result<(u8, Command), LineFault>
     if line.is_empty() {
         return Err(LineFault::Empty);
     }
-    let mut words = Words::of(line);
-    let seat = seat(&mut words)?;
-    let command = command(words)?;
-    Ok((seat, command))
+    entry(Words::of(line))
 }

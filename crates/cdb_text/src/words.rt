@@ -105,8 +105,16 @@ pub fn first_word(line: &[u8]) -> (&[u8], Option<&[u8]>)
 pub(crate) fn is(word: &[u8], name: &[u8]) -> bool
     ensures { result ≡ bytes_eq word.now name.now }
 {
-    // (where the name is a literal, this is a compare or two)
-    word.len() == name.len() && name.starts_with(word)
+    if word.len() != name.len() {
+        return false;
+    }
+    // (a short loop is unrolled, where the name is a literal)
+    for i in 0..name.len() {
+        if word[i] != name[i] {
+            return false;
+        }
+    }
+    true
 }
 
 /// The number that the digits write, if all the bytes are digits.
