@@ -13,9 +13,9 @@ use Rattle.cdb_text.specs.Commands.{CommandPart}
 use Rattle.cdb_text.specs.Faults.{GoesOn, IsFaultAt, IsFirstFaultOfWords}
 use Rattle.cdb_text.specs.Grammar.{AreWordsOf, IsInRange, part_text}
 use Rattle.cdb_text.specs.Lines.{whole_line}
-use Rattle.cdb_text.specs.Readers.{◌>>=◌, Reader, read_by}
+use Rattle.cdb_text.specs.Readers.{Reader, read_by}
 use Rattle.cdb_text.proofs.Again.{keeps, again}
-use Rattle.cdb_text.proofs.Readers.{Words, next, reads_next, Keeps, takes, completes, Goes, one, missing, Refuses, refuses}
+use Rattle.cdb_text.proofs.Readers.{Words, next, reads_next, Keeps, takes, completes, err_of, Goes, one, missing, Refuses, refuses}
 
 -- the words of a command that is read are its own
 pub sound : (words : Words) (command : Command) → read_by whole_line words ≡ Ok command → AreWordsOf command words
@@ -80,19 +80,15 @@ first_fault_of [] r parts fault keeps reads e =
     subst (λ f. IsFirstFaultOfWords f (map part_text parts ++ [])) found.0
     (missing_at parts r reads found.1.0 found.1.1 (e ∙ ap (λ (f : LineFault). Err f) (sym found.0)))
 first_fault_of (w ∷ words) r parts fault keeps reads e =
-    (elim (next r w) as (λ found. next r w ≡ found → (found >>= λ further. read_by further.1 words) ≡ Err fault
-    → IsFirstFaultOfWords fault (map part_text parts ++ w ∷ words)) [
-      | Ok further ↦ λ is on.
-          let took = takes parts w further r keeps is in
-          let further_reads : Reads (parts ++ further.0 ∷ []) further.1 = λ rest.
-          ap (read_by whole_line) (one_more parts further.0 rest ∙ ap (λ (v : List ℕ). map part_text parts ++ v ∷ rest) (sym took.0))
+    elim (err_of (next r w) (λ its. read_by its.1 words) fault (sym (reads_next r w words) ∙ e)) [
+      | inl is ↦ first_at parts r reads w words fault (fault_at parts r reads w fault is (refuses r parts w fault keeps is))
+      | inr (its, is, on) ↦
+          let took = takes parts w its r keeps is in
+          let further_reads : Reads (parts ++ its.0 ∷ []) its.1 = λ rest.
+          ap (read_by whole_line) (one_more parts its.0 rest ∙ ap (λ (v : List ℕ). map part_text parts ++ v ∷ rest) (sym took.0))
           ∙ reads (w ∷ rest) ∙ reads_next r w rest ∙ rw is refl in
-          rw (one_more, ← took.0) at (first_fault_of words further.1 (parts ++ further.0 ∷ []) fault took.2 further_reads on)
-      | Err its ↦ λ is on.
-          let same : its ≡ fault = cc in
-          subst (λ f. IsFirstFaultOfWords f (map part_text parts ++ w ∷ words)) same
-          (first_at parts r reads w words its (fault_at parts r reads w its is (refuses r parts w its keeps is)))
-    ]) refl (sym (reads_next r w words) ∙ e)
+          rw (one_more, ← took.0) at (first_fault_of words its.1 (parts ++ its.0 ∷ []) fault took.2 further_reads on)
+    ]
 
 pub first_fault : (words : Words) (fault : LineFault) → read_by whole_line words ≡ Err fault → IsFirstFaultOfWords fault words
 first_fault words fault e = first_fault_of words whole_line [] fault keeps (λ rest. refl) e

@@ -6,6 +6,7 @@ use Rattle.std.specs.Str.{all_ascii_digits}
 use Rattle.std.specs.Str.Parse.{AllDigits, digits_value}
 use Rattle.std.proofs.lemmas.Bool.{and_from, and_parts, not-true, cases_Bool, ltb-true, leb-true, lt-ltb, le-leb, eqb-false, ne_eqb}
 use Rattle.std.proofs.lemmas.Bool.Decides.{nat_tests}
+use Rattle.std.proofs.lemmas.Option.{cond_some}
 use Rattle.std.specs.Char.{digit_value}
 use Rattle.std.proofs.lemmas.List.{length-take}
 use Rattle.std.proofs.lemmas.Str.Parse.{IsNumeralModel, numerals_by_value, tells_all_ascii_digits, tells_digits, digits_value_short}
@@ -77,11 +78,7 @@ no_number word missing =
     ]
 
 value_says : (word : List ℕ) (n : ℕ) → cond (is_number word) (Some (digits_value 10 word)) None ≡ Some n → IsDigits word × (n ≡ digits_value 10 word)
-value_says word n e =
-    elim (cases_Bool (is_number word)) [
-      | inl h ↦ (tests_say word h, (let same : Some (digits_value 10 word) ≡ Some n = rw h at e in cc))
-      | inr h ↦ absurd (let same : None ≡ Some n = rw h at e in cc)
-    ]
+value_says word n e = let found = cond_some (is_number word) _ n e in (tests_say word found.0, sym found.1)
 
 -- a word that is read as n is n in decimal
 pub number_says : (word : List ℕ) (n : ℕ) → number_of word ≡ Some n → (word ≡ decimal n) × (1 ≤ n) × (n ≤ 999999)

@@ -1,5 +1,8 @@
 -- What a reader makes of the next word, and of all the words behind.
 use Rattle.std.proofs.Common.{◌≡◌, ◌≢◌, ◌⊎◌, ℕ, Bool, true, false, ◌&&◌, List, [], ◌∷◌, ◌++◌, map, Option, Some, None}
+use Rattle.std.proofs.Common.{arith}
+use Rattle.std.proofs.lemmas.Grind.{common_steps}
+use Rattle.std.proofs.lemmas.Option.{gets}
 use Rattle.std.proofs.Common.{bytes_eq, refl, sym, ap, subst, ◌∙◌, append_assoc, inl, inr, lit≤}
 use Rattle.std.specs.Prelude.{Result, Ok, Err, codes, decimal, ok_or, if◌then◌else◌}
 use Prim.Native.String.{String}
@@ -39,11 +42,6 @@ next (register behind) w = do
   x ← ok_or (register_named w) Word
   Ok (part.register x, behind x)
 
-chained : {A B C : Type 0} (read : Result A LineFault) (f : A → Result B LineFault) (g : B → Result C LineFault)
-    → ((read >>= f) >>= g) ≡ (read >>= λ x. f x >>= g)
-chained (Ok x) f g = refl
-chained (Err fault) f g = refl
-
 pub ok_of : {A B : Type 0} (read : Result A LineFault) (f : A → Result B LineFault) (b : B) → read >>= f ≡ Ok b → (a : A) × (read ≡ Ok a) × (f a ≡ Ok b)
 ok_of (Ok x) f b e = (x, refl, e)
 ok_of (Err fault) f b e = absurd cc
@@ -54,20 +52,8 @@ err_of (Ok x) f fault e = inr (x, refl, e)
 err_of (Err its) f fault e = inl (let same : its ≡ fault = cc in ap (λ (f : LineFault). Err f) same)
 
 pub reads_next : (r : Reader) (w : List ℕ) (words : Words) → read_by r (w ∷ words) ≡ (next r w >>= λ further. read_by further.1 words)
-reads_next (end command) w words = refl
-reads_next (word name behind others) w words =
-    elim (cases_Bool (bytes_eq w (codes name))) [
-      | inl h ↦ rw h refl
-      | inr h ↦ rw h (reads_next others w words)
-    ]
-reads_next (last_word name behind) w words =
-    elim (cases_Bool (bytes_eq w (codes name))) [
-      | inl h ↦ rw h refl
-      | inr h ↦ rw h refl
-    ]
-reads_next (number fault behind) w words = chained (ok_or (number_of w) fault) _ _ ∙ sym (chained (ok_or (number_of w) fault) _ _)
-reads_next (number_or_end command behind) w words = chained (ok_or (number_of w) Number) _ _ ∙ sym (chained (ok_or (number_of w) Number) _ _)
-reads_next (register behind) w words = chained (ok_or (register_named w) Word) _ _ ∙ sym (chained (ok_or (register_named w) Word) _ _)
+reads_next (word name behind others) w words = grind (arith, common_steps, gets, reads_next others w words)
+reads_next r w words = grind (arith, common_steps, gets)
 
 -- ---- a reader that keeps to the table
 
@@ -99,47 +85,44 @@ Keeps (number_or_end command behind) parts =
 Keeps (register behind) parts = (x : Reg) → Keeps (behind x) (parts ++ part.register x ∷ [])
 
 -- the word is the part, and the table is kept behind it
-abbrev pub Takes : List CommandPart → List ℕ → CommandPart × Reader → Type 0
-Takes parts w further = (w ≡ part_text further.0) × IsInRange further.0 × Keeps further.1 (parts ++ further.0 ∷ [])
+abbrev Takes : List CommandPart → List ℕ → CommandPart × Reader → Type 0
+Takes parts w its = (w ≡ part_text its.0) × IsInRange its.0 × Keeps its.1 (parts ++ its.0 ∷ [])
 
-module _ (parts : List CommandPart) (w : List ℕ) (further : CommandPart × Reader) where
+was_some : {A : Type 0} (found : Option A) (fault : LineFault) (of : A → CommandPart × Reader) (its : CommandPart × Reader)
+    → (ok_or found fault >>= λ x. Ok (of x)) ≡ Ok its → (x : A) × (found ≡ Some x) × (of x ≡ its)
+was_some None fault of its e = absurd cc
+was_some (Some x) fault of its e = (x, refl, cc)
+
+module _ (parts : List CommandPart) (w : List ℕ) (its : CommandPart × Reader) where
   takes_word : (name : String) (behind : Reader) → bytes_eq w (codes name) ≡ true → Keeps behind (parts ++ fixed name ∷ [])
-      → (fixed name, behind) ≡ further → Takes parts w further
+      → (fixed name, behind) ≡ its → Takes parts w its
   takes_word name behind h keeps same = subst (Takes parts w) same ((bytes_eq-Decides w (codes name)).0 h, tt, keeps)
 
-  takes_number : (behind : ℕ → Reader) (fault : LineFault) (found : Option ℕ) → number_of w ≡ found
-      → ((n : ℕ) → Keeps (behind n) (parts ++ part.number n ∷ []))
-      → ◌>>=◌ {B = CommandPart × Reader} (ok_or found fault) (λ n. Ok (part.number n, behind n)) ≡ Ok further → Takes parts w further
-  takes_number behind fault None is keeps e = absurd cc
-  takes_number behind fault (Some n) is keeps e =
-      let says = number_says w n is in
-      let same : (part.number n, behind n) ≡ further = cc in
-      subst (Takes parts w) same (says.0, (says.1, says.2), keeps n)
+  takes_number : (fault : LineFault) (behind : ℕ → Reader) → ((n : ℕ) → Keeps (behind n) (parts ++ part.number n ∷ []))
+      → (ok_or (number_of w) fault >>= λ n. Ok (part.number n, behind n)) ≡ Ok its → Takes parts w its
+  takes_number fault behind keeps e =
+      let found = was_some (number_of w) fault (λ n. (part.number n, behind n)) its e in
+      let says = number_says w found.0 found.1 in
+      subst (Takes parts w) found.2 (says.0, (says.1, says.2), keeps found.0)
 
-  takes_register : (behind : Reg → Reader) (found : Option Reg) → register_named w ≡ found
-      → ((x : Reg) → Keeps (behind x) (parts ++ part.register x ∷ []))
-      → ◌>>=◌ {B = CommandPart × Reader} (ok_or found Word) (λ x. Ok (part.register x, behind x)) ≡ Ok further → Takes parts w further
-  takes_register behind None is keeps e = absurd cc
-  takes_register behind (Some x) is keeps e =
-      let says = register_says w x is in
-      let same : (part.register x, behind x) ≡ further = cc in
-      subst (Takes parts w) same (says.0, says.1, keeps x)
-
-  pub takes : (r : Reader) → Keeps r parts → next r w ≡ Ok further → Takes parts w further
+  pub takes : (r : Reader) → Keeps r parts → next r w ≡ Ok its → Takes parts w its
   takes (end command) keeps e = absurd cc
   takes (word name behind others) keeps e =
       elim (cases_Bool (bytes_eq w (codes name))) [
-        | inl h ↦ takes_word name behind h keeps.1 (let a : Ok (fixed name, behind) ≡ Ok further = rw h at e in cc)
+        | inl h ↦ takes_word name behind h keeps.1 (let a : Ok (fixed name, behind) ≡ Ok its = rw h at e in cc)
         | inr h ↦ takes others keeps.2 (rw h at e)
       ]
   takes (last_word name behind) keeps e =
       elim (cases_Bool (bytes_eq w (codes name))) [
-        | inl h ↦ takes_word name behind h keeps.1 (let a : Ok (fixed name, behind) ≡ Ok further = rw h at e in cc)
-        | inr h ↦ absurd (let a : Err Word ≡ Ok further = rw h at e in cc)
+        | inl h ↦ takes_word name behind h keeps.1 (let a : Ok (fixed name, behind) ≡ Ok its = rw h at e in cc)
+        | inr h ↦ absurd (let a : Err Word ≡ Ok its = rw h at e in cc)
       ]
-  takes (number fault behind) keeps e = takes_number behind fault (number_of w) refl keeps.1 e
-  takes (number_or_end command behind) keeps e = takes_number behind Number (number_of w) refl keeps.2 e
-  takes (register behind) keeps e = takes_register behind (register_named w) refl keeps e
+  takes (number fault behind) keeps e = takes_number fault behind keeps.1 e
+  takes (number_or_end command behind) keeps e = takes_number Number behind keeps.2 e
+  takes (register behind) keeps e =
+      let found = was_some (register_named w) Word (λ x. (part.register x, behind x)) its e in
+      let says = register_says w found.0 found.1 in
+      subst (Takes parts w) found.2 (says.0, says.1, keeps found.0)
 
 -- the words complete the parts to the command
 abbrev pub Completes : List CommandPart → Words → Command → Type 0
@@ -156,17 +139,14 @@ pub completes : (words : Words) (r : Reader) (parts : List CommandPart) (command
     → Completes parts words command
 completes [] r parts command keeps e = ([], none_more r parts command keeps e ∙ sym (append-nil parts), refl, tt)
 completes (w ∷ words) r parts command keeps e =
-    (elim (next r w) as (λ found. next r w ≡ found → (found >>= λ further. read_by further.1 words) ≡ Ok command → Completes parts (w ∷ words) command) [
-      | Ok further ↦ λ is on.
-          let took = takes parts w further r keeps is in
-          let found = completes words further.1 (parts ++ further.0 ∷ []) command took.2 on in (
-            further.0 ∷ found.0,
-            found.1 ∙ append_assoc parts (further.0 ∷ []) found.0,
-            (let a = took.0 in let b = found.2 in cc),
-            (took.1, found.3),
-          )
-      | Err fault ↦ λ is on. absurd cc
-    ]) refl (sym (reads_next r w words) ∙ e)
+    let its = ok_of (next r w) (λ its. read_by its.1 words) command (sym (reads_next r w words) ∙ e) in
+    let took = takes parts w its.0 r keeps its.1 in
+    let found = completes words its.0.1 (parts ++ its.0.0 ∷ []) command took.2 its.2 in (
+      its.0.0 ∷ found.0,
+      found.1 ∙ append_assoc parts (its.0.0 ∷ []) found.0,
+      (let a = took.0 in let b = found.2 in cc),
+      (took.1, found.3),
+    )
 
 -- ---- how a command goes on
 
@@ -247,15 +227,9 @@ refuses_number r Word parts goes fits = ((decimal 1, goes), inl (ap (map part_te
 refuses_number r Number parts goes fits = (goes, not_show _ fits)
 refuses_number r fault parts goes fits = absurd fits
 
-its_fault : (found : Option ℕ) (behind : ℕ → Reader) (its fault : LineFault)
-    → ◌>>=◌ {B = CommandPart × Reader} (ok_or found its) (λ n. Ok (part.number n, behind n)) ≡ Err fault → its ≡ fault
-its_fault None behind its fault e = cc
-its_fault (Some n) behind its fault e = absurd cc
-
-its_word : (found : Option Reg) (behind : Reg → Reader) (fault : LineFault)
-    → ◌>>=◌ {B = CommandPart × Reader} (ok_or found Word) (λ x. Ok (part.register x, behind x)) ≡ Err fault → Word ≡ fault
-its_word None behind fault e = cc
-its_word (Some x) behind fault e = absurd cc
+its_fault : {A : Type 0} (found : Option A) (behind : A → CommandPart × Reader) (its fault : LineFault)
+    → (ok_or found its >>= λ x. Ok (behind x)) ≡ Err fault → its ≡ fault
+its_fault found behind its fault h1 = grind (arith, common_steps, gets)
 
 pub refuses : (r : Reader) (parts : List CommandPart) (w : List ℕ) (fault : LineFault) → Keeps r parts → next r w ≡ Err fault → Refuses fault r parts
 refuses (end command) parts w fault keeps e =
@@ -275,10 +249,12 @@ refuses (last_word name behind) parts w fault keeps e =
     ]
 refuses (number its behind) parts w fault keeps e =
     let r : Reader = number its behind in
-    subst (λ f. Refuses f r parts) (its_fault (number_of w) behind its fault e) (refuses_number r its parts (goes_with_1 r behind its refl) keeps.0)
+    subst (λ f. Refuses f r parts) (its_fault (number_of w) (λ n. (part.number n, behind n)) its fault e)
+    (refuses_number r its parts (goes_with_1 r behind its refl) keeps.0)
 refuses (number_or_end command behind) parts w fault keeps e =
     let r : Reader = number_or_end command behind in
-    subst (λ f. Refuses f r parts) (its_fault (number_of w) behind Number fault e) (refuses_number r Number parts (goes_with_1 r behind Number refl) keeps.0)
+    subst (λ f. Refuses f r parts) (its_fault (number_of w) (λ n. (part.number n, behind n)) Number fault e)
+    (refuses_number r Number parts (goes_with_1 r behind Number refl) keeps.0)
 refuses (register behind) parts w fault keeps e =
-    subst (λ f. Refuses f (register behind) parts) (its_word (register_named w) behind fault e)
+    subst (λ f. Refuses f (register behind) parts) (its_fault (register_named w) (λ x. (part.register x, behind x)) Word fault e)
     (first_goes (register behind) refl, inr (λ n is. rw (number_is_no_register n is) refl))
