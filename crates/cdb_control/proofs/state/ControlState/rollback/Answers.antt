@@ -34,7 +34,8 @@ pub returns-in_err-count-clause-err : goal.returns-in_err-count-clause-err
 returns-in_err-count-clause-err g c =
     let w = swap c.self.inside.redo.items c.rollback.new.self refl refl c.self.view_is c.requires.from_one c.requires.to_last c.index_mut-list.ensures.value in
     let did = c.in_err-count.ensures.rolled_back in
-    on_error c.from_residual.result (changed (λ u. u.history) (λ u list. list) w c.self.view_is did.err did.list_err ∙ unchanged c.args.self.now.state c.args.seat)
+    let after = changed (λ u. u.history) (λ u list. list) w c.self.view_is did.err did.list_err in
+    on_error c.from_residual.result (after ∙ unchanged c.args.self.now.state c.args.seat)
 
 pub returns-in_err-count-clause-capacities : goal.returns-in_err-count-clause-capacities
 returns-in_err-count-clause-capacities g c =
