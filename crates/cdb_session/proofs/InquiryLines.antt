@@ -9,7 +9,7 @@ use Rattle.std.proofs.lemmas.Slice.Eq.{bytes_eq-Decides}
 use Rattle.cdb_base.specs.declared.question.StepAsked.{StepAsked}
 use Rattle.cdb_text.specs.Commands.{number}
 use Rattle.cdb_text.specs.Grammar.{IsInRange, part_text, words_of}
-use Rattle.cdb_text.specs.Readers.{number_of}
+use Rattle.cdb_text.specs.Numbers.{number_of}
 use Rattle.cdb_text.proofs.Cut.{some_word}
 use Rattle.cdb_text.proofs.Numbers.{number_again, number_says}
 use Rattle.cdb_session.specs.Inquiries.{AreAnyStepWords, AreInquiryWords, AreStepWords, IsInquiryLine, inquiry_word, is_file_name, numbers_of}

@@ -19,8 +19,8 @@ use Rattle.cdb_commands.specs.declared.command.View.TheVariants as view
 use Rattle.cdb_setup.specs.Parts.{IsWithin}
 use Rattle.cdb_text.specs.Commands.{number, register}
 use Rattle.cdb_text.specs.Grammar.{AreWordsOf, IsInRange, part_text, words_of}
-use Rattle.cdb_text.specs.Readers.{number_of}
-use Rattle.cdb_text.specs.Readers as reading
+use Rattle.cdb_text.specs.Numbers.{number_of}
+use Rattle.cdb_text.specs.Numbers as reading
 use Rattle.cdb_text.proofs.Numbers.{number_says}
 use Rattle.cdb_base.specs.declared.question.StepAsked.{StepAsked}
 use Rattle.cdb_session.specs.Inquiries.{AreAnyStepWords, AreInquiryWords, AreStepWords, inquiry_word, is_file_name}

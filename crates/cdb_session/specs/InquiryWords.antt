@@ -2,7 +2,7 @@
 use Rattle.std.specs.Prelude.{ℕ, List, [], ◌∷◌, codes, Option, None, Some, option_map, if◌then◌else◌}
 use Rattle.std.specs.Str.{bytes_eq}
 use Rattle.cdb_base.specs.declared.question.StepAsked.{StepAsked}
-use Rattle.cdb_text.specs.Readers.{number_of}
+use Rattle.cdb_text.specs.Numbers.{number_of}
 use Rattle.cdb_session.specs.Inquiries.{is_file_name}
 use Rattle.cdb_session.specs.declared.inquiry.Inquiry.{Inquiry}
 use Rattle.cdb_session.specs.declared.inquiry.Inquiry.TheVariants.{Explain, Trail, Draw}

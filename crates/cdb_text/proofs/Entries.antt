@@ -15,7 +15,8 @@ use Rattle.cdb_text.specs.Commands.{CommandPart, command_parts}
 use Rattle.cdb_text.specs.Entries.{EachEntryHasOneLine, entry_text, IsSeat, IsEntryLine, BeginWithNoSeat, IsFaultOfEntryWords, IsFaultOfEntry}
 use Rattle.cdb_text.specs.Grammar.{AreWordsOf, HasNumbersInRange, part_text, printed, words_of}
 use Rattle.cdb_text.specs.Lines.{whole_line, seat_at, entry_at}
-use Rattle.cdb_text.specs.Readers.{number_of, read_by}
+use Rattle.cdb_text.specs.Readers.{read_by}
+use Rattle.cdb_text.specs.Numbers.{number_of}
 use Rattle.cdb_text.proofs.Cut.{is_space, some_byte, some_word}
 use Rattle.cdb_text.proofs.Numbers.{number_says, number_again}
 use Rattle.cdb_text.proofs.Printed.{none_is_space, number_is_spaceless, printed_is_line, some_part}

@@ -11,7 +11,7 @@ use Rattle.std.specs.Char.{digit_value}
 use Rattle.std.proofs.lemmas.List.{length-take}
 use Rattle.std.proofs.lemmas.Str.Parse.{IsNumeralModel, numerals_by_value, tells_all_ascii_digits, tells_digits, digits_value_short}
 use Rattle.std.proofs.lemmas.Fmt.{decimal_digit, digits_decimal, digits_value-decimal, decimal-digits_value, length-decimal-le, decimal_nonempty, first_decimal}
-use Rattle.cdb_text.specs.Readers.{is_number, number_of}
+use Rattle.cdb_text.specs.Numbers.{is_number, number_of}
 
 by_all : IsNumeralModel (AllDigits 10) (digits_value 10)
 by_all = numerals_by_value (AllDigits 10) tells_digits

@@ -18,7 +18,8 @@ use Rattle.cdb_text.specs.declared.fault.LineFault.TheVariants.{Word, Number, Ex
 use Rattle.cdb_text.specs.Commands as part
 use Rattle.cdb_text.specs.Commands.{CommandPart, fixed, command_parts}
 use Rattle.cdb_text.specs.Grammar.{IsInRange, part_text}
-use Rattle.cdb_text.specs.Readers.{◌>>=◌, number_of, register_named, Reader, end, word, last_word, number, number_or_end, register, read_by}
+use Rattle.cdb_text.specs.Readers.{◌>>=◌, register_named, Reader, end, word, last_word, number, number_or_end, register, read_by}
+use Rattle.cdb_text.specs.Numbers.{number_of}
 use Rattle.cdb_text.proofs.Numbers.{number_again, number_says}
 use Rattle.cdb_text.proofs.RegisterWords.{has_letter, no_number, number_is_no_register, register_again, register_says}
 

@@ -4,7 +4,7 @@ pub mod Grammar
 pub mod Faults
 pub mod LineFaults
 pub mod Words
-pub mod Readers
+pub mod Numbers
 pub mod Entries
 pub mod Laws
 -- and the texts of replies
@@ -13,5 +13,6 @@ pub mod Reports
 pub mod Texts
 pub mod Pushes
 -- what the code keeps for itself: how words are read one after the other
+pub mod Readers
 pub mod Verbs
 pub mod Lines

@@ -1,28 +1,19 @@
--- What is read in the words of a line, from the left.
-use Rattle.std.specs.Prelude.{ℕ, ◌&&◌, ◌==◌, ◌-◌, Bool, true, false, not, nat_lt, nat_le, List, [], ◌∷◌, length}
+-- How the words of a line are read, from the left.
+use Rattle.std.specs.Prelude.{ℕ, ◌&&◌, ◌==◌, ◌-◌, Bool, true, false, nat_le, List, [], ◌∷◌, length}
 use Rattle.std.specs.Prelude.{slice_index, codes, Option, Some, None, ok_or, Result, Ok, Err, if◌then◌else◌}
 use Prim.Native.String.{String}
-use Rattle.std.specs.Str.{bytes_eq, all_ascii_digits}
-use Rattle.std.specs.Str.Parse.{digits_value}
+use Rattle.std.specs.Str.{bytes_eq}
 use Rattle.cdb_base.specs.declared.register.Reg.{Reg}
 use Rattle.cdb_base.specs.declared.register.Reg.TheVariants.{R, Dec}
 use Rattle.cdb_commands.specs.declared.command.Command.{Command}
 use Rattle.cdb_text.specs.declared.fault.LineFault.{LineFault}
 use Rattle.cdb_text.specs.declared.fault.LineFault.TheVariants.{Word, Number, Extra, Missing}
+use Rattle.cdb_text.specs.Numbers.{number_of}
 
 infixl 10 ◌>>=◌
 abbrev pub ◌>>=◌ : {A B : Type 0} → Result A LineFault → (A → Result B LineFault) → Result B LineFault
 (Ok x) >>= f = f x
 (Err e) >>= f = Err e
-
--- a number of one to six digits, the first not 0
-unfoldable pub is_number : List ℕ → Bool
-is_number word =
-    all_ascii_digits word && nat_lt 0 (length word) && nat_le (length word) 6
-    && not (slice_index word 0 == 48)
-
-unfoldable pub number_of : List ℕ → Option ℕ
-number_of word = if is_number word then Some (digits_value 10 word) else None
 
 -- the next word, and those after it
 abbrev pub word_at : List (List ℕ) → Result (List ℕ × List (List ℕ)) LineFault

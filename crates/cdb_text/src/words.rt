@@ -6,8 +6,8 @@ ghost use Rattle.std.specs.Str.Parse.{AllDigits, digits_value};
 ghost use Rattle.cdb_base.specs.Results.{MapsTo};
 ghost use Rattle.cdb_text.specs.Grammar.{words_of};
 ghost use Rattle.cdb_text.specs.Words.{words_left};
-ghost use Rattle.cdb_text.specs.Readers.{number_of, register_named};
-ghost use Rattle.cdb_text.specs.Readers.{word_at, number_at, register_at, none_left, ended};
+ghost use Rattle.cdb_text.specs.Numbers.{number_of};
+ghost use Rattle.cdb_text.specs.Readers.{word_at, number_at, register_at, register_named, none_left, ended};
 
 use crate::fault::LineFault;
 use cdb_base::{Proc, Reg};
