@@ -134,24 +134,18 @@ behind topic.Step words = Process ∷ Act ∷ []
 behind topic.Auto words = with_process Count words
 behind topic.Lose words = copy
 behind topic.Undo words = event words
-behind topic.Redo words = []
-behind topic.Forget words = []
 behind topic.Rollback words = event words
 behind topic.Why words = event words
 behind topic.Break [] = Stop ∷ []
 behind topic.Break (stop ∷ words) = Stop ∷ behind_stop stop
 behind topic.Unbreak words = Breakpoint ∷ []
-behind topic.Resume words = []
 behind topic.Show words = ProcessOrView ∷ []
-behind topic.Decisions words = []
 behind topic.Explain words = with_process Step words
 behind topic.Trail words = with_process Step words
 behind topic.Draw words = with_file words
-behind topic.Watch words = []
-behind topic.Unwatch words = []
 behind topic.Help words = maybe Command words
-behind topic.Quit words = []
 behind topic.Seat words = Seat ∷ []
+behind first words = []
 
 abbrev pub behind_first : Option Topic → List (List ℕ) → List Due
 behind_first None words = []

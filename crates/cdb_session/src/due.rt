@@ -10,8 +10,8 @@ ghost use Rattle.cdb_session.specs.Due.{event, with_file, with_process, behind, 
 ghost use Rattle.cdb_session.specs.Due.{ends, stands, first_amiss, amiss_in, shown_byte, shown_word, amiss_text};
 
 use crate::inquiry::is_file_name;
-use crate::topic::Topic;
-use crate::typed::{ACTS, FIRST, LOST, STOPS, VIEWS, is_digits};
+use crate::topic::{FIRST, Topic};
+use crate::typed::{ACTS, LOST, STOPS, VIEWS, is_digits};
 use std::alloc::{AllocError, Global};
 
 /// What is due at a place of a line.
@@ -97,7 +97,7 @@ impl Due {
             | Due::Breakpoint
             | Due::Count => is_number(word),
             Due::File => is_file_name(word),
-            Due::Command | Due::Act | Due::Stop | Due::Register | Due::Seat | Due::Nothing => false,
+            _ => false,
         }
     }
 
@@ -113,14 +113,7 @@ impl Due {
             Due::Stop => &STOPS,
             Due::Register => &REGISTERS,
             Due::Seat => &SEATS,
-            Due::Process
-            | Due::Message
-            | Due::Step
-            | Due::Round
-            | Due::Breakpoint
-            | Due::Count
-            | Due::File
-            | Due::Nothing => &[],
+            _ => &[],
         }
     }
 
@@ -239,14 +232,7 @@ fn line_of(first: Topic, words: &[&[u8]]) -> &'static [Due]
         Topic::Draw => drawing(words),
         Topic::Help if !words.is_empty() => &[Due::Command, Due::Command],
         Topic::Seat => &[Due::Command, Due::Seat],
-        Topic::Help
-        | Topic::Redo
-        | Topic::Forget
-        | Topic::Resume
-        | Topic::Decisions
-        | Topic::Watch
-        | Topic::Unwatch
-        | Topic::Quit => &[Due::Command],
+        _ => &[Due::Command],
     }
 }
 

@@ -29,6 +29,31 @@ pub enum Topic {
     Seat,
 }
 
+/// The words that may begin a line, each at the place of its topic.
+pub(crate) const FIRST: [&[u8]; 21] = [
+    b"step",
+    b"auto",
+    b"lose",
+    b"undo",
+    b"redo",
+    b"forget",
+    b"rollback",
+    b"why",
+    b"break",
+    b"unbreak",
+    b"resume",
+    b"show",
+    b"decisions",
+    b"explain",
+    b"trail",
+    b"draw",
+    b"watch",
+    b"unwatch",
+    b"help",
+    b"quit",
+    b"seat",
+];
+
 impl Topic {
     /// Each of them.
     const ALL: [Topic; 21] = [
@@ -59,29 +84,7 @@ impl Topic {
     pub fn word(self) -> &'static [u8]
         ensures { result.now ≡ topic_word self }
     {
-        match self {
-            Topic::Step => b"step",
-            Topic::Auto => b"auto",
-            Topic::Lose => b"lose",
-            Topic::Undo => b"undo",
-            Topic::Redo => b"redo",
-            Topic::Forget => b"forget",
-            Topic::Rollback => b"rollback",
-            Topic::Why => b"why",
-            Topic::Break => b"break",
-            Topic::Unbreak => b"unbreak",
-            Topic::Resume => b"resume",
-            Topic::Show => b"show",
-            Topic::Decisions => b"decisions",
-            Topic::Explain => b"explain",
-            Topic::Trail => b"trail",
-            Topic::Draw => b"draw",
-            Topic::Watch => b"watch",
-            Topic::Unwatch => b"unwatch",
-            Topic::Help => b"help",
-            Topic::Quit => b"quit",
-            Topic::Seat => b"seat",
-        }
+        FIRST[self as usize]
     }
 
     /// The one that this word is, if it is one.

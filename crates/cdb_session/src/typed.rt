@@ -6,33 +6,9 @@ ghost use Rattle.cdb_session.specs.Typed.{is_blank, is_comment, is_mark, is_digi
 ghost use Rattle.cdb_session.specs.Typed.{second_words, with_word, with_piece, words_meant, line_meant};
 ghost use Rattle.cdb_session.specs.TypedWords.{texts_of, pieces_left, bytes_left};
 
+use crate::topic::FIRST;
 use cdb_base::limits::MAX_BYTES;
 use std::alloc::{AllocError, Global};
-
-/// The words that may begin a line.
-pub(crate) const FIRST: [&[u8]; 21] = [
-    b"step",
-    b"auto",
-    b"lose",
-    b"undo",
-    b"redo",
-    b"forget",
-    b"rollback",
-    b"why",
-    b"break",
-    b"unbreak",
-    b"resume",
-    b"show",
-    b"decisions",
-    b"explain",
-    b"trail",
-    b"draw",
-    b"watch",
-    b"unwatch",
-    b"help",
-    b"quit",
-    b"seat",
-];
 
 /// Whether a byte stands between words.
 pub(crate) fn is_blank(byte: u8) -> bool
