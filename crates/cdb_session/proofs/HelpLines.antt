@@ -1,6 +1,8 @@
 -- The lines that ask for the help, and what it says about a word.
 use Rattle.std.proofs.Common.{◌≡◌, inl, inr, ℕ, ◌+◌, ◌<◌, ◌≤◌, Bool, true, List, [], ◌∷◌, ◌++◌, length, take, drop, map}
 use Rattle.std.proofs.Common.{get_or, Bor, refl, sym, ap, subst, ◌∙◌, append_assoc, append-nil, take-append-drop, arith}
+use Rattle.std.proofs.lemmas.Grind.{common_steps}
+use Rattle.std.proofs.lemmas.Option.{gets}
 use Rattle.std.specs.Prelude.{codes, find, Option, None, Some}
 use Rattle.std.specs.List.{flat_map}
 use Rattle.std.proofs.lemmas.Bool.{cases_Bool}
@@ -11,7 +13,6 @@ use Rattle.cdb_session.specs.Dialogues.{line_about}
 use Rattle.cdb_session.specs.Requests.{help_line}
 use Rattle.cdb_session.specs.Topics.{topic_of, topic_word, topics}
 use Rattle.cdb_session.specs.declared.topic.Topic.{Topic}
-use Rattle.cdb_session.specs.declared.topic.Topic.TheVariants as topic
 
 pub begins_with_h : (about : Option Topic) → get_or (help_line about) 0 0 ≡ 104
 begins_with_h None = refl
@@ -23,30 +24,7 @@ topic_in line = topic_of (drop 5 line)
 
 pub its_topic : (about : Option Topic) → topic_in (help_line about) ≡ about
 unfolding topic_of
-its_topic None = refl
-its_topic (Some word) = elim word as (λ (t : Topic). topic_in (help_line (Some t)) ≡ Some t) [
-  | topic.Step ↦ refl
-  | topic.Auto ↦ refl
-  | topic.Lose ↦ refl
-  | topic.Undo ↦ refl
-  | topic.Redo ↦ refl
-  | topic.Forget ↦ refl
-  | topic.Rollback ↦ refl
-  | topic.Why ↦ refl
-  | topic.Break ↦ refl
-  | topic.Unbreak ↦ refl
-  | topic.Resume ↦ refl
-  | topic.Show ↦ refl
-  | topic.Decisions ↦ refl
-  | topic.Explain ↦ refl
-  | topic.Trail ↦ refl
-  | topic.Draw ↦ refl
-  | topic.Watch ↦ refl
-  | topic.Unwatch ↦ refl
-  | topic.Help ↦ refl
-  | topic.Quit ↦ refl
-  | topic.Seat ↦ refl
-]
+its_topic about = grind (arith, common_steps, gets)
 
 found_is : {A : Type 0} (p : A → Bool) (xs : List A) (x : A) → find p xs ≡ Some x → p x ≡ true
 found_is p [] x e = absurd cc
