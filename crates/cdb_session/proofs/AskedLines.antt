@@ -1,7 +1,9 @@
 -- What lines ask for.
+use Rattle.std.proofs.lemmas.Grind.{common_steps}
+use Rattle.std.proofs.lemmas.Option.{gets}
 use Rattle.std.proofs.Common.{◌≡◌, ◌≢◌, inl, inr, ℕ, ◌+◌, ◌<◌, nat_lt, rules, Bool, true, false, List}
-use Rattle.std.proofs.Common.{[], ◌∷◌, ◌++◌, length, get_or, refl, sym, ap, subst, ◌∙◌, arith}
-use Rattle.std.specs.Prelude.{None, Some, if◌then◌else◌}
+use Rattle.std.proofs.Common.{[], ◌∷◌, ◌++◌, length, refl, sym, ap, subst, ◌∙◌, arith}
+use Rattle.std.specs.Prelude.{if◌then◌else◌}
 use Rattle.std.specs.List.{AllZip, AllByRecursion}
 use Rattle.std.specs.Str.{bytes_eq}
 use Rattle.std.proofs.lemmas.Bool.{cases_lt}
@@ -12,11 +14,10 @@ use Rattle.cdb_setup.specs.Format.{longest}
 use Rattle.cdb_session.specs.Unfinished.{unfinished_of}
 use Rattle.cdb_session.specs.Requests.{Asks, AsksFor, IsQuit, HaveQuit, quit_line, up_to_quit}
 use Rattle.cdb_session.specs.Typed.{line_meant}
-use Rattle.cdb_session.proofs.InquiryLines.{no_quit, repeats_no_other}
-use Rattle.cdb_session.proofs.OneRequest.{only_too_long, repeats}
+use Rattle.cdb_session.proofs.OneRequest.{only_too_long}
 use Rattle.cdb_session.specs.Exchanges.{Exchange}
 use Rattle.cdb_session.specs.declared.request.Request.{Request}
-use Rattle.cdb_session.specs.declared.request.Request.TheVariants.{Call, Ask, Watch, Seat, Help, Quit, Fault, TooLong}
+use Rattle.cdb_session.specs.declared.request.Request.TheVariants.{Quit, TooLong}
 
 -- a line that is too long stands for itself
 meant_long : (line : List ℕ) → longest < length line → line_meant line ≡ line
@@ -37,22 +38,7 @@ asks_whole (request, answer) line asks =
 
 -- a line that asks for something else is not `quit`
 not_quit : (request : Request) (line : List ℕ) → AsksFor request line → request ≢ Quit → line ≢ quit_line
-not_quit (Call command times) line asks other is =
-    let r = repeats line command times asks.1 (inr (inl is)) in repeats_no_other line quit_line 113 r.0 times r.2 is refl (λ e. omega (arith, e))
-not_quit (Ask inquiry) line asks other is = no_quit line inquiry asks.1 is
-not_quit (Watch true) line asks other is =
-    let first : 119 ≡ 113 = ap (λ bytes. get_or bytes 0 0) (sym asks.1 ∙ is) in absurd (omega (arith, first))
-not_quit (Watch false) line asks other is =
-    let first : 117 ≡ 113 = ap (λ bytes. get_or bytes 0 0) (sym asks.1 ∙ is) in absurd (omega (arith, first))
-not_quit (Seat seat) line asks other is =
-    let first : 115 ≡ 113 = ap (λ bytes. get_or bytes 0 0) (sym asks.1.1 ∙ is) in absurd (omega (arith, first))
-not_quit (Help None) line asks other is =
-    let first : 104 ≡ 113 = ap (λ bytes. get_or bytes 0 0) (sym asks.1 ∙ is) in absurd (omega (arith, first))
-not_quit (Help (Some topic)) line asks other is =
-    let first : 104 ≡ 113 = ap (λ bytes. get_or bytes 0 0) (sym asks.1 ∙ is) in absurd (omega (arith, first))
-not_quit Quit line asks other is = other refl
-not_quit (Fault fault) line asks other is = asks.1.0 (inr (inl is))
-not_quit TooLong line asks other is = let few : length line ≡ 4 = ap length is in absurd (omega (arith, asks, few))
+not_quit request line asks other = grind (arith, common_steps, gets)
 
 pub is_not_quit : (exchange : Exchange) (line : List ℕ) → Asks exchange line → exchange.0 ≢ Quit → ¬ IsQuit line
 is_not_quit exchange line asks other = not_quit exchange.0 (line_meant line) asks other
@@ -89,14 +75,11 @@ up_to_quit-append (line ∷ lines) others are =
 
 -- the lines end at `quit`
 pub up_to_quit-quit : (line : List ℕ) (others : List (List ℕ)) → IsQuit line → up_to_quit (line ∷ others) ≡ line ∷ []
-up_to_quit-quit line others is =
-    ap (λ b. let cut : List (List ℕ) = if b then (line ∷ []) else (line ∷ up_to_quit others) in cut) ((bytes_eq-Decides (line_meant line) quit_line).1 is)
+up_to_quit-quit line others is = grind (arith, common_steps, gets)
 
 -- one line alone, whatever it is
 pub up_to_quit-one : (line : List ℕ) → up_to_quit (line ∷ []) ≡ line ∷ []
-up_to_quit-one line =
-    elim (bytes_eq (line_meant line) quit_line) as
-    (λ b. let cut : List (List ℕ) = if b then (line ∷ []) else (line ∷ []) in cut ≡ line ∷ []) [ true ↦ refl | false ↦ refl ]
+up_to_quit-one line = grind (arith, common_steps, gets)
 
 pub have_none : (lines : List (List ℕ)) → AreOthers lines → ¬ HaveQuit lines
 have_none [] are ([], others, quit, e, is) = absurd (omega (arith, ap length e))

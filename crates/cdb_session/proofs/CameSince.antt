@@ -1,5 +1,6 @@
 -- What came to a journal while a session went on.
-use Rattle.std.proofs.Common.{◌≡◌, ◌-◌, ◌∷◌, [], length, drop, refl, ap, ◌∙◌, arith}
+use Rattle.std.proofs.Common.{rules}
+use Rattle.std.proofs.Common.{◌≡◌, ◌∷◌, [], length, drop, refl, ap, ◌∙◌, arith}
 use Rattle.std.proofs.lemmas.List.{drop-append-le}
 use Rattle.cdb_commands.specs.ReplyView.{ReplyView}
 use Rattle.cdb_control.specs.declared.control.Entry.{Entry}
@@ -11,14 +12,7 @@ no_less part = record { calls = omega arith; replies = omega arith; entries = om
 
 module _ (first old new : Part) (one : Entry) (has : HasNoLess first old) where
   goes_on : GoesOn old new → GoesOn (since first old) (since first new)
-  goes_on k =
-      record {
-        before = refl;
-        longer = k.longer;
-        calls_in = λ at few. ap (λ n. n - length first.calls) (k.calls_in at few);
-        left_by = k.left_by;
-        news = k.news;
-      }
+  goes_on k = search rules
 
   called : (reply : ReplyView) → IsCalled old one reply new → IsCalled (since first old) one reply (since first new)
   called reply k =
@@ -30,12 +24,7 @@ module _ (first old new : Part) (one : Entry) (has : HasNoLess first old) where
       }
 
   pub none : MakesNone old new → MakesNone (since first old) (since first new)
-  none k = record {
-    goes_on = goes_on k.goes_on;
-    calls = ap (drop (length first.calls)) k.calls;
-    replies = ap (drop (length first.replies)) k.replies;
-    full = k.full;
-  }
+  none k = search rules
 
 -- a chain of calls, of the caller itself
 pub later_caller : {C : Type 0} (Later : C → C → Type 0) (begun now : SinceView C)

@@ -1,9 +1,11 @@
 -- The lines of bytes that are known as lines and a rest.
+use Rattle.std.proofs.lemmas.Grind.{common_steps}
+use Rattle.std.proofs.lemmas.Option.{gets}
 use Rattle.std.proofs.Common.{◌≡◌, ℕ, ◌-◌, ◌+◌, ◌<◌, Bool, List, [], ◌∷◌, ◌++◌, length, take, nat_eq}
-use Rattle.std.proofs.Common.{refl, sym, ap, ◌∙◌, append_assoc, append-nil, arith, length-append}
+use Rattle.std.proofs.Common.{refl, ap, ◌∙◌, append_assoc, arith, length-append}
 use Rattle.std.specs.List.{AllByRecursion, slice_split}
 use Rattle.std.proofs.lemmas.List.Splits.{slice_split_none, slice_split_at, length-slice_split}
-use Rattle.std.proofs.Math.Seq.{take-append_seam, take-append-add}
+use Rattle.std.proofs.Math.Seq.{take-append-add}
 use Rattle.cdb_base.specs.Positions.{without_last}
 use Rattle.cdb_streams.specs.Lines.{without_empty_end, lines_of}
 use Rattle.cdb_session.specs.Unfinished.{with_ends}
@@ -23,9 +25,7 @@ cut_joined (line ∷ lines) rest none =
 
 -- all but the last of these parts
 without_last-append : (lines : List (List ℕ)) (line : List ℕ) → without_last (lines ++ line ∷ []) ≡ lines
-without_last-append lines line =
-    let long : length (lines ++ line ∷ []) - 1 ≡ length lines = omega (arith, length-append lines (line ∷ [])) in
-    ap (λ n. take n (lines ++ line ∷ [])) long ∙ take-append_seam lines (line ∷ [])
+without_last-append lines line = grind (arith, common_steps, gets)
 
 -- the lines that have ended are these, where what follows has no end
 pub ended_of_joined : (lines : List (List ℕ)) (line : List ℕ) → AllByRecursion HasNoEnd lines → HasNoEnd line → ended_lines (with_ends lines ++ line) ≡ lines
@@ -61,9 +61,7 @@ one_unended [] some none = absurd (omega arith)
 one_unended (byte ∷ line) some none = ap without_empty_end (slice_split_none ends_line (byte ∷ line) none)
 
 pub with_ends-append : (lines : List (List ℕ)) (line : List ℕ) → with_ends (lines ++ line ∷ []) ≡ with_ends lines ++ (line ++ 10 ∷ [])
-with_ends-append [] line = append-nil (line ++ 10 ∷ [])
-with_ends-append (first ∷ lines) line =
-    ap (λ bytes. (first ++ 10 ∷ []) ++ bytes) (with_ends-append lines line) ∙ sym (append_assoc (first ++ 10 ∷ []) (with_ends lines) (line ++ 10 ∷ []))
+with_ends-append lines line = grind (arith, common_steps, gets)
 
 pub lines_of_none : lines_of [] ≡ []
 unfolding lines_of

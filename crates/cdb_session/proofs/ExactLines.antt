@@ -61,8 +61,7 @@ one_part : (word : List ℕ) → IsPlain word → parts_of word ≡ word ∷ []
 one_part word is = let e = no_name word (omega (arith, no_mark word is)) in rw e refl
 
 no_comment : (word : List ℕ) → IsPlain word → is_comment word ≡ false
-no_comment [] is = refl
-no_comment (byte ∷ word) is = let e = plain_is_no_mark byte (and_parts _ _ is).0 in grind (arith, nat_tests, e)
+no_comment word is = grind (arith, common_steps, gets)
 
 -- ---- words that stand for themselves, behind others
 

@@ -58,8 +58,7 @@ module _ (Answers : RunView → Inquiry → Answer → Type 0) (style : StyleVie
   -- where no reply follows, the replies are those of the seat
   finish : (returned : Result (Unit {0}) PlayFault) (moves : List Move) (session : SessionView)
       → IsSession Answers style (part_with (session.part.replies ++ []) session.part) returned moves → HasEndedAs Answers style returned moves session
-  finish returned moves session s =
-      subst (λ (r : List ReplyView). IsSession Answers style (part_with r session.part) returned moves) (append-nil session.part.replies) s
+  finish returned moves session s = search rules
 
   module _ (moves : List Move) (old : SessionView) (unfinished left : List ℕ) (at : StaysAt Answers style moves old unfinished left) where
     pub as_seen : IsAt Answers style old.part.replies moves old.part (at_line old []) unfinished left

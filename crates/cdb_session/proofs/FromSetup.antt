@@ -1,5 +1,6 @@
 -- A session with nine seats, from the text of its setup to its end.
-use Rattle.std.proofs.Common.{◌≡◌, inr, ℕ, ◌<◌, ◌≤◌, List, [], ◌++◌, length, refl, sym, ap, subst, ◌∙◌, append_assoc, append-nil, arith}
+use Rattle.std.proofs.Common.{rules}
+use Rattle.std.proofs.Common.{◌≡◌, inr, ℕ, ◌<◌, ◌≤◌, List, [], ◌++◌, length, sym, ap, subst, ◌∙◌, append_assoc, append-nil, arith}
 use Rattle.std.specs.Prelude.{Result, Ok, Err}
 use Rattle.cdb_base.specs.declared.no_memory.NoMemory.{NoMemory}
 use Rattle.cdb_base.specs.Limits.{MAX_ENTRIES, MAX_SEATS}
@@ -22,7 +23,6 @@ use Rattle.cdb_streams.specs.Lines.{lines_of}
 use Rattle.cdb_streams.specs.declared.fault.PlayFault.{PlayFault}
 use Rattle.cdb_streams.specs.declared.fault.PlayFault.TheVariants as fault
 use Rattle.cdb_streams.specs.declared.script.ScriptFault.{ScriptFault}
-use Rattle.cdb_streams.specs.declared.script.ScriptFault.TheVariants as bad
 use Rattle.cdb_session.specs.Alone.{whole_part, IsLaterControl, nine}
 use Rattle.cdb_session.specs.Debugs as table
 use Rattle.cdb_session.specs.Greetings.{greeting_at, greeting_text}
@@ -133,9 +133,7 @@ setup_failed json journal seats (setup.NoMemory refused) is long = fits json ref
 -- and those of the journal come before the session
 pub journal_failed : (json journal : List ℕ) (seats : ℕ) (given : Parts) → Encodes json given → (why : ScriptFault)
     → IsFaultOfOpening seats journal why → table.IsFaultOfBeginning json journal seats (of_script why)
-journal_failed json journal seats given encodes (bad.Line line why) is = ((given, encodes), refl, is)
-journal_failed json journal seats given encodes bad.TooLong is = ((given, encodes), refl, is)
-journal_failed json journal seats given encodes (bad.NoMemory refused) is = encodes.0
+journal_failed json journal seats given encodes why is = search rules
 
 -- from a control that goes on from a journal to one that the session has left
 pub debugged : (rules : Parts → Rules) (Answers : RunView → Inquiry → Answer → Type 0) (prompt json journal : List ℕ) (old new : Known) (given : Parts)

@@ -1,9 +1,12 @@
 -- What one line does to a session, and to what the journal has of it.
+use Rattle.std.proofs.Common.{rules}
+use Rattle.std.proofs.lemmas.Grind.{common_steps}
+use Rattle.std.proofs.lemmas.Option.{gets}
 use Rattle.std.proofs.Common.{◌≡◌, ◌≢◌, ◌⊎◌, inl, inr, ℕ, zero, suc, ◌+◌, ◌-◌, ◌<◌, ◌≤◌, Bool, true, false, List, [], ◌∷◌, ◌++◌}
 use Rattle.std.proofs.Common.{drop, length, refl, sym, ap, subst, ◌∙◌, append_assoc, append-nil, arith, length-append, min}
 use Rattle.std.specs.Prelude.{◌||◌, fold, if◌then◌else◌, replicate, is_some, unwrap_or, MatchBool, Option, None, Some, Ok}
 use Rattle.std.proofs.lemmas.Bool.{cases_lt}
-use Rattle.std.proofs.lemmas.List.{length-replicate, replicate-append-replicate, nil_from_length}
+use Rattle.std.proofs.lemmas.List.{replicate-append-replicate, nil_from_length}
 use Rattle.cdb_commands.specs.ReplyView.{ReplyView, is_refused}
 use Rattle.cdb_commands.specs.declared.command.Command.{Command}
 use Rattle.cdb_control.specs.Journal.{entry}
@@ -32,38 +35,17 @@ GoesOn-refl : (part : Part) → GoesOn part part
 GoesOn-refl part = record { before = refl; longer = omega arith; calls_in = λ first few. refl; left_by = λ first few. refl; news = λ from to few. refl }
 
 pub GoesOn-trans : (old now new : Part) → GoesOn old now → GoesOn now new → GoesOn old new
-GoesOn-trans old now new a b =
-    record {
-      before = b.before ∙ a.before;
-      longer = omega (arith, a.longer, b.longer);
-      calls_in = λ first few. b.calls_in first (omega (arith, few, a.longer)) ∙ a.calls_in first few;
-      left_by = λ first few. b.left_by first (omega (arith, few, a.longer)) ∙ a.left_by first few;
-      news = λ from to few. b.news from to (omega (arith, few, a.longer)) ∙ a.news from to few;
-    }
+GoesOn-trans old now new a b = search rules
 
 pub MakesNone-refl : (part : Part) → MakesNone part part
 MakesNone-refl part = record { goes_on = GoesOn-refl part; calls = refl; replies = refl; full = λ full. full }
 
 pub none_called : (old new : Part) → MakesNone old new → AreCalled old [] [] new
-none_called old new same =
-    record {
-      goes_on = same.goes_on;
-      calls = same.calls ∙ sym (append-nil old.calls);
-      replies =
-          same.replies ∙ sym (append-nil old.replies);
-      full = λ full. (refl, same.full full);
-    }
+none_called old new same = search rules
 
 -- no entry stands for a command that was not given
 pub no_entry : (seat : ℕ) (request : Request) → entries_of seat request 0 ≡ []
-no_entry seat (Call command times) = refl
-no_entry seat (Ask inquiry) = refl
-no_entry seat (Watch begins) = refl
-no_entry seat (Seat chosen) = refl
-no_entry seat (Help about) = refl
-no_entry seat Quit = refl
-no_entry seat (Fault fault) = refl
-no_entry seat TooLong = refl
+no_entry seat request = grind (arith, common_steps, gets)
 
 pub none_got : (seat : ℕ) (request : Request) (old new : Part) → MakesNone old new → HasGot seat old request [] new
 none_got seat request old new same = subst (λ (made : List Entry). AreCalled old made [] new) (sym (no_entry seat request)) (none_called old new same)
@@ -73,38 +55,11 @@ none got few = nil_from_length got (omega (arith, few))
 
 -- ---- a line that asks for no command and nothing of the run
 
-given_nothing : (request : Request) (effect : Effect) → ((command : Command) (times : ℕ) → request ≢ Call command times) → IsGiven (request, effect) []
-given_nothing (Call command times) effect other = absurd (other command times refl)
-given_nothing (Ask inquiry) effect other = tt
-given_nothing (Watch begins) effect other = tt
-given_nothing (Seat chosen) effect other = tt
-given_nothing (Help about) effect other = tt
-given_nothing Quit effect other = tt
-given_nothing (Fault fault) effect other = tt
-given_nothing TooLong effect other = tt
-
-given_not : (request : Request) (effect : Effect) → ((command : Command) (times : ℕ) → request ≢ Call command times) → given_at (request, effect) ≡ 0
-given_not (Call command times) effect other = absurd (other command times refl)
-given_not (Ask inquiry) effect other = refl
-given_not (Watch begins) effect other = refl
-given_not (Seat chosen) effect other = refl
-given_not (Help about) effect other = refl
-given_not Quit effect other = refl
-given_not (Fault fault) effect other = refl
-given_not TooLong effect other = refl
-
 pub none_done : (Answers : RunView → Inquiry → Answer → Type 0) (seat : ℕ) (old new : Part) (request : Request) (effect : Effect)
     → MakesNone old new → ((command : Command) (times : ℕ) → request ≢ Call command times)
     → ((inquiry : Inquiry) → request ≡ Ask inquiry → AnswersNow Answers new inquiry effect.answer)
     → HasDone Answers seat old (request, effect) [] new
-none_done Answers seat old new request effect same other answers =
-    record {
-      calls = none_got seat request old new same;
-      given = given_nothing request effect other;
-      fits = omega arith;
-      full = λ low. absurd (omega (arith, low, given_not request effect other));
-      answer = answers;
-    }
+none_done Answers seat old new request effect same other answers = search rules
 
 -- ---- from the replies that follow a line to those that follow the line before
 
@@ -125,10 +80,7 @@ texts_same (suc count) (reply ∷ got) more fits last =
     ap (λ text. text_of reply ++ text) (texts_same count got more (omega (arith, fits)) (λ low. last (omega (arith, low))))
 
 left_same : (count : ℕ) (got more : List ReplyView) → length got ≤ count → (length got < count → more ≡ []) → drop count (got ++ more) ≡ more
-left_same zero [] more fits last = refl
-left_same zero (reply ∷ got) more fits last = absurd (omega (arith, fits))
-left_same (suc count) [] more fits last = ap (drop (suc count)) (last (omega arith)) ∙ sym (last (omega arith))
-left_same (suc count) (reply ∷ got) more fits last = left_same count got more (omega (arith, fits)) (λ low. last (omega (arith, low)))
+left_same count got more fits last = grind (arith, common_steps, gets)
 
 -- the first reply is a refusal, or not
 abbrev first_and : Bool → ℕ → ℕ
@@ -136,8 +88,7 @@ first_and refused count = if refused then 1 else (1 + count)
 
 by_reply : (there here n : ℕ) (more : List ReplyView) (refused : Bool) → (n ≤ here → (n < here → more ≡ []) → there ≡ here)
     → suc n ≤ first_and refused here → (suc n < first_and refused here → more ≡ []) → first_and refused there ≡ first_and refused here
-by_reply there here n more true rest fits last = refl
-by_reply there here n more false rest fits last = let e = rest (omega (arith, fits)) (λ low. last (omega (arith, low))) in omega (arith, e)
+by_reply there here n more refused rest fits last = grind (arith, common_steps, gets)
 
 given_same : (times : ℕ) (got more : List ReplyView) → length got ≤ times_given times got
     → (length got < times_given times got → more ≡ []) → times_given times (got ++ more) ≡ times_given times got
@@ -160,9 +111,7 @@ module _ (Answers : RunView → Inquiry → Answer → Type 0) (style : StyleVie
   next_same : (seat : ℕ) (exchange : Exchange) (got more : List ReplyView) (lines : ℕ) (watched : Option ℕ) → length got ≤ 0
       → with_replies (seat_next style.chooses seat exchange.0) (lines + 1) (watched_next watched exchange) (got ++ more)
       ≡ with_replies (seat_next style.chooses seat exchange.0) (lines + 1) (watched_next watched exchange) more
-  next_same seat exchange got more lines watched few =
-      ap (λ (front : List ReplyView). with_replies (seat_next style.chooses seat exchange.0) (lines + 1) (watched_next watched exchange) (front ++ more))
-      (none got few)
+  next_same seat exchange got more lines watched few = grind (arith, common_steps, gets)
 
   -- what is shown and what is left does not depend on what follows
   pub same_line : (seat : ℕ) (old : Part) (exchange : Exchange) (got : List ReplyView) (new : Part) → HasDone Answers seat old exchange got new
@@ -173,13 +122,11 @@ module _ (Answers : RunView → Inquiry → Answer → Type 0) (style : StyleVie
         (left_same effect.given got more done.fits (λ low. may (done.full low))),
   )
   same_line seat old (Ask inquiry, effect) got new done more may lines watched = (refl, next_same seat (Ask inquiry, effect) got more lines watched done.fits)
-  same_line seat old (Watch begins, effect) got new done more may lines watched =
-      (refl, next_same seat (Watch begins, effect) got more lines watched done.fits)
+  same_line seat old (Watch begins, effect) got new done more may lines watched = (refl, next_same seat (Watch begins, effect) got more lines watched done.fits)
   same_line seat old (Seat chosen, effect) got new done more may lines watched = (refl, next_same seat (Seat chosen, effect) got more lines watched done.fits)
   same_line seat old (Help about, effect) got new done more may lines watched = (refl, next_same seat (Help about, effect) got more lines watched done.fits)
   same_line seat old (Quit, effect) got new done more may lines watched = (refl, next_same seat (Quit, effect) got more lines watched done.fits)
-  same_line seat old (Fault fault, effect) got new done more may lines watched =
-      (refl, next_same seat (Fault fault, effect) got more lines watched done.fits)
+  same_line seat old (Fault fault, effect) got new done more may lines watched = (refl, next_same seat (Fault fault, effect) got more lines watched done.fits)
   same_line seat old (TooLong, effect) got new done more may lines watched = (refl, next_same seat (TooLong, effect) got more lines watched done.fits)
 
   -- ---- the session's entries, at a line of the seat that the lines before chose
@@ -207,14 +154,7 @@ module _ (Answers : RunView → Inquiry → Answer → Type 0) (style : StyleVie
 
   -- the entries that a line asks for are as many as its commands
   as_many_at : (seat : ℕ) (exchange : Exchange) → length (asked_of seat exchange) ≡ given_at exchange
-  as_many_at seat (Call command times, effect) = length-replicate effect.given (entry seat command)
-  as_many_at seat (Ask inquiry, effect) = refl
-  as_many_at seat (Watch begins, effect) = refl
-  as_many_at seat (Seat chosen, effect) = refl
-  as_many_at seat (Help about, effect) = refl
-  as_many_at seat (Quit, effect) = refl
-  as_many_at seat (Fault fault, effect) = refl
-  as_many_at seat (TooLong, effect) = refl
+  as_many_at seat exchange = grind (arith, common_steps, gets)
 
   as_many_asked : (chooses : Bool) (at : ℕ) (its : List Exchange) → length (all_asked chooses at its) ≡ commands_among its
   as_many_asked chooses at [] = refl
@@ -241,9 +181,7 @@ module _ (Answers : RunView → Inquiry → Answer → Type 0) (style : StyleVie
   seen_next : (part : Part) (count least : ℕ) (watched : Option ℕ) (before after : Bool) (seen : ℕ) (news : List ℕ)
       → MatchBool (before || after) (AreNews part count least watched seen news) (news ≡ [])
       → let next : Option ℕ = if after then Some seen else None in unwrap_or next 0 ≤ part.entries
-  seen_next part count least watched before false seen news has = omega arith
-  seen_next part count least watched false true seen news has = has.seen_is.within
-  seen_next part count least watched true true seen news has = has.seen_is.within
+  seen_next part count least watched before after seen news has = grind (arith, common_steps, gets)
 
   seen_all : (part : Part) (count : ℕ) (watched : Option ℕ) (its : List Exchange) → EachLine (IsDoneAfter Answers part) count watched its
       → unwrap_or watched 0 ≤ part.entries → unwrap_or (fold watched_next watched its) 0 ≤ part.entries

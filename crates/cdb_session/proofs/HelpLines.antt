@@ -1,6 +1,6 @@
 -- The lines that ask for the help, and what it says about a word.
 use Rattle.std.proofs.Common.{◌≡◌, inl, inr, ℕ, ◌+◌, ◌<◌, ◌≤◌, Bool, true, List, [], ◌∷◌, ◌++◌, length, take, drop, map}
-use Rattle.std.proofs.Common.{get_or, Bor, refl, sym, ap, subst, ◌∙◌, append_assoc, append-nil, take-append-drop, arith}
+use Rattle.std.proofs.Common.{get_or, Bor, sym, ap, subst, ◌∙◌, take-append-drop, arith}
 use Rattle.std.proofs.lemmas.Grind.{common_steps}
 use Rattle.std.proofs.lemmas.Option.{gets}
 use Rattle.std.specs.Prelude.{codes, find, Option, None, Some}
@@ -15,8 +15,7 @@ use Rattle.cdb_session.specs.Topics.{topic_of, topic_word, topics}
 use Rattle.cdb_session.specs.declared.topic.Topic.{Topic}
 
 pub begins_with_h : (about : Option Topic) → get_or (help_line about) 0 0 ≡ 104
-begins_with_h None = refl
-begins_with_h (Some topic) = refl
+begins_with_h about = grind (arith, common_steps, gets)
 
 -- the help about a word is about no other
 abbrev pub topic_in : List ℕ → Option Topic
@@ -53,9 +52,7 @@ abbrev pub about : Topic → List (List ℕ) → List ℕ
 about t lines = flat_map (line_about t) lines
 
 about_push : (t : Topic) (lines : List (List ℕ)) (line : List ℕ) → about t (lines ++ line ∷ []) ≡ about t lines ++ line_about t line
-about_push t [] line = append-nil (line_about t line)
-about_push t (first ∷ lines) line =
-    ap (λ text. line_about t first ++ text) (about_push t lines line) ∙ sym (append_assoc (line_about t first) (about t lines) (line_about t line))
+about_push t lines line = grind (arith, common_steps, gets)
 
 -- one line more
 pub one_more : (t : Topic) (lines : List (Bor (List ℕ))) (i : ℕ) (none : Bor (List ℕ)) → i < length lines

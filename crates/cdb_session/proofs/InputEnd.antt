@@ -1,11 +1,11 @@
 -- The end of the input, in one call of a console.
-use Rattle.std.proofs.Common.{◌≡◌, ℕ, ◌<◌, List, [], ◌∷◌, length, take, sym, ap, subst, ◌∙◌, append-nil, arith, length-append, Option, Some, None}
+use Rattle.std.proofs.Common.{rules}
+use Rattle.std.proofs.Common.{◌≡◌, ℕ, ◌<◌, List, [], ◌∷◌, length, take, sym, ap, subst, ◌∙◌, append-nil, arith, length-append, Option}
 use Rattle.std.specs.Prelude.{Result, Ok, Err}
 use Rattle.std.specs.Io.{ReadsAtMost}
 use Rattle.std.specs.Io.KnownBytes.{Consumes, IsAtEnd, ReadConsumes}
 use Rattle.cdb_session.specs.Moves.{Move, Read, ReadFailed, Saving, Wrote, WriteFailed, Saves, Continues, read_in, saved_in, FindsTheEnd, AreAllOf}
 use Rattle.cdb_session.specs.Moves.{move_of_read, move_of_write}
-use Rattle.cdb_session.proofs.MovesInOrder.{Continues-nothing}
 
 -- the one move is a read of nothing
 only_move : (move : Move) → FindsTheEnd (move ∷ []) → move ≡ Read []
@@ -25,9 +25,7 @@ failed_write_is_no_read : WriteFailed ≡ Read [] → ⊥
 failed_write_is_no_read e = cc
 
 all_at_end : (old new : Option (List ℕ)) → Consumes old new [] → IsAtEnd new → AreAllOf old []
-all_at_end None new consumes end = tt
-all_at_end (Some left) None consumes end = absurd consumes
-all_at_end (Some left) (Some rest) consumes end = sym (consumes ∙ end)
+all_at_end old new consumes end = search rules
 
 -- a read of nothing finds the end of what is left
 pub read_to_end : (E : Type 0) (old new : Option (List ℕ)) (result : Result ℕ E) (buffer : List ℕ) → 0 < length buffer
@@ -48,13 +46,11 @@ write_is_no_end E A (Err e) piece finds = absurd (failed_write_is_no_read (only_
 -- neither saves anything
 pub read_saves_none : (E : Type 0) (known : Option (List Saving)) (result : Result ℕ E) (buffer : List ℕ)
     → Continues known known (saved_in (move_of_read result buffer ∷ []))
-read_saves_none E known (Ok count) buffer = Continues-nothing known
-read_saves_none E known (Err e) buffer = Continues-nothing known
+read_saves_none E known result buffer = search rules
 
 pub write_saves_none : (E : Type 0) (known : Option (List Saving)) (result : Result ℕ E) (piece : List ℕ)
     → Continues known known (saved_in (move_of_write result piece ∷ []))
-write_saves_none E known (Ok count) piece = Continues-nothing known
-write_saves_none E known (Err e) piece = Continues-nothing known
+write_saves_none E known result piece = search rules
 
 -- nor is a file
 file_is_no_read : (saving : Saving) → Saves saving ≡ Read [] → ⊥

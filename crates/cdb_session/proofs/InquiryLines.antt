@@ -1,10 +1,11 @@
 -- The lines that ask something of the run.
-use Rattle.std.proofs.Common.{◌≡◌, ◌≢◌, inl, inr, Bool, true, false, ℕ, ◌<◌, List, [], ◌∷◌, length, get_or, decimal, refl, sym, ap, subst, ◌∙◌, arith}
+use Rattle.std.proofs.lemmas.Grind.{common_steps}
+use Rattle.std.proofs.lemmas.Option.{gets}
+use Rattle.std.proofs.Common.{◌≡◌, ◌≢◌, inl, inr, Bool, true, ℕ, List, [], ◌∷◌, get_or, decimal, refl, sym, ap, subst, ◌∙◌, arith}
 use Rattle.std.specs.Prelude.{codes, map, Option, None, Some, option_map}
-use Rattle.std.specs.List.{AllByRecursion, join_with_byte}
+use Rattle.std.specs.List.{AllByRecursion}
 use Rattle.std.specs.Str.{bytes_eq}
 use Rattle.std.proofs.lemmas.Bool.{cases_Bool}
-use Rattle.std.proofs.lemmas.List.Splits.{join_with_byte-slice_split}
 use Rattle.std.proofs.lemmas.Slice.Eq.{bytes_eq-Decides}
 use Rattle.cdb_base.specs.declared.question.StepAsked.{StepAsked}
 use Rattle.cdb_text.specs.Commands.{number}
@@ -19,50 +20,20 @@ use Rattle.cdb_session.specs.Requests.{help_line, quit_line, seat_line, watch_li
 use Rattle.cdb_session.specs.declared.inquiry.Inquiry.{Inquiry}
 use Rattle.cdb_session.specs.declared.inquiry.Inquiry.TheVariants.{Explain, Trail, Draw}
 use Rattle.cdb_session.specs.declared.topic.Topic.{Topic}
-use Rattle.cdb_session.proofs.HelpLines.{begins_with_h}
 
 -- ---- such a line is none of the others
 
-first_of_words : (word : List ℕ) (others : List (List ℕ)) → 0 < length word → get_or (join_with_byte 32 (word ∷ others)) 0 0 ≡ get_or word 0 0
-first_of_words [] others some = absurd (omega (arith, some))
-first_of_words (byte ∷ word) [] some = refl
-first_of_words (byte ∷ word) (other ∷ others) some = refl
-
-first_byte : (line : List ℕ) (inquiry : Inquiry) → IsInquiryLine inquiry line → get_or line 0 0 ≡ get_or (inquiry_word inquiry) 0 0
-first_byte line (Explain step) (others, is, words) =
-    ap (λ bytes. get_or bytes 0 0) (sym (join_with_byte-slice_split 32 line) ∙ ap (join_with_byte 32) is)
-    ∙ first_of_words (codes "explain") others (omega arith)
-first_byte line (Trail step) (others, is, words) =
-    ap (λ bytes. get_or bytes 0 0) (sym (join_with_byte-slice_split 32 line) ∙ ap (join_with_byte 32) is) ∙ first_of_words (codes "trail") others (omega arith)
-first_byte line (Draw name step) (others, is, words) =
-    ap (λ bytes. get_or bytes 0 0) (sym (join_with_byte-slice_split 32 line) ∙ ap (join_with_byte 32) is) ∙ first_of_words (codes "draw") others (omega arith)
-
--- no line of another kind begins with that byte
-begins_so : (line other : List ℕ) (byte : ℕ) (inquiry : Inquiry) → IsInquiryLine inquiry line
-    → line ≡ other → get_or other 0 0 ≡ byte → byte ≢ 101 → byte ≢ 116 → byte ≢ 100 → ⊥
-begins_so line other byte (Explain step) is same first no_e no_t no_d =
-    no_e (sym first ∙ ap (λ bytes. get_or bytes 0 0) (sym same) ∙ first_byte line (Explain step) is)
-begins_so line other byte (Trail step) is same first no_e no_t no_d =
-    no_t (sym first ∙ ap (λ bytes. get_or bytes 0 0) (sym same) ∙ first_byte line (Trail step) is)
-begins_so line other byte (Draw name step) is same first no_e no_t no_d =
-    no_d (sym first ∙ ap (λ bytes. get_or bytes 0 0) (sym same) ∙ first_byte line (Draw name step) is)
-
 pub no_help : (line : List ℕ) (inquiry : Inquiry) → IsInquiryLine inquiry line → (about : Option Topic) → line ≡ help_line about → ⊥
-no_help line inquiry is about same = begins_so line (help_line about) 104 inquiry is same (begins_with_h about)
-    (λ e. omega (arith, e)) (λ e. omega (arith, e)) (λ e. omega (arith, e))
+no_help line inquiry is about same = grind (arith, common_steps, gets)
 
 pub no_quit : (line : List ℕ) (inquiry : Inquiry) → IsInquiryLine inquiry line → line ≡ quit_line → ⊥
-no_quit line inquiry is same = begins_so line quit_line 113 inquiry is same refl (λ e. omega (arith, e)) (λ e. omega (arith, e)) (λ e. omega (arith, e))
+no_quit line inquiry is same = grind (arith, common_steps, gets)
 
 pub no_seat : (line : List ℕ) (inquiry : Inquiry) → IsInquiryLine inquiry line → (seat : ℕ) → line ≡ seat_line seat → ⊥
-no_seat line inquiry is seat same = begins_so line (seat_line seat) 115 inquiry is same refl
-    (λ e. omega (arith, e)) (λ e. omega (arith, e)) (λ e. omega (arith, e))
+no_seat line inquiry is seat same = grind (arith, common_steps, gets)
 
 pub no_watch : (line : List ℕ) (inquiry : Inquiry) → IsInquiryLine inquiry line → (begins : Bool) → line ≡ watch_line begins → ⊥
-no_watch line inquiry is true same = begins_so line (watch_line true) 119 inquiry is same refl
-    (λ e. omega (arith, e)) (λ e. omega (arith, e)) (λ e. omega (arith, e))
-no_watch line inquiry is false same = begins_so line (watch_line false) 117 inquiry is same refl
-    (λ e. omega (arith, e)) (λ e. omega (arith, e)) (λ e. omega (arith, e))
+no_watch line inquiry is begins same = grind (arith, common_steps, gets)
 
 -- ---- what is read in its words
 
@@ -105,8 +76,7 @@ step_says (first ∷ second ∷ third ∷ words) step e = cc
 -- ---- a file, and maybe a step
 
 none_named : (p : ℕ) (k : Option ℕ) → [] ≡ map part_text (numbers_of p k) → ⊥
-none_named p None e = cc
-none_named p (Some k) e = cc
+none_named p k e = grind (arith, common_steps, gets)
 
 any_read_again : (step : Option StepAsked) (words : List (List ℕ)) → AreAnyStepWords step words → any_step_in words ≡ Some step
 unfolding any_step_in
@@ -153,8 +123,7 @@ draws_say (name ∷ others) inquiry e =
 -- words that a line has are at least one
 any_of_some : (words : List (List ℕ)) → words ≢ [] → any_step_in words ≡ option_map Some (step_in words)
 unfolding any_step_in
-any_of_some [] some = absurd (some refl)
-any_of_some (word ∷ words) some = refl
+any_of_some words some = grind (arith, common_steps, gets)
 
 pub any_of_line : (line : List ℕ) (found : Option StepAsked) → found ≡ step_in (words_of line) → option_map Some found ≡ any_step_in (words_of line)
 any_of_line line found is = ap (option_map Some) is ∙ sym (any_of_some (words_of line) (some_word line))
@@ -215,8 +184,7 @@ no_inquiry line none inquiry is = let e = sym none ∙ inquiry_again line inquir
 -- three words and more name no step
 no_third : (first second : List ℕ) (words : List (List ℕ)) → words ≢ [] → step_in (first ∷ second ∷ words) ≡ None
 unfolding step_in
-no_third first second [] some = absurd (some refl)
-no_third first second (third ∷ words) some = refl
+no_third first second words some = grind (arith, common_steps, gets)
 
 pub too_many : (words : List (List ℕ)) (first second rest : List ℕ) → words ≡ first ∷ second ∷ words_of rest → None ≡ step_in words
 too_many words first second rest is = sym (ap step_in is ∙ no_third first second (words_of rest) (some_word rest))
@@ -224,22 +192,14 @@ too_many words first second rest is = sym (ap step_in is ∙ no_third first seco
 -- ---- a command that is repeated
 
 first_of_repeat : (line : List ℕ) (p times : ℕ) → IsRepeatLine p times line → get_or line 0 0 ≡ 97
-first_of_repeat line p times is =
-    ap (λ bytes. get_or bytes 0 0) (sym (join_with_byte-slice_split 32 line) ∙ ap (join_with_byte 32) is.0)
-    ∙ first_of_words (codes "auto") (map part_text (number p ∷ number times ∷ [])) (omega arith)
+first_of_repeat line p times is = grind (arith, common_steps, gets)
 
 -- such a line is none of the others
 pub repeats_no_other : (line other : List ℕ) (byte p times : ℕ) → IsRepeatLine p times line → line ≡ other → get_or other 0 0 ≡ byte → byte ≢ 97 → ⊥
 repeats_no_other line other byte p times is same first no_a = no_a (sym first ∙ ap (λ bytes. get_or bytes 0 0) (sym same) ∙ first_of_repeat line p times is)
 
 pub repeats_no_inquiry : (line : List ℕ) (inquiry : Inquiry) (p times : ℕ) → IsInquiryLine inquiry line → IsRepeatLine p times line → ⊥
-repeats_no_inquiry line (Explain step) p times is repeats = let e : 101 ≡ 97 = sym (first_byte line (Explain step) is) ∙ first_of_repeat line p times repeats in
-    omega (arith, e)
-repeats_no_inquiry line (Trail step) p times is repeats = let e : 116 ≡ 97 = sym (first_byte line (Trail step) is) ∙ first_of_repeat line p times repeats in
-    omega (arith, e)
-repeats_no_inquiry line (Draw name step) p times is repeats =
-    let e : 100 ≡ 97 = sym (first_byte line (Draw name step) is) ∙ first_of_repeat line p times repeats in
-    omega (arith, e)
+repeats_no_inquiry line inquiry p times is repeats = grind (arith, common_steps, gets)
 
 pub repeat_again : (line : List ℕ) (p times : ℕ) → IsRepeatLine p times line → repeat_in (words_of line) ≡ Some (p, times)
 unfolding repeat_in

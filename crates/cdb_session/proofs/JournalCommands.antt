@@ -1,9 +1,12 @@
 -- The journal of a session grows by its commands.
+use Rattle.std.proofs.Common.{rules}
+use Rattle.std.proofs.lemmas.Grind.{common_steps}
+use Rattle.std.proofs.lemmas.Option.{gets}
 use Rattle.std.proofs.Common.{◌≡◌, ℕ, zero, suc, ◌<◌, ◌≤◌, ◌==◌, Bool, true, false, List, [], ◌∷◌, ◌++◌, length}
-use Rattle.std.proofs.Common.{take, refl, sym, ap, ◌∙◌, append_assoc, append-nil, arith, length-append}
+use Rattle.std.proofs.Common.{take, refl, sym, ap, ◌∙◌, append-nil, arith}
 use Rattle.std.specs.Prelude.{replicate, if◌then◌else◌}
 use Rattle.std.proofs.lemmas.Bool.Decides.{Decides-eqb}
-use Rattle.std.proofs.lemmas.List.{take_all, take-append-le}
+use Rattle.std.proofs.lemmas.List.{take_all}
 use Rattle.cdb_base.specs.Limits.{MAX_ENTRIES}
 use Rattle.cdb_commands.specs.declared.command.Command.{Command}
 use Rattle.cdb_rules.specs.Rules.{Rules}
@@ -19,15 +22,12 @@ use Rattle.cdb_session.specs.declared.request.Request.TheVariants.{Call, Ask, Wa
 -- the positions are taken one after the other, up to the last
 pick : (most : ℕ) (b : Bool) (c d : Journaled) (one : Entry) (others : List Entry) → (b ≡ true → most ≤ length c.journal) → d.journal ≡ c.journal ++ one ∷ []
     → let now : Journaled = if b then c else d in take most (now.journal ++ others) ≡ take most (c.journal ++ one ∷ others)
-pick most true c d one others full is =
-    take-append-le most c.journal others (full refl) ∙ sym (take-append-le most c.journal (one ∷ others) (full refl))
-pick most false c d one others full is = ap (λ front. take most (front ++ others)) is ∙ ap (take most) (append_assoc c.journal (one ∷ []) others)
+pick most b c d one others full is = grind (arith, common_steps, gets)
 
 fits : (most : ℕ) (b : Bool) (c d : Journaled) (one : Entry) → (b ≡ false → length c.journal < most)
     → length c.journal ≤ most → d.journal ≡ c.journal ++ one ∷ []
     → let now : Journaled = if b then c else d in length now.journal ≤ most
-fits most true c d one room few is = few
-fits most false c d one room few is = omega (arith, room refl, ap length is, length-append c.journal (one ∷ []))
+fits most b c d one room few is = grind (arith, common_steps, gets)
 
 not_full : (n most : ℕ) → n ≤ most → (n == most) ≡ false → n < most
 not_full n most few other = grind arith
@@ -35,9 +35,7 @@ not_full n most few other = grind arith
 -- a command that is given several times
 pub fits_one : (rules : Parts → Rules) (seat : ℕ) (command : Command) (c : Journaled)
     → length c.journal ≤ MAX_ENTRIES → length (control_behind rules seat command c).journal ≤ MAX_ENTRIES
-fits_one rules seat command c few =
-    fits MAX_ENTRIES (length c.journal == MAX_ENTRIES) c (extended rules c seat command)
-    (entry seat command) (λ no. not_full (length c.journal) MAX_ENTRIES few no) few refl
+fits_one rules seat command c few = grind (arith, common_steps, gets)
 
 grown_one : (rules : Parts → Rules) (seat : ℕ) (command : Command) (c : Journaled) (others : List Entry)
     → take MAX_ENTRIES ((control_behind rules seat command c).journal ++ others) ≡ take MAX_ENTRIES (c.journal ++ entry seat command ∷ others)

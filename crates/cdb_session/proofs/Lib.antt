@@ -7,7 +7,6 @@ pub mod HelpLines
 pub mod InquiryLines
 pub mod FullWords
 pub mod Names
-pub mod Dues
 pub mod TypedWords
 pub mod ExactLines
 pub mod SoundLines

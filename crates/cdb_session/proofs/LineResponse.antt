@@ -1,5 +1,8 @@
 -- What a session answers to one line.
-use Rattle.std.proofs.Common.{◌≡◌, ◌≢◌, inl, inr, ◌+◌, ℕ, Bool, true, false, List, [], ◌∷◌, ◌++◌, map, length, length-append, min}
+use Rattle.std.proofs.Common.{rules}
+use Rattle.std.proofs.lemmas.Grind.{common_steps}
+use Rattle.std.proofs.lemmas.Option.{gets}
+use Rattle.std.proofs.Common.{◌≡◌, ◌≢◌, inl, inr, ◌+◌, ℕ, Bool, true, List, [], ◌++◌, map, length, length-append, min}
 use Rattle.std.proofs.Common.{refl, sym, ap, subst, ◌∙◌, arith, Vec, Global}
 use Rattle.std.specs.Prelude.{Option, Some, None, Result, Ok, Err, IfOk, IsTrue, ◌↔◌, is_some, if◌then◌else◌}
 use Rattle.cdb_base.specs.Memory.{no_memory}
@@ -16,45 +19,26 @@ use Rattle.cdb_session.specs.Exchanges.{Answer, Effect, Exchange}
 use Rattle.cdb_session.specs.declared.inquiry.Inquiry.{Inquiry}
 use Rattle.cdb_session.specs.declared.request.Request.{Request}
 use Rattle.cdb_session.specs.declared.request.Request.TheVariants.{Call, Ask, Watch, Seat, Help, Quit, Fault, TooLong}
-use Rattle.cdb_session.specs.declared.shown.NewFile.{NewFile}
 use Rattle.cdb_session.specs.declared.shown.Shown.{Shown}
 use Rattle.cdb_session.proofs.MovesInOrder.{Makes-nothing}
-use Rattle.cdb_session.proofs.WrittenText.{says-append}
 use Rattle.cdb_streams.specs.declared.buffer.OutputFault.TheVariants as output
 use Rattle.cdb_session.specs.Styles.{StyleView, Part, AreCalled, MakesNone}
 use Rattle.cdb_session.specs.Replies.{own_response}
 use Rattle.cdb_session.specs.News.{HasNews, watches}
 use Rattle.cdb_session.specs.Parts.{entries_of, seat_next}
 use Rattle.cdb_session.specs.Unfinished.{RespondsToLine}
-use Rattle.cdb_session.specs.Lines.{SessionView, HasBegun, HasDone, IsToBeGiven, Responds, PutsOut, Shows, outputs_of, outputs_with}
-use Rattle.cdb_session.proofs.GotReplies.{GoesOn-trans, MakesNone-refl, begun_where_done, none_done, none_got}
+use Rattle.cdb_session.specs.Lines.{SessionView, HasBegun, HasDone, IsToBeGiven, Responds, PutsOut, Shows, outputs_of}
+use Rattle.cdb_session.proofs.GotReplies.{MakesNone-refl, begun_where_done, none_done, none_got}
 use Rattle.cdb_session.proofs.LaterParts.{news_on}
 
 -- what is done after the journal was looked at
 module _ (old mid new : Part) (none : MakesNone old mid) where
-  called_behind : (made : List Entry) (got : List ReplyView) → AreCalled mid made got new → AreCalled old made got new
-  called_behind made got k =
-      record {
-        goes_on = GoesOn-trans old mid new none.goes_on k.goes_on;
-        calls = k.calls ∙ ap (λ (calls : List Entry). calls ++ made) none.calls;
-        replies = k.replies ∙ ap (λ (replies : List ReplyView). replies ++ got) none.replies;
-        full = λ full. k.full (none.full full);
-      }
-
   pub done_behind : (Answers : RunView → Inquiry → Answer → Type 0) (seat : ℕ) (exchange : Exchange) (got : List ReplyView)
       → HasDone Answers seat mid exchange got new → HasDone Answers seat old exchange got new
-  done_behind Answers seat exchange got done =
-      record {
-        calls = called_behind (entries_of seat exchange.0 (length got)) got done.calls;
-        given = done.given;
-        fits = done.fits;
-        full = done.full;
-        answer = done.answer;
-      }
+  done_behind Answers seat exchange got done = search rules
 
   pub begun_behind : (seat : ℕ) (request : Request) → HasBegun seat mid request new → HasBegun seat old request new
-  begun_behind seat request begun =
-      record { got = begun.got; calls = called_behind (entries_of seat request (length begun.got)) begun.got begun.calls; due = begun.due }
+  begun_behind seat request begun = search rules
 
   -- what was seen is seen behind the commands that follow
   pub looked_before : (made : List Entry) (got : List ReplyView) → AreCalled mid made got new
@@ -98,23 +82,11 @@ module _ (Answers : RunView → Inquiry → Answer → Type 0) (style : StyleVie
     pub call_shows : (E F : Type 0) (text : Vec ℕ Global) (its : Shown) (old new : SessionView) (command : Command) (times : ℕ)
         → Responds Answers style {E = E} effect (Ok text) old (Call command times) new → IsText its text.items
         → PutsOut Answers style {E = F} effect (Ok its) old (Call command times) new
-    call_shows E F text its old new command times (given, answer, got, responds) put = (
-      given,
-      answer,
-      got,
-      (responds.0, put effect.news effect.saved ∙ ap (λ response. says (effect.news ++ response)) responds.1),
-    )
+    call_shows E F text its old new command times is put = search rules
 
   -- a line that asks for no command and nothing of the run
   nothing_due : (request : Request) → IsToBeGiven request []
-  nothing_due (Call command times) = (omega arith, refl)
-  nothing_due (Ask inquiry) = refl
-  nothing_due (Watch begins) = refl
-  nothing_due (Seat seat) = refl
-  nothing_due (Help about) = refl
-  nothing_due Quit = refl
-  nothing_due (Fault fault) = refl
-  nothing_due TooLong = refl
+  nothing_due request = search rules
 
   module _ (old new : SessionView) (same : new.part ≡ old.part) where
     made_none : MakesNone old.part new.part
@@ -122,9 +94,7 @@ module _ (Answers : RunView → Inquiry → Answer → Type 0) (style : StyleVie
 
     own_done : (effect : Effect) (request : Request) → ((command : Command) (times : ℕ) → request ≢ Call command times)
         → ((inquiry : Inquiry) → request ≢ Ask inquiry) → HasDone Answers old.seat old.part (request, with_answer effect (Ok [])) [] new.part
-    own_done effect request other and_other =
-        none_done Answers old.seat old.part new.part request (with_answer effect (Ok []))
-        made_none other (λ inquiry asks. absurd (and_other inquiry asks))
+    own_done effect request other and_other = search rules
 
     pub own_begins : (request : Request) → HasBegun old.seat old.part request new.part
     own_begins request = record { got = []; calls = none_got old.seat request old.part new.part made_none; due = nothing_due request }
@@ -197,19 +167,9 @@ module _ (Answers : RunView → Inquiry → Answer → Type 0) (style : StyleVie
     pub text_is : all.text.items ≡ (news ++ its.text.items) ++ text
     pub failed_is : all.failed.items ≡ (news ++ its.failed.items) ++ text
 
-  more_with : (its : Option NewFile) (text failed other another more : List ℕ) → other ≡ text ++ more → another ≡ failed ++ more
-      → (saved : Bool) → outputs_with its other another saved ≡ outputs_with its text failed saved ++ says more
-  more_with None text failed other another more is is_failed saved = ap says is ∙ says-append text more
-  more_with (Some its) text failed other another more is is_failed true =
-      ap (λ behind. file (record { name = its.name.now; text = its.text.items; done = true }) ∷ behind) (ap says is ∙ says-append text more)
-  more_with (Some its) text failed other another more is is_failed false =
-      ap (λ behind. file (record { name = its.name.now; text = its.text.items; done = false }) ∷ behind) (ap says is_failed ∙ says-append failed more)
-
   around : (its all : Shown) (news more : List ℕ) → IsAround its all news more → (saved : Bool)
       → outputs_of [] all saved ≡ outputs_of news its saved ++ says more
-  around its all news more a saved =
-      ap (λ new_file. outputs_with new_file all.text.items all.failed.items saved) a.file
-      ∙ more_with its.file (news ++ its.text.items) (news ++ its.failed.items) all.text.items all.failed.items more a.text_is a.failed_is saved
+  around its all news more a saved = grind (arith, common_steps, gets)
 
   -- ---- a held line
 

@@ -1,10 +1,12 @@
 -- Moves one after the other.
+use Rattle.std.proofs.lemmas.Grind.{common_steps}
+use Rattle.std.proofs.lemmas.Option.{gets}
+use Rattle.std.proofs.Common.{rules}
 use Rattle.std.proofs.Common.{◌≡◌, ℕ, ◌⊎◌, inl, inr, Bool, List, [], ◌∷◌, ◌++◌, length, refl, sym, ap, subst}
 use Rattle.std.proofs.Common.{◌∙◌, append_assoc, append-nil, arith, length-append, Option, Some, None}
 use Rattle.std.specs.Io.KnownBytes.{Appends, Consumes}
 use Rattle.std.proofs.KnownBytes.{Appends-nil, Appends-trans, Consumes-nil, Consumes-trans}
-use Rattle.std.proofs.lemmas.Grind.{flat_map-append, fold-append}
-use Rattle.cdb_streams.specs.Streams.{counted}
+use Rattle.std.proofs.lemmas.Grind.{flat_map-append}
 use Rattle.cdb_session.specs.Moves.{Known, Move, Read, ReadFailed, Wrote, WriteFailed, Saves, given_by, said_by, saved_by, written_by, read_in}
 use Rattle.cdb_session.specs.Moves.{said_in, saved_in, written_in, AsksForInput}
 use Rattle.cdb_session.specs.Moves.{AreWrites, EndsWith, FindsTheEnd, Continues, AreAllOf, Makes, count_on, is_failed_read, is_failed_write}
@@ -65,8 +67,7 @@ nothing_read (Saves saving ∷ made) are = nothing_read made are.1
 
 -- what is known, one list after the other
 pub Continues-nothing : {A : Type 0} (known : Option (List A)) → Continues known known []
-Continues-nothing None = tt
-Continues-nothing (Some known) = sym (append-nil known)
+Continues-nothing known = search rules
 
 Continues-more : {A : Type 0} (old now new : Option (List A)) (made more : List A) → Continues old now made → Continues now new more
     → Continues old new (made ++ more)
@@ -78,8 +79,7 @@ Continues-more (Some old) (Some now) (Some new) made more e f = f ∙ ap (λ its
 -- the count of such moves goes on
 count_more : (is_such : Move → Bool) (old now new : ℕ) (made more : List Move)
     → now ≡ count_on is_such old made → new ≡ count_on is_such now more → new ≡ count_on is_such old (made ++ more)
-count_more is_such old now new made more e f =
-    f ∙ ap (λ count. count_on is_such count more) e ∙ sym (fold-append (λ count move. counted (is_such move) count) old made more)
+count_more is_such old now new made more e f = grind (arith, common_steps, gets)
 
 -- ---- the end of the input
 
@@ -110,9 +110,7 @@ are_last (move ∷ made) more are = are_last made more are.1
 
 -- all of what was left after some moves was read by the later ones
 all_later : (old now : Option (List ℕ)) (read more : List ℕ) → Consumes old now read → AreAllOf now more → AreAllOf old (read ++ more)
-all_later None now read more consumes all = tt
-all_later (Some left) None read more consumes all = absurd consumes
-all_later (Some left) (Some rest) read more consumes all = ap (λ bytes. read ++ bytes) all ∙ sym consumes
+all_later old now read more consumes all = search rules
 
 pub all_read : (old now : Option (List ℕ)) (made more : List Move) → Consumes old now (read_in made)
     → (FindsTheEnd made → AreAllOf old (read_in made)) → (FindsTheEnd more → AreAllOf now (read_in more))

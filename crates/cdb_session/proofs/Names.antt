@@ -1,10 +1,10 @@
 -- Names as they are printed.
-use Rattle.std.proofs.Common.{◌≡◌, ℕ, ◌+◌, ◌<◌, ◌≤◌, Bool, false, ◌&&◌, List, [], length, Some, None, position, ap, ◌∙◌, arith}
-use Rattle.std.specs.List.{position_or_len, before_first, after_first}
+use Rattle.std.proofs.lemmas.Option.{gets}
+use Rattle.std.proofs.Common.{◌≡◌, ℕ, ◌<◌, ◌≤◌, Bool, false, List, length, Some, None, position, arith}
+use Rattle.std.specs.List.{position_or_len}
 use Rattle.std.proofs.lemmas.Grind.{common_steps}
 use Rattle.std.proofs.lemmas.Bool.Decides.{nat_tests}
-use Rattle.std.proofs.lemmas.List.{drop_all}
-use Rattle.cdb_session.specs.Typed.{is_mark, is_digits, is_name}
+use Rattle.cdb_session.specs.Typed.{is_mark, is_name}
 
 module _ {X : Type 0} (p : X → Bool) (xs : List X) where
   pub position_none : position p xs ≡ None → length xs ≤ position_or_len p xs
@@ -16,11 +16,6 @@ module _ {X : Type 0} (p : X → Bool) (xs : List X) where
   pub position_below : (at : ℕ) → position p xs ≡ Some at → position_or_len p xs < length xs
   position_below at h = grind (arith, nat_tests)
 
-false_after : (b : Bool) → (b && false) ≡ false
-false_after b = grind (arith, common_steps)
-
 -- a piece without a mark is no name
 pub no_name : (piece : List ℕ) → length piece ≤ position_or_len is_mark piece → is_name piece ≡ false
-no_name piece h =
-    let none : after_first is_mark piece ≡ [] = drop_all (position_or_len is_mark piece + 1) piece (omega (arith, h)) in
-    ap (λ xs. is_digits (before_first is_mark piece) && is_digits xs) none ∙ false_after (is_digits (before_first is_mark piece))
+no_name piece h = grind (arith, common_steps, gets)

@@ -1,4 +1,6 @@
 -- A line asks for one thing.
+use Rattle.std.proofs.lemmas.Grind.{common_steps}
+use Rattle.std.proofs.lemmas.Option.{gets}
 use Rattle.std.proofs.Common.{◌≡◌, inl, inr, true, false, ℕ, ◌<◌, ◌≤◌, List, length, get_or, refl, sym, ap, ◌∙◌, arith}
 use Rattle.std.specs.Prelude.{Result, Ok, Err}
 use Rattle.cdb_commands.specs.declared.command.Command.{Command}
@@ -25,19 +27,11 @@ first line one other is is_other = ap (λ bytes. get_or bytes 0 0) (sym is ∙ i
 -- a line of a session's own that asks for a command repeats it
 pub repeats : (line : List ℕ) (command : Command) (times : ℕ) → Means (Call command times) line
     → IsOwn line → (p : ℕ) × (command ≡ Auto p) × IsRepeatLine p times line
-repeats line command times (inl once) own = absurd (once.0 own)
-repeats line command times (inr repeat) own = repeat
+repeats line command times asks own = grind (arith, common_steps, gets)
 
 module _ (line : List ℕ) where
   pub only_too_long : longest < length line → (other : Request) → AsksFor other line → other ≡ TooLong
-  only_too_long long (Call command times) asks = absurd (omega (arith, long, asks.0))
-  only_too_long long (Ask inquiry) asks = absurd (omega (arith, long, asks.0))
-  only_too_long long (Watch begins) asks = absurd (omega (arith, long, asks.0))
-  only_too_long long (Seat seat) asks = absurd (omega (arith, long, asks.0))
-  only_too_long long (Help about) asks = absurd (omega (arith, long, asks.0))
-  only_too_long long Quit asks = absurd (omega (arith, long, asks.0))
-  only_too_long long (Fault fault) asks = absurd (omega (arith, long, asks.0))
-  only_too_long long TooLong asks = refl
+  only_too_long long other asks = grind (arith, common_steps, gets)
 
   module _ (few : length line ≤ longest) where
     pub only_seat : (seat : ℕ) → IsWithin 1 most_seats seat → line ≡ seat_line seat → (other : Request) → AsksFor other line → other ≡ Seat seat

@@ -1,7 +1,7 @@
 -- What one call adds to the journal of a control of one's own.
 use Rattle.std.proofs.Common.{◌≡◌, ◌↔◌, ℕ, ◌≤◌, List, [], ◌∷◌, ◌++◌, length, refl, sym, ap, subst, ◌∙◌, arith, length-append}
 use Rattle.std.proofs.lemmas.List.{take-append-le}
-use Rattle.std.specs.Prelude.{Result, Ok, Err, IfOk, OnErr, Option, None, Some}
+use Rattle.std.specs.Prelude.{Result, Ok, Err, IfOk, OnErr}
 use Rattle.cdb_base.specs.Limits.{MAX_ENTRIES}
 use Rattle.cdb_commands.specs.ReplyView.{ReplyView, reply_view}
 use Rattle.cdb_commands.specs.declared.command.Command.{Command}
@@ -18,7 +18,6 @@ use Rattle.cdb_setup.specs.Parts.{Parts}
 use Rattle.cdb_session.specs.Alone.{all_replies_from, whole_part, IsLaterControl}
 use Rattle.cdb_session.specs.Styles.{Onward, stays, goes, GoesOn, IsCalled, MakesNone, Calls}
 use Rattle.cdb_session.specs.Answers.{run_left}
-use Rattle.cdb_session.specs.News.{AreNews, news_up_to}
 use Rattle.cdb_session.proofs.GotReplies.{MakesNone-refl}
 
 pub all_replies-append : (rules : Rules) (t : State) (es fs : List Entry)
@@ -62,20 +61,6 @@ calls_made rules old new seat command (Ok reply) is made same full =
 calls_made rules old new seat command (Err JournalFull) is made same full =
     (none_made rules old new same, ap (λ (c : Journaled). length c.journal) same ∙ full.0 refl)
 calls_made rules old new seat command (Err (NoMemory refused)) is made same full = none_made rules old new same
-
--- there are no news of others
-pub none_seen : (rules : Parts → Rules) (c : Journaled) (from : Option ℕ) (seen : ℕ) (news : List ℕ) → seen ≡ length c.journal → news ≡ []
-    → AreNews (whole_part rules c) (length c.journal) (length c.journal) from seen news
-none_seen rules c from seen news is none =
-    record {
-      no_less = omega (arith, is);
-      seen_is = record { since = omega arith; within = omega (arith, is); commands = omega (arith, is) };
-      news_are = none ∙ sym (nobody from);
-    }
-  where
-    nobody : (from : Option ℕ) → news_up_to (whole_part rules c) from seen ≡ []
-    nobody None = refl
-    nobody (Some position) = refl
 
 pub later_control : (first now : Journaled) → length first.journal ≤ MAX_ENTRIES → Onward IsLaterControl first now → IsLaterControl first now
 later_control first _ few stays = record { setup = refl; seats = refl; begins = Begins-refl first.journal; few = few }

@@ -1,4 +1,5 @@
 -- A command that is given several times, one time after the other.
+use Rattle.std.proofs.Common.{rules}
 use Rattle.std.proofs.Common.{◌≡◌, inl, inr, ℕ, zero, suc, ◌+◌, ◌-◌, ◌<◌, Bool, true, false, List, [], ◌∷◌, ◌++◌, length}
 use Rattle.std.proofs.Common.{refl, sym, ap, ◌∙◌, append_assoc, append-nil, arith, length-append, Vec, Global}
 use Rattle.std.specs.Prelude.{if◌then◌else◌, replicate, Ok, Err}
@@ -73,13 +74,7 @@ once_more one got old now new reply a k =
     }
 
 none_more : (made : List Entry) (got : List ReplyView) (old now new : Part) → AreCalled old made got now → MakesNone now new → AreCalled old made got new
-none_more made got old now new a k =
-    record {
-      goes_on = GoesOn-trans old now new a.goes_on k.goes_on;
-      calls = k.calls ∙ a.calls;
-      replies = k.replies ∙ a.replies;
-      full = λ full. let its = a.full full in (its.0, k.full its.1);
-    }
+none_more made got old now new a k = search rules
 
 text_more : (got : List ReplyView) (reply : ReplyView) (before text : List ℕ) → before ≡ replies_text (length got) got
     → text ≡ before ++ text_of reply → replies_text (length (got ++ reply ∷ [])) (got ++ reply ∷ []) ≡ text

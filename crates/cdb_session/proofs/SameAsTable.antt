@@ -1,10 +1,11 @@
 -- With a control of its own, a session shows what the table of exchanges says.
+use Rattle.std.proofs.Common.{rules}
+use Rattle.std.proofs.lemmas.Grind.{common_steps}
+use Rattle.std.proofs.lemmas.Option.{gets}
 use Rattle.std.proofs.Common.{◌≡◌, inl, inr, ℕ, zero, suc, ◌+◌, ◌-◌, ◌<◌, ◌≤◌, ◌==◌, Bool, true, false, List, [], ◌∷◌, ◌++◌, length}
 use Rattle.std.proofs.Common.{take, drop, min, refl, sym, ap, subst, ◌∙◌, append_assoc, append-nil, arith, length-append}
-use Rattle.std.specs.Prelude.{if◌then◌else◌, map, replicate, is_some, unwrap_or, MatchBool, Option, None, Some}
+use Rattle.std.specs.Prelude.{if◌then◌else◌, map, replicate, is_some, unwrap_or, MatchBool, Option, None}
 use Rattle.std.specs.List.{AllByRecursion}
-use Rattle.std.proofs.lemmas.Bool.Decides.{Decides-eqb}
-use Rattle.std.proofs.lemmas.Grind.{fold-append}
 use Rattle.std.proofs.Math.Seq.{drop-append_seam, take-append_seam, take-append-add}
 use Rattle.std.proofs.lemmas.Bool.{cases_Bool, cases_lt}
 use Rattle.std.proofs.lemmas.List.{drop-drop, length-drop, length-replicate, length-take, take_all, take_min, take-append-le}
@@ -13,7 +14,7 @@ use Rattle.cdb_commands.specs.ReplyView.{ReplyView, is_refused}
 use Rattle.cdb_commands.specs.declared.command.Command.{Command}
 use Rattle.cdb_control.specs.Commands.{obey}
 use Rattle.cdb_control.specs.Journal.{Journaled, Begins, entry, extended, reply_in, control_state, replay, replay_from}
-use Rattle.cdb_control.specs.State.{State, first_control_state}
+use Rattle.cdb_control.specs.State.{first_control_state}
 use Rattle.cdb_control.specs.declared.control.Entry.{Entry}
 use Rattle.cdb_session.specs.Table as table
 use Rattle.cdb_session.specs.Exchanges.{Answer, Exchange, Effect, given_at}
@@ -44,9 +45,6 @@ not_full n most few other = grind arith
 one_less : (n most : ℕ) → n < most → most - n ≡ suc (most - (n + 1))
 one_less n most low = omega (arith, low)
 
-none_left : (n most : ℕ) → n ≡ most → most - n ≡ 0
-none_left n most is = omega (arith, is)
-
 abbrev table_one : List ℕ → table.Session → Exchange → List Output
 table_one prompt = shown_by table.response_to table.after_line prompt
 
@@ -67,18 +65,13 @@ replies_at rules c asked = all_replies_from (rules c.setup) (control_state rules
 state_more : (rules : Parts → Rules) (c : Journaled) (seat : ℕ) (command : Command)
     → control_state rules (extended rules c seat command) ≡ obey (rules c.setup) (control_state rules c) seat command
 unfolding replay
-state_more rules c seat command =
-    fold-append (λ (t : State) (e : Entry). obey (rules c.setup) t e.seat e.command) (first_control_state c.setup c.seats) c.journal (entry seat command ∷ [])
+state_more rules c seat command = grind (arith, common_steps, gets)
 
 none_at : (rules : Parts → Rules) (c : Journaled) (asked : List Entry) → (length c.journal == MAX_ENTRIES) ≡ true → replies_at rules c asked ≡ []
-none_at rules c asked is =
-    ap (λ (n : ℕ). all_replies_from (rules c.setup) (control_state rules c) (take n asked))
-    (none_left (length c.journal) MAX_ENTRIES ((Decides-eqb (length c.journal) MAX_ENTRIES).0 is))
+none_at rules c asked is = grind (arith, common_steps, gets)
 
 drop_next : (n : ℕ) (replies : List ReplyView) → drop (suc n) replies ≡ drop n (next_replies replies)
-drop_next zero [] = refl
-drop_next (suc n) [] = refl
-drop_next n (reply ∷ replies) = refl
+drop_next n replies = grind (arith, common_steps, gets)
 
 module _ (rules : Parts → Rules) (seat : ℕ) (command : Command) where
   abbrev one : Entry
@@ -122,8 +115,7 @@ module _ (rules : Parts → Rules) (seat : ℕ) (command : Command) where
 
   -- as often as it can be
   some_given : (times : ℕ) (replies : List ReplyView) → 1 ≤ times_given (suc times) replies
-  some_given times [] = omega arith
-  some_given times (reply ∷ replies) = elim (cases_Bool (is_refused reply)) [ inl is ↦ rw is (omega arith) | inr is ↦ rw is (omega arith) ]
+  some_given times replies = grind (arith, common_steps, gets)
 
   given_there : (times count : ℕ) (c : Journaled) (rest : List Entry) → length c.journal ≤ MAX_ENTRIES
       → count ≡ times_given times (replies_at rules c (replicate count one ++ rest)) → count ≡ table.given_to rules seat command c times
@@ -177,38 +169,20 @@ module _ (Answers : RunView → Inquiry → Answer → Type 0) (greeting prompt 
       (says (its.0 i) ++ says prompt) ++ plain_from a exchanges)
       ∙ ap (λ outputs. (says (table.texts_at s.rules s.seat command s.control effect.given) ++ says prompt) ++ outputs)
       (same (watched_next watched (Call command times, effect)) (table.after_line s (Call command times, effect)) exchanges others more.1)
-  same watched s ((Ask inquiry, effect) ∷ exchanges) others few =
-      ap (λ text. table_one prompt s (Ask inquiry, effect) ++ text)
-      (same (watched_next watched (Ask inquiry, effect)) (table.after_line s (Ask inquiry, effect)) exchanges others few)
+  same watched s ((Ask inquiry, effect) ∷ exchanges) others few = ap (λ text. table_one prompt s (Ask inquiry, effect) ++ text) (same _ _ exchanges others few)
   same watched s ((Watch begins, effect) ∷ exchanges) others few =
-      ap (λ text. table_one prompt s (Watch begins, effect) ++ text)
-      (same (watched_next watched (Watch begins, effect)) (table.after_line s (Watch begins, effect)) exchanges others few)
-  same watched s ((Seat chosen, effect) ∷ exchanges) others few =
-      ap (λ text. table_one prompt s (Seat chosen, effect) ++ text)
-      (same (watched_next watched (Seat chosen, effect)) (table.after_line s (Seat chosen, effect)) exchanges others few)
-  same watched s ((Help about, effect) ∷ exchanges) others few =
-      ap (λ text. table_one prompt s (Help about, effect) ++ text)
-      (same (watched_next watched (Help about, effect)) (table.after_line s (Help about, effect)) exchanges others few)
-  same watched s ((Quit, effect) ∷ exchanges) others few =
-      ap (λ text. table_one prompt s (Quit, effect) ++ text)
-      (same (watched_next watched (Quit, effect)) (table.after_line s (Quit, effect)) exchanges others few)
-  same watched s ((Fault fault, effect) ∷ exchanges) others few =
-      ap (λ text. table_one prompt s (Fault fault, effect) ++ text)
-      (same (watched_next watched (Fault fault, effect)) (table.after_line s (Fault fault, effect)) exchanges others few)
-  same watched s ((TooLong, effect) ∷ exchanges) others few =
-      ap (λ text. table_one prompt s (TooLong, effect) ++ text)
-      (same (watched_next watched (TooLong, effect)) (table.after_line s (TooLong, effect)) exchanges others few)
+      ap (λ text. table_one prompt s (Watch begins, effect) ++ text) (same _ _ exchanges others few)
+  same watched s ((Seat chosen, effect) ∷ exchanges) others few = ap (λ text. table_one prompt s (Seat chosen, effect) ++ text) (same _ _ exchanges others few)
+  same watched s ((Help about, effect) ∷ exchanges) others few = ap (λ text. table_one prompt s (Help about, effect) ++ text) (same _ _ exchanges others few)
+  same watched s ((Quit, effect) ∷ exchanges) others few = ap (λ text. table_one prompt s (Quit, effect) ++ text) (same _ _ exchanges others few)
+  same watched s ((Fault fault, effect) ∷ exchanges) others few = ap (λ text. table_one prompt s (Fault fault, effect) ++ text) (same _ _ exchanges others few)
+  same watched s ((TooLong, effect) ∷ exchanges) others few = ap (λ text. table_one prompt s (TooLong, effect) ++ text) (same _ _ exchanges others few)
 
   -- the journal has as many of the entries as it has room for behind those that it went on from
   as_many : (before its : List Entry) (part : Part) (exchanges : List Exchange) → part.calls ≡ its
       → part.entries ≡ length before + length its → length before + length its ≤ MAX_ENTRIES → HasCommands (nine greeting prompt) part exchanges
       → its ≡ take (MAX_ENTRIES - length before) (all_of (nine greeting prompt) exchanges)
-  as_many before its part exchanges are many few (inl all) =
-      sym (take_all (MAX_ENTRIES - length before) its (omega (arith, few))) ∙ ap (take (MAX_ENTRIES - length before)) (sym are ∙ all)
-  as_many before its part exchanges are many few (inr some) =
-      let room : MAX_ENTRIES - length before ≤ length its = omega (arith, some.0, many) in
-      sym (take_all (MAX_ENTRIES - length before) its (omega (arith, few))) ∙ sym (take-append-le (MAX_ENTRIES - length before) its some.1 room)
-      ∙ ap (take (MAX_ENTRIES - length before)) (ap (λ (calls : List Entry). calls ++ some.1) (sym are) ∙ sym some.2)
+  as_many before its part exchanges are many few has = grind (arith, common_steps, gets)
 
   -- what a session shows by its journal is what the table says of its exchanges alone
   came_replies : (rules : Parts → Rules) (c : Journaled) (before : List Entry) (exchanges : List Exchange)
@@ -237,9 +211,7 @@ module _ (Answers : RunView → Inquiry → Answer → Type 0) (greeting prompt 
   -- nobody else has entries
   no_news : (rules : Parts → Rules) (c : Journaled) (before : List Entry) (count least : ℕ) (watched : Option ℕ) (looked : Bool) (seen : ℕ) (news : List ℕ)
       → MatchBool looked (AreNews (came rules c before) count least watched seen news) (news ≡ []) → news ≡ []
-  no_news rules c before count least None true seen news are = are.news_are
-  no_news rules c before count least (Some from) true seen news are = are.news_are
-  no_news rules c before count least watched false seen news none = none
+  no_news rules c before count least watched looked seen news are = grind (arith, common_steps, gets)
 
   all_quiet : (rules : Parts → Rules) (c : Journaled) (before : List Entry) (count : ℕ) (watched : Option ℕ) (exchanges : List Exchange)
       → EachLine (IsDoneAfter Answers (came rules c before)) count watched exchanges → AllByRecursion IsQuiet exchanges
@@ -311,8 +283,7 @@ module _ (Answers : RunView → Inquiry → Answer → Type 0) (greeting prompt 
     same_setup : (full : Bool) (kept other : Journaled) → other.setup ≡ kept.setup
         → other.seats ≡ kept.seats → let now : Journaled = if full then kept else other in
         (now.setup ≡ kept.setup) × (now.seats ≡ kept.seats)
-    same_setup true kept other setup seats = (refl, refl)
-    same_setup false kept other setup seats = (setup, seats)
+    same_setup full kept other setup seats = grind (arith, common_steps, gets)
 
     same_setup_all : (its : Parts → Rules) (seat : ℕ) (command : Command) (control : Journaled) (count : ℕ)
         → let now = table.control_behind_all its seat command control count in
@@ -323,10 +294,10 @@ module _ (Answers : RunView → Inquiry → Answer → Type 0) (greeting prompt 
         let others = same_setup_all its seat command (table.control_behind its seat command control) count in
         (others.0 ∙ first.0, others.1 ∙ first.1)
 
-    then_there : (s : table.Session) (asked : List Entry) (command : Command) (times : ℕ) (effect : Effect) (exchanges : List Exchange) (count : ℕ)
+    then_there : {s : table.Session} {asked : List Entry} {command : Command} {times : ℕ} {effect : Effect} {exchanges : List Exchange} {count : ℕ}
         → IsThere s asked ((Call command times, effect) ∷ exchanges) count
         → IsThere (table.after_line s (Call command times, effect)) (asked ++ replicate effect.given (entry s.seat command)) exchanges (count + effect.given)
-    then_there s asked command times effect exchanges count at =
+    then_there {s} {asked} {command} {times} {effect} {exchanges} {count} at =
         let made : List Entry = replicate effect.given (entry s.seat command) in
         let kept = same_setup_all s.rules s.seat command s.control effect.given in
         let more = grown_all s.rules s.seat command s.control effect.given [] at.few in
@@ -349,11 +320,11 @@ module _ (Answers : RunView → Inquiry → Answer → Type 0) (greeting prompt 
         }
 
     -- after a line that asks for no command
-    unmoved : (s : table.Session) (asked : List Entry) (request : Request) (effect : Effect) (exchanges : List Exchange) (count : ℕ)
+    unmoved : {s : table.Session} {asked : List Entry} {request : Request} {effect : Effect} {exchanges : List Exchange} {count : ℕ}
         → IsThere s asked ((request, effect) ∷ exchanges) count
         → table.control_after s (request, effect) ≡ s.control → asked_of s.seat (request, effect) ≡ []
         → IsThere (table.after_line s (request, effect)) asked exchanges (count + 0)
-    unmoved s asked request effect exchanges count at same none =
+    unmoved {s} {asked} {request} {effect} {exchanges} {count} at same none =
         let others = all_asked true (seat_next true s.seat request) exchanges in
         record {
           rules_are = at.rules_are;
@@ -374,45 +345,24 @@ module _ (Answers : RunView → Inquiry → Answer → Type 0) (greeting prompt 
     answered_from s asked ((Call command times, effect) ∷ exchanges) others count watched at said = (
       given_there s.rules s.seat command times effect.given s.control
           (all_asked true s.seat (exchanges ++ others)) at.few (said.0.given ∙ ap (times_given times) at.left),
-      answered_from (table.after_line s (Call command times, effect)) (asked ++ replicate effect.given (entry s.seat command))
-          exchanges others (count + effect.given) (watched_next watched (Call command times, effect))
-          (then_there s asked command times effect (exchanges ++ others) count at) said.1,
+      answered_from (table.after_line s (Call command times, effect)) _ exchanges others _ _ (then_there at) said.1,
     )
     answered_from s asked ((Ask inquiry, effect) ∷ exchanges) others count watched at said = (
       answered_there s asked ((Ask inquiry, effect) ∷ (exchanges ++ others)) count inquiry effect.answer at said.0.answered,
-      answered_from (table.after_line s (Ask inquiry, effect)) asked exchanges others (count + 0) (watched_next watched (Ask inquiry, effect))
-          (unmoved s asked (Ask inquiry) effect (exchanges ++ others) count at refl refl) said.1,
+      answered_from (table.after_line s (Ask inquiry, effect)) asked exchanges others _ _ (unmoved at refl refl) said.1,
     )
-    answered_from s asked ((Watch begins, effect) ∷ exchanges) others count watched at said = (
-      tt,
-      answered_from (table.after_line s (Watch begins, effect)) asked exchanges others (count + 0) (watched_next watched (Watch begins, effect))
-          (unmoved s asked (Watch begins) effect (exchanges ++ others) count at refl refl) said.1,
-    )
-    answered_from s asked ((Seat chosen, effect) ∷ exchanges) others count watched at said = (
-      tt,
-      answered_from (table.after_line s (Seat chosen, effect)) asked exchanges others (count + 0) (watched_next watched (Seat chosen, effect))
-          (unmoved s asked (Seat chosen) effect (exchanges ++ others) count at refl refl) said.1,
-    )
-    answered_from s asked ((Help about, effect) ∷ exchanges) others count watched at said = (
-      tt,
-      answered_from (table.after_line s (Help about, effect)) asked exchanges others (count + 0) (watched_next watched (Help about, effect))
-          (unmoved s asked (Help about) effect (exchanges ++ others) count at refl refl) said.1,
-    )
-    answered_from s asked ((Quit, effect) ∷ exchanges) others count watched at said = (
-      tt,
-      answered_from (table.after_line s (Quit, effect)) asked exchanges others (count + 0) (watched_next watched (Quit, effect))
-          (unmoved s asked Quit effect (exchanges ++ others) count at refl refl) said.1,
-    )
-    answered_from s asked ((Fault fault, effect) ∷ exchanges) others count watched at said = (
-      tt,
-      answered_from (table.after_line s (Fault fault, effect)) asked exchanges others (count + 0) (watched_next watched (Fault fault, effect))
-          (unmoved s asked (Fault fault) effect (exchanges ++ others) count at refl refl) said.1,
-    )
-    answered_from s asked ((TooLong, effect) ∷ exchanges) others count watched at said = (
-      tt,
-      answered_from (table.after_line s (TooLong, effect)) asked exchanges others (count + 0) (watched_next watched (TooLong, effect))
-          (unmoved s asked TooLong effect (exchanges ++ others) count at refl refl) said.1,
-    )
+    answered_from s asked ((Watch begins, effect) ∷ exchanges) others count watched at said =
+        (tt, answered_from (table.after_line s (Watch begins, effect)) asked exchanges others _ _ (unmoved at refl refl) said.1)
+    answered_from s asked ((Seat chosen, effect) ∷ exchanges) others count watched at said =
+        (tt, answered_from (table.after_line s (Seat chosen, effect)) asked exchanges others _ _ (unmoved at refl refl) said.1)
+    answered_from s asked ((Help about, effect) ∷ exchanges) others count watched at said =
+        (tt, answered_from (table.after_line s (Help about, effect)) asked exchanges others _ _ (unmoved at refl refl) said.1)
+    answered_from s asked ((Quit, effect) ∷ exchanges) others count watched at said =
+        (tt, answered_from (table.after_line s (Quit, effect)) asked exchanges others _ _ (unmoved at refl refl) said.1)
+    answered_from s asked ((Fault fault, effect) ∷ exchanges) others count watched at said =
+        (tt, answered_from (table.after_line s (Fault fault, effect)) asked exchanges others _ _ (unmoved at refl refl) said.1)
+    answered_from s asked ((TooLong, effect) ∷ exchanges) others count watched at said =
+        (tt, answered_from (table.after_line s (TooLong, effect)) asked exchanges others _ _ (unmoved at refl refl) said.1)
 
   pub all_answered : (rules : Parts → Rules) (c : Journaled) (before : List Entry) (exchanges others : List Exchange)
       → c.seats ≡ MAX_SEATS → Begins before c.journal → length c.journal ≤ MAX_ENTRIES

@@ -1,9 +1,10 @@
 -- The lines that choose a seat.
+use Rattle.std.proofs.lemmas.Grind.{common_steps}
+use Rattle.std.proofs.lemmas.Option.{gets}
 use Rattle.std.proofs.Common.{◌≡◌, ◌≢◌, inl, inr, ℕ, ◌+◌, ◌-◌, ◌<◌, ◌≤◌, List, [], ◌∷◌, ◌++◌, length}
-use Rattle.std.proofs.Common.{take, drop, get_or, sym, ap, ◌∙◌, arith, drop-cons, take-append-drop}
+use Rattle.std.proofs.Common.{take, get_or, sym, ap, ◌∙◌, arith}
 use Rattle.std.specs.Prelude.{codes, Bool, Option}
 use Rattle.std.proofs.lemmas.Fmt.{decimal_digit}
-use Rattle.std.proofs.lemmas.List.{length-drop, nil_from_length}
 use Rattle.cdb_setup.specs.Parts.{IsWithin}
 use Rattle.cdb_session.specs.declared.topic.Topic.{Topic}
 use Rattle.cdb_session.specs.Inquiries.{IsInquiryLine}
@@ -16,10 +17,7 @@ pub one_digit : (seat : ℕ) → IsWithin 1 most_seats seat → seat_line seat �
 one_digit seat within = let low : seat < 10 = omega (arith, within.1) in ap (λ digits. codes "seat " ++ digits) (decimal_digit seat low)
 
 sixth : (line : List ℕ) → length line ≡ 6 → line ≡ take 5 line ++ get_or line 5 0 ∷ []
-sixth line long =
-    let none : drop 6 line ≡ [] = nil_from_length (drop 6 line) (omega (arith, length-drop 6 line, long)) in
-    let some : 5 < length line = omega (arith, long) in
-    sym (take-append-drop 5 line) ∙ ap (λ rest. take 5 line ++ rest) (drop-cons line 5 0 some ∙ ap (λ rest. get_or line 5 0 ∷ rest) none)
+sixth line long = grind (arith, common_steps, gets)
 
 pub is_seat : (line : List ℕ) (digit : ℕ) → length line ≡ 6 → take 5 line ≡ codes "seat " → digit ≡ get_or line 5 0 → 49 ≤ digit → digit ≤ 57
     → IsWithin 1 most_seats (digit - 48) × (line ≡ seat_line (digit - 48))

@@ -1,13 +1,14 @@
 -- A line in which nothing is amiss is one that a session takes.
-use Rattle.std.proofs.Common.{◌≡◌, inl, inr, ℕ, ◌+◌, true, false, cond, ◌&&◌, ◌||◌, List, [], ◌∷◌, ◌++◌, map, decimal, refl, sym, ap, subst, ◌∙◌, arith, rules}
+use Rattle.std.proofs.lemmas.Grind.{common_steps}
+use Rattle.std.proofs.lemmas.Option.{gets}
+use Rattle.std.proofs.Common.{◌≡◌, inl, inr, ℕ, ◌+◌, true, false, cond, ◌||◌, List, [], ◌∷◌, ◌++◌, map, decimal, refl, sym, ap, subst, ◌∙◌, arith, rules}
 use Rattle.std.proofs.Common.{append-nil, append_assoc}
-use Rattle.std.specs.Char.{is_ascii_digit}
-use Rattle.std.specs.List.{AllByRecursion, list_all, list_any, join_with_byte}
+use Rattle.std.specs.List.{AllByRecursion, list_any, join_with_byte}
 use Rattle.std.specs.Prelude.{codes, Option, None, Some, ◌⊎◌}
-use Rattle.std.specs.Str.{bytes_eq, all_ascii_digits}
+use Rattle.std.specs.Str.{bytes_eq}
 use Rattle.std.specs.Str.Parse.{digits_value}
 use Rattle.std.proofs.Math.Bool.{or-false}
-use Rattle.std.proofs.lemmas.Bool.{and_from, and_parts, cases_Bool, or_cases, or_left}
+use Rattle.std.proofs.lemmas.Bool.{and_parts, cases_Bool, or_cases, or_left}
 use Rattle.std.proofs.lemmas.Fmt.{decimal_digit}
 use Rattle.std.proofs.lemmas.List.Splits.{join_with_byte-slice_split}
 use Rattle.std.proofs.lemmas.Slice.Eq.{bytes_eq-Decides}
@@ -42,18 +43,9 @@ use Rattle.cdb_session.proofs.HelpLines.{its_topic}
 
 -- ---- the words that may stand at a place
 
-all_digits : (word : List ℕ) → list_all is_ascii_digit word ≡ all_ascii_digits word
-all_digits [] = refl
-all_digits (byte ∷ word) = ap (λ b. is_ascii_digit byte && b) (all_digits word)
-
 is_read : (word : List ℕ) → is_number word ≡ true → number_of word ≡ Some (digits_value 10 word)
 unfolding number_of reading.is_number
-is_read word is =
-    let parts = and_parts _ _ is in
-    let digits = and_parts _ _ parts.0 in
-    let others = and_parts _ _ parts.1 in
-    let yes : reading.is_number word ≡ true = and_from _ _ (and_from _ _ (and_from _ _ (sym (all_digits word) ∙ digits.1) digits.0) others.0) others.1 in
-    rw yes refl
+is_read word is = grind (arith, common_steps, gets)
 
 abbrev IsNumber : List ℕ → Type 0
 IsNumber word = (n : ℕ) × IsInRange (number n) × (word ≡ decimal n)
@@ -101,8 +93,7 @@ next its dues word words is =
     ]
 
 over : (words : List (List ℕ)) → IsSound [] words → words ≡ []
-over [] is = refl
-over (word ∷ words) is = absurd cc
+over words is = grind (arith, common_steps, gets)
 
 -- ---- lines that a session takes, by their words
 
