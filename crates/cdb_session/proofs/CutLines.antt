@@ -1,8 +1,7 @@
 -- The lines of bytes that are known as lines and a rest.
 use Rattle.std.proofs.lemmas.Grind.{common_steps}
 use Rattle.std.proofs.lemmas.Option.{gets}
-use Rattle.std.proofs.Common.{◌≡◌, ℕ, ◌-◌, ◌+◌, ◌<◌, Bool, List, [], ◌∷◌, ◌++◌, length, take, nat_eq}
-use Rattle.std.proofs.Common.{refl, ap, ◌∙◌, append_assoc, arith, length-append}
+use Rattle.std.proofs.Common.{◌≡◌, ℕ, ◌-◌, ◌+◌, ◌<◌, Bool, List, [], ◌∷◌, ◌++◌, length, take, nat_eq, refl, ap, ◌∙◌, append_assoc, arith, length-append}
 use Rattle.std.specs.List.{AllByRecursion, slice_split}
 use Rattle.std.proofs.lemmas.List.Splits.{slice_split_none, slice_split_at, length-slice_split}
 use Rattle.std.proofs.Math.Seq.{take-append-add}

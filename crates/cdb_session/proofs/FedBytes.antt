@@ -12,7 +12,7 @@ use Rattle.cdb_session.specs.Unfinished.{IsOver, part_with, ended_well, ended_by
 use Rattle.cdb_session.specs.Requests.{HasNoEnd}
 use Rattle.cdb_session.specs.Moves.{Known, Move, AreWrites, Makes}
 use Rattle.cdb_rules.specs.RunView.{RunView}
-use Rattle.cdb_session.specs.Exchanges.{Answer, commands_among}
+use Rattle.cdb_session.specs.Exchanges.{Answer, Exchange, commands_among}
 use Rattle.cdb_session.specs.News.{watched_next}
 use Rattle.cdb_session.specs.declared.inquiry.Inquiry.{Inquiry}
 use Rattle.cdb_session.specs.declared.request.Request.{Request}
@@ -20,13 +20,14 @@ use Rattle.cdb_session.specs.declared.request.Request.TheVariants.{Quit}
 use Rattle.cdb_session.proofs.MovesInOrder.{Makes-nothing, Makes-more}
 use Rattle.cdb_session.proofs.WrittenText.{AreWrites-append}
 use Rattle.cdb_session.specs.Styles.{StyleView, Part, MakesNone}
-use Rattle.cdb_session.specs.Replies.{Along, begun_along}
+use Rattle.cdb_session.specs.Replies.{Along, begun_along, next_along}
 use Rattle.cdb_session.specs.Parts.{seat_behind}
 use Rattle.cdb_session.proofs.Along.{replies_along, seat_along, watched_along}
 use Rattle.cdb_session.specs.Unfinished.{IsAt, MoreMayFollow, StaysAt, IsLineDone, IsLineBroken, IsRequestLost, RespondsToLine, HasEndedAs, Feeds}
-use Rattle.cdb_session.specs.Lines.{SessionView, HasGot, at_line}
+use Rattle.cdb_session.specs.Lines.{SessionView, HasDone, HasGot, HasLooked, at_line}
+use Rattle.cdb_session.specs.Answers.{HasExchanges}
 use Rattle.cdb_session.specs.Served.{IsSession}
-use Rattle.cdb_session.proofs.GotReplies.{MakesNone-refl, none_got, nothing_lost, may_follow, same_replies, same_line, commands_done, commands_lost}
+use Rattle.cdb_session.proofs.GotReplies.{HasPart, SameLine, MakesNone-refl, none_got, nothing_lost, may_follow, same_replies, same_line, commands_done, commands_lost}
 use Rattle.cdb_session.proofs.NextState.{more_unfinished, lost_before, line_lost, line_broken, line_responded}
 use Rattle.cdb_session.proofs.NextState.{line_quit, last_lost, last_broken, last_responded, no_last_line}
 
@@ -74,15 +75,43 @@ module _ (Answers : RunView → Inquiry → Answer → Type 0) (style : StyleVie
         (same_replies old.seat old.part request got new calls more)
         (at (got ++ more) (may_follow old.seat old.part request got new calls more may))
 
+    -- what a line asks for was done
+    record IsDone (new : SessionView) (exchange : Exchange) (got more : List ReplyView) : Type 0 where
+      now : IsAt Answers style (new.part.replies ++ more) moves old.part (at_line old (got ++ more)) unfinished left
+      same : SameLine Answers style old.seat exchange got more old.lines old.watched
+      commands : HasExchanges Answers style (part_with (new.part.replies ++ more) new.part) (now.exchanges ++ exchange ∷ [])
+
+    is_done : (new : SessionView) (exchange : Exchange) (got : List ReplyView) → HasDone Answers old.seat old.part exchange got new.part
+        → HasLooked old exchange new → (more : List ReplyView) → MoreMayFollow more new.part → IsDone new exchange got more
+    is_done new exchange got done looked more may =
+        let now = before_line new.part exchange.0 got done.calls more may in
+        record {
+          now = now;
+          same = same_line Answers style old.seat old.part exchange got new.part done more may old.lines old.watched;
+          commands =
+              commands_done Answers style old.seat now.exchanges (sits now) old.watched (watching now) (new.part.replies ++ more)
+              old.part new.part more may exchange got (behind now) done looked now.commands;
+        }
+
+    -- or nothing of it, or a part
+    may_be_done : (new : SessionView) (d : IsRequestLost Answers style old new unfinished)
+        → (now : IsAt Answers style (new.part.replies ++ []) moves old.part (at_line old (d.begun.got ++ [])) unfinished left)
+        × HasPart Answers style now.exchanges (new.part.replies ++ []) new.part d.request
+    may_be_done new d =
+        let now = before_line new.part d.request d.begun.got d.begun.calls [] (no_more new.part) in (
+          now,
+          commands_lost Answers style old.seat now.exchanges (sits now) old.watched (watching now) (new.part.replies ++ [])
+              old.part new.part d.request d.begun d.effect d.looked (behind now) now.commands,
+        )
+
     -- memory is out, and nothing of a line was done
     pub nothing_done : (new : SessionView) → MakesNone old.part new.part → HasEndedAs Answers style (ended_by (output.NoMemory refused)) moves new
     nothing_done new none =
         let got = none_got old.seat Quit old.part new.part none in
         let now = before_line new.part Quit [] got [] (no_more new.part) in
         finish (ended_by (output.NoMemory refused)) moves new
-        (lost_before Answers style (new.part.replies ++ []) moves old.part (at_line old []) unfinished left now new.part
-        (nothing_lost Answers style old.seat now.exchanges (sits now) old.watched (watching now) (new.part.replies ++ []) old.part new.part
-        Quit [] got refl now.commands))
+        (lost_before now new.part (nothing_lost Answers style old.seat now.exchanges (sits now) old.watched (watching now)
+        (new.part.replies ++ []) old.part new.part Quit [] got refl now.commands))
 
     pub out_of_memory : HasEndedAs Answers style (ended_by (output.NoMemory refused)) moves old
     out_of_memory = nothing_done old (MakesNone-refl old.part)
@@ -93,82 +122,57 @@ module _ (Answers : RunView → Inquiry → Answer → Type 0) (style : StyleVie
     line_done : (kept : List ℕ) (was_quit : Bool) (made : List Move) → IsLineDone Answers style old new unfinished kept was_quit made
         → was_quit ≡ false → StaysAt Answers style (moves ++ made) new kept left
     line_done kept was_quit made d goes_on more may =
-        let now = before_line moves old unfinished (10 ∷ left) at new.part d.exchange.0 d.got d.done.calls more may in
-        let same = same_line Answers style old.seat old.part d.exchange d.got new.part d.done more may old.lines old.watched in
+        let s = is_done moves old unfinished (10 ∷ left) at new d.exchange d.got d.done d.looked more may in
         let other : d.exchange.0 ≢ Quit = λ is. (let yes : IsTrue was_quit = d.quit_exactly.1 is in absurd (false_is_not_true was_quit goes_on yes)) in
-        line_responded Answers style (new.part.replies ++ more) moves old.part (at_line old (d.got ++ more))
-        unfinished left now d.exchange d.asks new.part (commands_done Answers style old.seat now.exchanges (sits now) old.watched (watching now)
-        (new.part.replies ++ more) old.part new.part more may d.exchange d.got (behind now) d.done d.looked now.commands) made d.writes
-        (at_line new more) kept (d.written ∙ same.0)
-        ((λ i. let s : Along = record { seat = d.seat i; replies = more; lines = d.lines i; watched = d.watched i } in s) ∙ sym same.1) d.lines d.emptied other
+        let next : at_line new more ≡ next_along style (at_line old (d.got ++ more)) d.exchange =
+        (λ i. record { seat = d.seat i; replies = more; lines = d.lines i; watched = d.watched i }) ∙ sym s.same.1 in
+        line_responded s.now d.exchange d.asks new.part s.commands made d.writes (at_line new more) kept (d.written ∙ s.same.0) next d.lines d.emptied other
 
     line_quits : (kept : List ℕ) (was_quit : Bool) (made : List Move) → IsLineDone Answers style old new unfinished kept was_quit made
         → was_quit ≡ true → HasEndedAs Answers style ended_well (moves ++ made) new
     line_quits kept was_quit made d quit_exactly =
-        let now = before_line moves old unfinished (10 ∷ left) at new.part d.exchange.0 d.got d.done.calls [] (no_more new.part) in
-        let same = same_line Answers style old.seat old.part d.exchange d.got new.part d.done [] (no_more new.part) old.lines old.watched in
+        let s = is_done moves old unfinished (10 ∷ left) at new d.exchange d.got d.done d.looked [] (no_more new.part) in
         finish ended_well (moves ++ made) new
-        (line_quit Answers style (new.part.replies ++ []) moves old.part (at_line old (d.got ++ [])) unfinished left now
-        d.exchange d.asks new.part (commands_done Answers style old.seat now.exchanges (sits now) old.watched (watching now) (new.part.replies ++ [])
-        old.part new.part [] (no_more new.part) d.exchange d.got (behind now) d.done d.looked now.commands) made d.writes
-        (d.written ∙ same.0) (d.quit_exactly.0 (true_is_true was_quit quit_exactly)))
+        (line_quit s.now d.exchange d.asks new.part s.commands made d.writes (d.written ∙ s.same.0) (d.quit_exactly.0 (true_is_true was_quit quit_exactly)))
 
     line_breaks : (made : List Move) → IsLineBroken Answers style old new unfinished made → HasEndedAs Answers style (ended_by output.Write) (moves ++ made) new
     line_breaks made d =
-        let now = before_line moves old unfinished (10 ∷ left) at new.part d.exchange.0 d.got d.done.calls [] (no_more new.part) in
-        let same = same_line Answers style old.seat old.part d.exchange d.got new.part d.done [] (no_more new.part) old.lines old.watched in
+        let s = is_done moves old unfinished (10 ∷ left) at new d.exchange d.got d.done d.looked [] (no_more new.part) in
         finish (ended_by output.Write) (moves ++ made) new
-        (line_broken Answers style (new.part.replies ++ []) moves old.part (at_line old (d.got ++ [])) unfinished left now
-        d.exchange d.asks new.part (commands_done Answers style old.seat now.exchanges (sits now) old.watched (watching now) (new.part.replies ++ [])
-        old.part new.part [] (no_more new.part) d.exchange d.got (behind now) d.done d.looked now.commands) made d.writes
-        d.missing (sym same.0 ∙ d.written) d.fails)
+        (line_broken s.now d.exchange d.asks new.part s.commands made d.writes d.missing (sym s.same.0 ∙ d.written) d.fails)
 
     line_loses : MakesNone old.part new.part ⊎ IsRequestLost Answers style old new unfinished
         → HasEndedAs Answers style (ended_by (output.NoMemory refused)) moves new
     line_loses (inl none) = nothing_done moves old unfinished (10 ∷ left) at new none
     line_loses (inr d) =
-        let now = before_line moves old unfinished (10 ∷ left) at new.part d.request d.begun.got d.begun.calls [] (no_more new.part) in
-        finish (ended_by (output.NoMemory refused)) moves new
-        (line_lost Answers style (new.part.replies ++ []) moves old.part (at_line old (d.begun.got ++ []))
-        unfinished left now (d.request, d.effect) d.asks new.part (commands_lost Answers style old.seat now.exchanges (sits now)
-        old.watched (watching now) (new.part.replies ++ []) old.part new.part d.request d.begun d.effect d.looked (behind now) now.commands))
+        let s = may_be_done moves old unfinished (10 ∷ left) at new d in
+        finish (ended_by (output.NoMemory refused)) moves new (line_lost s.0 (d.request, d.effect) d.asks new.part s.1)
 
   module _ (moves : List Move) (old : SessionView) (unfinished : List ℕ) (at : StaysAt Answers style moves old unfinished []) (over : IsOver moves) where
     pub last_is_none : length unfinished ≡ 0 → HasEndedAs Answers style ended_well moves old
-    last_is_none none = no_last_line Answers style old.part.replies moves old.part (at_line old []) unfinished (as_seen moves old unfinished [] at) over none
+    last_is_none none = no_last_line (as_seen moves old unfinished [] at) over none
 
     module _ (some : 0 < length unfinished) (new : SessionView) where
       pub last_is_done : (kept : List ℕ) (was_quit : Bool) (made : List Move)
           → IsLineDone Answers style old new unfinished kept was_quit made → HasEndedAs Answers style ended_well (moves ++ made) new
       last_is_done kept was_quit made d =
-          let now = before_line moves old unfinished [] at new.part d.exchange.0 d.got d.done.calls [] (no_more new.part) in
-          let same = same_line Answers style old.seat old.part d.exchange d.got new.part d.done [] (no_more new.part) old.lines old.watched in
+          let s = is_done moves old unfinished [] at new d.exchange d.got d.done d.looked [] (no_more new.part) in
           finish ended_well (moves ++ made) new
-          (last_responded Answers style (new.part.replies ++ []) moves old.part (at_line old (d.got ++ [])) unfinished now over
-          some d.exchange d.asks new.part (commands_done Answers style old.seat now.exchanges (sits now) old.watched (watching now) (new.part.replies ++ [])
-          old.part new.part [] (no_more new.part) d.exchange d.got (behind now) d.done d.looked now.commands) made d.writes
-          (d.written ∙ same.0))
+          (last_responded s.now over some d.exchange d.asks new.part s.commands made d.writes (d.written ∙ s.same.0))
 
       pub last_breaks : (made : List Move) → IsLineBroken Answers style old new unfinished made
           → HasEndedAs Answers style (ended_by output.Write) (moves ++ made) new
       last_breaks made d =
-          let now = before_line moves old unfinished [] at new.part d.exchange.0 d.got d.done.calls [] (no_more new.part) in
-          let same = same_line Answers style old.seat old.part d.exchange d.got new.part d.done [] (no_more new.part) old.lines old.watched in
+          let s = is_done moves old unfinished [] at new d.exchange d.got d.done d.looked [] (no_more new.part) in
           finish (ended_by output.Write) (moves ++ made) new
-          (last_broken Answers style (new.part.replies ++ []) moves old.part (at_line old (d.got ++ [])) unfinished now over some
-          d.exchange d.asks new.part (commands_done Answers style old.seat now.exchanges (sits now) old.watched (watching now) (new.part.replies ++ [])
-          old.part new.part [] (no_more new.part) d.exchange d.got (behind now) d.done d.looked now.commands) made d.writes
-          d.missing (sym same.0 ∙ d.written) d.fails)
+          (last_broken s.now over some d.exchange d.asks new.part s.commands made d.writes d.missing (sym s.same.0 ∙ d.written) d.fails)
 
       pub last_loses : MakesNone old.part new.part ⊎ IsRequestLost Answers style old new unfinished
           → HasEndedAs Answers style (ended_by (output.NoMemory refused)) moves new
       last_loses (inl none) = nothing_done moves old unfinished [] at new none
       last_loses (inr d) =
-          let now = before_line moves old unfinished [] at new.part d.request d.begun.got d.begun.calls [] (no_more new.part) in
-          finish (ended_by (output.NoMemory refused)) moves new
-          (last_lost Answers style (new.part.replies ++ []) moves old.part (at_line old (d.begun.got ++ [])) unfinished
-          now over some (d.request, d.effect) d.asks new.part (commands_lost Answers style old.seat now.exchanges (sits now)
-          old.watched (watching now) (new.part.replies ++ []) old.part new.part d.request d.begun d.effect d.looked (behind now) now.commands))
+          let s = may_be_done moves old unfinished [] at new d in
+          finish (ended_by (output.NoMemory refused)) moves new (last_lost s.0 over some (d.request, d.effect) d.asks new.part s.1)
 
   -- from the first of the bytes on, up to those that are left
   abbrev pub Goes : Known → SessionView → List ℕ → List ℕ → Known → SessionView → List ℕ → List ℕ → Type 0
@@ -196,8 +200,7 @@ module _ (Answers : RunView → Inquiry → Answer → Type 0) (style : StyleVie
           s.0,
           s.1,
           s.2,
-          λ follow may. more_unfinished Answers style (session.part.replies ++ follow) (moves ++ s.0)
-              session.part (at_line session follow) kept left (s.3 follow may) more behind all cut none is,
+          λ follow may. more_unfinished (s.3 follow may) more behind all cut none is,
         )
 
   -- a line has ended

@@ -1,9 +1,8 @@
 -- What one line does to a session, and to what the journal has of it.
-use Rattle.std.proofs.Common.{rules}
 use Rattle.std.proofs.lemmas.Grind.{common_steps}
 use Rattle.std.proofs.lemmas.Option.{gets}
-use Rattle.std.proofs.Common.{◌≡◌, ◌≢◌, ◌⊎◌, inl, inr, ℕ, zero, suc, ◌+◌, ◌-◌, ◌<◌, ◌≤◌, Bool, true, false, List, [], ◌∷◌, ◌++◌}
-use Rattle.std.proofs.Common.{drop, length, refl, sym, ap, subst, ◌∙◌, append_assoc, append-nil, arith, length-append, min}
+use Rattle.std.proofs.Common.{rules, ◌≡◌, ◌≢◌, ◌⊎◌, inl, inr, ℕ, zero, suc, ◌+◌, ◌-◌, ◌<◌, ◌≤◌, Bool, true, false, List, [], ◌∷◌, ◌++◌, drop, length, refl, sym}
+use Rattle.std.proofs.Common.{ap, subst, ◌∙◌, append_assoc, append-nil, arith, length-append, min}
 use Rattle.std.specs.Prelude.{◌||◌, fold, if◌then◌else◌, replicate, is_some, unwrap_or, MatchBool, Option, None, Some, Ok}
 use Rattle.std.proofs.lemmas.Bool.{cases_lt}
 use Rattle.std.proofs.lemmas.List.{replicate-append-replicate, nil_from_length}
@@ -102,7 +101,7 @@ module _ (Answers : RunView → Inquiry → Answer → Type 0) (style : StyleVie
   with_replies seat lines watched replies = record { seat = seat; replies = replies; lines = lines; watched = watched }
 
   -- a line by its replies, and by those and others that follow
-  abbrev SameLine : ℕ → Exchange → List ReplyView → List ReplyView → ℕ → Option ℕ → Type 0
+  abbrev pub SameLine : ℕ → Exchange → List ReplyView → List ReplyView → ℕ → Option ℕ → Type 0
   SameLine seat exchange got more lines watched =
       (shown style (with_replies seat lines watched got) exchange ≡ shown style (with_replies seat lines watched (got ++ more)) exchange)
       × (next_along style (with_replies seat lines watched (got ++ more)) exchange

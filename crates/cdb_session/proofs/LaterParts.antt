@@ -1,8 +1,7 @@
 -- What was told of a journal is told of a longer one.
-use Rattle.std.proofs.Common.{rules}
 use Rattle.std.proofs.lemmas.Grind.{common_steps}
 use Rattle.std.proofs.lemmas.Option.{gets}
-use Rattle.std.proofs.Common.{◌≡◌, ℕ, ◌+◌, ◌≤◌, Bool, List, [], ◌∷◌, drop, length, subst, sym, arith, min}
+use Rattle.std.proofs.Common.{rules, ◌≡◌, ℕ, ◌+◌, ◌≤◌, Bool, List, [], ◌∷◌, drop, length, subst, sym, arith, min}
 use Rattle.std.specs.Prelude.{MatchBool, Option, is_some, unwrap_or}
 use Rattle.cdb_commands.specs.ReplyView.{ReplyView}
 use Rattle.cdb_session.specs.News.{AreNews, HasNews, looks, watched_next}

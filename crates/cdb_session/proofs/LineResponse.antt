@@ -1,9 +1,8 @@
 -- What a session answers to one line.
-use Rattle.std.proofs.Common.{rules}
 use Rattle.std.proofs.lemmas.Grind.{common_steps}
 use Rattle.std.proofs.lemmas.Option.{gets}
-use Rattle.std.proofs.Common.{◌≡◌, ◌≢◌, inl, inr, ◌+◌, ℕ, Bool, true, List, [], ◌++◌, map, length, length-append, min}
-use Rattle.std.proofs.Common.{refl, sym, ap, subst, ◌∙◌, arith, Vec, Global}
+use Rattle.std.proofs.Common.{rules, ◌≡◌, ◌≢◌, inl, inr, ◌+◌, ℕ, Bool, true, List, [], ◌++◌, map, length, length-append, min, refl, sym, ap, subst, ◌∙◌, arith}
+use Rattle.std.proofs.Common.{Vec, Global}
 use Rattle.std.specs.Prelude.{Option, Some, None, Result, Ok, Err, IfOk, IsTrue, ◌↔◌, is_some, if◌then◌else◌}
 use Rattle.cdb_base.specs.Memory.{no_memory}
 use Rattle.cdb_commands.specs.ReplyView.{ReplyView}
@@ -23,11 +22,11 @@ use Rattle.cdb_session.specs.declared.shown.Shown.{Shown}
 use Rattle.cdb_session.proofs.MovesInOrder.{Makes-nothing}
 use Rattle.cdb_streams.specs.declared.buffer.OutputFault.TheVariants as output
 use Rattle.cdb_session.specs.Styles.{StyleView, Part, AreCalled, MakesNone}
-use Rattle.cdb_session.specs.Replies.{own_response}
+use Rattle.cdb_session.specs.Replies.{Along, own_response, responded}
 use Rattle.cdb_session.specs.News.{HasNews, watches}
 use Rattle.cdb_session.specs.Parts.{entries_of, seat_next}
 use Rattle.cdb_session.specs.Unfinished.{RespondsToLine}
-use Rattle.cdb_session.specs.Lines.{SessionView, HasBegun, HasDone, IsToBeGiven, Responds, PutsOut, Shows, outputs_of}
+use Rattle.cdb_session.specs.Lines.{SessionView, HasBegun, HasDone, IsToBeGiven, Responds, PutsOut, Shows, at_line, outputs_of}
 use Rattle.cdb_session.proofs.GotReplies.{MakesNone-refl, begun_where_done, none_done, none_got}
 use Rattle.cdb_session.proofs.LaterParts.{news_on}
 
@@ -99,65 +98,17 @@ module _ (Answers : RunView → Inquiry → Answer → Type 0) (style : StyleVie
     pub own_begins : (request : Request) → HasBegun old.seat old.part request new.part
     own_begins request = record { got = []; calls = none_got old.seat request old.part new.part made_none; due = nothing_due request }
 
+  -- its response depends on neither replies nor the run
+  own_responded : (s : Along) (effect : Effect) (request : Request) → ((command : Command) (times : ℕ) → request ≢ Call command times)
+      → ((inquiry : Inquiry) → request ≢ Ask inquiry) → responded style s (request, effect) ≡ says (effect.news ++ own_response style s.lines request)
+  own_responded s effect request other and_other = grind (arith, common_steps, gets)
+
   pub own_shows : (effect : Effect) (E : Type 0) (text : List ℕ) (its : Shown) (old new : SessionView) (request : Request) → new.part ≡ old.part
       → ((command : Command) (times : ℕ) → request ≢ Call command times) → ((inquiry : Inquiry) → request ≢ Ask inquiry)
       → text ≡ own_response style old.lines request → IsText its text → PutsOut Answers style {E = E} effect (Ok its) old request new
-  own_shows effect E text its old new (Call command times) same other and_other is put = absurd (other command times refl)
-  own_shows effect E text its old new (Ask inquiry) same other and_other is put = absurd (and_other inquiry refl)
-  own_shows effect E text its old new (Watch begins) same other and_other is put = (
-    0,
-    Ok [],
-    [],
-    (
-      own_done old new same effect (Watch begins) other and_other,
-      put effect.news effect.saved ∙ ap (λ response. says (effect.news ++ response)) is,
-    ),
-  )
-  own_shows effect E text its old new (Seat seat) same other and_other is put = (
-    0,
-    Ok [],
-    [],
-    (
-      own_done old new same effect (Seat seat) other and_other,
-      put effect.news effect.saved ∙ ap (λ response. says (effect.news ++ response)) is,
-    ),
-  )
-  own_shows effect E text its old new (Help about) same other and_other is put = (
-    0,
-    Ok [],
-    [],
-    (
-      own_done old new same effect (Help about) other and_other,
-      put effect.news effect.saved ∙ ap (λ response. says (effect.news ++ response)) is,
-    ),
-  )
-  own_shows effect E text its old new Quit same other and_other is put = (
-    0,
-    Ok [],
-    [],
-    (
-      own_done old new same effect Quit other and_other,
-      put effect.news effect.saved ∙ ap (λ response. says (effect.news ++ response)) is,
-    ),
-  )
-  own_shows effect E text its old new (Fault fault) same other and_other is put = (
-    0,
-    Ok [],
-    [],
-    (
-      own_done old new same effect (Fault fault) other and_other,
-      put effect.news effect.saved ∙ ap (λ response. says (effect.news ++ response)) is,
-    ),
-  )
-  own_shows effect E text its old new TooLong same other and_other is put = (
-    0,
-    Ok [],
-    [],
-    (
-      own_done old new same effect TooLong other and_other,
-      put effect.news effect.saved ∙ ap (λ response. says (effect.news ++ response)) is,
-    ),
-  )
+  own_shows effect E text its old new request same other and_other is put =
+      let shown = put effect.news effect.saved ∙ ap (λ response. says (effect.news ++ response)) is in
+      (0, Ok [], [], (own_done old new same effect request other and_other, shown ∙ sym (own_responded (at_line old []) _ request other and_other)))
 
   -- ---- the news and the prompt
 

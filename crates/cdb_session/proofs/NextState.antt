@@ -12,7 +12,7 @@ use Rattle.cdb_streams.specs.declared.buffer.OutputFault.TheVariants as output
 use Rattle.cdb_streams.specs.declared.fault.PlayFault.{PlayFault}
 use Rattle.cdb_streams.specs.declared.fault.PlayFault.TheVariants as fault
 use Rattle.cdb_setup.specs.Format.{longest}
-use Rattle.cdb_session.specs.Unfinished.{IsOver, with_ends, unfinished_of, part_with, ended_well, ended_by}
+use Rattle.cdb_session.specs.Unfinished.{IsOver, with_ends, unfinished_of, part_with, ended_well, ended_by, IsAt}
 use Rattle.cdb_session.specs.Typed.{line_meant}
 use Rattle.cdb_session.specs.Requests.{HasNoEnd, Asks, AsksFor, AsksForNoLess, AreAsked, HaveQuit, IsQuit, ended_lines, up_to_quit}
 use Rattle.cdb_session.specs.Moves.{Move, Output, Read, ReadFailed, says, read_in, written_in, AsksForInput, AreWrites, FailsToWrite, EndsWith}
@@ -28,7 +28,6 @@ use Rattle.cdb_session.proofs.HeldBytes.{take-take_append}
 use Rattle.cdb_session.proofs.WrittenText.{AreWrites-append}
 use Rattle.cdb_session.proofs.MovesInOrder.{nothing_asked, one_move, writes_more, read-append, written-append, nothing_read, EndsWith-more}
 use Rattle.cdb_session.specs.Replies.{Along, begun_along, next_along, shown, dialogue}
-use Rattle.cdb_session.specs.Unfinished.{IsAt}
 use Rattle.cdb_session.specs.Styles.{StyleView, Part}
 use Rattle.cdb_session.specs.Answers.{HasExchanges}
 use Rattle.cdb_session.specs.Served.{IsAnswered, IsServed, IsSession}
@@ -91,8 +90,8 @@ over_more moves made writes (inr most) =
     at_most (subst (λ bytes. most_input ≤ length bytes)
     (sym (read-append moves made ∙ ap (λ more. read_in moves ++ more) (nothing_read made writes) ∙ append-nil (read_in moves))) most)
 
-module _ (Answers : RunView → Inquiry → Answer → Type 0) (style : StyleView) (replies : List ReplyView) where
-  module _ (moves : List Move) (part : Part) (along : Along) (unfinished left : List ℕ) (at : IsAt Answers style replies moves part along unfinished left) where
+module _ {Answers : RunView → Inquiry → Answer → Type 0} {style : StyleView} {replies : List ReplyView} where
+  module _ {moves : List Move} {part : Part} {along : Along} {unfinished left : List ℕ} (at : IsAt Answers style replies moves part along unfinished left) where
     -- bytes that end no line are held
     pub more_unfinished : (more behind kept : List ℕ) → left ≡ more ++ behind → HasNoEnd more
         → kept ≡ take (longest + 1) (unfinished ++ more) → IsAt Answers style replies moves part along kept behind
@@ -232,7 +231,7 @@ module _ (Answers : RunView → Inquiry → Answer → Type 0) (style : StyleVie
         }
 
   -- what was written once one line more is responded to, or the beginning of its response
-  module _ (moves : List Move) (part : Part) (along : Along) (unfinished left : List ℕ) (at : IsAt Answers style replies moves part along unfinished left)
+  module _ {moves : List Move} {part : Part} {along : Along} {unfinished left : List ℕ} (at : IsAt Answers style replies moves part along unfinished left)
       (exchange : Exchange) (asks : Asks exchange unfinished) (made : List Move) (writes : AreWrites made) where
     whole_line : Asks exchange at.line
     whole_line = asks_whole exchange at.line (subst (Asks exchange) at.unfinished_is asks)
@@ -284,7 +283,7 @@ module _ (Answers : RunView → Inquiry → Answer → Type 0) (style : StyleVie
         }
 
   -- a line has ended
-  module _ (moves : List Move) (part : Part) (along : Along) (unfinished left : List ℕ)
+  module _ {moves : List Move} {part : Part} {along : Along} {unfinished left : List ℕ}
       (at : IsAt Answers style replies moves part along unfinished (10 ∷ left)) (exchange : Exchange) (asks : Asks exchange unfinished) (new : Part) where
     now_read : read_in moves ≡ with_ends (at.lines ++ at.line ∷ []) ++ left
     now_read =
@@ -301,23 +300,22 @@ module _ (Answers : RunView → Inquiry → Answer → Type 0) (style : StyleVie
     -- memory is out
     pub line_lost : HasPart Answers style at.exchanges replies new exchange.0
         → IsSession Answers style (part_with replies new) (ended_by (output.NoMemory no_memory)) moves
-    line_lost (inl has) = lost_before moves part along unfinished (10 ∷ left) at new has
+    line_lost (inl has) = lost_before at new has
     line_lost (inr (begun, has, all)) =
-        lost_behind moves part along unfinished (10 ∷ left) at new begun
-        (all at.line (whole_line moves part along unfinished (10 ∷ left) at exchange asks [] tt)) (lines_of left) now_lines has
+        lost_behind at new begun (all at.line (whole_line at exchange asks [] tt)) (lines_of left) now_lines has
 
     module _ (has : HasExchanges Answers style (part_with replies new) (at.exchanges ++ exchange ∷ [])) (made : List Move) (writes : AreWrites made) where
       pub line_broken : (missing : List Output) → shown style along exchange ≡ written_in made ++ missing
           → EndsWith FailsToWrite made → IsSession Answers style (part_with replies new) (ended_by output.Write) (moves ++ made)
       line_broken missing said fails =
-          broken moves part along unfinished (10 ∷ left) at exchange asks made writes (lines_of left) now_lines missing said fails new has
+          broken at exchange asks made writes (lines_of left) now_lines missing said fails new has
 
       -- it was another line than `quit`
       pub line_responded : (next : Along) (kept : List ℕ) → written_in made ≡ shown style along exchange → next ≡ next_along style along exchange
           → next.lines ≡ along.lines + 1 → kept ≡ [] → exchange.0 ≢ Quit → IsAt Answers style replies (moves ++ made) new next kept left
       line_responded next kept said is one emptied other =
-          let asked : Asks exchange at.line = whole_line moves part along unfinished (10 ∷ left) at exchange asks made writes in
-          let read : read_in (moves ++ made) ≡ read_in moves = same_read moves part along unfinished (10 ∷ left) at exchange asks made writes in
+          let asked = whole_line at exchange asks made writes in
+          let read = same_read at exchange asks made writes in
           record {
             lines = at.lines ++ at.line ∷ [];
             line = [];
@@ -328,10 +326,10 @@ module _ (Answers : RunView → Inquiry → Answer → Type 0) (style : StyleVie
             unfinished_is = emptied ∙ sym unfinished_of_nothing;
             asked = AllZip-more at.exchanges at.lines exchange at.line at.asked asked;
             goes_on = AreOthers-more at.lines at.line at.goes_on (is_not_quit exchange at.line asked other);
-            written = text_now moves part along unfinished (10 ∷ left) at exchange asks made writes said;
+            written = text_now at exchange asks made writes said;
             along_is = is ∙ ap (λ s. next_along style s exchange) at.along_is ∙ sym (along_after-more style (begun_along style replies) at.exchanges exchange);
             few = omega (arith, at.few, ap length read, one);
-            in_time = still_in_time moves part along unfinished (10 ∷ left) at exchange asks made writes;
+            in_time = still_in_time at exchange asks made writes;
             commands = has;
           }
 
@@ -339,24 +337,22 @@ module _ (Answers : RunView → Inquiry → Answer → Type 0) (style : StyleVie
       pub line_quit : written_in made ≡ shown style along exchange → exchange.0 ≡ Quit
           → IsSession Answers style (part_with replies new) ended_well (moves ++ made)
       line_quit said is_quit =
-          let asked : Asks exchange at.line = whole_line moves part along unfinished (10 ∷ left) at exchange asks made writes in
+          let asked = whole_line at exchange asks made writes in
           let quits : IsQuit at.line = (subst (λ r. AsksFor r (line_meant at.line)) is_quit asked).1 in
-          let read : read_in (moves ++ made) ≡ read_in moves = same_read moves part along unfinished (10 ∷ left) at exchange asks made writes in
+          let read = same_read at exchange asks made writes in
           let lines : lines_of (read_in (moves ++ made)) ≡ at.lines ++ at.line ∷ lines_of left =
           ap lines_of read ∙ now_lines ∙ append_assoc at.lines (at.line ∷ []) (lines_of left) in
           let ended : ended_lines (read_in (moves ++ made)) ≡ at.lines ++ at.line ∷ ended_lines left =
           ap ended_lines (read ∙ now_read) ∙ ended_and_more (at.lines ++ at.line ∷ []) left now_ended
           ∙ append_assoc at.lines (at.line ∷ []) (ended_lines left) in
-          let text : written_in (moves ++ made) ≡ dialogue style replies (at.exchanges ++ exchange ∷ []) =
-          text_now moves part along unfinished (10 ∷ left) at exchange asks made writes said in
           record {
-            in_time = in_time_now moves part along unfinished (10 ∷ left) at exchange asks made writes new has;
+            in_time = in_time_now at exchange asks made writes new has;
             ends = record {
               responded =
                   subst (λ parts. IsServed Answers style (part_with replies new) parts (written_in (moves ++ made))) (sym lines) (
                     at.exchanges ++ exchange ∷ [],
                     asked_to_quit at.exchanges at.lines exchange at.line (lines_of left) at.asked at.goes_on quits asked,
-                    text,
+                    text_now at exchange asks made writes said,
                     has,
                   );
               ended = by_quit (at.lines, ended_lines left, at.line, ended, quits);
@@ -364,7 +360,7 @@ module _ (Answers : RunView → Inquiry → Answer → Type 0) (style : StyleVie
           }
 
   -- there is no more input
-  module _ (moves : List Move) (part : Part) (along : Along) (unfinished : List ℕ)
+  module _ {moves : List Move} {part : Part} {along : Along} {unfinished : List ℕ}
       (at : IsAt Answers style replies moves part along unfinished []) (over : IsOver moves) where
     last_lines : 0 < length unfinished → lines_of (read_in moves) ≡ at.lines ++ at.line ∷ []
     last_lines some =
@@ -372,35 +368,36 @@ module _ (Answers : RunView → Inquiry → Answer → Type 0) (style : StyleVie
         ap lines_of (at.read ∙ ap (λ last. with_ends at.lines ++ last) (append-nil at.line))
         ∙ lines_of_joined at.lines at.line at.ended ∙ ap (λ last. at.lines ++ last) (one_unended at.line some_line at.unended)
 
+    only_line : 0 < length unfinished → lines_of (read_in moves) ≡ (at.lines ++ at.line ∷ []) ++ []
+    only_line some = last_lines some ∙ sym (append-nil (at.lines ++ at.line ∷ []))
+
     -- a last line without its end
     module _ (some : 0 < length unfinished) (exchange : Exchange) (asks : Asks exchange unfinished) (new : Part) where
       pub last_lost : HasPart Answers style at.exchanges replies new exchange.0
           → IsSession Answers style (part_with replies new) (ended_by (output.NoMemory no_memory)) moves
-      last_lost (inl has) = lost_before moves part along unfinished [] at new has
+      last_lost (inl has) = lost_before at new has
       last_lost (inr (begun, has, all)) =
-          lost_behind moves part along unfinished [] at new begun (all at.line (whole_line moves part along unfinished [] at exchange asks [] tt))
-          [] (last_lines some ∙ sym (append-nil (at.lines ++ at.line ∷ []))) has
+          lost_behind at new begun (all at.line (whole_line at exchange asks [] tt)) [] (only_line some) has
 
       module _ (has : HasExchanges Answers style (part_with replies new) (at.exchanges ++ exchange ∷ [])) (made : List Move) (writes : AreWrites made) where
         pub last_broken : (missing : List Output) → shown style along exchange ≡ written_in made ++ missing
             → EndsWith FailsToWrite made → IsSession Answers style (part_with replies new) (ended_by output.Write) (moves ++ made)
         last_broken missing said fails =
-            broken moves part along unfinished [] at exchange asks made writes []
-            (last_lines some ∙ sym (append-nil (at.lines ++ at.line ∷ []))) missing said fails new has
+            broken at exchange asks made writes [] (only_line some) missing said fails new has
 
         pub last_responded : written_in made ≡ shown style along exchange → IsSession Answers style (part_with replies new) ended_well (moves ++ made)
         last_responded said =
-            let read : read_in (moves ++ made) ≡ read_in moves = same_read moves part along unfinished [] at exchange asks made writes in
+            let read = same_read at exchange asks made writes in
             let lines : lines_of (read_in (moves ++ made)) ≡ at.lines ++ at.line ∷ [] = ap lines_of read ∙ last_lines some in
-            let asked : Asks exchange at.line = whole_line moves part along unfinished [] at exchange asks made writes in
+            let asked = whole_line at exchange asks made writes in
             record {
-              in_time = in_time_now moves part along unfinished [] at exchange asks made writes new has;
+              in_time = in_time_now at exchange asks made writes new has;
               ends = record {
                 responded =
                     subst (λ parts. IsServed Answers style (part_with replies new) parts (written_in (moves ++ made))) (sym lines) (
                       at.exchanges ++ exchange ∷ [],
                       asked_with at.exchanges at.lines exchange at.line at.asked at.goes_on asked,
-                      text_now moves part along unfinished [] at exchange asks made writes said,
+                      text_now at exchange asks made writes said,
                       has,
                     );
                 ended = over_more moves made writes over;
@@ -415,7 +412,7 @@ module _ (Answers : RunView → Inquiry → Answer → Type 0) (style : StyleVie
         ap lines_of (at.read ∙ ap (λ last. with_ends at.lines ++ (last ++ [])) no_line)
         ∙ lines_of_joined at.lines [] at.ended ∙ ap (λ last. at.lines ++ last) lines_of_none ∙ append-nil at.lines in
         record {
-          in_time = in_time_so_far moves part along unfinished [] at part at.commands;
+          in_time = in_time_so_far at part at.commands;
           ends = record {
             responded =
                 subst (λ parts. IsServed Answers style (part_with replies part) parts (written_in moves)) (sym lines)

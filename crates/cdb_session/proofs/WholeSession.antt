@@ -7,7 +7,6 @@ use Rattle.cdb_streams.specs.declared.buffer.OutputFault.{OutputFault}
 use Rattle.cdb_streams.specs.declared.buffer.OutputFault.TheVariants as output
 use Rattle.cdb_streams.specs.declared.fault.PlayFault.{PlayFault}
 use Rattle.cdb_streams.specs.declared.fault.PlayFault.TheVariants as fault
-use Rattle.cdb_session.specs.Unfinished.{IsOver, ended_well, ended_by}
 use Rattle.cdb_session.specs.Moves.{WritesAll, Known, Move, Read, ReadFailed, says, read_in, Makes}
 use Rattle.cdb_session.specs.Sessions.{most_input, IsOpen}
 use Rattle.cdb_session.proofs.MovesInOrder.{Makes-nothing, Makes-more, read-append, nothing_read}
@@ -16,7 +15,7 @@ use Rattle.cdb_session.specs.Exchanges.{Answer}
 use Rattle.cdb_session.specs.declared.inquiry.Inquiry.{Inquiry}
 use Rattle.cdb_session.specs.Styles.{StyleView}
 use Rattle.cdb_session.specs.Replies.{Along, begun_along}
-use Rattle.cdb_session.specs.Unfinished.{IsAt, StaysAt, RespondsToLine, HasEndedAs, Feeds, RespondsToLast, RespondsToAll}
+use Rattle.cdb_session.specs.Unfinished.{IsOver, ended_well, ended_by, IsAt, StaysAt, RespondsToLine, HasEndedAs, Feeds, RespondsToLast, RespondsToAll}
 use Rattle.cdb_session.specs.Lines.{SessionView, at_line}
 use Rattle.cdb_session.proofs.FedBytes.{as_seen, last_is_none, last_is_done, last_breaks, last_loses}
 use Rattle.cdb_session.proofs.NextState.{open_more, open_writes, more_read, read_failed, prompted, not_prompted}
@@ -66,14 +65,14 @@ module _ (Answers : RunView → Inquiry → Answer → Type 0) (style : StyleVie
           let first : begun_along style (session.part.replies ++ more) ≡ at_line session more =
           λ i. record { seat = sym is_first i; replies = fresh.1 i ++ more; lines = sym none i; watched = sym unwatched i } in
           subst (λ (s : Along). IsAt Answers style (session.part.replies ++ more) says.0 session.part s [] [])
-          first (prompted Answers style (session.part.replies ++ more) session.part fresh.0 says.0 says.2 says.3),
+          first (prompted session.part fresh.0 says.0 says.2 says.3),
       ap length (nothing_read says.0 says.2),
       open_writes [] says.0 tt says.2,
     )
 
     pub not_started : (A E : Type 0) (e : E) → WritesAll {A = A} (Err e) before now (says (style.greeting ++ style.prompt))
         → RespondsToAll Answers style (ended_by output.Write) before now session
-    not_started A E e says = (says.0, says.1, not_prompted Answers style session.part.replies session.part fresh.0 says.0 says.2 says.3.0 says.3.1 says.3.2)
+    not_started A E e says = (says.0, says.1, not_prompted session.part fresh.0 says.0 says.2 says.3.0 says.3.1 says.3.2)
 
   -- ---- in between
 
@@ -82,8 +81,7 @@ module _ (Answers : RunView → Inquiry → Answer → Type 0) (style : StyleVie
     not_read makes = (
       so.0 ++ ReadFailed ∷ [],
       Makes-more before now next so.0 (ReadFailed ∷ []) so.1 makes,
-      read_failed Answers style session.part.replies so.0 session.part (at_line session [])
-          unfinished [] (as_seen Answers style so.0 session unfinished [] so.2) refl so.4,
+      read_failed (as_seen Answers style so.0 session unfinished [] so.2) refl so.4,
     )
 
     -- as much was read as may be
@@ -99,8 +97,7 @@ module _ (Answers : RunView → Inquiry → Answer → Type 0) (style : StyleVie
           let long = ap length (read-append so.0 (Read bytes ∷ [])) ∙ length-append (read_in so.0) (bytes ++ []) in (
             so.0 ++ Read bytes ∷ [],
             Makes-more before now next so.0 (Read bytes ∷ []) so.1 makes,
-            λ more may.
-                more_read Answers style (session.part.replies ++ more) so.0 session.part (at_line session more) unfinished [] (so.2 more may) refl so.4 bytes,
+            λ more may. more_read (so.2 more may) refl so.4 bytes,
             omega (arith, long, so.3, ap length (append-nil bytes)),
           )
 
