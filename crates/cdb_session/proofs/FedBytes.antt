@@ -175,75 +175,77 @@ module _ (Answers : RunView → Inquiry → Answer → Type 0) (style : StyleVie
           finish (ended_by (output.NoMemory refused)) moves new (last_lost s.0 over some (d.request, d.effect) d.asks new.part s.1)
 
   -- from the first of the bytes on, up to those that are left
-  abbrev pub Goes : Known → SessionView → List ℕ → List ℕ → Known → SessionView → List ℕ → List ℕ → Type 0
-  Goes before old unfinished bytes now session kept left =
-      (moves : List Move) → StaysAt Answers style moves old unfinished bytes
-      → (made : List Move) × Makes before now made × AreWrites made × StaysAt Answers style (moves ++ made) session kept left
+  pub record Goes (before : Known) (old : SessionView) (unfinished bytes : List ℕ) (now : Known) (session : SessionView) (kept left : List ℕ) : Type 0 where
+    pub goes : (moves : List Move) → StaysAt Answers style moves old unfinished bytes
+        → (made : List Move) × Makes before now made × AreWrites made × StaysAt Answers style (moves ++ made) session kept left
 
   pub starts : (before : Known) (old : SessionView) (unfinished bytes : List ℕ) → Goes before old unfinished bytes before old unfinished bytes
-  starts before old unfinished bytes moves at =
-      ([], Makes-nothing before, tt, subst (λ all. StaysAt Answers style all old unfinished bytes) (sym (append-nil moves)) at)
+  starts before old unfinished bytes = record {
+    goes =
+        λ moves at. ([], Makes-nothing before, tt, subst (λ all. StaysAt Answers style all old unfinished bytes) (sym (append-nil moves)) at);
+  }
 
-  module _ (before : Known) (old : SessionView) (unfinished bytes : List ℕ) (now : Known) (session : SessionView)
-      (kept left : List ℕ) (so : Goes before old unfinished bytes now session kept left) where
+module _ {Answers : RunView → Inquiry → Answer → Type 0} {style : StyleView} {before : Known} {old : SessionView} {unfinished bytes : List ℕ} {now : Known}
+    {session : SessionView} {kept : List ℕ} where
+  module _ {left : List ℕ} (so : Goes Answers style before old unfinished bytes now session kept left) where
     -- memory is out
     pub no_memory : (all : List ℕ) → Feeds Answers style (Err (output.NoMemory refused)) before now old session unfinished all bytes
     no_memory all moves at =
-        let s = so moves at in
-        (s.0, s.1, s.2, out_of_memory (moves ++ s.0) session kept left s.3)
+        let s = so.goes moves at in
+        (s.0, s.1, s.2, out_of_memory Answers style (moves ++ s.0) session kept left s.3)
 
     -- the bytes up to some are held
     pub holds : (more behind all : List ℕ) → left ≡ more ++ behind → HasNoEnd more
-        → all ≡ take (longest + 1) (kept ++ more) → Goes before old unfinished bytes now session all behind
-    holds more behind all cut none is moves at =
-        let s = so moves at in (
-          s.0,
-          s.1,
-          s.2,
-          λ follow may. more_unfinished (s.3 follow may) more behind all cut none is,
-        )
+        → all ≡ take (longest + 1) (kept ++ more) → Goes Answers style before old unfinished bytes now session all behind
+    holds more behind all cut none is = record {
+      goes =
+          λ moves at. let s = so.goes moves at in (s.0, s.1, s.2, λ follow may. more_unfinished (s.3 follow may) more behind all cut none is);
+    }
 
   -- a line has ended
-  module _ (before : Known) (old : SessionView) (unfinished bytes : List ℕ) (now : Known) (session : SessionView) (kept left : List ℕ)
-      (so : Goes before old unfinished bytes now session kept (10 ∷ left)) (behind : Known) (new : SessionView) (all : List ℕ) where
+  module _ {left : List ℕ} (so : Goes Answers style before old unfinished bytes now session kept (10 ∷ left))
+      (behind : Known) (new : SessionView) (all : List ℕ) where
     pub responds : (was_quit : Bool) → RespondsToLine Answers style (Ok was_quit) now behind session new kept all
-        → was_quit ≡ false → Goes before old unfinished bytes behind new all left
-    responds was_quit a goes_on moves at =
-        let s = so moves at in (
-          s.0 ++ a.0,
-          Makes-more before now behind s.0 a.0 s.1 a.1,
-          AreWrites-append s.0 a.0 s.2 a.2.writes,
-          subst (λ made. StaysAt Answers style made new all left) (append_assoc moves s.0 a.0)
-              (line_done (moves ++ s.0) session kept left s.3 new all was_quit a.0 a.2 goes_on),
-        )
+        → was_quit ≡ false → Goes Answers style before old unfinished bytes behind new all left
+    responds was_quit a goes_on = record {
+      goes =
+          λ moves at.
+          let s = so.goes moves at in (
+            s.0 ++ a.0,
+            Makes-more before now behind s.0 a.0 s.1 a.1,
+            AreWrites-append s.0 a.0 s.2 a.2.writes,
+            subst (λ made. StaysAt Answers style made new all left) (append_assoc moves s.0 a.0)
+                (line_done Answers style (moves ++ s.0) session kept left s.3 new all was_quit a.0 a.2 goes_on),
+          );
+    }
 
     pub quits : (was_quit : Bool) → RespondsToLine Answers style (Ok was_quit) now behind session new kept all
         → was_quit ≡ true → Feeds Answers style (Ok true) before behind old new unfinished all bytes
     quits was_quit a quit_exactly moves at =
-        let s = so moves at in (
+        let s = so.goes moves at in (
           s.0 ++ a.0,
           Makes-more before now behind s.0 a.0 s.1 a.1,
           AreWrites-append s.0 a.0 s.2 a.2.writes,
           subst (λ made. HasEndedAs Answers style ended_well made new) (append_assoc moves s.0 a.0)
-              (line_quits (moves ++ s.0) session kept left s.3 new all was_quit a.0 a.2 quit_exactly),
+              (line_quits Answers style (moves ++ s.0) session kept left s.3 new all was_quit a.0 a.2 quit_exactly),
         )
 
     pub fails : (fault : OutputFault) → RespondsToLine Answers style (Err fault) now behind session new kept all
         → Feeds Answers style (Err fault) before behind old new unfinished all bytes
     fails output.Write a moves at =
-        let s = so moves at in (
+        let s = so.goes moves at in (
           s.0 ++ a.0,
           Makes-more before now behind s.0 a.0 s.1 a.1,
           AreWrites-append s.0 a.0 s.2 a.2.writes,
           subst (λ made. HasEndedAs Answers style (ended_by output.Write) made new)
-              (append_assoc moves s.0 a.0) (line_breaks (moves ++ s.0) session kept left s.3 new a.0 a.2),
+              (append_assoc moves s.0 a.0) (line_breaks Answers style (moves ++ s.0) session kept left s.3 new a.0 a.2),
         )
     fails (output.NoMemory why) a moves at =
-        let s = so moves at in
+        let s = so.goes moves at in
         let made : s.0 ++ a.0 ≡ s.0 = ap (λ more. s.0 ++ more) a.2.none ∙ append-nil s.0 in (
           s.0 ++ a.0,
           Makes-more before now behind s.0 a.0 s.1 a.1,
           subst AreWrites (sym made) s.2,
           subst (λ more. HasEndedAs Answers style (ended_by (output.NoMemory refused)) (moves ++ more) new)
-              (sym made) (line_loses (moves ++ s.0) session kept left s.3 new a.2.lost),
+              (sym made) (line_loses Answers style (moves ++ s.0) session kept left s.3 new a.2.lost),
         )

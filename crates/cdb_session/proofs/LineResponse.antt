@@ -17,7 +17,7 @@ use Rattle.cdb_session.specs.Typed.{line_meant}
 use Rattle.cdb_session.specs.Exchanges.{Answer, Effect, Exchange}
 use Rattle.cdb_session.specs.declared.inquiry.Inquiry.{Inquiry}
 use Rattle.cdb_session.specs.declared.request.Request.{Request}
-use Rattle.cdb_session.specs.declared.request.Request.TheVariants.{Call, Ask, Watch, Seat, Help, Quit, Fault, TooLong}
+use Rattle.cdb_session.specs.declared.request.Request.TheVariants.{Call, Ask, Quit}
 use Rattle.cdb_session.specs.declared.shown.Shown.{Shown}
 use Rattle.cdb_session.proofs.MovesInOrder.{Makes-nothing}
 use Rattle.cdb_streams.specs.declared.buffer.OutputFault.TheVariants as output

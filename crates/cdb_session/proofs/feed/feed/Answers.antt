@@ -20,22 +20,14 @@ loop-line-init g c = record {
 pub returns-in_err-hold-clause-feeds : goal.returns-in_err-hold-clause-feeds
 returns-in_err-hold-clause-feeds g c =
     let p = err_from_is_err_and c.from_residual.result c.from_residual.ensures.1 in
-    rw (p.1, p.2) (no_memory g.C.Caller.answers c.args.style.now (g.T.Console.known c.args.console.now)
-    (seen_by g.C.Caller.part c.args.session.now) c.args.unfinished.now.items c.args.bytes.now _ (seen_by g.C.Caller.part c.loop-line.session)
-    c.loop-line.unfinished.items c.loop-line.rest.now c.loop-line.invariant.goes c.hold.new.unfinished.items)
+    rw (p.1, p.2) (no_memory c.loop-line.invariant.goes c.hold.new.unfinished.items)
 
 pub returns-in_err-respond_to_line-clause-feeds : goal.returns-in_err-respond_to_line-clause-feeds
 returns-in_err-respond_to_line-clause-feeds g c =
     let p = err_from_is_err_and c.from_residual-in_err-respond_to_line.result c.from_residual-in_err-respond_to_line.ensures.1 in
-    let before = g.T.Console.known c.args.console.now in
-    let now = g.T.Console.known c.loop-line.console in
-    let goes =
-    holds g.C.Caller.answers c.args.style.now before (seen_by g.C.Caller.part c.args.session.now) c.args.unfinished.now.items c.args.bytes.now now
-    (seen_by g.C.Caller.part c.loop-line.session) c.loop-line.unfinished.items c.loop-line.rest.now c.loop-line.invariant.goes c.in-Some.line.now
-    (10 ∷ c.in-Some.behind.now) c.hold.new.unfinished.items c.in-Some.ensures.some.1 c.in-Some.ensures.some.0 c.in_ok-hold.ensures in
-    rw (p.1, p.2) (fails g.C.Caller.answers c.args.style.now before (seen_by g.C.Caller.part c.args.session.now)
-    c.args.unfinished.now.items c.args.bytes.now now (seen_by g.C.Caller.part c.loop-line.session) c.hold.new.unfinished.items
-    c.in-Some.behind.now goes (g.T.Console.known c.respond_to_line.new.console) (seen_by g.C.Caller.part c.respond_to_line.new.session)
+    let some = c.in-Some.ensures.some in
+    let goes = holds c.loop-line.invariant.goes _ (10 ∷ c.in-Some.behind.now) c.hold.new.unfinished.items some.1 some.0 c.in_ok-hold.ensures in
+    rw (p.1, p.2) (fails goes (g.T.Console.known c.respond_to_line.new.console) (seen_by g.C.Caller.part c.respond_to_line.new.session)
     c.respond_to_line.new.unfinished.items c.in_err-respond_to_line.field-0.0 c.in_err-respond_to_line.ensures.unfinished)
 
 pub returns-in_err-respond_to_line-clause-later : goal.returns-in_err-respond_to_line-clause-later
@@ -43,15 +35,9 @@ returns-in_err-respond_to_line-clause-later g c = Onward-trans g.C.Caller.later 
 
 pub returns-then-branch-clause-feeds : goal.returns-then-branch-clause-feeds
 returns-then-branch-clause-feeds g c =
-    let before = g.T.Console.known c.args.console.now in
-    let now = g.T.Console.known c.loop-line.console in
-    let goes =
-    holds g.C.Caller.answers c.args.style.now before (seen_by g.C.Caller.part c.args.session.now) c.args.unfinished.now.items c.args.bytes.now now
-    (seen_by g.C.Caller.part c.loop-line.session) c.loop-line.unfinished.items c.loop-line.rest.now c.loop-line.invariant.goes c.in-Some.line.now
-    (10 ∷ c.in-Some.behind.now) c.hold.new.unfinished.items c.in-Some.ensures.some.1 c.in-Some.ensures.some.0 c.in_ok-hold.ensures in
-    quits g.C.Caller.answers c.args.style.now before (seen_by g.C.Caller.part c.args.session.now) c.args.unfinished.now.items
-    c.args.bytes.now now (seen_by g.C.Caller.part c.loop-line.session) c.hold.new.unfinished.items c.in-Some.behind.now
-    goes (g.T.Console.known c.respond_to_line.new.console) (seen_by g.C.Caller.part c.respond_to_line.new.session)
+    let some = c.in-Some.ensures.some in
+    let goes = holds c.loop-line.invariant.goes _ (10 ∷ c.in-Some.behind.now) c.hold.new.unfinished.items some.1 some.0 c.in_ok-hold.ensures in
+    quits goes (g.T.Console.known c.respond_to_line.new.console) (seen_by g.C.Caller.part c.respond_to_line.new.session)
     c.respond_to_line.new.unfinished.items c.in_ok-respond_to_line.field-0 c.in_ok-respond_to_line.ensures.unfinished c.if-branch.true
 
 pub returns-then-branch-clause-later : goal.returns-then-branch-clause-later
@@ -59,12 +45,8 @@ returns-then-branch-clause-later g c = Onward-trans g.C.Caller.later _ _ _ c.loo
 
 pub loop-line-preserved : goal.loop-line-preserved
 loop-line-preserved g c =
-    let before = g.T.Console.known c.args.console.now in
-    let now = g.T.Console.known c.loop-line.console in
-    let goes =
-    holds g.C.Caller.answers c.args.style.now before (seen_by g.C.Caller.part c.args.session.now) c.args.unfinished.now.items c.args.bytes.now now
-    (seen_by g.C.Caller.part c.loop-line.session) c.loop-line.unfinished.items c.loop-line.rest.now c.loop-line.invariant.goes c.in-Some.line.now
-    (10 ∷ c.in-Some.behind.now) c.hold.new.unfinished.items c.in-Some.ensures.some.1 c.in-Some.ensures.some.0 c.in_ok-hold.ensures in
+    let some = c.in-Some.ensures.some in
+    let goes = holds c.loop-line.invariant.goes _ (10 ∷ c.in-Some.behind.now) c.hold.new.unfinished.items some.1 some.0 c.in_ok-hold.ensures in
     let done = c.in_ok-respond_to_line.ensures.unfinished.2 in
     let cut = ap length c.in-Some.ensures.some.1 in
     let parts = length-append c.in-Some.line.now (10 ∷ c.in-Some.behind.now) in
@@ -74,26 +56,19 @@ loop-line-preserved g c =
       sits = c.in_ok-respond_to_line.ensures.sits;
       later = Onward-trans g.C.Caller.later _ _ _ c.loop-line.invariant.later c.respond_to_line.ensures.later;
       goes =
-          responds g.C.Caller.answers c.args.style.now before (seen_by g.C.Caller.part c.args.session.now) c.args.unfinished.now.items
-          c.args.bytes.now now (seen_by g.C.Caller.part c.loop-line.session) c.hold.new.unfinished.items c.in-Some.behind.now
-          goes (g.T.Console.known c.respond_to_line.new.console) (seen_by g.C.Caller.part c.respond_to_line.new.session)
+          responds goes (g.T.Console.known c.respond_to_line.new.console) (seen_by g.C.Caller.part c.respond_to_line.new.session)
           c.respond_to_line.new.unfinished.items c.in_ok-respond_to_line.field-0 c.in_ok-respond_to_line.ensures.unfinished c.if-branch.false;
     }
 
 pub returns-in_err-hold-2-clause-feeds : goal.returns-in_err-hold-2-clause-feeds
 returns-in_err-hold-2-clause-feeds g c =
     let p = err_from_is_err_and c.from_residual-in_err-hold-2.result c.from_residual-in_err-hold-2.ensures.1 in
-    rw (p.1, p.2) (no_memory g.C.Caller.answers c.args.style.now (g.T.Console.known c.args.console.now)
-    (seen_by g.C.Caller.part c.args.session.now) c.args.unfinished.now.items c.args.bytes.now _ (seen_by g.C.Caller.part c.loop-line.session)
-    c.loop-line.unfinished.items c.loop-line.rest.now c.loop-line.invariant.goes c.hold-2.new.unfinished.items)
+    rw (p.1, p.2) (no_memory c.loop-line.invariant.goes c.hold-2.new.unfinished.items)
 
 pub returns-clause-feeds : goal.returns-clause-feeds
 returns-clause-feeds g c =
-    let before = g.T.Console.known c.args.console.now in
-    let now = g.T.Console.known c.loop-line.console in
-    holds g.C.Caller.answers c.args.style.now before (seen_by g.C.Caller.part c.args.session.now) c.args.unfinished.now.items c.args.bytes.now
-    now (seen_by g.C.Caller.part c.loop-line.session) c.loop-line.unfinished.items c.loop-line.rest.now c.loop-line.invariant.goes
-    c.loop-line.rest.now [] c.hold-2.new.unfinished.items (sym (append-nil c.loop-line.rest.now)) c.in_default.ensures.none c.in_ok-hold-2.ensures
+    let rest = c.loop-line.rest.now in
+    (holds c.loop-line.invariant.goes rest [] c.hold-2.new.unfinished.items (sym (append-nil rest)) c.in_default.ensures.none c.in_ok-hold-2.ensures).goes
 
 pub returns-clause-unfinished : goal.returns-clause-unfinished
 returns-clause-unfinished g c =
