@@ -12,7 +12,7 @@ use Rattle.cdb_setup.specs.declared.fault.SetupFault.TheVariants.{NoMemory}
 module _ (read : Result Parts SetupFault) (found parts : Parts) (is : read ≡ Ok found) where
   -- what they stand for is what was read
   pub same_setup : (read ≡ Ok parts) ⊎ (read ≡ Err (NoMemory no_memory)) → found ≡ parts
-  same_setup is = grind (arith, common_steps, gets)
+  same_setup only = grind (arith, common_steps, gets)
 
   -- so it has as many processes
   pub still_fits : (scripts : ℕ) → (read ≡ Ok parts) ⊎ (read ≡ Err (NoMemory no_memory)) → found.processes + scripts ≤ MAX_SEATS
