@@ -1,7 +1,7 @@
 -- A line asks for one thing.
 use Rattle.std.proofs.lemmas.Grind.{common_steps}
 use Rattle.std.proofs.lemmas.Option.{gets}
-use Rattle.std.proofs.Common.{◌≡◌, inl, inr, true, false, ℕ, ◌<◌, ◌≤◌, List, length, get_or, refl, sym, ap, ◌∙◌, arith}
+use Rattle.std.proofs.Common.{rules, ◌≡◌, inl, inr, true, false, ℕ, ◌<◌, ◌≤◌, List, length, get_or, refl, sym, ap, ◌∙◌, arith}
 use Rattle.std.specs.Prelude.{Result, Ok, Err}
 use Rattle.cdb_commands.specs.declared.command.Command.{Command}
 use Rattle.cdb_commands.specs.declared.command.Command.TheVariants.{Auto}
@@ -63,48 +63,12 @@ module _ (line : List ℕ) where
     only_inquiry inquiry is TooLong asks = absurd (omega (arith, few, asks))
 
     pub only_repeat : (p times : ℕ) → IsRepeatLine p times line → (other : Request) → AsksFor other line → other ≡ Call (Auto p) times
-    only_repeat p times is (Call command count) asks =
-        let r = repeats line command count asks.1 (inr (inr (inr (inr (inl (p, times, is)))))) in
-        let same = one_repeat line r.0 count p times r.2 is in
-        (λ i. Call (r.1 i) (same.1 i)) ∙ ap (λ (q : ℕ). Call (Auto q) times) same.0
-    only_repeat p times is (Ask inquiry) asks = absurd (repeats_no_inquiry line inquiry p times asks.1 is)
-    only_repeat p times is (Watch true) asks = absurd (repeats_no_other line (watch_line true) 119 p times is asks.1 refl (λ e. omega (arith, e)))
-    only_repeat p times is (Watch false) asks = absurd (repeats_no_other line (watch_line false) 117 p times is asks.1 refl (λ e. omega (arith, e)))
-    only_repeat p times is (Seat seat) asks = absurd (repeats_no_other line (seat_line seat) 115 p times is asks.1.1 refl (λ e. omega (arith, e)))
-    only_repeat p times is (Help about) asks =
-        absurd (repeats_no_other line (help_line about) 104 p times is asks.1 (begins_with_h about) (λ e. omega (arith, e)))
-    only_repeat p times is Quit asks = absurd (repeats_no_other line quit_line 113 p times is asks.1 refl (λ e. omega (arith, e)))
-    only_repeat p times is (Fault fault) asks = absurd (asks.1.0 (inr (inr (inr (inr (inl (p, times, is)))))))
-    only_repeat p times is TooLong asks = absurd (omega (arith, few, asks))
+    only_repeat p times is other asks = grind (arith, one_repeat, repeats_no_inquiry)
 
     module _ (other_line : ¬ IsOwn line) (read : Result Command LineFault)
         (command_is : (c : Command) → IsLineOf c line → read ≡ Ok c) (fault_is : (f : LineFault) → IsFaultOf f line → read ≡ Err f) where
-      once : (another : Command) (times : ℕ) → Means (Call another times) line → (read ≡ Ok another) × (times ≡ 1)
-      once another times (inl one) = (command_is another one.1, one.2)
-      once another times (inr (p, is, repeat)) = absurd (other_line (inr (inr (inr (inr (inl (p, times, repeat)))))))
-
       pub only_call : (command : Command) → read ≡ Ok command → (other : Request) → AsksFor other line → other ≡ Call command 1
-      only_call command is (Call another times) asks =
-          let it = once another times asks.1 in
-          let same : another ≡ command = (let e = it.0 in cc) in
-          λ i. Call (same i) (it.1 i)
-      only_call command is (Ask inquiry) asks = absurd (other_line (inr (inr (inr (inl (inquiry, asks.1))))))
-      only_call command is (Watch begins) asks = absurd (other_line (inr (inr (inr (inr (inr (begins, asks.1)))))))
-      only_call command is (Seat seat) asks = absurd (other_line (inr (inr (inl (seat, asks.1.0, asks.1.1)))))
-      only_call command is (Help about) asks = absurd (other_line (inl (about, asks.1)))
-      only_call command is Quit asks = absurd (other_line (inr (inl asks.1)))
-      only_call command is (Fault faulty) asks = absurd (let e = fault_is faulty.fault asks.1.1 in cc)
-      only_call command is TooLong asks = absurd (omega (arith, few, asks))
+      only_call command is other asks = search rules
 
       pub only_fault : (fault : LineFault) → read ≡ Err fault → (other : Request) → AsksFor other line → other ≡ Fault (record { line = line; fault = fault })
-      only_fault fault is (Call command times) asks = absurd (let e = (once command times asks.1).0 in cc)
-      only_fault fault is (Ask inquiry) asks = absurd (other_line (inr (inr (inr (inl (inquiry, asks.1))))))
-      only_fault fault is (Watch begins) asks = absurd (other_line (inr (inr (inr (inr (inr (begins, asks.1)))))))
-      only_fault fault is (Seat seat) asks = absurd (other_line (inr (inr (inl (seat, asks.1.0, asks.1.1)))))
-      only_fault fault is (Help about) asks = absurd (other_line (inl (about, asks.1)))
-      only_fault fault is Quit asks = absurd (other_line (inr (inl asks.1)))
-      only_fault fault is (Fault another) asks =
-          let same : another.fault ≡ fault = (let e = fault_is another.fault asks.1.1 in cc) in
-          ap (λ (line : List ℕ). Fault (record { line = line; fault = another.fault })) asks.1.2
-          ∙ ap (λ (fault : LineFault). Fault (record { line = line; fault = fault })) same
-      only_fault fault is TooLong asks = absurd (omega (arith, few, asks))
+      only_fault fault is other asks = grind (arith, command_is, fault_is, other_line)
