@@ -27,7 +27,8 @@ use Rattle.cdb_session.specs.Unfinished.{IsAt, MoreMayFollow, StaysAt, IsLineDon
 use Rattle.cdb_session.specs.Lines.{SessionView, HasDone, HasGot, HasLooked, at_line}
 use Rattle.cdb_session.specs.Answers.{HasExchanges}
 use Rattle.cdb_session.specs.Served.{IsSession}
-use Rattle.cdb_session.proofs.GotReplies.{HasPart, SameLine, MakesNone-refl, none_got, nothing_lost, may_follow, same_replies, same_line, commands_done, commands_lost}
+use Rattle.cdb_session.proofs.GotReplies.{HasPart, SameLine, MakesNone-refl, none_got, nothing_lost, may_follow, same_replies, same_line, commands_done}
+use Rattle.cdb_session.proofs.GotReplies.{commands_lost}
 use Rattle.cdb_session.proofs.NextState.{more_unfinished, lost_before, line_lost, line_broken, line_responded}
 use Rattle.cdb_session.proofs.NextState.{line_quit, last_lost, last_broken, last_responded, no_last_line}
 

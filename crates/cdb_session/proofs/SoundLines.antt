@@ -244,7 +244,8 @@ seat_taken (word ∷ words) is =
     let here = next due.Seat [] word words is in
     let all : List ℕ = 1 ∷ 2 ∷ 3 ∷ 4 ∷ 5 ∷ 6 ∷ 7 ∷ 8 ∷ 9 ∷ [] in
     let seat = one_of (IsWithin 1 most_seats) (λ seat. (48 + seat) ∷ []) all (search rules) word (and_parts _ _ here.0).0 in
-    rw (over words here.1, seat.2 ∙ sym (decimal_digit seat.0 (omega (arith, seat.1)))) (own_taken (codes "seat" ∷ decimal seat.0 ∷ []) (inr (inr (inl (seat.0, seat.1, refl)))))
+    rw (over words here.1, seat.2 ∙ sym (decimal_digit seat.0 (omega (arith, seat.1))))
+    (own_taken (codes "seat" ∷ decimal seat.0 ∷ []) (inr (inr (inl (seat.0, seat.1, refl)))))
 
 -- `help`, or `help WORD`
 help_taken : (words : List (List ℕ)) → IsSound (behind topic.Help words) words → IsTaken (codes "help" ∷ words)
