@@ -1,6 +1,6 @@
 -- What the number of the first element that passes a test says of the searches of the tables.
 use Rattle.std.proofs.Common.{◌≡◌, ℕ, zero, suc, Bool, true, false, cond, List, [], ◌∷◌, Option, Some, None}
-use Rattle.std.proofs.Common.{is_some, option_map, find, if◌then◌else◌, ◌⊎◌, inl, inr, refl, sym, ap, ◌∙◌}
+use Rattle.std.proofs.Common.{is_some, find, ◌⊎◌, inl, inr, refl, sym, ap, ◌∙◌}
 use Rattle.std.specs.Option.{option_or}
 use Rattle.std.proofs.lemmas.Option.{none-some}
 use Rattle.cdb_base.specs.Positions.{nth}
@@ -21,31 +21,24 @@ pub record IsNumbered {X : Type 0} (test : X → Bool) (xs : List X) : Type 0 wh
   pub passes : test element ≡ true
   pub found : find test xs ≡ Some element
 
-pub numbered : {X : Type 0} (test : X → Bool) (xs : List X) → ((number_of test xs ≡ None) × (find test xs ≡ None)) ⊎ IsNumbered test xs
+-- no element passes
+abbrev pub AreNone : {X : Type 0} → (X → Bool) → List X → Type 0
+AreNone test xs = (number_of test xs ≡ None) × (find test xs ≡ None)
+
+pub numbered : {X : Type 0} (test : X → Bool) (xs : List X) → AreNone test xs ⊎ IsNumbered test xs
 numbered test [] = inl (refl, refl)
 numbered {X} test (x ∷ xs) = go (test x) refl (numbered test xs)
   where
-    go : (b : Bool) → test x ≡ b → ((number_of test xs ≡ None) × (find test xs ≡ None)) ⊎ IsNumbered test xs
-        → ((number_of test (x ∷ xs) ≡ None) × (find test (x ∷ xs) ≡ None)) ⊎ IsNumbered test (x ∷ xs)
-    go true is rest = inr (record {
-      number = 1;
-      element = x;
-      is = ap (λ (b : Bool). if b then Some 1 else option_map suc (number_of test xs)) is;
-      at = refl;
-      passes = is;
-      found = ap (λ b. cond b (Some x) (find test xs)) is;
-    })
-    go false is (inl none) = inl (
-      ap (λ (b : Bool). if b then Some 1 else option_map suc (number_of test xs)) is ∙ ap (option_map suc) none.0,
-      ap (λ b. cond b (Some x) (find test xs)) is ∙ none.1,
-    )
+    go : (b : Bool) → test x ≡ b → AreNone test xs ⊎ IsNumbered test xs → AreNone test (x ∷ xs) ⊎ IsNumbered test (x ∷ xs)
+    go true is rest = inr (record { number = 1; element = x; is = rw is refl; at = refl; passes = is; found = rw is refl })
+    go false is (inl none) = inl (rw (is, none.0) refl, rw is none.1)
     go false is (inr it) = inr (record {
       number = suc it.number;
       element = it.element;
-      is = ap (λ (b : Bool). if b then Some 1 else option_map suc (number_of test xs)) is ∙ ap (option_map suc) it.is;
+      is = rw (is, it.is) refl;
       at = nth_further x xs it.number it.element it.at;
       passes = it.passes;
-      found = ap (λ b. cond b (Some x) (find test xs)) is ∙ it.found;
+      found = rw is it.found;
     })
 
 -- what is given of the first element of which something is given is given of the one that is found

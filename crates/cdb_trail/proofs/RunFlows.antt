@@ -1,5 +1,5 @@
 -- The flows of a machine are true in each run where they are true of one process.
-use Rattle.std.proofs.Common.{◌≡◌, ℕ, zero, suc, ◌+◌, Bool, true, false, ◌==◌, List, [], ◌++◌, length, Contains, Option, Some, None, is_some, option_map}
+use Rattle.std.proofs.Common.{◌≡◌, ℕ, zero, suc, ◌+◌, Bool, true, false, ◌==◌, List, [], ◌∷◌, ◌++◌, length, Contains, Option, Some, None, is_some, option_map}
 use Rattle.std.proofs.Common.{option_to_list, option_and_then, unwrap_or, if◌then◌else◌, ◌⊎◌, inl, inr, refl, sym, ap, subst, ◌∙◌, eqb-true}
 use Rattle.std.specs.FinSet as set
 use Rattle.std.proofs.lemmas.Bool.{cases_eq}
@@ -20,7 +20,7 @@ use Rattle.cdb_process.specs.Values.{payload_value, brought_value}
 use Rattle.cdb_process.specs.Wishes.{wished_payload, wished_cell}
 use Rattle.cdb_process.specs.declared.Input.{Input}
 use Rattle.cdb_process.specs.declared.Input.TheVariants as input
-use Rattle.cdb_process.proofs.Members.{contained_in}
+use Rattle.cdb_process.proofs.Members.{IsIn, contained_in, in_contained}
 use Rattle.cdb_register.specs.Registers.{register_of, cell_of, fresh_registers, with_register, put_cell}
 use Rattle.cdb_register.specs.declared.RegisterState.{RegisterState}
 use Rattle.cdb_rules.specs.Machines.{machine_of}
@@ -37,53 +37,90 @@ use Rattle.cdb_agreement.proofs.Firsts.{first_of_input, first_cells, first_decis
 use Rattle.cdb_trail.proofs.Trails.{SameOrNot, same_register}
 use Rattle.cdb_trail.specs.Flow.{Spot, slot, message, register, Flow, still, Flows, value_at, flow_of, flow_by, MayTake, MaySet, IsReached, FlowsAreTrue}
 
--- an input of a step of that kind
-abbrev pub Fits : Kind → Input → Type 0
-Fits (Query l) i = i ≡ input.Query l
-Fits (Send m) i = i ≡ input.Send
-Fits (Recv o m) i = (x : Payload) × (i ≡ input.Recv o x)
-Fits (Read r) i = (c : Cell) × (i ≡ input.Read r c)
-Fits (Write r) i = i ≡ input.Write r
-Fits Local i = i ≡ input.Local
-Fits Learn i = i ≡ input.Learn
-Fits Crash i = ⊥
+-- what a step of that kind is given, and the input that it makes of it
+abbrev pub Given : Kind → Type 0
+Given (Recv o m) = Payload
+Given (Read r) = Cell
+Given Crash = ⊥
+Given kind = Unit {0}
+
+abbrev pub given : (kind : Kind) → Given kind → Input
+given (Query l) it = input.Query l
+given (Send m) it = input.Send
+given (Recv o m) it = input.Recv o it
+given (Read r) it = input.Read r it
+given (Write r) it = input.Write r
+given Local it = input.Local
+given Learn it = input.Learn
+given Crash none = elim none [ ]
+
+-- ---- what a step takes and sets is its own
+
+module _ {S : Type 0} (p : ℕ) (kind : Kind) where
+  abbrev pub TakesOwn : Option (Spot S) → Type 0
+  TakesOwn None = Unit {0}
+  TakesOwn (Some spot) = MayTake p kind spot
+
+  abbrev pub SetsOwn : List (Spot S) → Type 0
+  SetsOwn [] = Unit {0}
+  SetsOwn (spot ∷ spots) = MaySet p kind spot × SetsOwn spots
+
+  abbrev pub IsOwn : Flow S → Type 0
+  IsOwn f = TakesOwn f.takes × SetsOwn f.sets
+
+  pub own_if : (b : Bool) (f g : Flow S) → IsOwn f → IsOwn g → IsOwn (if b then f else g)
+  own_if true f g one other = one
+  own_if false f g one other = other
+
+  own_taken : (o : Option (Spot S)) (spot : Spot S) → TakesOwn o → o ≡ Some spot → MayTake p kind spot
+  own_taken None spot own is = absurd (none-some spot is)
+  own_taken (Some from) spot own is = subst (MayTake p kind) (same_Some from spot is) own
+
+  own_set : (spots : List (Spot S)) (spot : Spot S) → SetsOwn spots → IsIn spot spots → MaySet p kind spot
+  own_set [] spot own none = elim none [ ]
+  own_set (x ∷ xs) spot own (inl same) = subst (MaySet p kind) (sym same) own.0
+  own_set (x ∷ xs) spot own (inr later) = own_set xs spot own.1 later
+
+-- ---- a step of one process
+
+module _ {L S : Type 0} (flows : Flows L S) where
+  -- the value that a step takes: of a message or a register it is the one that is brought
+  abbrev pub taken : L → Option ℕ → Option (Spot S) → Option ℕ
+  taken s brought None = None
+  taken s brought (Some (slot q x)) = flows.value s x
+  taken s brought (Some spot) = brought
+
+  -- the slots among the spots have that value
+  abbrev pub AreSetTo : L → Option ℕ → List (Spot S) → Type 0
+  AreSetTo t o [] = Unit {0}
+  AreSetTo t o (slot q x ∷ spots) = (flows.value t x ≡ o) × AreSetTo t o spots
+  AreSetTo t o (spot ∷ spots) = AreSetTo t o spots
+
+  set_to : (t : L) (o : Option ℕ) (spots : List (Spot S)) (q : ℕ) (x : S) → AreSetTo t o spots → IsIn (slot q x) spots → flows.value t x ≡ o
+  set_to t o (slot r y ∷ spots) q x are (inl same) = let it : y ≡ x = cc in sym (ap (flows.value t) it) ∙ are.0
+  set_to t o (slot r y ∷ spots) q x are (inr later) = set_to t o spots q x are.1 later
+  set_to t o (spot ∷ spots) q x are (inl same) = absurd (cc)
+  set_to t o (spot ∷ spots) q x are (inr later) = set_to t o spots q x are later
+  set_to t o [] q x are none = elim none [ ]
+
+  -- what the flow f says of the step of process p from s to t: each slot that it sets has what it takes, and any other no new value
+  pub record IsTrueRow (p : ℕ) (s : L) (brought : Option ℕ) (t : L) (f : Flow S) : Type 0 where
+    pub set : AreSetTo t (taken s brought f.takes) f.sets
+    pub kept : (x : S) (v : ℕ) → flows.value t x ≡ Some v → IsIn (slot p x) f.sets ⊎ (flows.value s x ≡ Some v)
 
 module _ {L S : Type 0} (table : Table L) (flows : Flows L S) where
-  -- the value that a step takes, told of its process and its input: of a message or a register it is the one that is brought
-  abbrev pub taken : L → Input → Option (Spot S) → Option ℕ
-  taken s i None = None
-  taken s i (Some (slot q x)) = flows.value s x
-  taken s i (Some (message o m)) = brought_value i
-  taken s i (Some (register r)) = brought_value i
-
   -- the flows are true of one process, in each state of which something holds that its machine keeps
   pub record AreTrueOfOne (Good : L → Type 0) : Type 0 where
-    pub first_good : (me n q given : ℕ) → Good (table.first me n q given)
-    pub next_good : (s t : L) (i : Input) → Good s → table.next s i ≡ Some t → Good t
-    pub slot_set : (p : ℕ) (s t : L) (kind : Kind) (i : Input) → Good s → Fits kind i
-        → table.next s i ≡ Some t → (x : S) → Contains (flows.flow p s kind).sets (slot p x)
-        → flows.value t x ≡ taken s i (flows.flow p s kind).takes
-    pub slot_kept : (p : ℕ) (s t : L) (kind : Kind) (i : Input) → Good s → Fits kind i → table.next s i ≡ Some t → (x : S) (v : ℕ) → flows.value t x ≡ Some v
-        → (Contains (flows.flow p s kind).sets (slot p x) → ⊥) → flows.value s x ≡ Some v
+    pub first_good : (me n q value : ℕ) → Good (table.first me n q value)
+    pub row : (p : ℕ) (s t : L) (kind : Kind) (it : Given kind) → Good s → table.next s (given kind it) ≡ Some t
+        → IsTrueRow flows p s (brought_value (given kind it)) t (flows.flow p s kind) × Good t
     pub crash : (p : ℕ) (s : L) → flows.flow p s Crash ≡ still
     pub sent : (p m : ℕ) (s t : L) (payload : Payload) → table.next s input.Send ≡ Some t → wished_payload (table.wish s) ≡ Some payload
-        → Contains (flows.flow p s (Send m)).sets (message p m) × (payload_value payload ≡ taken s input.Send (flows.flow p s (Send m)).takes)
+        → IsIn (message p m) (flows.flow p s (Send m)).sets × (payload_value payload ≡ taken flows s None (flows.flow p s (Send m)).takes)
     pub written : (p : ℕ) (r : Reg) (s t : L) (cell : Cell) → table.next s (input.Write r) ≡ Some t → wished_cell (table.wish s) ≡ Some cell
-        → Contains (flows.flow p s (Write r)).sets (register r) × (cell.val ≡ taken s (input.Write r) (flows.flow p s (Write r)).takes)
-    pub first : (me n q given : ℕ) (x : S) (v : ℕ) → flows.value (table.first me n q given) x ≡ Some v → (x ≡ flows.input) × (v ≡ given)
-    pub takes_own : (p : ℕ) (s : L) (kind : Kind) (spot : Spot S) → (flows.flow p s kind).takes ≡ Some spot → MayTake p kind spot
-    pub sets_own : (p : ℕ) (s : L) (kind : Kind) (spot : Spot S) → Contains (flows.flow p s kind).sets spot → MaySet p kind spot
-
-  fits : (state : RunState L) (p : ℕ) (kind : Kind) (i : Input) → input_of kind (sight_in state p kind) ≡ Some i → Fits kind i
-  fits state p (Query l) i is = sym (same_Some (input.Query l) i is)
-  fits state p (Send m) i is = sym (same_Some input.Send i is)
-  fits state p (Recv o m) i is = let it = mapped (input.Recv o) (arriving (mail_of state) p (message_name o m)) i is in (it.0, sym it.2)
-  fits state p (Read r) i is = let it = mapped (λ (stands : RegisterState). input.Read r stands.cell) (register_of state.registers r) i is in
-      (it.0.cell, sym it.2)
-  fits state p (Write r) i is = let it = mapped (λ (stands : RegisterState). input.Write r) (register_of state.registers r) i is in sym it.2
-  fits state p Local i is = sym (same_Some input.Local i is)
-  fits state p Learn i is = sym (same_Some input.Learn i is)
-  fits state p Crash i is = absurd (none-some i is)
+        → IsIn (register r) (flows.flow p s (Write r)).sets × (cell.val ≡ taken flows s None (flows.flow p s (Write r)).takes)
+    pub first : (me n q value : ℕ) (x : S) (v : ℕ) → flows.value (table.first me n q value) x ≡ Some v → (x ≡ flows.input) × (v ≡ value)
+    pub own : (p : ℕ) (s : L) (kind : Kind) → IsOwn p kind (flows.flow p s kind)
 
   module _ (Good : L → Type 0) (setup : Parts) (one : AreTrueOfOne Good) where
     abbrev machine : Machine L
@@ -136,50 +173,51 @@ module _ {L S : Type 0} (table : Table L) (flows : Flows L S) where
       slot_of : (y : S) → value_at flows t (slot p y) ≡ flows.value local y
       slot_of y = ap (λ o. option_and_then (λ (z : ProcessState L). flows.value z.progress.local y) o) at
 
-      from_message : (o m : ℕ) (i : Input) → input_of (Recv o m) (sight_in t p (Recv o m)) ≡ Some i → value_at flows t (message o m) ≡ brought_value i
-      from_message o m i is =
-          let it = mapped (input.Recv o) (arriving (mail_of t) p (message_name o m)) i is in
-          ap (λ y. option_and_then payload_value y) (there (is_lost (mail_of t) (copy_name (message_name o m) p)) it.0 it.1) ∙ ap brought_value it.2
+      from_message : (o m : ℕ) (y : Payload) → input_of (Recv o m) (sight_in t p (Recv o m)) ≡ Some (input.Recv o y) → value_at flows t (message o m) ≡ payload_value y
+      from_message o m y is =
+          let it = mapped (input.Recv o) (arriving (mail_of t) p (message_name o m)) (input.Recv o y) is in
+          ap (option_and_then payload_value) (there (is_lost (mail_of t) (copy_name (message_name o m) p)) it.0 it.1) ∙ ap brought_value it.2
         where
           there : (b : Bool) (y : Payload) → (if b then None else payload_of (mail_of t) (message_name o m)) ≡ Some y
               → payload_of (mail_of t) (message_name o m) ≡ Some y
           there true y none = absurd (none-some y none)
           there false y some = some
 
-      from_register : (r : Reg) (i : Input) → input_of (Read r) (sight_in t p (Read r)) ≡ Some i → value_at flows t (register r) ≡ brought_value i
-      from_register r i is =
-          let it = mapped (λ (stands : RegisterState). input.Read r stands.cell) (register_of t.registers r) i is in
+      from_register : (r : Reg) (c : Cell) → input_of (Read r) (sight_in t p (Read r)) ≡ Some (input.Read r c) → value_at flows t (register r) ≡ c.val
+      from_register r c is =
+          let it = mapped (λ (stands : RegisterState). input.Read r stands.cell) (register_of t.registers r) (input.Read r c) is in
           ap (λ o. option_and_then (λ (c : Cell). c.val) (option_map (λ (y : RegisterState). y.cell) o)) it.1 ∙ ap brought_value it.2
 
       -- what is taken lies in the spot
-      lies_there : (kind : Kind) (i : Input) → input_of kind (sight_in t p kind) ≡ Some i
-          → (o : Option (Spot S)) → ((spot : Spot S) → o ≡ Some spot → MayTake p kind spot)
-          → option_and_then (value_at flows t) o ≡ taken local i o
-      lies_there kind i is None may = refl
-      lies_there kind i is (Some (slot q y)) may = subst (λ n. value_at flows t (slot n y) ≡ flows.value local y) (sym (may (slot q y) refl)) (slot_of y)
-      lies_there kind i is (Some (message o m)) may =
-          let same = may (message o m) refl in
-          from_message o m i (subst (λ k. input_of k (sight_in t p k) ≡ Some i) same is)
-      lies_there kind i is (Some (register r)) may =
-          let same = may (register r) refl in
-          from_register r i (subst (λ k. input_of k (sight_in t p k) ≡ Some i) same is)
+      lies_there : (kind : Kind) (it : Given kind) → input_of kind (sight_in t p kind) ≡ Some (given kind it) → (o : Option (Spot S)) → TakesOwn p kind o
+          → option_and_then (value_at flows t) o ≡ taken flows local (brought_value (given kind it)) o
+      lies_there kind it is None own = refl
+      lies_there kind it is (Some (slot q y)) own = rw own (slot_of y)
+      lies_there kind it is (Some (message o m)) own =
+          let P : Kind → Type 0 =
+          λ k. (it : Given k) → input_of k (sight_in t p k) ≡ Some (given k it) → value_at flows t (message o m) ≡ brought_value (given k it) in
+          subst P (sym own) (from_message o m) it is
+      lies_there kind it is (Some (register r)) own =
+          let P : Kind → Type 0 =
+          λ k. (it : Given k) → input_of k (sight_in t p k) ≡ Some (given k it) → value_at flows t (register r) ≡ brought_value (given k it) in
+          subst P (sym own) (from_register r) it is
 
       -- a step meets what it needs, so only a crash has no input
-      has_input : (kind : Kind) → meets kind (sight_in t p kind) ≡ true → (kind ≡ Crash) ⊎ ((i : Input) × (input_of kind (sight_in t p kind) ≡ Some i))
-      has_input (Query l) met = inr (input.Query l, refl)
-      has_input (Send m) met = inr (input.Send, refl)
+      abbrev HasInput : Kind → Type 0
+      HasInput kind = (kind ≡ Crash) ⊎ ((it : Given kind) × (input_of kind (sight_in t p kind) ≡ Some (given kind it)))
+
+      has_input : (kind : Kind) → meets kind (sight_in t p kind) ≡ true → HasInput kind
       has_input (Recv o m) met =
           let it = some_of (arriving (mail_of t) p (message_name o m)) met in
-          inr (input.Recv o it.0, ap (option_map (input.Recv o)) it.1)
+          inr (it.0, ap (option_map (input.Recv o)) it.1)
       has_input (Read r) met =
           let it = some_of (register_of t.registers r) met in
-          inr (input.Read r it.0.cell, ap (option_map (λ (stands : RegisterState). input.Read r stands.cell)) it.1)
+          inr (it.0.cell, ap (option_map (λ (stands : RegisterState). input.Read r stands.cell)) it.1)
       has_input (Write r) met =
           let it = some_of (register_of t.registers r) met in
-          inr (input.Write r, ap (option_map (λ (stands : RegisterState). input.Write r)) it.1)
-      has_input Local met = inr (input.Local, refl)
-      has_input Learn met = inr (input.Learn, refl)
+          inr (tt, ap (option_map (λ (stands : RegisterState). input.Write r)) it.1)
       has_input Crash met = inl refl
+      has_input kind met = inr (tt, refl)
 
       -- the messages of a process, as they lie in the state
       abbrev sent_in : Option (ProcessState L) → List Payload
@@ -209,6 +247,9 @@ module _ {L S : Type 0} (table : Table L) (flows : Flows L S) where
 
         own_messages : (kind : Kind) (m : ℕ) → payload_of (mail_of (to kind)) (message_name p m) ≡ nth (sent_after machine x kind) m
         own_messages kind m = messages_in (to kind) p m ∙ ap (λ o. nth (sent_in o) m) (moved kind)
+
+        abbrev shown : Option RegisterState → Option ℕ
+        shown o = option_and_then (λ (c : Cell). c.val) (option_map (λ (y : RegisterState). y.cell) o)
 
         -- what a send sends
         abbrev Sends : ℕ → Type 0
@@ -254,163 +295,123 @@ module _ {L S : Type 0} (table : Table L) (flows : Flows L S) where
 
         -- ---- a spot that is set
 
-        set_message : (m : ℕ) → Accepted (Send m) → value_at flows (to (Send m)) (message p m) ≡ taken local input.Send (flows.flow p local (Send m)).takes
-        set_message m accepted =
+        abbrev SetTo : (kind : Kind) → Given kind → Spot S → Type 0
+        SetTo kind it spot = value_at flows (to kind) spot ≡ taken flows local (brought_value (given kind it)) (flows.flow p local kind).takes
+
+        set_message : (m : ℕ) → Accepted (Send m) → (it : Unit {0}) → SetTo (Send m) it (message p m)
+        set_message m accepted _ =
             let it = sends m accepted in
             let lies : payload_of (mail_of (to (Send m))) (message_name p m) ≡ Some it.0 =
             own_messages (Send m) m ∙ ap (λ o. nth (x.sent ++ option_to_list o) m) it.1 ∙ nth_push_back x.sent it.0 m it.2 in
-            ap (λ o. option_and_then payload_value o) lies ∙ (one.sent p m local s it.0 it.3 it.1).1
+            ap (option_and_then payload_value) lies ∙ (one.sent p m local s it.0 it.3 it.1).1
 
-        set_register : (r : Reg) → Accepted (Write r)
-            → value_at flows (to (Write r)) (register r) ≡ taken local (input.Write r) (flows.flow p local (Write r)).takes
-        set_register r accepted =
+        set_register : (r : Reg) → Accepted (Write r) → (it : Unit {0}) → SetTo (Write r) it (register r)
+        set_register r accepted _ =
             let it = writes r accepted in
             let lies : register_of (to (Write r)).registers r ≡ Some (put_cell it.0 it.2.0) =
             ap (λ registers. register_of registers r) (registers_written r it.0 it.1) ∙ written_there r it.0 ∙ ap (option_map (put_cell it.0)) it.2.1 in
-            ap (λ o. option_and_then (λ (c : Cell). c.val) (option_map (λ (y : RegisterState). y.cell) o)) lies ∙ (one.written p r local s it.0 it.3 it.1).1
+            ap shown lies ∙ (one.written p r local s it.0 it.3 it.1).1
 
-        set_spot : (kind : Kind) → Accepted kind → (i : Input) → input_of kind (sight_in t p kind) ≡ Some i
-            → (spot : Spot S) → Contains (flows.flow p local kind).sets spot
-            → value_at flows (to kind) spot ≡ taken local i (flows.flow p local kind).takes
-        set_spot kind accepted i is (slot q y) here =
-            let same : q ≡ p = one.sets_own p local kind (slot q y) here in
-            let next = sym (ap (λ o. taken_local table.next local o) is) ∙ accepted.takes in
-            let P : ℕ → Type 0 = λ n. value_at flows (to kind) (slot n y) ≡ taken local i (flows.flow p local kind).takes in
-            subst P (sym same)
-            (slot_after kind y
-            ∙ one.slot_set p local s kind i good (fits t p kind i is) next y (subst (λ n. Contains (flows.flow p local kind).sets (slot n y)) same here))
-        set_spot kind accepted i is (message o m) here =
-            let may = one.sets_own p local kind (message o m) here in
-            let P : Kind → Type 0 =
-            λ z. Accepted z → (j : Input) → input_of z (sight_in t p z) ≡ Some j
-            → value_at flows (to z) (message p m) ≡ taken local j (flows.flow p local z).takes in
-            let Q : ℕ → Type 0 = λ n. value_at flows (to kind) (message n m) ≡ taken local i (flows.flow p local kind).takes in
-            subst Q (sym may.0)
-            (subst P (sym may.1)
-            (λ sent j is_j. set_message m sent ∙ ap (λ z. taken local z (flows.flow p local (Send m)).takes) (same_Some input.Send j is_j)) accepted i is)
-        set_spot kind accepted i is (register r) here =
-            let may : kind ≡ Write r = one.sets_own p local kind (register r) here in
-            let P : Kind → Type 0 =
-            λ z. Accepted z → (j : Input) → input_of z (sight_in t p z) ≡ Some j
-            → value_at flows (to z) (register r) ≡ taken local j (flows.flow p local z).takes in
-            subst P (sym may)
-            (λ wrote j is_j. set_register r wrote
-            ∙ ap (λ z. taken local z (flows.flow p local (Write r)).takes)
-            (mapped (λ (stands : RegisterState). input.Write r) (register_of t.registers r) j is_j).2)
-            accepted i is
+        -- what the machine did with its input
+        row : (kind : Kind) → Accepted kind → (it : Given kind) → input_of kind (sight_in t p kind) ≡ Some (given kind it)
+            → IsTrueRow flows p local (brought_value (given kind it)) s (flows.flow p local kind) × Good s
+        row kind accepted it is = one.row p local s kind it good (sym (ap (taken_local table.next local) is) ∙ accepted.takes)
 
-        sets_nothing : (spot : Spot S) → Contains (flows.flow p local Crash).sets spot → ⊥
-        sets_nothing spot here =
-            let none = contained_in [] spot (subst (λ (f : Flow S). Contains f.sets spot) (one.crash p local) here) in
-            elim none [ ]
+        stays : (kind : Kind) → Accepted kind → kind ≡ Crash → local ≡ s
+        stays kind accepted crashes =
+            same_Some local s (subst (λ k. taken_local table.next local (input_of k (sight_in t p k)) ≡ Some s) crashes accepted.takes)
+
+        set_spot : (kind : Kind) → Accepted kind → (it : Given kind) → input_of kind (sight_in t p kind) ≡ Some (given kind it)
+            → (spot : Spot S) → IsIn spot (flows.flow p local kind).sets → MaySet p kind spot → SetTo kind it spot
+        set_spot kind accepted it is (slot q y) here own =
+            rw own (slot_after kind y ∙ set_to flows s _ (flows.flow p local kind).sets q y (row kind accepted it is).0.set here)
+        set_spot kind accepted it is (message o m) here own =
+            let P : Kind → Type 0 = λ k. Accepted k → (it : Given k) → SetTo k it (message p m) in
+            rw own.0 (subst P (sym own.1) (set_message m) accepted it)
+        set_spot kind accepted it is (register r) here own =
+            let P : Kind → Type 0 = λ k. Accepted k → (it : Given k) → SetTo k it (register r) in
+            subst P (sym own) (set_register r) accepted it
 
         -- what holds of the local state still does
         good_left : (kind : Kind) → Accepted kind → Good s
         good_left kind accepted = go (has_input kind accepted.met)
           where
-            go : (kind ≡ Crash) ⊎ ((i : Input) × (input_of kind (sight_in t p kind) ≡ Some i)) → Good s
-            go (inl crashes) =
-                subst Good (same_Some local s (subst (λ z. taken_local table.next local (input_of z (sight_in t p z)) ≡ Some s) crashes accepted.takes)) good
-            go (inr it) = one.next_good local s it.0 good (sym (ap (λ o. taken_local table.next local o) it.1) ∙ accepted.takes)
+            go : HasInput kind → Good s
+            go (inl crashes) = subst Good (stays kind accepted crashes) good
+            go (inr it) = (row kind accepted it.0 it.1).1
 
-        pub set_by_step : (kind : Kind) → Accepted kind → (spot : Spot S) → Contains (flows.flow p local kind).sets spot
+        pub set_by_step : (kind : Kind) → Accepted kind → (spot : Spot S) → IsIn spot (flows.flow p local kind).sets
             → value_at flows (to kind) spot ≡ option_and_then (value_at flows t) (flows.flow p local kind).takes
         set_by_step kind accepted spot here = go (has_input kind accepted.met)
           where
-            go : (kind ≡ Crash) ⊎ ((i : Input) × (input_of kind (sight_in t p kind) ≡ Some i))
-                → value_at flows (to kind) spot ≡ option_and_then (value_at flows t) (flows.flow p local kind).takes
-            go (inl crashes) = absurd (sets_nothing spot (subst (λ z. Contains (flows.flow p local z).sets spot) crashes here))
+            own : IsOwn p kind (flows.flow p local kind)
+            own = one.own p local kind
+
+            go : HasInput kind → value_at flows (to kind) spot ≡ option_and_then (value_at flows t) (flows.flow p local kind).takes
+            go (inl crashes) =
+                let none : IsIn spot [] = subst (λ (f : Flow S). IsIn spot f.sets) (ap (flows.flow p local) crashes ∙ one.crash p local) here in
+                elim none [ ]
             go (inr it) =
-                set_spot kind accepted it.0 it.1 spot here
-                ∙ sym (lies_there kind it.0 it.1 (flows.flow p local kind).takes (λ from takes. one.takes_own p local kind from takes))
+                set_spot kind accepted it.0 it.1 spot here (own_set p kind (flows.flow p local kind).sets spot own.1 here)
+                ∙ sym (lies_there kind it.0 it.1 (flows.flow p local kind).takes own.0)
 
         -- ---- a spot that is not set
 
-        kept_slot : (kind : Kind) → Accepted kind → (y : S) (v : ℕ) → flows.value s y ≡ Some v
-            → (Contains (flows.flow p local kind).sets (slot p y) → ⊥) → flows.value local y ≡ Some v
-        kept_slot kind accepted y v lies never = go (has_input kind accepted.met)
+        -- it is set, or else had the value before
+        abbrev SetOr : Kind → Spot S → Type 0 → Type 0
+        SetOr kind spot had = IsIn spot (flows.flow p local kind).sets ⊎ had
+
+        kept_slot : (kind : Kind) → Accepted kind → (y : S) (v : ℕ) → flows.value s y ≡ Some v → SetOr kind (slot p y) (flows.value local y ≡ Some v)
+        kept_slot kind accepted y v lies = go (has_input kind accepted.met)
           where
-            go : (kind ≡ Crash) ⊎ ((i : Input) × (input_of kind (sight_in t p kind) ≡ Some i)) → flows.value local y ≡ Some v
-            go (inl crashes) =
-                let same : local ≡ s =
-                same_Some local s (subst (λ z. taken_local table.next local (input_of z (sight_in t p z)) ≡ Some s) crashes accepted.takes) in
-                ap (λ l. flows.value l y) same ∙ lies
-            go (inr it) =
-                let next = sym (ap (λ o. taken_local table.next local o) it.1) ∙ accepted.takes in
-                one.slot_kept p local s kind it.0 good (fits t p kind it.0 it.1) next y v lies never
+            go : HasInput kind → SetOr kind (slot p y) (flows.value local y ≡ Some v)
+            go (inl crashes) = inr (rw (stays kind accepted crashes) lies)
+            go (inr it) = (row kind accepted it.0 it.1).0.kept y v lies
 
         -- the own messages after the step are those before it, but for one that is set
-        kept_message : (kind : Kind) → Accepted kind → (m : ℕ) (v : ℕ) → option_and_then payload_value (nth (sent_after machine x kind) m) ≡ Some v
-            → (Contains (flows.flow p local kind).sets (message p m) → ⊥) → option_and_then payload_value (nth x.sent m) ≡ Some v
-        kept_message (Send number) accepted m v lies never = go (cases_eq m (length x.sent + 1))
+        kept_message : (kind : Kind) → Accepted kind → (m v : ℕ) → option_and_then payload_value (nth (sent_after machine x kind) m) ≡ Some v
+            → SetOr kind (message p m) (option_and_then payload_value (nth x.sent m) ≡ Some v)
+        kept_message (Send number) accepted m v lies = go (cases_eq m (length x.sent + 1))
           where
             it : Sends number
             it = sends number accepted
 
-            go : (m ≡ length x.sent + 1) ⊎ (m ≡ length x.sent + 1 → ⊥) → option_and_then payload_value (nth x.sent m) ≡ Some v
-            go (inl new) =
-                let same : number ≡ m = it.2 ∙ sym new in
-                absurd (never (subst (λ n. Contains (flows.flow p local (Send number)).sets (message p n)) same (one.sent p number local s it.0 it.3 it.1).0))
-            go (inr old) =
-                ap (λ o. option_and_then payload_value o)
-                (sym (nth_push_other x.sent it.0 m old) ∙ sym (ap (λ o. nth (x.sent ++ option_to_list o) m) it.1)) ∙ lies
-        kept_message (Query l) accepted m v lies never = lies
-        kept_message (Recv o n) accepted m v lies never = lies
-        kept_message (Read r) accepted m v lies never = lies
-        kept_message (Write r) accepted m v lies never = lies
-        kept_message Local accepted m v lies never = lies
-        kept_message Learn accepted m v lies never = lies
-        kept_message Crash accepted m v lies never = lies
+            go : (m ≡ length x.sent + 1) ⊎ (m ≡ length x.sent + 1 → ⊥) → SetOr (Send number) (message p m) (option_and_then payload_value (nth x.sent m) ≡ Some v)
+            go (inl new) = inl (rw (new ∙ sym it.2) (one.sent p number local s it.0 it.3 it.1).0)
+            go (inr old) = inr
+                (ap (option_and_then payload_value) (sym (ap (λ o. nth (x.sent ++ option_to_list o) m) it.1 ∙ nth_push_other x.sent it.0 m old)) ∙ lies)
+        kept_message kind accepted m v lies = inr lies
 
-        abbrev shown : Option RegisterState → Option ℕ
-        shown o = option_and_then (λ (c : Cell). c.val) (option_map (λ (y : RegisterState). y.cell) o)
-
-        kept_register : (kind : Kind) → Accepted kind → (r : Reg) (v : ℕ)
-            → shown (register_of (to kind).registers r) ≡ Some v → (Contains (flows.flow p local kind).sets (register r) → ⊥)
-            → shown (register_of t.registers r) ≡ Some v
-        kept_register (Write o) accepted r v lies never = go (same_register r o)
+        kept_register : (kind : Kind) → Accepted kind → (r : Reg) (v : ℕ) → shown (register_of (to kind).registers r) ≡ Some v
+            → SetOr kind (register r) (shown (register_of t.registers r) ≡ Some v)
+        kept_register (Write o) accepted r v lies = go (same_register r o)
           where
             it : Writes o
             it = writes o accepted
 
-            go : SameOrNot r o → shown (register_of t.registers r) ≡ Some v
-            go (inl same) =
-                absurd (never (subst (λ z. Contains (flows.flow p local (Write o)).sets (register z)) (sym same) (one.written p o local s it.0 it.3 it.1).0))
-            go (inr other) =
-                ap shown (sym (other_register o r it.0 other) ∙ sym (ap (λ registers. register_of registers r) (registers_written o it.0 it.1))) ∙ lies
-        kept_register (Query l) accepted r v lies never = lies
-        kept_register (Send m) accepted r v lies never = lies
-        kept_register (Recv o m) accepted r v lies never = lies
-        kept_register (Read o) accepted r v lies never = lies
-        kept_register Local accepted r v lies never = lies
-        kept_register Learn accepted r v lies never = lies
-        kept_register Crash accepted r v lies never = lies
+            go : SameOrNot r o → SetOr (Write o) (register r) (shown (register_of t.registers r) ≡ Some v)
+            go (inl same) = inl (rw same (one.written p o local s it.0 it.3 it.1).0)
+            go (inr other) = inr
+                (ap shown (sym (ap (λ registers. register_of registers r) (registers_written o it.0 it.1) ∙ other_register o r it.0 other)) ∙ lies)
+        kept_register kind accepted r v lies = inr lies
 
         pub kept_by_step : (kind : Kind) → Accepted kind → (spot : Spot S) (v : ℕ) → value_at flows (to kind) spot ≡ Some v
-            → (Contains (flows.flow p local kind).sets spot → ⊥) → value_at flows t spot ≡ Some v
-        kept_by_step kind accepted (slot q y) v lies never = go (cases_eq q p)
+            → SetOr kind spot (value_at flows t spot ≡ Some v)
+        kept_by_step kind accepted (slot q y) v lies = go (cases_eq q p)
           where
-            go : (q ≡ p) ⊎ (q ≡ p → ⊥) → value_at flows t (slot q y) ≡ Some v
-            go (inl same) =
-                let here = sym (slot_after kind y) ∙ subst (λ n. value_at flows (to kind) (slot n y) ≡ Some v) same lies in
-                let before = kept_slot kind accepted y v here (λ set. never (subst (λ n. Contains (flows.flow p local kind).sets (slot n y)) (sym same) set)) in
-                subst (λ n. value_at flows t (slot n y) ≡ Some v) (sym same) (slot_of y ∙ before)
-            go (inr other) = ap (λ o. option_and_then (λ (z : ProcessState L). flows.value z.progress.local y) o) (sym (others kind q other)) ∙ lies
-        kept_by_step kind accepted (message o m) v lies never = go (cases_eq o p)
+            go : (q ≡ p) ⊎ (q ≡ p → ⊥) → SetOr kind (slot q y) (value_at flows t (slot q y) ≡ Some v)
+            go (inl same) = rw (same, slot_of y) (kept_slot kind accepted y v (sym (slot_after kind y) ∙ rw same at lies))
+            go (inr other) = inr (ap (option_and_then (λ (z : ProcessState L). flows.value z.progress.local y)) (sym (others kind q other)) ∙ lies)
+        kept_by_step kind accepted (message o m) v lies = go (cases_eq o p)
           where
-            go : (o ≡ p) ⊎ (o ≡ p → ⊥) → value_at flows t (message o m) ≡ Some v
+            go : (o ≡ p) ⊎ (o ≡ p → ⊥) → SetOr kind (message o m) (value_at flows t (message o m) ≡ Some v)
             go (inl same) =
-                let here =
-                sym (ap (λ z. option_and_then payload_value z) (own_messages kind m))
-                ∙ subst (λ n. value_at flows (to kind) (message n m) ≡ Some v) same lies in
-                let before =
-                kept_message kind accepted m v here (λ set. never (subst (λ n. Contains (flows.flow p local kind).sets (message n m)) (sym same) set)) in
-                subst (λ n. value_at flows t (message n m) ≡ Some v) (sym same)
-                (ap (λ z. option_and_then payload_value z) (messages_in t p m ∙ ap (λ z. nth (sent_in z) m) at) ∙ before)
-            go (inr other) =
-                ap (λ z. option_and_then payload_value z)
-                (messages_in t o m ∙ ap (λ z. nth (sent_in z) m) (sym (others kind o other)) ∙ sym (messages_in (to kind) o m)) ∙ lies
-        kept_by_step kind accepted (register r) v lies never = kept_register kind accepted r v lies never
+                let lain : payload_of (mail_of t) (message_name p m) ≡ nth x.sent m = messages_in t p m ∙ ap (λ z. nth (sent_in z) m) at in
+                rw (same, lain) (kept_message kind accepted m v (sym (ap (option_and_then payload_value) (own_messages kind m)) ∙ rw same at lies))
+            go (inr other) = inr
+                (ap (option_and_then payload_value)
+                (messages_in t o m ∙ ap (λ z. nth (sent_in z) m) (sym (others kind o other)) ∙ sym (messages_in (to kind) o m)) ∙ lies)
+        kept_by_step kind accepted (register r) v lies = kept_register kind accepted r v lies
 
     -- ---- each event
 
@@ -453,44 +454,45 @@ module _ {L S : Type 0} (table : Table L) (flows : Flows L S) where
     reached_good t is = reached_keeps (after machine) AllGood after_good (start machine) is.0 t start_good is.1
 
     pub are_true : FlowsAreTrue machine flows setup.inputs
-    are_true = record { set = set_by; kept = kept_by; first = first_lies; takes_own = one.takes_own; sets_own = one.sets_own }
+    are_true = record {
+      set = set_by;
+      kept = kept_by;
+      first = first_lies;
+      takes_own = λ p s kind spot is. own_taken p kind (flows.flow p s kind).takes spot (one.own p s kind).0 is;
+      sets_own = λ p s kind spot here. own_set p kind (flows.flow p s kind).sets spot (one.own p s kind).1 (contained_in (flows.flow p s kind).sets spot here);
+    }
       where
-        flow_is : (t : RunState L) (p k : ℕ) (kind : Kind) (x : ProcessState L) → nth t.processes p ≡ Some x
-            → flow_of flows t (happening.Step p k kind) ≡ flows.flow p x.progress.local kind
-        flow_is t p k kind x at = ap (flow_by flows p kind) at
-
         set_by : (t u : RunState L) (event : Event) → IsReached machine t
             → after machine t event ≡ Some u → (spot : Spot S) → Contains (flow_of flows t event).sets spot
             → value_at flows u spot ≡ option_and_then (value_at flows t) (flow_of flows t event).takes
         set_by t u (happening.Step p k kind) reaches is spot here =
-            let taken_step = taken_from machine t u p k kind is in
-            let x = taken_step.process in
-            let flow = flow_is t p k kind x taken_step.at_process in
-            subst (λ z. value_at flows z spot ≡ option_and_then (value_at flows t) (flow_of flows t (happening.Step p k kind)).takes) taken_step.leads_to
-            (subst (λ (f : Flow S).
-            value_at flows (state_after machine t p k kind x taken_step.next) spot ≡ option_and_then (value_at flows t) f.takes) (sym flow)
-            (set_by_step t p x taken_step.at_process (reached_good t reaches p x taken_step.at_process) k taken_step.next
-            kind (parts machine t u p k kind taken_step) spot (subst (λ (f : Flow S). Contains f.sets spot) flow here)))
+            let step = taken_from machine t u p k kind is in
+            let x = step.process in
+            let flow = ap (flow_by flows p kind) step.at_process in
+            let its = contained_in (flows.flow p x.progress.local kind).sets spot (subst (λ (f : Flow S). Contains f.sets spot) flow here) in
+            subst (λ z. value_at flows z spot ≡ option_and_then (value_at flows t) (flow_of flows t (happening.Step p k kind)).takes) step.leads_to
+            (set_by_step t p x step.at_process (reached_good t reaches p x step.at_process) k step.next kind (parts machine t u p k kind step) spot its
+            ∙ sym (ap (λ (f : Flow S). option_and_then (value_at flows t) f.takes) flow))
         set_by t u (happening.Lost copy) reaches is spot here = let none = contained_in [] spot here in elim none [ ]
 
         kept_by : (t u : RunState L) (event : Event) → IsReached machine t
             → after machine t event ≡ Some u → (spot : Spot S) (v : ℕ) → value_at flows u spot ≡ Some v
             → (Contains (flow_of flows t event).sets spot → ⊥) → value_at flows t spot ≡ Some v
         kept_by t u (happening.Step p k kind) reaches is spot v lies never =
-            let taken_step = taken_from machine t u p k kind is in
-            let x = taken_step.process in
-            let flow = flow_is t p k kind x taken_step.at_process in
-            kept_by_step t p x taken_step.at_process (reached_good t reaches p x taken_step.at_process)
-            k taken_step.next kind (parts machine t u p k kind taken_step) spot v
-            (subst (λ z. value_at flows z spot ≡ Some v) (sym taken_step.leads_to) lies)
-            (λ here. never (subst (λ (f : Flow S). Contains f.sets spot) (sym flow) here))
+            let step = taken_from machine t u p k kind is in
+            let x = step.process in
+            go (flows.flow p x.progress.local kind).sets (kept_by_step t p x step.at_process (reached_good t reaches p x step.at_process)
+            k step.next kind (parts machine t u p k kind step) spot v (subst (λ z. value_at flows z spot ≡ Some v) (sym step.leads_to) lies))
+            (λ here. never (subst (λ (f : Flow S). Contains f.sets spot) (sym (ap (flow_by flows p kind) step.at_process)) here))
+          where
+            go : {P : Type 0} (spots : List (Spot S)) → IsIn spot spots ⊎ P → (Contains spots spot → ⊥) → P
+            go spots (inl set) unset = absurd (unset (in_contained spots spot set))
+            go spots (inr kept) unset = kept
         kept_by t u (happening.Lost copy) reaches is spot v lies never =
             let lost = where_true (may_lose machine (mail_of t) copy) (Some (record t { lost = set.insert t.lost copy })) u is in
-            let same = same_Some (record t { lost = set.insert t.lost copy }) u lost.1 in
-            as_it_was t copy spot v (subst (λ z. value_at flows z spot ≡ Some v) (sym same) lies)
+            as_it_was t copy spot v (subst (λ z. value_at flows z spot ≡ Some v) (sym (same_Some _ u lost.1)) lies)
           where
             as_it_was : (t : RunState L) (copy : CopyName) (spot : Spot S) (v : ℕ)
                 → value_at flows (record t { lost = set.insert t.lost copy }) spot ≡ Some v → value_at flows t spot ≡ Some v
             as_it_was t copy (slot q y) v lies = lies
-            as_it_was t copy (message o m) v lies = lies
-            as_it_was t copy (register r) v lies = lies
+            as_it_was t copy spot v lies = lies
