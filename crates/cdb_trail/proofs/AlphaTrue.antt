@@ -29,7 +29,7 @@ use Rattle.cdb_deeds.specs.Numbers.{number_of}
 use Rattle.cdb_trail.specs.AlphaFlow as flows
 use Rattle.cdb_trail.specs.AlphaFlow.{Slot, slot_value, has_settled, settled_from, read_flow, write_flow, local_flow, flow, alpha_flows}
 use Rattle.cdb_trail.proofs.Numbers.{IsNumbered, AreNone, numbered}
-use Rattle.cdb_trail.proofs.RunFlows.{Given, given, IsOwn, own_if, taken, AreSetTo, IsTrueRow, AreTrueOfOne}
+use Rattle.cdb_trail.proofs.RunFlows.{Given, given, IsOwn, own_if, taken, AreSetTo, KeepsOthers, IsTrueRow, AreTrueOfOne}
 use Rattle.cdb_trail.proofs.Trails.{SameOrNot}
 
 -- a process has decided at the last place alone
@@ -55,9 +55,8 @@ module _ (p : ℕ) (s : LocalState) where
       → IsTrueRow alpha_flows p s brought t f × DecidedLast t
   of_state {u = u} {t = t} is row = rw (← same_Some u t is) row
 
-  -- each slot is set or as it was
   abbrev Kept : LocalState → Flow Slot → Type 0
-  Kept t f = (x : Slot) (v : ℕ) → slot_value t x ≡ Some v → IsIn (slot p x) f.sets ⊎ (slot_value s x ≡ Some v)
+  Kept t f = KeepsOthers alpha_flows p s t f
 
   -- ---- the value that is settled lies in the slot that is named
 
@@ -78,7 +77,8 @@ module _ (p : ℕ) (s : LocalState) where
       go (inr it) val = rw (it.is, it.at) (sym (ap (option_and_then (λ (c : Cell). c.val)) it.found) ∙ val)
 
   settled_value : (o : Option ℕ) → value_seen s.seen ≡ o
-      → slot_value s (unwrap_or (option_map flows.seen (if is_some o then number_of (λ (c : Cell). c.lrww == greatest_write s.seen) s.seen else None)) flows.input)
+      → slot_value s (unwrap_or (option_map flows.seen
+      (if is_some o then number_of (λ (c : Cell). c.lrww == greatest_write s.seen) s.seen else None)) flows.input)
       ≡ Some (unwrap_or o s.input)
   settled_value None is = refl
   settled_value (Some v) is = by_cell v is
@@ -110,7 +110,8 @@ module _ (p : ℕ) (s : LocalState) where
         kept x v lies = inr lies
 
     -- a cell is seen
-    sees : (r : Reg) (c : Cell) (reading over : Place) → (has_settled (if length s.seen + 1 == s.processes then over else reading) ≡ true → has_settled s.place ≡ true)
+    sees : (r : Reg) (c : Cell) (reading over : Place)
+        → (has_settled (see reading over s c).place ≡ true → has_settled s.place ≡ true)
         → Leads c.val (see reading over s c) (moves (register r) (slot p (flows.seen (length s.seen + 1)) ∷ []))
     sees r c reading over settled = (record { set = (ap of_cell (nth_push_back s.seen c (length s.seen + 1) refl), tt); kept = kept }, inr undecided)
       where
@@ -124,7 +125,7 @@ module _ (p : ℕ) (s : LocalState) where
                 → IsIn (slot p (flows.seen n)) (slot p (flows.seen (length s.seen + 1)) ∷ []) ⊎ (slot_value s (flows.seen n) ≡ Some v)
             go (inl new) = inl (inl (cc))
             go (inr old) = inr (ap of_cell (sym (nth_push_other s.seen c n old)) ∙ lies)
-        kept flows.value v lies = let is = where_true (has_settled (if length s.seen + 1 == s.processes then over else reading)) _ v lies in inr (rw (settled is.0) is.1)
+        kept flows.value v lies = let is = where_true (has_settled (see reading over s c).place) _ v lies in inr (rw (settled is.0) is.1)
         kept x v lies = inr lies
 
     -- the round is entered: the own cell keeps its value
@@ -161,7 +162,8 @@ module _ (p : ℕ) (s : LocalState) where
     row : (q : Place) (kind : Kind) (it : Given kind) (t : LocalState) → s.place ≡ q
         → by_row (row_at q s) (given kind it) ≡ Some t → Leads (brought_value (given kind it)) t (flow p (record s { place = q }) kind)
     row A0 (Read r) c t here is = of_state (where_true _ _ t is).1 (looks r c.val)
-    row A1 (Query l) it t here is = of_state is (moved (if l == s.me then A2 else A0) s.round (λ settled. absurd (true≢false (sym settled ∙ has_if _ A2 A0 refl))) tt)
+    row A1 (Query l) it t here is =
+        of_state is (moved (if l == s.me then A2 else A0) s.round (λ settled. absurd (true≢false (sym settled ∙ has_if _ A2 A0 refl))) tt)
     row A2 (Write r) it t here is = of_state (where_true _ _ t is).1 (enters r)
     row A3 (Read r) c t here is =
         of_state (where_true _ _ t is).1 (sees r c A3 A4 (λ settled. absurd (true≢false (sym settled ∙ has_if _ A4 A3 refl))))

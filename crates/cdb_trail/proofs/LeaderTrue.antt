@@ -22,7 +22,8 @@ use Rattle.cdb_leader.specs.Inbox.{first_phase, second_phase, as_decision, if_fr
 use Rattle.cdb_leader.specs.Inbox.{decision_from, agreed_leader, proposal, learnt}
 use Rattle.cdb_leader.specs.LocalState.{LocalState, first_state}
 use Rattle.cdb_leader.specs.Machine.{leader_table}
-use Rattle.cdb_leader.specs.Table.{heard_first_phase, is_lead, set_aux, end_round, query_at, payload_at, after_sending_at, send_at, local_at, learn_at, recv_at, next_state}
+use Rattle.cdb_leader.specs.Table.{heard_first_phase, is_lead, set_aux, end_round, query_at, payload_at, after_sending_at}
+use Rattle.cdb_leader.specs.Table.{send_at, local_at, learn_at, recv_at, next_state}
 use Rattle.cdb_rules.proofs.Positions.{nth_push_other, nth_push_back}
 use Rattle.cdb_rules.proofs.Taken.{bound, mapped, some_of, where_true}
 use Rattle.cdb_trail.specs.Flow.{slot, message, Flow, still, moves}
@@ -30,7 +31,7 @@ use Rattle.cdb_deeds.specs.LeaderDeeds.{number_from, number_of_estimate, number_
 use Rattle.cdb_trail.specs.LeaderFlow.{Slot, received, estimate, aux, decision, slot_value, sets_aux, sets_estimate}
 use Rattle.cdb_trail.specs.LeaderFlow.{send_flow, query_flow, local_flow, flow, leader_flows}
 use Rattle.cdb_trail.proofs.Numbers.{IsNumbered, AreNone, numbered, given_found, given_none, found_passes}
-use Rattle.cdb_trail.proofs.RunFlows.{Given, given, TakesOwn, IsOwn, own_if, taken, AreSetTo, IsTrueRow, AreTrueOfOne}
+use Rattle.cdb_trail.proofs.RunFlows.{Given, given, TakesOwn, IsOwn, own_if, taken, AreSetTo, KeepsOthers, IsTrueRow, AreTrueOfOne}
 use Rattle.cdb_trail.proofs.Trails.{SameOrNot}
 
 -- ---- what a message reads as is what it carries
@@ -90,6 +91,9 @@ module _ (p : ℕ) (s : LocalState) where
   abbrev IsTrue : Option ℕ → LocalState → Flow Slot → Type 0
   IsTrue brought t f = IsTrueRow leader_flows p s brought t f
 
+  abbrev Kept : LocalState → Flow Slot → Type 0
+  Kept t f = KeepsOthers leader_flows p s t f
+
   abbrev value_of : Option ℕ → Option ℕ
   value_of number = taken leader_flows s None (option_map (λ n. slot p (received n)) number)
 
@@ -97,7 +101,8 @@ module _ (p : ℕ) (s : LocalState) where
   carried_is None = refl
   carried_is (Some n) = refl
 
-  of_state : {brought : Option ℕ} {u t : LocalState} {f : Flow Slot} → Some u ≡ Some t → IsTrueRow leader_flows p s brought u f → IsTrueRow leader_flows p s brought t f
+  of_state : {brought : Option ℕ} {u t : LocalState} {f : Flow Slot} → Some u ≡ Some t
+      → IsTrueRow leader_flows p s brought u f → IsTrueRow leader_flows p s brought t f
   of_state {u = u} {t = t} is row = rw (← same_Some u t is) row
 
   -- a step that sets no slot
@@ -106,7 +111,7 @@ module _ (p : ℕ) (s : LocalState) where
       → IsTrueRow leader_flows p s None (record s { place = place; round = round; lead = lead }) f
   moved place round lead {f} set = record { set = set; kept = kept }
     where
-      kept : (x : Slot) (v : ℕ) → slot_value (record s { place = place; round = round; lead = lead }) x ≡ Some v → IsIn (slot p x) f.sets ⊎ (slot_value s x ≡ Some v)
+      kept : Kept (record s { place = place; round = round; lead = lead }) f
       kept (received n) v lies = inr lies
       kept x v lies = inr lies
 
@@ -120,7 +125,7 @@ module _ (p : ℕ) (s : LocalState) where
       agreed (Some m) = sym (carried_is (number_from m (first_phase s.round) s.inbox)
           ∙ read_of s.inbox m (first_phase s.round) (option_map (λ (said : FirstPhase). said.estimate)) refl (first_phase_value s.round))
 
-      kept : (x : Slot) (v : ℕ) → slot_value (set_aux s) x ≡ Some v → IsIn (slot p x) (slot p aux ∷ []) ⊎ (slot_value s x ≡ Some v)
+      kept : Kept (set_aux s) (sets_aux p s)
       kept aux v lies = inl (inl refl)
       kept x v lies = inr lies
 
@@ -128,8 +133,7 @@ module _ (p : ℕ) (s : LocalState) where
   adopted : (place : Place) (w n : ℕ) → carried s.inbox (Some n) ≡ Some w → IsTrue None (record s { estimate = w; place = place }) (sets_estimate p (Some n))
   adopted place w n is = record { set = (sym is, tt); kept = kept }
     where
-      kept : (x : Slot) (v : ℕ) → slot_value (record s { estimate = w; place = place }) x ≡ Some v
-          → IsIn (slot p x) (slot p estimate ∷ []) ⊎ (slot_value s x ≡ Some v)
+      kept : Kept (record s { estimate = w; place = place }) (sets_estimate p (Some n))
       kept estimate v lies = inl (inl refl)
       kept x v lies = inr lies
 
@@ -145,7 +149,7 @@ module _ (p : ℕ) (s : LocalState) where
   announced : (m : ℕ) → IsTrue None (after_sending_at L5 s) (send_flow L5 p m)
   announced m = record { set = (refl, tt); kept = kept }
     where
-      kept : (x : Slot) (v : ℕ) → slot_value (after_sending_at L5 s) x ≡ Some v → IsIn (slot p x) (message p m ∷ slot p decision ∷ []) ⊎ (slot_value s x ≡ Some v)
+      kept : Kept (after_sending_at L5 s) (send_flow L5 p m)
       kept decision v lies = inl (inr (inl refl))
       kept x v lies = inr lies
 
@@ -196,10 +200,11 @@ module _ (p : ℕ) (s : LocalState) where
       of_message : Option Received → Option ℕ
       of_message e = option_and_then (λ (it : Received). payload_value it.payload) e
 
-      kept : (y : Slot) (v : ℕ) → slot_value (with_message o x) y ≡ Some v → IsIn (slot p y) (slot p (received (length s.inbox + 1)) ∷ []) ⊎ (slot_value s y ≡ Some v)
+      kept : Kept (with_message o x) (moves (message o m) (slot p (received (length s.inbox + 1)) ∷ []))
       kept (received n) v lies = go (cases_eq n (length s.inbox + 1))
         where
-          go : (n ≡ length s.inbox + 1) ⊎ (n ≡ length s.inbox + 1 → ⊥) → IsIn (slot p (received n)) (slot p (received (length s.inbox + 1)) ∷ []) ⊎ (slot_value s (received n) ≡ Some v)
+          go : (n ≡ length s.inbox + 1) ⊎ (n ≡ length s.inbox + 1 → ⊥)
+              → IsIn (slot p (received n)) (slot p (received (length s.inbox + 1)) ∷ []) ⊎ (slot_value s (received n) ≡ Some v)
           go (inl new) = inl (inl (cc))
           go (inr old) = inr (ap of_message (sym (nth_push_other s.inbox (record { from = o; payload = x }) n old)) ∙ lies)
       kept y v lies = inr lies

@@ -11,15 +11,11 @@ use Rattle.cdb_rules.proofs.Beginnings.{one_more}
 use Rattle.cdb_process.specs.Table.{Table}
 use Rattle.cdb_rules.specs.RunView.{RunView}
 use Rattle.cdb_rules.specs.Runs.{IsInOrder, machine_in, state_in, with_event, with_history}
-use Rattle.cdb_rules.specs.State.{start}
+use Rattle.cdb_rules.specs.State.{Machine, start}
 use Rattle.cdb_rules.specs.Step.{after, fold}
 use Rattle.cdb_trail.specs.Flow.{Spot, Flow, Flows, flow_of, value_at}
 use Rattle.cdb_trail.specs.Played.{AreFirstFlows}
-use Rattle.cdb_trail.specs.Trails.{flow_at, flow_in, state_before, Takes, TakesValue}
-
--- what is read at a position is what stands there
-pub read_is : {A : Type 0} (xs : List A) (i : ℕ) (x y : A) → i < length xs → x ≡ get_or xs i x → slice_get xs i ≡ Some y → x ≡ y
-read_is xs i x y within is at = is ∙ same_Some (get_or xs i x) y (sym (slice_get-get_or xs i x within) ∙ at)
+use Rattle.cdb_trail.specs.Trails.{flow_at, flow_in, state_before, Takes, TakesValue, IsTrail, IsTrailOf, TrailsAreUnique}
 
 module _ {L S : Type 0} (table : Table L) (flows : Flows L S) (run : RunView) where
   -- each beginning of a valid history is valid
@@ -40,45 +36,61 @@ module _ {L S : Type 0} (table : Table L) (flows : Flows L S) (run : RunView) wh
       → later ≡ with_history run (take (i + 1) run.history)
   next_along i event at again later along is = is ∙ ap (λ r. with_event r event) along ∙ ap (with_history run) (one_more run.history i event at)
 
-  -- the flow of the next event
-  pub flow_is : (i : ℕ) (event : Event) → slice_get run.history i ≡ Some event
-      → (again : RunView) → again ≡ with_history run (take i run.history) → (flow : Flow S)
-      → flow ≡ flow_of flows (state_in table again) event → flow ≡ flow_at (machine_in table run) flows run.history (suc i)
-  flow_is i event at again along flow is =
-      is ∙ ap (λ (r : RunView). flow_of flows (state_in table r) event) along
-      ∙ ap (flow_in (machine_in table run) flows run.history (state_before (machine_in table run) flows run.history (suc i))) (sym at)
+  -- the flow is that of the event at position n, and the run that is played again stands as it stood before it
+  pub record IsNext (n : ℕ) (again : RunView) (flow : Flow S) : Type 0 where
+    pub is : flow ≡ flow_at (machine_in table run) flows run.history n
+    pub before : state_in table again ≡ state_before (machine_in table run) flows run.history n
 
-  pub one_flow_more : (found : List (Flow S)) (i : ℕ) (flow : Flow S) → length found ≡ i
-      → flow ≡ flow_at (machine_in table run) flows run.history (suc i) → AreFirstFlows table flows run found
-      → AreFirstFlows table flows run (found ++ flow ∷ [])
-  one_flow_more found i flow number is so k less = go (cases_eq k (length found))
+  pub next_of : {n i : ℕ} {event : Event} {again : RunView} {flow : Flow S} → n ≡ suc i → slice_get run.history i ≡ Some event
+      → again ≡ with_history run (take i run.history) → flow ≡ flow_of flows (state_in table again) event → IsNext n again flow
+  next_of {i = i} {event = event} e at along is =
+      let before = ap (state_in table) along in
+      rw e (record {
+        is = is ∙ ap (λ state. flow_of flows state event) before
+            ∙ ap (flow_in (machine_in table run) flows run.history (state_before (machine_in table run) flows run.history (suc i))) (sym at);
+        before = before;
+      })
+
+  pub one_flow_more : (found : List (Flow S)) {i : ℕ} {again : RunView} {flow : Flow S} → length found ≡ i → IsNext (suc i) again flow
+      → AreFirstFlows table flows run found → AreFirstFlows table flows run (found ++ flow ∷ [])
+  one_flow_more found {flow = flow} number next so k less = go (cases_eq k (length found))
     where
       go : (k ≡ length found) ⊎ (k ≡ length found → ⊥) → slice_get (found ++ flow ∷ []) k ≡ Some (flow_at (machine_in table run) flows run.history (suc k))
       go (inl same) =
           ap (slice_get (found ++ flow ∷ [])) same ∙ push_back found flow
-          ∙ ap (λ (f : Flow S). Some f) (is ∙ ap (λ n. flow_at (machine_in table run) flows run.history (suc n)) (sym number ∙ sym same))
+          ∙ ap Some (next.is ∙ ap (λ n. flow_at (machine_in table run) flows run.history (suc n)) (sym number ∙ sym same))
       go (inr other) =
           let count : length (found ++ flow ∷ []) ≡ length found + 1 = (let more = length-append found (flow ∷ []) in omega (arith, more)) in
           push_front found flow (flow_at (machine_in table run) flows run.history (suc k)) k (so k (omega (arith, less, other, count)))
 
-  -- a step takes no value where it takes from no spot, or from one that has none
-  pub takes_none : (i : ℕ) (flow : Flow S) → flow ≡ flow_at (machine_in table run) flows run.history (suc i)
-      → flow.takes ≡ None → (v : ℕ) → TakesValue (machine_in table run) flows run.history v (suc i) → ⊥
-  takes_none i flow is none v it = none-some it.from (sym none ∙ ap (λ (f : Flow S). f.takes) is ∙ it.takes)
+  -- of the first flows each is that of its event
+  pub flow_there : (found : List (Flow S)) {n i : ℕ} {flow : Flow S} → AreFirstFlows table flows run found → n ≡ suc i → i < length found
+      → flow ≡ get_or found i flow → flow ≡ flow_at (machine_in table run) flows run.history n
+  flow_there found {i = i} {flow} first e within is = rw e (is ∙ same_Some _ _ (sym (slice_get-get_or found i flow within) ∙ first i within))
 
-  pub lies_none : (i : ℕ) (again : RunView) → again ≡ with_history run (take i run.history)
-      → (from : Spot S) → Takes (machine_in table run) flows run.history (suc i) from
-      → value_at flows (state_in table again) from ≡ None → (v : ℕ) → TakesValue (machine_in table run) flows run.history v (suc i) → ⊥
-  lies_none i again along from takes none v it =
-      let same : it.from ≡ from = same_Some it.from from (sym it.takes ∙ takes) in
-      none-some v (sym none ∙ ap (λ (r : RunView). value_at flows (state_in table r) from) along
-      ∙ ap (value_at flows (state_before (machine_in table run) flows run.history (suc i))) (sym same) ∙ it.taken)
+-- ---- what the next event takes
 
-  pub takes_it : (i : ℕ) (again : RunView) → again ≡ with_history run (take i run.history)
-      → (from : Spot S) → Takes (machine_in table run) flows run.history (suc i) from → (v : ℕ)
-      → value_at flows (state_in table again) from ≡ Some v → TakesValue (machine_in table run) flows run.history v (suc i)
-  takes_it i again along from takes v lies = record {
-    from = from;
-    takes = takes;
-    taken = sym (ap (λ (r : RunView). value_at flows (state_in table r) from) along) ∙ lies;
-  }
+module _ {L S : Type 0} {table : Table L} {flows : Flows L S} {run : RunView} {n : ℕ} {again : RunView} {flow : Flow S}
+    (next : IsNext table flows run n again flow) where
+  pub takes_of : {from : Spot S} → flow.takes ≡ Some from → Takes (machine_in table run) flows run.history n from
+  takes_of takes = ap (λ (f : Flow S). f.takes) (sym next.is) ∙ takes
+
+  -- it takes no value where it takes from no spot, or from one that has none
+  pub takes_none : flow.takes ≡ None → (v : ℕ) → TakesValue (machine_in table run) flows run.history v n → ⊥
+  takes_none none v it = none-some it.from (sym none ∙ ap (λ (f : Flow S). f.takes) next.is ∙ it.takes)
+
+  pub lies_none : {from : Spot S} → flow.takes ≡ Some from → value_at flows (state_in table again) from ≡ None
+      → (v : ℕ) → TakesValue (machine_in table run) flows run.history v n → ⊥
+  lies_none {from} takes none v it =
+      let same : it.from ≡ from = same_Some it.from from (sym it.takes ∙ takes_of takes) in
+      none-some v (sym none ∙ ap (λ state. value_at flows state from) next.before ∙ rw same at it.taken)
+
+  pub takes_it : {from : Spot S} {v : ℕ} → flow.takes ≡ Some from → value_at flows (state_in table again) from ≡ Some v
+      → TakesValue (machine_in table run) flows run.history v n
+  takes_it {from} takes lies = record { from = from; takes = takes_of takes; taken = sym (ap (λ state. value_at flows state from) next.before) ∙ lies }
+
+-- a trail to a step is the one that carries its value
+pub the_trail : {L S : Type 0} {machine : Machine L} {flows : Flows L S} {inputs : List ℕ} {history : List Event} {p q v n : ℕ} {one other : List ℕ}
+    → TrailsAreUnique machine flows inputs → IsTrailOf machine flows inputs history p v n one → IsTrail machine flows history q n other
+    → IsTrailOf machine flows inputs history q v n other
+the_trail unique carries leads = let same = unique _ _ _ _ _ _ carries.is_trail leads in rw (← same.0, ← same.1) carries

@@ -103,10 +103,14 @@ module _ {L S : Type 0} (flows : Flows L S) where
   set_to t o (spot ∷ spots) q x are (inr later) = set_to t o spots q x are later
   set_to t o [] q x are none = elim none [ ]
 
-  -- what the flow f says of the step of process p from s to t: each slot that it sets has what it takes, and any other no new value
+  -- a slot that the flow does not set has no new value
+  abbrev pub KeepsOthers : ℕ → L → L → Flow S → Type 0
+  KeepsOthers p s t f = (x : S) (v : ℕ) → flows.value t x ≡ Some v → IsIn (slot p x) f.sets ⊎ (flows.value s x ≡ Some v)
+
+  -- what the flow f says of the step of process p from s to t
   pub record IsTrueRow (p : ℕ) (s : L) (brought : Option ℕ) (t : L) (f : Flow S) : Type 0 where
     pub set : AreSetTo t (taken s brought f.takes) f.sets
-    pub kept : (x : S) (v : ℕ) → flows.value t x ≡ Some v → IsIn (slot p x) f.sets ⊎ (flows.value s x ≡ Some v)
+    pub kept : KeepsOthers p s t f
 
 module _ {L S : Type 0} (table : Table L) (flows : Flows L S) where
   -- the flows are true of one process, in each state of which something holds that its machine keeps
@@ -173,7 +177,8 @@ module _ {L S : Type 0} (table : Table L) (flows : Flows L S) where
       slot_of : (y : S) → value_at flows t (slot p y) ≡ flows.value local y
       slot_of y = ap (λ o. option_and_then (λ (z : ProcessState L). flows.value z.progress.local y) o) at
 
-      from_message : (o m : ℕ) (y : Payload) → input_of (Recv o m) (sight_in t p (Recv o m)) ≡ Some (input.Recv o y) → value_at flows t (message o m) ≡ payload_value y
+      from_message : (o m : ℕ) (y : Payload) → input_of (Recv o m) (sight_in t p (Recv o m)) ≡ Some (input.Recv o y)
+          → value_at flows t (message o m) ≡ payload_value y
       from_message o m y is =
           let it = mapped (input.Recv o) (arriving (mail_of t) p (message_name o m)) (input.Recv o y) is in
           ap (option_and_then payload_value) (there (is_lost (mail_of t) (copy_name (message_name o m) p)) it.0 it.1) ∙ ap brought_value it.2
@@ -376,7 +381,8 @@ module _ {L S : Type 0} (table : Table L) (flows : Flows L S) where
             it : Sends number
             it = sends number accepted
 
-            go : (m ≡ length x.sent + 1) ⊎ (m ≡ length x.sent + 1 → ⊥) → SetOr (Send number) (message p m) (option_and_then payload_value (nth x.sent m) ≡ Some v)
+            go : (m ≡ length x.sent + 1) ⊎ (m ≡ length x.sent + 1 → ⊥)
+                → SetOr (Send number) (message p m) (option_and_then payload_value (nth x.sent m) ≡ Some v)
             go (inl new) = inl (rw (new ∙ sym it.2) (one.sent p number local s it.0 it.3 it.1).0)
             go (inr old) = inr
                 (ap (option_and_then payload_value) (sym (ap (λ o. nth (x.sent ++ option_to_list o) m) it.1 ∙ nth_push_other x.sent it.0 m old)) ∙ lies)

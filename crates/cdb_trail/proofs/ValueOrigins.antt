@@ -10,53 +10,37 @@ use Rattle.cdb_rules.specs.RunView.{RunView}
 use Rattle.cdb_rules.specs.Runs.{machine_in}
 use Rattle.cdb_trail.specs.Flow.{Spot, slot, Flow, Flows}
 use Rattle.cdb_trail.specs.Played.{AreFirstFlows, IsLastSetter, SetNone}
-use Rattle.cdb_trail.specs.Trails.{flow_at, Takes, Sets, IsFed, TakesInput, IsTrail, begins, goes_on}
+use Rattle.cdb_trail.specs.Trails.{Takes, Sets, IsFed, TakesInput, IsTrail, begins, goes_on}
 use Rattle.cdb_trail.specs.declared.origins.Origin.{Origin}
 
-module _ {L S : Type 0} (table : Table L) (flows : Flows L S) (run : RunView) (found : List (Flow S)) (first : AreFirstFlows table flows run found) where
-  abbrev SetsAt : ℕ → Spot S → Type 0
-  SetsAt k spot = Sets (machine_in table run) flows run.history k spot
-
-  sets_by : (k : ℕ) (flow : Flow S) (spot : Spot S) → slice_get found k ≡ Some flow → Contains flow.sets spot → SetsAt (suc k) spot
-  sets_by k flow spot at here =
-      subst (λ (f : Flow S). Contains f.sets spot)
-      (same_Some flow (flow_at (machine_in table run) flows run.history (suc k)) (sym at ∙ first k (slice_get_within found k flow at))) here
-
+module _ {L S : Type 0} (table : Table L) (flows : Flows L S) (run : RunView) (found : List (Flow S)) (first : AreFirstFlows table flows run found)
+    {n : ℕ} (e : n ≡ suc (length found)) (spot : Spot S) (takes : Takes (machine_in table run) flows run.history n spot) where
   -- the last of them that sets the spot from which the next step takes its value feeds that step
-  pub fed_by : (spot : Spot S) (i : ℕ) → Takes (machine_in table run) flows run.history (suc (length found)) spot → IsLastSetter found spot i
-      → IsFed (machine_in table run) flows run.history (suc i) (suc (length found))
-  fed_by spot i takes setter = record {
+  pub fed_by : {i j : ℕ} → j ≡ suc i → IsLastSetter found spot i → IsFed (machine_in table run) flows run.history j n
+  fed_by {i} {j} next setter = record {
     spot = spot;
     takes = takes;
-    sets = sets_by i setter.flow spot setter.at setter.sets;
-    later = let within = slice_get_within found i setter.flow setter.at in omega (arith, within);
+    sets = rw (next, ← same_Some setter.flow _ (sym setter.at ∙ first i within)) setter.sets;
+    later = omega (arith, within);
     last = none_between;
   }
     where
-      none_between : (k : ℕ) → suc i < k → k < suc (length found) → SetsAt k spot → ⊥
-      none_between zero high low sets = absurd (omega (arith, high))
-      none_between (suc k) high low sets =
-          setter.last k (flow_at (machine_in table run) flows run.history (suc k)) (omega (arith, high)) (first k (omega (arith, low))) sets
+      within : i < length found
+      within = slice_get_within found i setter.flow setter.at
 
-  -- where none of them sets it, the trail of the next step begins with it
-  pub input_by : (spot : Spot S) → Takes (machine_in table run) flows run.history (suc (length found)) spot → SetNone found spot → (q : ℕ) (trail : List ℕ)
-      → IsTrail (machine_in table run) flows run.history q (suc (length found)) trail
-      → TakesInput (machine_in table run) flows run.history q (suc (length found))
-  input_by spot takes none q trail (begins it) = it
-  input_by spot takes none q trail (goes_on {i = i} before fed) = absurd (unset i fed.sets fed.later)
+      none_between : (k : ℕ) → j < k → k < n → Sets (machine_in table run) flows run.history k spot → ⊥
+      none_between zero high low sets = absurd (omega arith)
+      none_between (suc k) high low sets = setter.last k _ (omega arith) (first k (omega arith)) sets
+
+  -- where none of them sets it, the trail of the next step begins with it, and the spot is the slot of that input
+  pub input_by : {q : ℕ} {trail : List ℕ} → SetNone found spot → IsTrail (machine_in table run) flows run.history q n trail
+      → TakesInput (machine_in table run) flows run.history q n × (spot ≡ slot q flows.input)
+  input_by {q} none (begins it) = (it, same_Some spot (slot q flows.input) (sym takes ∙ it.takes))
+  input_by none (goes_on {i = i} before fed) = absurd (unset i (rw (same_Some fed.spot spot (sym fed.takes ∙ takes)) at fed.sets) fed.later)
     where
-      same : fed.spot ≡ spot
-      same = same_Some fed.spot spot (sym fed.takes ∙ takes)
-
-      unset : (k : ℕ) → SetsAt k fed.spot → k < suc (length found) → ⊥
-      unset zero sets low = let it = contained_in [] fed.spot sets in elim it [ ]
-      unset (suc k) sets low =
-          none k (flow_at (machine_in table run) flows run.history (suc k)) (first k (omega (arith, low))) (subst (SetsAt (suc k)) same sets)
-
-  -- and the spot is the slot of that input
-  pub its_slot : (spot : Spot S) → Takes (machine_in table run) flows run.history (suc (length found)) spot → (q : ℕ)
-      → TakesInput (machine_in table run) flows run.history q (suc (length found)) → spot ≡ slot q flows.input
-  its_slot spot takes q it = same_Some spot (slot q flows.input) (sym takes ∙ it.takes)
+      unset : (k : ℕ) → Sets (machine_in table run) flows run.history k spot → k < n → ⊥
+      unset zero sets low = let it = contained_in [] spot sets in elim it [ ]
+      unset (suc k) sets low = none k _ (first k (omega arith)) sets
 
 -- the flow at the next position does not set the spot, and none behind it does
 pub unset_before : {S : Type 0} (flows : List (Flow S)) (spot : Spot S) (n i : ℕ)

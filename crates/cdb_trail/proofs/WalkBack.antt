@@ -1,16 +1,17 @@
--- The walk back from a step along its trail: what is left of the trail leads to the first step that was found.
-use Rattle.std.proofs.Common.{◌≡◌, ℕ, zero, suc, ◌<◌, ◌≤◌, Bool, true, false, List, [], ◌∷◌, ◌++◌, Contains, Option, Some, None, length}
-use Rattle.std.proofs.Common.{replicate, slice_set, option_to_list, ◌⊎◌, inl, inr, refl, sym, ap, subst, ◌∙◌, arith, true≢false}
+-- The walk back from a step along its trail.
+use Rattle.std.proofs.Common.{◌≡◌, ℕ, zero, suc, ◌<◌, ◌≤◌, Bool, true, false, ◌↔◌, ◌⊎◌, ⊎_elim, inl, inr, List, [], ◌∷◌, ◌++◌, Contains, Option, Some}
+use Rattle.std.proofs.Common.{length, replicate, slice_set, refl, sym, ap, subst, ◌∙◌, arith, true≢false, None, option_to_list, length-set}
 use Rattle.std.proofs.lemmas.Bool.{cases_eq, cases_lt}
-use Rattle.std.proofs.lemmas.List.{length-set, length-replicate, get_or-replicate}
-use Rattle.std.proofs.lemmas.List.Elements.{Contains-push_cases}
+use Rattle.std.proofs.lemmas.List.{length-replicate, get_or-replicate}
+use Rattle.std.proofs.lemmas.List.Elements.{Contains-append_left, Contains-push, Contains-push_cases}
 use Rattle.std.proofs.lemmas.Option.{none-some, same_Some, slice_get_within, get_or_from_slice_get}
-use Rattle.cdb_base.specs.Positions.{nth}
 use Rattle.cdb_base.specs.declared.event.Event.{Event}
 use Rattle.cdb_base.specs.declared.register.Reg.{Reg}
 use Rattle.cdb_rules.specs.Flags.{IsFlagged}
-use Rattle.cdb_process.proofs.Members.{IsIn, contained_in, in_contained}
+use Rattle.cdb_process.proofs.Members.{IsIn, contained_in}
+use Rattle.cdb_rules.proofs.Positions.{nth-set_nth_same, nth-set_nth_other}
 use Rattle.cdb_rules.specs.State.{Machine}
+use Rattle.cdb_run.proofs.Held.{stands_at}
 use Rattle.cdb_trail.specs.Flow.{Spot, slot, message, register, Flows}
 use Rattle.cdb_trail.specs.Trailed.{FlagsTrail}
 use Rattle.cdb_trail.specs.Trails.{Takes, Sets, IsTrail, begins, goes_on}
@@ -18,31 +19,15 @@ use Rattle.cdb_trail.specs.Trails.{Takes, Sets, IsTrail, begins, goes_on}
 -- ---- flags
 
 flag_here : (flags : List Bool) (i : ℕ) → i < length flags → IsFlagged (slice_set flags i true) (suc i)
-flag_here [] i within = absurd (omega (arith, within))
-flag_here (m ∷ ms) zero within = refl
-flag_here (m ∷ ms) (suc i) within = flag_here ms i (omega (arith, within))
-
-flag_other : (flags : List Bool) (i k : ℕ) → (k ≡ suc i → ⊥) → nth (slice_set flags i true) k ≡ nth flags k
-flag_other flags i zero other = refl
-flag_other [] i (suc k) other = refl
-flag_other (m ∷ ms) zero (suc zero) other = absurd (other refl)
-flag_other (m ∷ ms) zero (suc (suc k)) other = refl
-flag_other (m ∷ ms) (suc i) (suc zero) other = refl
-flag_other (m ∷ ms) (suc i) (suc (suc k)) other = flag_other ms i (suc k) (λ e. other (ap suc e))
+flag_here flags i within = let was = stands_at flags (suc i) (omega arith) within in nth-set_nth_same flags (suc i) true was.0 was.1
 
 flag_kept : (flags : List Bool) (i k : ℕ) → i < length flags → IsFlagged flags k → IsFlagged (slice_set flags i true) k
-flag_kept flags i k within is = go (cases_eq k (suc i))
-  where
-    go : (k ≡ suc i) ⊎ (k ≡ suc i → ⊥) → IsFlagged (slice_set flags i true) k
-    go (inl same) = subst (IsFlagged (slice_set flags i true)) (sym same) (flag_here flags i within)
-    go (inr other) = flag_other flags i k other ∙ is
+flag_kept flags i k within is =
+    ⊎_elim (λ same. rw same (flag_here flags i within)) (λ other. nth-set_nth_other flags (suc i) k true (λ e. other (sym e)) ∙ is) (cases_eq k (suc i))
 
 flag_before : (flags : List Bool) (i k : ℕ) → IsFlagged (slice_set flags i true) k → IsFlagged flags k ⊎ (k ≡ suc i)
-flag_before flags i k is = go (cases_eq k (suc i))
-  where
-    go : (k ≡ suc i) ⊎ (k ≡ suc i → ⊥) → IsFlagged flags k ⊎ (k ≡ suc i)
-    go (inl same) = inr same
-    go (inr other) = inl (sym (flag_other flags i k other) ∙ is)
+flag_before flags i k is =
+    ⊎_elim (λ same. inr same) (λ other. inl (sym (nth-set_nth_other flags (suc i) k true (λ e. other (sym e))) ∙ is)) (cases_eq k (suc i))
 
 no_flags : (n k : ℕ) → IsFlagged (replicate n false) k → ⊥
 no_flags n zero is = none-some true is
@@ -67,65 +52,68 @@ one_of_two {A} first second x here = go first second (contained_in (option_to_li
     go (Some y) other (inl same) = inl (ap (λ z. Some z) (sym same))
     go (Some y) other (inr later) = inr (alone other later)
 
+-- ---- a slot is no other spot
+
+module _ {S : Type 0} {spot : Spot S} {p : ℕ} {x : S} (is : spot ≡ slot p x) where
+  pub no_message : {s m : ℕ} → spot ≡ message s m → ⊥
+  no_message other = let both : slot p x ≡ message _ _ = sym is ∙ other in cc
+
+  pub no_register : {r : Reg} → spot ≡ register r → ⊥
+  no_register other = let both : slot p x ≡ register _ = sym is ∙ other in cc
+
+  pub same_process : {q : ℕ} {y : S} → spot ≡ slot q y → p ≡ q
+  same_process other = let both : slot p x ≡ slot _ _ = sym is ∙ other in cc
+
 -- ---- the walk
 
 module _ {L S : Type 0} (machine : Machine L) (flows : Flows L S) (history : List Event) (j : ℕ) where
-  -- the events behind position i were looked at: the last of the trail was found, and takes its value from the wanted spot
-  pub record IsWalked (i : ℕ) (wanted : Spot S) (flags : List Bool) : Type 0 where
+  -- the last steps of the trail were found, and the first of them takes its value from the wanted spot
+  pub record IsFound (wanted : Spot S) (flags : List Bool) : Type 0 where
     pub proposer : ℕ
     pub trail : List ℕ
     pub is_trail : IsTrail machine flows history proposer j trail
     pub head : ℕ
     pub left : List ℕ
-    pub above : i < head
     pub leads : IsTrail machine flows history proposer head left
     pub takes : Takes machine flows history head wanted
-    pub unset : (k : ℕ) → i < k → k < head → Sets machine flows history k wanted → ⊥
     pub a_flag_each : length flags ≡ length history
     pub found : IsFlagged flags head
-    pub covers : (k : ℕ) → Contains trail k → Contains left k ⊎ IsFlagged flags k
-    pub only : (k : ℕ) → IsFlagged flags k → Contains trail k
-    pub of_trail : (k : ℕ) → Contains left k → Contains trail k
+    pub on_trail : (k : ℕ) → (Contains left k ⊎ IsFlagged flags k) ↔ Contains trail k
 
-  one_spot : (i : ℕ) (spot other : Spot S) → Takes machine flows history i spot → Takes machine flows history i other → spot ≡ other
-  one_spot i spot other takes also = same_Some spot other (sym takes ∙ also)
+  -- and the events behind position i were looked at: none of them sets it
+  pub record IsWalked (i : ℕ) (wanted : Spot S) (flags : List Bool) : Type 0 where
+    pub so : IsFound wanted flags
+    pub above : i < so.head
+    pub unset : (k : ℕ) → i < k → k < so.head → Sets machine flows history k wanted → ⊥
 
-  last_of : (q i : ℕ) (trail : List ℕ) → IsTrail machine flows history q i trail → Contains trail i
-  last_of q i trail (begins it) = in_contained (i ∷ []) i (inl refl)
-  last_of q i trail (goes_on {trail = shorter} before fed) = at_end shorter
-    where
-      ends : (xs : List ℕ) → IsIn i (xs ++ i ∷ [])
-      ends [] = inl refl
-      ends (x ∷ xs) = inr (ends xs)
-
-      at_end : (xs : List ℕ) → Contains (xs ++ i ∷ []) i
-      at_end xs = in_contained (xs ++ i ∷ []) i (ends xs)
+module _ {L S : Type 0} {machine : Machine L} {flows : Flows L S} {history : List Event} where
+  last_of : {q i : ℕ} {trail : List ℕ} → IsTrail machine flows history q i trail → Contains trail i
+  last_of (begins {i = i} it) = Contains-push [] i
+  last_of (goes_on {j = i} {trail = shorter} before fed) = Contains-push shorter i
 
   -- the step takes a value from some spot
-  takes_some : (q i : ℕ) (trail : List ℕ) → IsTrail machine flows history q i trail → (spot : Spot S) × Takes machine flows history i spot
-  takes_some q i trail (begins it) = (slot q flows.input, it.takes)
-  takes_some q i trail (goes_on before fed) = (fed.spot, fed.takes)
+  takes_some : {q i : ℕ} {trail : List ℕ} → IsTrail machine flows history q i trail → (spot : Spot S) × Takes machine flows history i spot
+  takes_some {q} (begins it) = (slot q flows.input, it.takes)
+  takes_some (goes_on before fed) = (fed.spot, fed.takes)
 
   -- the step alone was found
-  pub begun : (q : ℕ) (trail : List ℕ) → IsTrail machine flows history q j trail → (before : ℕ) → j ≡ suc before → before < length history → (from : Spot S)
-      → Takes machine flows history j from → IsWalked before from (slice_set (replicate (length history) false) before true)
-  begun q trail is_trail before is low from takes = record {
-    proposer = q;
-    trail = trail;
-    is_trail = is_trail;
-    head = j;
-    left = trail;
-    above = omega (arith, is);
-    leads = is_trail;
-    takes = takes;
-    unset = λ k high less sets. absurd (omega (arith, is, high, less));
-    a_flag_each = length-set none before true ∙ length-replicate (length history) false;
-    found =
-        subst (IsFlagged (slice_set none before true)) (sym is)
-        (flag_here none before (let number : length none ≡ length history = length-replicate (length history) false in omega (arith, number, low)));
-    covers = λ k here. inl here;
-    only = λ k flagged. by k (flag_before none before k flagged);
-    of_trail = λ k here. here;
+  pub begun : {q j before : ℕ} {trail : List ℕ} {from : Spot S} → IsTrail machine flows history q j trail → j ≡ suc before → before < length history
+      → Takes machine flows history j from → IsWalked machine flows history j before from (slice_set (replicate (length history) false) before true)
+  begun {q} {j} {before} {trail} is_trail is low takes = record {
+    so = record {
+      proposer = q;
+      trail = trail;
+      is_trail = is_trail;
+      head = j;
+      left = trail;
+      leads = is_trail;
+      takes = takes;
+      a_flag_each = length-set none before true ∙ length-replicate (length history) false;
+      found = rw is (flag_here none before (omega (arith, length-replicate (length history) false)));
+      on_trail = λ k. (⊎_elim (λ here. here) (λ flagged. by k (flag_before none before k flagged)), λ here. inl here);
+    };
+    above = omega arith;
+    unset = λ k high less sets. absurd (omega arith);
   }
     where
       none : List Bool
@@ -133,148 +121,115 @@ module _ {L S : Type 0} (machine : Machine L) (flows : Flows L S) (history : Lis
 
       by : (k : ℕ) → IsFlagged none k ⊎ (k ≡ suc before) → Contains trail k
       by k (inl flagged) = absurd (no_flags (length history) k flagged)
-      by k (inr same) = subst (Contains trail) (is ∙ sym same) (last_of q j trail is_trail)
+      by k (inr same) = rw (same ∙ sym is) (last_of is_trail)
 
-  -- the event at the next position does not set the wanted spot
-  pub passed : (i : ℕ) (wanted : Spot S) (flags : List Bool) → IsWalked (suc i) wanted flags
-      → (Sets machine flows history (suc i) wanted → ⊥) → IsWalked i wanted flags
-  passed i wanted flags so never = record {
-    proposer = so.proposer;
-    trail = so.trail;
-    is_trail = so.is_trail;
-    head = so.head;
-    left = so.left;
-    above = let high = so.above in omega (arith, high);
-    leads = so.leads;
-    takes = so.takes;
-    unset = λ k high less sets. by k high less sets (cases_eq k (suc i));
-    a_flag_each = so.a_flag_each;
-    found = so.found;
-    covers = so.covers;
-    only = so.only;
-    of_trail = so.of_trail;
-  }
-    where
-      by : (k : ℕ) → i < k → k < so.head → Sets machine flows history k wanted → (k ≡ suc i) ⊎ (k ≡ suc i → ⊥) → ⊥
-      by k high less sets (inl same) = never (subst (λ m. Sets machine flows history m wanted) same sets)
-      by k high less sets (inr other) = so.unset k (omega (arith, high, other)) less sets
+  module _ {j n i : ℕ} (e : n ≡ suc i) {wanted : Spot S} {flags : List Bool} (walked : IsWalked machine flows history j n wanted flags) where
+    abbrev so : IsFound machine flows history j wanted flags
+    so = walked.so
 
-  -- what is left of the trail, where the event at the next position sets the wanted spot
-  record IsShorter (q i head : ℕ) (left : List ℕ) : Type 0 where
-    pub shorter : List ℕ
-    pub leads : IsTrail machine flows history q i shorter
-    pub is : left ≡ shorter ++ head ∷ []
+    -- the event at the next position does not set the wanted spot
+    pub passed : (Sets machine flows history n wanted → ⊥) → IsWalked machine flows history j i wanted flags
+    passed never = record { so = so; above = omega (arith, walked.above); unset = λ k high less sets. by k high less sets (cases_eq k n) }
+      where
+        by : (k : ℕ) → i < k → k < so.head → Sets machine flows history k wanted → (k ≡ n) ⊎ (k ≡ n → ⊥) → ⊥
+        by k high less sets (inl same) = never (rw same at sets)
+        by k high less sets (inr other) = walked.unset k (omega (arith, high, other)) less sets
 
-  split : (q i head : ℕ) (left : List ℕ) (wanted : Spot S) → IsTrail machine flows history q head left → i < head → Takes machine flows history head wanted
-      → ((k : ℕ) → i < k → k < head → Sets machine flows history k wanted → ⊥) → Sets machine flows history i wanted → IsShorter q i head left
-  split q i head left wanted (begins it) less takes unset sets =
-      absurd (it.first i less (subst (Sets machine flows history i) (one_spot head wanted (slot q flows.input) takes it.takes) sets))
-  split q i head left wanted (goes_on {i = m} {trail = shorter} before fed) less takes unset sets = go (cases_lt m i) (cases_lt i m)
-    where
-      same : fed.spot ≡ wanted
-      same = one_spot head fed.spot wanted fed.takes takes
+    -- what is left of the trail, where it does
+    record IsShorter (q head : ℕ) (left : List ℕ) : Type 0 where
+      pub shorter : List ℕ
+      pub leads : IsTrail machine flows history q n shorter
+      pub is : left ≡ shorter ++ head ∷ []
 
-      go : (m < i) ⊎ (i ≤ m) → (i < m) ⊎ (m ≤ i) → IsShorter q i head (shorter ++ head ∷ [])
-      go (inl earlier) other = absurd (fed.last i earlier less (subst (Sets machine flows history i) (sym same) sets))
-      go (inr after) (inl later) = absurd (unset m later fed.later (subst (Sets machine flows history m) same fed.sets))
-      go (inr after) (inr also) =
-          let is : m ≡ i = omega (arith, after, also) in
-          record { shorter = shorter; leads = subst (λ n. IsTrail machine flows history q n shorter) is before; is = refl }
+    split : Sets machine flows history n wanted → {q head : ℕ} {left : List ℕ} → IsTrail machine flows history q head left → n < head
+        → Takes machine flows history head wanted → ((k : ℕ) → n < k → k < head → Sets machine flows history k wanted → ⊥) → IsShorter q head left
+    split sets {q} {head} (begins it) less takes unset =
+        absurd (it.first n less (rw (same_Some wanted (slot q flows.input) (sym takes ∙ it.takes)) at sets))
+    split sets {q} {head} (goes_on {i = m} {trail = shorter} before fed) less takes unset = go (cases_lt m n) (cases_lt n m)
+      where
+        same : fed.spot ≡ wanted
+        same = same_Some fed.spot wanted (sym fed.takes ∙ takes)
 
-  -- the event at the next position sets the wanted spot, and so it takes a value itself
-  pub source : (i : ℕ) (wanted : Spot S) (flags : List Bool) → IsWalked (suc i) wanted flags → Sets machine flows history (suc i) wanted
-      → (spot : Spot S) × Takes machine flows history (suc i) spot
-  source i wanted flags so sets =
-      let it = split so.proposer (suc i) so.head so.left wanted so.leads so.above so.takes so.unset sets in
-      takes_some so.proposer (suc i) it.shorter it.leads
+        go : (m < n) ⊎ (n ≤ m) → (n < m) ⊎ (m ≤ n) → IsShorter q head (shorter ++ head ∷ [])
+        go (inl earlier) other = absurd (fed.last n earlier less (rw same sets))
+        go (inr after) (inl later) = absurd (unset m later fed.later (rw same at fed.sets))
+        go (inr after) (inr also) = let is : n ≡ m = omega arith in record { shorter = shorter; leads = rw is before; is = refl }
 
-  pub stepped : (i : ℕ) (wanted : Spot S) (flags : List Bool) → IsWalked (suc i) wanted flags
-      → Sets machine flows history (suc i) wanted → i < length history → (from : Spot S)
-      → Takes machine flows history (suc i) from → IsWalked i from (slice_set flags i true)
-  stepped i wanted flags so sets low from takes = record {
-    proposer = so.proposer;
-    trail = so.trail;
-    is_trail = so.is_trail;
-    head = suc i;
-    left = it.shorter;
-    above = omega arith;
-    leads = it.leads;
-    takes = takes;
-    unset = λ k high less set. absurd (omega (arith, high, less));
-    a_flag_each = length-set flags i true ∙ so.a_flag_each;
-    found = flag_here flags i within;
-    covers = λ k here. covered k (so.covers k here);
-    only = λ k flagged. by k (flag_before flags i k flagged);
-    of_trail = λ k here. of_left k here;
-  }
-    where
-      it : IsShorter so.proposer (suc i) so.head so.left
-      it = split so.proposer (suc i) so.head so.left wanted so.leads so.above so.takes so.unset sets
+    -- it takes a value itself
+    pub source : Sets machine flows history n wanted → (spot : Spot S) × Takes machine flows history n spot
+    source sets = takes_some (split sets so.leads walked.above so.takes walked.unset).leads
 
-      within : i < length flags
-      within = let number = so.a_flag_each in omega (arith, number, low)
+    pub stepped : {from : Spot S} → Sets machine flows history n wanted → i < length history → Takes machine flows history n from
+        → IsWalked machine flows history j i from (slice_set flags i true)
+    stepped sets low takes = record {
+      so = record {
+        proposer = so.proposer;
+        trail = so.trail;
+        is_trail = so.is_trail;
+        head = n;
+        left = it.shorter;
+        leads = it.leads;
+        takes = takes;
+        a_flag_each = length-set flags i true ∙ so.a_flag_each;
+        found = rw e (flag_here flags i within);
+        on_trail = λ k. (⊎_elim (λ here. of_left k here) (λ flagged. by k (flag_before flags i k flagged)), λ here. covered k ((so.on_trail k).1 here));
+      };
+      above = omega arith;
+      unset = λ k high less set. absurd (omega arith);
+    }
+      where
+        it : IsShorter so.proposer so.head so.left
+        it = split sets so.leads walked.above so.takes walked.unset
 
-      covered : (k : ℕ) → Contains so.left k ⊎ IsFlagged flags k → Contains it.shorter k ⊎ IsFlagged (slice_set flags i true) k
-      covered k (inr flagged) = inr (flag_kept flags i k within flagged)
-      covered k (inl here) = cases (Contains-push_cases it.shorter so.head k (subst (λ (xs : List ℕ). Contains xs k) it.is here))
-        where
-          cases : Contains it.shorter k ⊎ (so.head ≡ k) → Contains it.shorter k ⊎ IsFlagged (slice_set flags i true) k
-          cases (inl old) = inl old
-          cases (inr now) = inr (flag_kept flags i k within (subst (IsFlagged flags) now so.found))
+        within : i < length flags
+        within = omega (arith, so.a_flag_each, low)
 
-      in_front : (x : ℕ) (xs ys : List ℕ) → IsIn x xs → IsIn x (xs ++ ys)
-      in_front x (z ∷ zs) ys (inl same) = inl same
-      in_front x (z ∷ zs) ys (inr later) = inr (in_front x zs ys later)
-      in_front x [] ys none = elim none [ ]
+        covered : (k : ℕ) → Contains so.left k ⊎ IsFlagged flags k → Contains it.shorter k ⊎ IsFlagged (slice_set flags i true) k
+        covered k (inr flagged) = inr (flag_kept flags i k within flagged)
+        covered k (inl here) =
+            ⊎_elim (λ old. inl old) (λ now. inr (flag_kept flags i k within (rw (← now) so.found)))
+            (Contains-push_cases it.shorter so.head k (rw it.is at here))
 
-      of_left : (k : ℕ) → Contains it.shorter k → Contains so.trail k
-      of_left k here =
-          so.of_trail k (subst (λ (xs : List ℕ). Contains xs k) (sym it.is)
-          (in_contained (it.shorter ++ so.head ∷ []) k (in_front k it.shorter (so.head ∷ []) (contained_in it.shorter k here))))
+        of_left : (k : ℕ) → Contains it.shorter k → Contains so.trail k
+        of_left k here = (so.on_trail k).0 (inl (rw it.is (Contains-append_left it.shorter (so.head ∷ []) k here)))
 
-      by : (k : ℕ) → IsFlagged flags k ⊎ (k ≡ suc i) → Contains so.trail k
-      by k (inl flagged) = so.only k flagged
-      by k (inr same) = subst (Contains so.trail) (sym same) (of_left (suc i) (last_of so.proposer (suc i) it.shorter it.leads))
-
-  nothing_at_zero : (spot : Spot S) → Sets machine flows history 0 spot → ⊥
-  nothing_at_zero spot here = let none = contained_in [] spot here in elim none [ ]
+        by : (k : ℕ) → IsFlagged flags k ⊎ (k ≡ suc i) → Contains so.trail k
+        by k (inl flagged) = (so.on_trail k).0 (inr flagged)
+        by k (inr same) = rw (same ∙ sym e) (of_left n (last_of it.leads))
 
   -- all events before the step were looked at
-  record IsEnd (q head : ℕ) (left : List ℕ) (wanted : Spot S) : Type 0 where
-    pub input : wanted ≡ slot q flows.input
-    pub is : left ≡ head ∷ []
-
-  at_start : (q head : ℕ) (left : List ℕ) (wanted : Spot S) → IsTrail machine flows history q head left → Takes machine flows history head wanted
-      → ((k : ℕ) → 0 < k → k < head → Sets machine flows history k wanted → ⊥) → IsEnd q head left wanted
-  at_start q head left wanted (begins it) takes unset = record { input = one_spot head wanted (slot q flows.input) takes it.takes; is = refl }
-  at_start q head left wanted (goes_on {i = m} before fed) takes unset = absurd (fed_by m fed.sets fed.later)
+  at_start : {q head : ℕ} {left : List ℕ} {wanted : Spot S} → IsTrail machine flows history q head left → Takes machine flows history head wanted
+      → ((k : ℕ) → 0 < k → k < head → Sets machine flows history k wanted → ⊥) → (wanted ≡ slot q flows.input) × (left ≡ head ∷ [])
+  at_start {q} {wanted = wanted} (begins it) takes unset = (same_Some wanted (slot q flows.input) (sym takes ∙ it.takes), refl)
+  at_start {head = head} {wanted = wanted} (goes_on {i = m} before fed) takes unset =
+      absurd (fed_by m (rw (same_Some fed.spot wanted (sym fed.takes ∙ takes)) at fed.sets) fed.later)
     where
-      fed_by : (k : ℕ) → Sets machine flows history k fed.spot → k < head → ⊥
-      fed_by zero sets less = nothing_at_zero fed.spot sets
-      fed_by (suc k) sets less =
-          unset (suc k) (omega arith) less (subst (Sets machine flows history (suc k)) (one_spot head fed.spot wanted fed.takes takes) sets)
+      fed_by : (k : ℕ) → Sets machine flows history k wanted → k < head → ⊥
+      fed_by zero sets less = let none = contained_in [] wanted sets in elim none [ ]
+      fed_by (suc k) sets less = unset (suc k) (omega arith) less sets
 
-  pub is_input : (wanted : Spot S) (flags : List Bool) (so : IsWalked 0 wanted flags) → wanted ≡ slot so.proposer flows.input
-  is_input wanted flags so = (at_start so.proposer so.head so.left wanted so.leads so.takes so.unset).input
+  module _ {j n : ℕ} (e : n ≡ 0) {wanted : Spot S} {flags : List Bool} (walked : IsWalked machine flows history j n wanted flags) where
+    abbrev end : IsFound machine flows history j wanted flags
+    end = walked.so
 
-  pub flags_trail : (wanted : Spot S) (flags : List Bool) (so : IsWalked 0 wanted flags) → FlagsTrail (length history) so.trail flags
-  flags_trail wanted flags so = (so.a_flag_each, (λ k. ((λ flagged. so.only k flagged), (λ here. covered k (so.covers k here)))))
-    where
-      covered : (k : ℕ) → Contains so.left k ⊎ IsFlagged flags k → IsFlagged flags k
-      covered k (inr flagged) = flagged
-      covered k (inl here) =
-          alone (contained_in (so.head ∷ []) k
-          (subst (λ (xs : List ℕ). Contains xs k) (at_start so.proposer so.head so.left wanted so.leads so.takes so.unset).is here))
-        where
-          alone : IsIn k (so.head ∷ []) → IsFlagged flags k
-          alone (inl same) = subst (IsFlagged flags) (sym same) so.found
-          alone (inr none) = elim none [ ]
+    ends : (wanted ≡ slot end.proposer flows.input) × (end.left ≡ end.head ∷ [])
+    ends = at_start end.leads end.takes (rw e at walked.unset)
 
-pub no_message : {S : Type 0} (p s m : ℕ) (x : S) → slot p x ≡ message s m → ⊥
-no_message p s m x is = cc
+    pub is_input : wanted ≡ slot end.proposer flows.input
+    is_input = ends.0
 
-pub no_register : {S : Type 0} (p : ℕ) (r : Reg) (x : S) → slot p x ≡ register r → ⊥
-no_register p r x is = cc
-
-pub same_process : {S : Type 0} (p q : ℕ) (x y : S) → slot p x ≡ slot q y → p ≡ q
-same_process p q x y is = cc
+    pub found : {q : ℕ} {x : S} → wanted ≡ slot q x
+        → (trail : List ℕ) × IsTrail machine flows history q j trail × FlagsTrail (length history) trail flags
+    found is = (
+      end.trail,
+      subst (λ r. IsTrail machine flows history r j end.trail) (same_process is_input is) end.is_trail,
+      (end.a_flag_each, λ k. (λ flagged. (end.on_trail k).0 (inr flagged), λ here. covered k ((end.on_trail k).1 here))),
+    )
+      where
+        covered : (k : ℕ) → Contains end.left k ⊎ IsFlagged flags k → IsFlagged flags k
+        covered k (inr flagged) = flagged
+        covered k (inl here) = alone (contained_in (end.head ∷ []) k (rw ends.1 at here))
+          where
+            alone : IsIn k (end.head ∷ []) → IsFlagged flags k
+            alone (inl same) = rw same end.found
+            alone (inr none) = elim none [ ]

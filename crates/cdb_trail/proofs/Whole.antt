@@ -32,4 +32,4 @@ module _ {L S : Type 0} (machine : Machine L) (flows : Flows L S) (inputs : List
   pub each_decision_has_a_trail : (decision : L → Option ℕ)
       → ((local : L) → decision local ≡ flows.value local flows.decision) → EachDecisionHasATrail machine flows inputs decision
   each_decision_has_a_trail decision said history valid p v j decides =
-      has_trail history valid v j (led_to_decision machine flows decision inputs true_flows apart said history valid p v j decides)
+      has_trail history valid v j (led_to_decision machine flows inputs true_flows apart history valid decision said p v j decides)

@@ -1,14 +1,11 @@
-use Rattle.std.proofs.Common.{◌≡◌, ℕ, suc, ◌+◌, length, List, Option, Some, slice_get, sym, ap, subst, arith, rules}
+use Rattle.std.proofs.Common.{◌≡◌, ℕ, suc, ◌+◌, length, ap, subst, refl, arith, rules}
 use Rattle.cdb_base.specs.declared.event.Event.{Event}
 use Rattle.cdb_rules.proofs.Flagged.{item_at}
 use Rattle.cdb_rules.specs.RunView.{RunView}
 use Rattle.cdb_rules.specs.Runs.{machine_in}
-use Rattle.cdb_trail.specs.Flow.{Flow}
 use Rattle.cdb_trail.specs.Origins.{IsOrigin}
-use Rattle.cdb_trail.specs.declared.origins.Origin.{Origin}
-use Rattle.cdb_trail.specs.Played.{AreFirstFlows}
 use Rattle.cdb_trail.proofs.ValueOrigins.{one_origin_more}
-use Rattle.cdb_trail.proofs.ReadsPlayed.{next_valid, next_along, flow_is, one_flow_more}
+use Rattle.cdb_trail.proofs.ReadsPlayed.{next_valid, next_along, next_of, one_flow_more}
 use Rattle.cdb_trail.proofs.origins.origins_by.Goals as goal
 
 pub take_next-requires : goal.take_next-requires
@@ -28,20 +25,18 @@ loop-i-preserved g c =
     let within = ap length c.events-events.ensures in
     let at = item_at c.events-events.ensures i event (omega arith) c.index-events-i.is in
     let along = c.loop-i.invariant.again in
-    let is = flow_is table flows run i event at c.loop-i.again along c.flow_of.result c.flow_of.ensures in
     let number : length c.as_slice.result.now + 1 ≡ suc i =
     (let same = ap length c.as_slice.ensures.value in let count = c.loop-i.invariant.number in omega (arith, same, count)) in
     let origin = subst (λ m. IsOrigin (machine_in table run) flows run.history m c.origin_behind.result) number c.origin_behind.ensures in
     record {
       again = next_along table flows run i event at c.loop-i.again c.take_next.new.again along c.in_ok-take_next.ensures;
       number = search rules;
-      flows = subst (λ (found : List (Flow g.row.P-Slot.Denot)). AreFirstFlows table flows run found) (sym c.in_ok-push-2.ensures.items)
-          (one_flow_more table flows run c.loop-i.flows.items i c.flow_of.result c.loop-i.invariant.number is c.loop-i.invariant.flows);
+      flows = rw c.in_ok-push-2.ensures.items
+          (one_flow_more table flows run c.loop-i.flows.items c.loop-i.invariant.number
+          (next_of table flows run refl at along c.flow_of.ensures) c.loop-i.invariant.flows);
       count = search rules;
       each =
-          subst (λ (found : List (Option Origin)).
-          (k : ℕ) (it : Option Origin) → slice_get found k ≡ Some it → IsOrigin (machine_in table run) flows run.history (suc k) it)
-          (sym c.in_ok-push.ensures.items)
+          rw c.in_ok-push.ensures.items
           (one_origin_more (IsOrigin (machine_in table run) flows run.history) c.loop-i.origins.items
           i c.origin_behind.result c.loop-i.invariant.count origin c.loop-i.invariant.each);
     }

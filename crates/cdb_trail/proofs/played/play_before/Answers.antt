@@ -1,9 +1,8 @@
-use Rattle.std.proofs.Common.{◌≡◌, length, take, sym, ap, ◌∙◌, subst, arith, rules}
+use Rattle.std.proofs.Common.{◌≡◌, length, take, ap, ◌∙◌, refl, arith, rules}
 use Rattle.cdb_base.specs.declared.event.Event.{Event}
 use Rattle.cdb_rules.proofs.Flagged.{item_at}
 use Rattle.cdb_rules.specs.Runs.{with_history}
-use Rattle.cdb_trail.specs.Played.{AreFirstFlows}
-use Rattle.cdb_trail.proofs.ReadsPlayed.{next_valid, next_along, flow_is, one_flow_more}
+use Rattle.cdb_trail.proofs.ReadsPlayed.{next_valid, next_along, next_of, one_flow_more}
 use Rattle.cdb_trail.proofs.played.play_before.Goals as goal
 
 pub take_next-requires : goal.take_next-requires
@@ -21,12 +20,12 @@ loop-i-preserved g c =
     let within = ap length c.events-events.ensures in
     let at = item_at c.events-events.ensures c.loop-i.i event (omega (arith, c.requires.within)) c.index-events-i.is in
     let along = c.loop-i.invariant.again in
-    let is = flow_is table flows c.args.run.now c.loop-i.i event at c.loop-i.again along c.flow_of.result c.flow_of.ensures in
     record {
       again = next_along table flows c.args.run.now c.loop-i.i event at c.loop-i.again c.take_next.new.again along c.in_ok-take_next.ensures;
       number = search rules;
-      flows = subst (λ found. AreFirstFlows table flows c.args.run.now found) (sym c.in_ok-push.ensures.items)
-          (one_flow_more table flows c.args.run.now c.loop-i.flows.items c.loop-i.i c.flow_of.result c.loop-i.invariant.number is c.loop-i.invariant.flows);
+      flows = rw c.in_ok-push.ensures.items
+          (one_flow_more table flows c.args.run.now c.loop-i.flows.items c.loop-i.invariant.number
+          (next_of table flows c.args.run.now refl at along c.flow_of.ensures) c.loop-i.invariant.flows);
     }
 
 pub returns-clause-before : goal.returns-clause-before
