@@ -1,5 +1,5 @@
 -- The flows of the Alpha machine are true of one process.
-use Rattle.std.proofs.Common.{◌≡◌, ℕ, zero, suc, ◌+◌, Bool, true, false, ◌==◌, ◌⊎◌, [], ◌∷◌, length}
+use Rattle.std.proofs.Common.{◌≡◌, ℕ, zero, suc, ◌+◌, Bool, true, false, ◌==◌, ◌⊎◌, ⊎_elim, [], ◌∷◌, length}
 use Rattle.std.proofs.Common.{Option, Some, None, is_some, if◌then◌else◌, inl, inr, refl, sym, ap, ◌∙◌, true≢false}
 use Rattle.std.specs.Option.{option_map, option_and_then, unwrap_or}
 use Rattle.std.proofs.lemmas.Bool.{cases_eq}
@@ -92,7 +92,6 @@ module _ (p : ℕ) (s : LocalState) where
       where
         kept : Kept (record s { place = place; round = round }) f
         kept flows.value v lies = let is = where_true (has_settled place) _ v lies in inr (rw (settled is.0) is.1)
-        kept (flows.seen n) v lies = inr lies
         kept x v lies = inr lies
 
     -- the register of the decision is read
@@ -152,7 +151,6 @@ module _ (p : ℕ) (s : LocalState) where
       where
         kept : Kept (record s { value = chosen_value s.input s.seen; place = A5 }) (moves (slot p (settled_from s)) (slot p flows.value ∷ []))
         kept flows.value v lies = inl (inl refl)
-        kept (flows.seen n) v lies = inr lies
         kept x v lies = inr lies
 
     to_next : (t : LocalState) (f : Flow Slot) → next_round s ≡ Some t
@@ -250,11 +248,7 @@ alpha_flows_are_true = record {
 }
 
 pub slots_apart : (x y : Slot) → SameOrNot x y
-slots_apart (flows.seen n) (flows.seen k) = go (cases_eq n k)
-  where
-    go : (n ≡ k) ⊎ (n ≡ k → ⊥) → SameOrNot (flows.seen n) (flows.seen k)
-    go (inl same) = inl (ap flows.seen same)
-    go (inr other) = inr (λ is. other (cc))
+slots_apart (flows.seen n) (flows.seen k) = ⊎_elim (λ same. inl (ap flows.seen same)) (λ other. inr (λ is. other (cc))) (cases_eq n k)
 slots_apart flows.input flows.input = inl refl
 slots_apart flows.value flows.value = inl refl
 slots_apart flows.own flows.own = inl refl

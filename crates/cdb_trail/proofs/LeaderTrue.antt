@@ -1,5 +1,5 @@
 -- The flows of the leader machine are true of one process.
-use Rattle.std.proofs.Common.{◌≡◌, ℕ, zero, ◌+◌, Bool, true, false, ◌&&◌, not, ◌⊎◌, List, [], ◌∷◌, ◌++◌, length}
+use Rattle.std.proofs.Common.{◌≡◌, ℕ, zero, ◌+◌, Bool, true, false, ◌&&◌, not, ◌⊎◌, ⊎_elim, List, [], ◌∷◌, ◌++◌, length}
 use Rattle.std.proofs.Common.{Option, Some, None, is_some, find, if◌then◌else◌, inl, inr, refl, sym, ap, ◌∙◌}
 use Rattle.std.specs.Option.{option_map, option_or, option_and_then, option_flatten}
 use Rattle.std.proofs.lemmas.Bool.{cases_eq}
@@ -291,11 +291,7 @@ leader_flows_are_true = record {
 }
 
 pub slots_apart : (x y : Slot) → SameOrNot x y
-slots_apart (received n) (received k) = go (cases_eq n k)
-  where
-    go : (n ≡ k) ⊎ (n ≡ k → ⊥) → SameOrNot (received n) (received k)
-    go (inl same) = inl (ap received same)
-    go (inr other) = inr (λ is. other (cc))
+slots_apart (received n) (received k) = ⊎_elim (λ same. inl (ap received same)) (λ other. inr (λ is. other (cc))) (cases_eq n k)
 slots_apart estimate estimate = inl refl
 slots_apart aux aux = inl refl
 slots_apart decision decision = inl refl

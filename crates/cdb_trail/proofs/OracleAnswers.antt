@@ -1,5 +1,5 @@
 -- What is told of one event more.
-use Rattle.std.proofs.Common.{◌≡◌, ℕ, zero, suc, ◌+◌, ◌-◌, Bool, List, [], ◌∷◌, ◌++◌, take, Some, slice_get, option_map, sym, ap, ◌∙◌, append-nil, arith}
+use Rattle.std.proofs.Common.{◌≡◌, ℕ, zero, suc, ◌+◌, ◌-◌, Bool, List, [], ◌∷◌, ◌++◌, take, Some, slice_get, option_map, refl, sym, ap, ◌∙◌, append-nil, arith}
 use Rattle.std.specs.Prelude.{option_to_list}
 use Rattle.std.specs.List.{flat_map, range_with_len}
 use Rattle.std.proofs.lemmas.Grind.{flat_map-append}
@@ -9,9 +9,7 @@ use Rattle.cdb_agreement.specs.SameState.{ReachSameState}
 use Rattle.cdb_base.specs.Positions.{nth}
 use Rattle.cdb_base.specs.declared.event.Event.{Event}
 use Rattle.cdb_deeds.specs.Deeds.{deed_in}
-use Rattle.cdb_deeds.specs.declared.deed.Deed.{Deed}
 use Rattle.cdb_explain.proofs.Along.{deed_along}
-use Rattle.cdb_explain.specs.Explanations.{deed_at}
 use Rattle.cdb_explain.specs.Flagged.{is_flagged}
 use Rattle.cdb_explain.specs.Rounds.{round_before, round_by}
 use Rattle.cdb_rules.specs.RunView.{RunView}
@@ -44,7 +42,4 @@ module _ (run : RunView) (flags : List Bool) (i : ℕ) (event : Event) (at : sli
     pub trail_event_is : (flag : Bool) → is_flagged flags (suc i) ≡ flag
         → record { event = event; deed = deed_in again event; round = round_by rules again event; on_trail = flag } ≡ trail_event_at run flags (suc i) event
     trail_event_is flag marked =
-        ap (λ (d : Deed). record { event = event; deed = d; round = round_by rules again event; on_trail = flag })
-        (sym (deed_along rules ReachSameState rules_keep_histories run i event at again along))
-        ∙ ap (λ (r : ℕ). record { event = event; deed = deed_at run (suc i); round = r; on_trail = flag }) (sym round_along)
-        ∙ ap (λ (b : Bool). record { event = event; deed = deed_at run (suc i); round = round_before rules run (suc i); on_trail = b }) (sym marked)
+        rw (← deed_along rules ReachSameState rules_keep_histories run i event at again along, ← round_along, ← marked) refl

@@ -3,7 +3,7 @@ use Rattle.std.proofs.Common.{◌≡◌, ℕ, zero, suc, ◌<◌, ◌≤◌, Boo
 use Rattle.std.proofs.Common.{length, replicate, slice_set, refl, sym, ap, subst, ◌∙◌, arith, true≢false, None, option_to_list, length-set}
 use Rattle.std.proofs.lemmas.Bool.{cases_eq, cases_lt}
 use Rattle.std.proofs.lemmas.List.{length-replicate, get_or-replicate}
-use Rattle.std.proofs.lemmas.List.Elements.{Contains-append_left, Contains-push, Contains-push_cases}
+use Rattle.std.proofs.lemmas.List.Elements.{Contains-append_cases, Contains-append_left, Contains-push, Contains-push_cases}
 use Rattle.std.proofs.lemmas.Option.{none-some, same_Some, slice_get_within, get_or_from_slice_get}
 use Rattle.cdb_base.specs.declared.event.Event.{Event}
 use Rattle.cdb_base.specs.declared.register.Reg.{Reg}
@@ -40,17 +40,14 @@ no_flags n (suc k) is =
 
 pub one_of_two : {A : Type 0} (first second : Option A) (x : A)
     → Contains (option_to_list first ++ option_to_list second) x → (first ≡ Some x) ⊎ (second ≡ Some x)
-one_of_two {A} first second x here = go first second (contained_in (option_to_list first ++ option_to_list second) x here)
+one_of_two {A} first second x here =
+    ⊎_elim (λ one. inl (alone first (contained_in (option_to_list first) x one))) (λ other. inr (alone second (contained_in (option_to_list second) x other)))
+    (Contains-append_cases (option_to_list first) (option_to_list second) x here)
   where
     alone : (o : Option A) → IsIn x (option_to_list o) → o ≡ Some x
     alone None none = elim none [ ]
-    alone (Some y) (inl same) = ap (λ z. Some z) (sym same)
+    alone (Some y) (inl same) = ap Some (sym same)
     alone (Some y) (inr none) = elim none [ ]
-
-    go : (one other : Option A) → IsIn x (option_to_list one ++ option_to_list other) → (one ≡ Some x) ⊎ (other ≡ Some x)
-    go None other is = inr (alone other is)
-    go (Some y) other (inl same) = inl (ap (λ z. Some z) (sym same))
-    go (Some y) other (inr later) = inr (alone other later)
 
 -- ---- a slot is no other spot
 

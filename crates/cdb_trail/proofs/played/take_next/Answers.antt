@@ -29,8 +29,7 @@ unreachable-requires g c =
       write = laws.wish_write;
       local = laws.wish_local;
     } in
-    let enabled = last_enabled table setup range c.args.again.now.history c.args.event.now c.requires in
-    let is = taken_again table setup range lawful c.args.again.now.history c.args.event.now enabled in
+    let is = taken_again table setup range lawful _ _ (last_enabled table setup range _ _ c.requires) in
     true≢false (ap is_ok (sym is ∙ sym c.in_ok-again.ensures.returns ∙ c.in-Err.is))
 
 pub returns : goal.returns
@@ -48,6 +47,5 @@ returns g c =
       write = laws.wish_write;
       local = laws.wish_local;
     } in
-    let enabled = last_enabled table setup range c.args.again.now.history c.args.event.now c.requires in
-    let is = taken_again table setup range lawful c.args.again.now.history c.args.event.now enabled in
+    let is = taken_again table setup range lawful _ _ (last_enabled table setup range _ _ c.requires) in
     c.in_ok-again.ensures.after ∙ ap (with_result c.args.again.now) (c.in_ok-again.ensures.returns ∙ is)
