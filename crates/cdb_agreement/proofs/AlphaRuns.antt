@@ -8,8 +8,7 @@ use Rattle.cdb_base.specs.declared.register.Cell.{Cell}
 use Rattle.cdb_process.proofs.Members.{IsIn, Grows, same_grows, in_push_old, in_push_new, contained_in, in_contained}
 use Rattle.cdb_alpha.specs.Steps.{Traced, ValueBasis, Step}
 use Rattle.cdb_agreement.proofs.AlphaSteps.{first_traced, KnownCell, TracedLaws, first_traced_laws, laws_follow, step_keeps}
-use Rattle.cdb_agreement.proofs.AlphaStepFacts.{DeadAt, Doomed, dead_own_up, Wrote, PassFrom, ValueFrom, written_grows, carried_grows}
-use Rattle.cdb_agreement.proofs.AlphaStepFacts.{written_from, published_from, pass_from, value_from, dead_moves}
+use Rattle.cdb_agreement.proofs.AlphaStepFacts.{DeadAt, Doomed, dead_own_up, Wrote, PassFrom, Moved, moved}
 
 -- the local state of each process with its trace, and what the register of the decision holds. Register i holds process i's own cell
 pub record Run : Type 0 where
@@ -46,24 +45,23 @@ Dead n t i r = DeadAt n (own_of t) (t.traced i) r
 abbrev pub Visible : ℕ → ℕ → List Cell → Type 0
 Visible i r seen = (length seen < i) ⊎ ((c : Cell) × IsIn c seen × (r ≤ c.lrww))
 
--- what the first run keeps to, and every run that steps lead to from one that does. v is what process i wrote in round r
+-- what process i wrote in round r, v, is seen and kept to by a process that comes to a later round, in its state l, or round r of process i is dead
+pub record Follows (n : ℕ) (t : Run) (i r v : ℕ) (l : Traced) : Type 0 where
+  pub visible : r < l.round → 3 ≤ l.place → l.place ≤ 4 → Dead n t i r ⊎ Visible i r l.seen
+  pub bound : r < l.round → l.place ≡ 5 → Dead n t i r ⊎ (l.value ≡ v)
+  pub agree : (s x : ℕ) → IsIn (s, x) l.own_writes → r < s → Dead n t i r ⊎ (x ≡ v)
+
+-- what the first run keeps to, and every run that steps lead to from one that does
 pub record RunLaws (n : ℕ) (t : Run) : Type 0 where
   pub each : (j : ℕ) → 1 ≤ j → j ≤ n → TracedLaws n j (Somebody n t) (Settled n t) (t.traced j)
   pub dec_settled : (v : ℕ) → t.dec ≡ Some v → Settled n t v
-  pub visible : (i r v j : ℕ) → 1 ≤ i → i ≤ n → 1 ≤ j → j ≤ n → IsIn (r, v) (t.traced i).own_writes → r < (t.traced j).round
-      → 3 ≤ (t.traced j).place → (t.traced j).place ≤ 4 → Dead n t i r ⊎ Visible i r (t.traced j).seen
-  pub bound : (i r v j : ℕ) → 1 ≤ i → i ≤ n → 1 ≤ j → j ≤ n → IsIn (r, v) (t.traced i).own_writes → r < (t.traced j).round
-      → (t.traced j).place ≡ 5 → Dead n t i r ⊎ ((t.traced j).value ≡ v)
-  pub agree : (i r v j s x : ℕ) → 1 ≤ i → i ≤ n → 1 ≤ j → j ≤ n → IsIn (r, v) (t.traced i).own_writes → IsIn (s, x) (t.traced j).own_writes → r < s
-      → Dead n t i r ⊎ (x ≡ v)
+  pub follows : (i r v j : ℕ) → 1 ≤ i → i ≤ n → 1 ≤ j → j ≤ n → IsIn (r, v) (t.traced i).own_writes → Follows n t i r v (t.traced j)
 
 pub first_run_laws : (n : ℕ) (inputs : ℕ → ℕ) → RunLaws n (first_run inputs)
 first_run_laws n inputs = record {
   each = λ j low high. first_traced_laws n j _ _ _ low;
   dec_settled = λ v is. absurd (cc);
-  visible = λ i r v j a b c d none. elim none [ ];
-  bound = λ i r v j a b c d none. elim none [ ];
-  agree = λ i r v j s x a b c d none. elim none [ ];
+  follows = λ i r v j a b c d none. elim none [ ];
 }
 
 -- rounds of different processes differ
@@ -82,6 +80,16 @@ one_value n t laws i r v j x il ih jl jh mine other =
     let same : j ≡ i = one_class n j i b.0 a.0 jl jh il ih (sym b.1 ∙ a.1) in
     let P : ℕ → Type 0 = λ o. IsIn (r, x) (t.traced o).own_writes in
     (laws.each i il ih).one_write r v x mine (subst P same other)
+
+-- what process i wrote in round r is what any process wrote in that round or a later one, or the round is dead
+pub write_follows : (n : ℕ) (t : Run) → RunLaws n t → (i r v j s x : ℕ) → 1 ≤ i → i ≤ n → 1 ≤ j → j ≤ n
+    → IsIn (r, v) (t.traced i).own_writes → IsIn (s, x) (t.traced j).own_writes → r ≤ s → Dead n t i r ⊎ (x ≡ v)
+write_follows n t laws i r v j s x il ih jl jh one other from = elim (cases_lt r s) [
+  | inl later ↦ (laws.follows i r v j il ih jl jh one).agree s x other later
+  | inr here ↦
+      let same : s ≡ r = omega arith in
+      inr (sym (one_value n t laws i r v j x il ih jl jh one (subst (λ m. IsIn (m, x) (t.traced j).own_writes) same other)))
+]
 
 module _ (n : ℕ) (t u : Run) (laws : RunLaws n t) (run_step : RunStep n t u) where
   -- the process that moves, before and after the step
@@ -112,16 +120,17 @@ module _ (n : ℕ) (t u : Run) (laws : RunLaws n t) (run_step : RunStep n t u) w
   some_process : 1 ≤ n
   some_process = let low = run_step.low in let high = run_step.high in omega arith
 
+  facts : Moved n (own_of t) t.dec mover_before mover_after u.dec
+  facts = moved n _ some_process _ _ _ t.dec _ mine _ u.dec run_step.step
+
   all_written : (p : ℕ) → Grows (t.traced p).own_writes (u.traced p).own_writes
   all_written p =
-      by_process (λ o. Grows (t.traced o).own_writes (u.traced o).own_writes) p
-      (written_grows n _ some_process _ _ _ t.dec _ mine _ u.dec run_step.step)
+      by_process (λ o. Grows (t.traced o).own_writes (u.traced o).own_writes) p facts.written_grows
       (λ other. unmoved (λ x. Grows (t.traced p).own_writes x.own_writes) p other (same_grows _))
 
   all_carried : (p : ℕ) → Grows (t.traced p).carried (u.traced p).carried
   all_carried p =
-      by_process (λ o. Grows (t.traced o).carried (u.traced o).carried) p
-      (carried_grows n _ some_process _ _ _ t.dec _ mine _ u.dec run_step.step)
+      by_process (λ o. Grows (t.traced o).carried (u.traced o).carried) p facts.carried_grows
       (λ other. unmoved (λ x. Grows (t.traced p).carried x.carried) p other (same_grows _))
 
   all_lre : (p : ℕ) → (t.traced p).own.lre ≤ (u.traced p).own.lre
@@ -146,8 +155,7 @@ module _ (n : ℕ) (t u : Run) (laws : RunLaws n t) (run_step : RunStep n t u) w
   dead_still : (i r : ℕ) → Dead n t i r → Dead n u i r
   dead_still i r it =
       dead_own_up n (own_of t) (own_of u) (u.traced i) r (λ m low high. all_lre m)
-      (by_process (λ o. DeadAt n (own_of t) (t.traced o) r → DeadAt n (own_of t) (u.traced o) r) i
-      (dead_moves n _ some_process _ _ _ t.dec _ mine _ u.dec run_step.step r)
+      (by_process (λ o. DeadAt n (own_of t) (t.traced o) r → DeadAt n (own_of t) (u.traced o) r) i (facts.dead_stays r)
       (λ other was. unmoved (λ x. DeadAt n (own_of t) x r) i other was)
       it)
 
@@ -155,215 +163,116 @@ module _ (n : ℕ) (t u : Run) (laws : RunLaws n t) (run_step : RunStep n t u) w
   keeps_each p low high =
       laws_follow n p _ _ _ _ _ somebody_still settled_still
       (by_process (λ o. TracedLaws n o (Somebody n t) (Settled n t) (u.traced o)) p
-      (step_keeps n _ run_step.low run_step.high _ _ _ t.dec _ _ u.dec
-      cell_known laws.dec_settled mine run_step.step)
+      (step_keeps n _ run_step.low run_step.high _ _ _ t.dec _ cell_known laws.dec_settled mine _ u.dec run_step.step)
       (λ other. unmoved (λ x. TracedLaws n p (Somebody n t) (Settled n t) x) p other (laws.each p low high)))
 
   keeps_dec : (v : ℕ) → u.dec ≡ Some v → Settled n u v
-  keeps_dec v is =
-      settled_still v (go (published_from n _ some_process _ _ _ t.dec _ mine _ u.dec run_step.step v is))
-    where
-      go : (t.dec ≡ Some v) ⊎ ((r : ℕ) × IsIn r mover_before.carried × IsIn (r, v) mover_before.own_writes) → Settled n t v
-      go (inl was) = laws.dec_settled v was
-      go (inr new) = (run_step.process, new.0, run_step.low, run_step.high, new.1, new.2)
+  keeps_dec v is = elim (facts.published_from v is) [
+    | inl was ↦ settled_still v (laws.dec_settled v was)
+    | inr new ↦ settled_still v (run_step.process, new.0, run_step.low, run_step.high, new.1, new.2)
+  ]
 
-  -- what is written was before, or is written by the process that moves
-  was_written : (i r v : ℕ) → IsIn (r, v) (u.traced i).own_writes
-      → IsIn (r, v) (t.traced i).own_writes ⊎ ((i ≡ run_step.process) × Wrote mover_before mover_after r v)
-  was_written i r v it = go (cases_eq i run_step.process)
-    where
-      moved_from : IsIn (r, v) mover_before.own_writes ⊎ Wrote mover_before mover_after r v → i ≡ run_step.process
-          → IsIn (r, v) (t.traced i).own_writes ⊎ ((i ≡ run_step.process) × Wrote mover_before mover_after r v)
-      moved_from (inl old) same = let P : ℕ → Type 0 = λ o. IsIn (r, v) (t.traced o).own_writes in inl (subst P (sym same) old)
-      moved_from (inr new) same = inr (same, new)
-
-      go : (i ≡ run_step.process) ⊎ (i ≡ run_step.process → ⊥)
-          → IsIn (r, v) (t.traced i).own_writes ⊎ ((i ≡ run_step.process) × Wrote mover_before mover_after r v)
-      go (inl same) =
-          let P : ℕ → Type 0 = λ o. IsIn (r, v) (u.traced o).own_writes in
-          moved_from (written_from n _ some_process _ _ _ t.dec _ mine _ u.dec run_step.step r v (subst P same it)) same
-      go (inr other) = inl (was_unmoved (λ x. IsIn (r, v) x.own_writes) i other it)
+  or_dead : {P Q : Type 0} (i r : ℕ) → (P → Q) → Dead n t i r ⊎ P → Dead n u i r ⊎ Q
+  or_dead i r further (inl dead) = inl (dead_still i r dead)
+  or_dead i r further (inr it) = inr (further it)
 
   -- a round just written can't be carried through where a process has entered a later one
-  new_is_dead : (i r v m : ℕ) → i ≡ run_step.process → Wrote mover_before mover_after r v → 1 ≤ m → m ≤ n
-      → r < (u.traced m).own.lre → Dead n u i r
-  new_is_dead i r v m same wrote low high later =
-      let P : ℕ → Type 0 = λ o. Dead n u o r in
+  new_is_dead : (r v m : ℕ) → Wrote mover_before mover_after r v → 1 ≤ m → m ≤ n → r < (u.traced m).own.lre → Dead n u run_step.process r
+  new_is_dead r v m wrote low high later =
       let seen : length mover_after.seen ≡ 0 = ap length wrote.nothing_seen in
-      subst P (sym same) (inr (wrote.stays ∙ sym wrote.round, inr (wrote.to, m, omega arith, high, later)))
+      inr (wrote.stays ∙ sym wrote.round, inr (wrote.to, m, omega arith, high, later))
 
-  keeps_agree : (i r v j s x : ℕ) → 1 ≤ i → i ≤ n → 1 ≤ j → j ≤ n → IsIn (r, v) (u.traced i).own_writes → IsIn (s, x) (u.traced j).own_writes → r < s
-      → Dead n u i r ⊎ (x ≡ v)
-  keeps_agree i r v j s x il ih jl jh one other before = go (was_written i r v one) (was_written j s x other)
-    where
-      still : Dead n t i r ⊎ (x ≡ v) → Dead n u i r ⊎ (x ≡ v)
-      still (inl dead) = inl (dead_still i r dead)
-      still (inr same) = inr same
+  new_follows : (r v j : ℕ) → 1 ≤ j → j ≤ n → Wrote mover_before mover_after r v → Follows n u run_step.process r v (u.traced j)
+  new_follows r v j jl jh new =
+      let each = keeps_each j jl jh in
+      let order = each.order in
+      record {
+        visible = λ before from to. let enters = each.entered_here from (omega arith) in inl (new_is_dead r v j new jl jh (omega arith));
+        bound = λ before at. let enters = each.entered_here (omega arith) (omega arith) in inl (new_is_dead r v j new jl jh (omega arith));
+        agree = λ s x other before. let low = (each.written_low s x other).1 in inl (new_is_dead r v j new jl jh (omega arith));
+      }
 
-      bound : j ≡ run_step.process → Wrote mover_before mover_after s x → Dead n t i r ⊎ (mover_before.value ≡ v) → Dead n t i r ⊎ (x ≡ v)
-      bound is wrote (inl dead) = inl dead
-      bound is wrote (inr same) = inr (wrote.value ∙ same)
+  -- process i wrote v in its round r before the step
+  module _ (i r v : ℕ) (il : 1 ≤ i) (ih : i ≤ n) (old : IsIn (r, v) (t.traced i).own_writes) where
+    followed : Follows n t i r v mover_before
+    followed = laws.follows i r v run_step.process il ih run_step.low run_step.high old
 
-      go : IsIn (r, v) (t.traced i).own_writes ⊎ ((i ≡ run_step.process) × Wrote mover_before mover_after r v)
-          → IsIn (s, x) (t.traced j).own_writes ⊎ ((j ≡ run_step.process) × Wrote mover_before mover_after s x)
-          → Dead n u i r ⊎ (x ≡ v)
-      go (inl old) (inl was) = still (laws.agree i r v j s x il ih jl jh old was before)
-      go (inl old) (inr new) =
-          let at = new.1.round in
-          still (bound new.0 new.1 (laws.bound i r v run_step.process il ih run_step.low run_step.high old (omega arith) new.1.from))
-      go (inr new) (inl was) =
-          let low = (laws.each j jl jh).written_low s x was in
-          let order = (laws.each j jl jh).order in
-          let up = all_lre j in
-          inl (new_is_dead i r v j new.0 new.1 jl jh (omega arith))
-      go (inr new) (inr also) = let a = new.1.round in let b = also.1.round in absurd (omega arith)
+    low_round : (1 ≤ r) × (r ≤ (t.traced i).own.lrww)
+    low_round = let low = (laws.each i il ih).written_low r v old in (low.0, low.1)
 
-  visible_still : (i r : ℕ) (before after : List Cell) → (Visible i r before → Visible i r after)
-      → Dead n t i r ⊎ Visible i r before → Dead n u i r ⊎ Visible i r after
-  visible_still i r before after more (inl dead) = inl (dead_still i r dead)
-  visible_still i r before after more (inr it) = inr (more it)
+    -- a further register is read
+    reads : Visible i r mover_before.seen → Visible i r (mover_before.seen ++ own_of t (suc (length mover_before.seen)) ∷ [])
+    reads (inr it) = inr (it.0, in_push_old it.0 _ _ it.1, it.2)
+    reads (inl ahead) = elim (cases_eq i (suc (length mover_before.seen))) [
+      | inl same ↦
+          inr (own_of t (suc (length mover_before.seen)), in_push_new _ _, subst (λ m. r ≤ (t.traced m).own.lrww) same low_round.1)
+      | inr other ↦
+          let long = length-append mover_before.seen (own_of t (suc (length mover_before.seen)) ∷ []) in
+          inl (omega arith)
+    ]
 
-  -- the process that moves in its first pass has read register i, where it is past it
-  moving_sees : (i r v : ℕ) → 1 ≤ i → i ≤ n → IsIn (r, v) (t.traced i).own_writes → r < mover_after.round
-      → 3 ≤ mover_after.place → mover_after.place ≤ 4 → Dead n u i r ⊎ Visible i r mover_after.seen
-  moving_sees i r v il ih old before from to =
-      go (pass_from n _ some_process _ _ _ t.dec _ mine _ u.dec run_step.step from to)
-    where
-      known_low : r ≤ (t.traced i).own.lrww
-      known_low = ((laws.each i il ih).written_low r v old).1
+    -- the process that moves in its first pass has read register i, where it is past it
+    moving_sees : r < mover_after.round → 3 ≤ mover_after.place → mover_after.place ≤ 4 → Dead n u i r ⊎ Visible i r mover_after.seen
+    moving_sees before from to = go (facts.pass_from from to)
+      where
+        go : (mover_after.seen ≡ []) ⊎ PassFrom (own_of t) mover_before mover_after → Dead n u i r ⊎ Visible i r mover_after.seen
+        go (inl nothing) = let none = ap length nothing in inr (inl (omega arith))
+        go (inr pass) = or_dead i r (sees pass.seen) (let stays = pass.stays in followed.visible (omega arith) pass.from pass.to)
+          where
+            sees : (mover_after.seen ≡ mover_before.seen) ⊎ (mover_after.seen ≡ mover_before.seen ++ own_of t (suc (length mover_before.seen)) ∷ [])
+                → Visible i r mover_before.seen → Visible i r mover_after.seen
+            sees (inl same) it = subst (Visible i r) (sym same) it
+            sees (inr same) it = subst (Visible i r) (sym same) (reads it)
 
-      reads : Visible i r mover_before.seen
-          → Visible i r (mover_before.seen ++ own_of t (suc (length mover_before.seen)) ∷ [])
-      reads (inr it) = inr (it.0, in_push_old it.0 _ _ it.1, it.2)
-      reads (inl ahead) = at (cases_eq i (suc (length mover_before.seen)))
-        where
-          at : (i ≡ suc (length mover_before.seen)) ⊎ (i ≡ suc (length mover_before.seen) → ⊥)
-              → Visible i r (mover_before.seen ++ own_of t (suc (length mover_before.seen)) ∷ [])
-          at (inl same) =
-              let P : ℕ → Type 0 = λ m. r ≤ (t.traced m).own.lrww in
-              inr (
-                own_of t (suc (length mover_before.seen)),
-                in_push_new _ _,
-                subst P same known_low,
-              )
-          at (inr other) =
-              let long = length-append mover_before.seen (own_of t (suc (length mover_before.seen)) ∷ []) in
-              inl (omega arith)
+    -- the value that the process that moves will write is that of an earlier round, where that round can still be carried through
+    moving_bound : r < mover_after.round → mover_after.place ≡ 5 → Dead n u i r ⊎ (mover_after.value ≡ v)
+    moving_bound before at = let it = facts.value_from at in by_value (let stays = it.stays in omega arith) it.value
+      where
+        by_value : r < mover_before.round → ((mover_before.place ≡ 5) × (mover_after.value ≡ mover_before.value))
+            ⊎ ((mover_before.place ≡ 4) × ValueBasis mover_before.seen mover_after.value) → Dead n u i r ⊎ (mover_after.value ≡ v)
+        by_value from (inl was) = or_dead i r (λ is. was.1 ∙ is) (followed.bound from was.0)
+        by_value from (inr settles) = by_pass (let here = settles.0 in followed.visible from (omega arith) (omega arith))
+          where
+            by_pass : Dead n t i r ⊎ Visible i r mover_before.seen → Dead n u i r ⊎ (mover_after.value ≡ v)
+            by_pass (inl dead) = inl (dead_still i r dead)
+            by_pass (inr (inl ahead)) = let all = mine.seen_all settles.0 in absurd (omega arith)
+            by_pass (inr (inr later)) =
+                let top = settles.1.top in
+                let reaches : r ≤ top.lrww = let bound = settles.1.greatest later.0 (in_contained _ later.0 later.1) in let is = later.2 in omega arith in
+                let positive = low_round.0 in
+                let known = (mine.seen_known top (contained_in _ _ settles.1.is_seen)).known (omega arith) in
+                let taken : mover_after.value ≡ known.0 = settles.1.taken known.0 (omega arith) known.1 in
+                or_dead i r (λ is. taken ∙ is) (write_follows n t laws i r v known.2.0 top.lrww known.0 il ih known.2.1 known.2.2 old known.2.3 reaches)
 
-      go : (mover_after.seen ≡ []) ⊎ PassFrom (own_of t) mover_before mover_after
-          → Dead n u i r ⊎ Visible i r mover_after.seen
-      go (inl nothing) = let none = ap length nothing in inr (inl (omega arith))
-      go (inr pass) = by_seen pass.seen
-        where
-          earlier : Dead n t i r ⊎ Visible i r mover_before.seen
-          earlier = let stays = pass.stays in laws.visible i r v run_step.process il ih run_step.low run_step.high old (omega arith) pass.from pass.to
+    moving_agrees : (s x : ℕ) → IsIn (s, x) mover_after.own_writes → r < s → Dead n u i r ⊎ (x ≡ v)
+    moving_agrees s x other before = elim (facts.written_from s x other) [
+      | inl was ↦ or_dead i r (λ is. is) (followed.agree s x was before)
+      | inr new ↦ let at = new.round in or_dead i r (λ is. new.value ∙ is) (followed.bound (omega arith) new.from)
+    ]
 
-          by_seen : (mover_after.seen ≡ mover_before.seen)
-              ⊎ (mover_after.seen ≡ mover_before.seen ++ own_of t (suc (length mover_before.seen)) ∷ [])
-              → Dead n u i r ⊎ Visible i r mover_after.seen
-          by_seen (inl same) =
-              visible_still i r mover_before.seen mover_after.seen
-              (subst (λ (x : List Cell). Visible i r mover_before.seen → Visible i r x) (sym same) (λ it. it)) earlier
-          by_seen (inr same) =
-              visible_still i r mover_before.seen mover_after.seen
-              (subst (λ (x : List Cell). Visible i r mover_before.seen → Visible i r x) (sym same) reads) earlier
+    old_follows : (j : ℕ) → 1 ≤ j → j ≤ n → Follows n u i r v (u.traced j)
+    old_follows j jl jh =
+        by_process (λ o. Follows n u i r v (u.traced o)) j (record { visible = moving_sees; bound = moving_bound; agree = moving_agrees })
+        (λ other. unmoved (λ x. Follows n u i r v x) j other (let was = laws.follows i r v j il ih jl jh old in record {
+          visible = λ before from to. or_dead i r (λ it. it) (was.visible before from to);
+          bound = λ before at. or_dead i r (λ it. it) (was.bound before at);
+          agree = λ s x other before. or_dead i r (λ it. it) (was.agree s x other before);
+        }))
 
-  keeps_visible : (i r v j : ℕ) → 1 ≤ i → i ≤ n → 1 ≤ j → j ≤ n → IsIn (r, v) (u.traced i).own_writes → r < (u.traced j).round
-      → 3 ≤ (u.traced j).place → (u.traced j).place ≤ 4 → Dead n u i r ⊎ Visible i r (u.traced j).seen
-  keeps_visible i r v j il ih jl jh one before from to = go (was_written i r v one)
-    where
-      go : IsIn (r, v) (t.traced i).own_writes ⊎ ((i ≡ run_step.process) × Wrote mover_before mover_after r v)
-          → Dead n u i r ⊎ Visible i r (u.traced j).seen
-      go (inr new) =
-          let enters = (keeps_each j jl jh).entered_here from (omega arith) in
-          inl (new_is_dead i r v j new.0 new.1 jl jh (omega arith))
-      go (inl old) =
-          by_process (λ o. r < (u.traced o).round → 3 ≤ (u.traced o).place → (u.traced o).place ≤ 4 → Dead n u i r ⊎ Visible i r (u.traced o).seen) j
-          (moving_sees i r v il ih old) rests before from to
-        where
-          rests : (j ≡ run_step.process → ⊥) → r < (u.traced j).round → 3 ≤ (u.traced j).place → (u.traced j).place ≤ 4
-              → Dead n u i r ⊎ Visible i r (u.traced j).seen
-          rests other a b c =
-              visible_still i r (t.traced j).seen (u.traced j).seen (λ it. unmoved (λ x. Visible i r x.seen) j other it)
-              (laws.visible i r v j il ih jl jh old (was_unmoved (λ x. r < x.round) j other a) (was_unmoved (λ x. 3 ≤ x.place) j other b)
-              (was_unmoved (λ x. x.place ≤ 4) j other c))
-
-  bound_still : (i r v w x : ℕ) → w ≡ x → Dead n t i r ⊎ (x ≡ v) → Dead n u i r ⊎ (w ≡ v)
-  bound_still i r v w x same (inl dead) = inl (dead_still i r dead)
-  bound_still i r v w x same (inr is) = inr (same ∙ is)
-
-  -- the value that the process that moves will write is that of an earlier round, where that round can still be carried through
-  moving_bound : (i r v : ℕ) → 1 ≤ i → i ≤ n → IsIn (r, v) (t.traced i).own_writes → r < mover_after.round
-      → mover_after.place ≡ 5 → Dead n u i r ⊎ (mover_after.value ≡ v)
-  moving_bound i r v il ih old before at =
-      go (value_from n _ some_process _ _ _ t.dec _ mine _ u.dec run_step.step at)
-    where
-      go : ValueFrom mover_before mover_after → Dead n u i r ⊎ (mover_after.value ≡ v)
-      go it = by_value it.value
-        where
-          by_value : ((mover_before.place ≡ 5) × (mover_after.value ≡ mover_before.value))
-              ⊎ ((mover_before.place ≡ 4) × ValueBasis mover_before.seen mover_after.value)
-              → Dead n u i r ⊎ (mover_after.value ≡ v)
-          by_value (inl was) =
-              bound_still i r v mover_after.value mover_before.value was.1
-              (laws.bound i r v run_step.process il ih run_step.low run_step.high old (omega arith) was.0)
-          by_value (inr settles) =
-              by_pass (laws.visible i r v run_step.process il ih run_step.low run_step.high old (omega arith)
-              (let here = settles.0 in omega arith) (let here = settles.0 in omega arith))
-            where
-              by_pass : Dead n t i r ⊎ Visible i r mover_before.seen → Dead n u i r ⊎ (mover_after.value ≡ v)
-              by_pass (inl dead) = inl (dead_still i r dead)
-              by_pass (inr (inl ahead)) = let all = mine.seen_all settles.0 in absurd (omega arith)
-              by_pass (inr (inr later)) =
-                  by_round (cases_lt r settles.1.top.lrww)
-                where
-                  reaches : r ≤ settles.1.top.lrww
-                  reaches = let bound = settles.1.greatest later.0 (in_contained _ later.0 later.1) in let is = later.2 in omega arith
-
-                  positive : 1 ≤ r
-                  positive = ((laws.each i il ih).written_low r v old).0
-
-                  known : (x : ℕ) × (settles.1.top.val ≡ Some x) × Somebody n t settles.1.top.lrww x
-                  known = let a = reaches in let b = positive in (mine.seen_known settles.1.top (contained_in _ _ settles.1.is_seen)).known (omega arith)
-
-                  taken : mover_after.value ≡ known.0
-                  taken = let a = reaches in let b = positive in settles.1.taken known.0 (omega arith) known.1
-
-                  by_round : (r < settles.1.top.lrww) ⊎ (settles.1.top.lrww ≤ r) → Dead n u i r ⊎ (mover_after.value ≡ v)
-                  by_round (inl above) =
-                      bound_still i r v mover_after.value known.0 taken
-                      (laws.agree i r v known.2.0 settles.1.top.lrww known.0 il ih known.2.1 known.2.2 old known.2.3 above)
-                  by_round (inr equal) =
-                      let a = reaches in
-                      let same : settles.1.top.lrww ≡ r = omega arith in
-                      let P : ℕ → Type 0 = λ x. IsIn (x, known.0) (t.traced known.2.0).own_writes in
-                      inr (taken ∙ sym (one_value n t laws i r v _ known.0 il ih known.2.1 known.2.2 old (subst P same known.2.3)))
-
-  keeps_bound : (i r v j : ℕ) → 1 ≤ i → i ≤ n → 1 ≤ j → j ≤ n → IsIn (r, v) (u.traced i).own_writes → r < (u.traced j).round
-      → (u.traced j).place ≡ 5 → Dead n u i r ⊎ ((u.traced j).value ≡ v)
-  keeps_bound i r v j il ih jl jh one before at = go (was_written i r v one)
-    where
-      go : IsIn (r, v) (t.traced i).own_writes ⊎ ((i ≡ run_step.process) × Wrote mover_before mover_after r v)
-          → Dead n u i r ⊎ ((u.traced j).value ≡ v)
-      go (inr new) =
-          let enters = (keeps_each j jl jh).entered_here (omega arith) (omega arith) in
-          inl (new_is_dead i r v j new.0 new.1 jl jh (omega arith))
-      go (inl old) =
-          by_process (λ o. r < (u.traced o).round → (u.traced o).place ≡ 5 → Dead n u i r ⊎ ((u.traced o).value ≡ v)) j
-          (moving_bound i r v il ih old) rests before at
-        where
-          rests : (j ≡ run_step.process → ⊥) → r < (u.traced j).round → (u.traced j).place ≡ 5 → Dead n u i r ⊎ ((u.traced j).value ≡ v)
-          rests other a b =
-              bound_still i r v (u.traced j).value (t.traced j).value (ap (λ x. x.value) (run_step.others j other))
-              (laws.bound i r v j il ih jl jh old (was_unmoved (λ x. r < x.round) j other a) (was_unmoved (λ x. x.place ≡ 5) j other b))
+  keeps_follows : (i r v j : ℕ) → 1 ≤ i → i ≤ n → 1 ≤ j → j ≤ n → IsIn (r, v) (u.traced i).own_writes → Follows n u i r v (u.traced j)
+  keeps_follows i r v j il ih jl jh =
+      by_process (λ o. IsIn (r, v) (u.traced o).own_writes → Follows n u o r v (u.traced j)) i
+      (λ one. elim (facts.written_from r v one) [
+        | inl old ↦ old_follows run_step.process r v run_step.low run_step.high old j jl jh
+        | inr new ↦ new_follows r v j jl jh new
+      ])
+      (λ other one. old_follows i r v il ih (was_unmoved (λ x. IsIn (r, v) x.own_writes) i other one) j jl jh)
 
 pub run_step_keeps : (n : ℕ) (t u : Run) → RunLaws n t → RunStep n t u → RunLaws n u
 run_step_keeps n t u laws run_step = record {
   each = keeps_each n t u laws run_step;
   dec_settled = keeps_dec n t u laws run_step;
-  visible = keeps_visible n t u laws run_step;
-  bound = keeps_bound n t u laws run_step;
-  agree = keeps_agree n t u laws run_step;
+  follows = keeps_follows n t u laws run_step;
 }
 
 -- a round that was carried through is not dead
@@ -376,20 +285,20 @@ carried_not_dead n t laws i r il ih carried (inr now) = go ((laws.each i il ih).
     go (inr done) (inl seen) = let high = seen.1 in omega arith
     go (inr done) (inr ahead) = let at = ahead.0 in omega arith
 
-pub one_settled : (n : ℕ) (t : Run) → RunLaws n t → (v w : ℕ) → Settled n t v → Settled n t w → v ≡ w
-one_settled n t laws v w one other = go (cases_lt one.1 other.1) (cases_lt other.1 one.1)
-  where
-    live : (x y : ℕ) (a : Settled n t x) → Dead n t a.0 a.1 ⊎ (y ≡ x) → y ≡ x
-    live x y a (inl dead) = absurd (carried_not_dead n t laws a.0 a.1 a.2 a.3 a.4 dead)
-    live x y a (inr same) = same
+-- what is settled is what is written in its round and every later one
+pub settled_follows : (n : ℕ) (t : Run) → RunLaws n t → (v : ℕ) → (it : Settled n t v) → (j s x : ℕ) → 1 ≤ j → j ≤ n
+    → IsIn (s, x) (t.traced j).own_writes → it.1 ≤ s → x ≡ v
+settled_follows n t laws v it j s x jl jh other from =
+    elim (write_follows n t laws it.0 it.1 v j s x it.2 it.3 jl jh it.5 other from) [
+      | inl dead ↦ absurd (carried_not_dead n t laws it.0 it.1 it.2 it.3 it.4 dead)
+      | inr same ↦ same
+    ]
 
-    go : (one.1 < other.1) ⊎ (other.1 ≤ one.1) → (other.1 < one.1) ⊎ (one.1 ≤ other.1) → v ≡ w
-    go (inl later) any = sym (live v w one (laws.agree one.0 one.1 v other.0 other.1 w one.2 one.3 other.2 other.3 one.5 other.5 later))
-    go (inr late) (inl earlier) = live w v other (laws.agree other.0 other.1 w one.0 one.1 v other.2 other.3 one.2 one.3 other.5 one.5 earlier)
-    go (inr late) (inr early) =
-        let same : other.1 ≡ one.1 = omega arith in
-        let P : ℕ → Type 0 = λ x. IsIn (x, w) (t.traced other.0).own_writes in
-        one_value n t laws one.0 one.1 v other.0 w one.2 one.3 other.2 other.3 one.5 (subst P same other.5)
+one_settled : (n : ℕ) (t : Run) → RunLaws n t → (v w : ℕ) → Settled n t v → Settled n t w → v ≡ w
+one_settled n t laws v w one other = elim (cases_lt other.1 one.1) [
+  | inl early ↦ settled_follows n t laws w other one.0 one.1 v one.2 one.3 one.5 (omega arith)
+  | inr late ↦ sym (settled_follows n t laws v one other.0 other.1 w other.2 other.3 other.5 late)
+]
 
 -- no two decisions differ
 pub laws_agree : (n : ℕ) (t : Run) → RunLaws n t → (p o : ℕ) → 1 ≤ p → p ≤ n → 1 ≤ o → o ≤ n

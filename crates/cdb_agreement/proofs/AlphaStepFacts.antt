@@ -50,51 +50,48 @@ pub record ValueFrom (l k : Traced) : Type 0 where
   pub stays : k.round ≡ l.round
   pub value : ((l.place ≡ 5) × (k.value ≡ l.value)) ⊎ ((l.place ≡ 4) × ValueBasis l.seen k.value)
 
+-- what a step of a process from l to k does, and that what is dead stays so
+pub record Moved (n : ℕ) (own : ℕ → Cell) (dec : Option ℕ) (l k : Traced) (published : Option ℕ) : Type 0 where
+  -- the trace only grows
+  pub written_grows : Grows l.own_writes k.own_writes
+  pub carried_grows : Grows l.carried k.carried
+  -- what is written after the step was before, or the step writes it
+  pub written_from : (r v : ℕ) → IsIn (r, v) k.own_writes → IsIn (r, v) l.own_writes ⊎ Wrote l k r v
+  -- what is published after the step was before, or was carried through
+  pub published_from : (v : ℕ) → published ≡ Some v → (dec ≡ Some v) ⊎ ((r : ℕ) × IsIn r l.carried × IsIn (r, v) l.own_writes)
+  -- in a first pass after the step nothing is seen yet, or the pass stood before
+  pub pass_from : 3 ≤ k.place → k.place ≤ 4 → (k.seen ≡ []) ⊎ PassFrom own l k
+  -- a value to be written after the step was before, or rests on what was seen
+  pub value_from : k.place ≡ 5 → ValueFrom l k
+  pub dead_stays : (r : ℕ) → DeadAt n own l r → DeadAt n own k r
+
 module _ (n j : ℕ) (some_process : 1 ≤ n) (somebody : ℕ → ℕ → Type 0) (settled : ℕ → Type 0) (own : ℕ → Cell) (dec : Option ℕ) (l : Traced)
     (laws : TracedLaws n j somebody settled l) where
-  -- a claim about the local state that a step leaves is one about the row's state
-  along : (P : Traced → Type 0) (k : Traced) {h : Traced} → k ≡ h → P h → P k
-  along P k {h} is it = subst P (sym is) it
+  abbrev Row : Type 0
+  Row = FoundedRow n own dec l
 
-  rows_round_up : (row : FoundedRow n own dec l) → l.round ≤ (after_row n own dec l row).round
-  rows_round_up row = grind (arith, common_steps, gets)
+  abbrev left : Row → Traced
+  left row = after_row n own dec l row
 
-  pub round_up : (k : Traced) (published : Option ℕ) → Step n own dec l k published → l.round ≤ k.round
-  round_up k published step = along (λ x. l.round ≤ x.round) k step.is (rows_round_up step.row)
+  round_up : (row : Row) → l.round ≤ (left row).round
+  round_up row = grind (arith, common_steps, gets)
 
-  -- the trace only grows
+  written_grows : (row : Row) → Grows l.own_writes (left row).own_writes
+  written_grows (write here) = push_grows _ _
+  written_grows _ = same_grows _
 
-  rows_written : (row : FoundedRow n own dec l) → Grows l.own_writes (after_row n own dec l row).own_writes
-  rows_written (write here) = push_grows _ _
-  rows_written _ = same_grows _
+  carried_grows : (row : Row) → Grows l.carried (left row).carried
+  carried_grows (carry here low) = push_grows l.round _
+  carried_grows _ = same_grows _
 
-  pub written_grows : (k : Traced) (published : Option ℕ) → Step n own dec l k published → Grows l.own_writes k.own_writes
-  written_grows k published step = along (λ x. Grows l.own_writes x.own_writes) k step.is (rows_written step.row)
+  carried_from : (row : Row) → (r : ℕ) → IsIn r (left row).carried → IsIn r l.carried ⊎ (r ≡ l.round)
+  carried_from (carry here low) r it = in_push r l.round _ it
+  carried_from _ r it = inl it
 
-  rows_carried : (row : FoundedRow n own dec l) → Grows l.carried (after_row n own dec l row).carried
-  rows_carried (carry here low) = push_grows l.round _
-  rows_carried _ = same_grows _
-
-  pub carried_grows : (k : Traced) (published : Option ℕ) → Step n own dec l k published → Grows l.carried k.carried
-  carried_grows k published step = along (λ x. Grows l.carried x.carried) k step.is (rows_carried step.row)
-
-  -- a round carried through after the step was before, or is the round of the step
-
-  rows_carried_from : (row : FoundedRow n own dec l) → (r : ℕ) → IsIn r (after_row n own dec l row).carried → IsIn r l.carried ⊎ (r ≡ l.round)
-  rows_carried_from (carry here low) r it = in_push r l.round _ it
-  rows_carried_from _ r it = inl it
-
-  pub carried_from : (k : Traced) (published : Option ℕ) → Step n own dec l k published → (r : ℕ) → IsIn r k.carried → IsIn r l.carried ⊎ (r ≡ l.round)
-  carried_from k published step =
-      along (λ x. (r : ℕ) → IsIn r x.carried → IsIn r l.carried ⊎ (r ≡ l.round)) k step.is (rows_carried_from step.row)
-
-  -- what is written after the step was before, or the step writes it
-
-  rows_written_from : (row : FoundedRow n own dec l) → (r v : ℕ) → IsIn (r, v) (after_row n own dec l row).own_writes
-      → IsIn (r, v) l.own_writes ⊎ Wrote l (after_row n own dec l row) r v
-  rows_written_from (write here) r v it = new (in_push (r, v) _ _ it)
+  written_from : (row : Row) → (r v : ℕ) → IsIn (r, v) (left row).own_writes → IsIn (r, v) l.own_writes ⊎ Wrote l (left row) r v
+  written_from (write here) r v it = new (in_push (r, v) _ _ it)
     where
-      new : IsIn (r, v) l.own_writes ⊎ (◌≡◌ {A = ℕ × ℕ} (r, v) (l.round, l.value)) → IsIn (r, v) l.own_writes ⊎ Wrote l (after_row n own dec l (write here)) r v
+      new : IsIn (r, v) l.own_writes ⊎ (◌≡◌ {A = ℕ × ℕ} (r, v) (l.round, l.value)) → IsIn (r, v) l.own_writes ⊎ Wrote l (left (write here)) r v
       new (inl old) = inl old
       new (inr same) = inr (record {
         from = here;
@@ -104,115 +101,85 @@ module _ (n j : ℕ) (some_process : 1 ≤ n) (somebody : ℕ → ℕ → Type 0
         stays = refl;
         nothing_seen = refl;
       })
-  rows_written_from _ r v it = inl it
+  written_from _ r v it = inl it
 
-  pub written_from : (k : Traced) (published : Option ℕ) → Step n own dec l k published
-      → (r v : ℕ) → IsIn (r, v) k.own_writes → IsIn (r, v) l.own_writes ⊎ Wrote l k r v
-  written_from k published step =
-      along (λ x. (r v : ℕ) → IsIn (r, v) x.own_writes → IsIn (r, v) l.own_writes ⊎ Wrote l x r v) k step.is (rows_written_from step.row)
-
-  -- what is published after the step was before, or was carried through
-
-  rows_published : (row : FoundedRow n own dec l) → (v : ℕ) → published_by n own dec l row ≡ Some v
-      → (dec ≡ Some v) ⊎ ((r : ℕ) × IsIn r l.carried × IsIn (r, v) l.own_writes)
-  rows_published (publish here) v it =
+  published_from : (row : Row) → (v : ℕ) → published_by n own dec l row ≡ Some v → (dec ≡ Some v) ⊎ ((r : ℕ) × IsIn r l.carried × IsIn (r, v) l.own_writes)
+  published_from (publish here) v it =
       let same : l.value ≡ v = cc in
-      let P : ℕ → Type 0 = λ x. IsIn (l.round, x) l.own_writes in
-      inr (l.round, laws.carried_here here, subst P same (laws.value_here (omega arith) (omega arith)))
-  rows_published _ v it = inl it
+      inr (l.round, laws.carried_here here, subst (λ x. IsIn (l.round, x) l.own_writes) same (laws.value_here (omega arith) (omega arith)))
+  published_from _ v it = inl it
 
-  pub published_from : (k : Traced) (published : Option ℕ) → Step n own dec l k published
-      → (v : ℕ) → published ≡ Some v → (dec ≡ Some v) ⊎ ((r : ℕ) × IsIn r l.carried × IsIn (r, v) l.own_writes)
-  published_from k published step v it = rows_published step.row v (sym step.same ∙ it)
+  pass_from : (row : Row) → 3 ≤ (left row).place → (left row).place ≤ 4 → ((left row).seen ≡ []) ⊎ PassFrom own l (left row)
+  pass_from row from to = grind (arith, common_steps, gets)
 
-  -- in a first pass after the step nothing is seen yet, or the pass stood before
+  value_from : (row : Row) → (left row).place ≡ 5 → ValueFrom l (left row)
+  value_from stay at = record { stays = refl; value = inl (at, refl) }
+  value_from (settle v here basis) at = record { stays = refl; value = inr (here, basis) }
+  value_from (read p here pass) at = absurd (grind (arith, common_steps, gets))
+  value_from (read_again p here pass) at = absurd (grind (arith, common_steps, gets))
+  value_from _ at = absurd (omega arith)
 
-  pub pass_from : (k : Traced) (published : Option ℕ) → Step n own dec l k published → 3 ≤ k.place → k.place ≤ 4 → (k.seen ≡ []) ⊎ PassFrom own l k
-  pass_from k published first second third = grind (arith, common_steps, gets)
+  -- the second pass reads a further register
+  dead_read : (r p : ℕ) → PassPlace n (length l.seen) 6 p → Doomed n own l r
+      → Doomed n own (record l { place = p; seen = l.seen ++ own (suc (length l.seen)) ∷ [] }) r
+  dead_read r p pass it = go it
+    where
+      places : (6 ≤ p) × (p ≤ 7)
+      places = grind (arith, common_steps, gets)
 
-  -- a value to be written after the step was before, or rests on what was seen
+      go : Doomed n own l r → Doomed n own (record l { place = p; seen = l.seen ++ own (suc (length l.seen)) ∷ [] }) r
+      go (inl seen) = inl (places.0, places.1, seen.2, in_push_old seen.2 _ l.seen seen.3, seen.4)
+      go (inr ahead) = by_place pass (cases_eq ahead.1 (suc (length l.seen)))
+        where
+          by_place : PassPlace n (length l.seen) 6 p → (ahead.1 ≡ suc (length l.seen)) ⊎ (ahead.1 ≡ suc (length l.seen) → ⊥)
+              → Doomed n own (record l { place = p; seen = l.seen ++ own (suc (length l.seen)) ∷ [] }) r
+          by_place any (inl same) =
+              inl (places.0, places.1, own (suc (length l.seen)), in_push_new _ l.seen, subst (λ m. r < (own m).lre) same ahead.4)
+          by_place (inl on) (inr other) = let long = length-append l.seen (own (suc (length l.seen)) ∷ []) in inr (on.0, ahead.1, omega arith, ahead.3, ahead.4)
+          by_place (inr over) (inr other) = let within = ahead.3 in absurd (omega arith)
 
-  rows_value : (row : FoundedRow n own dec l) → (after_row n own dec l row).place ≡ 5 → ValueFrom l (after_row n own dec l row)
-  rows_value stay at = record { stays = refl; value = inl (at, refl) }
-  rows_value (settle v here basis) at = record { stays = refl; value = inr (here, basis) }
-  rows_value (read p here (inl on)) at = absurd (omega arith)
-  rows_value (read p here (inr over)) at = absurd (omega arith)
-  rows_value (read_again p here (inl on)) at = absurd (omega arith)
-  rows_value (read_again p here (inr over)) at = absurd (omega arith)
-  rows_value _ at = absurd (omega arith)
-
-  pub value_from : (k : Traced) (published : Option ℕ) → Step n own dec l k published → k.place ≡ 5 → ValueFrom l k
-  value_from k published step = along (λ x. x.place ≡ 5 → ValueFrom l x) k step.is (rows_value step.row)
-
-  -- a round that can't be carried through any more stays so
-  pub dead_moves : (k : Traced) (published : Option ℕ) → Step n own dec l k published → (r : ℕ) → DeadAt n own l r → DeadAt n own k r
-  dead_moves k published step r (inl past) = inl (let up = round_up k published step in omega arith, λ it. not_now (carried_from k published step r it))
+  dead_stays : (row : Row) → (r : ℕ) → DeadAt n own l r → DeadAt n own (left row) r
+  dead_stays row r (inl past) = inl (let up = round_up row in omega arith, λ it. not_now (carried_from row r it))
     where
       not_now : IsIn r l.carried ⊎ (r ≡ l.round) → ⊥
       not_now (inl old) = past.1 old
       not_now (inr now) = let before = past.0 in omega arith
-  dead_moves k published step r (inr now) = along (λ x. DeadAt n own x r) k step.is (by_row now.0 now.1 step.row)
+  dead_stays row r (inr now) = by_row now.1 row
     where
       between : Doomed n own l r → (6 ≤ l.place) × (l.place ≤ 7)
       between (inl seen) = (seen.0, seen.1)
       between (inr ahead) = let at = ahead.0 in (omega arith, omega arith)
 
-      never_carried : l.place ≡ 7 → l.round ≡ r → IsIn r l.carried → ⊥
-      never_carried here at it = go (laws.carried_past r it)
-        where
-          go : (r < l.round) ⊎ ((r ≡ l.round) × (l.place ≡ 8)) → ⊥
-          go (inl before) = omega arith
-          go (inr done) = omega arith
+      never_carried : l.place ≡ 7 → IsIn r l.carried → ⊥
+      never_carried here it = let at = now.0 in let was = laws.carried_past r it in grind (arith, common_steps, gets)
 
-      reads : (p : ℕ) → l.place ≡ 6 → PassPlace n (length l.seen) 6 p → Doomed n own l r
-          → Doomed n own (record l { place = p; seen = l.seen ++ own (suc (length l.seen)) ∷ [] }) r
-      reads p here pass (inl seen) =
-          inl (from pass, to pass, seen.2, in_push_old seen.2 _ l.seen seen.3, seen.4)
-        where
-          from : PassPlace n (length l.seen) 6 p → 6 ≤ p
-          from (inl on) = omega arith
-          from (inr over) = omega arith
+      refuse : l.place ≡ 7 → ((c : Cell) → Contains l.seen c → c.lre ≤ l.round) → Doomed n own l r → ⊥
+      refuse here low (inl seen) = let at = now.0 in let bound = low seen.2 (in_contained l.seen seen.2 seen.3) in let above = seen.4 in omega arith
+      refuse here low (inr ahead) = let six = ahead.0 in omega arith
 
-          to : PassPlace n (length l.seen) 6 p → p ≤ 7
-          to (inl on) = omega arith
-          to (inr over) = omega arith
-      reads p here pass (inr ahead) = go pass (cases_eq ahead.1 (suc (length l.seen)))
-        where
-          later : r < (own ahead.1).lre
-          later = ahead.4
+      by_row : Doomed n own l r → (row : Row) → DeadAt n own (left row) r
+      by_row it stay = inr (now.0, it)
+      by_row it (read_again p here pass) = inr (now.0, dead_read r p pass it)
+      by_row it (fail here) = inl (let at = now.0 in omega arith, never_carried here)
+      by_row it (carry here low) = absurd (refuse here low it)
+      by_row it (decide v here found) = let place = between it in absurd (omega arith)
+      by_row it (look here) = let place = between it in absurd (omega arith)
+      by_row it (lead here) = let place = between it in absurd (omega arith)
+      by_row it (follow here) = let place = between it in absurd (omega arith)
+      by_row it (enter here) = let place = between it in absurd (omega arith)
+      by_row it (read p here pass) = let place = between it in absurd (omega arith)
+      by_row it (give_up here) = let place = between it in absurd (omega arith)
+      by_row it (settle v here basis) = let place = between it in absurd (omega arith)
+      by_row it (write here) = let place = between it in absurd (omega arith)
+      by_row it (publish here) = let place = between it in absurd (omega arith)
 
-          new : p ≤ 7 → 6 ≤ p → ahead.1 ≡ suc (length l.seen) → Doomed n own (record l { place = p; seen = l.seen ++ own (suc (length l.seen)) ∷ [] }) r
-          new to from same =
-              let P : ℕ → Type 0 = λ m. r < (own m).lre in
-              inl (from, to, own (suc (length l.seen)), in_push_new _ l.seen, subst P same later)
-
-          go : PassPlace n (length l.seen) 6 p → (ahead.1 ≡ suc (length l.seen)) ⊎ (ahead.1 ≡ suc (length l.seen) → ⊥)
-              → Doomed n own (record l { place = p; seen = l.seen ++ own (suc (length l.seen)) ∷ [] }) r
-          go (inl on) (inl same) = new (omega arith) (omega arith) same
-          go (inr over) (inl same) = new (omega arith) (omega arith) same
-          go (inl on) (inr other) =
-              let long = length-append l.seen (own (suc (length l.seen)) ∷ []) in
-              inr (on.0, ahead.1, omega arith, ahead.3, later)
-          go (inr over) (inr other) =
-              let within = ahead.3 in
-              absurd (omega arith)
-
-      refuse : l.place ≡ 7 → ((c : Cell) → Contains l.seen c → c.lre ≤ l.round) → l.round ≡ r → Doomed n own l r → ⊥
-      refuse here low at (inl seen) = let bound = low seen.2 (in_contained l.seen seen.2 seen.3) in let above = seen.4 in omega arith
-      refuse here low at (inr ahead) = let six = ahead.0 in omega arith
-
-      by_row : l.round ≡ r → Doomed n own l r → (row : FoundedRow n own dec l) → DeadAt n own (after_row n own dec l row) r
-      by_row at it stay = inr (at, it)
-      by_row at it (read_again p here pass) = inr (at, reads p here pass it)
-      by_row at it (fail here) = inl (omega arith, never_carried here at)
-      by_row at it (carry here low) = absurd (refuse here low at it)
-      by_row at it (decide v here found) = let place = between it in absurd (omega arith)
-      by_row at it (look here) = let place = between it in absurd (omega arith)
-      by_row at it (lead here) = let place = between it in absurd (omega arith)
-      by_row at it (follow here) = let place = between it in absurd (omega arith)
-      by_row at it (enter here) = let place = between it in absurd (omega arith)
-      by_row at it (read p here pass) = let place = between it in absurd (omega arith)
-      by_row at it (give_up here) = let place = between it in absurd (omega arith)
-      by_row at it (settle v here basis) = let place = between it in absurd (omega arith)
-      by_row at it (write here) = let place = between it in absurd (omega arith)
-      by_row at it (publish here) = let place = between it in absurd (omega arith)
+  pub moved : (k : Traced) (published : Option ℕ) → Step n own dec l k published → Moved n own dec l k published
+  moved k published step = subst (λ x. Moved n own dec l x published) (sym step.is) (record {
+    written_grows = written_grows step.row;
+    carried_grows = carried_grows step.row;
+    written_from = written_from step.row;
+    published_from = λ v it. published_from step.row v (sym step.same ∙ it);
+    pass_from = pass_from step.row;
+    value_from = value_from step.row;
+    dead_stays = dead_stays step.row;
+  })

@@ -32,13 +32,12 @@ use Rattle.cdb_agreement.proofs.Agreed.{agreed, proposed}
 use Rattle.cdb_rules.proofs.NamesFound.{among_is}
 use Rattle.cdb_rules.proofs.Granted.{IsLawful}
 use Rattle.cdb_rules.proofs.Histories.{fold_exchanged}
-use Rattle.cdb_agreement.proofs.Lawful.{of_some, answers_within}
+use Rattle.cdb_agreement.proofs.Lawful.{of_some, answers_within, firsts_are}
 use Rattle.cdb_rules.proofs.NamedEvents.{loss_free, valid_standing}
 use Rattle.cdb_rules.proofs.OfRun.{last_enabled, next_of_run}
 use Rattle.cdb_rules.proofs.Planned.{planned_enabled}
 use Rattle.cdb_rules.proofs.SameState.{same_state_exchanged}
 use Rattle.cdb_rules.proofs.AllStanding.{valid_named}
-use Rattle.cdb_rules.proofs.FirstStates.{length-first_states}
 use Rattle.cdb_rules.proofs.Taken.{taken_from, some_of}
 use Rattle.cdb_rules.proofs.TakenBack.{valid_push}
 use Rattle.cdb_setup.specs.Parts.{Parts, AreInRange}
@@ -53,7 +52,7 @@ module _ {L : Type 0} (table : Table L) (setup : Parts) (range : AreInRange setu
   machine = machine_of table setup
 
   number : length machine.firsts ≡ setup.processes
-  number = length-first_states _ 1 _ _ _ ∙ range.an_input_each
+  number = firsts_are table setup range
 
   pushed : (history : List Event) → IsValid machine history → (event : Event) → IsEnabled machine (state_of machine history) event
       → IsValid machine (history ++ event ∷ [])
@@ -91,7 +90,7 @@ module _ {L : Type 0} (table : Table L) (setup : Parts) (range : AreInRange setu
       let to = some_of _ enabled in
       let taken = taken_from machine state to.0 p k kind to.1 in
       step_by_act machine lawful setup number state p k kind _ taken.at_process enabled
-  taken_by_its_act history (Lost copy) enabled = loss_again machine setup number refl _ copy enabled
+  taken_by_its_act history (Lost copy) enabled = taken_again history (Lost copy) enabled
 
   again_enabled : (history : List Event) (event : Event) → IsOfRun setup event
       → again_result machine setup (state_of machine history) event ≡ Ok event → IsEnabled machine (state_of machine history) event
@@ -139,26 +138,24 @@ module _ {L : Type 0} (table : Table L) (setup : Parts) (range : AreInRange setu
       }
 
 leader_lawful : (setup : Parts) → IsLawful (leader_machine setup)
-leader_lawful setup =
-    record {
-      query = leader_laws.next_state-query;
-      recv = leader_laws.next_state-recv;
-      send = leader_laws.wish_of-send;
-      read = leader_laws.wish_of-read;
-      write = leader_laws.wish_of-write;
-      local = leader_laws.wish_of-local;
-    }
+leader_lawful setup = search (
+  leader_laws.next_state-query,
+  leader_laws.next_state-recv,
+  leader_laws.wish_of-send,
+  leader_laws.wish_of-read,
+  leader_laws.wish_of-write,
+  leader_laws.wish_of-local,
+)
 
 alpha_lawful : (setup : Parts) → IsLawful (alpha_machine setup)
-alpha_lawful setup =
-    record {
-      query = alpha_laws.next_state-query;
-      recv = alpha_laws.next_state-recv;
-      send = alpha_laws.wish_of-send;
-      read = alpha_laws.wish_of-read;
-      write = alpha_laws.wish_of-write;
-      local = alpha_laws.wish_of-local;
-    }
+alpha_lawful setup = search (
+  alpha_laws.next_state-query,
+  alpha_laws.next_state-recv,
+  alpha_laws.wish_of-send,
+  alpha_laws.wish_of-read,
+  alpha_laws.wish_of-write,
+  alpha_laws.wish_of-local,
+)
 
 by_algorithm : (setup : Parts) → AreInRange setup → (algorithm : Algorithm)
     → (HasMajorityIfNeeded setup → (history : List Event) → IsTrue ((rules_by algorithm setup).valid history)

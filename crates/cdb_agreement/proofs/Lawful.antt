@@ -3,6 +3,7 @@ use Rattle.std.proofs.lemmas.Grind.{common_steps}
 use Rattle.std.proofs.lemmas.Option.{gets}
 use Rattle.std.proofs.Common.{◌≡◌, ℕ, zero, suc, ◌+◌, ◌≤◌, ◌==◌, nat_le, Bool, true, false, not, List, [], ◌∷◌, length, Option, Some, None, unwrap_or}
 use Rattle.std.proofs.Common.{if◌then◌else◌, Result, Ok, Err, slice_get, option_map, refl, sym, ap, ◌∙◌, subst, arith}
+use Rattle.std.specs.FinSet as set
 use Rattle.std.specs.List.{AllByRecursion}
 use Rattle.std.specs.Option.{option_map_or}
 use Rattle.std.proofs.lemmas.Bool.Decides.{nat_tests}
@@ -18,9 +19,9 @@ use Rattle.cdb_base.specs.declared.event.Kind.TheVariants as kinds
 use Rattle.cdb_base.specs.declared.register.Cell.{Cell}
 use Rattle.cdb_base.specs.declared.register.Reg.TheVariants as register
 use Rattle.cdb_register.specs.Registers.{RegisterStates, fresh_registers}
+use Rattle.cdb_base.specs.declared.name.CopyName.{CopyName}
 use Rattle.cdb_base.specs.declared.name.MsgName.{MsgName}
 use Rattle.cdb_base.specs.declared.refusal.Refusal.{Refusal}
-use Rattle.cdb_causal.specs.Reach.{reached}
 use Rattle.cdb_rules.specs.Lawful.{AreLawful}
 use Rattle.cdb_message.specs.Mail.{copy_name}
 use Rattle.cdb_process.specs.declared.Wish.{Wish}
@@ -38,8 +39,10 @@ use Rattle.cdb_rules.specs.State.{Machine, ProcessState, RunState, start}
 use Rattle.cdb_rules.specs.Step.{is_among, after, fold, state_of}
 use Rattle.cdb_rules.specs.InputsTaken.{registers_after}
 use Rattle.cdb_rules.proofs.Bounds.{start_sound, length-set_nth}
+use Rattle.cdb_rules.proofs.FoldKeeps.{reached_keeps}
 use Rattle.cdb_rules.proofs.Granted.{all_pass}
 use Rattle.cdb_rules.proofs.FirstStates.{length-first_states}
+use Rattle.cdb_rules.proofs.Stages.{state_after}
 use Rattle.cdb_rules.proofs.Taken.{mapped, bound, where_true, taken_from}
 use Rattle.cdb_setup.specs.Parts.{Parts, IsWithin, AreInRange, answer_of}
 use Rattle.cdb_setup.specs.declared.setup.Algorithm.{Algorithm}
@@ -65,13 +68,7 @@ among : (n p : ℕ) → 1 ≤ p → p ≤ n → is_among n p ≡ true
 among n p low high = grind (arith, nat_tests, low, high)
 
 is_within : (n p : ℕ) → is_among n p ≡ true → IsWithin 1 n p
-is_within n p h = (low n p h, high n p h)
-  where
-    low : (n p : ℕ) → is_among n p ≡ true → 1 ≤ p
-    low n p h = grind (arith, nat_tests)
-
-    high : (n p : ℕ) → is_among n p ≡ true → p ≤ n
-    high n p h = grind (arith, nat_tests)
+is_within n p h = grind (arith, nat_tests)
 
 all_nth : {A : Type 0} (P : A → Type 0) (xs : List A) (k : ℕ) (x : A) → AllByRecursion P xs → nth xs k ≡ Some x → P x
 all_nth P xs zero x all at = absurd (none-some x at)
@@ -85,10 +82,7 @@ answers_within setup p k leader range h =
     all_nth _ row.0 k leader (all_nth _ _ p row.0 range.answers row.1) row.2
 
 below_limit : (steps : ℕ) → nat_le 9999 steps ≡ false → IsWithin 1 9999 (steps + 1)
-below_limit steps h = (omega arith, low steps h)
-  where
-    low : (steps : ℕ) → nat_le 9999 steps ≡ false → steps + 1 ≤ 9999
-    low steps h = grind (arith, nat_tests)
+below_limit steps h = grind (arith, nat_tests)
 
 is_two : (v : ℕ) → (v == 2) ≡ true → v ≡ 2
 is_two v h = grind (arith, nat_tests)
@@ -105,12 +99,10 @@ kind_names : (n sends : ℕ) (wish : Option Wish) (answer : Option ℕ) (a : Act
     → named_kind wish sends answer a ≡ Some kind → NamesProcess n kind
 kind_names n sends (Some wish) answer act.Go kind fine fits h = subst (NamesProcess n) (same_Some (wished_kind sends wish) kind h) (wish_names n sends wish)
 kind_names n sends None answer act.Go kind fine fits h = absurd (none-some kind h)
-kind_names n sends wish answer act.Learn kind fine fits h = subst (NamesProcess n) (same_Some _ kind h) tt
-kind_names n sends wish answer act.Crash kind fine fits h = subst (NamesProcess n) (same_Some _ kind h) tt
 kind_names n sends wish (Some leader) (act.Query None) kind fine fits h = subst (NamesProcess n) (same_Some _ kind h) (fine leader refl)
 kind_names n sends wish None (act.Query None) kind fine fits h = absurd (none-some kind h)
 kind_names n sends wish answer (act.Query (Some leader)) kind fine fits h = subst (NamesProcess n) (same_Some _ kind h) (is_within n leader (not_false _ fits))
-kind_names n sends wish answer (act.Recv s m) kind fine fits h = subst (NamesProcess n) (same_Some _ kind h) tt
+kind_names n sends wish answer _ kind fine fits h = subst (NamesProcess n) (same_Some _ kind h) tt
 
 length-update : {A : Type 0} (change : A → A) (xs : List A) (i : ℕ) → length (update change xs i) ≡ length xs
 length-update change [] i = refl
@@ -122,28 +114,30 @@ length-update_nth change xs zero = refl
 length-update_nth change xs (suc i) = length-update change xs i
 
 module _ {L : Type 0} (machine : Machine L) where
-  count_after : (state to : RunState L) (event : Event) → after machine state event ≡ Some to → length to.processes ≡ length state.processes
-  count_after state to (Step p k kind) h =
-      let taken = taken_from machine state to p k kind h in
-      ap (λ (s : RunState L). length s.processes) (sym taken.leads_to) ∙ length-set_nth _ p _
-  count_after state to (Lost copy) h =
-      let lost = where_true _ _ to h in
-      ap (λ (s : RunState L). length s.processes) (sym (same_Some _ to lost.1))
-
-  count_reached : (history : List Event) (state to : RunState L) → reached (after machine) state history ≡ Some to
-      → length to.processes ≡ length state.processes
-  count_reached [] state to h = ap (λ (s : RunState L). length s.processes) (sym (same_Some state to h))
-  count_reached (event ∷ events) state to h =
-      let next = bound _ _ to h in
-      count_reached events next.0 to next.2 ∙ count_after state next.0 event next.1
-
-  -- whatever the history, there are as many processes as at the start
-  count_is : (history : List Event) → length (state_of machine history).processes ≡ length machine.firsts
-  count_is history = go (fold machine history) refl
+  -- what no step and no loss changes stays, whatever the history
+  stays : (measure : RunState L → ℕ)
+      → ((state : RunState L) (p k : ℕ) (kind : Kind) (process : ProcessState L) (next : L)
+      → measure (state_after machine state p k kind process next) ≡ measure state)
+      → ((state : RunState L) (copy : CopyName) → measure (record state { lost = set.insert state.lost copy }) ≡ measure state)
+      → (history : List Event) → measure (state_of machine history) ≡ measure (start machine)
+  stays measure by_step by_loss history = go (fold machine history) refl
     where
-      go : (o : Option (RunState L)) → fold machine history ≡ o → length (unwrap_or o (start machine)).processes ≡ length machine.firsts
-      go (Some to) h = count_reached history (start machine) to h ∙ (start_sound machine).count
-      go None h = (start_sound machine).count
+      keeps : (state to : RunState L) (event : Event) → after machine state event ≡ Some to → measure to ≡ measure state
+      keeps state to (Step p k kind) h =
+          let taken = taken_from machine state to p k kind h in
+          ap measure (sym taken.leads_to) ∙ by_step state p k kind taken.process taken.next
+      keeps state to (Lost copy) h =
+          let lost = where_true _ _ to h in
+          ap measure (sym (same_Some (record state { lost = set.insert state.lost copy }) to lost.1)) ∙ by_loss state copy
+
+      go : (o : Option (RunState L)) → fold machine history ≡ o → measure (unwrap_or o (start machine)) ≡ measure (start machine)
+      go (Some to) h = reached_keeps _ (λ s. measure s ≡ measure (start machine)) (λ s e u was one. keeps s u e one ∙ was) _ history to refl h
+      go None h = refl
+
+  -- there are as many processes as at the start
+  count_is : (history : List Event) → length (state_of machine history).processes ≡ length machine.firsts
+  count_is history =
+      stays (λ s. length s.processes) (λ state p k kind process next. length-set_nth _ p _) (λ state copy. refl) history ∙ (start_sound machine).count
 
   -- and as many registers
   registers_stay : (registers : RegisterStates) (kind : Kind) (cell : Option Cell)
@@ -151,43 +145,16 @@ module _ {L : Type 0} (machine : Machine L) where
   registers_stay registers (kinds.Write (register.R p)) (Some cell) = length-update_nth _ _ p
   registers_stay registers (kinds.Write register.Dec) (Some cell) = refl
   registers_stay registers (kinds.Write x) None = refl
-  registers_stay registers (kinds.Query leader) cell = refl
-  registers_stay registers (kinds.Send m) cell = refl
-  registers_stay registers (kinds.Recv s m) cell = refl
-  registers_stay registers (kinds.Read x) cell = refl
-  registers_stay registers kinds.Local cell = refl
-  registers_stay registers kinds.Learn cell = refl
-  registers_stay registers kinds.Crash cell = refl
-
-  registers_after-event : (state to : RunState L) (event : Event) → after machine state event ≡ Some to
-      → length to.registers.of_processes ≡ length state.registers.of_processes
-  registers_after-event state to (Step p k kind) h =
-      let taken = taken_from machine state to p k kind h in
-      ap (λ (s : RunState L). length s.registers.of_processes) (sym taken.leads_to) ∙ registers_stay state.registers kind _
-  registers_after-event state to (Lost copy) h =
-      let lost = where_true _ _ to h in
-      ap (λ (s : RunState L). length s.registers.of_processes) (sym (same_Some _ to lost.1))
-
-  registers_reached : (history : List Event) (state to : RunState L) → reached (after machine) state history ≡ Some to
-      → length to.registers.of_processes ≡ length state.registers.of_processes
-  registers_reached [] state to h = ap (λ (s : RunState L). length s.registers.of_processes) (sym (same_Some state to h))
-  registers_reached (event ∷ events) state to h =
-      let next = bound _ _ to h in
-      registers_reached events next.0 to next.2 ∙ registers_after-event state next.0 event next.1
-
-  registers_are : (history : List Event) → length (state_of machine history).registers.of_processes ≡ length (start machine).registers.of_processes
-  registers_are history = go (fold machine history) refl
-    where
-      go : (o : Option (RunState L)) → fold machine history ≡ o
-          → length (unwrap_or o (start machine)).registers.of_processes ≡ length (start machine).registers.of_processes
-      go (Some to) h = registers_reached history (start machine) to h
-      go None h = refl
+  registers_stay registers _ cell = refl
 
   first_registers : (has : Bool) → length (fresh_registers (if has then length machine.firsts else 0)).of_processes ≤ length machine.firsts
   first_registers has = grind (arith, common_steps, gets)
 
   few_cells : (history : List Event) → length (state_of machine history).registers.of_processes ≤ length machine.firsts
-  few_cells history = omega (arith, registers_are history, first_registers machine.has_registers)
+  few_cells history =
+      let same =
+      stays (λ s. length s.registers.of_processes) (λ state p k kind process next. registers_stay state.registers kind _) (λ state copy. refl) history in
+      omega (arith, same, first_registers machine.has_registers)
 
   receivers_are : (history : List Event) → length (mail_of (state_of machine history)).received ≡ length machine.firsts
   receivers_are history = length-map (state_of machine history).processes _ ∙ count_is history
@@ -240,10 +207,13 @@ module _ {L : Type 0} (machine : Machine L) where
     again_same state (Lost copy) taken h =
         sym (same_Some (Lost (copy_name copy.msg copy.to)) taken (answered _ _ taken h).1)
 
+pub firsts_are : {L : Type 0} (table : Table L) (setup : Parts) → AreInRange setup → length (machine_of table setup).firsts ≡ setup.processes
+firsts_are table setup range = length-first_states table.first 1 setup.processes _ _ ∙ range.an_input_each
+
 rules_lawful : {L : Type 0} (table : Table L) (setup : Parts) → AreInRange setup → AreLawful (rules_of table setup) setup
 rules_lawful table setup range =
     let machine = machine_of table setup in
-    let firsts = length-first_states table.first 1 setup.processes _ _ ∙ range.an_input_each in
+    let firsts = firsts_are table setup range in
     record {
       shown =
           λ history p it h. there_where_shown machine setup range firsts Shown (shown_of table) (state_of machine history) p it (count_is machine history) h;
@@ -265,15 +235,13 @@ pub each_receives : (setup : Parts) → AreInRange setup → (history : List Eve
 each_receives setup range history = go setup.algorithm
   where
     go : (algorithm : Algorithm) → length ((rules_by algorithm setup).mail history).received ≡ setup.processes
-    go Leader = receivers_are (leader_machine setup) history ∙ length-first_states _ 1 _ _ _ ∙ range.an_input_each
-    go Alpha = receivers_are (alpha_machine setup) history ∙ length-first_states _ 1 _ _ _ ∙ range.an_input_each
+    go Leader = receivers_are (leader_machine setup) history ∙ firsts_are leader_table setup range
+    go Alpha = receivers_are (alpha_machine setup) history ∙ firsts_are alpha_table setup range
 
 -- and no more processes have a register
 pub few_registers : (setup : Parts) → AreInRange setup → (history : List Event) → length ((rules setup).registers history).of_processes ≤ setup.processes
 few_registers setup range history = go setup.algorithm
   where
     go : (algorithm : Algorithm) → length ((rules_by algorithm setup).registers history).of_processes ≤ setup.processes
-    go Leader = subst (λ n. length ((rules_by Leader setup).registers history).of_processes ≤ n)
-        (length-first_states _ 1 _ _ _ ∙ range.an_input_each) (few_cells (leader_machine setup) history)
-    go Alpha = subst (λ n. length ((rules_by Alpha setup).registers history).of_processes ≤ n)
-        (length-first_states _ 1 _ _ _ ∙ range.an_input_each) (few_cells (alpha_machine setup) history)
+    go Leader = omega (arith, firsts_are leader_table setup range, few_cells (leader_machine setup) history)
+    go Alpha = omega (arith, firsts_are alpha_table setup range, few_cells (alpha_machine setup) history)

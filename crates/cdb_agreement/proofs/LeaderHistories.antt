@@ -1,28 +1,21 @@
 -- The states that valid histories of the leader machine reach, seen as runs of its steps.
 use Rattle.std.proofs.lemmas.Grind.{common_steps}
 use Rattle.std.proofs.lemmas.Option.{gets}
-use Rattle.std.proofs.Common.{◌≡◌, ℕ, zero, suc, ◌+◌, ◌*◌, ◌<◌, ◌≤◌, Bool, true, List, [], ◌∷◌, ◌++◌, length, Contains, Option, Some, None, is_some}
-use Rattle.std.proofs.Common.{option_map, option_to_list, unwrap_or, slice_index, if◌then◌else◌, inl, inr, refl, sym, ap, subst, ◌∙◌, append-nil, arith}
-use Rattle.std.proofs.Common.{true≢false}
+use Rattle.std.proofs.Common.{◌≡◌, ℕ, zero, suc, ◌+◌, ◌*◌, ◌<◌, ◌≤◌, Bool, List, [], ◌++◌, length, Contains, Option, Some, None}
+use Rattle.std.proofs.Common.{option_map, slice_index, if◌then◌else◌, inl, inr, refl, sym, ap, subst, ◌∙◌, append-nil, arith}
 use Rattle.std.specs.FinSet as set
-use Rattle.std.specs.Option.{option_or}
+use Rattle.std.specs.Option.{option_or, option_map_or}
 use Rattle.std.proofs.lemmas.Option.{none-some, same_Some}
 use Rattle.cdb_base.specs.Positions.{nth}
 use Rattle.cdb_base.specs.declared.event.Event.{Event}
 use Rattle.cdb_base.specs.declared.event.Event.TheVariants as happening
 use Rattle.cdb_base.specs.declared.event.Kind.{Kind}
-use Rattle.cdb_base.specs.declared.event.Kind.TheVariants.{Query, Send, Recv, Read, Write, Local, Learn, Crash}
 use Rattle.cdb_base.specs.declared.payload.Payload.{Payload}
 use Rattle.cdb_base.specs.declared.payload.Payload.TheVariants.{D}
 use Rattle.cdb_process.specs.declared.Input.{Input}
-use Rattle.cdb_process.specs.declared.Input.TheVariants as input
 use Rattle.cdb_process.specs.declared.Wish.TheVariants as wished
-use Rattle.cdb_process.proofs.Members.{IsIn, in_contained}
+use Rattle.cdb_process.proofs.Members.{in_contained}
 use Rattle.cdb_process.specs.Wishes.{wished_payload}
-use Rattle.cdb_base.specs.declared.name.MsgName.{MsgName}
-use Rattle.cdb_message.specs.Mail.{MailState, message_name, payload_of}
-use Rattle.cdb_register.specs.Registers.{register_of}
-use Rattle.cdb_register.specs.declared.RegisterState.{RegisterState}
 use Rattle.cdb_leader.specs.LocalState.{LocalState, first_state}
 use Rattle.cdb_leader.specs.Table as table
 use Rattle.cdb_leader.specs.Trace.{sent_of}
@@ -30,15 +23,15 @@ use Rattle.cdb_setup.specs.Parts.{Parts, AreInRange}
 use Rattle.cdb_rules.specs.Agreement.{AllAgree}
 use Rattle.cdb_agreement.specs.Algorithms.{leader_machine}
 use Rattle.cdb_rules.specs.Decisions.{decisions_of}
-use Rattle.cdb_rules.specs.Mail.{mail_of}
 use Rattle.cdb_rules.specs.State.{ProcessState, RunState, start, fresh_process}
 use Rattle.cdb_rules.specs.Step.{after, fold}
-use Rattle.cdb_rules.specs.InputsTaken.{arriving, taken_local, input_of}
-use Rattle.cdb_rules.proofs.Stages.{sight_in, meets, sent_after, process_after, state_after}
+use Rattle.cdb_rules.specs.InputsTaken.{taken_local, input_of}
+use Rattle.cdb_rules.proofs.Stages.{sight_in, sent_after, process_after, state_after}
 use Rattle.cdb_agreement.proofs.Firsts.{length-firsts, first_at}
+use Rattle.cdb_agreement.proofs.Inputs.{Brings, brings}
 use Rattle.cdb_rules.proofs.FoldKeeps.{reached_keeps}
 use Rattle.cdb_agreement.proofs.LeaderRuns.{Run, HasTaken, Moves, RunStep, RunLaws, first_taken, run_step_keeps, laws_agree}
-use Rattle.cdb_rules.proofs.Positions.{nth-map, nth-set_nth_same, nth-set_nth_other, nth_within}
+use Rattle.cdb_rules.proofs.Positions.{nth-set_nth_same, nth-set_nth_other, nth_within}
 use Rattle.cdb_rules.proofs.Bounds.{length-set_nth}
 use Rattle.cdb_agreement.proofs.Decided.{HasDecided, agreeing}
 use Rattle.cdb_rules.proofs.Taken.{taken_from, parts, where_true}
@@ -104,25 +97,6 @@ module _ (setup : Parts) where
 wish_sends : (o : Option Payload) (b : Bool) → wished_payload (option_or (option_map wished.Send o) (if b then Some wished.Local else None)) ≡ o
 wish_sends o b = grind (arith, common_steps, gets)
 
-nth_in : {A : Type 0} (xs : List A) (i : ℕ) (x : A) → nth xs i ≡ Some x → IsIn x xs
-nth_in xs zero x is = absurd (none-some x is)
-nth_in [] (suc i) x is = absurd (none-some x is)
-nth_in (y ∷ ys) (suc zero) x is = inl (sym (same_Some y x is))
-nth_in (y ∷ ys) (suc (suc i)) x is = inr (nth_in ys (suc i) x is)
-
--- a payload that is there was sent
-mailed : (t : RunState LocalState) (s m : ℕ) (y : Payload) → payload_of (mail_of t) (message_name s m) ≡ Some y → (q : ℕ) → Contains ((run_of q t).sent s) y
-mailed t s m y is q = go (nth t.processes s) (sym (ap (λ sent. nth (unwrap_or sent []) m) (nth-map _ _ s)) ∙ is)
-  where
-    go : (o : Option (ProcessState LocalState))
-        → nth (unwrap_or (option_map (λ (x : ProcessState LocalState). x.sent) o) []) m ≡ Some y → Contains (sent_in o) y
-    go None there = in_contained [] y (nth_in [] m y there)
-    go (Some x) there = in_contained x.sent y (nth_in x.sent m y there)
-
--- a payload that arrives is there
-carried : (mail : MailState) (p : ℕ) (name : MsgName) (y : Payload) → arriving mail p name ≡ Some y → payload_of mail name ≡ Some y
-carried mail p name y is = grind (arith, common_steps, gets)
-
 module _ (n : ℕ) (setup : Parts) (t : RunState LocalState) (lawful : Lawful n setup.quorum t) where
   abbrev mail : ℕ → List Payload
   mail = (run_of setup.quorum t).sent
@@ -130,53 +104,31 @@ module _ (n : ℕ) (setup : Parts) (t : RunState LocalState) (lawful : Lawful n 
   abbrev IsStep : ProcessState LocalState → LocalState → List Payload → Type 0
   IsStep x s posted = Moves mail x.progress.local x.sent s posted
 
-  takes : (x : ProcessState LocalState) (s : LocalState) (i : Input) → ((o : ℕ) (y : Payload) → i ≡ input.Recv o y → Contains (mail o) y)
-      → table.next_state x.progress.local i ≡ Some s → IsStep x s (x.sent ++ sent_of x.progress.local i)
-  takes x s i known is = inr (record { given = i; taken = is; posts = refl; brought = known })
+  -- with its input it sends what the table sends
+  posts_by : (x : ProcessState LocalState) (p : ℕ) (kind : Kind)
+      → sent_after (leader_machine setup) x kind ≡ x.sent ++ option_map_or (sent_of x.progress.local) (input_of kind (sight_in t p kind)) []
+  posts_by x p kind = grind (arith, common_steps, gets, append-nil, wish_sends)
 
-  -- an input that sends nothing
-  takes_quietly : (x : ProcessState LocalState) (s : LocalState) (i : Input) → sent_of x.progress.local i ≡ []
-      → ((o : ℕ) (y : Payload) → i ≡ input.Recv o y → Contains (mail o) y)
-      → table.next_state x.progress.local i ≡ Some s → IsStep x s x.sent
-  takes_quietly x s i quiet known is = inr (record { given = i; taken = is; posts = sym (ap (λ ys. x.sent ++ ys) quiet ∙ append-nil x.sent); brought = known })
-
-  kind_step : (x : ProcessState LocalState) (s : LocalState) (p : ℕ) (kind : Kind) → meets kind (sight_in t p kind) ≡ true
+  kind_step : (x : ProcessState LocalState) (s : LocalState) (p : ℕ) (kind : Kind)
       → taken_local table.next_state x.progress.local (input_of kind (sight_in t p kind)) ≡ Some s
       → IsStep x s (sent_after (leader_machine setup) x kind)
-  kind_step x s p (Query leader) met is = takes_quietly x s (input.Query leader) refl (λ o y same. absurd (cc)) is
-  kind_step x s p (Send m) met is = subst (λ o. IsStep x s (x.sent ++ option_to_list o)) (sym same) (takes x s input.Send (λ o y same. absurd (cc)) is)
+  kind_step x s p kind = go (input_of kind (sight_in t p kind)) refl
     where
-      same : wished_payload (table.wish_of x.progress.local) ≡ table.payload_at x.progress.local.place x.progress.local
-      same = wish_sends _ _
-  kind_step x s p (Recv o m) met is = go (arriving (mail_of t) p (message_name o m)) refl met is
-    where
-      go : (y : Option Payload) → arriving (mail_of t) p (message_name o m) ≡ y → is_some y ≡ true
-          → taken_local table.next_state x.progress.local (option_map (input.Recv o) y) ≡ Some s → IsStep x s x.sent
-      go None at there it = absurd (true≢false (sym there))
-      go (Some y) at there it = takes_quietly x s (input.Recv o y) refl brought it
-        where
-          brought : (r : ℕ) (z : Payload) → input.Recv o y ≡ input.Recv r z → Contains (mail r) z
-          brought r z same =
-              let sender : o ≡ r = cc in
-              let payload : y ≡ z = cc in
-              subst (λ a. Contains (mail r) a) payload (subst (λ a. Contains (mail a) y) sender
-              (mailed t o m y (carried (mail_of t) p (message_name o m) y at) setup.quorum))
-  kind_step x s p (Read register) met is = go (register_of t.registers register) met is
-    where
-      go : (o : Option RegisterState) → is_some o ≡ true
-          → taken_local table.next_state x.progress.local
-          (option_map (λ (stands : RegisterState). input.Read register stands.cell) o) ≡ Some s → IsStep x s x.sent
-      go None there it = absurd (true≢false (sym there))
-      go (Some stands) there it = absurd (none-some s it)
-  kind_step x s p (Write register) met is = go (register_of t.registers register) met is
-    where
-      go : (o : Option RegisterState) → is_some o ≡ true
-          → taken_local table.next_state x.progress.local (option_map (λ (stands : RegisterState). input.Write register) o) ≡ Some s → IsStep x s x.sent
-      go None there it = absurd (true≢false (sym there))
-      go (Some stands) there it = absurd (none-some s it)
-  kind_step x s p Local met is = takes_quietly x s input.Local refl (λ o y same. absurd (cc)) is
-  kind_step x s p Learn met is = takes_quietly x s input.Learn refl (λ o y same. absurd (cc)) is
-  kind_step x s p Crash met is = inl (sym (same_Some x.progress.local s is), refl)
+      posts : (o : Option Input) → input_of kind (sight_in t p kind) ≡ o
+          → sent_after (leader_machine setup) x kind ≡ x.sent ++ option_map_or (sent_of x.progress.local) o []
+      posts o is = posts_by x p kind ∙ ap (λ i. x.sent ++ option_map_or (sent_of x.progress.local) i []) is
+
+      go : (o : Option Input) → input_of kind (sight_in t p kind) ≡ o → taken_local table.next_state x.progress.local o ≡ Some s
+          → IsStep x s (sent_after (leader_machine setup) x kind)
+      go None is it = inl (sym (same_Some x.progress.local s it), posts None is ∙ append-nil x.sent)
+      go (Some i) is it = inr (record {
+        given = i;
+        taken = it;
+        posts = posts (Some i) is;
+        brought = λ o y same.
+            let from = subst (Brings t) same (brings t p kind i is) in
+            subst (λ a. Contains (sent_in a) y) (sym from.1) (in_contained from.0.sent y from.2);
+      })
 
   -- the state after a step of a process x that goes on to the local state s
   module _ (p k : ℕ) (kind : Kind) (x : ProcessState LocalState) (s : LocalState) (at : nth t.processes p ≡ Some x)
@@ -217,7 +169,7 @@ module _ (n : ℕ) (setup : Parts) (t : RunState LocalState) (lawful : Lawful n 
       let taken = taken_from (leader_machine setup) t to p k kind is in
       let accepted = parts (leader_machine setup) t to p k kind taken in
       subst (λ z. Lawful n setup.quorum z) taken.leads_to
-      (lawful_left p k kind taken.process taken.next taken.at_process (kind_step taken.process taken.next p kind accepted.met accepted.takes))
+      (lawful_left p k kind taken.process taken.next taken.at_process (kind_step taken.process taken.next p kind accepted.takes))
   after_lawful (happening.Lost copy) to is =
       let lost = where_true _ _ to is in
       subst (λ z. Lawful n setup.quorum z) (same_Some (record t { lost = set.insert t.lost copy }) to lost.1)

@@ -30,15 +30,6 @@ pub record JointLaws (n q : ℕ) (sent : ℕ → Payload → Type 0) (heard : �
   pub delivered : (p s : ℕ) (x : Payload) → heard p s x → sent s x
   pub decided : (p v : ℕ) → sent p (D v) → (r : ℕ) × Chosen q sent r v
 
--- of two rounds one is the later by some number, or they are equal
-compare_rounds : (r t : ℕ) → ((d : ℕ) × (t ≡ suc (r + d))) ⊎ ((r ≡ t) ⊎ ((d : ℕ) × (r ≡ suc (t + d))))
-compare_rounds r t = go (cases_lt r t) (cases_lt t r)
-  where
-    go : (r < t) ⊎ (t ≤ r) → (t < r) ⊎ (r ≤ t) → ((d : ℕ) × (t ≡ suc (r + d))) ⊎ ((r ≡ t) ⊎ ((d : ℕ) × (r ≡ suc (t + d))))
-    go (inl later) other = inl (t - suc r, omega arith)
-    go (inr late) (inl earlier) = inr (inr (r - suc t, omega arith))
-    go (inr late) (inr early) = inr (inl (omega arith))
-
 module _ (n q : ℕ) (small : n ≤ 9) (majority : n < q + q)
     (sent : ℕ → Payload → Type 0) (heard : ℕ → ℕ → Payload → Type 0) (laws : JointLaws n q sent heard) where
   -- two quorums of senders share one
@@ -74,21 +65,18 @@ module _ (n q : ℕ) (small : n ≤ 9) (majority : n < q + q)
 
   -- what a quorum has voted in round r, whoever leaves round r takes along
   pub taken_along : (r v p e : ℕ) → Chosen q sent r v → LeaveBasis q (sent p) (heard p) r e → e ≡ v
-  taken_along r v p e chosen leave =
-      let P : ℕ → Type 0 = λ s. sent s (P2 r (Some v)) in
-      go (share P (Voted (heard p) r e) (was_sent r v) has_voted chosen leave.quorum)
+  taken_along r v p e chosen leave = by_vote shared.2.0 shared.2.1 shared.2.2
     where
-      has_voted : (s : ℕ) → Voted (heard p) r e s → (x : Payload) × sent s x
-      has_voted s it = (P2 r it.0, laws.delivered p s (P2 r it.0) it.1)
+      shared : (s : ℕ) × sent s (P2 r (Some v)) × Voted (heard p) r e s
+      shared =
+          share (λ s. sent s (P2 r (Some v))) (Voted (heard p) r e) (was_sent r v) (λ s it. (P2 r it.0, laws.delivered p s (P2 r it.0) it.1))
+          chosen leave.quorum
 
-      go : ((s : ℕ) × sent s (P2 r (Some v)) × Voted (heard p) r e s) → e ≡ v
-      go shared = by_vote shared.2.0 shared.2.1 shared.2.2
-        where
-          by_vote : (a : Option ℕ) → heard p shared.0 (P2 r a) → (a ≡ None) ⊎ Carried (heard p) r e → e ≡ v
-          by_vote a here (inr carried) = one_aux r carried.0 e shared.0 v (laws.delivered p carried.0 (P2 r (Some e)) carried.1) shared.1
-          by_vote a here (inl none) =
-              let same : a ≡ Some v = (laws.each shared.0).one_vote r a (Some v) (laws.delivered p shared.0 (P2 r a) here) shared.1 in
-              cc
+      by_vote : (a : Option ℕ) → heard p shared.0 (P2 r a) → (a ≡ None) ⊎ Carried (heard p) r e → e ≡ v
+      by_vote a here (inr carried) = one_aux r carried.0 e shared.0 v (laws.delivered p carried.0 (P2 r (Some e)) carried.1) shared.1
+      by_vote a here (inl none) =
+          let same : a ≡ Some v = (laws.each shared.0).one_vote r a (Some v) (laws.delivered p shared.0 (P2 r a) here) shared.1 in
+          cc
 
   -- some process voted what was chosen
   pub voted : (r v : ℕ) → Chosen q sent r v → (s : ℕ) × sent s (P2 r (Some v))
@@ -99,10 +87,9 @@ module _ (n q : ℕ) (small : n ≤ 9) (majority : n < q + q)
 
   -- a voted value was the estimate of a leader in that round
   pub was_proposed : (r v p : ℕ) → sent p (P2 r (Some v)) → (o : ℕ) × (l : ℕ) × sent o (P1 r v l)
-  was_proposed r v p here = go ((laws.each p).aux_rests r v here)
-    where
-      go : AuxBasis q (heard p) r v → (o : ℕ) × (l : ℕ) × sent o (P1 r v l)
-      go basis = (basis.leader, basis.named, laws.delivered p basis.leader (P1 r v basis.named) basis.estimate)
+  was_proposed r v p here =
+      let basis = (laws.each p).aux_rests r v here in
+      (basis.leader, basis.named, laws.delivered p basis.leader (P1 r v basis.named) basis.estimate)
 
   -- whatever is proposed after a round in which v was chosen is v
   pub locked : (r v : ℕ) → Chosen q sent r v → (d u p e l : ℕ) → u ≡ r + d → sent p (P1 (suc u) e l) → e ≡ v
@@ -148,16 +135,16 @@ module _ (n q : ℕ) (small : n ≤ 9) (majority : n < q + q)
       locked r v one d (r + d) proposal.0 w proposal.1 refl (subst P later proposal.2)
 
   pub one_chosen : (r v t w : ℕ) → Chosen q sent r v → Chosen q sent t w → v ≡ w
-  one_chosen r v t w one other = go (compare_rounds r t)
+  one_chosen r v t w one other = go (cases_lt r t) (cases_lt t r)
     where
-      go : ((d : ℕ) × (t ≡ suc (r + d))) ⊎ ((r ≡ t) ⊎ ((d : ℕ) × (r ≡ suc (t + d)))) → v ≡ w
-      go (inl later) = sym (chosen_later r v t w later.0 later.1 one other)
-      go (inr (inr earlier)) = chosen_later t w r v earlier.0 earlier.1 other one
-      go (inr (inl same)) =
+      go : (r < t) ⊎ (t ≤ r) → (t < r) ⊎ (r ≤ t) → v ≡ w
+      go (inl later) any = sym (chosen_later r v t w (t - suc r) (omega arith) one other)
+      go (inr late) (inl earlier) = chosen_later t w r v (r - suc t) (omega arith) other one
+      go (inr late) (inr early) =
           let a = voted r v one in
           let b = voted t w other in
-          let P : ℕ → Type 0 = λ x. sent b.0 (P2 x (Some w)) in
-          one_aux r a.0 v b.0 w a.1 (subst P (sym same) b.1)
+          let same : t ≡ r = omega arith in
+          one_aux r a.0 v b.0 w a.1 (subst (λ x. sent b.0 (P2 x (Some w))) same b.1)
 
   -- no two decision messages differ
   pub decisions_agree : (p v o w : ℕ) → sent p (D v) → sent o (D w) → v ≡ w

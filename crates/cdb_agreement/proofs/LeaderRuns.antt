@@ -1,12 +1,13 @@
 -- Runs of the leader machine: what each step keeps, and that no two decisions differ where a quorum is a majority.
-use Rattle.std.proofs.Common.{◌≡◌, ℕ, ◌+◌, ◌<◌, ◌≤◌, List, [], ◌∷◌, ◌++◌, Contains, Option, Some, None, option_and_then, ◌⊎◌, inl, inr, refl, sym, ap, subst}
+use Rattle.std.proofs.Common.{◌≡◌, ℕ, ◌+◌, ◌<◌, ◌≤◌, List, [], ◌∷◌, ◌++◌, Contains, Some, option_and_then, ◌⊎◌, inl, inr, refl, sym, ap, subst}
 use Rattle.std.proofs.Common.{◌∙◌, append_assoc, append-nil}
 use Rattle.std.proofs.lemmas.Bool.{cases_eq}
 use Rattle.std.proofs.lemmas.List.Elements.{Contains-append_left}
-use Rattle.std.proofs.lemmas.Option.{none-some, same_Some}
+use Rattle.std.proofs.lemmas.Option.{same_Some}
 use Rattle.std.specs.Option.{option_map_or}
 use Rattle.cdb_base.specs.declared.payload.Payload.{Payload}
 use Rattle.cdb_base.specs.declared.payload.Payload.TheVariants.{P2, D}
+use Rattle.cdb_causal.proofs.Reaches.{reached_push}
 use Rattle.cdb_causal.specs.Reach.{reached}
 use Rattle.cdb_process.specs.declared.Input.{Input}
 use Rattle.cdb_process.specs.declared.Input.TheVariants.{Recv}
@@ -16,6 +17,7 @@ use Rattle.cdb_leader.specs.LocalState.{LocalState, first_state}
 use Rattle.cdb_leader.specs.Table.{next_state}
 use Rattle.cdb_leader.specs.Trace.{sent_of, sent_along, IsHeard, IsFounded}
 use Rattle.cdb_leader.proofs.Promised.{sent_messages_are_founded, received_is_brought}
+use Rattle.cdb_rules.proofs.Taken.{bound}
 use Rattle.cdb_agreement.proofs.LeaderLaws.{Chosen, JointLaws, decisions_agree}
 use Rattle.cdb_agreement.proofs.Quorums.{quorum_follows}
 
@@ -50,36 +52,24 @@ first_taken q value = record { value = value; inputs = []; leads = refl; sends =
 -- where each input is accepted, the walk is over all of them
 walked : (s t : LocalState) (is : List Input) → reached next_state s is ≡ Some t → state_along next_state s is ≡ t
 walked s t [] leads = same_Some s t leads
-walked s t (i ∷ is) leads = go (next_state s i) leads (λ u. walked u t is)
-  where
-    go : (o : Option LocalState) → option_and_then (λ u. reached next_state u is) o ≡ Some t
-        → ((u : LocalState) → reached next_state u is ≡ Some t → state_along next_state u is ≡ t)
-        → option_map_or (λ u. state_along next_state u is) o s ≡ t
-    go None none later = absurd (none-some t none)
-    go (Some u) some later = later u some
+walked s t (i ∷ is) leads =
+    let next = bound (λ u. reached next_state u is) (next_state s i) t leads in
+    ap (λ o. option_map_or (λ u. state_along next_state u is) o s) next.1 ∙ walked next.0 t is next.2
 
 leads_on : (s t u : LocalState) (is : List Input) (i : Input) → reached next_state s is ≡ Some t → next_state t i ≡ Some u
     → reached next_state s (is ++ i ∷ []) ≡ Some u
-leads_on s t u [] i leads taken = ap (λ o. option_and_then (λ v. Some v) o) (ap (λ v. next_state v i) (same_Some s t leads) ∙ taken)
-leads_on s t u (j ∷ is) i leads taken = go (next_state s j) leads (λ v it. leads_on v t u is i it taken)
-  where
-    go : (o : Option LocalState) → option_and_then (λ v. reached next_state v is) o ≡ Some t
-        → ((v : LocalState) → reached next_state v is ≡ Some t → reached next_state v (is ++ i ∷ []) ≡ Some u)
-        → option_and_then (λ v. reached next_state v (is ++ i ∷ [])) o ≡ Some u
-    go None none later = absurd (none-some t none)
-    go (Some v) some later = later v some
+leads_on s t u is i leads taken = reached_push next_state s is i ∙ ap (λ o. option_and_then (λ v. next_state v i) o) leads ∙ taken
 
 sends_on : (s t u : LocalState) (is : List Input) (i : Input) → reached next_state s is ≡ Some t → next_state t i ≡ Some u
     → sent_along s (is ++ i ∷ []) ≡ sent_along s is ++ sent_of t i
 sends_on s t u [] i leads taken =
     ap (λ v. sent_along v (i ∷ [])) (same_Some s t leads) ∙ ap (λ o. option_map_or (λ v. sent_of t i ++ sent_along v []) o []) taken ∙ append-nil (sent_of t i)
-sends_on s t u (j ∷ is) i leads taken = go (next_state s j) leads (λ v it. sends_on v t u is i it taken)
-  where
-    go : (o : Option LocalState) → option_and_then (λ v. reached next_state v is) o ≡ Some t
-        → ((v : LocalState) → reached next_state v is ≡ Some t → sent_along v (is ++ i ∷ []) ≡ sent_along v is ++ sent_of t i)
-        → option_map_or (λ v. sent_of s j ++ sent_along v (is ++ i ∷ [])) o [] ≡ option_map_or (λ v. sent_of s j ++ sent_along v is) o [] ++ sent_of t i
-    go None none later = absurd (none-some t none)
-    go (Some v) some later = ap (λ xs. sent_of s j ++ xs) (later v some) ∙ sym (append_assoc (sent_of s j) (sent_along v is) (sent_of t i))
+sends_on s t u (j ∷ is) i leads taken =
+    let next = bound (λ v. reached next_state v is) (next_state s j) t leads in
+    ap (λ o. option_map_or (λ v. sent_of s j ++ sent_along v (is ++ i ∷ [])) o []) next.1
+    ∙ ap (λ xs. sent_of s j ++ xs) (sends_on next.0 t u is i next.2 taken)
+    ∙ sym (append_assoc (sent_of s j) (sent_along next.0 is) (sent_of t i))
+    ∙ ap (λ o. option_map_or (λ v. sent_of s j ++ sent_along v is) o [] ++ sent_of t i) (sym next.1)
 
 -- what the machine promises of the inputs holds of what the process has sent
 pub founded : (q : ℕ) (local : LocalState) (sent : List Payload) → HasTaken q local sent → IsFounded q local sent

@@ -1,5 +1,6 @@
 -- the rules of every run, and the numbers of its steps and sends
 pub mod Firsts
+pub mod Inputs
 pub mod Lawful
 pub mod KeptHistories
 pub mod Numbered

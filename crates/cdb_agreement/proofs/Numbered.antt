@@ -1,8 +1,8 @@
 -- In a valid history the steps of a process, and its sends, are numbered in order.
 use Rattle.std.proofs.lemmas.Grind.{common_steps}
 use Rattle.std.proofs.lemmas.Option.{gets}
-use Rattle.std.proofs.Common.{◌≡◌, ℕ, zero, suc, ◌+◌, Bool, true, false, ◌==◌, List, [], ◌∷◌, ◌++◌, length, Option, Some, None, option_map}
-use Rattle.std.proofs.Common.{option_to_list, unwrap_or, cond, filter, slice_get, refl, sym, ap, ◌∙◌, subst, true≢false, arith}
+use Rattle.std.proofs.Common.{◌≡◌, ◌↔◌, ℕ, zero, suc, ◌+◌, Bool, true, false, ◌==◌, List, [], ◌∷◌, ◌++◌, length, Some}
+use Rattle.std.proofs.Common.{option_to_list, cond, filter, slice_get, refl, sym, ap, ◌∙◌, subst, true≢false, arith}
 use Rattle.std.proofs.lemmas.List.{length_push}
 use Rattle.std.proofs.lemmas.Bool.Decides.{nat_tests}
 use Rattle.std.proofs.lemmas.Option.{none-some, same_Some}
@@ -17,7 +17,7 @@ use Rattle.cdb_base.specs.declared.name.StepId.{StepId}
 use Rattle.cdb_base.specs.declared.name.StepId.TheVariants as named
 use Rattle.cdb_causal.specs.Exchange.{IsIn, here, there}
 use Rattle.cdb_rules.specs.Runs.{step_name}
-use Rattle.cdb_rules.specs.State.{Machine, ProcessState, RunState, start}
+use Rattle.cdb_rules.specs.State.{Machine, RunState, start}
 use Rattle.cdb_process.specs.Wishes.{wished_payload}
 use Rattle.cdb_rules.specs.Step.{after, IsValid}
 use Rattle.cdb_rules.proofs.Commutes.{lost_from}
@@ -108,6 +108,20 @@ module _ {L : Type 0} (machine : Machine L) where
         let a = r.1 in
         (r.0, omega (arith, a, none))
 
+    -- so the one with number k stands at k
+    stands_at : (history : List Event) → IsValid machine history → count (start machine) ≡ 0 → (k : ℕ) (event : Event)
+        → nth (filter is history) k ≡ Some event ↔ IsIn event history × (is event ≡ true) × (number event ≡ k)
+    stands_at history valid none k event = (at_number k, stands)
+      where
+        at_number : (k : ℕ) → nth (filter is history) k ≡ Some event → IsIn event history × (is event ≡ true) × (number event ≡ k)
+        at_number zero h = absurd (none-some event h)
+        at_number (suc i) h = let it = in_order history valid none i event h in (passes is history i event h, it.0, it.1)
+
+        stands : IsIn event history × (is event ≡ true) × (number event ≡ k) → nth (filter is history) k ≡ Some event
+        stands it =
+            let at = passed is history event it.1 it.0 in
+            subst (λ j. nth (filter is history) j ≡ Some event) (sym (in_order history valid none at.0 event at.1).1 ∙ it.2) at.1
+
   -- steps
 
   module _ (p : ℕ) where
@@ -133,12 +147,7 @@ module _ {L : Type 0} (machine : Machine L) where
     steps_keep state next (Lost copy) one e = ap (λ (x : RunState L). steps_of x p) (sym (lost_from machine state next copy one).1)
 
     no_steps : steps_of (start machine) p ≡ 0
-    no_steps = go (nth (start machine).processes p) (λ process at. ap (λ (x : ProcessState L). x.progress.steps) (sym (nth-fresh machine p process at).1))
-      where
-        go : (o : Option (ProcessState L)) → ((process : ProcessState L) → o ≡ Some process → process.progress.steps ≡ 0)
-            → of_process (λ process. process.progress.steps) o ≡ 0
-        go None fresh = refl
-        go (Some process) fresh = fresh process refl
+    no_steps = grind (arith, common_steps, gets, nth-fresh)
 
     step_named : (k : ℕ) (x : Event) → is_step_of p x ≡ true → step_number x ≡ k → event_name x ≡ step_name p k
     step_named k x is number = grind (arith, common_steps, gets)
@@ -147,19 +156,9 @@ module _ {L : Type 0} (machine : Machine L) where
     is_of k x same = grind (arith, common_steps, gets)
 
   pub steps_numbered : (history : List Event) → IsValid machine history → AreStepsNumbered history
-  steps_numbered history valid p k event = (at_number k, λ named. stands k named.0 (is_of p k event named.1))
-    where
-      order : (i : ℕ) (x : Event) → slice_get (filter (is_step_of p) history) i ≡ Some x → (is_step_of p x ≡ true) × (step_number p x ≡ suc i)
-      order = in_order (is_step_of p) (step_number p) (λ state. steps_of state p) (steps_count p) (steps_keep p) history valid (no_steps p)
-
-      at_number : (k : ℕ) → nth (filter (is_step_of p) history) k ≡ Some event → IsIn event history × (event_name event ≡ step_name p k)
-      at_number zero h = absurd (none-some event h)
-      at_number (suc i) h = (passes (is_step_of p) history i event h, let o = order i event h in step_named p (suc i) event o.0 o.1)
-
-      stands : (k : ℕ) → IsIn event history → (is_step_of p event ≡ true) × (step_number p event ≡ k) → nth (filter (is_step_of p) history) k ≡ Some event
-      stands k is_in its =
-          let at = passed _ history event its.0 is_in in
-          subst (λ j. nth (filter (is_step_of p) history) j ≡ Some event) (sym (order at.0 event at.1).1 ∙ its.1) at.1
+  steps_numbered history valid p k event =
+      let at = stands_at (is_step_of p) (step_number p) (λ state. steps_of state p) (steps_count p) (steps_keep p) history valid (no_steps p) k event in
+      (λ h. let it = at.0 h in (it.0, step_named p k event it.1 it.2), λ named. let is = is_of p k event named.1 in at.1 (named.0, is.0, is.1))
 
   -- sends
 
@@ -204,10 +203,9 @@ module _ {L : Type 0} (machine : Machine L) where
     unsent : (state next : RunState L) (q k : ℕ) (kind : Kind) (t : IsTaken machine state q k kind next)
         → sent_after machine t.process kind ≡ t.process.sent → sends_of next p ≡ sends_of state p
     unsent state next q k kind t same =
+        let own = sends_left state next q k kind t ∙ ap length same ∙ sym (sends_were state next q k kind t) in
         elim (q == p) as (λ b. (q == p) ≡ b → sends_of next p ≡ sends_of state p) [
-          | true ↦ λ e.
-              subst (λ i. sends_of next i ≡ sends_of state i) (nat_eq-is q p e)
-              (sends_left state next q k kind t ∙ ap length same ∙ sym (sends_were state next q k kind t))
+          | true ↦ λ e. subst (λ i. sends_of next i ≡ sends_of state i) (nat_eq-is q p e) own
           | false ↦ λ e. other_sends state next q k kind t e
         ] refl
 
@@ -218,30 +216,14 @@ module _ {L : Type 0} (machine : Machine L) where
     sends_keep state next (Lost copy) one e = ap (λ (x : RunState L). sends_of x p) (sym (lost_from machine state next copy one).1)
 
     no_sends : sends_of (start machine) p ≡ 0
-    no_sends =
-        ap (λ o. length (unwrap_or o [])) (nth-map _ _ p)
-        ∙ go (nth (start machine).processes p) (λ process at. ap (λ (x : ProcessState L). length x.sent) (sym (nth-fresh machine p process at).1))
-      where
-        go : (o : Option (ProcessState L)) → ((process : ProcessState L) → o ≡ Some process → length process.sent ≡ 0)
-            → length (unwrap_or (option_map (λ (x : ProcessState L). x.sent) o) []) ≡ 0
-        go None fresh = refl
-        go (Some process) fresh = fresh process refl
+    no_sends = grind (arith, common_steps, gets, nth-fresh, nth-map)
 
     send_is : (m : ℕ) (x : Event) → is_send_by p x ≡ true → message_number x ≡ m → (k : ℕ) × (x ≡ Step p k (Send m))
     send_is m x is number = grind (arith, common_steps, gets)
 
   pub sends_numbered : (history : List Event) → IsValid machine history → AreSendsNumbered history
   sends_numbered history valid p m event =
-      (at_number m, λ sent. stands m sent.0 (let is = sent.1.1 in (subst (λ x. is_send_by p x ≡ true) (sym is) (is_its_own p), ap (message_number p) is)))
-    where
-      order : (i : ℕ) (x : Event) → slice_get (filter (is_send_by p) history) i ≡ Some x → (is_send_by p x ≡ true) × (message_number p x ≡ suc i)
-      order = in_order (is_send_by p) (message_number p) (λ state. sends_of state p) (sends_count p) (sends_keep p) history valid (no_sends p)
-
-      at_number : (m : ℕ) → nth (filter (is_send_by p) history) m ≡ Some event → IsIn event history × ((k : ℕ) × (event ≡ Step p k (Send m)))
-      at_number zero h = absurd (none-some event h)
-      at_number (suc i) h = (passes _ history i event h, let o = order i event h in send_is p (suc i) event o.0 o.1)
-
-      stands : (m : ℕ) → IsIn event history → (is_send_by p event ≡ true) × (message_number p event ≡ m) → nth (filter (is_send_by p) history) m ≡ Some event
-      stands m is_in its =
-          let at = passed _ history event its.0 is_in in
-          subst (λ j. nth (filter (is_send_by p) history) j ≡ Some event) (sym (order at.0 event at.1).1 ∙ its.1) at.1
+      let at = stands_at (is_send_by p) (message_number p) (λ state. sends_of state p) (sends_count p) (sends_keep p) history valid (no_sends p) m event in (
+        λ h. let it = at.0 h in (it.0, send_is p m event it.1 it.2),
+        λ sent. let is = sent.1.1 in at.1 (sent.0, subst (λ x. is_send_by p x ≡ true) (sym is) (is_its_own p), ap (message_number p) is),
+      )

@@ -1,7 +1,7 @@
 -- Each value that a process of a run holds was the input of a process, where the machine makes no value of its own.
 use Rattle.std.proofs.lemmas.Grind.{common_steps}
 use Rattle.std.proofs.lemmas.Option.{gets}
-use Rattle.std.proofs.Common.{◌≡◌, ℕ, zero, suc, Bool, true, false, List, [], ◌∷◌, ◌++◌, length, Option, Some, None, option_map, option_to_list, unwrap_or}
+use Rattle.std.proofs.Common.{◌≡◌, ℕ, zero, suc, List, ◌++◌, length, Option, Some, None, option_to_list}
 use Rattle.std.proofs.Common.{if◌then◌else◌, ◌⊎◌, inl, inr, refl, sym, ap, subst, ◌∙◌, append-nil, arith}
 use Rattle.std.specs.FinSet as set
 use Rattle.std.proofs.lemmas.Bool.{cases_eq}
@@ -10,12 +10,11 @@ use Rattle.cdb_base.specs.Positions.{nth}
 use Rattle.cdb_base.specs.declared.event.Event.{Event}
 use Rattle.cdb_base.specs.declared.event.Event.TheVariants as happening
 use Rattle.cdb_base.specs.declared.event.Kind.{Kind}
-use Rattle.cdb_base.specs.declared.event.Kind.TheVariants.{Query, Send, Recv, Read, Write, Local, Learn, Crash}
+use Rattle.cdb_base.specs.declared.event.Kind.TheVariants.{Send, Write}
 use Rattle.cdb_base.specs.declared.payload.Payload.{Payload}
 use Rattle.cdb_base.specs.declared.register.Cell.{Cell}
 use Rattle.cdb_base.specs.declared.register.Reg.{Reg}
 use Rattle.cdb_base.specs.declared.register.Reg.TheVariants.{R, Dec}
-use Rattle.cdb_message.specs.Mail.{message_name, copy_name, payload_of, is_lost}
 use Rattle.cdb_process.specs.Table.{Table}
 use Rattle.cdb_process.specs.Values.{payload_value, brought_value, MakesNoValue}
 use Rattle.cdb_process.specs.Wishes.{wished_payload, wished_cell}
@@ -28,30 +27,20 @@ use Rattle.cdb_setup.specs.Parts.{Parts}
 use Rattle.cdb_rules.specs.Agreement.{IsProposed, AreProposed}
 use Rattle.cdb_rules.specs.Decisions.{decisions_of}
 use Rattle.cdb_rules.specs.Machines.{machine_of}
-use Rattle.cdb_rules.specs.Mail.{mail_of}
 use Rattle.cdb_rules.specs.State.{Machine, ProcessState, RunState, start, fresh_process}
 use Rattle.cdb_rules.specs.Step.{after, fold}
-use Rattle.cdb_rules.specs.InputsTaken.{arriving, taken_local, input_of, registers_after}
+use Rattle.cdb_rules.specs.InputsTaken.{taken_local, input_of, registers_after}
 use Rattle.cdb_rules.proofs.FoldKeeps.{reached_keeps}
-use Rattle.cdb_rules.proofs.Positions.{nth-map, nth-set_nth_same, nth-set_nth_other, nth-update_nth_same, nth-update_nth_other, nth_within}
+use Rattle.cdb_rules.proofs.Positions.{nth-map, nth-update_nth_same, nth-update_nth_other, nth_within}
 use Rattle.cdb_rules.proofs.Stages.{sight_in, sent_after, process_after, state_after}
 use Rattle.cdb_rules.proofs.Taken.{mapped, taken_from, parts, where_true}
 use Rattle.cdb_agreement.proofs.Decided.{decided_of}
 use Rattle.cdb_agreement.proofs.Firsts.{first_of_input}
-
-nth_in : {A : Type 0} (xs : List A) (i : ℕ) (x : A) → nth xs i ≡ Some x → IsIn x xs
-nth_in xs zero x is = absurd (none-some x is)
-nth_in [] (suc i) x is = absurd (none-some x is)
-nth_in (y ∷ ys) (suc zero) x is = inl (sym (same_Some y x is))
-nth_in (y ∷ ys) (suc (suc i)) x is = inr (nth_in ys (suc i) x is)
+use Rattle.cdb_agreement.proofs.Inputs.{Brings, brings, each_place}
 
 in_more : {A : Type 0} (x : A) (xs : List A) (o : Option A) → IsIn x (xs ++ option_to_list o) → IsIn x xs ⊎ (o ≡ Some x)
 in_more x xs None here = inl (subst (λ ys. IsIn x ys) (append-nil xs) here)
-in_more x xs (Some y) here = go (in_push x y xs here)
-  where
-    go : IsIn x xs ⊎ (x ≡ y) → IsIn x xs ⊎ (Some y ≡ Some x)
-    go (inl old) = inl old
-    go (inr new) = inr (ap (λ z. Some z) (sym new))
+in_more x xs (Some y) here = elim (in_push x y xs here) [ inl old ↦ inl old | inr new ↦ inr (ap (λ z. Some z) (sym new)) ]
 
 module _ {L : Type 0} (table : Table L) (holds : L → ℕ → Type 0) (makes : MakesNoValue table holds) (setup : Parts)
     (each : length setup.inputs ≡ setup.processes) where
@@ -100,39 +89,14 @@ module _ {L : Type 0} (table : Table L) (holds : L → ℕ → Type 0) (makes : 
   -- ---- an event
 
   module _ (t : RunState L) (sourced : Sourced t) where
-    -- a payload that arrives was sent
-    arrived : (p s m : ℕ) (y : Payload) → arriving (mail_of t) p (message_name s m) ≡ Some y → (v : ℕ) → payload_value y ≡ Some v → IsProposed setup v
-    arrived p s m y is v carries = go (is_lost (mail_of t) (copy_name (message_name s m) p)) is
-      where
-        by_sender : (o : Option (ProcessState L)) → nth t.processes s ≡ o
-            → nth (unwrap_or (option_map (λ (x : ProcessState L). x.sent) o) []) m ≡ Some y → IsProposed setup v
-        by_sender None at there = let none = nth_in [] m y there in elim none [ ]
-        by_sender (Some x) at there = sourced.sent s x at y (nth_in x.sent m y there) v carries
-
-        go : (b : Bool) → (if b then None else payload_of (mail_of t) (message_name s m)) ≡ Some y → IsProposed setup v
-        go true it = absurd (none-some y it)
-        go false it = by_sender (nth t.processes s) refl (sym (ap (λ sent. nth (unwrap_or sent []) m) (nth-map _ _ s)) ∙ it)
-
-    -- an input that brings no value
-    quiet : (i j : Input) (v : ℕ) → brought_value i ≡ None → Some i ≡ Some j → brought_value j ≡ Some v → IsProposed setup v
-    quiet i j v none same is = absurd (none-some v (sym none ∙ (ap brought_value (same_Some i j same) ∙ is)))
-
     -- the value that the input of a step brings was proposed
     brought : (p : ℕ) (kind : Kind) (i : Input) → input_of kind (sight_in t p kind) ≡ Some i → (v : ℕ) → brought_value i ≡ Some v → IsProposed setup v
-    brought p (Query leader) i is v brings = quiet (input.Query leader) i v refl is brings
-    brought p (Send m) i is v brings = quiet input.Send i v refl is brings
-    brought p (Recv s m) i is v brings =
-        let it = mapped _ _ i is in
-        arrived p s m it.0 it.1 v (ap brought_value it.2 ∙ brings)
-    brought p (Read register) i is v brings =
-        let it = mapped _ _ i is in
-        sourced.shown register it.0 it.1 v (ap brought_value it.2 ∙ brings)
-    brought p (Write register) i is v brings =
-        let it = mapped _ _ i is in
-        quiet (input.Write register) i v refl (ap (λ (j : Input). Some j) it.2) brings
-    brought p Local i is v brings = quiet input.Local i v refl is brings
-    brought p Learn i is v brings = quiet input.Learn i v refl is brings
-    brought p Crash i is v brings = absurd (none-some i is)
+    brought p kind i is v = by_input i (brings t p kind i is)
+      where
+        by_input : (i : Input) → Brings t i → brought_value i ≡ Some v → IsProposed setup v
+        by_input (input.Recv s y) from carries = sourced.sent s from.0 from.1 y from.2 v carries
+        by_input (input.Read r cell) from carries = sourced.shown r from.0 from.1 v (ap (λ (c : Cell). c.val) (sym from.2) ∙ carries)
+        by_input _ from carries = absurd (none-some v carries)
 
     module _ (p k : ℕ) (kind : Kind) (x : ProcessState L) (s : L) (at : nth t.processes p ≡ Some x)
         (takes : taken_local table.next x.progress.local (input_of kind (sight_in t p kind)) ≡ Some s) where
@@ -160,18 +124,12 @@ module _ {L : Type 0} (table : Table L) (holds : L → ℕ → Type 0) (makes : 
           old it = sourced.sent p x at payload it v carries
 
           go : (kind : Kind) → IsIn payload (sent_after machine x kind) → IsProposed setup v
-          go (Query leader) it = old it
           go (Send m) it = new (in_more payload x.sent _ it)
             where
               new : IsIn payload x.sent ⊎ (wished_payload (table.wish x.progress.local) ≡ Some payload) → IsProposed setup v
               new (inl was) = old was
               new (inr wishes) = sourced.held p x at v (makes.sent x.progress.local payload v wishes carries)
-          go (Recv o m) it = old it
-          go (Read register) it = old it
-          go (Write register) it = old it
-          go Local it = old it
-          go Learn it = old it
-          go Crash it = old it
+          go _ it = old it
 
       -- a register that was written shows the cell, and any other what it showed
       written : (register r : Reg) (cell : Cell) → ((v : ℕ) → cell.val ≡ Some v → IsProposed setup v) → (stands : RegisterState)
@@ -203,30 +161,16 @@ module _ {L : Type 0} (table : Table L) (holds : L → ℕ → Type 0) (makes : 
 
           go : (kind : Kind) → register_of (registers_after t.registers kind (wished_cell (table.wish x.progress.local))) r ≡ Some stands → IsProposed setup v
           go (Write register) it = by_cell register (wished_cell (table.wish x.progress.local)) refl it
-          go (Query leader) it = sourced.shown r stands it v val
-          go (Send m) it = sourced.shown r stands it v val
-          go (Recv o m) it = sourced.shown r stands it v val
-          go (Read register) it = sourced.shown r stands it v val
-          go Local it = sourced.shown r stands it v val
-          go Learn it = sourced.shown r stands it v val
-          go Crash it = sourced.shown r stands it v val
-
-      -- what holds of the process that moved, and of those that did not, holds of all
-      by_process : (P : ProcessState L → Type 0) → P left → ((o : ℕ) (y : ProcessState L) → nth t.processes o ≡ Some y → P y)
-          → (o : ℕ) (y : ProcessState L) → nth to.processes o ≡ Some y → P y
-      by_process P moves rests o y is = go (cases_eq o p)
-        where
-          go : (o ≡ p) ⊎ (o ≡ p → ⊥) → P y
-          go (inl same) =
-              let here = subst (λ m. nth to.processes m ≡ Some y) same is in
-              subst P (same_Some left y (sym (nth-set_nth_same _ p left x at) ∙ here)) moves
-          go (inr other) = rests o y (sym (nth-set_nth_other _ p o left (λ same. other (sym same))) ∙ is)
+          go _ it = sourced.shown r stands it v val
 
       sourced_left : Sourced to
       sourced_left = record {
-        held = by_process (λ y. (v : ℕ) → holds y.progress.local v → IsProposed setup v) held_left sourced.held;
+        held =
+            each_place (λ o y. (v : ℕ) → holds y.progress.local v → IsProposed setup v) t.processes p left x at held_left
+            (λ o y other. sourced.held o y);
         sent =
-            by_process (λ y. (payload : Payload) → IsIn payload y.sent → (v : ℕ) → payload_value payload ≡ Some v → IsProposed setup v) sent_left sourced.sent;
+            each_place (λ o y. (payload : Payload) → IsIn payload y.sent → (v : ℕ) → payload_value payload ≡ Some v → IsProposed setup v) t.processes p
+            left x at sent_left (λ o y other. sourced.sent o y);
         shown = shown_left;
       }
 

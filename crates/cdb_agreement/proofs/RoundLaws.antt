@@ -1,12 +1,10 @@
 -- What the rounds of both algorithms keep to, from the laws of the runs that valid histories are.
-use Rattle.std.proofs.Common.{◌≡◌, ℕ, suc, ◌+◌, ◌*◌, ◌<◌, ◌≤◌, List, length, Contains, Option, Some, None, ◌⊎◌, inl, inr, refl, sym, ap, subst, ◌∙◌, arith}
-use Rattle.std.proofs.lemmas.Bool.{cases_lt}
+use Rattle.std.proofs.Common.{◌≡◌, ℕ, suc, ◌+◌, ◌*◌, ◌<◌, ◌≤◌, List, length, Contains, Option, Some, None, refl, sym, ap, subst, ◌∙◌, arith}
 use Rattle.cdb_base.specs.Positions.{nth}
 use Rattle.cdb_base.specs.declared.event.Event.{Event}
 use Rattle.cdb_base.specs.declared.payload.Payload.{Payload}
 use Rattle.cdb_base.specs.declared.payload.Payload.TheVariants.{P1, P2, D}
 use Rattle.cdb_base.specs.declared.register.Cell.{Cell}
-use Rattle.cdb_process.proofs.Members.{IsIn}
 use Rattle.cdb_register.specs.declared.RegisterState.{RegisterState}
 use Rattle.cdb_alpha.specs.LocalState.{LocalState as AlphaState}
 use Rattle.cdb_alpha.specs.Place.{place_number}
@@ -19,7 +17,7 @@ use Rattle.cdb_agreement.specs.Rounds.{HasSent, HasReceived, IsDecided, LeaderMe
 use Rattle.cdb_rules.specs.State.{ProcessState, RunState}
 use Rattle.cdb_rules.specs.Step.{fold}
 use Rattle.cdb_agreement.proofs.AlphaHistories as alpha
-use Rattle.cdb_agreement.proofs.AlphaRuns.{Run, Settled, Dead, one_value, carried_not_dead}
+use Rattle.cdb_agreement.proofs.AlphaRuns.{Run, Settled, settled_follows}
 use Rattle.cdb_agreement.proofs.LeaderHistories as leader
 use Rattle.cdb_agreement.proofs.LeaderLaws.{Chosen, JointLaws, one_aux, locked, one_chosen}
 use Rattle.cdb_agreement.proofs.LeaderRuns.{joint_laws}
@@ -107,28 +105,11 @@ module _ (n : ℕ) (t : RunState AlphaState) (lawful : alpha.Lawful n t) where
   high_at i process at = let within = nth_within _ i process at in let size = lawful.size in omega arith
 
   -- what is settled is what every later write wrote
-  settled_later : (v i r : ℕ) → 1 ≤ i → i ≤ n → IsIn r (run.traced i).carried → IsIn (r, v) (run.traced i).own_writes
-      → (j : ℕ) → 1 ≤ j → j ≤ n → r ≤ (run.traced j).own.lrww → (run.traced j).own.val ≡ Some v
-  settled_later v i r il ih carried wrote j jl jh later = by_round (cases_lt r (run.traced j).own.lrww)
-    where
-      positive : 1 ≤ r
-      positive = ((lawful.laws.each i il ih).written_low r v wrote).0
-
-      shown : (x : ℕ) × ((run.traced j).own.val ≡ Some x) × IsIn ((run.traced j).own.lrww, x) (run.traced j).own_writes
-      shown = let a = positive in (lawful.laws.each j jl jh).own_known (omega arith)
-
-      live : Dead n run i r ⊎ (shown.0 ≡ v) → shown.0 ≡ v
-      live (inl dead) = absurd (carried_not_dead n run lawful.laws i r il ih carried dead)
-      live (inr same) = same
-
-      is : shown.0 ≡ v → (run.traced j).own.val ≡ Some v
-      is same = shown.1 ∙ ap (λ (x : ℕ). Some x) same
-
-      by_round : (r < (run.traced j).own.lrww) ⊎ ((run.traced j).own.lrww ≤ r) → (run.traced j).own.val ≡ Some v
-      by_round (inl above) = is (live (lawful.laws.agree i r v j (run.traced j).own.lrww shown.0 il ih jl jh wrote shown.2 above))
-      by_round (inr below) =
-          let same : (run.traced j).own.lrww ≡ r = omega arith in
-          is (sym (one_value n run lawful.laws i r v j shown.0 il ih jl jh wrote (subst (λ m. IsIn (m, shown.0) (run.traced j).own_writes) same shown.2)))
+  settled_later : (v : ℕ) (it : Settled n run v) (j : ℕ) → 1 ≤ j → j ≤ n → it.1 ≤ (run.traced j).own.lrww → (run.traced j).own.val ≡ Some v
+  settled_later v it j jl jh later =
+      let positive = ((lawful.laws.each it.0 it.2 it.3).written_low it.1 v it.5).0 in
+      let shown = (lawful.laws.each j jl jh).own_known (omega arith) in
+      shown.1 ∙ ap (λ (x : ℕ). Some x) (settled_follows n run lawful.laws v it j _ shown.0 jl jh shown.2 later)
 
   module _ (i : ℕ) (process : ProcessState AlphaState) (at : nth t.processes i ≡ Some process) where
     abbrev local : AlphaState
@@ -178,8 +159,7 @@ module _ (n : ℕ) (t : RunState AlphaState) (lawful : alpha.Lawful n t) where
               let cell_is = lawful.holds j register shown in
               let last = ap (λ (c : Cell). c.lrww) cell_is in
               ap (λ (c : Cell). c.val) cell_is
-              ∙ settled_later v settled.0 settled.1 settled.2 settled.3 settled.4 settled.5 j (low_at j other there)
-              (high_at j other there) (omega (arith, later, last)),
+              ∙ settled_later v settled j (low_at j other there) (high_at j other there) (omega (arith, later, last)),
         )
 
 pub alpha_rounds : (setup : Parts) → AreInRange setup → (history : List Event) (t : RunState AlphaState)

@@ -1,5 +1,5 @@
 use Rattle.cdb_rules.proofs.WhereOk.{rolled_back_where_ok, rolled_back_back}
-use Rattle.cdb_rules.proofs.AllStanding.{standing_rolled_back, new_rolled_back, absent_rolled_back}
+use Rattle.cdb_rules.proofs.AllStanding.{standing_rolled_back, new_rolled_back}
 use Rattle.cdb_agreement.proofs.laws.granted_rollback.Goals as goal
 
 pub returns-clause-rolled_back : goal.returns-clause-rolled_back
@@ -7,9 +7,6 @@ returns-clause-rolled_back g c = standing_rolled_back
 
 pub returns-clause-no_step : goal.returns-clause-no_step
 returns-clause-no_step g c = new_rolled_back
-
-pub returns-clause-no_process : goal.returns-clause-no_process
-returns-clause-no_process g c = absent_rolled_back
 
 pub returns-clause-exact : goal.returns-clause-exact
 returns-clause-exact g c = rolled_back_where_ok

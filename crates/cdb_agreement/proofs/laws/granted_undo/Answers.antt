@@ -1,5 +1,5 @@
 use Rattle.cdb_rules.proofs.WhereOk.{undone_free, undone_back}
-use Rattle.cdb_rules.proofs.AllStanding.{free_undone, needed_refused, new_undone, absent_undone}
+use Rattle.cdb_rules.proofs.AllStanding.{free_undone, needed_refused, new_undone}
 use Rattle.cdb_agreement.proofs.laws.granted_undo.Goals as goal
 
 pub returns-clause-undone : goal.returns-clause-undone
@@ -10,9 +10,6 @@ returns-clause-needed g c = needed_refused
 
 pub returns-clause-no_step : goal.returns-clause-no_step
 returns-clause-no_step g c = new_undone
-
-pub returns-clause-no_process : goal.returns-clause-no_process
-returns-clause-no_process g c = absent_undone
 
 pub returns-clause-valid : goal.returns-clause-valid
 returns-clause-valid g c = λ machine n history name event left returned valid. (undone_back machine n history name _ _ returned valid).0

@@ -1,19 +1,9 @@
-use Rattle.std.proofs.Common.{◌≡◌, [], ◌∷◌, ◌++◌, length, Ok, true, sym, ap, ◌∙◌, subst, add-one}
+use Rattle.std.proofs.Common.{◌≡◌, [], ◌∷◌, ◌++◌, Ok, true, sym, subst}
 use Rattle.cdb_base.specs.declared.name.StepId.{StepId}
-use Rattle.cdb_causal.specs.Causality.{IsFree}
-use Rattle.cdb_causal.specs.Dependence.{depends}
 use Rattle.cdb_causal.specs.Names.{IsNewName}
-use Rattle.cdb_causal.specs.Rollback.{without}
 use Rattle.cdb_rules.specs.Undo.{names_processes, undo_of}
-use Rattle.cdb_causal.proofs.LastEvent.{last_free, without_push_back}
 use Rattle.cdb_rules.proofs.AllStanding.{last_undone}
 use Rattle.cdb_agreement.proofs.laws.step_then_undo.Goals as goal
-
-pub returns-clause-free : goal.returns-clause-free
-returns-clause-free c = λ history event. subst (IsFree depends (history ++ event ∷ [])) (sym (add-one (length history))) (last_free depends _ _)
-
-pub returns-clause-history : goal.returns-clause-history
-returns-clause-history c = λ history event. ap (without (history ++ event ∷ [])) (add-one (length history)) ∙ without_push_back _ _
 
 pub returns-clause-undone : goal.returns-clause-undone
 returns-clause-undone c =
