@@ -1,5 +1,5 @@
 pub mod FinalJournal
-pub mod Promised
+pub mod SomeOf
 pub mod KeptEntries
 pub mod KeptCalls
 pub mod SetupFaults

@@ -1,9 +1,9 @@
 -- A replica follows what its seat sees.
-use Rattle.std.proofs.Common.{◌≡◌, ℕ, ◌+◌, List, [], ◌++◌, drop, length, min}
-use Rattle.std.proofs.Common.{Option, None, Some, refl, sym, ap, subst, ◌∙◌, append-nil, arith, length-append}
-use Rattle.std.proofs.lemmas.List.{drop-append-le, drop_all}
+use Rattle.std.proofs.Common.{◌≡◌, ℕ, ◌+◌, List, ◌++◌, drop, length, min}
+use Rattle.std.proofs.Common.{Option, None, Some, refl, sym, ap, ◌∙◌, arith, length-append}
+use Rattle.std.proofs.Math.Seq.{drop-append_seam}
 use Rattle.std.specs.Prelude.{unwrap_or}
-use Rattle.cdb_control.specs.Journal.{Journaled}
+use Rattle.cdb_control.specs.Journal.{Begins, Journaled}
 use Rattle.cdb_control.specs.declared.control.Entry.{Entry}
 use Rattle.cdb_control.proofs.Own.{Begins-trans}
 use Rattle.cdb_journal.specs.OpenedFrom.{opened_from}
@@ -28,22 +28,18 @@ pub has_later : (old new : SeatView) (c : Option Journaled) → IsLater old new 
 has_later old new None later so = tt
 has_later old new (Some c) later so = replica_later old new c later so
 
--- a control in which nothing has happened is one
-pub replica_new : (seat : SeatView) (c : Journaled) → c ≡ opened_from seat.setup seat.seats [] → IsReplica seat c
-replica_new seat c is =
-    subst (IsReplica seat) (sym is) (record { opened_is = refl; begins = (seat.seen, refl) })
+-- a control that has carried out a beginning of what the seat has seen is one
+pub is_replica : (seat : SeatView) (c : Journaled) (journal : List Entry) → c ≡ opened_from seat.setup seat.seats journal → Begins journal seat.seen
+    → IsReplica seat c
+is_replica seat c journal is begins = rw is (record { opened_is = refl; begins = begins })
 
 module _ (seat : SeatView) (c : Journaled) (so : IsReplica seat c) where
   -- what the seat has seen is what it has, and the rest
   abbrev pub rest : List Entry
   rest = drop (length c.journal) seat.seen
 
-  same : rest ≡ so.begins.0
-  same = ap (drop (length c.journal)) so.begins.1 ∙ drop-append-le (length c.journal) c.journal so.begins.0 (omega arith)
-      ∙ ap (λ none. none ++ so.begins.0) (drop_all (length c.journal) c.journal (omega arith))
-
   pub all_seen : c.journal ++ rest ≡ seat.seen
-  all_seen = ap (λ more. c.journal ++ more) same ∙ sym so.begins.1
+  all_seen = ap (λ more. c.journal ++ more) (ap (drop (length c.journal)) so.begins.1 ∙ drop-append_seam c.journal so.begins.0) ∙ sym so.begins.1
 
   pub few_left : length c.journal + length rest ≡ length seat.seen
   few_left = sym (length-append c.journal rest) ∙ ap length all_seen
@@ -51,9 +47,6 @@ module _ (seat : SeatView) (c : Journaled) (so : IsReplica seat c) where
   -- and it has seen all once it has carried out the rest
   pub caught_up : (new : Journaled) → new ≡ record c { journal = c.journal ++ rest } → new ≡ opened_from seat.setup seat.seats seat.seen
   caught_up new is = is ∙ (λ i. record (so.opened_is i) { journal = all_seen i })
-
-  pub replica_new_seen : (new : Journaled) → new ≡ opened_from seat.setup seat.seats seat.seen → IsReplica seat new
-  replica_new_seen new is = subst (IsReplica seat) (sym is) (record { opened_is = refl; begins = ([], sym (append-nil seat.seen)) })
 
 -- what it tells then, from the entry on where somebody watches, is the news up to what was seen
 pub news_seen : (rules : Parts → Rules) (seat : SeatView) (from : Option ℕ) (first seen : ℕ)

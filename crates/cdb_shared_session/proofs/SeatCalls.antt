@@ -1,15 +1,14 @@
 -- What one call adds to what the journal has of a seat.
-use Rattle.std.proofs.Common.{◌≡◌, ◌↔◌, ℕ, ◌≤◌, true, List, [], ◌∷◌, ◌++◌, drop, length, map, take, Vec, Global}
-use Rattle.std.proofs.Common.{refl, sym, ap, subst, ◌∙◌, arith, length-append}
-use Rattle.std.proofs.lemmas.List.{take-append-le, take_all}
+use Rattle.std.proofs.Common.{◌≡◌, ◌↔◌, ℕ, ◌≤◌, true, [], ◌∷◌, ◌++◌, drop, length, map, take, Vec, Global}
+use Rattle.std.proofs.Common.{refl, ap, ◌∙◌, arith, length-append}
+use Rattle.std.proofs.lemmas.List.{length-map, map-append, take-append-le, take_all}
 use Rattle.std.specs.Prelude.{Result, Ok, Err, IfOk, IfErr, OnErr}
 use Rattle.cdb_base.specs.Limits.{MAX_ENTRIES}
-use Rattle.cdb_commands.specs.ReplyView.{ReplyView, reply_view}
+use Rattle.cdb_commands.specs.ReplyView.{reply_view}
 use Rattle.cdb_commands.specs.declared.command.Command.{Command}
 use Rattle.cdb_commands.specs.declared.reply.Reply.{Reply}
 use Rattle.cdb_control.specs.Journal.{entry, own}
 use Rattle.cdb_control.specs.declared.control.CallFault.{CallFault}
-use Rattle.cdb_control.specs.declared.control.Entry.{Entry}
 use Rattle.cdb_control.specs.declared.control.CallFault.TheVariants.{JournalFull, NoMemory}
 use Rattle.cdb_control.proofs.Own.{Begins-refl}
 use Rattle.cdb_journal.specs.SeatReplies.{news_lines, seat_replies_along}
@@ -21,24 +20,9 @@ use Rattle.cdb_shared.proofs.Steps.{calls_of-call, calls_of-fault, replies_to-ca
 use Rattle.cdb_session.specs.Styles.{GoesOn, MakesNone, Calls, Onward, stays, goes}
 use Rattle.cdb_session.specs.Answers.{run_left, answer_seen, AnswersNow}
 use Rattle.cdb_session.specs.Exchanges.{Answer}
-use Rattle.cdb_session.specs.Parts.{HaveJust}
 use Rattle.cdb_session.specs.declared.inquiry.Inquiry.{Inquiry}
 use Rattle.cdb_rules.specs.RunView.{RunView}
 use Rattle.cdb_shared_session.specs.SeatParts.{part_seen}
-
-map-more : {A B : Type 0} (f : A → B) (xs : List A) (x : A) → map f (xs ++ x ∷ []) ≡ map f xs ++ f x ∷ []
-map-more f [] x = refl
-map-more f (y ∷ xs) x = ap (λ more. f y ∷ more) (map-more f xs x)
-
-pub IsLater-refl : (seat : SeatView) → seat.rests ≡ true → IsLater seat seat
-IsLater-refl seat rests = record { home = refl; setup = refl; seats = refl; number = refl; rests = rests; begins = Begins-refl seat.seen }
-
--- a full journal stays full
-full_stays : (old new : SeatView) → IsLater old new → length new.seen ≤ MAX_ENTRIES → SeesFull old → SeesFull new
-full_stays old new later few full =
-    let longer = ap length later.begins.1 in
-    let parts = length-append old.seen later.begins.0 in
-    omega (arith, few, full, longer, parts)
 
 module _ (rules : Parts → Rules) where
   -- the journal begins as before
@@ -55,23 +39,13 @@ module _ (rules : Parts → Rules) where
             (λ i. news_lines (later.number i) (drop from (seat_replies_along (rules (later.setup i)) (later.setup i) (later.seats i) (first_seen to few i))));
       }
 
-  -- a seat before a call that was answered had not seen a full journal
-  room_before : (old new : SeatView) (command : Command) (reply : ReplyView)
-      → IsCall rules old command reply new → length new.seen ≤ MAX_ENTRIES → SeesFull old → ⊥
-  room_before old new command reply call few full =
-      let longer = ap length call.begins.1 in
-      let parts = length-append old.seen call.begins.0 in
-      let more = ap length call.entry in
-      let one = length-append call.journal (entry old.number command ∷ []) in
-      omega (arith, few, full, longer, parts, more, one)
-
   pub none_made : (old new : SeatView) → IsLater old new → length new.seen ≤ MAX_ENTRIES
       → SameCalls old new.seen → MakesNone (part_seen rules old) (part_seen rules new)
   none_made old new later few same = record {
     goes_on = goes_on old new later;
     calls = (λ i. map (entry (later.number i)) (calls_of-fault old new later same i));
     replies = replies_to-fault rules old new later same;
-    full = full_stays old new later few;
+    full = λ full. omega (arith, few, full, ap length later.begins.1, length-append old.seen later.begins.0);
   }
 
   pub calls_made : (old new : SeatView) (seat : ℕ) (command : Command) (r : Result Reply CallFault) → IsWithin old.number old.number seat
@@ -84,35 +58,32 @@ module _ (rules : Parts → Rules) where
         goes_on = goes_on old new later;
         calls =
             (λ i. map (entry (later.number i)) (calls_of-call rules old new command (reply_view reply) later call i))
-            ∙ map-more (entry old.number) (calls_of old) command ∙ ap (λ (n : ℕ). map (entry old.number) (calls_of old) ++ entry n command ∷ []) is;
+            ∙ map-append (entry old.number) (calls_of old) (command ∷ []) ∙ ap (λ (n : ℕ). map (entry old.number) (calls_of old) ++ entry n command ∷ []) is;
         replies = replies_to-call rules old new command (reply_view reply) later call;
-        room = room_before old new command (reply_view reply) call few;
+        room = λ full. omega (
+          arith,
+          few,
+          full,
+          ap length call.begins.1,
+          length-append old.seen call.begins.0,
+          ap length call.entry,
+          length-append call.journal (entry old.number command ∷ []),
+        );
       }
   calls_made old new seat command (Err JournalFull) its later call same full few = (none_made old new later few same, full.0 refl)
   calls_made old new seat command (Err (NoMemory refused)) its later call same full few = none_made old new later few same
 
 pub later_seat : (first now : SeatView) → first.rests ≡ true → Onward IsLater first now → IsLater first now
-later_seat first _ rests stays = IsLater-refl first rests
+later_seat first _ rests stays = record { home = refl; setup = refl; seats = refl; number = refl; rests = rests; begins = Begins-refl first.seen }
 later_seat first now rests (goes middle _ before later) = IsLater-trans first middle now (later_seat first middle rests before) later
 
-map-length : {A B : Type 0} (f : A → B) (xs : List A) → length (map f xs) ≡ length xs
-map-length f [] = refl
-map-length f (x ∷ xs) = let rest = map-length f xs in omega (arith, rest)
-
--- the journal that the seat has seen has all its commands
-just_now : (rules : Parts → Rules) (seat : SeatView) → let part = part_seen rules seat in HaveJust part (length part.calls) part.entries
-just_now rules seat =
-    let all : take (length seat.seen) seat.seen ≡ seat.seen = take_all (length seat.seen) seat.seen (omega arith) in
-    let counted : length (own seat.number (take (length seat.seen) seat.seen)) ≡ length (map (entry seat.number) (calls_of seat)) =
-    ap (λ (seen : List Entry). length (own seat.number seen)) all ∙ sym (map-length (entry seat.number) (calls_of seat)) in
-    record { since = omega arith; within = omega arith; commands = omega (arith, counted) }
-
--- the answer of the run that the seat has seen
+-- the answer of the run that the seat has seen, whose journal has all its commands
 pub asked_now : {E : Type 0} (rules : Parts → Rules) (Answers : RunView → Inquiry → Answer → Type 0)
     (seat : SeatView) (inquiry : Inquiry) (r : Result (Result (Vec ℕ Global) (Vec ℕ Global)) E)
     → IfOk r (λ answer. Answers (run_left rules seat.setup seat.seats seat.seen) inquiry (answer_seen answer))
     → IfOk r (λ answer. AnswersNow Answers (part_seen rules seat) inquiry (answer_seen answer))
 asked_now rules Answers seat inquiry (Ok answer) is =
     let all : take (length seat.seen) seat.seen ≡ seat.seen = take_all (length seat.seen) seat.seen (omega arith) in
-    (just_now rules seat, subst (λ (seen : List Entry). Answers (run_left rules seat.setup seat.seats seen) inquiry (answer_seen answer)) (sym all) is)
+    let counted = length-map (calls_of seat) (entry seat.number) in
+    (record { since = omega arith; within = omega arith; commands = rw all (omega (arith, counted)) }, rw all is)
 asked_now rules Answers seat inquiry (Err fault) is = tt

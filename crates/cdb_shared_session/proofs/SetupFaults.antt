@@ -3,7 +3,7 @@ use Rattle.std.proofs.Common.{List, ℕ}
 use Rattle.cdb_setup.specs.Format.{Encodes}
 use Rattle.cdb_setup.specs.Parts.{Parts}
 use Rattle.cdb_streams.specs.declared.fault.RaceFault.{RaceFault}
-use Rattle.cdb_streams.specs.declared.fault.RaceFault.TheVariants.{Setup, Line, ScriptTooLong, Write, NoMemory, JournalFull, Spawn, Stopped}
+use Rattle.cdb_streams.specs.declared.fault.RaceFault.TheVariants.{NoMemory, Spawn}
 use Rattle.cdb_shared_session.specs.Faults.{IsFaultOfThreads}
 use Rattle.cdb_shared_session.specs.Reported.{IsFaultOfSessions}
 
@@ -11,9 +11,4 @@ pub threads_failed : (json from : List ℕ) (seats : ℕ) (setup : Parts) (why :
     → Encodes json setup → IsFaultOfThreads why → IsFaultOfSessions json from seats why
 threads_failed json from seats setup (NoMemory refused) encodes is = encodes.0
 threads_failed json from seats setup (Spawn refused) encodes is = (setup, encodes)
-threads_failed json from seats setup (Setup why) encodes is = absurd is
-threads_failed json from seats setup (Line number line why) encodes is = absurd is
-threads_failed json from seats setup (ScriptTooLong number) encodes is = absurd is
-threads_failed json from seats setup Write encodes is = absurd is
-threads_failed json from seats setup JournalFull encodes is = absurd is
-threads_failed json from seats setup (Stopped seat) encodes is = absurd is
+threads_failed json from seats setup other encodes is = absurd is

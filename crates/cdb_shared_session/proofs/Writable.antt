@@ -1,6 +1,6 @@
 -- The journal of sessions has commands of lines alone, so it can be written.
 use Rattle.std.proofs.Common.{◌≡◌, ℕ, ◌+◌, ◌-◌, ◌<◌, ◌≤◌, ◌==◌, Bool, true, false, cond, List, [], ◌∷◌}
-use Rattle.std.proofs.Common.{◌++◌, drop, length, map, get_or, sym, ap, ◌∙◌, subst, inl, inr, arith}
+use Rattle.std.proofs.Common.{◌++◌, drop, length, map, get_or, refl, sym, ap, ◌∙◌, inl, inr, arith}
 use Rattle.std.proofs.Math.Seq.{drop-append_seam}
 use Rattle.std.proofs.lemmas.List.{drop_all, map-append}
 use Rattle.std.specs.List.{AllByRecursion, AllZip}
@@ -18,7 +18,7 @@ use Rattle.cdb_rules.specs.Rules.{Rules}
 use Rattle.cdb_session.specs.Exchanges.{Answer, Exchange}
 use Rattle.cdb_session.specs.declared.inquiry.Inquiry.{Inquiry}
 use Rattle.cdb_session.specs.Moves.{Known, Move, read_in}
-use Rattle.cdb_rules.proofs.Alls.{all-replicate}
+use Rattle.cdb_rules.proofs.Alls.{all-append, all-replicate}
 use Rattle.cdb_session.specs.Parts.{HasCommands, all_asked, asked_of, entries_of, seat_next}
 use Rattle.cdb_session.specs.Requests.{Asks, AsksFor, AsksForNoLess, AreAsked, ended_lines, up_to_quit}
 use Rattle.cdb_session.specs.Typed.{line_meant}
@@ -26,7 +26,7 @@ use Rattle.cdb_session.specs.Served.{IsSession}
 use Rattle.cdb_session.specs.Since.{since}
 use Rattle.cdb_session.specs.Styles.{Part, StyleView}
 use Rattle.cdb_session.specs.declared.request.Request.{Request}
-use Rattle.cdb_session.specs.declared.request.Request.TheVariants.{Call, Ask, Watch, Seat, Help, Quit, Fault, TooLong}
+use Rattle.cdb_session.specs.declared.request.Request.TheVariants.{Call}
 use Rattle.cdb_setup.specs.Parts.{Parts}
 use Rattle.cdb_streams.specs.Lines.{lines_of}
 use Rattle.cdb_streams.specs.declared.fault.PlayFault.{PlayFault}
@@ -37,7 +37,7 @@ use Rattle.cdb_text.specs.Grammar.{HasNumbersInRange}
 use Rattle.cdb_shared_session.specs.SeatParts.{part_in, seat_style}
 use Rattle.cdb_shared_session.specs.SharedSessions.{HasEnded, AreSessions}
 use Rattle.cdb_shared_session.specs.declared.endpoint.Finished.{Finished}
-use Rattle.cdb_shared_session.proofs.Promised.{some_of}
+use Rattle.cdb_shared_session.proofs.SomeOf.{some_of}
 
 abbrev HaveLines : List Entry → Type 0
 HaveLines entries = AllByRecursion (λ e. HasNumbersInRange e.command) entries
@@ -51,24 +51,12 @@ HasLine other = Unit {0}
 
 asked_has_line : (request : Request) (line : List ℕ) → AsksFor request line → HasLine request
 asked_has_line (Call command times) line (few, inl once) = once.1.1
-asked_has_line (Call command times) line (few, inr (p, is, repeat)) = subst HasNumbersInRange (sym is) (tt, (repeat.1.1.0, tt))
-asked_has_line (Ask inquiry) line asks = tt
-asked_has_line (Watch begins) line asks = tt
-asked_has_line (Seat chosen) line asks = tt
-asked_has_line (Help about) line asks = tt
-asked_has_line Quit line asks = tt
-asked_has_line (Fault why) line asks = tt
-asked_has_line TooLong line asks = tt
+asked_has_line (Call command times) line (few, inr (p, is, repeat)) = rw is (tt, (repeat.1.1.0, tt))
+asked_has_line other line asks = tt
 
 begun_has_line : (exchange : Exchange) (line : List ℕ) → AsksForNoLess exchange line → HasLine exchange.0
 begun_has_line (Call command times, effect) line (all, few, asks) = asked_has_line (Call command all) (line_meant line) asks
-begun_has_line (Ask inquiry, effect) line asks = tt
-begun_has_line (Watch begins, effect) line asks = tt
-begun_has_line (Seat chosen, effect) line asks = tt
-begun_has_line (Help about, effect) line asks = tt
-begun_has_line (Quit, effect) line asks = tt
-begun_has_line (Fault why, effect) line asks = tt
-begun_has_line (TooLong, effect) line asks = tt
+begun_has_line (other, effect) line asks = tt
 
 abbrev HaveLine : List Exchange → Type 0
 HaveLine exchanges = AllByRecursion (λ exchange. HasLine exchange.0) exchanges
@@ -79,29 +67,15 @@ all_have_line Asking has [] lines asked = tt
 all_have_line Asking has (exchange ∷ exchanges) [] asked = absurd asked
 all_have_line Asking has (exchange ∷ exchanges) (line ∷ lines) asked = (has exchange line asked.0, all_have_line Asking has exchanges lines asked.1)
 
-have_line-append : (exchanges others : List Exchange) → HaveLine exchanges → HaveLine others → HaveLine (exchanges ++ others)
-have_line-append [] others all more = more
-have_line-append (exchange ∷ exchanges) others all more = (all.0, have_line-append exchanges others all.1 more)
-
-both_have_lines : (first more : List Entry) → HaveLines first → HaveLines more → HaveLines (first ++ more)
-both_have_lines [] more a b = b
-both_have_lines (e ∷ first) more a b = (a.0, both_have_lines first more a.1 b)
-
 -- so what lines ask for has lines
 entries_have_line : (seat : ℕ) (request : Request) (count : ℕ) → HasLine request → HaveLines (entries_of seat request count)
 entries_have_line seat (Call command times) count has = all-replicate (λ e. HasNumbersInRange e.command) count (entry seat command) has
-entries_have_line seat (Ask inquiry) count has = tt
-entries_have_line seat (Watch begins) count has = tt
-entries_have_line seat (Seat chosen) count has = tt
-entries_have_line seat (Help about) count has = tt
-entries_have_line seat Quit count has = tt
-entries_have_line seat (Fault why) count has = tt
-entries_have_line seat TooLong count has = tt
+entries_have_line seat other count has = tt
 
 asked_have_lines : (chooses : Bool) (seat : ℕ) (exchanges : List Exchange) → HaveLine exchanges → HaveLines (all_asked chooses seat exchanges)
 asked_have_lines chooses seat [] all = tt
 asked_have_lines chooses seat (exchange ∷ exchanges) all =
-    both_have_lines (asked_of seat exchange) (all_asked chooses (seat_next chooses seat exchange.0) exchanges)
+    all-append (λ e. HasNumbersInRange e.command) (asked_of seat exchange) (all_asked chooses (seat_next chooses seat exchange.0) exchanges)
     (entries_have_line seat exchange.0 exchange.1.given all.0) (asked_have_lines chooses (seat_next chooses seat exchange.0) exchanges all.1)
 
 first_have_lines : (first more : List Entry) → HaveLines (first ++ more) → HaveLines first
@@ -113,8 +87,8 @@ module _ (Answers : RunView → Inquiry → Answer → Type 0) (style : StyleVie
   calls_have_lines exchanges asked has =
       let all = asked_have_lines style.chooses style.first exchanges asked in
       elim has [
-        | inl same ↦ subst HaveLines (sym same) all
-        | inr (full, missing, same) ↦ first_have_lines part.calls missing (subst HaveLines same all)
+        | inl same ↦ rw same all
+        | inr (full, missing, same) ↦ first_have_lines part.calls missing (rw same at all)
       ]
 
   have_line : (exchanges : List Exchange) (lines : List (List ℕ)) → AreAsked exchanges lines → HaveLine exchanges
@@ -127,11 +101,9 @@ module _ (Answers : RunView → Inquiry → Answer → Type 0) (style : StyleVie
   session_has_lines (Err fault.Write) moves s = let r = s.ends.0.responded in calls_have_lines r.0 (have_line r.0 s.ends.0.lines r.1) r.3.0
   session_has_lines (Err (fault.NoMemory refused)) moves s =
       let r = s.ends.commands in
-      calls_have_lines (r.exchanges ++ r.begun) (have_line-append r.exchanges r.begun (have_line r.exchanges s.ends.lines r.asked)
+      calls_have_lines (r.exchanges ++ r.begun) (all-append (λ exchange. HasLine exchange.0) r.exchanges r.begun (have_line r.exchanges s.ends.lines r.asked)
       (all_have_line AsksForNoLess begun_has_line r.begun s.ends.next r.next_asked)) r.commands.0
-  session_has_lines (Err (fault.Setup why)) moves s = absurd s.ends
-  session_has_lines (Err (fault.Line script line why)) moves s = absurd s.ends
-  session_has_lines (Err (fault.ScriptTooLong script)) moves s = absurd s.ends
+  session_has_lines (Err other) moves s = absurd s.ends
 
 -- ---- of all of them
 
@@ -141,10 +113,6 @@ InRange commands = AllByRecursion HasNumbersInRange commands
 commands_of : (seat : ℕ) (commands : List Command) → HaveLines (map (entry seat) commands) → InRange commands
 commands_of seat [] all = tt
 commands_of seat (command ∷ commands) all = (all.0, commands_of seat commands all.1)
-
-own_head : (b : Bool) (command : Command) (others : List Command) → b ≡ true → InRange (cond b (command ∷ others) others) → HasNumbersInRange command
-own_head true command others is all = all.0
-own_head false command others is all = absurd cc
 
 own_tail : (b : Bool) (command : Command) (others : List Command) → InRange (cond b (command ∷ others) others) → InRange others
 own_tail true command others all = all.1
@@ -156,21 +124,19 @@ same_seat n = grind arith
 of_each_seat : (seats : ℕ) (es : List Entry) → AreOfSeats seats es → ((seat : ℕ) → 1 ≤ seat → seat ≤ seats → InRange (own seat es)) → HaveLines es
 of_each_seat seats [] of_seats each = tt
 of_each_seat seats (e ∷ es) of_seats each = (
-  own_head (e.seat == e.seat) e.command (own e.seat es) (same_seat e.seat) (each e.seat of_seats.0.0 of_seats.0.1),
+  (rw (same_seat e.seat) at (each e.seat of_seats.0.0 of_seats.0.1)).0,
   of_each_seat seats es of_seats.1 (λ seat low high. own_tail (e.seat == seat) e.command (own seat es) (each seat low high)),
 )
 
 module _ (rules : Parts → Rules) (Answers : RunView → Inquiry → Answer → Type 0)
     (begun c : Journaled) (its : List Entry) (is : c.journal ≡ begun.journal ++ its) (seat : ℕ) where
   own_came : own seat c.journal ≡ own seat begun.journal ++ own seat its
-  own_came = ap (own seat) is ∙ own-append seat begun.journal its
+  own_came = rw (is, own-append) refl
 
   -- of what came to the journal, its own commands
   calls_came : (since (part_in rules begun seat) (part_in rules c seat)).calls ≡ map (entry seat) (own seat its)
   calls_came =
-      let front = map (entry seat) (own seat begun.journal) in
-      ap (drop (length front)) (ap (map (entry seat)) own_came ∙ map-append (entry seat) (own seat begun.journal) (own seat its))
-      ∙ drop-append_seam front (map (entry seat) (own seat its))
+      rw (own_came, map-append, drop-append_seam) refl
 
   none_came : own seat c.journal ≡ own seat begun.journal → own seat its ≡ []
   none_came same =
@@ -181,10 +147,9 @@ module _ (rules : Parts → Rules) (Answers : RunView → Inquiry → Answer →
   ended_in_range : (Opens : Result SeatSeen ReadFault → Type 0) (ended : Option Known) (outcome : Result (Unit {0}) PlayFault)
       → HasEnded rules Answers begun c seat Opens ended outcome → InRange (own seat its)
   ended_in_range Opens (Some ended) outcome (opening, opens, held) =
-      commands_of seat (own seat its)
-      (subst HaveLines calls_came (session_has_lines Answers (seat_style opening.prompt c.setup c.seats seat)
+      commands_of seat (own seat its) (rw calls_came at (session_has_lines Answers (seat_style opening.prompt c.setup c.seats seat)
       (since (part_in rules begun seat) (part_in rules c seat)) outcome held.made held.session))
-  ended_in_range Opens None outcome (fault, opens, unopened) = subst InRange (sym (none_came unopened.none)) tt
+  ended_in_range Opens None outcome (fault, opens, unopened) = rw (none_came unopened.none) tt
 
 later_of_seats : (seats : ℕ) (first more : List Entry) → AreOfSeats seats (first ++ more) → AreOfSeats seats more
 later_of_seats seats [] more all = all
@@ -197,7 +162,7 @@ pub writable : {P T : Type 0} (rules : Parts → Rules) (Answers : RunView → I
 writable rules Answers known opens begun openers c finished all can of few =
     let its = all.begins.0 in
     let is = all.begins.1 in
-    let of_seats = later_of_seats c.seats begun.journal its (subst (AreOfSeats c.seats) is all.entries) in
+    let of_seats = later_of_seats c.seats begun.journal its (rw is at all.entries) in
     let ranges = of_each_seat c.seats its of_seats (λ seat low high.
     let k = seat - 1 in
     let below : k < length openers = omega (arith, all.seats_are, low, high) in
@@ -205,12 +170,12 @@ writable rules Answers known opens begun openers c finished all can of few =
     let a = some_of finished (omega (arith, below, all.many)) in
     let number : k + 1 ≡ seat = omega (arith, low) in
     let ended = get_or finished k a in
-    subst (λ (n : ℕ). InRange (own n its)) number
-    (ended_in_range rules Answers begun c its is (k + 1) (opens (get_or openers k p)) (option_map known ended.console) ended.outcome (all.each k p a below))) in
+    rw (← number) (ended_in_range rules Answers begun c its is (k + 1) (opens (get_or openers k p)) (option_map known ended.console) ended.outcome
+    (all.each k p a below))) in
     record {
       seats = omega (arith, all.seats_are, of, can.seats);
       of_seats = all.entries;
-      ranges = subst HaveLines (sym is) (both_have_lines begun.journal its can.ranges ranges);
+      ranges = rw is (all-append (λ e. HasNumbersInRange e.command) begun.journal its can.ranges ranges);
       few = few;
     }
 
@@ -223,5 +188,4 @@ entries_have_lines (e ∷ es) (line ∷ lines) are = (are.0.3.1, entries_have_li
 
 pub opened_writable : (setup : Parts) (seats : ℕ) (from : List ℕ) (c : Journaled) → seats ≤ MAX_SEATS → IsOpenedFrom setup seats from c → IsWritable c
 opened_writable setup seats from c few (entries, lines, is) =
-    subst IsWritable (sym is)
-    (record { seats = few; of_seats = lines.1; ranges = entries_have_lines entries _ lines.0.1; few = read_few entries from lines.0 })
+    rw is (record { seats = few; of_seats = lines.1; ranges = entries_have_lines entries _ lines.0.1; few = read_few entries from lines.0 })

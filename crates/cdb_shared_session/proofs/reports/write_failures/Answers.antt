@@ -1,3 +1,4 @@
+use Rattle.std.proofs.Common.{rules}
 use Rattle.std.specs.Prelude.{◌++◌}
 use Rattle.std.proofs.lemmas.Result.{err_from_is_err_and}
 use Rattle.cdb_shared_session.specs.Reports.{outcomes, failed_seat_lines, journal_line, kept_line}
@@ -11,6 +12,4 @@ returns-in_err-write_seats g c =
     (journal_line c.args.written.now ++ kept_line c.args.kept.now) c.in_err-write_seats.ensures)
 
 pub returns : goal.returns
-returns g c =
-    writes_then g.W.Sink.stream c.write_journal_faults.result _ _ _ (failed_seat_lines 1 (outcomes c.args.finished.now))
-    (journal_line c.args.written.now ++ kept_line c.args.kept.now) c.in_ok-write_seats.ensures c.write_journal_faults.ensures
+returns g c = search (rules, writes_then)

@@ -1,3 +1,4 @@
+use Rattle.std.proofs.Common.{rules}
 use Rattle.std.proofs.lemmas.Result.{err_from_is_err_and}
 use Rattle.cdb_shared_session.specs.Reports.{journal_line, kept_line}
 use Rattle.cdb_shared_session.proofs.WrittenTexts.{fails_first, writes_then}
@@ -9,6 +10,4 @@ returns-in_err-write_journal_fault g c =
     rw p.1 (fails_first g.W.Sink.stream _ _ (journal_line c.args.written.now) (kept_line c.args.kept.now) c.in_err-write_journal_fault.ensures)
 
 pub returns : goal.returns
-returns g c =
-    writes_then g.W.Sink.stream c.write_kept_fault.result _ _ _ (journal_line c.args.written.now)
-    (kept_line c.args.kept.now) c.in_ok-write_journal_fault.ensures c.write_kept_fault.ensures
+returns g c = search (rules, writes_then)

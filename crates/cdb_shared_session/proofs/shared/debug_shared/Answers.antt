@@ -1,24 +1,13 @@
-use Rattle.std.proofs.Common.{◌≡◌, ◌≤◌, ℕ, ap, subst, ◌∙◌, arith, length, List, vec_len}
+use Rattle.std.proofs.Common.{◌≡◌, ◌≤◌, ap, arith, length, vec_len}
 use Rattle.std.proofs.lemmas.Result.{err_from_is_err_and}
 use Rattle.cdb_base.specs.Limits.{MAX_SEATS}
-use Rattle.cdb_journal.specs.OpenedFrom.{IsOpenedFrom}
-use Rattle.cdb_control.specs.declared.control.Entry.{Entry}
-use Rattle.cdb_streams.specs.Endings.{whole_ending}
-use Rattle.cdb_streams.specs.Streams.{Writes}
-use Rattle.cdb_streams.specs.Written.{IsWritten, Only}
-use Rattle.cdb_journal.specs.Journals.{journal_text}
-use Rattle.cdb_shared_session.specs.Reported.{IsFaultOfSessions}
-use Rattle.cdb_shared_session.specs.KeptOutcomes.{kept_outcome}
-use Rattle.cdb_shared_session.specs.Reports.{outcomes, failures_text, status_of}
-use Rattle.cdb_shared_session.specs.declared.endpoint.Finished.{Finished}
 use Rattle.cdb_shared_session.proofs.SetupFaults.{threads_failed}
 use Rattle.cdb_shared_session.proofs.Writable.{opened_writable}
 use Rattle.cdb_shared_session.proofs.shared.debug_shared.Goals as goal
 
 pub returns-in-Err-clause-fault : goal.returns-in-Err-clause-fault
 returns-in-Err-clause-fault g c =
-    subst (λ (seats : ℕ). IsFaultOfSessions c.args.setup.now c.args.from.now seats c.of_beginning.result) c.len-count.ensures
-    (c.of_beginning.ensures c.args.setup.now c.args.from.now c.len-count.result c.in-Err.ensures.fault)
+    rw (← c.len-count.ensures) (c.of_beginning.ensures c.args.setup.now c.args.from.now c.len-count.result c.in-Err.ensures.fault)
 
 pub returns-in_err-control-clause-fault : goal.returns-in_err-control-clause-fault
 returns-in_err-control-clause-fault g c =
@@ -39,7 +28,7 @@ returns-clause-sessions g c =
       setup = c.in-Ok.ensures.begun.0;
       encodes = c.in-Ok.ensures.begun.1;
       begun = c.in-Ok.begun.0;
-      goes_on = subst (λ (seats : ℕ). IsOpenedFrom c.in-Ok.ensures.begun.0 seats c.args.from.now c.in-Ok.begun.0) many c.in-Ok.ensures.begun.2;
+      goes_on = rw (← many) c.in-Ok.ensures.begun.2;
       control = c.in_ok-control.control;
       finished = c.in_ok-control.finished.items;
       sessions = c.in_ok-control.ensures.sessions;
@@ -48,15 +37,8 @@ returns-clause-sessions g c =
           (opened_writable c.in-Ok.ensures.begun.0 c.len-count.result c.args.from.now c.in-Ok.begun.0 few c.in-Ok.ensures.begun.2);
       keeps = c.in_ok-control.ensures.kept;
       written = written;
-      journal =
-          subst (λ (es : List Entry). IsWritten g.O.Sink.stream (whole_ending written) c.args.output.now
-          c.write_journal-written.new.out (Only (journal_text es))) c.journal.ensures.entries c.write_journal-written.ensures;
+      journal = rw (← c.journal.ensures.entries) c.write_journal-written.ensures;
       reported = c.write_failures.result;
-      lines =
-          subst (λ (l : List (Finished g.row.P-Seat.Denot)). Writes g.E.Sink.stream c.write_failures.result c.args.error.now
-          c.write_failures.new.out (failures_text written (kept_outcome c.in_ok-control.kept) (outcomes l)))
-          c.as_slice-2.ensures.value (rw (← c.outcome_of-outcome.ensures) c.write_failures.ensures);
-      status_is =
-          rw (← c.outcome_of-outcome.ensures) c.status_after-status.ensures
-          ∙ ap (λ (l : List (Finished g.row.P-Seat.Denot)). status_of written (kept_outcome c.in_ok-control.kept) (outcomes l)) c.as_slice-3.ensures.value;
+      lines = rw (← c.outcome_of-outcome.ensures, ← c.as_slice-2.ensures.value) c.write_failures.ensures;
+      status_is = rw (← c.outcome_of-outcome.ensures, ← c.as_slice-3.ensures.value) c.status_after-status.ensures;
     }

@@ -1,11 +1,8 @@
-use Rattle.std.proofs.Common.{◌≡◌, ℕ, ◌-◌, ◌∙◌, sym, ap, subst, arith, [], ◌∷◌, ◌++◌, append-nil, append_assoc, get_or, length}
-use Rattle.std.specs.declared.thread.PromisedHandle.{PromisedHandle}
+use Rattle.std.proofs.Common.{◌≡◌, ℕ, ◌-◌, refl, sym, arith, [], ◌∷◌, ◌++◌, append-nil, append_assoc, get_or, length}
 use Rattle.cdb_shared.specs.Seats.{SeatView}
 use Rattle.cdb_shared.proofs.Ends.{pair_push, get_or-middle}
 use Rattle.cdb_shared_session.specs.Promises.{HasRun}
 use Rattle.cdb_shared_session.specs.declared.endpoint.Finished.{Finished}
-use Rattle.cdb_shared_session.specs.declared.seat.SeatPromise.{SeatPromise}
-use Rattle.cdb_shared_session.specs.declared.seat.SeatResult.{SeatResult}
 use Rattle.cdb_shared_session.proofs.threads.join_each.Goals as goal
 
 pub loop-handle-init : goal.loop-handle-init
@@ -27,16 +24,12 @@ loop-handle-preserved g c =
     let seats = c.push_reserved.ensures in
     let ends = c.push_reserved-in-Some.ensures in
     let front = c.pop.new.self.items in
-    let whole : all ≡ front ++ (handle ∷ was.joined.0) = was.joined.1 ∙ ap (λ l. l ++ was.joined.0) popped ∙ append_assoc front (handle ∷ []) was.joined.0 in
+    let whole : all ≡ front ++ (handle ∷ was.joined.0) = rw (was.joined.1, popped, append_assoc) refl in
     let at : length all - 1 - length c.loop-handle.seats.items ≡ length front =
     omega (arith, c.args.handles.ok.0, was.count, less, c.pop.new.self.ok.0, c.loop-handle.seats.ok.0) in
-    let rules = g.R.Runs.rules in
-    let known = g.P.Seat.Console.known in
-    let opens = g.P.Opener.opens in
     let Run : ℕ → SeatView → Finished g.row.P-Seat.Denot → Type 0 =
-    λ i s a. ((other : PromisedHandle (SeatResult g.row.R.Denot g.row.P-Seat.Denot) (SeatPromise g.row.R.Denot g.row.A.Denot g.row.P.Denot))
-    → HasRun rules g.A.Answers.answers known opens (get_or all (length all - 1 - i) other).promise.seat.value
-    (get_or all (length all - 1 - i) other).promise.opener.value s a) in
+    λ i s a. ((other : _) → let there = get_or all (length all - 1 - i) other in
+    HasRun g.R.Runs.rules g.A.Answers.answers g.P.Seat.Console.known g.P.Opener.opens there.promise.seat.value there.promise.opener.value s a) in
     record {
       joined = (handle ∷ was.joined.0, whole);
       count = omega (arith, less, seats.len, was.count);
@@ -45,9 +38,7 @@ loop-handle-preserved g c =
       each =
           pair_push Run c.loop-handle.seats.items _ c.loop-handle.all.items _ c.join-seat.result.seat c.join-seat.result.finished
           seats.items ends.items (omega (arith, was.both, c.loop-handle.seats.ok.0, c.loop-handle.all.ok.0)) was.each
-          (λ other. subst (λ (h : PromisedHandle (SeatResult g.row.R.Denot g.row.P-Seat.Denot) (SeatPromise g.row.R.Denot g.row.A.Denot g.row.P.Denot)).
-          HasRun rules g.A.Answers.answers known opens h.promise.seat.value h.promise.opener.value c.join-seat.result.seat c.join-seat.result.finished)
-          (sym (get_or-middle front was.joined.0 all handle other _ whole at)) c.join-seat.ensures);
+          (λ other. rw (get_or-middle front was.joined.0 all handle other _ whole at) c.join-seat.ensures);
     }
 
 pub returns : goal.returns

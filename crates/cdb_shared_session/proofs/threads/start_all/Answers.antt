@@ -1,4 +1,4 @@
-use Rattle.std.proofs.Common.{◌≡◌, ℕ, ◌-◌, ◌∙◌, sym, ap, subst, arith, [], ◌∷◌, ◌++◌, get_or, append_assoc, append-nil, vec_len, length}
+use Rattle.std.proofs.Common.{◌≡◌, ℕ, ◌-◌, refl, sym, arith, [], ◌∷◌, ◌++◌, get_or, append_assoc, append-nil, vec_len, length}
 use Rattle.std.specs.declared.thread.PromisedHandle.{PromisedHandle}
 use Rattle.cdb_shared_session.specs.Promises.{IsUnused, IsSeatPromise}
 use Rattle.cdb_shared_session.specs.declared.seat.SeatResult.{SeatResult}
@@ -33,13 +33,10 @@ loop-seat-preserved g c =
     let seats = c.in-Some.ensures.cases in
     let openers = c.in-Some-pop.ensures.cases in
     let handles = c.loop-seat.handles.ok.0 in
-    let whole : all ≡ front ++ (seat ∷ was.left.0) =
-    was.left.1 ∙ ap (λ l. l ++ was.left.0) {y = front ++ (seat ∷ [])} popped ∙ append_assoc front (seat ∷ []) was.left.0 in
+    let whole : all ≡ front ++ (seat ∷ was.left.0) = rw (was.left.1, popped, append_assoc) refl in
     let its = c.in-Some-pop.opener in
-    let few = c.in-Some-pop.ensures.items in
     let all_openers : c.args.openers.items ≡ c.pop-in-Some.new.self.items ++ (its ∷ was.left_openers.0) =
-    was.left_openers.1 ∙ ap (λ l. l ++ was.left_openers.0) {y = c.pop-in-Some.new.self.items ++ (its ∷ [])} few
-    ∙ append_assoc c.pop-in-Some.new.self.items (its ∷ []) was.left_openers.0 in
+    rw (was.left_openers.1, c.in-Some-pop.ensures.items, append_assoc) refl in
     let at_opener : vec_len c.args.openers - 1 - length c.loop-seat.handles.items ≡ length c.pop-in-Some.new.self.items =
     omega (arith, openers, seats, c.pop-in-Some.new.self.ok.0, handles, was.count, was.openers, was.many_openers) in
     let at : vec_len c.args.seats - 1 - length c.loop-seat.handles.items ≡ length front = omega (arith, seats, c.pop.new.self.ok.0, handles, was.count) in
@@ -52,18 +49,15 @@ loop-seat-preserved g c =
       count = omega (arith, seats);
       room = omega arith;
       each = λ k before opener handle low.
-          let here : seat ≡ get_or all (vec_len c.args.seats - 1 - length c.loop-seat.handles.items) before =
-          sym (get_or-middle front was.left.0 all seat before _ whole at) in
-          let there : its ≡ get_or c.args.openers.items (vec_len c.args.openers - 1 - length c.loop-seat.handles.items) opener =
-          sym (get_or-middle c.pop-in-Some.new.self.items was.left_openers.0 c.args.openers.items its opener _ all_openers at_opener) in
-          let one =
-          subst (λ (x : SeatView × g.row.P.Denot). IsSeatPromise x.0 x.1 c.in_ok-handle.handle.promise)
-          (λ i. (here i, there i)) c.in_ok-handle.ensures.promise in
           each_push (λ (i : ℕ) (h : PromisedHandle (SeatResult g.row.R.Denot g.row.P-Seat.Denot) (SeatPromise g.row.R.Denot g.row.A.Denot g.row.P.Denot)).
           IsSeatPromise (get_or all (vec_len c.args.seats - 1 - i) before) (get_or c.args.openers.items (vec_len c.args.openers - 1 - i) opener) h.promise)
           c.loop-seat.handles.items c.push_reserved.new.self.items c.in_ok-handle.handle
           c.push_reserved.ensures.items (λ i h below. was.each i before opener h (omega (arith, handles)))
-          one k handle (omega (arith, c.push_reserved.new.self.ok.0));
+          (rw (
+            get_or-middle front was.left.0 all seat before _ whole at,
+            get_or-middle c.pop-in-Some.new.self.items was.left_openers.0 c.args.openers.items its
+                opener _ all_openers at_opener,
+          ) c.in_ok-handle.ensures.promise) k handle (omega (arith, c.push_reserved.new.self.ok.0));
     }
 
 pub returns-clause-each : goal.returns-clause-each
