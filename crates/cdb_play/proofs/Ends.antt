@@ -1,8 +1,7 @@
 -- What was written, by how a play or a race ended.
-use Rattle.std.proofs.Common.{arith}
+use Rattle.std.proofs.Common.{arith, ◌≡◌, ℕ, List, Err, refl, inl}
 use Rattle.std.proofs.lemmas.Grind.{common_steps}
 use Rattle.std.proofs.lemmas.Option.{gets}
-use Rattle.std.proofs.Common.{◌≡◌, ℕ, List, Err, refl, inl}
 use Rattle.cdb_setup.specs.declared.fault.SetupFault.{SetupFault}
 use Rattle.cdb_setup.specs.declared.fault.SetupFault.TheVariants as setup
 use Rattle.cdb_streams.specs.Endings.{pieces_ending, play_ending, race_ending}
@@ -15,17 +14,9 @@ use Rattle.cdb_play.specs.Races.{race_fault_of_threads}
 use Rattle.cdb_play.specs.RaceStages.{IsFaultOfScripts}
 use Rattle.cdb_streams.specs.declared.buffer.OutputFault.{OutputFault}
 use Rattle.cdb_streams.specs.declared.fault.RaceFault.{RaceFault}
-use Rattle.cdb_streams.specs.declared.fault.RaceFault.TheVariants.{Line, ScriptTooLong, NoMemory}
+use Rattle.cdb_streams.specs.declared.fault.RaceFault.TheVariants.{Write, NoMemory}
 use Rattle.cdb_race.specs.declared.threads.ThreadFault.{ThreadFault}
 use Rattle.cdb_race.specs.declared.threads.ThreadFault.TheVariants as threads
-
--- ---- a play and a race write their texts in pieces
-
-pub play_ends : (A : Type 0) (why : OutputFault) → play_ending {A = A} (Err (of_output why)) ≡ pieces_ending {A = A} (Err why)
-play_ends A why = grind (arith, common_steps, gets)
-
-pub race_ends : (A : Type 0) (why : OutputFault) → race_ending {A = A} (Err (race_fault_of_output why)) ≡ pieces_ending {A = A} (Err why)
-race_ends A why = grind (arith, common_steps, gets)
 
 module _ {W : Type 0} (stream : W → Stream) (A : Type 0) (IsText : List ℕ → Type 0) where
   -- ---- a fault that comes before the text is known leaves the writer as it was
@@ -36,24 +27,25 @@ module _ {W : Type 0} (stream : W → Stream) (A : Type 0) (IsText : List ℕ �
 
   pub race_unwritten_threads : (out : W) (fault : ThreadFault) → IsWritten stream (race_ending {A = A} (Err (race_fault_of_threads fault))) out out IsText
   race_unwritten_threads out (threads.NoMemory refused) = inl refl
-  race_unwritten_threads out threads.JournalFull = refl
-  race_unwritten_threads out (threads.Spawn refused) = refl
-  race_unwritten_threads out (threads.Stopped seat) = refl
+  race_unwritten_threads out fault = refl
 
   pub race_unwritten_scripts : (out : W) (fault : RaceFault) (scripts : List (List ℕ)) → IsFaultOfScripts fault scripts
       → IsWritten stream (race_ending {A = A} (Err fault)) out out IsText
-  race_unwritten_scripts out (Line position line fault) scripts is = refl
-  race_unwritten_scripts out (ScriptTooLong position) scripts is = refl
+  race_unwritten_scripts out Write scripts is = absurd is
   race_unwritten_scripts out (NoMemory refused) scripts is = inl refl
-  race_unwritten_scripts out fault scripts is = absurd is
+  race_unwritten_scripts out fault scripts is = refl
 
   -- ---- such a text was written in pieces, and that ended so
 
   pub play_wrote : (why : OutputFault) (old new : W) (text : List ℕ) → IsText text
       → IsWritten stream (pieces_ending {A = A} (Err why)) old new (Only text) → IsWritten stream (play_ending {A = A} (Err (of_output why))) old new IsText
-  play_wrote why old new text is wrote = rw (play_ends A why) (only_as stream (pieces_ending {A = A} (Err why)) old new text IsText is wrote)
+  play_wrote why old new text is wrote =
+      let ends : play_ending {A = A} (Err (of_output why)) ≡ pieces_ending {A = A} (Err why) = grind (arith, common_steps, gets) in
+      rw ends (only_as stream _ old new text IsText is wrote)
 
   pub race_wrote : (why : OutputFault) (old new : W) (text : List ℕ) → IsText text
       → IsWritten stream (pieces_ending {A = A} (Err why)) old new (Only text)
       → IsWritten stream (race_ending {A = A} (Err (race_fault_of_output why))) old new IsText
-  race_wrote why old new text is wrote = rw (race_ends A why) (only_as stream (pieces_ending {A = A} (Err why)) old new text IsText is wrote)
+  race_wrote why old new text is wrote =
+      let ends : race_ending {A = A} (Err (race_fault_of_output why)) ≡ pieces_ending {A = A} (Err why) = grind (arith, common_steps, gets) in
+      rw ends (only_as stream _ old new text IsText is wrote)

@@ -1,4 +1,5 @@
 pub mod Transcripts
+pub mod Items
 pub mod Ends
 pub mod ScriptsRead
 pub mod RaceTexts

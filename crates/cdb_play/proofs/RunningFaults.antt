@@ -1,7 +1,9 @@
 -- The faults of a race, of those of its parts.
 use Rattle.cdb_base.specs.Memory.{no_memory}
-use Rattle.std.proofs.Common.{◌≡◌, ◌≢◌, inl, inr, ℕ, suc, ◌+◌, ◌<◌, ◌≤◌, Bool, List, [], ◌∷◌, length, Option, Result, Ok, Err, refl, ap, arith}
+use Rattle.std.proofs.Common.{◌≡◌, ◌≢◌, inl, inr, ℕ, ◌+◌, ◌<◌, Bool, List, [], ◌∷◌, length, Option, Result, Ok, Err, refl, arith}
 use Rattle.std.specs.Prelude.{IfErr}
+use Rattle.std.proofs.lemmas.Slice.Zip.{AllZip-long}
+use Rattle.cdb_streams.specs.Scripts.{IsScript}
 use Rattle.cdb_commands.specs.declared.command.Command.{Command}
 use Rattle.cdb_race.specs.Faults.{IsAmongSeats, IsFaultBehind, IsFaultOfOne}
 use Rattle.cdb_race.specs.Faults as of_race_threads
@@ -36,32 +38,15 @@ pub of_threads : {G : Type 0} (T : Type 0) (rules : Parts → Rules) (gate_calls
     → IsFaultOfCommands (IsFaultBehind T rules gate_calls passes gates) setup turns commands (race_fault_of_threads fault)
 of_threads T rules gate_calls passes gates setup turns commands (threads.NoMemory refused) within most of_one = tt
 of_threads T rules gate_calls passes gates setup turns commands (threads.Spawn refused) within most of_one = tt
-of_threads T rules gate_calls passes gates setup turns commands threads.JournalFull within most (inl none) = absurd none
 of_threads T rules gate_calls passes gates setup turns commands threads.JournalFull within most (inr its) = (most refl, its)
-of_threads T rules gate_calls passes gates setup turns commands (threads.Stopped seat) within most (inl none) = absurd none
 of_threads T rules gate_calls passes gates setup turns commands (threads.Stopped seat) within most (inr its) = (within, its)
+of_threads T rules gate_calls passes gates setup turns commands fault within most (inl none) = absurd none
 
--- each script has its commands
-so_many : (commands : List (List Command)) (scripts : List (List ℕ)) → AreScripts commands scripts → length commands ≡ length scripts
-so_many [] [] are = refl
-so_many [] (script ∷ scripts) are = absurd are
-so_many (list ∷ commands) [] are = absurd are
-so_many (list ∷ commands) (script ∷ scripts) are = ap suc (so_many commands scripts are.1)
-
--- and so the first is not too long
+-- the first script that has its commands is not too long
 pub first_fits : (commands : List (List Command)) (scripts : List (List ℕ)) → AreScripts commands scripts → IsFirstNotTooLong scripts
-first_fits [] [] are = tt
+first_fits commands [] are = tt
 first_fits [] (script ∷ scripts) are = absurd are
-first_fits (list ∷ commands) [] are = absurd are
 first_fits (list ∷ commands) (script ∷ scripts) are = are.0.0
-
--- what is not more is at most as many
-at_most : (count most : ℕ) → (most < count → ⊥) → count ≤ most
-at_most count most not_more = omega arith
-
--- a text for which memory ran out is not too long
-pub no_memory_fits : (json : List ℕ) → (longest < length json → (setup.NoMemory no_memory) ≡ setup.TooLong) → length json ≤ longest
-no_memory_fits json said = at_most (length json) longest (λ long. cc (said long))
 
 module _ (IsFaultOfSessions : Parts → ℕ → List (List Command) → ThreadFault → Type 0) (turns : ℕ) where
   -- so is one of the output
@@ -73,15 +58,12 @@ module _ (IsFaultOfSessions : Parts → ℕ → List (List Command) → ThreadFa
   -- what they say of the scripts
   pub on_setup : (setup : Parts) (commands : List (List Command)) (scripts : List (List ℕ)) → AreScripts commands scripts
       → (fault : RaceFault) → IsFaultOfCommands IsFaultOfSessions setup turns commands fault → IsFaultOnSetup IsFaultOfSessions setup turns scripts fault
-  on_setup setup commands scripts read (Setup fault) is = absurd is
-  on_setup setup commands scripts read (Line position line fault) is = absurd is
-  on_setup setup commands scripts read (ScriptTooLong position) is = absurd is
   on_setup setup commands scripts read Write is = (commands, read)
   on_setup setup commands scripts read (NoMemory refused) is = first_fits commands scripts read
   on_setup setup commands scripts read JournalFull is = (commands, read, is.0, is.1)
   on_setup setup commands scripts read (Spawn refused) is = (commands, read)
-  on_setup setup commands scripts read (Stopped seat) is =
-      let many = so_many commands scripts read in (commands, read, (is.0.0, omega (arith, is.0.1, many)), is.1)
+  on_setup setup commands scripts read (Stopped seat) is = (commands, read, rw (AllZip-long IsScript commands scripts read) is.0, is.1)
+  on_setup setup commands scripts read fault is = absurd is
 
   -- so do those of reading them
   pub of_reading : (setup : Parts) (scripts : List (List ℕ)) (fault : RaceFault) → IsFaultOfScripts fault scripts
@@ -96,18 +78,14 @@ module _ (IsFaultOfSessions : Parts → ℕ → List (List Command) → ThreadFa
       → IsFaultOnSetup IsFaultOfSessions setup turns scripts fault → IsFaultOfRace IsFaultOfSessions json turns scripts fault
   of_race json setup scripts stands (Setup fault) is = absurd is
   of_race json setup scripts stands (NoMemory refused) is = stands.0
-  of_race json setup scripts stands (Line position line fault) is = (setup, stands, is)
-  of_race json setup scripts stands (ScriptTooLong position) is = (setup, stands, is)
-  of_race json setup scripts stands Write is = (setup, stands, is)
-  of_race json setup scripts stands JournalFull is = (setup, stands, is)
-  of_race json setup scripts stands (Spawn refused) is = (setup, stands, is)
-  of_race json setup scripts stands (Stopped seat) is = (setup, stands, is)
+  of_race json setup scripts stands fault is = (setup, stands, is)
 
   -- a fault of the setup is its first one, or an allocation failed
   pub of_setup_read : (json : List ℕ) (scripts : List (List ℕ)) (fault : SetupFault)
       → (fault ≢ setup.NoMemory no_memory → IsFirstFault fault json) → (longest < length json → fault ≡ setup.TooLong)
       → IsFaultOfRace IsFaultOfSessions json turns scripts (race_fault_of_setup fault)
-  of_setup_read json scripts (setup.NoMemory refused) said long = no_memory_fits json long
+  of_setup_read json scripts (setup.NoMemory refused) said long =
+      let fits : longest < length json → ⊥ = λ more. cc (long more) in omega arith
   of_setup_read json scripts fault said long = said (λ same. absurd cc)
 
   -- a fault by which no gate stopped a session is one of gates that always pass
@@ -116,30 +94,21 @@ module _ (IsFaultOfSessions : Parts → ℕ → List (List Command) → ThreadFa
       → IsFaultOnSetup IsFaultUngated setup turns scripts fault
   ungated setup commands scripts read JournalFull is none = (commands, read, is.0, tt)
   ungated setup commands scripts read (Stopped seat) is none = absurd none
-  ungated setup commands scripts read (Setup fault) is none = is
-  ungated setup commands scripts read (Line position line fault) is none = absurd is
-  ungated setup commands scripts read (ScriptTooLong position) is none = absurd is
-  ungated setup commands scripts read Write is none = (commands, read)
-  ungated setup commands scripts read (NoMemory refused) is none = first_fits commands scripts read
-  ungated setup commands scripts read (Spawn refused) is none = (commands, read)
+  ungated setup commands scripts read fault is none = on_setup setup commands scripts read fault is
 
 -- ---- a gate stopped no session
 
 pub not_of_threads : (fault : ThreadFault) → of_race_threads.IsNotStopped fault → StopsNoSeat (race_fault_of_threads fault)
-not_of_threads (threads.NoMemory refused) is = tt
-not_of_threads threads.JournalFull is = tt
-not_of_threads (threads.Spawn refused) is = tt
 not_of_threads (threads.Stopped seat) is = is
+not_of_threads fault is = tt
 
 pub not_of_writing : (fault : OutputFault) → StopsNoSeat (race_fault_of_output fault)
 not_of_writing output.Write = tt
 not_of_writing (output.NoMemory refused) = tt
 
 pub not_of_reading : (scripts : List (List ℕ)) (fault : RaceFault) → IsFaultOfScripts fault scripts → StopsNoSeat fault
-not_of_reading scripts (Line position line fault) is = tt
-not_of_reading scripts (ScriptTooLong position) is = tt
-not_of_reading scripts (NoMemory refused) is = tt
-not_of_reading scripts fault is = absurd is
+not_of_reading scripts (Stopped seat) is = absurd is
+not_of_reading scripts fault is = tt
 
 pub not_of_setup : (fault : SetupFault) → StopsNoSeat (race_fault_of_setup fault)
 not_of_setup (setup.NoMemory refused) = tt

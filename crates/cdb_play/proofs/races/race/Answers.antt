@@ -1,7 +1,6 @@
-use Rattle.std.proofs.Common.{refl, sym, subst}
+use Rattle.std.proofs.Common.{refl}
 use Rattle.std.proofs.lemmas.Result.{err_from_is_err_and, IfErr-weaker}
-use Rattle.cdb_rules.specs.Agreement.{HasMajorityIfNeeded}
-use Rattle.cdb_play.specs.Races.{IsFaultUngated, bytes_of, ProposedAtEnd}
+use Rattle.cdb_play.specs.Races.{IsFaultUngated, bytes_of}
 use Rattle.cdb_play.proofs.Ends.{race_unwritten_setup}
 use Rattle.cdb_streams.proofs.StreamEnds.{written_as}
 use Rattle.cdb_play.proofs.RunningFaults.{of_race, of_setup_read}
@@ -21,19 +20,14 @@ returns-in_err-parts g c =
 
 pub returns-clause-wrote : goal.returns-clause-wrote
 returns-clause-wrote g c =
-    let parts = c.in_ok-parts.parts in
-    let scripts = bytes_of c.args.scripts.now in
-    written_as _ _ _ _ _ _ (λ text is. (parts, c.in_ok-parts.ensures.found, is)) c.race_on.ensures.wrote
+    written_as _ _ _ _ _ _ (λ text is. (c.in_ok-parts.parts, c.in_ok-parts.ensures.found, is)) c.race_on.ensures.wrote
 
 pub returns-clause-fault : goal.returns-clause-fault
-returns-clause-fault g c =
-    IfErr-weaker _ _ _ (of_race IsFaultUngated _ _ _ _ c.in_ok-parts.ensures.found) c.race_on.ensures.fault
+returns-clause-fault g c = IfErr-weaker _ _ _ (of_race IsFaultUngated _ _ _ _ c.in_ok-parts.ensures.found) c.race_on.ensures.fault
 
 pub returns-clause-proposed : goal.returns-clause-proposed
-returns-clause-proposed g c = λ parts encodes.
-    subst (λ s. ProposedAtEnd g.W.Sink.stream s c.race_on.result c.args.out.now c.race_on.new.out)
-    (same_setup _ _ _ refl (c.in_ok-parts.ensures.only parts encodes)) c.race_on.ensures.proposed
+returns-clause-proposed g c = λ parts encodes. rw (← same_setup _ _ _ refl (c.in_ok-parts.ensures.only parts encodes)) c.race_on.ensures.proposed
 
 pub returns-clause-agree : goal.returns-clause-agree
-returns-clause-agree g c = λ of_majority.
-    c.race_on.ensures.agree (subst HasMajorityIfNeeded (sym (same_setup _ _ _ refl (c.in_ok-parts.ensures.only of_majority.0 of_majority.1))) of_majority.2)
+returns-clause-agree g c = λ so.
+    c.race_on.ensures.agree (rw (same_setup _ _ _ refl (c.in_ok-parts.ensures.only so.0 so.1)) so.2)

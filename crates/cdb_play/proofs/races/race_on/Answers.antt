@@ -21,15 +21,13 @@ returns-in_err-commands g c =
 
 pub returns-clause-wrote : goal.returns-clause-wrote
 returns-clause-wrote g c =
-    let scripts = bytes_of c.args.scripts.now in
-    written_as _ _ _ _ _ _
-    (of_scripts _ _ _ _ _ c.in_ok-commands.ensures.read) (rw c.as_slice.ensures.value at c.run_race.ensures.wrote)
+    written_as _ _ _ _ _ _ (of_scripts _ _ _ _ _ c.in_ok-commands.ensures.read) (rw c.as_slice.ensures.value at c.run_race.ensures.wrote)
 
 pub returns-clause-fault : goal.returns-clause-fault
 returns-clause-fault g c =
     both _ _ _ _
-    (ungated (IsFaultBehind g.row.T.Denot g.T.Runs.rules (λ (gate : Open). None) (λ (gate : Open). true)
-    c.in_ok-gates.gates.items) _ c.args.setup _ _ c.in_ok-commands.ensures.read)
+    (ungated (IsFaultBehind g.row.T.Denot g.T.Runs.rules (λ (gate : Open). None) (λ (gate : Open). true) c.in_ok-gates.gates.items)
+    _ c.args.setup _ _ c.in_ok-commands.ensures.read)
     (rw c.as_slice.ensures.value at c.run_race.ensures.fault) (c.run_race.ensures.passes (λ k gate low. refl))
 
 pub returns-in_err-gates-clause-fault : goal.returns-in_err-gates-clause-fault

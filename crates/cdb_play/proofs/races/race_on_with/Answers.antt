@@ -21,11 +21,9 @@ returns-in_err-commands g c =
 
 pub returns-clause-wrote : goal.returns-clause-wrote
 returns-clause-wrote g c =
-    let scripts = bytes_of c.args.scripts.now in
-    written_as _ _ _ _ _ _
-    (of_scripts _ _ _ _ _ c.in_ok-commands.ensures.read) (rw c.as_slice.ensures.value at c.run_race.ensures.wrote)
+    written_as _ _ _ _ _ _ (of_scripts _ _ _ _ _ c.in_ok-commands.ensures.read) (rw c.as_slice.ensures.value at c.run_race.ensures.wrote)
 
 pub returns-clause-fault : goal.returns-clause-fault
 returns-clause-fault g c =
-    IfErr-weaker c.run_race.result _ _ (on_setup (IsFaultBehind g.row.T.Denot g.T.Runs.rules g.G.Gate.calls g.G.Gate.passes
-    c.args.gates.items) c.args.turns _ _ _ c.in_ok-commands.ensures.read) (rw c.as_slice.ensures.value at c.run_race.ensures.fault)
+    IfErr-weaker c.run_race.result _ _ (on_setup (IsFaultBehind g.row.T.Denot g.T.Runs.rules g.G.Gate.calls g.G.Gate.passes c.args.gates.items) _ _ _ _
+    c.in_ok-commands.ensures.read) (rw c.as_slice.ensures.value at c.run_race.ensures.fault)
