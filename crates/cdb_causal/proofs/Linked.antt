@@ -1,7 +1,6 @@
 -- Links and direct causes, told by what stands at their positions.
-use Rattle.std.proofs.Common.{◌≡◌, ℕ, ◌+◌, ◌-◌, ◌<◌, ◌≤◌, ◌⊎◌, inl, inr, Bool, false, true≢false, List, IsTrue, ◌↔◌, Some}
-use Rattle.std.proofs.Common.{get_or, length, sym, ap, ap₂, ◌∙◌, subst, arith}
-use Rattle.std.proofs.lemmas.Bool.{cases_lt}
+use Rattle.std.proofs.Common.{◌≡◌, ℕ, ◌-◌, ◌<◌, ◌≤◌, Bool, false, true≢false, List, IsTrue, ◌↔◌, Some}
+use Rattle.std.proofs.Common.{get_or, length, sym, ap, ap₂, ◌∙◌, arith}
 use Rattle.std.proofs.lemmas.Option.{same_Some, slice_get-get_or}
 use Rattle.cdb_base.specs.Positions.{nth}
 use Rattle.cdb_base.specs.declared.event.Event.{Event}
@@ -23,15 +22,3 @@ link_decided events i j cause effect later at_cause at_effect = (
 
 pub false_only : {b : Bool} → IsTrue b → b ≡ false → ⊥
 false_only is not = true≢false (sym is ∙ not)
-
--- no event up to that position lies between the two
-pub none_between : (events : List Event) (i j n : ℕ) (b : Bool) → b ≡ false → IsTrue b ↔ (IsLink depends events i n × IsLink depends events n j)
-    → ((k : ℕ) → k < n → IsLink depends events i k → IsLink depends events k j → ⊥)
-    → (k : ℕ) → k < n + 1 → IsLink depends events i k → IsLink depends events k j → ⊥
-none_between events i j n b not says before k low one two = by (cases_lt k n)
-  where
-    by : (k < n) ⊎ (n ≤ k) → ⊥
-    by (inl less) = before k less one two
-    by (inr more) =
-        let same : k ≡ n = omega (arith, low, more) in
-        false_only (says.1 (subst (IsLink depends events i) same one, subst (λ m. IsLink depends events m j) same two)) not

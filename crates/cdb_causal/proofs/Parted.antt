@@ -28,6 +28,12 @@ module _ {E : Type 0} (IsIn : ℕ → Type 0) where
   more_out a (e ∷ xs) others found x (gone here rest) not =
       gone here (more_out (suc a) xs others _ x rest (λ is. not (let same : suc a + length xs ≡ a + suc (length xs) = omega arith in subst IsIn same is)))
 
+  -- the list parted by what is not in the set
+  pub other_way_round : {a : ℕ} {xs others found : List E} → IsParted IsIn a xs others found → IsParted (λ i. IsIn i → ⊥) a xs found others
+  other_way_round done = done
+  other_way_round (kept not rest) = gone not (other_way_round rest)
+  other_way_round (gone is rest) = kept (λ not. not is) (other_way_round rest)
+
   -- where nothing is in the set, nothing is found
   pub none_found : ((i : ℕ) → IsIn i → ⊥) → {a : ℕ} {xs others found : List E} → IsParted IsIn a xs others found → found ≡ []
   none_found none done = refl

@@ -46,7 +46,7 @@ module _ {E : Type 0} (depends : E → E → Bool) (history : List E) where
       both (inr not) other = inr (λ b. not b.0)
 
   -- what is linked to a position that has led to j is in the past
-  linked_past : (j m l : ℕ) → IsLink depends history m l → HasLedTo depends history j l → IsInPast depends history j m
+  pub linked_past : (j m l : ℕ) → IsLink depends history m l → HasLedTo depends history j l → IsInPast depends history j m
   linked_past j m l link (inl e) = one_link (subst (λ x. IsLink depends history m x) e link)
   linked_past j m l link (inr p) = link_before link p
 

@@ -1,14 +1,14 @@
 -- Links and free events by what stands at positions.
 use Rattle.std.proofs.lemmas.Grind.{common_steps}
 use Rattle.std.proofs.lemmas.Option.{gets}
-use Rattle.std.proofs.lemmas.Bool.{false_from_ne_true, cases_lt, cases_Bool}
-use Rattle.std.proofs.lemmas.Option.{same_Some, none-some}
-use Rattle.std.proofs.Common.{◌≡◌, ℕ, zero, suc, ◌+◌, ◌-◌, ◌<◌, ◌≤◌, Bool, true, false, ◌⊎◌, inl, inr, List, Option, Some, None, drop, refl, sym, ap, ◌∙◌}
+use Rattle.std.proofs.lemmas.Bool.{false_from_ne_true, both_ways, cases_lt, cases_Bool}
+use Rattle.std.proofs.lemmas.Option.{none-some}
+use Rattle.std.proofs.Common.{◌≡◌, ℕ, ◌<◌, ◌≤◌, Bool, true, false, ◌⊎◌, inl, inr, List, Option, Some, None, drop, refl, sym, ◌∙◌}
 use Rattle.std.proofs.Common.{true≢false, arith}
 use Rattle.std.specs.List.{AllByRecursion}
 use Rattle.cdb_base.specs.Positions.{nth}
 use Rattle.cdb_causal.specs.Causality.{IsLink, IsFree}
-use Rattle.cdb_causal.proofs.Lists.{nth_drop, all_nth, nth_all}
+use Rattle.cdb_causal.proofs.Lists.{all_behind, nth_behind}
 
 module _ {E : Type 0} (depends : E → E → Bool) where
   -- none of the events depends on the one
@@ -41,19 +41,11 @@ module _ {E : Type 0} (depends : E → E → Bool) where
   -- an event is free exactly where none of those behind it depends on it
   module _ (history : List E) (at : ℕ) (event : E) (stands : nth history at ≡ Some event) where
     pub none_behind : IsFree depends history at → IsIndependent event (drop at history)
-    none_behind free = all_nth (λ other. depends event other ≡ false) (drop at history) independent
-      where
-        independent : (k : ℕ) (other : E) → nth (drop at history) k ≡ Some other → depends event other ≡ false
-        independent zero other there = absurd (none-some other there)
-        independent (suc k) other there =
-            false_from_ne_true (depends event other)
-            (λ linked. free (suc (at + k)) (link_at history at (suc (at + k)) event other stands (sym (nth_drop history at k) ∙ there) (omega arith) linked))
+    none_behind free =
+        all_behind _ history at (λ j other later at_j.
+        false_from_ne_true (depends event other) (λ linked. free j (link_at history at j event other stands at_j later linked)))
 
     pub free_behind : IsIndependent event (drop at history) → IsFree depends history at
     free_behind none j l =
-        let later = l.later in
-        let further : suc (at + (j - suc at)) ≡ j = omega (arith, later) in
-        let there = nth_drop history at (j - suc at) ∙ ap (nth history) further ∙ l.at_effect in
-        let independent = nth_all (λ other. depends event other ≡ false) (drop at history) none (suc (j - suc at)) l.effect there in
-        let cause = same_Some event l.cause (sym stands ∙ l.at_cause) in
-        true≢false (sym l.linked ∙ ap (λ x. depends x l.effect) (sym cause) ∙ independent)
+        both_ways _ (nth_behind (λ other. depends event other ≡ false) history at none j l.effect l.later l.at_effect)
+        (linked_events history at j event l.effect stands l.at_effect l)

@@ -45,6 +45,7 @@ pub fn rolled_back_exactly<E>()
 {}
 
 /// The consequences are exactly the events at the positions of the least set, in the order of the list.
+#[tactic(auto, using(crate::proofs::LeastSet::consequences_parted))]
 pub fn consequences_exactly<E>()
     ensures { OfPositions E (λ depends events at.
         AreConsequences depends events at (consequences depends events at)) }
@@ -52,6 +53,7 @@ pub fn consequences_exactly<E>()
 
 /// Two lists with the same events, each once, whose dependent pairs stand in the same order, are
 /// equal up to exchange.
+#[tactic(auto, using(crate::proofs::Orders::exchanged_from_order))]
 pub fn same_order_exchanged<E>()
     ensures { OfTwo E (λ depends one other.
         HaveSameOrder depends one other → IsExchanged depends one other) }
@@ -81,6 +83,7 @@ pub fn exchange_is_equivalence<E>()
 
 /// Where events that do not depend on each other commute, lists that are equal up to exchange reach
 /// the same state, or none of them reaches any.
+#[tactic(auto, using(crate::proofs::Reaches::reached_exchanged))]
 pub fn exchanged_reach_the_same<S, E>()
     ensures { (take : S → E → Option S) → OfExchanged E (λ depends events others.
         IsCommuting take depends → ReachTheSame take events others) }
@@ -102,6 +105,7 @@ pub fn direct_causes_stay<E>()
 
 /// The direct causes of the last event of a list are those events on which it depends directly, by
 /// the list of what stands between.
+#[tactic(auto, using(crate::proofs::DirectByList::direct_by_list))]
 pub fn direct_by_list<E>()
     ensures { OfEvents E (λ depends history at cause. IsDecidedByList depends history at cause) }
 {}

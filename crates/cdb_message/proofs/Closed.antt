@@ -70,20 +70,19 @@ module _ (passed : Passed) (mail : MailState) (closed : AreClosed passed mail) w
       (copy_name (message_name t m) q)) (closed q t m from is)
 
   -- one copy was left out
-  module _ (left : Passed) (p s number : ℕ) (leaves : LeavesOut passed left p s number) where
-    differs : (q t m : ℕ) → 1 ≤ m → IsPassed left q t m → q ≡ p → message_name t m ≢ message_name s number
-    differs q t m from is same_p same = (leaves q t m from is).1 same_p (ap (λ name. name.s) same) (ap (λ name. name.m) same)
+  module _ (left : Passed) (p : ℕ) (name : MsgName) (leaves : LeavesOut passed left p name.s name.m) where
+    differs : (q t m : ℕ) → 1 ≤ m → IsPassed left q t m → q ≡ p → message_name t m ≢ name
+    differs q t m from is same_p same = (leaves q t m from is).1 same_p (ap (λ n. n.s) same) (ap (λ n. n.m) same)
 
-    pub closed-remove_receive : AreClosed left (remove_receive mail p (message_name s number))
+    pub closed-remove_receive : AreClosed left (remove_receive mail p name)
     closed-remove_receive q t m from is =
-        still_closed _ _ _ _
-        (stays-remove_receive mail p q (message_name s number) (message_name t m) (differs q t m from is)) (λ h. h)
+        still_closed _ _ _ _ (stays-remove_receive mail p q name (message_name t m) (differs q t m from is)) (λ h. h)
         (closed q t m from (leaves q t m from is).0)
 
-    pub closed-remove_loss : AreClosed left (remove_loss mail (copy_name (message_name s number) p))
+    pub closed-remove_loss : AreClosed left (remove_loss mail (copy_name name p))
     closed-remove_loss q t m from is =
         still_closed _ _ _ _ (λ h. h)
-        (stays-remove copy_cmp_total copy_cmp-IsAntisymmetric mail.lost (copy_name (message_name s number) p) (copy_name (message_name t m) q)
+        (stays-remove copy_cmp_total copy_cmp-IsAntisymmetric mail.lost (copy_name name p) (copy_name (message_name t m) q)
         (λ same. differs q t m from is (ap (λ copy. copy.to) same) (ap (λ copy. copy.msg) same)))
         (closed q t m from (leaves q t m from is).0)
 

@@ -1,3 +1,4 @@
+pub mod AllOf
 pub mod WatermarkLaws
 pub mod Closed
 pub mod Tables

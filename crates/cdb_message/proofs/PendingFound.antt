@@ -1,10 +1,10 @@
 -- The first pending message, looked for among the messages of one sender after another.
-use Rattle.std.proofs.lemmas.Grind.{common_steps}
-use Rattle.std.proofs.lemmas.Option.{gets}
-use Rattle.std.proofs.Common.{◌≡◌, ℕ, suc, zero, ◌+◌, ◌-◌, ◌<◌, ◌≤◌, Bool, true, false, cond, List, ◌∷◌, Option, None, length, get_or, drop, max, refl}
+use Rattle.std.proofs.Common.{◌≡◌, ℕ, suc, zero, ◌+◌, ◌-◌, ◌<◌, ◌≤◌, Bool, true, false, ◌&&◌, List, [], ◌∷◌, Option, None, length, get_or, drop, max, refl, ap}
 use Rattle.std.proofs.Common.{sym, ◌∙◌, arith, map, filter, find, inl, inr, add-one}
 use Rattle.std.specs.Prelude.{nat_le}
-use Rattle.std.proofs.lemmas.Bool.{cases_lt}
+use Rattle.std.proofs.Math.Bool.{and-true}
+use Rattle.std.proofs.lemmas.Bool.{cases_lt, cases_Bool, and_left, and_right}
+use Rattle.std.proofs.lemmas.Bool.Decides.{nat_tests}
 use Rattle.std.proofs.lemmas.List.Elements.{filter-append}
 use Rattle.std.proofs.lemmas.List.Folds.{find-append}
 use Rattle.std.proofs.Math.Seq.{drop-cons}
@@ -40,54 +40,59 @@ find-passed name is_open m (suc k) end closed =
           rw (none, none_behind) refl
     ]
 
+-- a look goes the same way where the tests agree
+find-same : (name : ℕ → MsgName) (p q : MsgName → Bool) (m k : ℕ) → ((j : ℕ) → m ≤ j → p (name j) ≡ q (name j))
+    → find p (map name (range_with_len m k)) ≡ find q (map name (range_with_len m k))
+find-same name p q m zero same = refl
+find-same name p q m (suc k) same = rw (same m (omega arith), find-same name p q (m + 1) k (λ j from. same j (omega arith))) refl
+
+pub find-filter : (p q : MsgName → Bool) (names : List MsgName) → find q (filter p names) ≡ find (λ name. p name && q name) names
+find-filter p q [] = refl
+find-filter p q (name ∷ names) =
+    elim (cases_Bool (p name)) [ inl is ↦ rw (is, find-filter p q names) refl | inr is ↦ rw (is, find-filter p q names) refl ]
+
+le_true : (a b : ℕ) → a ≤ b → nat_le a b ≡ true
+le_true a b h = grind (arith, nat_tests)
+
+le_false : (a b : ℕ) → b < a → nat_le a b ≡ false
+le_false a b h = grind (arith, nat_tests)
+
 module _ (above is_open : MsgName → Bool) where
   abbrev first_pending : List MsgName → Option MsgName
   first_pending names = find above (filter is_open names)
 
-  -- a name that is not above is passed over
-  first-below : (o : Bool) (x : MsgName) (xs : List MsgName) → above x ≡ false
-      → find above (cond o (x ∷ filter is_open xs) (filter is_open xs)) ≡ first_pending xs
-  first-below true x xs e = rw e refl
-  first-below false x xs e = refl
-
-  -- the first name is below `low`, or else the one sought stands from here on
-  next-number : (b : Bool) (name : ℕ → MsgName) (low m k start len : ℕ) → nat_le low m ≡ b → above (name m) ≡ b
-      → start ≡ max low m → len ≡ m + suc k - start
-      → ((from n : ℕ) → from ≡ max low (m + 1) → n ≡ m + 1 + k - from
-      → first_pending (map name (range_with_len (m + 1) k)) ≡ find is_open (map name (range_with_len from n)))
-      → first_pending (name m ∷ map name (range_with_len (m + 1) k)) ≡ find is_open (map name (range_with_len start len))
-  next-number b name low m k start len e stands s l rest = grind (arith, common_steps, gets)
-
-  -- the names from `low` on are those that stand above
-  pub first-numbers : (name : ℕ → MsgName) (low m k start len : ℕ) → ((j : ℕ) → above (name j) ≡ nat_le low j)
-      → start ≡ max low m → len ≡ m + k - start
-      → first_pending (map name (range_with_len m k)) ≡ find is_open (map name (range_with_len start len))
-  first-numbers name low m zero start len stands s l =
-      let none : len ≡ 0 = omega arith in
-      rw none refl
-  first-numbers name low m (suc k) start len stands s l =
-      next-number (nat_le low m) name low m k start len refl (stands m) s l
-      (λ from n s' l'. first-numbers name low (m + 1) k from n stands s' l')
+  abbrev is_next : MsgName → Bool
+  is_next name = is_open name && above name
 
   -- no name of the sender stands above
   pub first-none : (name : ℕ → MsgName) (m k : ℕ) → ((j : ℕ) → above (name j) ≡ false)
       → first_pending (map name (range_with_len m k)) ≡ None
-  first-none name m zero below = refl
-  first-none name m (suc k) below =
-      first-below (is_open (name m)) (name m) _ (below m) ∙ first-none name (m + 1) k below
+  first-none name m k below =
+      let all : m + k - m ≡ k = omega arith in
+      let none_left : m + k - (m + k) ≡ 0 = omega arith in
+      find-filter is_open above (map name (range_with_len m k))
+      ∙ sym (rw (all, none_left) at (find-passed name is_next m k (m + k) (λ j from to. and_right _ _ (below j))))
 
   -- the look may begin behind a number up to which none is open
   pub first-behind : (name : ℕ → MsgName) (low watermark start count : ℕ) → ((j : ℕ) → above (name j) ≡ nat_le low j)
       → ((j : ℕ) → 1 ≤ j → j ≤ watermark → is_open (name j) ≡ false) → start ≡ max low (watermark + 1)
       → find is_open (map name (range_with_len start (count + 1 - start))) ≡ first_pending (map name (range_with_len 1 count))
   first-behind name low watermark start count stands closed s =
-      let lowest = max low 1 in
-      let passed = start - lowest in
-      let ends : lowest + passed ≡ start = omega arith in
-      let as_many : count + 1 - lowest ≡ 1 + count - lowest = omega arith in
-      rw (← ends)
-      (find-passed name is_open lowest passed (count + 1) (λ j from to. closed j (omega arith) (omega arith))
-      ∙ sym (first-numbers name low 1 count lowest (count + 1 - lowest) stands refl as_many))
+      let ends : 1 + (start - 1) ≡ start = omega arith in
+      let all : count + 1 - 1 ≡ count = omega arith in
+      find-same name is_open is_next start (count + 1 - start) from_here
+      ∙ rw (ends, all) at (find-passed name is_next 1 (start - 1) (count + 1) passed)
+      ∙ sym (find-filter is_open above (map name (range_with_len 1 count)))
+    where
+      passed : (j : ℕ) → 1 ≤ j → j < 1 + (start - 1) → is_next (name j) ≡ false
+      passed j from to =
+          elim (cases_lt j low) [
+            | inl less ↦ and_right _ _ (stands j ∙ le_false low j less)
+            | inr most ↦ and_left _ _ (closed j from (omega (arith, s, to, most)))
+          ]
+
+      from_here : (j : ℕ) → start ≤ j → is_open (name j) ≡ is_next (name j)
+      from_here j from = sym (ap (λ b. is_open (name j) && b) (stands j ∙ le_true low j (omega arith)) ∙ and-true (is_open (name j)))
 
 -- ---- over the senders
 

@@ -1,5 +1,7 @@
 -- Every answer of a setup is the number of one of its processes.
-use Rattle.std.proofs.Common.{ℕ, zero, suc, List, [], ◌∷◌, Option, Some, None}
+use Rattle.std.proofs.lemmas.Grind.{common_steps}
+use Rattle.std.proofs.lemmas.Option.{gets}
+use Rattle.std.proofs.Common.{ℕ, List, Option, Some, None, arith}
 use Rattle.std.specs.Prelude.{option_and_then, IfSome}
 use Rattle.std.specs.List.{AllByRecursion}
 use Rattle.cdb_base.specs.Positions.{nth}
@@ -7,10 +9,7 @@ use Rattle.cdb_setup.specs.Parts.{Parts, IsWithin, AreInRange, answer_of}
 
 -- what holds of each item holds of the one at a position
 at_position : {A : Type 0} (P : A → Type 0) (items : List A) (k : ℕ) → AllByRecursion P items → IfSome (nth items k) P
-at_position P items zero all = tt
-at_position P [] (suc k) all = tt
-at_position P (item ∷ items) (suc zero) all = all.0
-at_position P (item ∷ items) (suc (suc k)) all = at_position P items (suc k) all.1
+at_position P items k all = grind (arith, common_steps, gets)
 
 of_list : (n k : ℕ) (list : Option (List ℕ)) → IfSome list (AllByRecursion (IsWithin 1 n))
     → IfSome (option_and_then (λ answers. nth answers k) list) (IsWithin 1 n)

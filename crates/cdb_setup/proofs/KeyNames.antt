@@ -1,12 +1,12 @@
 -- The keys of an object, and the first needed key that is not there.
 use Rattle.std.proofs.lemmas.Grind.{common_steps}
 use Rattle.std.proofs.lemmas.Option.{gets}
-use Rattle.std.proofs.Common.{◌≡◌, ◌≢◌, ℕ, ◌<◌, ◌+◌, Bool, true, false, ◌&&◌, cond, List, [], ◌∷◌, Option, Some, String, Global, string_bytes, bytes_eq}
+use Rattle.std.proofs.Common.{◌≡◌, ◌≢◌, ℕ, ◌<◌, ◌+◌, Bool, true, false, cond, List, [], ◌∷◌, Option, Some, String, Global, string_bytes, bytes_eq}
 use Rattle.std.proofs.Common.{refl, sym, subst, ◌∙◌, arith, inl, inr}
 use Rattle.std.specs.Prelude.{MatchOption, is_none, find}
 use Rattle.std.specs.List.{list_all, list_any}
 use Rattle.std.specs.Map.{keys_of}
-use Rattle.std.proofs.lemmas.Bool.{cases_Bool, cases_eq}
+use Rattle.std.proofs.lemmas.Bool.{cases_Bool, cases_eq, and_parts}
 use Rattle.std.proofs.lemmas.Slice.Eq.{bytes_eq-Decides}
 use Rattle.serde_json.specs.Data.{Data, object}
 use Rattle.serde_json.specs.Find.{get, get_member}
@@ -16,7 +16,7 @@ use Rattle.cdb_setup.specs.declared.key.Key.{Key}
 use Rattle.cdb_setup.specs.declared.key.Key.TheVariants.{Algorithm, Processes, Quorum, Inputs, Oracle, Version}
 use Rattle.cdb_setup.specs.declared.fault.SetupFault.{SetupFault}
 use Rattle.cdb_setup.specs.declared.fault.SetupFault.TheVariants as faults
-use Rattle.cdb_setup.specs.declared.key.TheConstants as constants
+use Rattle.cdb_setup.specs.declared.keys.TheConstants.{ALL}
 use Rattle.cdb_setup.specs.Format.{name_of}
 use Rattle.cdb_setup.specs.Names.{is_key_name}
 use Rattle.cdb_setup.specs.Faults.{Holds}
@@ -36,15 +36,7 @@ some_key name (key ∷ keys) e =
 
 -- what the test on a name says
 is_name : (name : List ℕ) → is_key_name name ≡ true → (key : Key) × (name ≡ name_of key)
-is_name name e =
-    elim (cases_Bool (list_any (λ k. bytes_eq name (name_of k)) constants.Key.NEEDED)) [
-      | inl h ↦ some_key name constants.Key.NEEDED h
-      | inr h ↦ (
-        Version,
-        (bytes_eq-Decides name (name_of Version)).0
-            (let rest : is_key_name name ≡ bytes_eq name (name_of Version) = rw h refl in sym rest ∙ e),
-      )
-    ]
+is_name name = some_key name ALL
 
 name_is : (key : Key) → is_key_name (name_of key) ≡ true
 name_is key = grind (arith, common_steps, gets)
@@ -55,16 +47,13 @@ not_name name e key same = let here : is_key_name name ≡ true = subst (λ (n :
 abbrev test : String Global → Bool
 test name = is_key_name (string_bytes name)
 
-both : (a b : Bool) → (a && b) ≡ true → (a ≡ true) × (b ≡ true)
-both a b e = grind (arith, common_steps, gets)
-
 -- where each name is that of a key, what is found has the name of a key
 all_known : (entries : List Entry) → list_all test (keys_of entries) ≡ true → (name : List ℕ) (value : Data)
     → get_member name (members_view entries) ≡ Some value
     → (key : Key) × (name ≡ name_of key)
 all_known [] e name value there = absurd cc
 all_known (entry ∷ entries) e name value there =
-    let parts = both (test entry.0) (list_all test (keys_of entries)) e in
+    let parts = and_parts (test entry.0) (list_all test (keys_of entries)) e in
     elim (cases_Bool (bytes_eq name (string_bytes entry.0))) [
       | inl h ↦ let same = (bytes_eq-Decides name (string_bytes entry.0)).0 h in let known = is_name (string_bytes entry.0) parts.0 in (known.0, same ∙ known.1)
       | inr h ↦
@@ -145,13 +134,11 @@ goes_on : (json : Data) (k : Key) (missing : Bool) (further : Option Key) → k 
 goes_on json k true further needed e before rest = stops json k before (needed, λ value. absent (get (name_of k) json) value e)
 goes_on json k false further needed e before rest = rest (one_more json k before (λ holds. present (get (name_of k) json) e holds.1))
 
+needed_number : (k : Key) → k ≢ Version → key_number k < 5
+needed_number k needed = grind (arith, common_steps, gets)
+
 all_there : (json : Data) → AreThereBelow json 5 → HasNeededKeys json
-all_there json below Algorithm = below Algorithm (omega arith)
-all_there json below Processes = below Processes (omega arith)
-all_there json below Quorum = below Quorum (omega arith)
-all_there json below Inputs = below Inputs (omega arith)
-all_there json below Oracle = below Oracle (omega arith)
-all_there json below Version = λ holds. holds.0 refl
+all_there json below key holds = below key (needed_number key holds.0) holds
 
 pub first_missing : (json : Data) → Finds json (find (λ k. is_none (get (name_of k) json)) (Algorithm ∷ Processes ∷ Quorum ∷ Inputs ∷ Oracle ∷ []))
 first_missing json =

@@ -1,9 +1,9 @@
 -- A JSON value is one array, one whole number and one text at most.
-use Rattle.std.proofs.Common.{◌≡◌, ◌≢◌, ℕ, List, [], ◌∷◌, length, map, refl, sym, ap, ◌∙◌}
+use Rattle.std.proofs.Common.{◌≡◌, ◌≢◌, ℕ, List, [], ◌∷◌, length, map, refl, sym, ap, ap₂, ◌∙◌}
 use Rattle.serde_json.specs.Data.{Data}
 use Rattle.serde_json.specs.View.{items_of}
 use Rattle.cdb_setup.specs.declared.key.Key.{Key}
-use Rattle.cdb_setup.specs.Format.{whole, array_of, HasAt}
+use Rattle.cdb_setup.specs.Format.{whole, array_of, array_of_whole, HasAt}
 use Rattle.cdb_setup.specs.Faults.{IsCount, HasOneEach}
 
 items_same : (xs ys : List Data) → items_of xs ≡ items_of ys → xs ≡ ys
@@ -18,14 +18,19 @@ items_same (x ∷ xs) (y ∷ ys) e =
 pub array_same : (xs ys : List Data) → array_of xs ≡ array_of ys → xs ≡ ys
 array_same xs ys e = items_same xs ys cc
 
+-- lists are equal where they are written so, in a form that tells its values apart
+pub same_written : {A : Type 0} (form : A → Data) → ((x y : A) → form x ≡ form y → x ≡ y) → (xs ys : List A) → map form xs ≡ map form ys → xs ≡ ys
+same_written form apart [] [] e = refl
+same_written form apart [] (y ∷ ys) e = cc
+same_written form apart (x ∷ xs) [] e = cc
+same_written form apart (x ∷ xs) (y ∷ ys) e =
+    let heads : form x ≡ form y = cc in
+    let tails : map form xs ≡ map form ys = cc in
+    ap₂ (λ first rest. first ∷ rest) (apart x y heads) (same_written form apart xs ys tails)
+
 -- an array has one list of whole numbers
-pub whole_same : (xs ys : List ℕ) → map whole xs ≡ map whole ys → xs ≡ ys
-whole_same [] [] e = refl
-whole_same [] (y ∷ ys) e = cc
-whole_same (x ∷ xs) [] e = cc
-whole_same (x ∷ xs) (y ∷ ys) e =
-    let tails : map whole xs ≡ map whole ys = cc in
-    let rest = whole_same xs ys tails in cc
+pub whole_same : (xs ys : List ℕ) → array_of_whole xs ≡ array_of_whole ys → xs ≡ ys
+whole_same xs ys e = same_written whole (λ x y is. cc) xs ys (array_same (map whole xs) (map whole ys) e)
 
 -- a value names one number of processes
 pub count_same : (m n : ℕ) (json : Data) → IsCount m json → IsCount n json → m ≡ n

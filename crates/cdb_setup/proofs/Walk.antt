@@ -19,14 +19,27 @@ pub push_read : {A : Type 0} (form : A → Data) (values : List Data) (parts : L
 push_read form values parts i part there read = grind (arith, common_steps, gets)
 
 pub push_all : {A : Type 0} (P : A → Type 0) (parts : List A) (part : A) → AllByRecursion P parts → P part → AllByRecursion P (parts ++ part ∷ [])
-push_all P [] part all one = (one, tt)
-push_all P (first ∷ parts) part all one = (all.0, push_all P parts part all.1 one)
+push_all P parts part all one = grind (arith, common_steps, gets)
+
+-- what holds of each holds of the one at a position
+pub all_at : {A : Type 0} (P : A → Type 0) (xs : List A) (k : ℕ) (x : A) → AllByRecursion P xs → slice_get xs k ≡ Some x → P x
+all_at P xs k x all there = grind (arith, common_steps, gets)
+
+-- what is written of each part
+written : {A : Type 0} (P : A → Type 0) (Q : Data → Type 0) (form : A → Data) → ((part : A) → P part → Q (form part))
+    → (parts : List A) → AllByRecursion P parts → AllByRecursion Q (map form parts)
+written P Q form one [] all = tt
+written P Q form one (part ∷ parts) all = (one part all.0, written P Q form one parts all.1)
 
 -- numbers in range are written so
 pub within_written : (low high : ℕ) (numbers : List ℕ) → AllByRecursion (IsWithin low high) numbers
     → AllByRecursion (IsWholeWithin low high) (map whole numbers)
-within_written low high [] all = tt
-within_written low high (n ∷ numbers) all = ((n, refl, all.0), within_written low high numbers all.1)
+within_written low high = written (IsWithin low high) (IsWholeWithin low high) whole (λ n within. (n, refl, within))
+
+-- lists of answers in range are written so
+pub lists_written : (n : ℕ) (lists : List (List ℕ)) → AllByRecursion (AllByRecursion (IsWithin 1 n)) lists
+    → AllByRecursion (IsAnswerList n) (map array_of_whole lists)
+lists_written n = written (AllByRecursion (IsWithin 1 n)) (IsAnswerList n) array_of_whole (λ answers all. (answers, refl, all))
 
 -- the value at which reading stops is the first that is no number in range
 pub stops_at : (low high : ℕ) (values : List Data) (numbers : List ℕ) (i : ℕ) (value : Data) → slice_get values i ≡ Some value → ¬ IsWholeWithin low high value
@@ -42,12 +55,6 @@ stops_at low high values numbers i value there not_so read within = record {
 pub reads_value : {A B : Type 0} (seen : A → B) (items : List A) (i : ℕ) (item : A) → i < length items
     → item ≡ get_or items i item → slice_get (map seen items) i ≡ Some (seen item)
 reads_value seen items i item below read = slice_get-map seen items i ∙ ap (option_map seen) (slice_get_read items (length items) i item refl below read)
-
--- lists of answers in range are written so
-pub lists_written : (n : ℕ) (lists : List (List ℕ)) → AllByRecursion (AllByRecursion (IsWithin 1 n)) lists
-    → AllByRecursion (IsAnswerList n) (map array_of_whole lists)
-lists_written n [] all = tt
-lists_written n (answers ∷ lists) all = ((answers, refl, all.0), lists_written n lists all.1)
 
 -- the lists that were read are lists of answers
 pub lists_before : (n i : ℕ) (values : List Data) (lists : List (List ℕ)) → take i values ≡ map array_of_whole lists

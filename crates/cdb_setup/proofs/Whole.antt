@@ -1,7 +1,7 @@
 -- The bytes as a whole: what encodes a setup has no fault, and encodes no other.
 use Rattle.std.proofs.lemmas.Grind.{common_steps}
 use Rattle.std.proofs.lemmas.Option.{gets}
-use Rattle.std.proofs.Common.{◌≡◌, ◌≢◌, ◌⊎◌, ℕ, ◌<◌, ◌≤◌, List, [], ◌∷◌, length, map, Some, refl, sym, ap, subst, ◌∙◌, arith, inl, inr}
+use Rattle.std.proofs.Common.{◌≡◌, ◌≢◌, ◌⊎◌, ℕ, ◌≤◌, List, length, map, Some, refl, sym, ap, subst, ◌∙◌, arith, inl, inr}
 use Rattle.std.specs.Prelude.{Result, Ok, Err, IfOk, IfErr}
 use Rattle.serde_json.specs.Data.{Data, string, object, Members}
 use Rattle.cdb_setup.specs.declared.setup.Algorithm.{Algorithm}
@@ -15,7 +15,7 @@ use Rattle.cdb_setup.specs.Format.{algorithm_name, whole, array_of, array_of_who
 use Rattle.cdb_setup.specs.Faults.{Holds, HoldsOf}
 use Rattle.cdb_setup.specs.Order.{IsFirstFault}
 use Rattle.cdb_setup.specs.Ranks.{IsFirstOf}
-use Rattle.cdb_setup.proofs.Values.{array_same, whole_same}
+use Rattle.cdb_setup.proofs.Values.{array_same, whole_same, same_written}
 use Rattle.cdb_setup.proofs.Fields.{same_fields}
 use Rattle.cdb_setup.proofs.NoFault.{no_bad_input, no_bad_answer, no_bad_version}
 
@@ -34,19 +34,12 @@ from_bytes TooLong bytes json short is holds = absurd (omega arith)
 from_bytes NotJson bytes json short is holds = absurd (holds json is)
 from_bytes fault bytes json short is holds = subst (λ (d : Data). Holds fault d) (one_value bytes holds.0 json holds.1 is) holds.2
 
-lifted : (fault : SetupFault) (bytes : List ℕ) (json : Data) → length bytes ≤ longest → IsJsonOf bytes json → IsFirstOf fault json → IsFirstFault fault bytes
+pub lifted : (fault : SetupFault) (bytes : List ℕ) (json : Data) → length bytes ≤ longest → IsJsonOf bytes json
+    → IsFirstOf fault json → IsFirstFault fault bytes
 lifted fault bytes json short is found = record {
   holds = to_bytes fault bytes json is found.holds;
   first = λ other before holds. found.first other before (from_bytes other bytes json short is holds);
 }
-
-pub all_lifted : {A : Type 0} (result : Result A SetupFault) (bytes : List ℕ) (json : Data) → length bytes ≤ longest → IsJsonOf bytes json
-    → IfErr result (λ fault. fault ≢ NoMemory no_memory → IsFirstOf fault json) → IfErr result (λ fault. fault ≢ NoMemory no_memory → IsFirstFault fault bytes)
-all_lifted (Ok setup) bytes json short is faults = tt
-all_lifted (Err fault) bytes json short is faults = λ differs. lifted fault bytes json short is (faults differs)
-
-pub too_long : (bytes : List ℕ) → longest < length bytes → IsFirstFault TooLong bytes
-too_long bytes long = record { holds = long; first = λ other before holds. omega arith }
 
 -- ---- what encodes a setup has no fault
 
@@ -69,14 +62,12 @@ no_setup BadAlgorithm json parts is holds = holds parts.algorithm is.algorithm
 no_setup BadCount json parts is holds = holds parts.processes (is.processes, is.ranges.processes)
 no_setup BadQuorum json parts is holds = holds parts.processes parts.quorum (is.processes, is.ranges.processes) is.quorum is.ranges.quorum
 no_setup (BadInput position) json parts is holds =
-    no_bad_input parts.processes parts.inputs json (is.processes, is.ranges.processes) is.inputs is.ranges.an_input_each is.ranges.inputs position holds
+    no_bad_input parts.processes parts.inputs json (is.processes, is.ranges.processes) (is.inputs, is.ranges.an_input_each, is.ranges.inputs) position holds
 no_setup (BadOracle process position) json parts is holds =
-    no_bad_answer parts.processes parts.answers json (is.processes, is.ranges.processes) is.answers is.ranges.a_list_each
-    is.ranges.answers process position holds
-no_setup BadVersion json parts is holds = no_bad_version parts.version json is.version is.ranges.version holds
-no_setup NotJson json parts is holds = holds
-no_setup TooLong json parts is holds = holds
-no_setup (NoMemory refused) json parts is holds = holds
+    no_bad_answer parts.processes parts.answers json (is.processes, is.ranges.processes)
+    (is.answers, is.ranges.a_list_each, is.ranges.answers) process position holds
+no_setup BadVersion json parts is holds = no_bad_version parts.version json (is.version, is.ranges.version) holds
+no_setup other json parts is holds = holds
 
 no_setup_of_bytes : (fault : SetupFault) (bytes : List ℕ) (parts : Parts) → Encodes bytes parts → ¬ HoldsOf fault bytes
 no_setup_of_bytes fault bytes parts stands holds = no_setup fault stands.1 parts stands.3 (from_bytes fault bytes stands.1 stands.0 stands.2 holds)
@@ -85,16 +76,6 @@ no_setup_of_bytes fault bytes parts stands holds = no_setup fault stands.1 parts
 
 same_name : (a b : Algorithm) → string (algorithm_name a) ≡ string (algorithm_name b) → a ≡ b
 same_name a b e = grind (arith, common_steps, gets)
-
-lists_same : (xs ys : List (List ℕ)) → map array_of_whole xs ≡ map array_of_whole ys → xs ≡ ys
-lists_same [] [] e = refl
-lists_same [] (y ∷ ys) e = cc
-lists_same (x ∷ xs) [] e = cc
-lists_same (x ∷ xs) (y ∷ ys) e =
-    let tails : map array_of_whole xs ≡ map array_of_whole ys = cc in
-    let heads : array_of (map whole x) ≡ array_of (map whole y) = cc in
-    let first : x ≡ y = whole_same x y (array_same (map whole x) (map whole y) heads) in
-    let rest = lists_same xs ys tails in cc
 
 same_version : (json : Data) (v w : ℕ) → HasVersion v json → HasVersion w json → v ≡ w
 same_version json v w first second = grind (arith, common_steps, gets)
@@ -105,10 +86,9 @@ same_parts json s t a b =
     let algorithm : s.algorithm ≡ t.algorithm = same_name s.algorithm t.algorithm (same_at (sym a.algorithm ∙ b.algorithm)) in
     let processes : s.processes ≡ t.processes = let e = same_at (sym a.processes ∙ b.processes) in cc in
     let quorum : s.quorum ≡ t.quorum = let e = same_at (sym a.quorum ∙ b.quorum) in cc in
-    let inputs : s.inputs ≡ t.inputs =
-    whole_same s.inputs t.inputs (array_same (map whole s.inputs) (map whole t.inputs) (same_at (sym a.inputs ∙ b.inputs))) in
-    let answers : s.answers ≡ t.answers =
-    lists_same s.answers t.answers (array_same (map array_of_whole s.answers) (map array_of_whole t.answers) (same_at (sym a.answers ∙ b.answers))) in
+    let inputs = whole_same s.inputs t.inputs (same_at (sym a.inputs ∙ b.inputs)) in
+    let arrays = array_same (map array_of_whole s.answers) (map array_of_whole t.answers) (same_at (sym a.answers ∙ b.answers)) in
+    let answers = same_written array_of_whole whole_same s.answers t.answers arrays in
     same_fields s t version algorithm processes quorum inputs answers
 
 pub one_setup : (bytes : List ℕ) (s t : Parts) → Encodes bytes s → Encodes bytes t → s ≡ t

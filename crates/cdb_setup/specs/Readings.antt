@@ -10,6 +10,7 @@ use Rattle.cdb_setup.specs.declared.key.Key.TheVariants as key
 use Rattle.cdb_setup.specs.Parts.{IsWithin, AreValues, AreProcesses, AreListsOfProcesses}
 use Rattle.cdb_setup.specs.Format.{whole, array_of, array_of_whole, HasAt, HasKnownKeys, HasVersion}
 use Rattle.cdb_setup.specs.Faults.{Holds, IsWholeWithin}
+use Rattle.cdb_setup.specs.Ranks.{IsFirstOf, IsClearBelow}
 
 -- the i-th value, counted from 0, is the first of which this isn't so
 pub record IsFirstNot (P : Data → Type 0) (values : List Data) (i : ℕ) : Type 0 where
@@ -27,9 +28,10 @@ abbrev pub IsReadIfWhole : ℕ → ℕ → Data → Option ℕ → Type 0
 IsReadIfWhole low high value found =
     MatchOption found (¬ IsWholeWithin low high value) (IsRead low high value)
 
--- what was found is so; where nothing was, the fault holds of the JSON value
-abbrev pub IsFoundOr : {A : Type 0} → SetupFault → (A → Data → Type 0) → Option A → Data → Type 0
-IsFoundOr fault Is found json = MatchOption found (Holds fault json) (λ it. Is it json)
+-- what was found is so, and no fault below the rank is left; where nothing was found, the fault is the first
+abbrev pub IsFoundOr : {A : Type 0} → ℕ → SetupFault → (A → Data → Type 0) → Option A → Data → Type 0
+IsFoundOr rank fault Is found json =
+    MatchOption found (IsFirstOf fault json) (λ it. Is it json × IsClearBelow rank json)
 
 -- this quorum stands under its key, of at most n processes
 abbrev pub HasQuorum : ℕ → ℕ → Data → Type 0

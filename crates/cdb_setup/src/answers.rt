@@ -5,7 +5,7 @@ ghost use Rattle.serde_json.specs.View.{view};
 ghost use Rattle.cdb_base.specs.Limits.{MAX_PROCESSES};
 ghost use Rattle.cdb_setup.specs.Parts.{lists_in};
 ghost use Rattle.cdb_setup.specs.Faults.{IfFault, IsCount};
-ghost use Rattle.cdb_setup.specs.Ranks.{IsFirstOfRank};
+ghost use Rattle.cdb_setup.specs.Ranks.{IsFirstOf, IsClearBelow};
 ghost use Rattle.cdb_setup.specs.Readings.{IsReadIfWhole, AreRead, IsListRead, AreListsRead, HasAnswers};
 ghost use Rattle.cdb_setup.specs.Readings.{IsFirstOfAnswers, IsFirstOfList, IsFirstOfLists};
 
@@ -82,10 +82,11 @@ pub(crate) fn answers_of(
     value: &Value,
     count: u8,
 ) -> Result<Vec<Vec<Proc>>, SetupFault>
-    requires { IsCount count (view value.now) }
-    ensures found { IfOk result
-        (λ lists. HasAnswers count (view value.now) (lists_in lists.items)) }
-    ensures fault { IfFault result (λ fault. IsFirstOfRank 9 fault (view value.now)) }
+    requires count { IsCount count (view value.now) }
+    requires clear { IsClearBelow 9 (view value.now) }
+    ensures found { IfOk result (λ lists.
+        HasAnswers count (view value.now) (lists_in lists.items) × IsClearBelow 10 (view value.now)) }
+    ensures fault { IfFault result (λ fault. IsFirstOf fault (view value.now)) }
 {
     let Some(values) = one_each(value, Key::Oracle, count) else {
         return Err(SetupFault::BadOracle(0, 0));

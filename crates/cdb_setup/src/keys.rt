@@ -3,8 +3,7 @@
 ghost use Rattle.std.specs.Prelude.{◌≡◌, MatchOption, IfErr, OnOk};
 ghost use Rattle.std.specs.Prelude.{string_bytes, is_none, find};
 ghost use Rattle.std.specs.BTreeMap.{keys};
-ghost use Rattle.std.specs.List.{list_all, list_any};
-ghost use Rattle.std.specs.Str.{bytes_eq};
+ghost use Rattle.std.specs.List.{list_all};
 ghost use Rattle.serde_json.specs.Data.{object};
 ghost use Rattle.serde_json.specs.Find.{get};
 ghost use Rattle.serde_json.specs.View.{view, members_view};
@@ -17,6 +16,16 @@ use crate::fault::SetupFault;
 use crate::key::Key;
 use serde_json::{Map, Value};
 
+/// All keys.
+const ALL: [Key; 6] = [
+    Key::Algorithm,
+    Key::Processes,
+    Key::Quorum,
+    Key::Inputs,
+    Key::Oracle,
+    Key::Version,
+];
+
 /// Whether each name is that of a key.
 fn are_key_names(members: &Map<String, Value>) -> bool
     ensures { result ≡ list_all (λ name. is_key_name (string_bytes name)) (keys members.now) }
@@ -24,18 +33,11 @@ fn are_key_names(members: &Map<String, Value>) -> bool
     members.keys().all(|name| is_key_name(name.as_str()))
 }
 
-/// Whether the name is that of a key that each setup has.
-fn is_needed(name: &str) -> bool
-    ensures { result ≡ list_any (λ key. bytes_eq name.now (name_of key)) Key.NEEDED }
-{
-    Key::NEEDED.iter().any(|key| name == key.name())
-}
-
 /// Whether the name is that of a key.
 fn is_key_name(name: &str) -> bool
     ensures { result ≡ is_key_name name.now }
 {
-    is_needed(name) || name == Key::Version.name()
+    ALL.iter().any(|key| name == key.name())
 }
 
 /// Whether only keys of a setup stand there, as the fault says it.

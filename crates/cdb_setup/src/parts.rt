@@ -5,7 +5,7 @@ ghost use Rattle.serde_json.specs.View.{view};
 ghost use Rattle.cdb_base.specs.Limits.{MAX_VALUE};
 ghost use Rattle.cdb_setup.specs.Format.{HasAlgorithm};
 ghost use Rattle.cdb_setup.specs.Faults.{IfFault, IsCount, HasOneEach, LacksOneEach};
-ghost use Rattle.cdb_setup.specs.Ranks.{IsFirstOfRank};
+ghost use Rattle.cdb_setup.specs.Ranks.{IsFirstOf, IsClearBelow};
 ghost use Rattle.cdb_setup.specs.Readings.{IsReadIfWhole, IsFoundOr, HasQuorum, IsVersion};
 ghost use Rattle.cdb_setup.specs.Readings.{AreRead, HasInputs, IsFirstOfInputs};
 
@@ -30,7 +30,8 @@ pub(crate) fn whole_within(value: &Value, low: u64, high: u64) -> Option<u32>
 
 /// The number of processes.
 pub(crate) fn count_of(value: &Value) -> Option<u8>
-    ensures { IsFoundOr SetupFault.BadCount IsCount result (view value.now) }
+    requires { IsClearBelow 6 (view value.now) }
+    ensures { IsFoundOr 7 SetupFault.BadCount IsCount result (view value.now) }
 {
     let count = value.get(Key::Processes.name())?;
     let number = whole_within(count, 1, MAX_PROCESSES as u64)?;
@@ -39,8 +40,9 @@ pub(crate) fn count_of(value: &Value) -> Option<u8>
 
 /// The quorum, where there are this many processes.
 pub(crate) fn quorum_of(value: &Value, count: u8) -> Option<u8>
-    requires { IsCount count (view value.now) }
-    ensures { IsFoundOr SetupFault.BadQuorum (HasQuorum count) result (view value.now) }
+    requires count { IsCount count (view value.now) }
+    requires clear { IsClearBelow 7 (view value.now) }
+    ensures { IsFoundOr 8 SetupFault.BadQuorum (HasQuorum count) result (view value.now) }
 {
     let quorum = value.get(Key::Quorum.name())?;
     let number = whole_within(quorum, 1, count as u64)?;
@@ -49,7 +51,8 @@ pub(crate) fn quorum_of(value: &Value, count: u8) -> Option<u8>
 
 /// The algorithm.
 pub(crate) fn algorithm_of(value: &Value) -> Option<Algorithm>
-    ensures { IsFoundOr SetupFault.BadAlgorithm HasAlgorithm result (view value.now) }
+    requires { IsClearBelow 5 (view value.now) }
+    ensures { IsFoundOr 6 SetupFault.BadAlgorithm HasAlgorithm result (view value.now) }
 {
     let name = value.get(Key::Algorithm.name())?;
     match name.as_str() {
@@ -61,7 +64,8 @@ pub(crate) fn algorithm_of(value: &Value) -> Option<Algorithm>
 
 /// The version, which is 1 where its key is absent.
 pub(crate) fn version_of(value: &Value) -> Option<u8>
-    ensures { IsFoundOr SetupFault.BadVersion IsVersion result (view value.now) }
+    requires { IsClearBelow 10 (view value.now) }
+    ensures { IsFoundOr 12 SetupFault.BadVersion IsVersion result (view value.now) }
 {
     let Some(version) = value.get(Key::Version.name()) else {
         return Some(1);
@@ -109,9 +113,11 @@ fn input_of(value: &Value) -> Option<Val>
 
 /// The inputs, where there are this many processes.
 pub(crate) fn inputs_of(alloc: Global, value: &Value, count: u8) -> Result<Vec<Val>, SetupFault>
-    requires { IsCount count (view value.now) }
-    ensures found { IfOk result (λ inputs. HasInputs count (view value.now) inputs.items) }
-    ensures fault { IfFault result (λ fault. IsFirstOfRank 8 fault (view value.now)) }
+    requires count { IsCount count (view value.now) }
+    requires clear { IsClearBelow 8 (view value.now) }
+    ensures found { IfOk result (λ inputs.
+        HasInputs count (view value.now) inputs.items × IsClearBelow 9 (view value.now)) }
+    ensures fault { IfFault result (λ fault. IsFirstOf fault (view value.now)) }
 {
     let Some(values) = one_each(value, Key::Inputs, count) else {
         return Err(SetupFault::BadInput(0));

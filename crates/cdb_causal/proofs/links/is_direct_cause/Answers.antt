@@ -1,6 +1,7 @@
-use Rattle.cdb_causal.proofs.Linked.{none_between}
+use borrow.Author.Count.{below_more}
+use Rattle.std.proofs.lemmas.Bool.{iff_false}
 use Rattle.cdb_causal.proofs.links.is_direct_cause.Goals as goal
 
 pub loop-k-preserved : goal.loop-k-preserved
 loop-k-preserved c =
-    none_between c.args.events.now c.args.i c.args.j c.loop-k.k c.is_between.result c.if-is_between.false c.is_between.ensures c.loop-k.invariant
+    below_more _ c.loop-k.k c.loop-k.invariant (λ one two. iff_false c.is_between.ensures c.if-is_between.false (one, two))

@@ -8,7 +8,7 @@ pub invariant_of-self : goal.invariant_of-self
 invariant_of-self c =
     let kept = c.self.invariant in
     let mail : MailState = record { sent = c.self.inside.sent.items; received = c.self.inside.received.items; lost = c.self.inside.lost } in
-    (kept.0, kept.1, rw c.remove.ensures (closed-remove_loss c.self.inside.passed mail kept.2 _ c.args.p c.args.name.s c.args.name.m c.leave_out.ensures))
+    (kept.0, kept.1, rw c.remove.ensures (closed-remove_loss c.self.inside.passed mail kept.2 _ c.args.p c.args.name c.leave_out.ensures))
 
 pub returns-clause-undoes : goal.returns-clause-undoes
 returns-clause-undoes c = λ mail fresh was.

@@ -16,7 +16,7 @@ invariant_of-self c =
       kept.0 ∙ sym (length-set _ _ _),
       kept.1,
       rw set_by
-          (closed-remove_receive c.self.inside.passed mail kept.2 _ c.args.p c.args.name.s c.args.name.m c.leave_out.ensures),
+          (closed-remove_receive c.self.inside.passed mail kept.2 _ c.args.p c.args.name c.leave_out.ensures),
     )
 
 pub returns-clause-after : goal.returns-clause-after
