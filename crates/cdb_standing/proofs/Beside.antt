@@ -1,30 +1,28 @@
 -- What the standing steps left, beside them.
 use Rattle.std.proofs.lemmas.Grind.{common_steps}
-use Rattle.std.proofs.Common.{◌≡◌, ◌≢◌, ℕ, zero, suc, ◌+◌, ◌-◌, ◌<◌, ◌≤◌, List, [], ◌∷◌, ◌++◌, length, Some, unwrap_or, inl, inr, ⊎_elim}
+use Rattle.std.proofs.Common.{◌≡◌, ◌≢◌, ℕ, zero, suc, ◌+◌, ◌-◌, ◌<◌, ◌≤◌, List, [], ◌∷◌, ◌++◌, length, Some, ◌⊎◌, unwrap_or, inl, inr, ⊎_elim}
 use Rattle.std.proofs.Common.{length-append, refl, sym, ap, ap₂, ◌∙◌, arith}
-use Rattle.std.proofs.lemmas.Bool.{cases_eq, cases_lt}
+use Rattle.std.proofs.lemmas.Bool.{cases_eq}
 use Rattle.std.proofs.lemmas.Option.{none-some, gets}
 use Rattle.std.proofs.lemmas.List.{map-append}
-use Rattle.cdb_base.specs.Event.{event_name}
 use Rattle.cdb_base.specs.Positions.{nth}
 use Rattle.cdb_base.specs.declared.event.Event.{Event}
 use Rattle.cdb_base.specs.declared.event.Event.TheVariants.{Step, Lost}
 use Rattle.cdb_base.specs.declared.event.Kind.{Kind}
 use Rattle.cdb_base.specs.declared.name.CopyName.{CopyName}
 use Rattle.cdb_base.specs.declared.name.StepId.TheVariants as named
-use Rattle.cdb_base.specs.declared.name.StepName.{StepName}
 use Rattle.cdb_causal.specs.Rollback.{without}
 use Rattle.cdb_causal.proofs.Lists.{map-without, nth_map}
 use Rattle.cdb_standing.specs.InOrder.{Has}
-use Rattle.cdb_standing.specs.UndoDataLists.{undo_data_of, recorded_with, AreBeside}
+use Rattle.cdb_standing.specs.UndoDataLists.{undo_data_of, recorded_with, AreUpTo, AreBeside}
 use Rattle.cdb_standing.specs.Moves.{StandsIn, HasStep, IsNextStep, IsEndOf, IsFreeAlone, IsTakenOut}
 use Rattle.cdb_standing.specs.Recorded.{events_of, nothing, recorded_of, IsRecordTakenOut}
 use Rattle.cdb_standing.specs.Tables.{row_of, IsPutOn}
 use Rattle.cdb_standing.specs.declared.recorded.UndoData.{UndoData}
 use Rattle.cdb_standing.specs.declared.recorded.Recorded.{Recorded}
 use Rattle.cdb_standing.proofs.Ordered.{has_at, at_has, has_left, has_right, has_cases, without_keeps, without_only}
-use Rattle.cdb_standing.proofs.Places.{step_named}
-use Rattle.cdb_standing.proofs.Rows.{put_joins}
+use Rattle.cdb_standing.proofs.Numbered.{has}
+use Rattle.cdb_standing.proofs.Rows.{put_joins, next_is, same_numbers, one_number_more}
 
 -- ---- what stands in a list, and in one without an event
 
@@ -62,41 +60,49 @@ module _ {B : Type 0} where
   same_recorded low high [] same = refl
   same_recorded low high (x ∷ xs) same = ap₂ (λ l rest. recorded_of x l ∷ rest) (same x (inl refl)) (same_recorded low high xs (λ it h. same it (inr h)))
 
--- ---- beside the steps
+-- ---- the steps of a process, where an event comes or goes
 
-steps_front : (history : List Event) (copy : CopyName) (p k : ℕ) → HasStep (history ++ Lost copy ∷ []) p k → HasStep history p k
-steps_front history copy p k is = grind (arith, common_steps, gets)
+module _ (history : List Event) (event : Event) (q l : ℕ) where
+  still_has : HasStep history q l → HasStep (history ++ event ∷ []) q l
+  still_has h = (h.0, stands_front history event (Step q l h.0) h.1)
+
+  had_or_is : HasStep (history ++ event ∷ []) q l → HasStep history q l ⊎ ((kind : Kind) × (event ≡ Step q l kind))
+  had_or_is h =
+      ⊎_elim (λ old. inl (h.0, has_stands history (Step q l h.0) old)) (λ it. ⊎_elim (λ e. inr (h.0, e)) (λ no. absurd no) it)
+      (has_cases history (event ∷ []) (Step q l h.0) (stands_has (history ++ event ∷ []) (Step q l h.0) h.1))
+
+module _ (history : List Event) (at : ℕ) (gone : Event) (there : nth history at ≡ Some gone) (q l : ℕ) where
+  had : HasStep (without history at) q l → HasStep history q l
+  had h = (h.0, stood history at gone there (Step q l h.0) h.1)
+
+  keeps : ((kind : Kind) → Step q l kind ≢ gone) → HasStep history q l → HasStep (without history at) q l
+  keeps other h = (h.0, stays history at gone there (Step q l h.0) (other h.0) h.1)
+
+-- ---- beside the steps
 
 module _ {B : Type 0} {lefts : List (List (UndoData B))} {history : List Event} (beside : AreBeside lefts history) (copy : CopyName) where
   pub beside_loss : AreBeside lefts (history ++ Lost copy ∷ [])
   beside_loss =
       record {
         processes = beside.processes;
-        within = λ p k h. beside.within p k (steps_front history copy p k h);
-        standing = λ p k low high. let h = beside.standing p k low high in (h.0, stands_front history (Lost copy) (Step p k h.0) h.1);
+        steps = λ p. same_numbers (beside.steps p) (λ k. (
+          λ h. ⊎_elim (λ old. old) (λ it. absurd (let e = it.1 in cc)) (had_or_is history (Lost copy) p k h),
+          still_has history (Lost copy) p k,
+        ));
       }
 
   pub beside_less : (at : ℕ) → nth history at ≡ Some (Lost copy) → AreBeside lefts (without history at)
   beside_less at there =
       record {
         processes = beside.processes;
-        within = λ p k h. beside.within p k (h.0, stood history at (Lost copy) there (Step p k h.0) h.1);
-        standing = λ p k low high.
-            let h = beside.standing p k low high in (h.0, stays history at (Lost copy) there (Step p k h.0) (λ e. absurd (cc)) h.1);
+        steps = λ p. same_numbers (beside.steps p)
+            (λ k. (had history at (Lost copy) there p k, keeps history at (Lost copy) there p k (λ kind e. absurd (cc))));
       }
 
 -- something lies in the row of a process of which a step stands
 pub some_left : {B : Type 0} (lefts : List (List (UndoData B))) (history : List Event) → AreBeside lefts history → (p k : ℕ)
     → IsFreeAlone history (named.Step (record { p = p; k = k })) → 0 < length (row_of lefts p)
-some_left lefts history beside p k (at, (it, there, is), free) = by it there is
-  where
-    by : (it : Event) → nth history at ≡ Some it → event_name it ≡ named.Step (record { p = p; k = k }) → 0 < length (row_of lefts p)
-    by (Step q l kind) there is =
-        let w = beside.within q l (kind, (at, there)) in
-        let name_is : step_named q l ≡ step_named p k = cc in
-        let p_is : q ≡ p = ap (λ (x : StepName). x.p) name_is in
-        rw (← p_is) (omega arith)
-    by (Lost copy) there is = absurd (cc)
+some_left lefts history beside p k free = let w = (beside.steps p).within k (has p history k (free.0, free.1)) in omega arith
 
 module _ {B : Type 0} {low high : List (List (UndoData B))} {p : ℕ} {left : UndoData B} (put : IsPutOn p low left high) where
   other_nth : (xs : List (UndoData B)) (k : ℕ) → k ≢ length xs + 1 → nth (xs ++ left ∷ []) k ≡ nth xs k
@@ -122,59 +128,34 @@ module _ {B : Type 0} {low high : List (List (UndoData B))} {p : ℕ} {left : Un
 
   -- a step more, which is the next of its process
   module _ {history : List Event} {k : ℕ} (kind : Kind) (beside : AreBeside low history) (next : IsNextStep history p k) where
-    pub next_left : k ≡ length (row_of low p) + 1
-    next_left =
-        ⊎_elim
-        (λ past. ⊎_elim (λ first. omega arith) (λ behind. let w = (beside.within p (k - 1) behind).1 in omega arith) next.behind)
-        (λ within. absurd (next.new (beside.standing p k next.from_one within)))
-        (cases_lt (length (row_of low p)) k)
+    next_left : k ≡ length (row_of low p) + 1
+    next_left = next_is (beside.steps p) next
 
     new_step : (it : Event) → StandsIn history it → (other : Kind) → it ≢ Step p k other
     new_step it h other e = next.new (other, rw (← e) h)
 
     pub beside_more : AreBeside high (history ++ Step p k kind ∷ [])
-    beside_more =
-        record {
-          processes = put.as_many ∙ beside.processes;
-          within =
-              λ q l h. ⊎_elim (within q l h.0) (λ q'. ⊎_elim (joined q l h.0) (λ no. absurd no) q')
-              (has_cases history (Step p k kind ∷ []) (Step q l h.0) (stands_has (history ++ Step p k kind ∷ []) (Step q l h.0) h.1));
-          standing = standing;
-        }
+    beside_more = record { processes = put.as_many ∙ beside.processes; steps = λ q. ⊎_elim (own q) (other q) (cases_eq q p) }
       where
-        grown : (q : ℕ) → length (row_of low q) ≤ length (row_of high q)
-        grown q = ⊎_elim (λ e. rw e (let h = high_length in omega arith)) (λ no. let h = low_length q no in omega arith) (cases_eq q p)
+        own : (q : ℕ) → q ≡ p → AreUpTo (HasStep (history ++ Step p k kind ∷ []) q) (length (row_of high q))
+        own q e =
+            rw (e, high_length)
+            (one_number_more (beside.steps p) (λ l. (
+              λ h. ⊎_elim (λ old. inl old) (λ it. let f = it.1 in let l_is : k ≡ l = (cc) in inr (omega (arith, next_left)))
+                  (had_or_is history (Step p k kind) p l h),
+              λ h. ⊎_elim (still_has history (Step p k kind) p l) (λ last. let l_is : l ≡ k = omega (arith, next_left) in rw l_is (
+                kind,
+                has_stands (history ++ Step p k kind ∷ []) (Step p k kind) (has_right history (Step p k kind ∷ []) (Step p k kind) (inl refl)),
+              )) h,
+            )))
 
-        within : (q l : ℕ) (x : Kind) → Has history (Step q l x) → (1 ≤ l) × (l ≤ length (row_of high q))
-        within q l x h =
-            let w = beside.within q l (x, has_stands history (Step q l x) h) in let one = w.0 in let g = grown q in (omega arith, omega arith)
-
-        joined : (q l : ℕ) (x : Kind) → Step p k kind ≡ Step q l x → (1 ≤ l) × (l ≤ length (row_of high q))
-        joined q l x e =
-            let p_is : p ≡ q = cc in
-            let k_is : k ≡ l = cc in
-            let one = next.from_one in
-            (omega arith, rw (← p_is) (let h = high_length in let n = next_left in omega arith))
-
-        standing : (q l : ℕ) → 1 ≤ l → l ≤ length (row_of high q) → HasStep (history ++ Step p k kind ∷ []) q l
-        standing q l one w = ⊎_elim own (λ no. was q l one (let h = low_length q no in omega arith)) (cases_eq q p)
-          where
-            was : (q l : ℕ) → 1 ≤ l → l ≤ length (row_of low q) → HasStep (history ++ Step p k kind ∷ []) q l
-            was q l one w = let h = beside.standing q l one w in (h.0, stands_front history (Step p k kind) (Step q l h.0) h.1)
-
-            last : q ≡ p → l ≡ k → HasStep (history ++ Step p k kind ∷ []) q l
-            last e is = (
-              kind,
-              rw (e, is)
-                  (has_stands (history ++ Step p k kind ∷ []) (Step p k kind) (has_right history (Step p k kind ∷ []) (Step p k kind) (inl refl))),
-            )
-
-            own : q ≡ p → HasStep (history ++ Step p k kind ∷ []) q l
-            own e =
-                let w' : l ≤ length (row_of high p) = rw e at w in
-                let h = high_length in
-                let n = next_left in
-                ⊎_elim (λ more. last e (omega arith)) (λ low'. was q l one (rw e low')) (cases_lt (length (row_of low p)) l)
+        other : (q : ℕ) → q ≢ p → AreUpTo (HasStep (history ++ Step p k kind ∷ []) q) (length (row_of high q))
+        other q apart =
+            rw (low_length q apart)
+            (same_numbers (beside.steps q) (λ l. (
+              λ h. ⊎_elim (λ old. old) (λ it. let f = it.1 in let e : q ≡ p = (cc) in absurd (apart e)) (had_or_is history (Step p k kind) q l h),
+              still_has history (Step p k kind) q l,
+            )))
 
     pub step_recorded : recorded_with high (history ++ Step p k kind ∷ []) ≡ recorded_with low history ++ recorded_of (Step p k kind) left ∷ []
     step_recorded =
@@ -194,41 +175,31 @@ module _ {B : Type 0} {low high : List (List (UndoData B))} {p : ℕ} {left : Un
     last_left : k ≡ length (row_of low p) + 1
     last_left =
         let one : 1 ≤ length (row_of high p) = (let h = high_length in omega arith) in
-        let w = (beside.within p k (kind, (free.0, there))).1 in
-        let low' = was_last (length (row_of high p)) (beside.standing p (length (row_of high p)) one (omega arith)) in
+        let w = (beside.steps p).within k (kind, (free.0, there)) in
+        let low' = was_last (length (row_of high p)) ((beside.steps p).each (length (row_of high p)) one (omega arith)) in
         let h = high_length in omega arith
 
     gone : (it : Event) → StandsIn new it → (other : Kind) → it ≢ Step p k other
     gone it h other e = let w = last k (other, rw (← e) h) in let n = last_left in absurd (omega arith)
 
-    old_step : (q l : ℕ) → HasStep new q l → HasStep history q l
-    old_step q l h = (h.0, stood history free.0 (Step p k kind) there (Step q l h.0) (rw (taken free.0 free.1).1 at h.1))
-
     pub beside_taken : AreBeside low new
-    beside_taken =
-        record {
-          processes = sym put.as_many ∙ beside.processes;
-          within = λ q l h.
-              let w = beside.within q l (old_step q l h) in (
-                w.0,
-                ⊎_elim (λ e. let less = last l (rw e at h) in let n = last_left in rw e (omega arith))
-                    (λ no. let e = low_length q no in omega arith) (cases_eq q p),
-              );
-          standing = standing;
-        }
+    beside_taken = record { processes = sym put.as_many ∙ beside.processes; steps = λ q. ⊎_elim (own q) (other q) (cases_eq q p) }
       where
-        standing : (q l : ℕ) → 1 ≤ l → l ≤ length (row_of low q) → HasStep new q l
-        standing q l one w =
-            ⊎_elim
-            (λ e. kept (λ i. let n = last_left in let w' : l ≤ length (row_of low p) = rw e at w in absurd (omega arith))
-            (rw e (let w' : l ≤ length (row_of low p) = rw e at w in let h = high_length in omega arith)))
-            (λ no. kept (λ i. absurd (no i.0)) (let e = low_length q no in omega arith))
-            (cases_eq q p)
-          where
-            kept : ((q ≡ p) × (l ≡ k) → ⊥) → l ≤ length (row_of high q) → HasStep new q l
-            kept other w =
-                let h = beside.standing q l one w in
-                (h.0, rw (taken free.0 free.1).1 (stays history free.0 (Step p k kind) there (Step q l h.0) (λ e. other ((cc), (cc))) h.1))
+        was : (q l : ℕ) → HasStep new q l → HasStep history q l
+        was q l h = had history free.0 (Step p k kind) there q l (rw (taken free.0 free.1).1 at h)
+
+        kept : (q l : ℕ) → ((q ≡ p) × (l ≡ k) → ⊥) → HasStep history q l → HasStep new q l
+        kept q l other h = rw (taken free.0 free.1).1 (keeps history free.0 (Step p k kind) there q l (λ x e. other ((cc), (cc))) h)
+
+        own : (q : ℕ) → q ≡ p → AreUpTo (HasStep new q) (length (row_of low q))
+        own q e =
+            rw e (record {
+              within = λ l h. let w = (beside.steps p).within l (was p l h) in (w.0, omega (arith, last l h, last_left));
+              each = λ l one few. kept p l (λ i. let n = last_left in absurd (omega arith)) ((beside.steps p).each l one (omega (arith, few, high_length)));
+            })
+
+        other : (q : ℕ) → q ≢ p → AreUpTo (HasStep new q) (length (row_of low q))
+        other q apart = rw (← low_length q apart) (same_numbers (beside.steps q) (λ l. (was q l, kept q l (λ i. absurd (apart i.0)))))
 
     pub step_taken : IsRecordTakenOut (recorded_with high history)
         (named.Step (record { p = p; k = k })) (recorded_of (Step p k kind) left) (recorded_with low new)

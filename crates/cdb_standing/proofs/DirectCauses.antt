@@ -9,39 +9,39 @@ use Rattle.cdb_base.specs.declared.event.Event.{Event}
 use Rattle.cdb_base.specs.declared.event.Event.TheVariants as event
 use Rattle.cdb_base.specs.declared.event.Kind.{Kind}
 use Rattle.cdb_base.specs.declared.name.StepId.{StepId}
-use Rattle.cdb_causal.specs.Causality.{IsLink}
-use Rattle.cdb_causal.specs.Dependence.{depends}
 use Rattle.cdb_causal.specs.DirectCauses.{NamesDirectCause, AreDirectCauses}
 use Rattle.cdb_causal.proofs.Lists.{push_cases, push_front, push_back}
-use Rattle.cdb_standing.specs.Causes.{IsCause, IsLastCause, IsLastCauseOrNone, IsBetween, HasNone, IsDirect, step_named, IsDirectOf, AreDirect}
-use Rattle.cdb_standing.specs.InOrder.{Marked}
-use Rattle.cdb_standing.specs.Tables.{row_of, history_of, standing, entry_of, Stands, IsSound}
+use Rattle.cdb_standing.specs.Causes.{IsLastCause, IsLastCauseOrNone, IsBetween, HasNone, IsDirect, step_named, IsDirectOf, AreDirect}
+use Rattle.cdb_standing.specs.Tables.{row_of, history_of, IsSound}
 use Rattle.cdb_standing.specs.declared.tables.Entry.{Entry}
 use Rattle.cdb_standing.specs.declared.tables.Sent.{Sent}
-use Rattle.cdb_standing.proofs.Joined.{marked}
-use Rattle.cdb_standing.proofs.Between.{no_loss}
-use Rattle.cdb_standing.proofs.CutsFound.{process_within}
-use Rattle.cdb_standing.proofs.EarliestFound.{own_links}
-use Rattle.cdb_standing.proofs.Places.{IsPlace, place_of, stands_at, event_in, link_up, link_down, named_place}
-use Rattle.cdb_standing.proofs.Rows.{same_at}
+use Rattle.cdb_standing.proofs.Links.{same_entry, why, links, process_within}
+use Rattle.cdb_standing.proofs.Places.{IsPlace, place_of, event_in, mark_at, named_place}
+use Rattle.cdb_standing.proofs.Reaches.{link_of, dependent_of}
 
 module _ {next : ℕ} {steps : List (List Entry)} {sent : List (List Sent)} (sound : IsSound next steps sent) {effect : Event} {ahead : ℕ} where
   -- ---- of one process
 
   pub at_entry : (q l : ℕ) (entry : Entry) → Some entry ≡ nth (row_of steps q) l
       → (mark : ℕ) × (kind : Kind) × IsLastCause steps sent effect ahead q l mark kind → IsLastCause steps sent effect ahead q l entry.mark entry.kind
-  at_entry q l entry here is =
-      let same = same_at (row_of steps q) l (entry_of is.0 is.1) entry is.2.is.stands (sym here) in
-      subst (λ (e : Entry). IsLastCause steps sent effect ahead q l e.mark e.kind) same is.2
+  at_entry q l entry here is = let same = same_entry steps q l is.2.is.cause (sym here) in rw (← same.0, ← same.1) is.2
 
   -- only its last step on which the event depends can be a direct cause
   module _ {q l mark : ℕ} {kind : Kind} (is : IsLastCause steps sent effect ahead q l mark kind) where
     direct_is : {j : ℕ} (d : IsDirect steps sent effect ahead q j) → (d.mark ≡ mark) × (event.Step q j d.kind ≡ event.Step q l kind)
     direct_is {j} d =
         elim (cases_eq d.mark mark) [
-          | inl e ↦ (e, sound.single mark (event.Step q j d.kind) (event.Step q l kind) (rw e at d.is.stands) is.is.stands)
+          | inl e ↦ (e, sound.single mark (event.Step q j d.kind) (event.Step q l kind) (rw e at d.is.cause) is.is.cause)
           | inr other ↦ absurd (let le = is.last j d.mark d.kind d.is in d.nothing_between mark (event.Step q l kind)
-              (record { of_cause = record { stands = is.is.stands; later = omega arith; linked = own_links q j l d.kind kind }; to_effect = is.is }))
+              (record {
+                of_cause = record {
+                  cause = d.is.cause;
+                  effect = is.is.cause;
+                  later = omega arith;
+                  linked = links (event.Step q j d.kind) (event.Step q l kind) (inl refl);
+                };
+                to_effect = is.is;
+              }))
         ]
 
     pub hidden : {x : ℕ} {it : Event} → IsBetween steps sent (event.Step q l kind) mark effect ahead x it → IsDirectOf steps sent effect ahead q None
@@ -65,15 +65,6 @@ module _ {next : ℕ} {steps : List (List Entry)} {sent : List (List Sent)} (sou
   no_cause q none = record { only = λ name e. absurd (none-some name e); each = λ j d. absurd (none j d.mark d.kind d.is) }
 
   -- ---- of one process after another
-
-  pub none_yet : AreDirect steps sent effect ahead 0 []
-  none_yet =
-      record {
-        only = λ k name at. absurd (none-some name at);
-        each = λ q l le d. let from_one = (process_within sound q l d.mark d.kind d.is.stands).0 in absurd (omega arith);
-        in_order = λ k l name other less at_k at_l. absurd (none-some name at_k);
-        few = omega arith;
-      }
 
   module _ {top : ℕ} {names : List StepId} (are : AreDirect steps sent effect ahead top names) where
     pub none_more : IsDirectOf steps sent effect ahead (top + 1) None → AreDirect steps sent effect ahead (top + 1) names
@@ -128,56 +119,39 @@ module _ {next : ℕ} {steps : List (List Entry)} {sent : List (List Sent)} (sou
     abbrev History : List Event
     History = history_of steps sent
 
-    pub cause_at : (i mark : ℕ) (it : Event) → IsPlace sound i mark it → IsLink depends History i at → IsCause steps sent effect ahead mark it
-    cause_at i mark it here link =
-        let down = link_down sound i at mark it here link in
-        let same = same_at (standing steps sent) at (marked down.0 down.1) (marked ahead effect) down.2 place in
-        let mark_is : down.0 ≡ ahead = ap (λ (x : Marked). x.mark) same in
-        let event_is : down.1 ≡ effect = ap (λ (x : Marked). x.event) same in
-        record { stands = stands_at sound i mark it here; earlier = rw mark_is at down.3; linked = rw event_is at down.4 }
-
     -- a direct cause in the tables is one in the history
     up : {q l : ℕ} → IsDirect steps sent effect ahead q l → NamesDirectCause History at (step_named q l)
     up {q} {l} d =
         let one = event.Step q l d.kind in
-        let here = place_of sound d.mark one d.is.stands in (
+        let here = place_of sound d.mark one d.is.cause in (
           here.0,
           record {
-            link = link_up sound here.0 at d.mark ahead one effect here.1 place d.is.earlier d.is.linked;
+            link = link_of sound here.0 at here.1 place d.is;
             nothing_between = λ k from to.
-                let down = link_down sound here.0 k d.mark one here.1 from in
-                d.nothing_between down.0 down.1
-                (record {
-                  of_cause = record { stands = stands_at sound k down.0 down.1 down.2; later = down.3; linked = down.4 };
-                  to_effect = cause_at k down.0 down.1 down.2 to;
-                });
+                let there = mark_at sound k from.effect from.at_effect in
+                d.nothing_between there.0 from.effect
+                (record { of_cause = dependent_of sound here.0 k here.1 there.1 from; to_effect = dependent_of sound k at there.1 place to });
           },
           (one, event_in sound here.0 d.mark one here.1, refl),
         )
 
     -- and back
     down_to : (name : StepId) → NamesDirectCause History at name → (q : ℕ) × (l : ℕ) × IsDirect steps sent effect ahead q l × (name ≡ step_named q l)
-    down_to name n = by there.0 there.1 there.2 there.4
+    down_to name n = let there = named_place sound n.0 name n.2 in by there.0 there.1 there.2 there.4
       where
-        there : (mark : ℕ) × (it : Event) × IsPlace sound n.0 mark it × Stands steps sent mark it × (event_name it ≡ name)
-        there = named_place sound n.0 name n.2
-
         by : (mark : ℕ) (it : Event) → IsPlace sound n.0 mark it → event_name it ≡ name
             → (q : ℕ) × (l : ℕ) × IsDirect steps sent effect ahead q l × (name ≡ step_named q l)
-        by mark (event.Lost copy) here e =
-            absurd (no_loss sound (stands_at sound at ahead effect place) (cause_at n.0 mark (event.Lost copy) here n.1.link))
+        by mark (event.Lost copy) here e = absurd (why sound (dependent_of sound n.0 at here place n.1.link))
         by mark (event.Step q l kind) here e = (
           q,
           l,
           record {
             mark = mark;
             kind = kind;
-            is = cause_at n.0 mark (event.Step q l kind) here n.1.link;
+            is = dependent_of sound n.0 at here place n.1.link;
             nothing_between = λ x it b.
-                let between = place_of sound x it b.of_cause.stands in
-                n.1.nothing_between between.0
-                (link_up sound n.0 between.0 mark x (event.Step q l kind) it here between.1 b.of_cause.later b.of_cause.linked)
-                (link_up sound between.0 at x ahead it effect between.1 place b.to_effect.earlier b.to_effect.linked);
+                let between = place_of sound x it b.of_cause.effect in
+                n.1.nothing_between between.0 (link_of sound n.0 between.0 here between.1 b.of_cause) (link_of sound between.0 at between.1 place b.to_effect);
           },
           sym e,
         )
@@ -188,7 +162,7 @@ module _ {next : ℕ} {steps : List (List Entry)} {sent : List (List Sent)} (sou
           only = λ k name at_k. let o = are.only k name at_k in rw o.4 (up o.3);
           each = λ name n.
               let d = down_to name n in
-              let found = are.each d.0 d.1 (process_within sound d.0 d.1 d.2.mark d.2.kind d.2.is.stands).1 d.2 in
+              let found = are.each d.0 d.1 (process_within sound d.0 d.1 d.2.mark d.2.kind d.2.is.cause).1 d.2 in
               (found.0, found.1 ∙ ap Some (sym d.3));
           in_order = are.in_order;
         }

@@ -1,7 +1,7 @@
 -- How many events depend directly on one, and that there are none exactly where it is free.
-use Rattle.std.proofs.Common.{◌≡◌, ◌↔◌, ℕ, zero, suc, ◌+◌, ◌<◌, List, [], ◌∷◌, ◌++◌, length, take, refl, sym, ap, ◌∙◌, subst, arith}
-use Rattle.std.proofs.Math.Seq.{length-take-le, take-length}
-use Rattle.std.proofs.lemmas.List.{length_push}
+use Rattle.std.proofs.Common.{◌≡◌, ◌↔◌, ℕ, ◌+◌, ◌<◌, List, [], ◌∷◌, ◌++◌, length, take, get_or, refl, sym, ap, ◌∙◌, subst, arith}
+use Rattle.std.proofs.Math.Seq.{length-take-le}
+use Rattle.std.proofs.lemmas.List.{length_push, take_more}
 use Rattle.cdb_base.specs.declared.event.Event.{Event}
 use Rattle.cdb_base.specs.declared.name.StepId.{StepId}
 use Rattle.cdb_causal.specs.Causality.{IsDirectCause, IsFree}
@@ -15,10 +15,9 @@ use Rattle.cdb_causal.proofs.Lists.{nth_within}
 use Rattle.cdb_causal.proofs.Parted.{more_in, more_out, none_found, found_none}
 use Rattle.cdb_standing.specs.Recorded.{IsCountOf, IsZeroWhereFree}
 
-take_one_more : {E : Type 0} (xs : List E) (j : ℕ) → j < length xs → (x : E) × (take (suc j) xs ≡ take j xs ++ x ∷ [])
+take_one_more : {E : Type 0} (xs : List E) (j : ℕ) → j < length xs → (x : E) × (take (j + 1) xs ≡ take j xs ++ x ∷ [])
 take_one_more [] j less = absurd (omega (arith, less))
-take_one_more (x ∷ xs) zero less = (x, refl)
-take_one_more (x ∷ xs) (suc j) less = let rest = take_one_more xs j (omega (arith, less)) in (rest.0, ap (λ l. x ∷ l) rest.1)
+take_one_more (x ∷ xs) j less = (get_or (x ∷ xs) j x, take_more (x ∷ xs) j x less)
 
 -- how many of the first events of the list depend directly on the one at the position
 pub record Counts (events : List Event) (at : ℕ) (first : List Event) (count : ℕ) : Type 0 where
@@ -31,13 +30,10 @@ module _ (events : List Event) (at : ℕ) where
   pub none_counted : Counts events at [] 0
   none_counted = record { found = []; others = []; parted = done; number = refl }
 
-  pub all_counted : (count : ℕ) → Counts events at (take (length events) events) count → CountsDirectDependents depends events at count
-  all_counted count all = (all.found, (all.others, rw (take-length events) at all.parted), all.number)
-
   -- one event more
   module _ (j count : ℕ) (less : j < length events) (so_far : Counts events at (take j events) count) where
     next : (x : Event) × (take (j + 1) events ≡ take j events ++ x ∷ [])
-    next = let more : j + 1 ≡ suc j = omega arith in let it = take_one_more events j less in (it.0, ap (λ n. take n events) more ∙ it.1)
+    next = take_one_more events j less
 
     place : j + 1 ≡ 1 + length (take j events)
     place = let taken = length-take-le j events (omega (arith, less)) in omega (arith, taken)

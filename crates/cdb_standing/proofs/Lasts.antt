@@ -1,17 +1,18 @@
 -- The last access of a list before a mark, and the steps that are on a list.
 use Rattle.std.proofs.Common.{◌≡◌, ℕ, zero, suc, ◌+◌, ◌<◌, ◌≤◌, true, false, inl, inr, ltb, ltb-true, ltb-false}
-use Rattle.std.proofs.Common.{List, length, slice_index_or, Option, Some, sym, ap, subst, arith}
+use Rattle.std.proofs.Common.{List, length, slice_get, slice_index_or, Option, Some, sym, ap, subst, arith}
 use Rattle.std.proofs.lemmas.Option.{none-some, slice_get_within, get_or_from_slice_get, slice_get-get_or}
 use Rattle.std.proofs.lemmas.Bool.{cases_lt}
 use Rattle.std.specs.List.Sorted.{IsPartitionPoint}
 use Rattle.cdb_base.specs.declared.event.Kind.{Kind}
 use Rattle.cdb_standing.specs.Accesses.{access_of, cell, AreListed, IsRisingBy, IsLastBefore}
 use Rattle.cdb_standing.specs.InOrder.{Has}
-use Rattle.cdb_standing.specs.Tables.{row_of, entry_of, IsEntry}
+use Rattle.cdb_standing.specs.Tables.{row_of, entry_of, IsEntry, IsSound}
 use Rattle.cdb_standing.specs.declared.tables.Access.{Access}
 use Rattle.cdb_standing.specs.declared.tables.Entry.{Entry}
+use Rattle.cdb_standing.specs.declared.tables.Sent.{Sent}
 use Rattle.cdb_standing.proofs.Ordered.{at_has, has_at}
-use Rattle.cdb_standing.proofs.ListedEvents.{rising_or, listed_only, listed_has}
+use Rattle.cdb_standing.proofs.ListedEvents.{rising_or, listed_only, listed_has, listed_rising}
 
 module _ (xs : List Access) (mark n : ℕ) (rising : IsRisingBy xs)
     (point : IsPartitionPoint (λ (a : Access). ltb a.mark mark ≡ true) (λ (a : Access). ltb a.mark mark ≡ false) xs n) where
@@ -41,6 +42,15 @@ module _ (xs : List Access) (mark n : ℕ) (rising : IsRisingBy xs)
   )
 
 -- ---- the steps that are on a list
+
+module _ {next : ℕ} {steps : List (List Entry)} {sent : List (List Sent)} (sound : IsSound next steps sent) where
+  pub row_rising : (p i j : ℕ) (one other : Entry) → slice_get (row_of steps p) i ≡ Some one
+      → slice_get (row_of steps p) j ≡ Some other → i < j → one.mark < other.mark
+  row_rising p i j one other at_i at_j less = sound.rises p (suc i) (suc j) one.mark other.mark one.kind other.kind at_i at_j (omega arith)
+
+  pub list_rising : {of : Kind → Option ℕ} {table : List (List Access)} → AreListed of table steps → (q n : ℕ) → 1 ≤ q → q ≤ 9 → n < 11
+      → IsRisingBy (row_of table (cell q n))
+  list_rising {of} lists q n one nine few = rw (lists.each q n one nine few) (listed_rising of n (row_of steps q) (row_rising q))
 
 module _ {of : Kind → Option ℕ} {table : List (List Access)} {steps : List (List Entry)}
     (lists : AreListed of table steps) (s n : ℕ) (one : 1 ≤ s) (nine : s ≤ 9) (few : n < 11) where

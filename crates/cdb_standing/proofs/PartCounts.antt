@@ -1,71 +1,70 @@
 -- How many writes of a register stand before a step.
 use Rattle.std.proofs.lemmas.Grind.{common_steps}
+use Rattle.std.proofs.Math.Dec.{leb-zero}
 use Rattle.std.proofs.Common.{◌≡◌, ℕ, zero, suc, ◌+◌, ◌<◌, ◌≤◌, ◌&&◌, Bool, true, false, cond, nat_lt, List}
-use Rattle.std.proofs.Common.{[], ◌∷◌, length, take, drop, slice_get, Option, Some, None, inl, inr, refl, sym, ap, ap₂, ◌∙◌, arith}
+use Rattle.std.proofs.Common.{[], ◌∷◌, length, take, drop, slice_get, Option, Some, None, refl, sym, ap, ◌∙◌, arith}
 use Rattle.std.proofs.lemmas.List.Sums.{sum_by-cons, sum_by-append, count_by-le-length}
 use Rattle.std.proofs.lemmas.Option.{none-some, same_Some, gets}
 use Rattle.std.specs.List.{sum_by, count_by}
 use Rattle.std.specs.List.Sorted.{IsPartitionPoint}
-use Rattle.cdb_base.specs.Event.{event_name}
 use Rattle.cdb_base.specs.Positions.{nth}
 use Rattle.cdb_base.specs.declared.event.Event.{Event}
 use Rattle.cdb_base.specs.declared.event.Event.TheVariants as event
 use Rattle.cdb_base.specs.declared.event.Kind.{Kind}
 use Rattle.cdb_base.specs.declared.name.StepId.TheVariants as named
-use Rattle.cdb_base.specs.declared.name.StepName.{StepName}
 use Rattle.cdb_base.specs.declared.register.Reg.{Reg}
 use Rattle.cdb_causal.proofs.Lists.{drop_from}
 use Rattle.cdb_causal.specs.Names.{IsNamedAt}
-use Rattle.cdb_standing.specs.Accesses.{number_of, is_that, access_of, listed, written, cell, AreListed}
+use Rattle.cdb_standing.specs.Accesses.{number_of, listed_at, listed, written, cell, AreListed}
 use Rattle.cdb_standing.specs.Comparisons.{is_write_of, AreWritesBefore}
 use Rattle.cdb_standing.specs.Counts.{is_before, writes_register, is_write_before}
 use Rattle.cdb_standing.specs.Cuts.{cut_of}
-use Rattle.cdb_standing.specs.Gathered.{losses_of, of_step, steps_from, all_from}
-use Rattle.cdb_standing.specs.InOrder.{Marked, Has, IsRising, each_from, in_order, events_of}
-use Rattle.cdb_standing.specs.Tables.{row_of, step_at, history_of, standing, IsEntry, Stands, IsSound}
+use Rattle.cdb_standing.specs.Gathered.{losses_of, step_from, steps_from, all_from}
+use Rattle.cdb_standing.specs.InOrder.{Marked, IsRising, IsSingle, each_from, in_order, events_of}
+use Rattle.cdb_standing.specs.Tables.{row_of, entry_of, step_at, history_of, standing, IsEntry, IsSound}
 use Rattle.cdb_standing.specs.declared.tables.Access.{Access}
 use Rattle.cdb_standing.specs.declared.tables.Entry.{Entry}
 use Rattle.cdb_standing.specs.declared.tables.Sent.{Sent}
 use Rattle.cdb_standing.proofs.AllEvents.{row_there}
-use Rattle.cdb_standing.proofs.Listed.{standing_rising}
-use Rattle.cdb_standing.proofs.Merge.{of_stands, loss_event, all_only, all_once}
+use Rattle.cdb_standing.proofs.Listed.{single_of, standing_rising}
+use Rattle.cdb_standing.proofs.Merge.{losses_only, of_stands, all_only, all_once}
 use Rattle.cdb_standing.proofs.Ordered.{at_has, in_order_rising, in_order_only, in_order_has}
-use Rattle.cdb_standing.proofs.Places.{step_named, named_place, one_name}
+use Rattle.cdb_standing.proofs.Joined.{marked}
+use Rattle.cdb_standing.proofs.Named.{the_place, step_of_name}
 use Rattle.cdb_standing.proofs.RollingBack.{all_marked}
-use Rattle.cdb_standing.proofs.SortedMarks.{one_if, sum_in_order}
-
-sum_none : {A : Type 0} (w : A → ℕ) (xs : List A) → ((x : A) → Has xs x → w x ≡ 0) → sum_by w xs ≡ 0
-sum_none w [] none = refl
-sum_none w (x ∷ xs) none =
-    let here = none x (inl refl) in let rest = sum_none w xs (λ y h. none y (inr h)) in let both = sum_by-cons w x xs in omega arith
+use Rattle.cdb_standing.proofs.SortedMarks.{one_if, sum_none, sum_in_order}
 
 -- how many pass a test that parts a list
 pub counted_parted : {A : Type 0} (test : A → Bool) (xs : List A) (n : ℕ) → n ≤ length xs
     → IsPartitionPoint (λ x. test x ≡ true) (λ x. test x ≡ false) xs n → count_by test xs ≡ n
 counted_parted test [] n few point = omega arith
 counted_parted test (x ∷ xs) zero few point =
-    let here = ap one_if (point.1 0 x (omega arith) (omega arith)) in
+    let here = point.1 0 x (omega arith) (omega arith) in
     let rest =
     counted_parted test xs zero (omega arith)
     ((λ k d within before. absurd (omega arith)), (λ k d past within. point.1 (suc k) d (omega arith) (omega arith))) in
-    let both = sum_by-cons (λ y. one_if (test y)) x xs in
-    omega arith
+    grind (arith, common_steps, sum_by-cons)
 counted_parted test (x ∷ xs) (suc n) few point =
-    let here = ap one_if (point.0 0 x (omega arith) (omega arith)) in
+    let here = point.0 0 x (omega arith) (omega arith) in
     let rest =
     counted_parted test xs n (omega arith)
     ((λ k d within before. point.0 (suc k) d (omega arith) (omega arith)), (λ k d past within. point.1 (suc k) d (omega arith) (omega arith))) in
-    let both = sum_by-cons (λ y. one_if (test y)) x xs in
-    omega arith
+    grind (arith, common_steps, sum_by-cons)
 
 listed_few : (of : Kind → Option ℕ) (n k : ℕ) (row : List Entry) → length (listed of n k row) ≤ length row
 listed_few of n k [] = omega arith
-listed_few of n k (x ∷ xs) = by (is_that (of x.kind) n) (listed_few of n (suc k) xs)
-  where
-    by : (b : Bool) → length (listed of n (suc k) xs) ≤ length xs
-        → length (cond b (access_of x.mark k ∷ listed of n (suc k) xs) (listed of n (suc k) xs)) ≤ suc (length xs)
-    by true few = omega arith
-    by false few = omega arith
+listed_few of n k (x ∷ xs) = let few = listed_few of n (suc k) xs in grind (arith, common_steps)
+
+-- lists of which each element gives as much weigh as much
+each_weighs : {A B C : Type 0} (v : B → ℕ) (w : C → ℕ) (f : ℕ → A → List B) (g : ℕ → A → List C)
+    → ((k : ℕ) (x : A) → sum_by v (f k x) ≡ sum_by w (g k x)) → (n : ℕ) (xs : List A) → sum_by v (each_from f n xs) ≡ sum_by w (each_from g n xs)
+each_weighs v w f g same n [] = refl
+each_weighs v w f g same n (x ∷ xs) =
+    let here = same n x in
+    let rest = each_weighs v w f g same (suc n) xs in
+    let left = sum_by-append v (f n x) (each_from f (suc n) xs) in
+    let right = sum_by-append w (g n x) (each_from g (suc n) xs) in
+    omega arith
 
 -- the writes before an element of a list in order are those with lower marks
 module _ (one other : Event → Bool) (same : (e : Event) → one e ≡ other e) where
@@ -81,13 +80,9 @@ module _ (one other : Event → Bool) (same : (e : Event) → one e ≡ other e)
   pub counted_before : (xs : List Marked) (i : ℕ) (x : Marked) → IsRising xs → slice_get xs i ≡ Some x
       → count_by (is_one_before x.mark) xs ≡ count_by other (take i (events_of xs))
   counted_before [] i x rising at = absurd (none-some x at)
-  counted_before (z ∷ xs) zero x rising at = sum_none (λ y. cond (is_one_before x.mark y) 1 0) (z ∷ xs) (λ y h. not_before x.mark y (from y h))
-    where
-      from : (y : Marked) → Has (z ∷ xs) y → x.mark ≤ y.mark
-      from y (inl e) = let p : z.mark ≡ y.mark = ap (λ (m : Marked). m.mark) e in
-          let q : z.mark ≡ x.mark = ap (λ (m : Marked). m.mark) (same_Some z x at) in
-          omega arith
-      from y (inr h) = let p = rising.0 y h in let q : z.mark ≡ x.mark = ap (λ (m : Marked). m.mark) (same_Some z x at) in omega arith
+  counted_before (z ∷ xs) zero x rising at =
+      sum_none (λ y. cond (is_one_before x.mark y) 1 0) (z ∷ xs)
+      (λ y h. let after = rising.0 y in let first = same_Some z x at in not_before x.mark y (grind (arith, after)))
   counted_before (z ∷ xs) (suc i) x rising at =
       let here = is_before_one x.mark z (rising.0 x (at_has xs i x at)) in
       let rest = counted_before xs i x rising.1 at in
@@ -110,30 +105,14 @@ module _ (steps : List (List Entry)) (sent : List (List Sent)) (n mark : ℕ) wh
   left i = sum_by weight (each_from (λ p row. steps_from sent (cut_of [] p) p row) (suc i) (drop i steps))
 
   module _ {next : ℕ} (sound : IsSound next steps sent) where
-    losses_weigh : (p : ℕ) (kind : Kind) → sum_by weight (losses_of sent p kind) ≡ 0
-    losses_weigh p kind = sum_none weight (losses_of sent p kind) (λ x h. let lost = loss_event sound p kind x h in rw lost.1 refl)
+    step_weighs : (p k : ℕ) (entry : Entry) → sum_by weight (step_from sent 0 p k entry) ≡ count_by (is_before mark) (listed_at written n k entry)
+    step_weighs p k entry =
+        let none = sum_none weight (losses_of sent p entry.kind) (λ x h. let lost = losses_only sent p entry.kind x h in rw lost.is refl) in
+        let both = sum_by-append weight (step_at p k entry) (losses_of sent p entry.kind) in
+        rw (leb-zero k) (grind (arith, common_steps))
 
-    row_weighs : (p k : ℕ) (row : List Entry) → sum_by weight (each_from (of_step sent p) k row) ≡ count_by (is_before mark) (listed written n k row)
-    row_weighs p k [] = refl
-    row_weighs p k (x ∷ xs) =
-        let all = sum_by-append weight (of_step sent p k x) (each_from (of_step sent p) (suc k) xs) in
-        let step = sum_by-append weight (step_at p k x) (losses_of sent p x.kind) in
-        let none = losses_weigh p x.kind in
-        let again = row_weighs p (suc k) xs in
-        let here = by (is_that (written x.kind) n) (listed written n (suc k) xs) in
-        omega arith
-      where
-        by : (b : Bool) (rest : List Access)
-            → one_if (b && nat_lt x.mark mark) + count_by (is_before mark) rest ≡ count_by (is_before mark) (cond b (access_of x.mark k ∷ rest) rest)
-        by true rest = sym (sum_by-cons (λ a. cond (is_before mark a) 1 0) (access_of x.mark k) rest)
-        by false rest = omega arith
-
-    single : (x y : Marked) → Has (all_from [] steps sent) x → Has (all_from [] steps sent) y → x.mark ≡ y.mark → x ≡ y
-    single x y in_x in_y same =
-        let of_x = of_stands sound (all_only sound [] x in_x).3 in
-        let of_y = of_stands sound (all_only sound [] y in_y).3 in
-        let e : x.event ≡ y.event = sound.single y.mark x.event y.event (rw same at of_x) of_y in
-        ap₂ (λ mark it. (let z : Marked = record { mark = mark; event = it } in z)) same e
+    single : IsSingle (all_from [] steps sent)
+    single = single_of steps sent sound.single (all_from [] steps sent) (λ x h. of_stands sound (all_only sound [] x h).3)
 
     whole : in_order (all_from [] steps sent) ≡ standing steps sent
     whole =
@@ -155,7 +134,8 @@ module _ (steps : List (List Entry)) (sent : List (List Sent)) (n mark : ℕ) wh
         (drop_from steps i (row_of steps (suc i)) (row_there steps i less))
         ∙ sum_by-append weight (steps_from sent 0 (suc i) (row_of steps (suc i)))
         (each_from (λ p row. steps_from sent (cut_of [] p) p row) (suc (suc i)) (drop (suc i) steps))
-        ∙ ap (λ m. m + left (suc i)) (row_weighs (suc i) 1 (row_of steps (suc i)))
+        ∙ ap (λ m. m + left (suc i))
+        (each_weighs weight (λ a. cond (is_before mark a) 1 0) (step_from sent 0 (suc i)) (listed_at written n) (step_weighs (suc i)) 1 (row_of steps (suc i)))
 
 module _ {next : ℕ} {steps : List (List Entry)} {sent : List (List Sent)} (sound : IsSound next steps sent) where
   -- one process more is counted
@@ -178,20 +158,9 @@ module _ {next : ℕ} {steps : List (List Entry)} {sent : List (List Sent)} (sou
       → AreWritesBefore (history_of steps sent) register (named.Step (record { p = p; k = k })) count
   writes_are register p k mark kind at count is zero h = absurd (none-some h.0 h.1)
   writes_are register p k mark kind at count is (suc i) h =
-      let place = named_place sound (suc i) (named.Step (record { p = p; k = k })) h in
-      let same = one_name sound place.0 mark place.1 (event.Step p k kind) place.3 at place.4 in
       is
-      ∙ ap (λ m. count_by (is_write_before (number_of register) m) (standing steps sent)) (sym same.0)
-      ∙ counted_before (writes_register (number_of register)) (is_write_of register)
-      (same_writes register) (standing steps sent) i _ (standing_rising steps sent) place.2
+      ∙ counted_before (writes_register (number_of register)) (is_write_of register) (same_writes register) (standing steps sent) i
+      (marked mark (event.Step p k kind)) (standing_rising steps sent) (the_place sound mark (event.Step p k kind) at (suc i) h)
 
   pub none_there : (p k : ℕ) → nth (row_of steps p) k ≡ None → (at : ℕ) → IsNamedAt (history_of steps sent) at (named.Step (record { p = p; k = k })) → ⊥
-  none_there p k none at h = let place = named_place sound at (named.Step (record { p = p; k = k })) h in by place.1 place.0 place.3 place.4
-    where
-      by : (it : Event) (mark : ℕ) → Stands steps sent mark it → event_name it ≡ named.Step (record { p = p; k = k }) → ⊥
-      by (event.Step q l kind) mark there name =
-          let same : record { p = q; k = l } ≡ step_named p k = cc in
-          let p_is : q ≡ p = ap (λ (x : StepName). x.p) same in
-          let k_is : l ≡ k = ap (λ (x : StepName). x.k) same in
-          none-some _ (sym none ∙ rw (p_is, k_is) at there)
-      by (event.Lost copy) mark there name = absurd (cc)
+  none_there p k none at h = let entry = step_of_name sound p k at h in none-some (entry_of entry.0 entry.1) (sym none ∙ entry.2)

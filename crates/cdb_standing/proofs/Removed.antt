@@ -2,7 +2,7 @@
 use Rattle.std.proofs.lemmas.Option.{gets}
 use Rattle.std.proofs.lemmas.Grind.{common_steps}
 use Rattle.std.proofs.lemmas.Bool.{cases_eq}
-use Rattle.std.proofs.Common.{◌≡◌, ◌≢◌, ℕ, ◌+◌, ◌<◌, ◌≤◌, List, [], ◌∷◌, length, Some, ◌⊎◌, ⊎_elim, refl, sym, ap, ap₂, ◌∙◌, subst, arith}
+use Rattle.std.proofs.Common.{◌≡◌, ◌≢◌, ℕ, ◌+◌, ◌≤◌, List, [], ◌∷◌, length, Some, ◌⊎◌, inl, inr, ⊎_elim, refl, sym, ap, ◌∙◌, arith}
 use Rattle.std.proofs.Common.{length-append}
 use Rattle.cdb_base.specs.Positions.{nth}
 use Rattle.cdb_base.specs.declared.event.Event.{Event}
@@ -12,70 +12,31 @@ use Rattle.cdb_base.specs.declared.event.Kind.TheVariants.{Send, Recv}
 use Rattle.cdb_base.specs.declared.name.CopyName.{CopyName}
 use Rattle.cdb_causal.specs.Rollback.{without}
 use Rattle.cdb_standing.specs.Tables.{row_of, copy_named, history_of, standing, entry_of, IsEntry, IsCopy, IsMessage, Stands, IsSound, IsCopySet, IsMailedBack}
-use Rattle.cdb_standing.specs.Tables.{IsStepTaken, IsUnneeded}
+use Rattle.cdb_standing.specs.Tables.{IsStepTaken, IsUnneeded, IsMailedBy, MayMail}
 use Rattle.cdb_standing.specs.declared.tables.Copied.{Copied}
 use Rattle.cdb_standing.specs.declared.tables.Copied.TheVariants.{Waits, Received, Lost}
 use Rattle.cdb_standing.specs.declared.tables.Entry.{Entry}
 use Rattle.cdb_standing.specs.declared.tables.Sent.{Sent}
 use Rattle.cdb_standing.proofs.Rows.{same_at, nth_within, put_cases, put_keeps, put_joins}
-use Rattle.cdb_standing.proofs.MailRows.{same_copy, set_new, set_cases, set_keeps, set_message, set_message_only, send_message}
-use Rattle.cdb_standing.proofs.MailRows.{send_message_cases, send_copy, send_copy_cases}
+use Rattle.cdb_standing.proofs.MailRows.{same_copy, set_new, set_keeps, set_message, set_message_only, IsMailGrown, grown}
 use Rattle.cdb_standing.proofs.Listed.{IsSingleIn, one_less}
 use Rattle.cdb_standing.proofs.Joined.{marked}
 
-record IsMailShrunk (p : ℕ) (kind : Kind) (old new : List (List Sent)) : Type 0 where
-  pub copies : (s m to : ℕ) (c : Copied) → IsCopy new s m to c → c ≢ Waits → IsCopy old s m to c × ((kind ≡ Recv s m) × (to ≡ p) → ⊥)
-  pub stays : (s m to : ℕ) (c : Copied) → IsCopy old s m to c → c ≢ Waits → ((kind ≡ Recv s m) × (to ≡ p) → ⊥) → ((kind ≡ Send m) × (s ≡ p) → ⊥)
-      → IsCopy new s m to c
-  pub messages : (s m l : ℕ) → IsMessage new s m l → IsMessage old s m l × ((kind ≡ Send m) × (s ≡ p) → ⊥)
-  pub stays_sent : (s m l : ℕ) → IsMessage old s m l → ((kind ≡ Send m) × (s ≡ p) → ⊥) → IsMessage new s m l
-
-shrunk_same : (p : ℕ) (kind : Kind) (old new : List (List Sent)) → new ≡ old → ((s m : ℕ) → kind ≡ Recv s m → ⊥) → ((m : ℕ) → kind ≡ Send m → ⊥)
-    → IsMailShrunk p kind old new
-shrunk_same p kind old new same no_receive no_send =
+-- a copy set back to what it was
+set_back : {old new : List (List Sent)} {s m to : ℕ} {c d : Copied} → IsCopySet old s m to c new → IsCopy old s m to d → IsCopySet new s m to d old
+set_back {old} {new} {s} {m} put copy =
     record {
-      copies = λ s m to c copy c_is. (subst (λ t. IsCopy t s m to c) same copy, λ e. no_receive s m e.0);
-      stays = λ s m to c copy c_is one other. subst (λ t. IsCopy t s m to c) (sym same) copy;
-      messages = λ s m l message. (subst (λ t. IsMessage t s m l) same message, λ e. no_send m e.0);
-      stays_sent = λ s m l message other. subst (λ t. IsMessage t s m l) (sym same) message;
+      was = put.it;
+      it = put.was;
+      was_sent = put.is_sent;
+      is_sent = put.was_sent;
+      same_step = sym put.same_step;
+      set = rw (same_at (row_of old s) m copy.it put.was copy.was_sent put.was_sent) at copy.became;
+      other_copies = λ other apart. sym (put.other_copies other apart);
+      other_messages = λ n apart. sym (put.other_messages n apart);
+      other_rows = λ t apart. sym (put.other_rows t apart);
+      as_many = sym put.as_many;
     }
-
--- a message that is sent last is the last one
-abbrev pub IsLastSent : ℕ → Kind → List (List Sent) → Type 0
-IsLastSent p kind new = (m : ℕ) → kind ≡ Send m → m ≡ length (row_of new p) + 1
-
-shrunk : (p : ℕ) (kind : Kind) (old new : List (List Sent)) → IsLastSent p kind new → IsMailedBack p kind old new → IsMailShrunk p kind old new
-shrunk p (Send m) old new last mailed =
-    record {
-      copies = λ s n to c copy c_is. (send_copy mailed.1 copy, λ e. absurd (cc));
-      stays = λ s n to c copy c_is one other.
-          ⊎_elim (λ q. q) (λ q. absurd (other (ap Send (last m refl ∙ sym q.1), q.0))) (send_copy_cases mailed.1 copy);
-      messages = λ s n l message. (send_message mailed.1 message, not_last s n l message);
-      stays_sent = λ s n l message other.
-          ⊎_elim (λ q. q) (λ q. absurd (other (ap Send (last m refl ∙ sym q.1), q.0))) (send_message_cases mailed.1 message);
-    }
-  where
-    not_last : (s n l : ℕ) → IsMessage new s n l → (Send m ≡ Send n) × (s ≡ p) → ⊥
-    not_last s n l message e =
-        let within = nth_within (row_of new s) n message.it message.was_sent in
-        let is_last : n ≡ length (row_of new p) + 1 = last n e.0 in
-        let same : length (row_of new s) ≡ length (row_of new p) = ap (λ a. length (row_of new a)) e.1 in
-        absurd (omega arith)
-shrunk p (Recv s m) old new last put =
-    record {
-      copies = λ r n to c copy c_is.
-          ⊎_elim
-          (λ q. (q, λ e. c_is (same_copy copy (set_new put) (is_at r n to e))))
-          (λ q. absurd (c_is q.3))
-          (set_cases put copy);
-      stays = λ r n to c copy c_is one other. set_keeps put copy (λ e. one (ap₂ Recv (sym e.0) (sym e.1), e.2));
-      messages = λ r n l message. (set_message_only put message, λ e. absurd (cc));
-      stays_sent = λ r n l message other. set_message put message;
-    }
-  where
-    is_at : (r n to : ℕ) → (Recv s m ≡ Recv r n) × (to ≡ p) → (r ≡ s) × (n ≡ m) × (to ≡ p)
-    is_at r n to e = ((cc), (cc), e.1)
-shrunk p other old new last mailed = shrunk_same p other old new mailed (λ s m e. absurd (cc)) (λ m e. absurd (cc))
 
 module _ {next mark p k : ℕ} {kind : Kind} {steps : List (List Entry)} {sent : List (List Sent)} {steps' : List (List Entry)} {sent' : List (List Sent)}
     (sound : IsSound next steps sent) (unneeded : IsUnneeded p kind sent) (taken : IsStepTaken mark p k kind steps sent steps' sent') where
@@ -94,38 +55,49 @@ module _ {next mark p k : ℕ} {kind : Kind} {steps : List (List Entry)} {sent :
   own_last : (l b : ℕ) (other : Kind) → IsEntry steps p l b other → l ≤ k
   own_last l b other at = grind (arith, nth_within, entry_cases p l b other at)
 
-  last_sent : IsLastSent p kind sent'
-  last_sent m e = by kind e taken.mailed entry_was
+  -- ---- the step could be added again: what it did to the messages
+
+  abbrev Again : Kind → Type 0
+  Again some = MayMail p some sent' × IsMailedBy p k some sent' sent
+
+  send_again : (m : ℕ) → IsEntry steps p k mark (Send m) → IsUnneeded p (Send m) sent → IsMailedBack p (Send m) sent sent' → Again (Send m)
+  send_again m at waits mailed =
+      (last, (mailed.0, mailed.1, number, λ to c copy. waits to c (record { it = mailed.0; was_sent = rw (← last) at end; became = copy })))
     where
-      by : (some : Kind) → some ≡ Send m → IsMailedBack p some sent sent' → IsEntry steps p k mark some → m ≡ length (row_of sent' p) + 1
-      by (Send n) e mailed was =
-          let same : n ≡ m = cc in
-          let message = sound.is_sent p n k mark was in
-          let top : IsMessage sent p (length (row_of sent' p) + 1) (mailed.0).k =
-          record { it = mailed.0; was_sent = put_joins mailed.1 (length (row_of sent' p) + 1) refl; by = refl } in
-          let found = sound.sent_is p (length (row_of sent' p) + 1) (mailed.0).k top in
-          let high = own_last (mailed.0).k found.0 (Send (length (row_of sent' p) + 1)) found.1 in
-          let within = nth_within (row_of sent p) n message.it message.was_sent in
-          let count : length (row_of sent p) ≡ length (row_of sent' p) + 1 = ap length (mailed.1).more ∙ length-append (row_of sent' p) (mailed.0 ∷ []) in
-          ⊎_elim
-          (λ is. sym same ∙ is)
-          (λ other. let less : n < length (row_of sent' p) + 1 = (omega arith) in
-          let rise = sound.sent_rises p n (length (row_of sent' p) + 1) k (mailed.0).k message top less in absurd (omega arith))
-          (cases_eq n (length (row_of sent' p) + 1))
-      by _ e mailed was = absurd (cc)
+      end : nth (row_of sent p) (length (row_of sent' p) + 1) ≡ Some mailed.0
+      end = put_joins mailed.1 (length (row_of sent' p) + 1) refl
 
-  mail : IsMailShrunk p kind sent sent'
-  mail = shrunk p kind sent sent' last_sent taken.mailed
+      message : IsMessage sent p m k
+      message = sound.is_sent p m k mark at
 
-  no_copy : {s m to : ℕ} {c : Copied} → IsCopy sent s m to c → (kind ≡ Send m) × (s ≡ p) → c ≡ Waits
-  no_copy {s} {m} {to} {c} copy e =
-      let none : IsUnneeded p (Send m) sent = subst (λ a. IsUnneeded p a sent) e.0 unneeded in
-      none to c (subst (λ a. IsCopy sent a m to c) e.1 copy)
+      -- a message behind it would be of a later step
+      last : m ≡ length (row_of sent' p) + 1
+      last =
+          let top : IsMessage sent p (length (row_of sent' p) + 1) mailed.0.k = record { it = mailed.0; was_sent = end; by = refl } in
+          let found = sound.sent_is p (length (row_of sent' p) + 1) mailed.0.k top in
+          let high = own_last mailed.0.k found.0 (Send (length (row_of sent' p) + 1)) found.1 in
+          let within = nth_within (row_of sent p) m message.it message.was_sent in
+          let count : length (row_of sent p) ≡ length (row_of sent' p) + 1 = ap length mailed.1.more ∙ length-append (row_of sent' p) (mailed.0 ∷ []) in
+          elim (cases_eq m (length (row_of sent' p) + 1)) [
+            | inl is ↦ is
+            | inr other ↦ (let rise = sound.sent_rises p m (length (row_of sent' p) + 1) k mailed.0.k message top (omega arith) in absurd (omega arith))
+          ]
 
-  received : (s m to : ℕ) → (kind ≡ Recv s m) × (to ≡ p) → IsCopy sent s m to (Received k)
-  received s m to e =
-      subst (λ a. IsCopy sent s m a (Received k)) (sym e.1)
-      (sound.is_received s m p k mark (subst (λ a. IsEntry steps p k mark a) e.0 entry_was))
+      number : mailed.0.k ≡ k
+      number = ap (λ (x : Sent). x.k) (same_at (row_of sent p) m mailed.0 message.it (rw (← last) at end) message.was_sent) ∙ message.by
+
+  again : (some : Kind) → IsEntry steps p k mark some → IsUnneeded p some sent → IsMailedBack p some sent sent' → Again some
+  again (Send m) at waits mailed = send_again m at waits mailed
+  again (Recv s m) at waits put = (set_new put, set_back put (sound.is_received s m p k mark at))
+  again _ at waits same = (tt, sym same)
+
+  may : MayMail p kind sent'
+  may = (again kind entry_was unneeded taken.mailed).0
+
+  mail : IsMailGrown p k kind sent' sent
+  mail = grown p k kind sent' sent may (again kind entry_was unneeded taken.mailed).1
+
+  -- ---- what is left
 
   stands_only : (b : ℕ) (it : Event) → Stands steps' sent' b it → Stands steps sent b it × (b ≢ mark)
   stands_only b (event.Step q l other) at =
@@ -133,67 +105,58 @@ module _ {next mark p k : ℕ} {kind : Kind} {steps : List (List Entry)} {sent :
         old,
         λ same.
             let e : event.Step q l other ≡ event.Step p k kind =
-            sound.single mark (event.Step q l other) (event.Step p k kind) (subst (λ a. IsEntry steps q l a other) same old) entry_was in
+            sound.single mark (event.Step q l other) (event.Step p k kind) (rw same at old) entry_was in
             entry_other q l b other at (cc) (cc),
       )
   stands_only b (event.Lost copy) at =
-      let old = (mail.copies (copy.msg).s (copy.msg).m copy.to (Lost b) at (λ e. absurd (cc))).0 in (
+      let old = mail.keeps copy.msg.s copy.msg.m copy.to (Lost b) at (λ e. absurd (cc)) in (
         old,
         λ same.
-            let e : event.Lost copy ≡ event.Step p k kind =
-            sound.single mark (event.Lost copy) (event.Step p k kind)
-            (subst (λ a. IsCopy sent (copy.msg).s (copy.msg).m copy.to (Lost a)) same old) entry_was in
-            absurd (cc),
+            let e : event.Lost copy ≡ event.Step p k kind = sound.single mark (event.Lost copy) (event.Step p k kind) (rw same at old) entry_was in absurd (cc),
       )
 
   stands_keeps : (b : ℕ) (it : Event) → Stands steps sent b it → b ≢ mark → Stands steps' sent' b it
   stands_keeps b (event.Step q l other) at not_it = ⊎_elim (λ old. old) (λ new. absurd (not_it new.2)) (entry_cases q l b other at)
   stands_keeps b (event.Lost copy) at not_it =
-      mail.stays (copy.msg).s (copy.msg).m copy.to (Lost b) at (λ e. absurd (cc))
-      (λ e. let same : Lost b ≡ Received k = same_copy at (received (copy.msg).s (copy.msg).m copy.to e) (refl, refl, refl) in absurd (cc))
-      (λ e. let same : Lost b ≡ Waits = no_copy at e in absurd (cc))
+      ⊎_elim (λ old. old) (λ new. let e = new.2 in absurd (cc)) (mail.copies copy.msg.s copy.msg.m copy.to (Lost b) at (λ e. absurd (cc)))
 
   few : (q : ℕ) → length (row_of steps' q) ≤ 65535
   few q = grind (arith, common_steps, gets)
 
   received_is : (s m to l : ℕ) → IsCopy sent' s m to (Received l) → (b : ℕ) × IsEntry steps' to l b (Recv s m)
   received_is s m to l copy =
-      let old = mail.copies s m to (Received l) copy (λ e. absurd (cc)) in
-      let found = sound.received_is s m to l old.0 in
-      ⊎_elim (λ at. (found.0, at)) (λ new. absurd (old.1 (sym new.3, new.0))) (entry_cases to l found.0 (Recv s m) found.1)
+      let found = sound.received_is s m to l (mail.keeps s m to (Received l) copy (λ e. absurd (cc))) in
+      elim (entry_cases to l found.0 (Recv s m) found.1) [
+        | inl at ↦ (found.0, at)
+        | inr new ↦ (let waits : MayMail p (Recv s m) sent' = rw (← new.3) at may in
+            let no_way : Received l ≡ Waits = same_copy copy waits (refl, refl, new.0) in absurd (cc))
+      ]
 
   is_received : (s m to l b : ℕ) → IsEntry steps' to l b (Recv s m) → IsCopy sent' s m to (Received l)
   is_received s m to l b at =
       let old = sound.is_received s m to l b (entry_old to l b (Recv s m) at) in
-      mail.stays s m to (Received l) old (λ e. absurd (cc))
-      (λ e. let same : Received l ≡ Received k = same_copy old (received s m to e) (refl, refl, refl) in
-      entry_other to l b (Recv s m) at e.1 (cc))
-      (λ e. let same : Received l ≡ Waits = no_copy old e in absurd (cc))
+      ⊎_elim (λ copy. copy) (λ new. let e = new.2 in absurd (entry_other to l b (Recv s m) at new.1 (cc)))
+      (mail.copies s m to (Received l) old (λ e. absurd (cc)))
 
   sent_is : (s m l : ℕ) → IsMessage sent' s m l → (b : ℕ) × IsEntry steps' s l b (Send m)
   sent_is s m l message =
-      let old = mail.messages s m l message in
-      let found = sound.sent_is s m l old.0 in
-      ⊎_elim (λ at. (found.0, at)) (λ new. absurd (old.1 (sym new.3, new.0))) (entry_cases s l found.0 (Send m) found.1)
+      let found = sound.sent_is s m l (mail.keeps_messages s m l message) in
+      elim (entry_cases s l found.0 (Send m) found.1) [
+        | inl at ↦ (found.0, at)
+        | inr new ↦ (let last : MayMail p (Send m) sent' = rw (← new.3) at may in
+            let within = nth_within (row_of sent' p) m message.it (rw new.0 at message.was_sent) in absurd (omega arith))
+      ]
 
   is_sent : (s m l b : ℕ) → IsEntry steps' s l b (Send m) → IsMessage sent' s m l
   is_sent s m l b at =
-      let old = sound.is_sent s m l b (entry_old s l b (Send m) at) in
-      mail.stays_sent s m l old
-      (λ e. let other = sound.is_sent p m k mark (subst (λ a. IsEntry steps p k mark a) e.0 entry_was) in
-      let same : old.it ≡ other.it =
-      same_at (row_of sent s) m old.it other.it old.was_sent (subst (λ a. nth (row_of sent a) m ≡ Some other.it) (sym e.1) other.was_sent) in
-      let k_is : l ≡ k = sym old.by ∙ ap (λ (a : Sent). a.k) same ∙ other.by in
-      entry_other s l b (Send m) at e.1 k_is)
+      ⊎_elim (λ message. message) (λ new. absurd (entry_other s l b (Send m) at new.0 new.2))
+      (mail.messages s m l (sound.is_sent s m l b (entry_old s l b (Send m) at)))
 
   as_many : length sent' ≡ length sent
   as_many = grind (arith, common_steps, gets)
 
   single : IsSingleIn steps' sent'
   single b one other here there = sound.single b one other (stands_only b one here).0 (stands_only b other there).0
-
-  message_old : {s m l : ℕ} → IsMessage sent' s m l → IsMessage sent s m l
-  message_old {s} {m} {l} message = (mail.messages s m l message).0
 
   pub taken_sound : IsSound next steps' sent'
   taken_sound =
@@ -208,7 +171,7 @@ module _ {next mark p k : ℕ} {kind : Kind} {steps : List (List Entry)} {sent :
         is_received = is_received;
         sent_is = sent_is;
         is_sent = is_sent;
-        sent_rises = λ s m n i j one other less. sound.sent_rises s m n i j (message_old one) (message_old other) less;
+        sent_rises = λ s m n i j one other less. sound.sent_rises s m n i j (mail.keeps_messages s m i one) (mail.keeps_messages s n j other) less;
         sent_first = λ s m l a to i b here there. sound.sent_first s m l a to i b (entry_old s l a (Send m) here) (entry_old to i b (Recv s m) there);
         lost_to = λ s m to b copy. sound.lost_to s m to b (stands_only b (event.Lost (copy_named s m to)) copy).0;
         sent_lost =
@@ -233,15 +196,14 @@ module _ {next mark s m to : ℕ} {steps : List (List Entry)} {sent : List (List
   lost_only b (event.Step q l other) at = (
     at,
     λ same. let e : event.Step q l other ≡ event.Lost (copy_named s m to) =
-        sound.single mark (event.Step q l other) (event.Lost (copy_named s m to)) (subst (λ a. IsEntry steps q l a other) same at) lost in absurd (cc),
+        sound.single mark (event.Step q l other) (event.Lost (copy_named s m to)) (rw same at at) lost in absurd (cc),
   )
   lost_only b (event.Lost copy) at =
       let old = copy_old at (λ e. absurd (cc)) in (
         old.0,
         λ same.
             let e : event.Lost copy ≡ event.Lost (copy_named s m to) =
-            sound.single mark (event.Lost copy) (event.Lost (copy_named s m to))
-            (subst (λ a. IsCopy sent (copy.msg).s (copy.msg).m copy.to (Lost a)) same old.0) lost in
+            sound.single mark (event.Lost copy) (event.Lost (copy_named s m to)) (rw same at old.0) lost in
             let f : copy ≡ copy_named s m to = cc in
             old.1 (ap (λ (c : CopyName). (c.msg).s) f, ap (λ (c : CopyName). (c.msg).m) f, ap (λ (c : CopyName). c.to) f),
       )

@@ -1,7 +1,7 @@
 -- The whole history, and a step with its consequences, in order.
 use Rattle.std.proofs.lemmas.Grind.{common_steps}
 use Rattle.std.proofs.lemmas.Option.{gets}
-use Rattle.std.proofs.Common.{◌≡◌, ℕ, zero, suc, ◌+◌, ◌≤◌, List, [], ◌∷◌, slice_get, replicate, Some, inl, inr, refl, sym, ap, ◌∙◌, subst, arith}
+use Rattle.std.proofs.Common.{◌≡◌, ℕ, zero, suc, ◌+◌, ◌≤◌, List, [], ◌∷◌, slice_get, Some, inl, inr, refl, sym, ap, ◌∙◌, arith}
 use Rattle.std.proofs.lemmas.Option.{none-some, same_Some}
 use Rattle.cdb_base.specs.Event.{event_name}
 use Rattle.cdb_base.specs.Positions.{nth}
@@ -42,55 +42,46 @@ record IsPart (IsRemoved : ℕ → Type 0) (n : ℕ) (xs : List Marked) (removed
   part : List Marked
   rising : IsRising part
   are : events_of part ≡ removed
-  only : (x : Marked) → Has part x → (i : ℕ) × (slice_get xs i ≡ Some x) × IsRemoved (n + i)
-  all : (i : ℕ) (x : Marked) → slice_get xs i ≡ Some x → IsRemoved (n + i) → Has part x
+  only : (x : Marked) → Has part x → (at : ℕ) × (i : ℕ) × (at ≡ n + i) × (slice_get xs i ≡ Some x) × IsRemoved at
+  all : (at i : ℕ) (x : Marked) → at ≡ n + i → slice_get xs i ≡ Some x → IsRemoved at → Has part x
 
 module _ (IsRemoved : ℕ → Type 0) where
   part_of : (n : ℕ) (xs : List Marked) {left removed : List Event} → IsRising xs
       → IsParted IsRemoved n (events_of xs) left removed → IsPart IsRemoved n xs removed
-  part_of n [] rising done = record { part = []; rising = tt; are = refl; only = λ x h. absurd h; all = λ i x at removed. absurd (none-some x at) }
+  part_of n [] rising done = record { part = []; rising = tt; are = refl; only = λ x h. absurd h; all = λ at i x e there removed. absurd (none-some x there) }
   part_of n (y ∷ ys) rising (kept stays rest) =
       let more = part_of (suc n) ys rising.1 rest in
       record {
         part = more.part;
         rising = more.rising;
         are = more.are;
-        only = λ x h. let found = more.only x h in (suc found.0, found.1, subst IsRemoved (next n found.0) found.2);
+        only = λ x h. let found = more.only x h in (found.0, suc found.1, omega arith, found.3, found.4);
         all = all more;
       }
     where
-      next : (n i : ℕ) → suc n + i ≡ n + suc i
-      next n i = omega arith
-
-      all : {removed : List Event} (more : IsPart IsRemoved (suc n) ys removed) (i : ℕ) (x : Marked)
-          → slice_get (y ∷ ys) i ≡ Some x → IsRemoved (n + i) → Has more.part x
-      all more zero x at gone' = let e : n + 0 ≡ n = omega arith in absurd (stays (subst IsRemoved e gone'))
-      all more (suc i) x at gone' = more.all i x at (subst IsRemoved (sym (next n i)) gone')
-  part_of n (y ∷ ys) rising (gone here rest) =
+      all : {removed : List Event} (more : IsPart IsRemoved (suc n) ys removed) (at i : ℕ) (x : Marked)
+          → at ≡ n + i → slice_get (y ∷ ys) i ≡ Some x → IsRemoved at → Has more.part x
+      all more at zero x e there here = let same : at ≡ n = omega arith in absurd (stays (rw same at here))
+      all more at (suc i) x e there here = more.all at i x (omega arith) there here
+  part_of n (y ∷ ys) rising (gone first rest) =
       let more = part_of (suc n) ys rising.1 rest in
       record {
         part = y ∷ more.part;
-        rising = ((λ x h. let found = more.only x h in rising.0 x (at_has ys found.0 x found.1)), more.rising);
+        rising = ((λ x h. let found = more.only x h in rising.0 x (at_has ys found.1 x found.3)), more.rising);
         are = ap (λ l. y.event ∷ l) more.are;
         only = only more;
         all = all more;
       }
     where
-      next : (n i : ℕ) → suc n + i ≡ n + suc i
-      next n i = omega arith
-
-      first : n ≡ n + 0
-      first = omega arith
-
       only : {removed : List Event} (more : IsPart IsRemoved (suc n) ys removed) (x : Marked)
-          → Has (y ∷ more.part) x → (i : ℕ) × (slice_get (y ∷ ys) i ≡ Some x) × IsRemoved (n + i)
-      only more x (inl e) = (0, ap Some e, subst IsRemoved first here)
-      only more x (inr h) = let found = more.only x h in (suc found.0, found.1, subst IsRemoved (next n found.0) found.2)
+          → Has (y ∷ more.part) x → (at : ℕ) × (i : ℕ) × (at ≡ n + i) × (slice_get (y ∷ ys) i ≡ Some x) × IsRemoved at
+      only more x (inl e) = (n, 0, omega arith, ap Some e, first)
+      only more x (inr h) = let found = more.only x h in (found.0, suc found.1, omega arith, found.3, found.4)
 
-      all : {removed : List Event} (more : IsPart IsRemoved (suc n) ys removed) (i : ℕ) (x : Marked)
-          → slice_get (y ∷ ys) i ≡ Some x → IsRemoved (n + i) → Has (y ∷ more.part) x
-      all more zero x at gone' = inl (same_Some y x at)
-      all more (suc i) x at gone' = inr (more.all i x at (subst IsRemoved (sym (next n i)) gone'))
+      all : {removed : List Event} (more : IsPart IsRemoved (suc n) ys removed) (at i : ℕ) (x : Marked)
+          → at ≡ n + i → slice_get (y ∷ ys) i ≡ Some x → IsRemoved at → Has (y ∷ more.part) x
+      all more at zero x e there here = inl (same_Some y x there)
+      all more at (suc i) x e there here = inr (more.all at i x (omega arith) there here)
 
 -- a free event has no consequences
 pub free_alone : (history : List Event) (at : ℕ) (it : Event) → 1 ≤ at → nth history at ≡ Some it
@@ -102,9 +93,6 @@ free_alone history at it one there free =
     none : (i : ℕ) → IsConsequence depends history at i → ⊥
     none i (direct link) = free i link
     none i (onward first link) = none _ first
-
-pub zeros : (n q : ℕ) → cut_of (replicate n 0) q ≡ 0
-zeros n q = grind (arith, common_steps, gets)
 
 module _ {next : ℕ} {steps : List (List Entry)} {sent : List (List Sent)} (sound : IsSound next steps sent)
     {cuts : List ℕ} {events : List Event} (ordered : AreInOrder cuts steps sent events) where
@@ -161,17 +149,14 @@ module _ {next : ℕ} {steps : List (List Entry)} {sent : List (List Sent)} (sou
       (λ x h.
       let of = of_all x h in
       let found = has_at (standing steps sent) x (standing_has steps sent sound.single x.mark x.event (of_stands sound of.3)) in
-      let number : suc found.0 ≡ 1 + found.0 = omega arith in
       let there = nth_map (λ (m : Marked). m.event) (standing steps sent) (suc found.0) x found.1 in
-      part.all found.0 x found.1
-      (subst (IsRolledBack depends (history_of steps sent) at) number ((are at named (suc found.0) x.event there).0 (cut_in of.3 of.2))))
+      part.all (suc found.0) found.0 x (omega arith) found.1 ((are at named (suc found.0) x.event there).0 (cut_in of.3 of.2)))
       (λ x h.
       let found = part.only x h in
-      let number : 1 + found.0 ≡ suc found.0 = omega arith in
-      let of = origin x.mark x.event (standing_only steps sent x (at_has (standing steps sent) found.0 x found.1)) in
-      let there = nth_map (λ (m : Marked). m.event) (standing steps sent) (suc found.0) x found.1 in
-      let cut = (are at named (suc found.0) x.event there).1 (subst (IsRolledBack depends (history_of steps sent) at) number found.2) in
-      in_all x of (in_cut of.4 cut)))
+      let number : found.0 ≡ suc found.1 = omega arith in
+      let of = origin x.mark x.event (standing_only steps sent x (at_has (standing steps sent) found.1 x found.3)) in
+      let there = nth_map (λ (m : Marked). m.event) (standing steps sent) (suc found.1) x found.3 in
+      in_all x of (in_cut of.4 ((are at named (suc found.1) x.event there).1 (rw number at found.4)))))
       ∙ part.are
 
 -- ---- by name

@@ -1,8 +1,10 @@
 -- A table with one row set.
 use Rattle.std.proofs.lemmas.Grind.{common_steps}
 use Rattle.std.proofs.Common.{◌≡◌, ◌≢◌, ℕ, zero, suc, ◌+◌, ◌-◌, ◌<◌, ◌≤◌, List, [], ◌∷◌, ◌++◌, Vec, length, set, slice_get}
-use Rattle.std.proofs.Common.{slice_index_or, Option, Some, None, Bor, refl, sym, ap, ◌∙◌, subst, arith}
-use Rattle.std.proofs.lemmas.Option.{none-some, slice_get_past, gets}
+use Rattle.std.proofs.Common.{add-one, slice_index_or, Option, Some, Bor, sym, ap, ◌∙◌, arith}
+use Rattle.std.proofs.lemmas.Option.{gets}
+use Rattle.std.proofs.Math.Seq.{map-set_same}
+use Rattle.std.proofs.lemmas.List.{map-set}
 use Rattle.std.specs.Option.{option_copied, MatchOption}
 use Rattle.std.specs.List.{HoldsAt}
 use Rattle.std.specs.Prelude.{vec_len, vec_capacity}
@@ -14,17 +16,10 @@ use Rattle.cdb_standing.specs.declared.tables.Sent.{Sent}
 
 module _ {T Z : Type 0} where
   row_set : (table : List (Vec T Z)) (i : ℕ) (v : Vec T Z) → i < length table → row_of (rows_in (set table i v)) (suc i) ≡ v.items
-  row_set [] i v less = absurd (omega (arith, less))
-  row_set (x ∷ xs) zero v less = refl
-  row_set (x ∷ xs) (suc i) v less = row_set xs i v (omega (arith, less))
+  row_set table i v less = rw (map-set (λ (u : Vec T Z). u.items) table i v) (grind (arith, common_steps, gets))
 
   row_set_other : (table : List (Vec T Z)) (i : ℕ) (v : Vec T Z) (q : ℕ) → q ≢ suc i → row_of (rows_in (set table i v)) q ≡ row_of (rows_in table) q
-  row_set_other table i v zero other = refl
-  row_set_other [] i v (suc q) other = refl
-  row_set_other (x ∷ xs) zero v (suc zero) other = absurd (other refl)
-  row_set_other (x ∷ xs) zero v (suc (suc q)) other = refl
-  row_set_other (x ∷ xs) (suc i) v (suc zero) other = refl
-  row_set_other (x ∷ xs) (suc i) v (suc (suc q)) other = row_set_other xs i v (suc q) (λ e. other (ap suc e))
+  row_set_other table i v q other = rw (map-set (λ (u : Vec T Z). u.items) table i v) (grind (arith, common_steps, gets))
 
   rows_set_length : (table : List (Vec T Z)) (i : ℕ) (v : Vec T Z) → length (rows_in (set table i v)) ≡ length (rows_in table)
   rows_set_length table i v = grind (arith, common_steps, gets)
@@ -37,9 +32,7 @@ module _ {T Z : Type 0} where
 
   pub rows_same : (table : List (Vec T Z)) (i : ℕ) (v w : Vec T Z) → i < length table
       → v ≡ slice_index_or table i v → w.items ≡ v.items → rows_in (set table i w) ≡ rows_in table
-  rows_same [] i v w less is same = refl
-  rows_same (x ∷ xs) zero v w less is same = ap (λ l. l ∷ rows_in xs) (same ∙ ap (λ (u : Vec T Z). u.items) is)
-  rows_same (x ∷ xs) (suc i) v w less is same = ap (λ l. x.items ∷ l) (rows_same xs i v w (omega (arith, less)) is same)
+  rows_same table i v w less is same = map-set_same (λ (u : Vec T Z). u.items) table i w v (same ∙ ap (λ (u : Vec T Z). u.items) is)
 
   pub row_within : (table : List (Vec T Z)) (i : ℕ) → 0 < length (row_of (rows_in table) (suc i)) → i < length table
   row_within table i more = grind (arith, common_steps, gets)
@@ -56,19 +49,17 @@ module _ {T Z : Type 0} where
   pub put_set : (table : List (Vec T Z)) (i : ℕ) (v w : Vec T Z) (item : T) → i < length table → v ≡ slice_index_or table i v → w.items ≡ v.items ++ item ∷ []
       → IsPutOn (i + 1) (rows_in table) item (rows_in (set table i w))
   put_set table i v w item less is more =
-      let e : suc i ≡ i + 1 = omega arith in
-      subst (λ p. IsPutOn p (rows_in table) item (rows_in (set table i w))) e
+      rw add-one
       (record {
         more = row_set table i w less ∙ more ∙ ap (λ l. l ++ item ∷ []) (sym (row_at table i v less is));
-        others = λ q other. row_set_other table i w q other;
+        others = row_set_other table i w;
         as_many = rows_set_length table i w;
       })
 
   pub taken_set : (table : List (Vec T Z)) (i : ℕ) (v w : Vec T Z) (item : T) → i < length table → v ≡ slice_index_or table i v → v.items ≡ w.items ++ item ∷ []
       → IsPutOn (i + 1) (rows_in (set table i w)) item (rows_in table)
   taken_set table i v w item less is more =
-      let e : suc i ≡ i + 1 = omega arith in
-      subst (λ p. IsPutOn p (rows_in (set table i w)) item (rows_in table)) e
+      rw add-one
       (record {
         more = row_at table i v less is ∙ more ∙ ap (λ l. l ++ item ∷ []) (sym (row_set table i w less));
         others = λ q other. sym (row_set_other table i w q other);
@@ -120,11 +111,7 @@ copy_set table i j t copied v w less is put =
     }
   where
     other_copies : (other : ℕ) → other ≢ suc t → nth (put.it).copies other ≡ nth (put.was).copies other
-    other_copies zero other = refl
-    other_copies (suc r) other = ap (λ l. slice_get l r) put.set_copy ∙ get_set_other (put.was).copies t r copied (λ e. other (ap suc e))
+    other_copies other apart = grind (arith, common_steps, gets, get_set_other)
 
     other_messages : (n : ℕ) → n ≢ suc j → nth (row_of (rows_in (set table i w)) (suc i)) n ≡ nth (row_of (rows_in table) (suc i)) n
-    other_messages zero other = refl
-    other_messages (suc n) other =
-        ap (λ row. slice_get row n) (row_set table i w less ∙ put.set) ∙ get_set_other v.items j n put.it (λ e. other (ap suc e))
-        ∙ ap (λ row. slice_get row n) (sym (row_at table i v less is))
+    other_messages n apart = rw (row_set table i w less ∙ put.set, row_at table i v less is) (grind (arith, common_steps, gets, get_set_other))

@@ -1,107 +1,64 @@
 -- A free event is taken out.
-use Rattle.std.proofs.Common.{◌≡◌, ℕ, zero, suc, ◌+◌, ◌-◌, ◌<◌, ◌≤◌, true, eq-eqb, List, [], ◌∷◌, ◌++◌, length, Option, Some, None, ⊎_elim, refl}
-use Rattle.std.proofs.Common.{sym, ap, ◌∙◌, subst, arith}
+use Rattle.std.proofs.Common.{◌≡◌, ℕ, suc, ◌+◌, ◌-◌, ◌<◌, ◌≤◌, List, [], ◌∷◌, ◌++◌, length, Option, Some, None, inl, inr, refl}
+use Rattle.std.proofs.Common.{ap, ◌∙◌, arith}
 use Rattle.std.proofs.lemmas.Bool.{cases_lt}
-use Rattle.std.proofs.lemmas.Option.{none-some}
-use Rattle.cdb_base.specs.Event.{event_name}
-use Rattle.cdb_base.specs.Positions.{nth}
+use Rattle.std.proofs.lemmas.Grind.{common_steps}
+use Rattle.std.proofs.lemmas.Option.{gets}
 use Rattle.cdb_base.specs.declared.event.Event.{Event}
 use Rattle.cdb_base.specs.declared.event.Event.TheVariants as event
 use Rattle.cdb_base.specs.declared.event.Kind.{Kind}
-use Rattle.cdb_base.specs.declared.event.Kind.TheVariants.{Send, Recv}
+use Rattle.cdb_base.specs.declared.event.Kind.TheVariants.{Send}
 use Rattle.cdb_base.specs.declared.name.CopyName.{CopyName}
 use Rattle.cdb_base.specs.declared.name.StepId.TheVariants as named
-use Rattle.cdb_base.specs.declared.name.StepName.{StepName}
-use Rattle.cdb_causal.specs.Dependence.{depends}
-use Rattle.cdb_causal.specs.Names.{IsNamedAt}
-use Rattle.cdb_standing.specs.Accesses.{accessed, written, access_of, listed, AreListed, HasListed, IsUnlistedAt, IsRegisterOf}
+use Rattle.cdb_standing.specs.Accesses.{accessed, written, AreListed, HasListed, IsUnlistedAt, IsRegisterOf}
 use Rattle.cdb_standing.specs.Dependents.{IsDependent}
 use Rattle.cdb_standing.specs.InOrder.{Has}
 use Rattle.cdb_standing.specs.declared.tables.Access.{Access}
 use Rattle.cdb_standing.specs.Kept.{history_in, AreKept}
 use Rattle.cdb_standing.specs.Moves.{IsEndOf, IsFreeAlone, IsTakenOut, IsPending, IsStandingName}
 use Rattle.cdb_standing.specs.Rooms.{HoldSameSteps}
-use Rattle.cdb_standing.specs.Tables.{rows_in, row_of, copy_named, entry_of, history_of, IsEntry, IsCopy, IsMessage, HasCopy, IsCopySet, Stands, IsSound}
+use Rattle.cdb_standing.specs.Tables.{rows_in, row_of, copy_named, entry_of, history_of, IsEntry, IsCopy, IsMessage, HasCopy, IsCopySet, IsSound}
 use Rattle.cdb_standing.specs.Tables.{IsUnneeded, IsStepTaken}
 use Rattle.cdb_standing.specs.declared.tables.Copied.{Copied}
 use Rattle.cdb_standing.specs.declared.tables.Copied.TheVariants.{Waits, Received, Lost}
 use Rattle.cdb_standing.specs.declared.tables.Entry.{Entry}
 use Rattle.cdb_standing.specs.declared.tables.Sent.{Sent}
 use Rattle.cdb_standing.specs.declared.tables.Tables.{Tables}
-use Rattle.cdb_standing.proofs.Joined.{loss_sound, loss_added}
-use Rattle.cdb_standing.proofs.EarliestFound.{send_received, send_lost, own_links, own_found}
 use Rattle.cdb_standing.proofs.Held.{register_written}
-use Rattle.cdb_standing.proofs.ListedEvents.{listed_has, list_less}
-use Rattle.cdb_standing.proofs.Places.{IsPlace, place_of, event_in, named_place, one_name, link_up, pending_waits, step_named, end_of}
+use Rattle.cdb_standing.proofs.Joined.{loss_sound, loss_added}
+use Rattle.cdb_standing.proofs.Lasts.{is_listed}
+use Rattle.cdb_standing.proofs.Links.{same_entry, process_within, own_dependent, receive_dependent, loss_dependent}
+use Rattle.cdb_standing.proofs.ListedEvents.{list_less}
+use Rattle.cdb_standing.proofs.Named.{the_place, step_of_name, loss_of_name}
+use Rattle.cdb_standing.proofs.Places.{place_of, event_in, pending_waits, end_of}
+use Rattle.cdb_standing.proofs.Reaches.{link_of}
 use Rattle.cdb_standing.proofs.Removed.{taken_sound, step_taken, loss_taken_sound, loss_taken}
-use Rattle.cdb_standing.proofs.Rows.{nth_within, nth_some, is_row, same_at, put_joins}
+use Rattle.cdb_standing.proofs.Rows.{nth_within, nth_some, put_joins}
 
--- what depends on an event that stands at a place, behind it
 module _ {next : ℕ} {steps : List (List Entry)} {sent : List (List Sent)} (sound : IsSound next steps sent) where
-  -- the place of the event of that name
-  pub the_place : (mark : ℕ) (one : Event) → Stands steps sent mark one → (at : ℕ) → IsNamedAt (history_of steps sent) at (event_name one)
-      → IsPlace sound at mark one
-  the_place mark one stands at h =
-      let named = named_place sound at (event_name one) h in
-      let same = one_name sound named.0 mark named.1 one named.3 stands named.4 in
-      subst (λ m. IsPlace sound at m one) same.0 (subst (λ e. IsPlace sound at named.0 e) same.1 named.2)
-
-  pub step_of_name : (p k at : ℕ) → IsNamedAt (history_of steps sent) at (named.Step (record { p = p; k = k }))
-      → (mark : ℕ) × (kind : Kind) × IsEntry steps p k mark kind
-  step_of_name p k at h = let place = named_place sound at (named.Step (record { p = p; k = k })) h in by place.0 place.1 place.3 place.4
-    where
-      by : (mark : ℕ) (it : Event) → Stands steps sent mark it → event_name it ≡ named.Step (record { p = p; k = k })
-          → (mark : ℕ) × (kind : Kind) × IsEntry steps p k mark kind
-      by mark (event.Step q l kind) stands e =
-          let name_is : step_named q l ≡ step_named p k = cc in
-          (mark, kind, subst (λ (x : StepName). IsEntry steps x.p x.k mark kind) name_is stands)
-      by mark (event.Lost copy) stands e = absurd (cc)
-
-  pub loss_of_name : (copy : CopyName) (at : ℕ) → IsNamedAt (history_of steps sent) at (named.Lost copy)
-      → (mark : ℕ) × IsCopy sent (copy.msg).s (copy.msg).m copy.to (Lost mark)
-  loss_of_name copy at h = let place = named_place sound at (named.Lost copy) h in by place.0 place.1 place.3 place.4
-    where
-      by : (mark : ℕ) (it : Event) → Stands steps sent mark it → event_name it ≡ named.Lost copy
-          → (mark : ℕ) × IsCopy sent (copy.msg).s (copy.msg).m copy.to (Lost mark)
-      by mark (event.Step q l kind) stands e = absurd (cc)
-      by mark (event.Lost other) stands e =
-          let same : other ≡ copy = cc in (mark, subst (λ (c : CopyName). IsCopy sent (c.msg).s (c.msg).m c.to (Lost mark)) same stands)
-
   module _ (p k : ℕ) (free : IsFreeAlone (history_of steps sent) (named.Step (record { p = p; k = k }))) where
     abbrev pub mark_of : ℕ
-    mark_of = (step_of_name p k free.0 free.1).0
+    mark_of = (step_of_name sound p k free.0 free.1).0
 
     abbrev pub kind_of : Kind
-    kind_of = (step_of_name p k free.0 free.1).1
+    kind_of = (step_of_name sound p k free.0 free.1).1
 
     pub entry_at : IsEntry steps p k mark_of kind_of
-    entry_at = (step_of_name p k free.0 free.1).2
+    entry_at = (step_of_name sound p k free.0 free.1).2
 
-    none_depends : (b : ℕ) (it : Event) → Stands steps sent b it → mark_of < b → depends (event.Step p k kind_of) it ≡ true → ⊥
-    none_depends b it stands later linked =
-        let there = place_of sound b it stands in
-        free.2 there.0 (link_up sound free.0 there.0 mark_of b (event.Step p k kind_of)
-        it (the_place mark_of (event.Step p k kind_of) entry_at free.0 free.1) there.1 later linked)
+    none_depends : (b : ℕ) (it : Event) → IsDependent steps sent (event.Step p k kind_of) mark_of b it → ⊥
+    none_depends b it d =
+        let there = place_of sound b it d.effect in
+        free.2 there.0 (link_of sound free.0 there.0 (the_place sound mark_of (event.Step p k kind_of) entry_at free.0 free.1) there.1 d)
 
     pub is_last : k ≡ length (row_of steps p)
     is_last =
         let within = nth_within (row_of steps p) k (entry_of mark_of kind_of) entry_at in
-        ⊎_elim
-        (λ less. let more = nth_some (row_of steps p) (k + 1) (omega arith) (omega arith) in
-        let own = own_found sound p k mark_of kind_of entry_at in
-        let found = own.each (more.0).mark (event.Step p (k + 1) (more.0).kind) (its_link (more.0) more.1, eq-eqb p p refl) in
-        absurd (none_depends (more.0).mark (event.Step p (k + 1) (more.0).kind) more.1 (its_link (more.0) more.1).later (its_link (more.0) more.1).linked))
-        (λ past. omega arith)
-        (cases_lt k (length (row_of steps p)))
-      where
-        its_link : (entry : Entry) → nth (row_of steps p) (k + 1) ≡ Some entry
-            → IsDependent steps sent (event.Step p k kind_of) mark_of entry.mark (event.Step p (k + 1) entry.kind)
-        its_link entry at =
-            record {
-              stands = at;
-              later = sound.rises p k (k + 1) mark_of entry.mark kind_of entry.kind entry_at at (omega arith);
-              linked = own_links p k (k + 1) kind_of entry.kind;
-            }
+        elim (cases_lt k (length (row_of steps p))) [
+          | inl less ↦ (let more = nth_some (row_of steps p) (k + 1) (omega arith) (omega arith) in
+              absurd (none_depends _ _ (own_dependent sound p entry_at more.1 (omega arith))))
+          | inr past ↦ omega arith
+        ]
 
     pub has_some : 0 < length (row_of steps p)
     has_some = let within = nth_within (row_of steps p) k (entry_of mark_of kind_of) entry_at in (omega arith)
@@ -110,43 +67,26 @@ module _ {next : ℕ} {steps : List (List Entry)} {sent : List (List Sent)} (sou
     unneeded = by kind_of entry_at none_depends
       where
         by : (kind : Kind) → IsEntry steps p k mark_of kind
-            → ((b : ℕ) (it : Event) → Stands steps sent b it → mark_of < b → depends (event.Step p k kind) it ≡ true → ⊥) → IsUnneeded p kind sent
+            → ((b : ℕ) (it : Event) → IsDependent steps sent (event.Step p k kind) mark_of b it → ⊥) → IsUnneeded p kind sent
         by (Send m) at none = λ to c copy. of_copy to c copy
           where
             of_copy : (to : ℕ) (c : Copied) → IsCopy sent p m to c → c ≡ Waits
             of_copy to Waits copy = refl
-            of_copy to (Received l) copy =
-                let got = sound.received_is p m to l copy in
-                absurd (none got.0 (event.Step to l (Recv p m)) got.1 (sound.sent_first p m k mark_of to l got.0 at got.1)
-                (send_received p k m to l))
-            of_copy to (Lost b) copy =
-                absurd (none b (event.Lost (copy_named p m to)) copy (sound.sent_lost p m k mark_of to b at copy)
-                (send_lost p k m to))
+            of_copy to (Received l) copy = absurd (none _ _ (receive_dependent sound p m at (sound.received_is p m to l copy).1))
+            of_copy to (Lost b) copy = absurd (none _ _ (loss_dependent sound (copy_named p m to) at copy))
         by _ at none = tt
 
   pub has_listed : {of : Kind → Option ℕ} {table : List (List Access)} → AreListed of table steps → (p k mark : ℕ) (kind : Kind) → IsEntry steps p k mark kind
       → HasListed (of kind) p table
-  has_listed lists p zero mark kind at = absurd (none-some (entry_of mark kind) at)
-  has_listed {of} {table} lists p (suc i) mark kind at = by (of kind) refl
+  has_listed {of} {table} lists p k mark kind at = by (of kind) refl
     where
-      within : (1 ≤ p) × (p ≤ length steps)
-      within = nth_within steps p (row_of steps p) (is_row steps p (suc i) (entry_of mark kind) at)
-
-      one : 1 ≤ p
-      one = within.0
-
-      nine : p ≤ 9
-      nine = omega (arith, within.1, sound.processes)
-
       some_in : (xs : List Access) (x : Access) → Has xs x → 0 < length xs
-      some_in [] x h = absurd h
-      some_in (y ∷ ys) x h = omega arith
+      some_in xs x h = grind (arith, common_steps, gets)
 
       by : (o : Option ℕ) → of kind ≡ o → HasListed o p table
       by None e = tt
       by (Some n) e = λ less.
-          subst (λ l. 0 < length l) (sym (lists.each p n one nine less))
-          (some_in (listed of n 1 (row_of steps p)) (access_of mark (1 + i)) (listed_has of n 1 (row_of steps p) i (entry_of mark kind) at e))
+          let within = process_within sound p k mark kind at in some_in _ _ (is_listed lists p n within.0 within.1 less k mark kind at e)
 
 -- ---- in the tables
 
@@ -164,23 +104,17 @@ module _ {t : Tables} (kept : AreKept t) where
     last = is_last kept.sound p k free
 
     here : IsStepTaken mark p k kind steps sent (rows_in new.steps.items) (rows_in new.sent.items)
-    here = subst (λ n. IsStepTaken mark p n kind steps sent (rows_in new.steps.items) (rows_in new.sent.items)) (sym last) taken
-
-    the_same : entry_of (mark_of kept.sound p k free) (kind_of kept.sound p k free) ≡ entry_of mark kind
-    the_same =
-        same_at (row_of steps p) k (entry_of (mark_of kept.sound p k free) (kind_of kept.sound p k free))
-        (entry_of mark kind) (entry_at kept.sound p k free)
-        (put_joins here.put k here.number)
+    here = rw last taken
 
     pub not_needed : IsUnneeded p kind sent
-    not_needed = subst (λ (e : Entry). IsUnneeded p e.kind sent) the_same (unneeded kept.sound p k free)
+    not_needed = rw (same_entry steps p k (entry_at kept.sound p k free) (put_joins here.put k here.number)).1 at (unneeded kept.sound p k free)
 
     pub take_kept : new.next ≡ t.next → IsUnlistedAt (accessed kind) p (rows_in t.accesses.items) (rows_in new.accesses.items)
         → IsUnlistedAt (written kind) p (rows_in t.writes.items) (rows_in new.writes.items)
         → IsRegisterOf accessed kind → 1 ≤ p → AreKept new
     take_kept same accesses writes register one =
         record {
-          sound = subst (λ n. IsSound n (rows_in new.steps.items) (rows_in new.sent.items)) (sym same) (taken_sound kept.sound not_needed here);
+          sound = rw same (taken_sound kept.sound not_needed here);
           accesses = list_less accessed k here.put here.number one register (rows_in new.accesses.items) kept.accesses accesses;
           writes = list_less written k here.put here.number one (register_written kind register) (rows_in new.writes.items) kept.writes writes;
         }
@@ -209,15 +143,11 @@ module _ {t : Tables} (kept : AreKept t) (copy : CopyName) where
   m = (copy.msg).m
 
   steps_same : {new : Tables} → HoldSameSteps t new → IsSound new.next (rows_in t.steps.items) (rows_in new.sent.items) → AreKept new
-  steps_same {new} same sound =
+  steps_same same sound =
       record {
-        sound = subst (λ x. IsSound new.next x (rows_in new.sent.items)) (sym same.steps) sound;
-        accesses =
-            subst (λ x. AreListed accessed x (rows_in new.steps.items)) (sym same.accesses)
-            (subst (λ x. AreListed accessed (rows_in t.accesses.items) x) (sym same.steps) kept.accesses);
-        writes =
-            subst (λ x. AreListed written x (rows_in new.steps.items)) (sym same.writes)
-            (subst (λ x. AreListed written (rows_in t.writes.items) x) (sym same.steps) kept.writes);
+        sound = rw same.steps sound;
+        accesses = rw (same.accesses, same.steps) kept.accesses;
+        writes = rw (same.writes, same.steps) kept.writes;
       }
 
   module _ (stands : IsStandingName (history_in t) (named.Lost copy)) where
@@ -229,10 +159,7 @@ module _ {t : Tables} (kept : AreKept t) (copy : CopyName) where
 
     module _ {new : Tables} (same : HoldSameSteps t new) (put : IsCopySet (rows_in t.sent.items) s m copy.to Waits (rows_in new.sent.items)) where
       pub unlose_kept : new.next ≡ t.next → AreKept new
-      unlose_kept e =
-          steps_same same
-          (subst (λ n. IsSound n (rows_in t.steps.items) (rows_in new.sent.items)) (sym e)
-          (loss_taken_sound kept.sound lost.1 put))
+      unlose_kept e = steps_same same (rw e (loss_taken_sound kept.sound lost.1 put))
 
       pub unlose_history : IsTakenOut (history_in t) (named.Lost copy) (event.Lost copy) (history_in new)
       unlose_history at h =
@@ -254,10 +181,7 @@ module _ {t : Tables} (kept : AreKept t) (copy : CopyName) where
         (put : IsCopySet (rows_in t.sent.items) s m copy.to (Lost t.next) (rows_in new.sent.items)) where
       pub lose_kept : new.next ≡ t.next + 1 → AreKept new
       lose_kept e =
-          let f : suc t.next ≡ new.next = omega arith in
-          steps_same same
-          (subst (λ n. IsSound n (rows_in t.steps.items) (rows_in new.sent.items)) f
-          (loss_sound kept.sound waits few put))
+          let f : new.next ≡ suc t.next = omega arith in steps_same same (rw f (loss_sound kept.sound waits few put))
 
       pub lose_history : history_in new ≡ history_in t ++ event.Lost copy ∷ []
       lose_history = ap (λ x. history_of x (rows_in new.sent.items)) same.steps ∙ loss_added kept.sound waits few put

@@ -9,14 +9,13 @@ use Rattle.cdb_base.specs.declared.event.Kind.{Kind}
 use Rattle.cdb_base.specs.declared.event.Kind.TheVariants.{Write}
 use Rattle.cdb_base.specs.declared.name.StepId.{StepId}
 use Rattle.cdb_base.specs.declared.name.StepId.TheVariants as named
-use Rattle.cdb_causal.specs.Dependence.{depends}
 use Rattle.cdb_causal.specs.DirectCauses.{ComesBefore, AreDirectCauses}
 use Rattle.cdb_causal.specs.Names.{IsNamedAt}
 use Rattle.cdb_standing.specs.Accesses.{accessed, is_that, cell, IsLastBeforeOrNone}
 use Rattle.cdb_standing.specs.Dependents.{IsDependent}
 use Rattle.cdb_standing.specs.InOrder.{Has}
 use Rattle.cdb_standing.specs.Kept.{history_in}
-use Rattle.cdb_standing.specs.Tables.{row_of, Stands}
+use Rattle.cdb_standing.specs.Tables.{row_of}
 use Rattle.cdb_standing.specs.declared.tables.Access.{Access}
 use Rattle.cdb_standing.specs.declared.tables.Entry.{Entry}
 use Rattle.cdb_standing.specs.declared.tables.Sent.{Sent}
@@ -53,12 +52,9 @@ HasAccessBetween table s n behind ahead =
 
 -- ---- causes
 
--- the event stands before the mark, and another depends on it
-pub record IsCause (steps : List (List Entry)) (sent : List (List Sent))
-    (effect : Event) (ahead mark : ℕ) (it : Event) : Type 0 where
-  pub stands : Stands steps sent mark it
-  pub earlier : mark < ahead
-  pub linked : depends it effect ≡ true
+-- the event at the last mark is one on which the effect depends
+abbrev pub IsCause : List (List Entry) → List (List Sent) → Event → ℕ → ℕ → Event → Type 0
+IsCause steps sent effect ahead mark it = IsDependent steps sent it mark ahead effect
 
 -- it is the last step of process q on which the event depends
 pub record IsLastCause (steps : List (List Entry)) (sent : List (List Sent))

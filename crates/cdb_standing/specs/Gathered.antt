@@ -1,7 +1,7 @@
 -- The events that numbers cut off, as they are gathered: of each process its steps from a number on, each with the
 -- losses of what it sent.
-use Rattle.std.specs.Prelude.{◌≡◌, ◌↔◌, ℕ, suc, ◌+◌, ◌-◌, ◌<◌, ◌≤◌, List, [], ◌++◌}
-use Rattle.std.specs.Prelude.{Option, Some, MatchOption, length, drop, slice_get}
+use Rattle.std.specs.Prelude.{◌≡◌, ◌↔◌, ℕ, suc, ◌+◌, ◌-◌, ◌<◌, ◌≤◌, List, [], ◌++◌, cond, nat_le}
+use Rattle.std.specs.Prelude.{Option, Some, MatchOption, length, slice_get}
 use Rattle.std.specs.Option.{option_map_or}
 use Rattle.cdb_base.specs.Positions.{nth}
 use Rattle.cdb_base.specs.declared.event.Event.{Event}
@@ -9,15 +9,14 @@ use Rattle.cdb_base.specs.declared.event.Kind.{Kind}
 use Rattle.cdb_base.specs.declared.event.Kind.TheVariants.{Send}
 use Rattle.cdb_standing.specs.Cuts.{cut_of}
 use Rattle.cdb_standing.specs.InOrder.{Marked, Has, IsRising, each_from, events_of}
-use Rattle.cdb_standing.specs.Tables.{row_of, step_at, loss_at}
+use Rattle.cdb_standing.specs.Tables.{row_of, step_at, losses_to}
 use Rattle.cdb_standing.specs.declared.order.Next.{Next}
 use Rattle.cdb_standing.specs.declared.tables.Entry.{Entry}
 use Rattle.cdb_standing.specs.declared.tables.Sent.{Sent}
 
 -- the losses of the copies of what a step of process p sent
 abbrev pub losses_of : List (List Sent) → ℕ → Kind → List Marked
-losses_of sent p (Send m) =
-    option_map_or (λ (it : Sent). each_from (loss_at p m) 1 it.copies) (nth (row_of sent p) m) []
+losses_of sent p (Send m) = option_map_or (losses_to p m) (nth (row_of sent p) m) []
 losses_of sent p _ = []
 
 -- a step with these
@@ -25,8 +24,11 @@ abbrev pub of_step : List (List Sent) → ℕ → ℕ → Entry → List Marked
 of_step sent p k entry = step_at p k entry ++ losses_of sent p entry.kind
 
 -- the steps of a row from a number on, with these
+abbrev pub step_from : List (List Sent) → ℕ → ℕ → ℕ → Entry → List Marked
+step_from sent from p k entry = cond (nat_le from k) (of_step sent p k entry) []
+
 abbrev pub steps_from : List (List Sent) → ℕ → ℕ → List Entry → List Marked
-steps_from sent from p row = each_from (of_step sent p) (suc (from - 1)) (drop (from - 1) row)
+steps_from sent from p row = each_from (step_from sent from p) 1 row
 
 abbrev pub all_from : List ℕ → List (List Entry) → List (List Sent) → List Marked
 all_from cuts steps sent = each_from (λ p row. steps_from sent (cut_of cuts p) p row) 1 steps

@@ -4,23 +4,31 @@ use Rattle.cdb_base.specs.declared.event.Event.{Event}
 use Rattle.cdb_base.specs.declared.event.Event.TheVariants.{Step, Lost}
 use Rattle.cdb_base.specs.declared.event.Kind.{Kind}
 use Rattle.cdb_standing.specs.Causes.{IsCause}
-use Rattle.cdb_standing.specs.Cuts.{cut_of as end_of}
+use Rattle.cdb_standing.specs.Cuts.{cut_of as end_of, IsReached}
 use Rattle.cdb_standing.specs.Tables.{IsEntry}
 use Rattle.cdb_standing.specs.declared.tables.Entry.{Entry}
 use Rattle.cdb_standing.specs.declared.tables.Sent.{Sent}
 
--- the event at a mark is one, or a chain of dependences leads from it to that one
-pub data IsLedFrom (steps : List (List Entry)) (sent : List (List Sent)) (one : Event) (end : ℕ) : ℕ
-    → Event → Type 0 where
-  itself : IsLedFrom steps sent one end end one
-  back : {a b : ℕ} {cause effect : Event} → IsLedFrom steps sent one end b effect
-      → IsCause steps sent effect b a cause → IsLedFrom steps sent one end a cause
+-- the event at the second mark led to the one at the first, or is that one
+abbrev pub IsLedFrom : List (List Entry) → List (List Sent) → Event → ℕ → ℕ → Event → Type 0
+IsLedFrom steps sent one end mark it = IsReached steps sent it mark end one
 
 -- the steps up to the numbers led to the event
 abbrev pub IsSoundPast : List (List Entry) → List (List Sent) → Event → ℕ → List ℕ → Type 0
 IsSoundPast steps sent one end ends =
     (q l a : ℕ) (kind : Kind) → IsEntry steps q l a kind
     → l ≤ end_of ends q → IsLedFrom steps sent one end a (Step q l kind)
+
+-- and still so
+abbrev pub StaysSoundPast : List (List Entry) → List (List Sent) → List ℕ → List ℕ → Type 0
+StaysSoundPast steps sent old new =
+    (one : Event) (end : ℕ) → IsSoundPast steps sent one end old → IsSoundPast steps sent one end new
+
+-- and still so of the events to which that effect led
+abbrev pub KeepsSoundPast : List (List Entry) → List (List Sent) → ℕ → Event → List ℕ → List ℕ → Type 0
+KeepsSoundPast steps sent ahead effect old new =
+    (one : Event) (end : ℕ) → IsLedFrom steps sent one end ahead effect
+    → IsSoundPast steps sent one end old → IsSoundPast steps sent one end new
 
 -- of the processes up to one, the steps on which an event depends are up to the numbers
 abbrev pub HasCausesWithin : List (List Entry) → List (List Sent) → Event → ℕ → ℕ → List ℕ → Type 0
@@ -63,9 +71,7 @@ pub record IsPastBegun (steps : List (List Entry)) (sent : List (List Sent))
 -- the steps up to the numbers are those that led to the event, and it itself, if it is a step
 pub record IsPast (steps : List (List Entry)) (sent : List (List Sent))
     (one : Event) (end : ℕ) (ends : List ℕ) : Type 0 where
-  pub sound : IsSoundPast steps sent one end ends
-  pub itself : IsItselfWithin one ends
-  pub causes : HasCausesWithin steps sent one end 9 ends
+  pub begun : IsPastBegun steps sent one end ends
   pub closed : IsClosedBehind steps sent ends ends
 
 -- how many steps may still be looked at

@@ -18,8 +18,12 @@ undo_data_of lefts (Lost copy) = nothing
 abbrev pub recorded_with : {B : Type 0} → List (List (UndoData B)) → List Event → List (Recorded B)
 recorded_with lefts history = map (λ event. recorded_of event (undo_data_of lefts event)) history
 
+-- the numbers from 1 to that have it, and no others
+pub record AreUpTo (Has : ℕ → Type 0) (count : ℕ) : Type 0 where
+  pub within : (k : ℕ) → Has k → (1 ≤ k) × (k ≤ count)
+  pub each : (k : ℕ) → 1 ≤ k → k ≤ count → Has k
+
 -- each step that stands has an item of the row of its process, and nothing else has
 pub record AreBeside {B : Type 0} (lefts : List (List (UndoData B))) (history : List Event) : Type 0 where
   pub processes : length lefts ≡ 9
-  pub within : (p k : ℕ) → HasStep history p k → (1 ≤ k) × (k ≤ length (row_of lefts p))
-  pub standing : (p k : ℕ) → 1 ≤ k → k ≤ length (row_of lefts p) → HasStep history p k
+  pub steps : (p : ℕ) → AreUpTo (HasStep history p) (length (row_of lefts p))

@@ -7,7 +7,10 @@ ghost use Rattle.cdb_standing.specs.Counts.{is_before, is_write_before, HasLost,
 ghost use Rattle.cdb_standing.specs.Kept.{AreKept};
 ghost use Rattle.cdb_standing.specs.Tables.{rows_in, row_of, standing};
 
+use crate::accesses::list_of;
+use crate::row::row;
 use crate::tables::{Access, Copied, Sent, Tables};
+use cdb_base::Proc;
 
 /// How many accesses of a list have lower marks.
 fn count_before(accesses: &[Access], mark: u64) -> usize
@@ -25,8 +28,8 @@ pub(crate) fn writes_before(tables: &Tables, n: usize, mark: u64) -> usize
         (standing (rows_in tables.now.steps.items) (rows_in tables.now.sent.items)) }
 {
     let mut count = 0;
-    for i in 0..9 {
-        count += count_before(&tables.writes[i * 11 + n], mark);
+    for i in 0..9u8 {
+        count += count_before(list_of(&tables.writes, Proc::new(i + 1), n), mark);
     }
     count
 }
@@ -74,7 +77,7 @@ pub(crate) fn have_same_losses(sent: &Vec<Vec<Sent>>, other: &Vec<Vec<Sent>>) ->
         ↔ ((s : ℕ) → LoseSameIn (row_of (rows_in sent.now.items) s) (row_of (rows_in other.now.items) s)) }
 {
     for i in 0..9 {
-        if !lose_same(&sent[i], &other[i]) {
+        if !lose_same(row(sent, i), row(other, i)) {
             return false;
         }
     }

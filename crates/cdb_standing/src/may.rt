@@ -7,6 +7,7 @@ ghost use Rattle.cdb_standing.specs.Tables.{rows_in, IsCopy, MayMail};
 ghost use Rattle.cdb_standing.specs.declared.tables.Copied.TheVariants.{Waits};
 
 use crate::copies::{copy_of, has_copies, has_copy};
+use crate::row::row;
 use crate::tables::{Copied, Sent, Tables};
 use cdb_base::{CopyName, Kind, Proc};
 
@@ -28,7 +29,7 @@ pub(crate) fn is_next_step(tables: &Tables, p: Proc, k: u16) -> bool
     requires { AreKept tables.now }
     ensures { IsTrue result ↔ IsNextStep (history_in tables.now) p k }
 {
-    tables.steps[p.index()].len() + 1 == k as usize
+    row(&tables.steps, p.index()).len() + 1 == k as usize
 }
 
 /// Whether a step that does that finds what it needs: the number of the message that it sends is the next, the copy
@@ -38,7 +39,7 @@ fn may_mail(sent: &Vec<Vec<Sent>>, p: Proc, kind: &Kind) -> bool
     ensures { IsTrue result ↔ MayMail p kind.now (rows_in sent.now.items) }
 {
     match *kind {
-        Kind::Send(m) => sent[p.index()].len() + 1 == m as usize,
+        Kind::Send(m) => row(sent, p.index()).len() + 1 == m as usize,
         Kind::Recv(s, m) => waits(sent, s, m, p),
         _ => true,
     }

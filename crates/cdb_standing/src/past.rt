@@ -1,11 +1,10 @@
 //! The past of an event: of each process the steps up to a number.
 
 ghost use Rattle.std.specs.Prelude.{◌≡◌, ℕ, ◌<◌, ◌≤◌};
-ghost use Rattle.cdb_base.specs.declared.event.Event.{Event as AnEvent};
 ghost use Rattle.cdb_standing.specs.Cuts.{cut_of as end_of, IsLower};
 ghost use Rattle.cdb_standing.specs.Kept.{history_in, AreKept};
 ghost use Rattle.cdb_standing.specs.LedTo.{IsPastOfName};
-ghost use Rattle.cdb_standing.specs.Pasts.{AreRaised, IsLedFrom, IsSoundPast, HasCausesWithin};
+ghost use Rattle.cdb_standing.specs.Pasts.{AreRaised, StaysSoundPast, KeepsSoundPast, HasCausesWithin};
 ghost use Rattle.cdb_standing.specs.Pasts.{AreFew, IsLookedBehind, IsPastBegun, IsPast};
 ghost use Rattle.cdb_standing.specs.Tables.{rows_in, Stands};
 
@@ -34,13 +33,8 @@ fn look_behind(tables: &Tables, numbers: &mut [usize; 9], effect: &Event, ahead:
     requires stands { Stands (rows_in tables.now.steps.items) (rows_in tables.now.sent.items)
         ahead effect.now }
     requires few { AreFew numbers.old }
-    ensures sound { (one : AnEvent) (end : ℕ) →
-        IsLedFrom (rows_in tables.now.steps.items) (rows_in tables.now.sent.items)
-        one end ahead effect.now →
-        IsSoundPast (rows_in tables.now.steps.items) (rows_in tables.now.sent.items)
-        one end numbers.old →
-        IsSoundPast (rows_in tables.now.steps.items) (rows_in tables.now.sent.items)
-        one end numbers.new }
+    ensures sound { KeepsSoundPast (rows_in tables.now.steps.items) (rows_in tables.now.sent.items)
+        ahead effect.now numbers.old numbers.new }
     ensures within { HasCausesWithin (rows_in tables.now.steps.items)
         (rows_in tables.now.sent.items) effect.now ahead 9 numbers.new }
     ensures higher { IsLower numbers.new numbers.old }
@@ -58,11 +52,8 @@ fn look_behind_step(tables: &Tables, numbers: &mut [usize; 9], q: Proc, l: usize
     requires short { l ≤ 65535 }
     requires own { l ≤ end_of numbers.old q }
     requires few { AreFew numbers.old }
-    ensures sound { (one : AnEvent) (end : ℕ) →
-        IsSoundPast (rows_in tables.now.steps.items) (rows_in tables.now.sent.items)
-        one end numbers.old →
-        IsSoundPast (rows_in tables.now.steps.items) (rows_in tables.now.sent.items)
-        one end numbers.new }
+    ensures sound { StaysSoundPast (rows_in tables.now.steps.items) (rows_in tables.now.sent.items)
+        numbers.old numbers.new }
     ensures looked { IsLookedBehind (rows_in tables.now.steps.items)
         (rows_in tables.now.sent.items) q l numbers.new }
     ensures higher { IsLower numbers.new numbers.old }

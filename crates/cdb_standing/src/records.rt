@@ -23,12 +23,12 @@ fn is_free(history: &History, name: StepId) -> bool
     ensures { IsTrue result ↔ IsFreeAlone history.now name }
 {
     let again = name;
-    if history.find(again).is_none() {
-        return false;
-    }
-    match history.first_dependent(name) {
-        Some(_) => false,
-        None => true,
+    match history.find(again) {
+        None => false,
+        Some(_) => match history.first_dependent(name) {
+            Some(_) => false,
+            None => true,
+        },
     }
 }
 

@@ -1,5 +1,5 @@
 use Rattle.std.proofs.Common.{arith}
-use Rattle.cdb_standing.proofs.EarliestFound.{list_rising}
+use Rattle.cdb_standing.proofs.Lasts.{list_rising}
 use Rattle.cdb_standing.proofs.causes.is_between.Goals as goal
 
 pub has_between-requires-clause-rising : goal.has_between-requires-clause-rising

@@ -1,7 +1,8 @@
 use Rattle.std.proofs.Common.{◌-◌, eqb-true, sym, ◌∙◌, arith}
 use Rattle.std.proofs.lemmas.Bool.{eqb-false}
-use Rattle.cdb_standing.proofs.EarliestFound.{list_rising}
-use Rattle.cdb_standing.proofs.LastCauses.{own_last, receive_last, read_last, write_last}
+use Rattle.cdb_standing.proofs.LastCauses.{own_last, receive_last, list_last}
+use Rattle.cdb_standing.proofs.Lasts.{list_rising}
+use Rattle.cdb_standing.proofs.Links.{sought_by_read, sought_by_write}
 use Rattle.cdb_standing.proofs.causes.last_cause_of_step.Goals as goal
 
 pub by_list-requires-clause-rising : goal.by_list-requires-clause-rising
@@ -28,14 +29,13 @@ pub returns-in-Read : goal.returns-in-Read
 returns-in-Read c =
     let apart = eqb-false c.args.p c.args.q (sym c.eq.ensures ∙ c.if-eq.false) in
     rw c.in-Read.is
-    (read_last c.requires.kept.sound c.args.p c.args.k c.args.ahead c.args.q apart c.in-Read.register
-    (rw c.in-Read.is at c.requires.at) c.requires.kept.writes (omega arith) (omega arith)
-    (omega arith) c.by_list.result (rw c.number_of.ensures.value at c.by_list.ensures))
+    (list_last c.requires.kept.sound c.requires.kept.writes c.args.q _ (omega arith) (omega arith) (omega arith) c.args.p c.args.k c.args.ahead _
+    (rw c.in-Read.is at c.requires.at) apart (sought_by_read c.in-Read.register) c.by_list.result (rw c.number_of.ensures.value at c.by_list.ensures))
 
 pub returns-in-Write : goal.returns-in-Write
 returns-in-Write c =
     let apart = eqb-false c.args.p c.args.q (sym c.eq.ensures ∙ c.if-eq.false) in
     rw c.in-Write.is
-    (write_last c.requires.kept.sound c.args.p c.args.k c.args.ahead c.args.q apart c.in-Write.register
-    (rw c.in-Write.is at c.requires.at) c.requires.kept.accesses (omega arith) (omega arith) (omega arith)
+    (list_last c.requires.kept.sound c.requires.kept.accesses c.args.q _ (omega arith) (omega arith) (omega arith) c.args.p c.args.k c.args.ahead _
+    (rw c.in-Write.is at c.requires.at) apart (sought_by_write c.in-Write.register)
     c.by_list-in-Write.result (rw c.number_of-in-Write.ensures.value at c.by_list-in-Write.ensures))

@@ -1,15 +1,14 @@
-use Rattle.std.proofs.Common.{◌≡◌, suc, slice_index, refl, subst, ap, ◌∙◌, sym, arith}
-use Rattle.cdb_standing.specs.Cuts.{cut_of, HasNoneBehind}
-use Rattle.cdb_standing.specs.Tables.{rows_in}
+use Rattle.std.proofs.Common.{◌≡◌, suc, slice_index, refl, ap, ◌∙◌, sym, arith}
+use Rattle.cdb_standing.specs.Cuts.{cut_of}
 use Rattle.cdb_standing.proofs.CutsFound.{cut_at, lower_sound, lower_closed}
 use Rattle.cdb_standing.proofs.cuts.look_for.Goals as goal
 
 pub returns-then-not-has_none_behind-clause-sound : goal.returns-then-not-has_none_behind-clause-sound
-returns-then-not-has_none_behind-clause-sound c = λ one behind reached was.
+returns-then-not-has_none_behind-clause-sound c =
     let entry = c.args.entry.now in
     lower_sound c.requires.kept.sound
-    c.args.p c.args.k entry.mark entry.kind c.requires.at one behind reached
-    c.args.q c.of_others.result c.of_others.ensures c.args.cuts.now c.lower.new.cuts c.lower.ensures was
+    c.args.p c.args.k entry.mark entry.kind c.requires.at
+    c.args.q c.of_others.result c.of_others.ensures c.args.cuts.now c.lower.new.cuts c.lower.ensures
 
 pub returns-then-not-has_none_behind-clause-closed : goal.returns-then-not-has_none_behind-clause-closed
 returns-then-not-has_none_behind-clause-closed c =
@@ -18,11 +17,8 @@ returns-then-not-has_none_behind-clause-closed c =
     c.args.q c.of_others.result c.of_others.ensures c.args.cuts.now c.lower.new.cuts c.lower.ensures c.requires.own
 
 pub returns-else-not-has_none_behind-clause-closed : goal.returns-else-not-has_none_behind-clause-closed
-returns-else-not-has_none_behind-clause-closed c =
-    let t = c.args.tables.now in
+returns-else-not-has_none_behind-clause-closed c = λ b j other d.
     let cuts = c.args.cuts.now in
     let e : suc c.index.result ≡ c.args.q = omega arith in
     let is : slice_index cuts c.index.result ≡ cut_of cuts c.args.q = sym (cut_at cuts c.index.result) ∙ ap (cut_of cuts) e in
-    let none : HasNoneBehind (rows_in t.steps.items) c.args.q (cut_of cuts c.args.q) c.args.entry.now.mark =
-    subst (λ cut. HasNoneBehind (rows_in t.steps.items) c.args.q cut c.args.entry.now.mark) is (c.if-not-has_none_behind.ensures refl) in
-    λ b j other dependent. none j b other dependent.stands dependent.later
+    rw (← is) (c.if-not-has_none_behind.ensures refl j b other d.effect d.later)

@@ -25,6 +25,6 @@ loop-next-preserved c =
 pub returns : goal.returns
 returns c =
     let t = c.args.tables.now in
-    nothing_left (rows_in t.steps.items) (rows_in t.sent.items) c.requires.sound.processes
+    nothing_left (rows_in t.steps.items) (rows_in t.sent.items) c.requires.sound.processes c.requires.sound
     (all_from c.args.cuts.now (rows_in t.steps.items) (rows_in t.sent.items)) c.loop-next.from
     c.loop-next.found.items c.in_default.ensures.none c.loop-next.invariant.same

@@ -1,7 +1,4 @@
-use Rattle.std.proofs.Common.{sym, ◌∙◌, subst}
-use Rattle.cdb_causal.specs.Names.{IsNewName}
-use Rattle.cdb_standing.specs.Recorded.{IsCountOf, IsZeroWhereFree}
-use Rattle.cdb_standing.specs.Tables.{rows_in}
+use Rattle.std.proofs.Common.{◌∙◌}
 use Rattle.cdb_standing.proofs.Beside.{history_seen}
 use Rattle.cdb_standing.proofs.DirectCounts.{counted, counted_free}
 use Rattle.cdb_standing.proofs.records.Records.count_of.Goals as goal
@@ -9,33 +6,24 @@ use Rattle.cdb_standing.proofs.records.Records.count_of.Goals as goal
 pub returns-in_ok-to_vec-in-Some-clause-count : goal.returns-in_ok-to_vec-in-Some-clause-count
 returns-in_ok-to_vec-in-Some-clause-count g c =
     let listed = c.deref.ensures.value ∙ c.in_ok-to_vec-in-Some.ensures in
-    subst (λ h. IsCountOf h c.args.name c.count_direct.result) (history_seen (rows_in c.self.inside.left.items) c.self.inside.history c.self.view_is)
+    rw (← history_seen _ _ c.self.view_is)
     (counted c.self.inside.history c.args.name c.in-Some.at (rw c.in-Some.is at c.in_ok-at.ensures) c.count_direct.result (rw listed at c.count_direct.ensures))
 
 pub returns-in_ok-to_vec-in-Some-clause-free : goal.returns-in_ok-to_vec-in-Some-clause-free
 returns-in_ok-to_vec-in-Some-clause-free g c =
     let listed = c.deref.ensures.value ∙ c.in_ok-to_vec-in-Some.ensures in
-    subst (λ h. IsZeroWhereFree h c.args.name c.count_direct.result) (history_seen (rows_in c.self.inside.left.items) c.self.inside.history c.self.view_is)
+    rw (← history_seen _ _ c.self.view_is)
     (counted_free c.self.inside.history c.args.name c.in-Some.at (rw c.in-Some.is at c.in_ok-at.ensures)
     c.count_direct.result (rw listed at c.count_direct.ensures))
 
 pub returns-in_ok-to_vec-in-Some-clause-none : goal.returns-in_ok-to_vec-in-Some-clause-none
 returns-in_ok-to_vec-in-Some-clause-none g c =
-    λ new.
-    let here = subst (λ h. IsNewName h c.args.name) (sym (history_seen (rows_in c.self.inside.left.items) c.self.inside.history c.self.view_is)) new in
-    let at = rw c.in-Some.is at c.in_ok-at.ensures in
-    absurd (here c.in-Some.at at.named)
+    let at = rw c.in-Some.is at c.in_ok-at.ensures in rw (← history_seen _ _ c.self.view_is) (λ new. absurd (new c.in-Some.at at.named))
 
 pub returns-in-None-clause-count : goal.returns-in-None-clause-count
 returns-in-None-clause-count g c =
-    let new =
-    subst (λ h. IsNewName h c.args.name) (history_seen (rows_in c.self.inside.left.items) c.self.inside.history c.self.view_is)
-    (rw c.in-None.is at c.in_ok-at.ensures) in
-    λ at named. absurd (new at named)
+    let new = rw c.in-None.is at c.in_ok-at.ensures in rw (← history_seen _ _ c.self.view_is) (λ at named. absurd (new at named))
 
 pub returns-in-None-clause-free : goal.returns-in-None-clause-free
 returns-in-None-clause-free g c =
-    let new =
-    subst (λ h. IsNewName h c.args.name) (history_seen (rows_in c.self.inside.left.items) c.self.inside.history c.self.view_is)
-    (rw c.in-None.is at c.in_ok-at.ensures) in
-    λ at named. absurd (new at named)
+    let new = rw c.in-None.is at c.in_ok-at.ensures in rw (← history_seen _ _ c.self.view_is) (λ at named. absurd (new at named))

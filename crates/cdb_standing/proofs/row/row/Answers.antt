@@ -1,0 +1,8 @@
+use Rattle.std.proofs.Common.{◌≡◌, suc, ◌+◌, sym, ◌∙◌, arith}
+use Rattle.cdb_standing.proofs.RowUpdates.{row_at}
+use Rattle.cdb_standing.proofs.row.row.Goals as goal
+
+pub returns : goal.returns
+returns g c =
+    let e : c.args.i + 1 ≡ suc c.args.i = omega arith in
+    rw e (c.deref.ensures.value ∙ sym (row_at c.args.table.now.items c.args.i c.index.result.now c.requires c.index.ensures))
