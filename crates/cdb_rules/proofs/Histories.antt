@@ -1,5 +1,5 @@
 -- What follows for histories from that independent events commute.
-use Rattle.std.proofs.Common.{arith, ◌≡◌, ℕ, List, [], ◌∷◌, ◌++◌, Some, option_and_then, IsSome, refl, ap, subst, sym, ◌∙◌}
+use Rattle.std.proofs.Common.{arith, ◌≡◌, ℕ, List, [], ◌∷◌, ◌++◌, Some, IsSome, refl, subst, sym, ◌∙◌}
 use Rattle.std.proofs.lemmas.Grind.{common_steps}
 use Rattle.std.proofs.lemmas.Option.{gets}
 use Rattle.cdb_base.specs.Positions.{nth}
@@ -26,11 +26,6 @@ module _ {L : Type 0} (machine : Machine L) where
   undo_valid history at event stands free valid =
       reached_front_some (after machine) (start machine) (without history at) (event ∷ []) (subst IsSome (sym (fold_free history at event stands free)) valid)
 
-  undo_redo : (history : List Event) (at : ℕ) (event : Event) → nth history at ≡ Some event → IsFree depends history at
-      → option_and_then (λ state. after machine state event) (fold machine (without history at)) ≡ fold machine history
-  undo_redo history at event stands free =
-      sym (reached_push (after machine) (start machine) (without history at) event) ∙ fold_free history at event stands free
-
   pub reached_state : (history : List Event) → IsValid machine history → fold machine history ≡ Some (state_of machine history)
   reached_state history valid = grind (arith, common_steps, gets)
 
@@ -38,9 +33,9 @@ module _ {L : Type 0} (machine : Machine L) where
   pub undo_again : (history : List Event) (at : ℕ) (event : Event) → nth history at ≡ Some event → IsFree depends history at
       → IsValid machine history → after machine (state_of machine (without history at)) event ≡ Some (state_of machine history)
   undo_again history at event stands free valid =
-      sym (ap (option_and_then (λ state. after machine state event)) (reached_state (without history at) (undo_valid history at event stands free valid)))
-      ∙ undo_redo history at event stands free
-      ∙ reached_state history valid
+      let left = without history at in
+      rw (reached_state left (undo_valid history at event stands free valid)) at
+      (sym (reached_push (after machine) (start machine) left event) ∙ fold_free history at event stands free ∙ reached_state history valid)
 
   pub undo_enabled : (history : List Event) (at : ℕ) (event : Event) → nth history at ≡ Some event
       → IsFree depends history at → IsValid machine history → IsEnabled machine (state_of machine (without history at)) event

@@ -13,7 +13,6 @@ pub mod Numbers
 pub mod WorkedSteps
 -- what is refused, and what is enabled
 pub mod Granted
-pub mod Enabled
 pub mod Planned
 pub mod Again
 pub mod Acts

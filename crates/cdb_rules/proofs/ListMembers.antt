@@ -1,8 +1,9 @@
 -- What stands in lists that are made of others.
+use Rattle.std.proofs.lemmas.Bool.{cases_Bool, or_parts}
 use Rattle.std.proofs.lemmas.Grind.{common_steps}
 use Rattle.std.proofs.lemmas.Option.{gets}
-use Rattle.std.proofs.Common.{◌≡◌, ℕ, suc, ◌<◌, ◌≤◌, Bool, true, false, ◌||◌, ◌⊎◌, inl, inr, ⊎_elim, List, [], ◌∷◌, ◌++◌, Some}
-use Rattle.std.proofs.Common.{length, take, map, filter, cond, slice_get, refl, sym, ap, ◌∙◌, subst, true≢false, arith}
+use Rattle.std.proofs.Common.{◌≡◌, ℕ, suc, ◌<◌, Bool, true, false, ◌⊎◌, inl, inr, ⊎_elim, List, [], ◌∷◌, ◌++◌, Some, length, take, map, filter, cond, slice_get}
+use Rattle.std.proofs.Common.{refl, sym, ap, ◌∙◌, arith}
 use Rattle.std.specs.List.{list_any, flat_map}
 use Rattle.cdb_causal.specs.Exchange.{IsIn, here, there}
 use Rattle.cdb_rules.proofs.NamedEvents.{in_cases}
@@ -12,14 +13,12 @@ module _ {E : Type 0} where
   nothing_in x i = elim i [ ]
 
   pub position_in : (x : E) (xs : List E) → IsIn x xs → (k : ℕ) × (slice_get xs k ≡ Some x)
-  position_in x [] i = absurd (nothing_in x i)
-  position_in x (y ∷ ys) here = (0, refl)
-  position_in x (y ∷ ys) (there i) = let position = position_in x ys i in (suc position.0, position.1)
+  position_in x _ here = (0, refl)
+  position_in x _ (there {rest = xs} i) = let position = position_in x xs i in (suc position.0, position.1)
 
   pub in_front : (x : E) (xs ys : List E) → IsIn x xs → IsIn x (xs ++ ys)
-  in_front x [] ys i = absurd (nothing_in x i)
-  in_front x (z ∷ xs) ys here = here
-  in_front x (z ∷ xs) ys (there i) = there (in_front x xs ys i)
+  in_front x _ ys here = here
+  in_front x _ ys (there {rest = xs} i) = there (in_front x xs ys i)
 
   pub in_back : (x : E) (xs ys : List E) → IsIn x ys → IsIn x (xs ++ ys)
   in_back x [] ys i = i
@@ -32,56 +31,43 @@ module _ {E : Type 0} where
 
   module _ (test : E → Bool) where
     pub in_filter : (x : E) (xs : List E) → IsIn x xs → test x ≡ true → IsIn x (filter test xs)
-    in_filter x [] i holds = absurd (nothing_in x i)
-    in_filter x (y ∷ ys) i holds =
-        ⊎_elim
-        (λ same. subst (λ b. IsIn x (cond b (y ∷ filter test ys) (filter test ys)))
-        (sym (ap test (sym same) ∙ holds)) (subst (λ z. IsIn x (z ∷ filter test ys)) same here))
-        (λ later. let rest = in_filter x ys later holds in
-        elim (test y) as (λ b. IsIn x (cond b (y ∷ filter test ys) (filter test ys))) [ true ↦ there rest | false ↦ rest ])
-        (in_cases x y ys i)
+    in_filter x _ here holds = rw holds here
+    in_filter x _ (there {other = y} {rest = ys} i) holds =
+        let rest = in_filter x ys i holds in
+        elim (test y) as (λ b. IsIn x (cond b (y ∷ filter test ys) (filter test ys))) [ true ↦ there rest | false ↦ rest ]
 
     pub from_filter : (x : E) (xs : List E) → IsIn x (filter test xs) → IsIn x xs × (test x ≡ true)
     from_filter x [] i = absurd (nothing_in x i)
     from_filter x (y ∷ ys) i =
-        elim (test y) as (λ b. test y ≡ b → IsIn x (cond b (y ∷ filter test ys) (filter test ys)) → IsIn x (y ∷ ys) × (test x ≡ true)) [
-          | true ↦ λ e j.
-              ⊎_elim
-              (λ same. (subst (λ z. IsIn x (z ∷ ys)) same here, ap test same ∙ e))
+        elim (cases_Bool (test y)) [
+          | inl e ↦ ⊎_elim
+              (λ same. rw same (here, e))
               (λ later. let rest = from_filter x ys later in (there rest.0, rest.1))
-              (in_cases x y (filter test ys) j)
-          | false ↦ λ e j. let rest = from_filter x ys j in (there rest.0, rest.1)
-        ] refl i
+              (in_cases x y (filter test ys) (rw e at i))
+          | inr e ↦ let rest = from_filter x ys (rw e at i) in (there rest.0, rest.1)
+        ]
 
     pub filter_none : (xs : List E) → ((x : E) → IsIn x xs → test x ≡ false) → filter test xs ≡ []
     filter_none [] none = refl
-    filter_none (x ∷ xs) none = ap (λ b. cond b (x ∷ filter test xs) (filter test xs)) (none x here) ∙ filter_none xs (λ y i. none y (there i))
-
-    or_false : (a b : Bool) → (a || b) ≡ false → (a ≡ false) × (b ≡ false)
-    or_false true b h = absurd (true≢false h)
-    or_false false b h = (refl, h)
+    filter_none (x ∷ xs) none = rw (none x here) (filter_none xs (λ y i. none y (there i)))
 
     pub any_none : (xs : List E) → list_any test xs ≡ false → (x : E) → IsIn x xs → test x ≡ false
     any_none [] none x i = absurd (nothing_in x i)
     any_none (y ∷ ys) none x i =
-        let parts = or_false (test y) (list_any test ys) none in
+        let parts = or_parts (test y) (list_any test ys) none in
         ⊎_elim (λ same. ap test same ∙ parts.0) (any_none ys parts.1 x) (in_cases x y ys i)
 
   -- a list up to a position, with what stands there
   pub get-take : (xs : List E) (j k : ℕ) → k < j → slice_get (take j xs) k ≡ slice_get xs k
   get-take xs j k below = grind (arith, common_steps, gets)
 
-  pub get_up_to : (xs : List E) (j : ℕ) (x : E) → slice_get xs j ≡ Some x → (k : ℕ) → k ≤ j → slice_get (take j xs ++ x ∷ []) k ≡ slice_get xs k
-  get_up_to xs j x at k last = grind (arith, common_steps, gets)
-
   pub length_up_to : (xs : List E) (j : ℕ) (x : E) → slice_get xs j ≡ Some x → length (take j xs) ≡ j
   length_up_to xs j x at = grind (arith, common_steps, gets)
 
 module _ {A B : Type 0} where
   pub in_map : (f : A → B) (x : A) (xs : List A) → IsIn x xs → IsIn (f x) (map f xs)
-  in_map f x [] i = absurd (nothing_in x i)
-  in_map f x (y ∷ ys) here = here
-  in_map f x (y ∷ ys) (there i) = there (in_map f x ys i)
+  in_map f x _ here = here
+  in_map f x _ (there {rest = ys} i) = there (in_map f x ys i)
 
   pub from_map : (f : A → B) (z : B) (xs : List A) → IsIn z (map f xs) → (x : A) × IsIn x xs × (f x ≡ z)
   from_map f z [] i = absurd (nothing_in z i)
@@ -92,9 +78,8 @@ module _ {A B : Type 0} where
       (in_cases z (f x) (map f xs) i)
 
   pub in_flat : (f : A → List B) (a : A) (xs : List A) (x : B) → IsIn a xs → IsIn x (f a) → IsIn x (flat_map f xs)
-  in_flat f a [] x i j = absurd (nothing_in a i)
-  in_flat f a (y ∷ ys) x here j = in_front x (f a) (flat_map f ys) j
-  in_flat f a (y ∷ ys) x (there i) j = in_back x (f y) (flat_map f ys) (in_flat f a ys x i j)
+  in_flat f a _ x (here {rest = ys}) j = in_front x (f a) (flat_map f ys) j
+  in_flat f a _ x (there {other = y} {rest = ys} i) j = in_back x (f y) (flat_map f ys) (in_flat f a ys x i j)
 
   pub from_flat : (f : A → List B) (xs : List A) (x : B) → IsIn x (flat_map f xs) → (a : A) × IsIn a xs × IsIn x (f a)
   from_flat f [] x i = absurd (nothing_in x i)

@@ -1,26 +1,21 @@
 -- The own events of a process, as the state has them, are its steps as the history alone tells them.
-use Rattle.std.proofs.Common.{arith, ◌≡◌, ℕ, ◌+◌, length, replicate, slice_get, true, false, cond, List, [], ◌∷◌, ◌++◌, Option, Some, None}
-use Rattle.std.proofs.Common.{filter, option_map, unwrap_or, ◌==◌, if◌then◌else◌, refl, sym, ap, ap₂, ◌∙◌, subst, append-nil, append_assoc}
+use Rattle.std.proofs.Common.{arith, ◌≡◌, ℕ, List, [], ◌∷◌, ◌++◌, Some, filter, refl, sym, ap, ap₂, ◌∙◌, subst, append-nil, append_assoc}
 use Rattle.std.proofs.lemmas.Grind.{common_steps}
 use Rattle.std.proofs.lemmas.Option.{gets, same_Some}
 use Rattle.cdb_base.specs.Event.{is_step_of}
-use Rattle.cdb_base.specs.Positions.{nth}
-use Rattle.cdb_base.specs.Registers.{same_register, same_register-true}
+use Rattle.cdb_base.specs.Registers.{same_register-true}
 use Rattle.cdb_base.specs.declared.event.Event.{Event}
 use Rattle.cdb_base.specs.declared.event.Event.TheVariants.{Step, Lost}
 use Rattle.cdb_base.specs.declared.event.Kind.{Kind}
-use Rattle.cdb_base.specs.declared.event.Kind.TheVariants.{Query, Send, Recv, Read, Write, Local, Learn, Crash}
 use Rattle.cdb_base.specs.declared.register.Reg.{Reg}
-use Rattle.cdb_causal.specs.Effects.{kind_affects}
-use Rattle.cdb_register.specs.Registers.{register_of, fresh_register, fresh_registers}
 use Rattle.cdb_rules.specs.OwnSteps.{no_writes, writes_with, writes_met, as_own_events, own_steps, own_of}
-use Rattle.cdb_rules.specs.State.{Machine, OwnEvent, ProcessState, RunState, start}
+use Rattle.cdb_rules.specs.State.{Machine, OwnEvent, RunState, start}
 use Rattle.cdb_rules.specs.Step.{after, fold}
 use Rattle.cdb_rules.proofs.Stages.{own_event, sight_in}
 use Rattle.cdb_rules.proofs.Commutes.{lost_from}
-use Rattle.cdb_rules.proofs.Kept.{process_kept, register_kept, nat_eq-is, nat_eq-ne}
-use Rattle.cdb_rules.proofs.Members.{Reaches, first_step, nth-fresh}
-use Rattle.cdb_rules.proofs.Numbers.{of_register, writes_of, write_counts}
+use Rattle.cdb_rules.proofs.Kept.{process_kept, register_kept}
+use Rattle.cdb_rules.proofs.Members.{Reaches, first_step, nth-fresh, start_unwritten}
+use Rattle.cdb_rules.proofs.Numbers.{writes_of, write_counts}
 use Rattle.cdb_rules.proofs.Taken.{IsTaken, taken_from}
 
 -- what is noted depends on the counts of the registers alone
@@ -32,36 +27,14 @@ noted_same writes others same events = grind (arith, common_steps, gets)
 abbrev steps_behind : (Reg → ℕ) → ℕ → List Event → List OwnEvent
 steps_behind writes p events = filter (λ own. is_step_of p own.event) (as_own_events writes events)
 
-fresh_at : (n i : ℕ) → of_register (slice_get (replicate n fresh_register) i) ≡ 0
-fresh_at n i = grind (arith, common_steps, gets)
-
--- nobody has written at the start
-fresh_writes : (n : ℕ) (register : Reg) → of_register (register_of (fresh_registers n) register) ≡ 0
-fresh_writes n register = grind (arith, common_steps, gets)
-
 module _ {L : Type 0} (machine : Machine L) where
   module _ (state to : RunState L) (p k : ℕ) (kind : Kind) (t : IsTaken machine state p k kind to) where
     -- how many writes stand after the step
     writes_after_step : (register : Reg) → writes_of to register ≡ writes_with (writes_of state) (Step p k kind) register
-    writes_after_step register = by_kind kind refl
-      where
-        kept : kind_affects p kind (Read register) ≡ false → writes_of to register ≡ writes_of state register
-        kept h = ap of_register (register_kept machine state to p k kind t register h)
-
-        by_kind : (other : Kind) → kind ≡ other → writes_of to register ≡ writes_with (writes_of state) (Step p k other) register
-        by_kind (Write x) is =
-            elim (same_register x register) as
-            (λ b. same_register x register ≡ b → writes_of to register ≡ (if b then writes_of state register + 1 else writes_of state register)) [
-              | true ↦ λ e. write_counts machine state to p k kind t register (is ∙ ap Write (same_register-true x register e))
-              | false ↦ λ e. kept (ap (λ y. kind_affects p y (Read register)) is ∙ e)
-            ] refl
-        by_kind (Query leader) is = kept (ap (λ y. kind_affects p y (Read register)) is)
-        by_kind (Send m) is = kept (ap (λ y. kind_affects p y (Read register)) is)
-        by_kind (Recv s m) is = kept (ap (λ y. kind_affects p y (Read register)) is)
-        by_kind (Read x) is = kept (ap (λ y. kind_affects p y (Read register)) is)
-        by_kind Local is = kept (ap (λ y. kind_affects p y (Read register)) is)
-        by_kind Learn is = kept (ap (λ y. kind_affects p y (Read register)) is)
-        by_kind Crash is = kept (ap (λ y. kind_affects p y (Read register)) is)
+    writes_after_step register =
+        let counts = write_counts machine state to p k kind t in
+        let kept = register_kept machine state to p k kind t register in
+        grind (arith, common_steps, gets, same_register-true)
 
     -- what the step met
     met_is : (own_event p k kind (sight_in state p kind)).writes_before ≡ writes_met (writes_of state) (Step p k kind)
@@ -85,15 +58,9 @@ module _ {L : Type 0} (machine : Machine L) where
       let later =
       ap (filter (λ (own : OwnEvent). is_step_of p own.event))
       (noted_same (writes_of next) (writes_with (writes_of state) (Step q k kind)) (writes_after_step state next q k kind t) events) in
-      elim (q == p) as (λ b. (q == p) ≡ b → own_of next p ++ steps_behind (writes_of next) p events ≡ own_of state p ++ cond b (stands state next q k kind t
-      ∷ steps_behind (writes_with (writes_of state) (Step q k kind)) p events) (steps_behind (writes_with (writes_of state) (Step q k kind)) p events)) [
-        | true ↦ λ e.
-            ap₂ (λ own steps. own ++ steps)
-            (subst (λ i. own_of next i ≡ own_of state i ++ stands state next q k kind t ∷ []) (nat_eq-is q p e) (own_joins state next q k kind t)) later
-            ∙ append_assoc (own_of state p) (stands state next q k kind t ∷ []) (steps_behind (writes_with (writes_of state) (Step q k kind)) p events)
-        | false ↦ λ e. ap₂ (λ o steps. unwrap_or (option_map (λ (process : ProcessState L). process.own) o) [] ++ steps)
-            (process_kept machine state next q k kind t p (nat_eq-ne q p e)) later
-      ] refl
+      let kept = process_kept machine state next q k kind t p in
+      let joins = own_joins state next q k kind t in
+      grind (arith, common_steps, gets, append_assoc)
 
   -- what the events add to the own lists
   own_lists : (events : List Event) (state to : RunState L) → Reaches machine state events to
@@ -104,19 +71,11 @@ module _ {L : Type 0} (machine : Machine L) where
       own_lists events s.0 to s.2 p ∙ one_more state s.0 event events s.1 p
 
   start_own : (p : ℕ) → own_of (start machine) p ≡ []
-  start_own p = by_process (nth (start machine).processes p) (λ process at. ap (λ (x : ProcessState L). x.own) (sym (nth-fresh machine p process at).1))
-    where
-      by_process : (o : Option (ProcessState L)) → ((process : ProcessState L) → o ≡ Some process → process.own ≡ [])
-          → unwrap_or (option_map (λ (process : ProcessState L). process.own) o) [] ≡ []
-      by_process None fresh = refl
-      by_process (Some process) fresh = fresh process refl
-
-  start_writes : (register : Reg) → writes_of (start machine) register ≡ no_writes register
-  start_writes register = fresh_writes (if machine.has_registers then length machine.firsts else 0) register
+  start_own p = grind (arith, common_steps, gets, nth-fresh machine p)
 
   -- the own events in the state that a history reaches
   pub own_of_history : (history : List Event) (to : RunState L) → fold machine history ≡ Some to → (p : ℕ) → own_of to p ≡ own_steps p history
   own_of_history history to h p =
       own_lists history (start machine) to h p
       ∙ ap₂ (λ own events. own ++ filter (λ (e : OwnEvent). is_step_of p e.event) events)
-      (start_own p) (noted_same (writes_of (start machine)) no_writes start_writes history)
+      (start_own p) (noted_same (writes_of (start machine)) no_writes (start_unwritten machine) history)

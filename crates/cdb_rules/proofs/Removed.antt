@@ -1,9 +1,9 @@
 -- What undo and rollback take out of a history is missing from it.
 use Rattle.std.proofs.lemmas.Grind.{common_steps}
 use Rattle.std.proofs.lemmas.Option.{gets, none-some, same_Some}
-use Rattle.std.proofs.Common.{◌≡◌, ℕ, zero, suc, ◌+◌, ◌≤◌, Bool, true, false, cond, List, [], ◌∷◌, ◌++◌, length}
-use Rattle.std.proofs.Common.{Option, Some, None, Result, Ok, Err, reverse, find, refl, sym, subst, arith}
-use Rattle.std.specs.List.{AllByRecursion, position}
+use Rattle.std.proofs.Common.{◌≡◌, ℕ, zero, suc, ◌+◌, ◌≤◌, Bool, true, false, cond, List, [], ◌∷◌, ◌++◌, length, Some, Result, Ok, Err, reverse, refl, sym, ap}
+use Rattle.std.proofs.Common.{subst, arith}
+use Rattle.std.specs.List.{AllByRecursion}
 use Rattle.std.proofs.lemmas.List.{length-reverse, reverse-append}
 use Rattle.cdb_base.specs.Positions.{nth}
 use Rattle.cdb_base.specs.declared.event.Event.{Event}
@@ -12,40 +12,8 @@ use Rattle.cdb_base.specs.declared.refusal.Refusal.{Refusal}
 use Rattle.cdb_causal.specs.Dependence.{depends}
 use Rattle.cdb_causal.specs.Rollback.{without, rolled_back, remaining, depends_on_one, dependents, independents}
 use Rattle.cdb_rules.proofs.Alls.{all-append}
-use Rattle.cdb_rules.specs.Undo.{Found, is_named, names_processes, found_at, event_named, undo_of, rollback_of, result_alone, number_removed}
-
-option_cases : {A : Type 0} (G : Type 0) (o : Option A) → (o ≡ None → G) → ((a : A) → o ≡ Some a → G) → G
-option_cases G None none some = none refl
-option_cases G (Some a) none some = some a refl
-
-result_cases : {A : Type 0} (G : Type 0) (r : Result A Refusal) → ((a : A) → r ≡ Ok a → G) → ((why : Refusal) → r ≡ Err why → G) → G
-result_cases G (Ok a) ok err = ok a refl
-result_cases G (Err why) ok err = err why refl
-
-bool_cases : (G : Type 0) (b : Bool) → (b ≡ true → G) → (b ≡ false → G) → G
-bool_cases G true holds fails = holds refl
-bool_cases G false holds fails = fails refl
-
-ok_same : {A : Type 0} (a b : A) → (let r : Result A Refusal = Ok a in r) ≡ Ok b → a ≡ b
-ok_same a b h = cc
-
--- what is found stands where it was found
-abbrev IsAt : List Event → Found → Type 0
-IsAt history found = nth history found.position ≡ Some found.event
-
-at-position : (history : List Event) (position : ℕ) (found : Found) → found_at history position ≡ Ok found → IsAt history found
-at-position history position found h =
-    option_cases (IsAt history found) (nth history position)
-    (λ none. let f : found_at history position ≡ Ok found → IsAt history found = rw none (λ k. absurd (cc)) in f h)
-    (λ event some. let f : found_at history position ≡ Ok found → IsAt history found = rw some (λ k. subst (IsAt history) (ok_same _ found k) some) in f h)
-
-standing-at : (n : ℕ) (history : List Event) (name : StepId) (found : Found) → event_named n history name ≡ Ok found → IsAt history found
-standing-at n history name found h =
-    bool_cases (IsAt history found) (names_processes n name)
-    (λ named. option_cases (IsAt history found) (position (is_named name) history)
-    (λ none. let f : event_named n history name ≡ Ok found → IsAt history found = rw (named, none) (λ k. absurd (cc)) in f h)
-    (λ i some. let f : event_named n history name ≡ Ok found → IsAt history found = rw (named, some) (λ k. at-position history (suc i) found k) in f h))
-    (λ unnamed. let f : event_named n history name ≡ Ok found → IsAt history found = rw unnamed (λ k. absurd (cc)) in f h)
+use Rattle.cdb_rules.proofs.WhereOk.{undone_free, rolled_back_where_ok}
+use Rattle.cdb_rules.specs.Undo.{undo_of, rollback_of, result_alone, number_removed}
 
 module _ (P : Event → Type 0) where
   -- the events that went and those that are left are those that stood, in number and in what is true of each
@@ -77,14 +45,14 @@ module _ (P : Event → Type 0) where
 
   rolled-parted : (history : List Event) (at : ℕ) → Parted history (rolled_back depends history at) (remaining depends history at)
   rolled-parted history zero = dependents-parted [] history
-  rolled-parted [] (suc zero) = record { count = refl; gone = λ all. tt; left = λ all. tt }
-  rolled-parted [] (suc (suc i)) = record { count = refl; gone = λ all. tt; left = λ all. tt }
   rolled-parted (x ∷ xs) (suc zero) =
       let rest = dependents-parted (x ∷ []) xs in
       record { count = omega (arith, rest.count); gone = λ all. (all.0, rest.gone all.1); left = λ all. rest.left all.1 }
   rolled-parted (x ∷ xs) (suc (suc i)) =
       let rest = rolled-parted xs (suc i) in
       record { count = omega (arith, rest.count); gone = λ all. rest.gone all.1; left = λ all. (all.0, rest.left all.1) }
+  rolled-parted [] (suc zero) = record { count = refl; gone = λ all. tt; left = λ all. tt }
+  rolled-parted [] (suc (suc i)) = record { count = refl; gone = λ all. tt; left = λ all. tt }
 
   all-reverse : (events : List Event) → AllByRecursion P events → AllByRecursion P (reverse events)
   all-reverse [] all = tt
@@ -93,33 +61,18 @@ module _ (P : Event → Type 0) where
   pub undone-parted : (n : ℕ) (history : List Event) (name : StepId) (undone : Event × List Event)
       → undo_of n history name ≡ Ok undone → Parted history (undone.0 ∷ []) undone.1
   undone-parted n history name undone h =
-      result_cases (Parted history (undone.0 ∷ []) undone.1) (event_named n history name)
-      (λ found is. option_cases (Parted history (undone.0 ∷ []) undone.1) (find (depends found.event) found.later)
-      (λ none. let f : undo_of n history name ≡ Ok undone → Parted history (undone.0 ∷ []) undone.1 =
-      rw (is, none) (λ k. subst (λ (u : Event × List Event). Parted history (u.0 ∷ []) u.1) (ok_same _ undone k)
-      (without-parted history found.position found.event (standing-at n history name found is)))
-      in
-      f h)
-      (λ dependent some. let f : undo_of n history name ≡ Ok undone → Parted history (undone.0 ∷ []) undone.1 = rw (is, some) (λ k. absurd (cc)) in f h))
-      (λ why is. let f : undo_of n history name ≡ Ok undone → Parted history (undone.0 ∷ []) undone.1 = rw is (λ k. absurd (cc)) in f h)
+      let u = undone_free n history name undone.0 undone.1 h in rw u.4 (without-parted history u.0 undone.0 u.2)
 
   pub rolled_back-parted : (n : ℕ) (history : List Event) (name : StepId) (removed : List Event × List Event)
       → rollback_of n history name ≡ Ok removed → Parted history removed.0 removed.1
   rolled_back-parted n history name removed h =
-      result_cases (Parted history removed.0 removed.1) (event_named n history name)
-      (λ found is. let f : rollback_of n history name ≡ Ok removed → Parted history removed.0 removed.1 =
-      rw is (λ k. subst (λ (r : List Event × List Event). Parted history r.0 r.1) (ok_same _ removed k) (turned found.position)) in
-      f h)
-      (λ why is. let f : rollback_of n history name ≡ Ok removed → Parted history removed.0 removed.1 = rw is (λ k. absurd (cc)) in f h)
-    where
-      turned : (at : ℕ) → Parted history (reverse (rolled_back depends history at)) (remaining depends history at)
-      turned at =
-          let parted = rolled-parted history at in
-          record {
-            count = omega (arith, parted.count, length-reverse (rolled_back depends history at));
-            gone = λ all. all-reverse (rolled_back depends history at) (parted.gone all);
-            left = parted.left;
-          }
+      let u = rolled_back_where_ok n history name removed.0 removed.1 h in
+      let parted = rolled-parted history u.0 in
+      record {
+        count = omega (arith, parted.count, length-reverse (rolled_back depends history u.0), ap length u.4, ap length u.5);
+        gone = λ all. subst (AllByRecursion P) (sym u.4) (all-reverse (rolled_back depends history u.0) (parted.gone all));
+        left = λ all. subst (AllByRecursion P) (sym u.5) (parted.left all);
+      }
 
 -- a rollback removes one event at least
 pub removed-one : (n : ℕ) (history : List Event) (name : StepId) (removed : List Event × List Event)

@@ -1,8 +1,7 @@
 -- Histories that reach the same state are equal up to exchange.
 use Rattle.std.proofs.lemmas.Grind.{common_steps}
 use Rattle.std.proofs.lemmas.Option.{gets}
-use Rattle.std.proofs.Common.{◌≡◌, ℕ, Bool, true, false, ◌||◌, ◌⊎◌, inl, inr, ⊎_elim, List, [], ◌∷◌}
-use Rattle.std.proofs.Common.{Some, nat_eq, refl, sym, ap, ap₂, ◌∙◌, subst, true≢false, lt_irrefl, arith}
+use Rattle.std.proofs.Common.{◌≡◌, ℕ, true, ◌⊎◌, inl, inr, ⊎_elim, List, Some, refl, sym, ◌∙◌, subst, arith}
 use Rattle.cdb_base.specs.declared.event.Event.{Event}
 use Rattle.cdb_base.specs.declared.event.Event.TheVariants.{Step, Lost}
 use Rattle.cdb_base.specs.declared.event.Kind.{Kind}
@@ -15,47 +14,37 @@ use Rattle.cdb_message.specs.Mail.{is_lost}
 use Rattle.cdb_rules.specs.Mail.{mail_of}
 use Rattle.cdb_rules.specs.State.{Machine, OwnEvent, RunState, start}
 use Rattle.cdb_rules.specs.Step.{fold}
-use Rattle.cdb_rules.proofs.Kept.{nat_eq-is}
 use Rattle.cdb_rules.proofs.Members.{IsOrdered, member, ordered, own_comes, lost_comes, start_counted, start_empty, start_unlost}
 use Rattle.cdb_rules.proofs.Numbers.{own_at}
-use Rattle.cdb_rules.proofs.Taken.{both}
-
-or_cases : (a b : Bool) → (a || b) ≡ true → (a ≡ true) ⊎ (b ≡ true)
-or_cases true b h = inl refl
-or_cases false b h = inr h
 
 -- what sends a message is the send of that number, what receives it the receive
 
 pub receives_it : (s m : ℕ) (kind : Kind) → receives s m kind ≡ true → kind ≡ Recv s m
-receives_it s m (Recv t n) h = let q = both (nat_eq s t) (nat_eq m n) h in ap₂ Recv (sym (nat_eq-is s t q.0)) (sym (nat_eq-is m n q.1))
-receives_it s m _ h = absurd (true≢false (sym h))
+receives_it s m kind h = grind (arith, common_steps, gets)
 
 pub sends_it : (s m p : ℕ) (kind : Kind) → sends s m p kind ≡ true → (p ≡ s) × (kind ≡ Send m)
-sends_it s m p (Send n) h = let q = both (nat_eq p s) (nat_eq n m) h in (nat_eq-is p s q.0, ap Send (nat_eq-is n m q.1))
-sends_it s m p _ h = absurd (true≢false (sym h))
+sends_it s m p kind h = grind (arith, common_steps, gets)
 
 -- of two events of a list, the one stands before the other, or they are one
 pub stand_apart : (x y : Event) (events : List Event) → IsIn x events → IsIn y events → IsBefore x y events ⊎ ((x ≡ y) ⊎ IsBefore y x events)
-stand_apart x y [] i j = elim i [ ]
-stand_apart x y (e ∷ es) here here = inr (inl refl)
-stand_apart x y (e ∷ es) here (there j) = inl (here j)
-stand_apart x y (e ∷ es) (there i) here = inr (inr (here i))
-stand_apart x y (e ∷ es) (there i) (there j) =
+stand_apart x y _ here here = inr (inl refl)
+stand_apart x y _ here (there j) = inl (here j)
+stand_apart x y _ (there i) here = inr (inr (here i))
+stand_apart x y _ (there {rest = es} i) (there j) =
     ⊎_elim (λ b. inl (there b)) (⊎_elim (λ s. inr (inl s)) (λ b. inr (inr (there b)))) (stand_apart x y es i j)
 
 module _ {L : Type 0} (machine : Machine L) where
   module _ (to : RunState L) where
-    pub step_loss_not_both : (p k : ℕ) (kind : Kind) (copy : CopyName)
-        → depends (Step p k kind) (Lost copy) ≡ true → IsOrdered machine to (Lost copy) (Step p k kind) → ⊥
-    step_loss_not_both p k kind copy first second = grind (arith, common_steps, gets)
+    -- no event depends on a loss before it
+    pub loss_not_linked : (copy : CopyName) (effect : Event) → depends (Lost copy) effect ≡ true → IsOrdered machine to (Lost copy) effect → ⊥
+    loss_not_linked copy effect linked order = grind (arith, common_steps, gets)
 
     -- two events that depend on each other cannot stand in both orders
     not_both_orders : (x y : Event) → depends x y ≡ true → IsOrdered machine to x y → IsOrdered machine to y x → ⊥
     not_both_orders x y first second third = grind (arith, common_steps, gets)
 
     once_ordered : (event : Event) → IsOrdered machine to event event → ⊥
-    once_ordered (Step p k kind) o = lt_irrefl k (o.numbers refl)
-    once_ordered (Lost copy) o = o refl
+    once_ordered event o = grind (arith, common_steps, gets)
 
   -- each event of a valid history is there once
   pub once : (events : List Event) (to : RunState L) → fold machine events ≡ Some to → IsEachOnce events
@@ -79,9 +68,7 @@ module _ {L : Type 0} (machine : Machine L) where
             let w = o.writes register one two in
             (w.0, w.1, shown.own p k ∙ w.2, shown.own q l ∙ w.3, w.4, w.5);
       }
-  also_ordered to other shown (Step p k kind) (Lost copy) o = o
-  also_ordered to other shown (Lost copy) (Step q l kind') o = o
-  also_ordered to other shown (Lost copy) (Lost copy') o = o
+  also_ordered to other shown _ _ o = o
 
   module _ (events others : List Event) (to other : RunState L) (shown : ShowTheSame to other)
       (h : fold machine events ≡ Some to) (g : fold machine others ≡ Some other) where

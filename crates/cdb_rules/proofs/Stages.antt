@@ -1,6 +1,6 @@
 -- A step in its stages: whether it is due, what it meets, what its machine accepts, and what each part of the state is after it.
-use Rattle.std.specs.Prelude.{ℕ, ◌+◌, Bool, true, not, ◌&&◌, ◌==◌, List, [], ◌∷◌, ◌++◌, length}
-use Rattle.std.specs.Prelude.{Option, None, is_some, option_map, option_to_list, if◌then◌else◌}
+use Rattle.std.specs.Prelude.{ℕ, ◌+◌, Bool, true, not, ◌&&◌, ◌==◌, List, [], ◌∷◌, ◌++◌, length, Option, None, is_some, option_map, option_to_list}
+use Rattle.std.specs.Prelude.{if◌then◌else◌}
 use Rattle.std.specs.FinSet as set
 use Rattle.cdb_base.specs.Positions.{set_nth}
 use Rattle.cdb_base.specs.declared.event.Event.TheVariants.{Step}

@@ -1,13 +1,14 @@
 -- A step that is taken, and what it says of its process and of what it meets.
-use Rattle.std.proofs.Common.{◌≡◌, ℕ, ◌+◌, ◌≤◌, Bool, true, false, not, ◌&&◌, ◌==◌, Option, Some, None, IsSome, option_and_then}
-use Rattle.std.proofs.Common.{option_map, nat_le, if◌then◌else◌, refl, sym, ◌∙◌, true≢false, arith}
-use Rattle.std.proofs.lemmas.Option.{none-some, same_Some}
+use Rattle.std.proofs.Common.{◌≡◌, ℕ, ◌+◌, ◌≤◌, Bool, true, false, ◌&&◌, Option, Some, None, IsSome, option_and_then, option_map, if◌then◌else◌, sym, ◌∙◌}
+use Rattle.std.proofs.Common.{arith}
+use Rattle.std.proofs.lemmas.Grind.{common_steps}
+use Rattle.std.proofs.lemmas.Option.{gets}
 use Rattle.std.proofs.lemmas.Bool.Decides.{nat_tests}
 use Rattle.cdb_base.specs.Positions.{nth}
 use Rattle.cdb_base.specs.declared.event.Event.TheVariants.{Step}
 use Rattle.cdb_base.specs.declared.event.Kind.{Kind}
 use Rattle.cdb_rules.specs.State.{Machine, ProcessState, RunState}
-use Rattle.cdb_rules.specs.Step.{may_step, after}
+use Rattle.cdb_rules.specs.Step.{after}
 use Rattle.cdb_rules.specs.InputsTaken.{Sight, input_of, taken_local}
 use Rattle.cdb_rules.proofs.Tables.{step_in_stages}
 use Rattle.cdb_rules.proofs.Stages.{sight_in, meets, is_due, accepted, state_after}
@@ -15,24 +16,19 @@ use Rattle.cdb_rules.proofs.Stages.{sight_in, meets, is_due, accepted, state_aft
 -- where a choice among options is some
 
 pub mapped : {A B : Type 0} (f : A → B) (o : Option A) (y : B) → option_map f o ≡ Some y → (x : A) × (o ≡ Some x) × (f x ≡ y)
-mapped f None y h = absurd (none-some y h)
-mapped f (Some x) y h = (x, refl, same_Some (f x) y h)
+mapped f o y h = grind (arith, gets)
 
 pub bound : {A B : Type 0} (f : A → Option B) (o : Option A) (y : B) → option_and_then f o ≡ Some y → (x : A) × (o ≡ Some x) × (f x ≡ Some y)
-bound f None y h = absurd (none-some y h)
-bound f (Some x) y h = (x, refl, h)
+bound f o y h = grind (arith, gets)
 
 pub where_true : {A : Type 0} (b : Bool) (o : Option A) (y : A) → (if b then o else None) ≡ Some y → (b ≡ true) × (o ≡ Some y)
-where_true true o y h = (refl, h)
-where_true false o y h = absurd (none-some y h)
+where_true b o y h = grind arith
 
 pub both : (a b : Bool) → (a && b) ≡ true → (a ≡ true) × (b ≡ true)
-both true b h = (refl, h)
-both false b h = absurd (true≢false (sym h))
+both a b h = grind arith
 
 pub some_of : {A : Type 0} (o : Option A) → IsSome o → (a : A) × (o ≡ Some a)
-some_of None h = absurd (true≢false (sym h))
-some_of (Some a) h = (a, refl)
+some_of o h = grind (arith, gets)
 
 module _ {L : Type 0} (machine : Machine L) where
   pub record IsTaken (state : RunState L) (p k : ℕ) (kind : Kind) (to : RunState L) : Type 0 where
@@ -63,36 +59,15 @@ module _ {L : Type 0} (machine : Machine L) where
   pub accepted_parts : (process : ProcessState L) (k : ℕ) (kind : Kind) (around : Sight) (next : L)
       → accepted machine process k kind around ≡ Some next → IsAccepted process k kind around next
   accepted_parts process k kind around next h =
-      let may = may_step machine process.progress k in
-      let alive = process.progress.alive in
-      let going = not (machine.done process.progress.local) in
-      let number = k == process.progress.steps + 1 in
-      let all =
-      where_true (may && is_due machine process kind && meets kind around)
-      (taken_local machine.next process.progress.local (input_of kind around)) next h in
-      let met = both (may && is_due machine process kind) (meets kind around) all.0 in
-      let due = both may (is_due machine process kind) met.0 in
-      let limit = both (alive && going && number) (nat_le k 9999) due.0 in
-      let counted = both (alive && going) number limit.0 in
       record {
-        alive = (both alive going counted.0).0;
-        going = not_done (machine.done process.progress.local) (both alive going counted.0).1;
-        number = is_number k (process.progress.steps + 1) counted.1;
-        limit = is_limit k limit.1;
-        due = due.1;
-        met = met.1;
-        takes = all.1;
+        alive = grind (arith, common_steps, gets);
+        going = grind (arith, common_steps, gets);
+        number = grind (arith, common_steps, gets, nat_tests);
+        limit = grind (arith, common_steps, gets, nat_tests);
+        due = grind (arith, common_steps, gets);
+        met = grind (arith, common_steps, gets);
+        takes = grind (arith, common_steps, gets);
       }
-    where
-      not_done : (b : Bool) → not b ≡ true → b ≡ false
-      not_done true h = absurd (true≢false (sym h))
-      not_done false h = refl
-
-      is_number : (a b : ℕ) → (a == b) ≡ true → a ≡ b
-      is_number a b h = grind (arith, nat_tests)
-
-      is_limit : (a : ℕ) → nat_le a 9999 ≡ true → a ≤ 9999
-      is_limit a h = grind (arith, nat_tests)
 
   pub parts : (state to : RunState L) (p k : ℕ) (kind : Kind) (t : IsTaken state p k kind to) → IsAccepted t.process k kind (sight_in state p kind) t.next
   parts state to p k kind t = accepted_parts t.process k kind (sight_in state p kind) t.next t.accepts

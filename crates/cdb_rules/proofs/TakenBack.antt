@@ -1,8 +1,11 @@
 -- What was just taken can be undone, what is undone can be taken again, and what stands in the way of an undo.
-use Rattle.std.proofs.Common.{◌≡◌, ◌↔◌, ℕ, suc, List, [], ◌∷◌, ◌++◌, length, Result, Ok, Err, IsOk, IfOk, IsSome}
-use Rattle.std.proofs.Common.{option_and_then, reverse, append-nil, refl, sym, ap, ◌∙◌, subst, true≢false}
+use Rattle.std.proofs.Common.{◌≡◌, ◌↔◌, ℕ, suc, List, [], ◌∷◌, ◌++◌, length, Result, Ok, Err, Some, arith, IsOk, IfOk, IsSome, reverse, append-nil, refl, sym}
+use Rattle.std.proofs.Common.{ap, ◌∙◌, subst}
 use Rattle.std.proofs.lemmas.List.{reverse-reverse}
+use Rattle.std.proofs.lemmas.Grind.{common_steps}
+use Rattle.std.proofs.lemmas.Option.{gets}
 use Rattle.cdb_base.specs.Event.{event_name}
+use Rattle.cdb_base.specs.Positions.{nth}
 use Rattle.cdb_base.specs.declared.event.Event.{Event}
 use Rattle.cdb_base.specs.declared.name.StepId.{StepId}
 use Rattle.cdb_base.specs.declared.refusal.Refusal.{Refusal}
@@ -25,28 +28,26 @@ use Rattle.cdb_rules.proofs.Histories.{reached_state}
 use Rattle.cdb_rules.proofs.AllStanding.{free_undone, valid_named}
 
 module _ {L : Type 0} (machine : Machine L) (n : ℕ) (number : length machine.firsts ≡ n) (history : List Event) (valid : IsValid machine history) where
+  named_at : (longer : List Event) → IsValid machine longer → (at : ℕ) (event : Event) → nth longer at ≡ Some event
+      → IsEventNamed n longer (event_name event) at event
+  named_at longer is_valid at event stands = rw (← number) (valid_named machine longer is_valid at event stands)
+
   module _ (name : StepId) where
-    free_where_ok : (r : Result (Event × List Event) Refusal) → undo_of n history name ≡ r → IsOk (result_alone r) → IsFreeName history name
-    free_where_ok (Ok done) is ok =
-        let u = undone_free n history name done.0 done.1 is in
-        (u.0, (done.0, u.2, has_name_is name done.0 u.1), u.3)
-    free_where_ok (Err why) is ok = absurd (true≢false (sym ok))
+    done_where_ok : (r : Result (Event × List Event) Refusal) → IsOk (result_alone r) → (done : Event × List Event) × (r ≡ Ok done)
+    done_where_ok r ok = grind (arith, common_steps, gets)
 
     ok_where_free : IsFreeName history name → IsOk (result_alone (undo_of n history name))
-    ok_where_free stands =
-        let i = stands.0 in
-        let event = stands.1.0 in
-        let at = stands.1.1 in
-        let its_name : event_name event ≡ name = stands.1.2 in
-        let named = subst (λ (m : ℕ). IsEventNamed m history (event_name event) i event) number (valid_named machine history valid i event at) in
-        let is = subst (λ (x : StepId). IsEventNamed n history x i event) its_name named in
-        subst (λ (r : Result (Event × List Event) Refusal). IsOk (result_alone r)) (sym (free_undone n history name i event is stands.2)) refl
+    ok_where_free (at, (event, stands, its_name), free) =
+        rw (free_undone n history name at event (rw its_name at (named_at history valid at event stands)) free)
 
     -- an undo is answered Ok exactly where the event stands and no standing event depends on it
     pub undo_ok_free : (result : Result Event Refusal) → result ≡ result_alone (undo_of n history name) → IsOk result ↔ IsFreeName history name
     undo_ok_free result is = (
-      (λ ok. free_where_ok (undo_of n history name) refl (subst IsOk is ok)),
-      (λ stands. subst IsOk (sym is) (ok_where_free stands)),
+      (λ ok.
+          let done = done_where_ok (undo_of n history name) (rw is at ok) in
+          let u = undone_free n history name done.0.0 done.0.1 done.1 in
+          (u.0, (done.0.0, u.2, has_name_is name done.0.0 u.1), u.3)),
+      (λ stands. rw is (ok_where_free stands)),
     )
 
     led_back : (r : Result (Event × List Event) Refusal) → undo_of n history name ≡ r
@@ -55,10 +56,7 @@ module _ {L : Type 0} (machine : Machine L) (n : ℕ) (number : length machine.f
     led_back (Ok done) is =
         let u = undone_back machine n history name done.0 done.1 is valid in
         let led : fold machine (done.1 ++ done.0 ∷ []) ≡ fold machine history =
-        reached_push (after machine) (start machine) done.1 done.0
-        ∙ ap (option_and_then (λ state. after machine state done.0)) (reached_state machine done.1 u.0)
-        ∙ u.1
-        ∙ sym (reached_state machine history valid) in
+        rw (reached_push (after machine) (start machine) done.1 done.0, reached_state machine done.1 u.0, reached_state machine history valid) u.1 in
         (subst IsSome (sym led) valid, led)
     led_back (Err why) is = tt
 
@@ -67,13 +65,7 @@ module _ {L : Type 0} (machine : Machine L) (n : ℕ) (number : length machine.f
         → IfOk result
         (λ event. IsValid machine (left_by history (undo_of n history name) ++ event ∷ [])
         × (fold machine (left_by history (undo_of n history name) ++ event ∷ []) ≡ fold machine history))
-    undo_leads_back result is =
-        subst
-        (λ (r : Result Event Refusal).
-        IfOk r
-        (λ event. IsValid machine (left_by history (undo_of n history name) ++ event ∷ [])
-        × (fold machine (left_by history (undo_of n history name) ++ event ∷ []) ≡ fold machine history)))
-        (sym is) (led_back (undo_of n history name) refl)
+    undo_leads_back result is = rw is (led_back (undo_of n history name) refl)
 
     rolled_again : (r : Result (List Event × List Event) Refusal) → rollback_of n history name ≡ r
         → fold machine (left_by history r ++ reverse (with_removed [] (result_alone r))) ≡ fold machine history
@@ -88,10 +80,7 @@ module _ {L : Type 0} (machine : Machine L) (n : ℕ) (number : length machine.f
   -- an event that is enabled can be taken
   pub valid_push : (event : Event) → IsEnabled machine (state_of machine history) event → IsValid machine (history ++ event ∷ [])
   valid_push event enabled =
-      subst IsSome
-      (sym (reached_push (after machine) (start machine) history event
-      ∙ ap (option_and_then (λ next. after machine next event)) (reached_state machine history valid)))
-      enabled
+      rw (reached_push (after machine) (start machine) history event, reached_state machine history valid) enabled
 
   -- and then be undone, which leaves the history before it
   pub just_taken : (event : Event) → IsEnabled machine (state_of machine history) event
@@ -99,10 +88,8 @@ module _ {L : Type 0} (machine : Machine L) (n : ℕ) (number : length machine.f
   just_taken event enabled =
       let longer = history ++ event ∷ [] in
       let last = suc (length history) in
-      let is = subst (λ (m : ℕ). IsEventNamed m longer (event_name event) last event) number
-      (valid_named machine longer (valid_push event enabled) last event (push_back history event)) in
-      free_undone n longer (event_name event) last event is (last_free depends history event)
-      ∙ ap (λ (left : List Event). let r : Result (Event × List Event) Refusal = Ok (event, left) in r) (without_push_back history event)
+      let is = named_at longer (valid_push event enabled) last event (push_back history event) in
+      rw (free_undone n longer (event_name event) last event is (last_free depends history event), without_push_back history event)
 
 -- a rollback that is granted takes back the event of the name with exactly its consequences
 pub exact_rollback : (run : RunView) (name : StepId) → IsExactRollback run name (after_rollback run name)

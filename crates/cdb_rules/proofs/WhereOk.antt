@@ -1,22 +1,18 @@
 -- What the answer of an undo says.
-use Rattle.std.proofs.Common.{◌≡◌, inl, inr, ℕ, suc, Bool, true, false, List, [], ◌∷◌, ◌++◌, Option, option_map, Some, None, Result}
-use Rattle.std.proofs.Common.{Ok, Err, find, drop, reverse, slice_get, if◌then◌else◌, refl, sym, ap, ap₂, ◌∙◌, subst}
-use Rattle.std.proofs.lemmas.Bool.{cases_Bool}
+use Rattle.std.proofs.Common.{◌≡◌, ℕ, Bool, true, false, List, [], ◌∷◌, ◌++◌, Some, None, Result, Ok, find, drop, reverse, sym, ap, ap₂, ◌∙◌, subst, arith}
+use Rattle.std.proofs.lemmas.Grind.{common_steps}
 use Rattle.std.proofs.lemmas.List.{reverse-reverse}
-use Rattle.std.proofs.lemmas.Option.{none-some, same_Some, get_or_from_slice_get}
+use Rattle.std.proofs.lemmas.Option.{gets}
 use Rattle.std.proofs.lemmas.List.Quantifiers.{position-Some}
-use Rattle.std.specs.List.{AllByRecursion, position}
-use Rattle.std.specs.Option.{option_map_or}
-use Rattle.cdb_base.specs.Event.{event_name}
+use Rattle.std.specs.List.{AllByRecursion}
 use Rattle.cdb_base.specs.Positions.{nth}
 use Rattle.cdb_base.specs.declared.event.Event.{Event}
 use Rattle.cdb_base.specs.declared.name.StepId.{StepId}
 use Rattle.cdb_base.specs.declared.refusal.Refusal.{Refusal}
-use Rattle.cdb_base.specs.declared.refusal.Refusal.TheVariants as refusal
 use Rattle.cdb_causal.specs.Causality.{IsFree}
 use Rattle.cdb_causal.specs.Dependence.{depends}
-use Rattle.cdb_causal.specs.Rollback.{events_before, events_behind, without, remaining, rolled_back}
-use Rattle.cdb_rules.specs.Undo.{Found, position_of, found_at, event_named, for_standing, undo_found, undo_of, rollback_of, names_processes, is_named}
+use Rattle.cdb_causal.specs.Rollback.{events_behind, without, remaining, rolled_back}
+use Rattle.cdb_rules.specs.Undo.{Found, event_named, for_standing, undo_found, undo_of, rollback_of, is_named}
 use Rattle.cdb_rules.specs.State.{Machine}
 use Rattle.cdb_rules.specs.Step.{IsValid, after, fold, state_of}
 use Rattle.cdb_causal.proofs.Walks.{free_behind}
@@ -25,72 +21,34 @@ use Rattle.cdb_rules.proofs.Histories.{undo_valid, undo_again, rollback_valid, r
 -- where none is found, the test holds of none
 all_fail : {E : Type 0} (test : E → Bool) (xs : List E) → find test xs ≡ None → AllByRecursion (λ x. test x ≡ false) xs
 all_fail test [] none = tt
-all_fail test (y ∷ ys) none =
-    elim (cases_Bool (test y)) [
-      | inl e ↦ absurd (none-some y (sym (rw e at none)))
-      | inr e ↦ (e, all_fail test ys (rw e at none))
-    ]
+all_fail test (y ∷ ys) none = grind (arith, common_steps, gets, all_fail test ys)
 
--- the event at a position, with what stood before and came later
-abbrev found : List Event → ℕ → Event → Found
-found history at event = record { event = event; position = at; earlier = events_before history at; later = events_behind history at }
-
-not_ok : {A B : Type 0} (why : Refusal) (done : A) → ◌≡◌ {A = Result A Refusal} (Err why) (Ok done) → B
-not_ok why done h = absurd (cc)
-
-same_Ok : {A : Type 0} (one other : A) → ◌≡◌ {A = Result A Refusal} (Ok one) (Ok other) → one ≡ other
-same_Ok one other h = cc
+both_same : {A B E : Type 0} (a c : A) (b d : B) → (let r : Result (A × B) E = Ok (a, b) in r) ≡ Ok (c, d) → (c ≡ a) × (d ≡ b)
+both_same a c b d is = grind (arith, common_steps)
 
 -- what is answered Ok is the answer for an event of that name that stands
-module _ {A : Type 0} (history : List Event) (name : StepId) (returned : Found → Result A Refusal) (done : A) where
-  abbrev StandsWhereOk : Type 0
-  StandsWhereOk = (at : ℕ) × (event : Event) × (is_named name event ≡ true) × (nth history at ≡ Some event) × (returned (found history at event) ≡ Ok done)
 
-  by_slice : (i : ℕ) → position (is_named name) history ≡ Some i → (o : Option Event) → slice_get history i ≡ o
-      → for_standing (option_map_or (λ event. Ok (found history (suc i) event)) o (Err refusal.NoStep)) returned ≡ Ok done → StandsWhereOk
-  by_slice i there None e h = not_ok refusal.NoStep done h
-  by_slice i there (Some event) e h = (
-    suc i,
-    event,
-    sym (ap (is_named name) (get_or_from_slice_get history i event event e)) ∙ (position-Some (is_named name) history i event there).1,
-    e,
-    h,
-  )
+found_ok : {A : Type 0} (r : Result Found Refusal) (go : Found → Result A Refusal) (done : A) → for_standing r go ≡ Ok done
+    → (found : Found) × (r ≡ Ok found) × (go found ≡ Ok done)
+found_ok r go done h = grind (arith, common_steps, gets)
 
-  by_position : (o : Option ℕ) → position (is_named name) history ≡ o
-      → for_standing (option_map_or (found_at history) (option_map suc o) (Err refusal.NoStep)) returned ≡ Ok done → StandsWhereOk
-  by_position None there h = not_ok refusal.NoStep done h
-  by_position (Some i) there h = by_slice i there (slice_get history i) refl h
+named_found : (n : ℕ) (history : List Event) (name : StepId) (found : Found) → event_named n history name ≡ Ok found
+    → (is_named name found.event ≡ true) × (nth history found.position ≡ Some found.event) × (found.later ≡ events_behind history found.position)
+named_found n history name found h = grind (arith, common_steps, gets, position-Some (is_named name) history)
 
-  by_names : (b : Bool) → for_standing
-      (if b then option_map_or (found_at history) (position_of name history) (Err refusal.NoStep) else Err refusal.NoProcess) returned ≡ Ok done → StandsWhereOk
-  by_names false h = not_ok refusal.NoProcess done h
-  by_names true h = by_position (position (is_named name) history) refl h
-
-  stands_where_ok : (n : ℕ) → for_standing (event_named n history name) returned ≡ Ok done → StandsWhereOk
-  stands_where_ok n h = by_names (names_processes n name) h
-
-module _ (history : List Event) (at : ℕ) (event : Event) (stands : nth history at ≡ Some event) where
-  free_if : find (depends event) (drop at history) ≡ None → IsFree depends history at
-  free_if none = free_behind depends history at event stands (all_fail (depends event) (drop at history) none)
-
-  by_find : (done : Event × List Event) (o : Option Event) → find (depends event) (drop at history) ≡ o
-      → ◌≡◌ {A = Result (Event × List Event) Refusal}
-      (option_map_or (λ dependent. Err (refusal.NeededBy (event_name dependent))) o (Ok (event, without history at))) (Ok done)
-      → (nth history at ≡ Some done.0) × IsFree depends history at × (done.1 ≡ without history at)
-  by_find done (Some dependent) e h = not_ok (refusal.NeededBy (event_name dependent)) done h
-  by_find done None e h =
-      let same : ◌≡◌ {A = Event × List Event} (event, without history at) done = same_Ok (event, without history at) done h in
-      (stands ∙ ap (λ d. Some d.0) same, free_if e, sym (ap (λ d. d.1) same))
+undone_where_ok : (history : List Event) (found : Found) (event : Event) (left : List Event) → undo_found history found ≡ Ok (event, left)
+    → (found.event ≡ event) × (find (depends event) found.later ≡ None) × (left ≡ without history found.position)
+undone_where_ok history found event left h = grind (arith, common_steps, gets)
 
 pub undone_free : (n : ℕ) (history : List Event) (name : StepId) (event : Event) (left : List Event) → undo_of n history name ≡ Ok (event, left)
     → (at : ℕ) × (is_named name event ≡ true) × (nth history at ≡ Some event) × IsFree depends history at × (left ≡ without history at)
 undone_free n history name event left returned =
-    let done : Event × List Event = (event, left) in
-    let s = stands_where_ok history name (undo_found history) done n returned in
-    let u = by_find history s.0 s.1 s.3 done (find (depends s.1) (drop s.0 history)) refl s.4 in
-    let same = same_Some s.1 event (sym s.3 ∙ u.0) in
-    (s.0, subst (λ e. is_named name e ≡ true) same s.2, u.0, u.1, u.2)
+    let s = found_ok (event_named n history name) (undo_found history) (event, left) returned in
+    let is = named_found n history name s.0 s.1 in
+    let u = undone_where_ok history s.0 event left s.2 in
+    let stands = is.1 ∙ ap Some u.0 in
+    let none = all_fail (depends event) (drop s.0.position history) (ap (find (depends event)) (sym is.2) ∙ u.1) in
+    (s.0.position, rw u.0 at is.0, stands, free_behind depends history s.0.position event stands none, u.2)
 
 pub undone_back : {L : Type 0} (machine : Machine L) (n : ℕ) (history : List Event) (name : StepId) (event : Event) (left : List Event)
     → undo_of n history name ≡ Ok (event, left) → IsValid machine history
@@ -104,13 +62,12 @@ pub rolled_back_where_ok : (n : ℕ) (history : List Event) (name : StepId) (rem
     → (at : ℕ) × (event : Event) × (is_named name event ≡ true) × (nth history at ≡ Some event)
     × (removed ≡ reverse (rolled_back depends history at)) × (left ≡ remaining depends history at)
 rolled_back_where_ok n history name removed left returned =
-    let done : List Event × List Event = (removed, left) in
-    let s =
-    stands_where_ok history name
-    (λ standing. Ok (reverse (rolled_back depends history standing.position), remaining depends history standing.position)) done n returned in
-    let same : ◌≡◌ {A = List Event × List Event} (reverse (rolled_back depends history s.0), remaining depends history s.0) done =
-    same_Ok (reverse (rolled_back depends history s.0), remaining depends history s.0) done s.4 in
-    (s.0, s.1, s.2, s.3, sym (ap (λ d. d.0) same), sym (ap (λ d. d.1) same))
+    let taken = λ (found : Found). reverse (rolled_back depends history found.position) in
+    let kept = λ (found : Found). remaining depends history found.position in
+    let s = found_ok (event_named n history name) (λ found. Ok (taken found, kept found)) (removed, left) returned in
+    let is = named_found n history name s.0 s.1 in
+    let same = both_same (taken s.0) removed (kept s.0) left s.2 in
+    (s.0.position, s.0.event, is.0, is.1, same.0, same.1)
 
 pub rolled_back_back : {L : Type 0} (machine : Machine L) (n : ℕ) (history : List Event) (name : StepId) (removed left : List Event)
     → rollback_of n history name ≡ Ok (removed, left) → IsValid machine history
