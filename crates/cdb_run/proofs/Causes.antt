@@ -2,7 +2,7 @@
 use Rattle.std.proofs.lemmas.Grind.{common_steps}
 use Rattle.std.proofs.lemmas.Option.{gets}
 use Rattle.std.proofs.Common.{◌≡◌, ℕ, zero, suc, ◌+◌, ◌<◌, ◌≤◌, true, not, ◌&&◌, ◌==◌, inl, inr, ⊎_elim, List, [], ◌∷◌, ◌++◌, Some, length, take}
-use Rattle.std.proofs.Common.{drop, map, filter, slice_get, if◌then◌else◌, refl, sym, ap, ap₂, ◌∙◌, subst, true≢false, arith}
+use Rattle.std.proofs.Common.{slice_index_or, ◌-◌, drop, map, filter, slice_get, if◌then◌else◌, refl, sym, ap, ap₂, ◌∙◌, subst, true≢false, arith}
 use Rattle.std.proofs.lemmas.Bool.{cases_Bool}
 use Rattle.std.proofs.lemmas.Bool.Decides.{nat_tests}
 use Rattle.std.proofs.lemmas.Option.{none-some, same_Some}
@@ -143,12 +143,7 @@ above low (p ∷ ps) rises q i =
     ⊎_elim (λ e. omega (arith, first, e)) (λ later. let more = above p ps rises.1 q later in omega (arith, first, more)) (in_cases q p ps i)
 
 steps_in_order : (p q : ℕ) (one other : Event) → is_step_of p one ≡ true → is_step_of q other ≡ true → p < q → ComesBefore (event_name one) (event_name other)
-steps_in_order p q (Step r k kind) (Step s l other) of_p of_q less = less_too r s of_p of_q
-  where
-    less_too : (r s : ℕ) → (r == p) ≡ true → (s == q) ≡ true → r < s
-    less_too r s one two = grind (arith, nat_tests)
-steps_in_order p q (Step r k kind) (Lost copy) of_p of_q less = absurd (true≢false (sym of_q))
-steps_in_order p q (Lost copy) other of_p of_q less = absurd (true≢false (sym of_p))
+steps_in_order p q one other of_p of_q less = grind (arith, common_steps, gets)
 
 module _ (events : List Event) where
   abbrev of_process : ℕ → List Event
@@ -188,19 +183,20 @@ processes_rise : Rises 0 all_processes
 unfolding all_processes
 processes_rise = (omega arith, (omega arith, (omega arith, (omega arith, (omega arith, (omega arith, (omega arith, (omega arith, (omega arith, tt)))))))))
 
-is_process : (p : ℕ) → 1 ≤ p → p ≤ 9 → IsIn p all_processes
+pub all_nine : length all_processes ≡ 9
 unfolding all_processes
-is_process zero first last = absurd (omega (arith, first))
-is_process (suc zero) first last = here
-is_process (suc (suc zero)) first last = there here
-is_process (suc (suc (suc zero))) first last = there (there here)
-is_process (suc (suc (suc (suc zero)))) first last = there (there (there here))
-is_process (suc (suc (suc (suc (suc zero))))) first last = there (there (there (there here)))
-is_process (suc (suc (suc (suc (suc (suc zero)))))) first last = there (there (there (there (there here))))
-is_process (suc (suc (suc (suc (suc (suc (suc zero))))))) first last = there (there (there (there (there (there here)))))
-is_process (suc (suc (suc (suc (suc (suc (suc (suc zero)))))))) first last = there (there (there (there (there (there (there here))))))
-is_process (suc (suc (suc (suc (suc (suc (suc (suc (suc zero))))))))) first last = there (there (there (there (there (there (there (there here)))))))
-is_process (suc (suc (suc (suc (suc (suc (suc (suc (suc (suc p)))))))))) first last = absurd (omega (arith, last))
+all_nine = refl
+
+pub process_at : (p : ℕ) → 1 ≤ p → p ≤ 9 → slice_index_or all_processes (p - 1) 0 ≡ p
+unfolding all_processes
+process_at p low high = grind arith
+
+is_process : (p : ℕ) → 1 ≤ p → p ≤ 9 → IsIn p all_processes
+is_process p low high =
+    in_position all_processes (p - 1 + 1) p (process_there (p - 1) p (let nine = all_nine in omega (arith, low, high, nine)) (process_at p low high))
+  where
+    process_there : (i p : ℕ) → i < length all_processes → slice_index_or all_processes i 0 ≡ p → nth all_processes (i + 1) ≡ Some p
+    process_there i p within is = grind (arith, common_steps, gets)
 
 -- Direct causes in a list and in its front.
 

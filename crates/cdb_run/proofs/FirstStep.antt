@@ -13,19 +13,11 @@ use Rattle.cdb_base.specs.declared.refusal.Refusal.TheVariants as refusal
 use Rattle.cdb_rules.specs.Auto.{first_step}
 use Rattle.cdb_run.specs.Plans.{receive_of}
 
-pub without_learning : (step : Act → Result Event Refusal) (pending : Option MsgName) (why why_go why_query : Refusal) → step act.Learn ≡ Err why
-    → receive_of step pending ≡ None → step act.Go ≡ Err why_go → step (act.Query None) ≡ Err why_query → first_step step pending ≡ Err refusal.Idle
-without_learning step pending why why_go why_query learn none go query = grind (arith, common_steps, gets)
-
 pub then_idle : (step : Act → Result Event Refusal) (pending : Option MsgName) (why_go why_query : Refusal) → result_ok (step act.Learn) ≡ None
     → receive_of step pending ≡ None → step act.Go ≡ Err why_go → step (act.Query None) ≡ Err why_query → first_step step pending ≡ Err refusal.Idle
 then_idle step pending why_go why_query learn none go query = grind (arith, common_steps, gets)
 
 -- Where one of them is not.
-
-pub learns : (step : Act → Result Event Refusal) (pending : Option MsgName) (event : Event)
-    → result_ok (step act.Learn) ≡ Some event → first_step step pending ≡ Ok event
-learns step pending event learn = grind (arith, common_steps, gets)
 
 module _ (step : Act → Result Event Refusal) (learn : result_ok (step act.Learn) ≡ None) where
   refused : (why : Refusal) × (step act.Learn ≡ Err why)
@@ -36,9 +28,6 @@ module _ (step : Act → Result Event Refusal) (learn : result_ok (step act.Lear
 
   no_receive : (pending : Option MsgName) → receive_of step pending ≡ None → first_step step pending ≡ first_step step None
   no_receive pending none = grind (arith, common_steps, gets)
-
-  pub goes : (pending : Option MsgName) (event : Event) → receive_of step pending ≡ None → step act.Go ≡ Ok event → first_step step pending ≡ Ok event
-  goes pending event none go = no_receive pending none ∙ rw (refused.1, go) go
 
   pub asks : (pending : Option MsgName) (why : Refusal) (event : Event) → receive_of step pending ≡ None
       → step act.Go ≡ Err why → step (act.Query None) ≡ Ok event → first_step step pending ≡ Ok event

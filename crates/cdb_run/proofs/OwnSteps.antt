@@ -15,6 +15,8 @@ use Rattle.cdb_base.specs.declared.register.Reg.{Reg}
 use Rattle.cdb_causal.specs.Names.{IsNewName}
 use Rattle.cdb_rules.specs.OwnSteps.{no_writes, writes_with, writes_met, as_own_events, own_steps}
 use Rattle.cdb_rules.specs.Runs.{step_name}
+use Rattle.cdb_rules.proofs.ListMembers.{from_filter, position_in}
+use Rattle.cdb_rules.proofs.NamedEvents.{in_position}
 use Rattle.cdb_rules.specs.declared.own_event.OwnEvent.{OwnEvent}
 use Rattle.cdb_standing.specs.Comparisons.{steps_by, AreNumbered, is_write_of, writes_before}
 
@@ -70,16 +72,7 @@ module _ (p : ℕ) where
   -- its events are the steps of the process
   own_events : (writes : Reg → ℕ) (events : List Event) → map (λ (own : OwnEvent). own.event) (own_behind writes events) ≡ steps_by p events
   own_events writes [] = refl
-  own_events writes (x ∷ xs) = by (is_step_of p x) (own_events (writes_with writes x) xs)
-    where
-      own : OwnEvent
-      own = record { event = x; writes_before = writes_met writes x }
-
-      by : (b : Bool) → map (λ (own : OwnEvent). own.event) (own_behind (writes_with writes x) xs) ≡ steps_by p xs
-          → map (λ (own : OwnEvent). own.event) (cond b (own ∷ own_behind (writes_with writes x) xs) (own_behind (writes_with writes x) xs))
-          ≡ cond b (x ∷ steps_by p xs) (steps_by p xs)
-      by true again = ap (λ l. x ∷ l) again
-      by false again = again
+  own_events writes (x ∷ xs) = let again = own_events (writes_with writes x) xs in grind (arith, common_steps, gets)
 
   pub own_length : (history : List Event) → length (own_steps p history) ≡ length (steps_by p history)
   own_length history = sym (length-map (own_steps p history) (λ (own : OwnEvent). own.event)) ∙ ap length (own_events no_writes history)
@@ -88,14 +81,8 @@ module _ (p : ℕ) where
   event_of xs i own at = grind (arith, common_steps, gets)
 
   stands_at : (events : List Event) (i : ℕ) (event : Event) → slice_get (steps_by p events) i ≡ Some event → (j : ℕ) × (slice_get events j ≡ Some event)
-  stands_at [] i event at = absurd (none-some event at)
-  stands_at (x ∷ xs) i event at = by (is_step_of p x) i at (stands_at xs)
-    where
-      by : (b : Bool) (i : ℕ) → slice_get (cond b (x ∷ steps_by p xs) (steps_by p xs)) i ≡ Some event → ((i : ℕ) (event : Event)
-          → slice_get (steps_by p xs) i ≡ Some event → (j : ℕ) × (slice_get xs j ≡ Some event)) → (j : ℕ) × (slice_get (x ∷ xs) j ≡ Some event)
-      by true zero at again = (0, at)
-      by true (suc i) at again = let found = again i event at in (suc found.0, found.1)
-      by false i at again = let found = again i event at in (suc found.0, found.1)
+  stands_at events i event at =
+      position_in event events (from_filter (is_step_of p) event events (in_position (steps_by p events) (suc i) event at)).0
 
   module _ (history : List Event) (numbered : AreNumbered p history) where
     -- the step of that name, with the writes before it

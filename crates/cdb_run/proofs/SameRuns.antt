@@ -1,9 +1,8 @@
 -- Two runs are in the same state where their histories say the same of each process and of what is lost.
 use Rattle.std.proofs.lemmas.Grind.{common_steps}
 use Rattle.std.proofs.lemmas.Option.{gets}
-use Rattle.std.proofs.Common.{◌≡◌, ℕ, zero, suc, ◌-◌, ◌<◌, ◌≤◌, ◌↔◌, Bool, true, List, [], ◌∷◌, length, Some, None, IsTrue}
-use Rattle.std.proofs.Common.{slice_get, slice_index_or, refl, sym, ap, ◌∙◌, subst, ◌⊎◌, ⊎_elim, arith}
-use Rattle.std.proofs.lemmas.List.{length-map}
+use Rattle.std.proofs.Common.{◌≡◌, ℕ, zero, suc, ◌-◌, ◌<◌, ◌≤◌, ◌↔◌, Bool, true, List, [], length, Some, IsTrue}
+use Rattle.std.proofs.Common.{slice_index_or, refl, sym, ap, ◌∙◌, subst, ◌⊎◌, ⊎_elim, arith}
 use Rattle.std.proofs.lemmas.Option.{same_Some}
 use Rattle.cdb_base.specs.Positions.{nth}
 use Rattle.cdb_base.specs.Processes.{all_processes}
@@ -11,70 +10,39 @@ use Rattle.cdb_base.specs.declared.event.Event.{Event}
 use Rattle.cdb_base.specs.declared.event.Event.TheVariants.{Lost}
 use Rattle.cdb_base.specs.declared.name.CopyName.{CopyName}
 use Rattle.cdb_causal.specs.Dependence.{depends}
-use Rattle.cdb_causal.specs.Exchange.{IsExchanged, IsIn, here, there}
+use Rattle.cdb_causal.specs.Exchange.{IsExchanged}
 use Rattle.cdb_message.specs.Mail.{is_lost}
 use Rattle.cdb_rules.specs.Mail.{mail_of}
 use Rattle.cdb_rules.specs.OwnSteps.{own_steps, own_of}
+use Rattle.cdb_run.proofs.Causes.{all_nine, process_at}
+use Rattle.cdb_run.proofs.Held.{reached_sound}
+use Rattle.cdb_run.proofs.Told.{exactly, losses_brought}
 use Rattle.cdb_run.specs.Alike.{AreAlike}
 use Rattle.cdb_standing.specs.Moves.{StandsIn}
-use Rattle.cdb_rules.specs.State.{Machine, RunState, fresh_process, start}
-use Rattle.cdb_rules.specs.Step.{after, fold, IsValid}
-use Rattle.cdb_rules.proofs.FoldKeeps.{reached_keeps}
+use Rattle.cdb_rules.specs.State.{Machine, RunState}
+use Rattle.cdb_rules.specs.Step.{fold, IsValid}
 use Rattle.cdb_rules.proofs.Histories.{fold_exchanged}
-use Rattle.cdb_rules.proofs.Members.{member, lost_comes, start_counted, start_unlost}
-use Rattle.cdb_rules.proofs.NamedEvents.{count_kept, in_position}
 use Rattle.cdb_rules.proofs.Numbers.{own_at}
 use Rattle.cdb_rules.proofs.OwnOfState.{own_of_history}
 use Rattle.cdb_rules.proofs.SameState.{ShowTheSame, shown_exchanged}
 use Rattle.cdb_rules.proofs.Taken.{some_of}
 
-stands : (events : List Event) (event : Event) → IsIn event events → StandsIn events event
-stands events event i = let found = at events i in (suc found.0, found.1)
-  where
-    at : (events : List Event) → IsIn event events → (j : ℕ) × (slice_get events j ≡ Some event)
-    at [] i = elim i [ ]
-    at (x ∷ xs) here = (0, refl)
-    at (x ∷ xs) (there i) = let found = at xs i in (suc found.0, found.1)
-
-is_in : (events : List Event) (event : Event) → StandsIn events event → IsIn event events
-is_in events event (at, stands) = in_position events at event stands
-
 same_bool : (a b : Bool) → (a ≡ true → b ≡ true) → (b ≡ true → a ≡ true) → a ≡ b
 same_bool a b first second = grind (arith, common_steps, gets)
 
-nothing_at : {X : Type 0} (xs : List X) (p : ℕ) → length xs < p → nth xs p ≡ None
-nothing_at xs p beyond = grind (arith, common_steps, gets)
-
 within_or_beyond : (p : ℕ) → (p ≤ 9) ⊎ (9 < p)
 within_or_beyond p = grind arith
-
-all_nine : length all_processes ≡ 9
-unfolding all_processes
-all_nine = refl
-
-at_process : (p : ℕ) → 1 ≤ p → p ≤ 9 → slice_index_or all_processes (p - 1) 0 ≡ p
-unfolding all_processes
-at_process p low high = grind arith
 
 module _ {L : Type 0} (machine : Machine L) where
   own_at-own_of : (state : RunState L) (p k : ℕ) → own_at state p k ≡ nth (own_of state p) k
   own_at-own_of state p k = grind (arith, common_steps, gets)
 
-  -- what the mail has lost was lost in the history
-  lost_in : (history : List Event) (to : RunState L) → fold machine history ≡ Some to
-      → (copy : CopyName) → is_lost (mail_of to) copy ≡ true → IsIn (Lost copy) history
-  lost_in history to h copy is = ⊎_elim (λ old. absurd (start_unlost machine copy old)) (λ i. i) (lost_comes machine history (start machine) to h copy is)
-
-  -- and what was lost there the mail has lost
-  loses : (history : List Event) (to : RunState L) → fold machine history ≡ Some to
-      → (copy : CopyName) → IsIn (Lost copy) history → is_lost (mail_of to) copy ≡ true
-  loses history to h copy i = (member machine history (start machine) to (start_counted machine) h (Lost copy) i).stands
-
-  count_is : (history : List Event) (to : RunState L) → fold machine history ≡ Some to → length to.processes ≡ length machine.firsts
-  count_is history to h =
-      reached_keeps (after machine) (λ (state : RunState L). length state.processes ≡ length machine.firsts)
-      (λ state event next is one. count_kept machine state next event one ∙ is) (start machine) history to
-      (length-map machine.firsts fresh_process) h
+  -- the mail has lost what was lost in the history
+  lost_exactly : (history : List Event) (to : RunState L) → fold machine history ≡ Some to
+      → (copy : CopyName) → (is_lost (mail_of to) copy ≡ true) ↔ StandsIn history (Lost copy)
+  lost_exactly history to h copy =
+      let exact = exactly machine (losses_brought machine copy) history to h in
+      ((λ is. (exact.0 is).1), (λ stands. exact.1 (tt, stands)))
 
   module _ (few : length machine.firsts ≤ 9) (history others : List Event) (to other : RunState L)
       (h : fold machine history ≡ Some to) (g : fold machine others ≡ Some other) where
@@ -88,11 +56,11 @@ module _ {L : Type 0} (machine : Machine L) where
         ⊎_elim
         (λ within.
         own_of_history machine history to h (suc i)
-        ∙ subst (λ p. own_steps p history ≡ own_steps p others) (at_process (suc i) (omega arith) within)
+        ∙ subst (λ p. own_steps p history ≡ own_steps p others) (process_at (suc i) (omega arith) within)
         (alike.0 (suc i - 1) 0 (let nine = all_nine in omega (arith, within, nine)))
         ∙ sym (own_of_history machine others other g (suc i)))
-        (λ beyond. none_beyond to (let count = count_is history to h in omega (arith, count, few)) (suc i) beyond
-        ∙ sym (none_beyond other (let count = count_is others other g in omega (arith, count, few)) (suc i) beyond))
+        (λ beyond. none_beyond to (let count = (reached_sound machine history to h).count in omega (arith, count, few)) (suc i) beyond
+        ∙ sym (none_beyond other (let count = (reached_sound machine others other g).count in omega (arith, count, few)) (suc i) beyond))
         (within_or_beyond (suc i))
 
     shown : AreAlike history others → ShowTheSame machine to other
@@ -100,9 +68,10 @@ module _ {L : Type 0} (machine : Machine L) where
         record {
           own = λ p k. own_at-own_of to p k ∙ ap (λ l. nth l k) (same_own alike p) ∙ sym (own_at-own_of other p k);
           lost = λ copy.
+              let one = lost_exactly history to h copy in
+              let two = lost_exactly others other g copy in
               same_bool (is_lost (mail_of to) copy) (is_lost (mail_of other) copy)
-              (λ is. loses others other g copy (is_in others (Lost copy) ((alike.1 copy).0 (stands history (Lost copy) (lost_in history to h copy is)))))
-              (λ is. loses history to h copy (is_in history (Lost copy) ((alike.1 copy).1 (stands others (Lost copy) (lost_in others other g copy is)))));
+              (λ is. two.1 ((alike.1 copy).0 (one.0 is))) (λ is. one.1 ((alike.1 copy).1 (two.0 is)));
         }
 
     pub alike_exchanged : AreAlike history others → IsExchanged depends history others
@@ -114,10 +83,10 @@ module _ {L : Type 0} (machine : Machine L) where
       λ k p within. let q = slice_index_or all_processes k p in
           sym (own_of_history machine history to h q) ∙ ap (λ state. own_of state q) same ∙ own_of_history machine others other g q,
       λ copy.
-          let one = ap (λ (state : RunState L). is_lost (mail_of state) copy) same in (
-            λ lost. stands others (Lost copy) (lost_in others other g copy (sym one ∙ loses history to h copy (is_in history (Lost copy) lost))),
-            λ lost. stands history (Lost copy) (lost_in history to h copy (one ∙ loses others other g copy (is_in others (Lost copy) lost))),
-          ),
+          let lost = ap (λ (state : RunState L). is_lost (mail_of state) copy) same in
+          let one = lost_exactly history to h copy in
+          let two = lost_exactly others other g copy in
+          ((λ stands. two.0 (sym lost ∙ one.1 stands)), (λ stands. one.0 (lost ∙ two.1 stands))),
     )
 
     alike_folds : AreAlike history others ↔ (fold machine history ≡ fold machine others)

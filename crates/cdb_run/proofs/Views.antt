@@ -1,154 +1,176 @@
--- What the state that is held shows.
+-- What a run shows, by what is held of it and by its view.
 use Rattle.std.proofs.lemmas.Grind.{common_steps}
 use Rattle.std.proofs.lemmas.Option.{gets}
-use Rattle.std.proofs.Common.{◌≡◌, ℕ, ◌+◌, ◌<◌, ◌≤◌, true, false, List, [], ◌∷◌, length, map, Option, Some, None}
-use Rattle.std.proofs.Common.{Result, Ok, Err, option_map, IsSome, get_or, refl, sym, ap, ap₂, ◌∙◌, subst, arith}
+use Rattle.std.proofs.lemmas.Simd.{map-map}
+use Rattle.std.proofs.Common.{◌≡◌, ◌↔◌, ℕ, ◌+◌, ◌≤◌, true, false, List, length, map, Option, Some, None}
+use Rattle.std.proofs.Common.{Result, Ok, Err, IsOk, IfOk, option_map, unwrap_or, get_or, IsSome, refl, sym, ap, ◌∙◌, subst, arith}
 use Rattle.std.proofs.lemmas.List.{length-map}
+use Rattle.std.proofs.lemmas.Option.{none-some, same_Some}
 use Rattle.std.specs.Option.{option_map_or}
 use Rattle.std.specs.Prelude.{IfSome}
-use Rattle.std.proofs.lemmas.Option.{slice_get_read}
 use Rattle.cdb_base.specs.Positions.{nth}
 use Rattle.cdb_base.specs.declared.act.Act.{Act}
 use Rattle.cdb_base.specs.declared.event.Event.{Event}
-use Rattle.cdb_base.specs.declared.event.Event.TheVariants.{Step, Lost}
+use Rattle.cdb_base.specs.declared.event.Event.TheVariants.{Step}
 use Rattle.cdb_base.specs.declared.event.Kind.{Kind}
-use Rattle.cdb_base.specs.declared.name.MsgName.{MsgName}
 use Rattle.cdb_base.specs.declared.refusal.Refusal.{Refusal}
 use Rattle.cdb_base.specs.declared.refusal.Refusal.TheVariants.{NoProcess}
-use Rattle.cdb_message.specs.Mail.{MailState, copy_name}
+use Rattle.cdb_message.specs.Mail.{message_name}
+use Rattle.cdb_process.specs.Table.{Table}
+use Rattle.cdb_rules.specs.Mail.{mail_of}
+use Rattle.cdb_rules.specs.Refusals.{planned, planned_again, IsOfRun}
+use Rattle.cdb_rules.specs.RunView.{RunView}
+use Rattle.cdb_rules.specs.Runs.{machine_in, state_in, process_in, progress_in, mail_in, registers_in, result_of_step, result_of_again}
+use Rattle.cdb_rules.specs.Runs.{result_of_loss, with_event, IsNext, IsJustTaken}
+use Rattle.cdb_rules.specs.State.{Machine, ProcessState, RunState, start}
+use Rattle.cdb_rules.specs.Step.{is_among, fold, state_of}
+use Rattle.cdb_rules.specs.declared.progress.Progress.{Progress}
+use Rattle.cdb_rules.proofs.Again.{again_exact, again_same, lose_enabled}
+use Rattle.cdb_rules.proofs.Bounds.{IsSound, IsBounded}
+use Rattle.cdb_rules.proofs.Planned.{planned_enabled}
+use Rattle.cdb_rules.proofs.Positions.{nth-map}
+use Rattle.cdb_rules.proofs.Taken.{some_of}
+use Rattle.cdb_rules.proofs.TakenBack.{just_taken}
+use Rattle.cdb_run.specs.Current.{Held, IsCurrent}
+use Rattle.cdb_run.specs.Plans.{plan_at, plan_again_at}
+use Rattle.cdb_run.specs.Proper.{IsProper}
+use Rattle.cdb_run.proofs.Held.{machine_each, valid, state_is, reached_sound}
+use Rattle.cdb_setup.proofs.InRange.{answer_in_range}
+use Rattle.cdb_setup.specs.Parts.{IsWithin, answer_of}
 use Rattle.cdb_standing.specs.Recorded.{events_of}
 use Rattle.cdb_standing.specs.declared.recorded.Recorded.{Recorded}
-use Rattle.cdb_register.specs.Registers.{RegisterStates}
-use Rattle.cdb_run.specs.Current.{IsCurrent}
-use Rattle.cdb_rules.specs.Mail.{mail_of}
-use Rattle.cdb_rules.specs.Refusals.{first_refusal, planned, step_result, again_checks, again_result, lose_checks, loss_result, unless_refused}
-use Rattle.cdb_rules.specs.State.{Machine, ProcessState, RunState}
-use Rattle.cdb_rules.specs.Step.{is_among, after, fold, state_of}
-use Rattle.cdb_rules.specs.declared.progress.Progress.{Progress}
-use Rattle.cdb_rules.proofs.Bounds.{IsBounded}
-use Rattle.cdb_run.proofs.Held.{valid, state_is, sound, count_is, process_there, process_absent, progress_at}
-use Rattle.cdb_rules.proofs.Positions.{get_at}
-use Rattle.cdb_rules.proofs.Granted.{IsLawful}
-use Rattle.cdb_rules.proofs.Planned.{planned_enabled}
-use Rattle.cdb_setup.proofs.InRange.{answer_in_range}
-use Rattle.cdb_setup.specs.Parts.{Parts, IsWithin, AreInRange, answer_of}
 
-module _ {L B : Type 0} {machine : Machine L} {before : L → B → L} {processes : List (Progress L)} {mail : MailState} {registers : RegisterStates}
-    {entries : List (Recorded B)} (current : IsCurrent machine before processes mail registers entries) (n : ℕ) (number : length machine.firsts ≡ n) where
-  pub index_below : (i p : ℕ) → i + 1 ≡ p → p ≤ n → i < length processes
-  index_below i p position last = let count = count_is current in omega (arith, position, last, count, number)
+-- By what is held.
+module _ {L B : Type 0} {machine : Machine L} {before : L → B → L} {held : Held L} {entries : List (Recorded B)}
+    (current : IsCurrent machine before held entries) where
+  pub history_valid : IsSome (fold machine (events_of entries))
+  history_valid = subst IsSome (sym (valid current)) refl
 
-  module _ (i p : ℕ) (progress : Progress L) (position : i + 1 ≡ p) (last : p ≤ n) (read : progress ≡ get_or processes i progress) where
-    held : nth processes p ≡ Some progress
-    held = sym (get_at processes i p position) ∙ slice_get_read processes (length processes) i progress refl (index_below i p position last) read
+  pub mail_shown : held.mail ≡ mail_of (state_of machine (events_of entries))
+  mail_shown = ap (λ (h : Held L). h.mail) current.holds ∙ ap mail_of (sym (state_is current))
 
-    process_here : (process : ProcessState L) × (nth current.state.processes p ≡ Some process)
-    process_here = process_there current p (omega (arith, position)) (subst (λ m. p ≤ m) (sym number) last)
+  pub registers_shown : held.registers ≡ (state_of machine (events_of entries)).registers
+  registers_shown = ap (λ (h : Held L). h.registers) current.holds ∙ ap (λ (state : RunState L). state.registers) (sym (state_is current))
 
-    is : progress ≡ process_here.0.progress
-    is = progress_at current p process_here.0 progress process_here.1 held
+  processes_shown : held.processes ≡ map (λ process. process.progress) (state_of machine (events_of entries)).processes
+  processes_shown =
+      ap (λ (h : Held L). h.processes) current.holds
+      ∙ ap (λ (state : RunState L). map (λ (it : ProcessState L). it.progress) state.processes) (sym (state_is current))
 
-    pub progress_shown : option_map (λ process. process.progress) (nth (state_of machine (events_of entries)).processes p) ≡ Some progress
-    progress_shown =
-        ap (λ (state : RunState L). option_map (λ (x : ProcessState L). x.progress) (nth state.processes p)) (state_is current)
-        ∙ ap (option_map (λ (x : ProcessState L). x.progress)) process_here.1
-        ∙ ap Some (sym is)
+  -- each process is there, and no other
+  pub count_is : length held.processes ≡ length machine.firsts
+  count_is =
+      ap length processes_shown ∙ length-map (state_of machine (events_of entries)).processes (λ (x : ProcessState L). x.progress)
+      ∙ (reached_sound machine (events_of entries) _ (valid current ∙ ap Some (sym (state_is current)))).count
 
-    bounded : IsBounded process_here.0
-    bounded = (sound current).bounded p process_here.0 process_here.1
+  pub progress_shown : (p : ℕ) (progress : Progress L) → nth held.processes p ≡ Some progress
+      → option_map (λ process. process.progress) (nth (state_of machine (events_of entries)).processes p) ≡ Some progress
+  progress_shown p progress at =
+      sym (nth-map (λ (it : ProcessState L). it.progress) (state_of machine (events_of entries)).processes p)
+      ∙ ap (λ l. nth l p) (sym processes_shown) ∙ at
 
-    pub steps_shown : progress.steps ≤ 9999
-    steps_shown = subst (λ (x : Progress L). x.steps ≤ 9999) (sym is) bounded.steps
+  -- what each process has come to
+  pub locals_shown : map (λ (progress : Progress L). progress.local) held.processes
+      ≡ map (λ (process : ProcessState L). process.progress.local) (state_of machine (events_of entries)).processes
+  locals_shown =
+      ap (map (λ (progress : Progress L). progress.local)) processes_shown
+      ∙ map-map (λ (progress : Progress L). progress.local) (λ (process : ProcessState L). process.progress) (state_of machine (events_of entries)).processes
 
-    pub queries_shown : progress.queries ≤ 9999
-    queries_shown = let few = bounded.steps in let below = bounded.queries in subst (λ (x : Progress L). x.queries ≤ 9999) (sym is) (omega (arith, few, below))
+-- what stands at the position i from 0
+pub found_there : {A : Type 0} (xs : List A) (i p : ℕ) (x : A) → i + 1 ≡ p → p ≤ length xs → x ≡ get_or xs i x → nth xs p ≡ Some x
+found_there xs i p x position within read = grind (arith, common_steps, gets)
 
-    pub receives_shown : p ≤ length mail.received
-    receives_shown =
-        let count =
-        ap (λ (m : MailState). length m.received) current.mail_is
-        ∙ length-map current.state.processes (λ (x : ProcessState L). x.received) ∙ (sound current).count in
-        omega (arith, count, number, last)
-
-    pub plan_shown : (setup : Parts) (act : Act) (answer : Result Event Refusal) → answer ≡ planned machine setup mail registers progress p act
-        → answer ≡ step_result machine setup (state_of machine (events_of entries)) p act
-    plan_shown setup act answer planned_is =
-        planned_is
-        ∙ ap (λ m. planned machine setup m registers progress p act) current.mail_is
-        ∙ ap₂ (λ r x. planned machine setup (mail_of current.state) r x p act) current.registers_are is
-        ∙ sym (ap (λ o. option_map_or (λ (x : ProcessState L). planned machine setup (mail_of current.state) current.state.registers x.progress p act)
-        o (Err NoProcess)) process_here.1)
-        ∙ ap (λ (state : RunState L). step_result machine setup state p act) (sym (state_is current))
-
-    pub again_shown : (setup : Parts) (k : ℕ) (kind : Kind) (answer : Result Event Refusal)
-        → answer ≡ unless_refused (first_refusal (again_checks machine mail registers progress p k kind)) (Some (Step p k kind))
-        → answer ≡ again_result machine setup (state_of machine (events_of entries)) (Step p k kind)
-    again_shown setup k kind answer planned_is =
-        planned_is
-        ∙ ap (λ m. unless_refused (first_refusal (again_checks machine m registers progress p k kind)) (Some (Step p k kind))) current.mail_is
-        ∙ ap₂ (λ r x. unless_refused (first_refusal (again_checks machine (mail_of current.state) r x p k kind)) (Some (Step p k kind)))
-        current.registers_are is
-        ∙ sym (ap (λ o. option_map_or (λ (x : ProcessState L). unless_refused (first_refusal (again_checks machine
-        (mail_of current.state) current.state.registers x.progress p k kind)) (Some (Step p k kind))) o (Err NoProcess)) process_here.1)
-        ∙ ap (λ (state : RunState L). again_result machine setup state (Step p k kind)) (sym (state_is current))
-
-  pub process_none : (p : ℕ) → is_among n p ≡ false → nth (state_of machine (events_of entries)).processes p ≡ None
-  process_none p none =
-      ap (λ (state : RunState L). nth state.processes p) (state_is current) ∙ process_absent current p (subst (λ m. is_among m p ≡ false) (sym number) none)
-
-map-map : {A B C : Type 0} (f : B → C) (g : A → B) (xs : List A) → map f (map g xs) ≡ map (λ x. f (g x)) xs
-map-map f g [] = refl
-map-map f g (x ∷ xs) = ap (λ l. f (g x) ∷ l) (map-map f g xs)
+absent : {A : Type 0} (xs : List A) (p : ℕ) → is_among (length xs) p ≡ false → nth xs p ≡ None
+absent xs p none = grind (arith, common_steps, gets)
 
 within_among : (n : ℕ) (answer : Option ℕ) → IfSome answer (IsWithin 1 n) → (leader : ℕ) → answer ≡ Some leader → is_among n leader ≡ true
 within_among n answer within leader answered = grind (arith, common_steps, gets)
 
-module _ {L B : Type 0} {machine : Machine L} {before : L → B → L} {processes : List (Progress L)} {mail : MailState}
-    {registers : RegisterStates} {entries : List (Recorded B)} (current : IsCurrent machine before processes mail registers entries) where
-  pub loss_shown : (setup : Parts) (name : MsgName) (p : ℕ) (answer : Result Event Refusal)
-      → answer ≡ unless_refused (first_refusal (lose_checks setup mail name p)) (Some (Lost (copy_name name p)))
-      → answer ≡ loss_result setup (state_of machine (events_of entries)) name p
-  loss_shown setup name p answer planned_is =
-      planned_is
-      ∙ ap (λ m. unless_refused (first_refusal (lose_checks setup m name p)) (Some (Lost (copy_name name p)))) current.mail_is
-      ∙ ap (λ (state : RunState L). loss_result setup state name p) (sym (state_is current))
+-- what is asked of the progress of a process is asked of the process
+module _ {L A : Type 0} (ask : Progress L → A) (none : A) where
+  asked : (process : Option (ProcessState L)) (progress : Progress L) → option_map (λ it. it.progress) process ≡ Some progress
+      → ask progress ≡ option_map_or (λ it. ask it.progress) process none
+  asked None progress shown = absurd (none-some progress shown)
+  asked (Some process) progress shown = ap ask (sym (same_Some process.progress progress shown))
 
-  pub mail_shown : mail ≡ mail_of (state_of machine (events_of entries))
-  mail_shown = current.mail_is ∙ ap mail_of (sym (state_is current))
+-- an answer that is the event, exactly where it can be taken
+ok_is : {E : Type 0} (Holds : Event → Type 0) (event : Event) (answer : Result Event E) → (IsOk answer ↔ Holds event) → IfOk answer (λ it. it ≡ event)
+    → IfOk answer Holds
+ok_is Holds event (Ok it) exact same = subst Holds (sym same) (exact.0 refl)
+ok_is Holds event (Err why) exact same = tt
 
-  pub registers_shown : registers ≡ (state_of machine (events_of entries)).registers
-  registers_shown = current.registers_are ∙ ap (λ (state : RunState L). state.registers) (sym (state_is current))
+-- By its view.
+module _ {L : Type 0} (table : Table L) (run : RunView) (proper : IsProper table run) where
+  abbrev machine : Machine L
+  machine = machine_in table run
 
-  pub history_valid : IsSome (fold machine (events_of entries))
-  history_valid = subst IsSome (sym (valid current)) refl
+  abbrev state : RunState L
+  state = state_in table run
 
-  -- what each process has come to
-  pub progresses_shown : map (λ (progress : Progress L). progress.local) processes
-      ≡ map (λ (process : ProcessState L). process.progress.local) (state_of machine (events_of entries)).processes
-  progresses_shown =
-      ap (map (λ (progress : Progress L). progress.local)) current.processes_are
-      ∙ map-map (λ (progress : Progress L). progress.local) (λ (process : ProcessState L). process.progress) current.state.processes
-      ∙ ap (λ (state : RunState L). map (λ (process : ProcessState L). process.progress.local) state.processes) (sym (state_is current))
+  number : length machine.firsts ≡ run.setup.processes
+  number = machine_each table run.setup proper.ranges
 
-  pub receivers_shown : length mail.received ≡ length machine.firsts
-  receivers_shown =
-      ap (λ (m : MailState). length m.received) current.mail_is
-      ∙ length-map current.state.processes (λ (x : ProcessState L). x.received) ∙ (sound current).count
+  pub view_sound : IsSound machine state
+  view_sound =
+      let reached = some_of (fold machine run.history) proper.in_order in
+      reached_sound machine run.history state (reached.1 ∙ sym (ap Some (ap (λ o. unwrap_or o (start machine)) reached.1)))
 
-module _ {L B : Type 0} {machine : Machine L} {before : L → B → L} {processes : List (Progress L)} {mail : MailState}
-    {registers : RegisterStates} {entries : List (Recorded B)} (current : IsCurrent machine before processes mail registers entries)
-    (setup : Parts) (number : length machine.firsts ≡ setup.processes) (ranges : AreInRange setup) (lawful : IsLawful machine) where
-  -- a step that is not refused is enabled
-  pub result_enabled : (p : ℕ) (act : Act) (event : Event) → step_result machine setup (state_of machine (events_of entries)) p act ≡ Ok event
-      → IsSome (after machine (state_of machine (events_of entries)) event)
-  result_enabled p act event answered =
-      subst (λ (state : RunState L). IsSome (after machine state event)) (sym (state_is current))
-      (go (nth current.state.processes p) refl (sym (ap (λ (state : RunState L). step_result machine setup state p act) (state_is current)) ∙ answered))
+  pub receivers_shown : length (mail_in table run).received ≡ run.setup.processes
+  receivers_shown = length-map state.processes (λ (x : ProcessState L). x.received) ∙ view_sound.count ∙ number
+
+  pub process_none : (p : ℕ) → is_among run.setup.processes p ≡ false → process_in table run p ≡ None
+  process_none p none = absent state.processes p (rw (view_sound.count, number) none)
+
+  -- a process that has come so far
+  module _ (p : ℕ) (progress : Progress L) (shown : progress_in table run p ≡ Some progress) where
+    pub counts_shown : (progress.steps ≤ 9999) × (progress.queries ≤ 9999)
+    counts_shown = by (process_in table run p) shown (λ process at. (view_sound.bounded p process at))
+      where
+        by : (o : Option (ProcessState L)) → option_map (λ it. it.progress) o ≡ Some progress
+            → ((process : ProcessState L) → o ≡ Some process → IsBounded process)
+            → (progress.steps ≤ 9999) × (progress.queries ≤ 9999)
+        by None shown bounded = absurd (none-some progress shown)
+        by (Some process) shown bounded =
+            let few = bounded process refl in
+            let steps = few.steps in
+            let queries = few.queries in
+            subst (λ (x : Progress L). (x.steps ≤ 9999) × (x.queries ≤ 9999)) (same_Some process.progress progress shown)
+            (steps, omega (arith, steps, queries))
+
+    pub plan_shown : (act : Act) → plan_at table run.setup (mail_in table run) (registers_in table run) progress p act ≡ result_of_step table run p act
+    plan_shown act =
+        asked (λ it. planned machine run.setup (mail_in table run) (registers_in table run) it p act) (Err NoProcess) (process_in table run p) progress shown
+
+    pub again_shown : (k : ℕ) (kind : Kind)
+        → plan_again_at table run.setup (mail_in table run) (registers_in table run) progress p k kind ≡ result_of_again table run (Step p k kind)
+    again_shown k kind =
+        asked (λ it. planned_again machine (mail_in table run) (registers_in table run) it p k kind) (Err NoProcess) (process_in table run p) progress shown
+
+  -- an answer that is an event can be taken
+  pub loss_next : (s m p : ℕ) → IfOk (result_of_loss table run s m p) (IsNext table run)
+  loss_next s m p = lose_enabled machine run.setup number refl state (message_name s m) p
+
+  pub just_taken_now : (event : Event) → IsNext table run event → IsJustTaken (with_event run event) event run
+  just_taken_now event next = just_taken machine run.setup.processes number run.history proper.in_order event next
+
+  pub step_next : (p : ℕ) (act : Act) → IfOk (result_of_step table run p act) (IsNext table run)
+  step_next p act = go (process_in table run p) refl
     where
-      go : (o : Option (ProcessState L)) → nth current.state.processes p ≡ o
-          → option_map_or (λ (x : ProcessState L). planned machine setup (mail_of current.state) current.state.registers x.progress p act) o (Err NoProcess)
-          ≡ Ok event → IsSome (after machine current.state event)
-      go None at answered = absurd (cc)
-      go (Some process) at answered =
-          planned_enabled machine setup number current.state p process (within_among setup.processes (answer_of setup p (process.progress.queries + 1))
-          (answer_in_range setup p (process.progress.queries + 1) ranges)) lawful at act event answered
+      if_ok : (answer : Result Event Refusal) → ((event : Event) → answer ≡ Ok event → IsNext table run event) → IfOk answer (IsNext table run)
+      if_ok (Ok event) enabled = enabled event refl
+      if_ok (Err why) enabled = tt
+
+      go : (o : Option (ProcessState L)) → process_in table run p ≡ o → IfOk (result_of_step table run p act) (IsNext table run)
+      go None at = rw at tt
+      go (Some process) at =
+          rw at (if_ok (planned machine run.setup (mail_of state) state.registers process.progress p act)
+          (planned_enabled machine run.setup number state p process
+          (within_among run.setup.processes (answer_of run.setup p (process.progress.queries + 1))
+          (answer_in_range run.setup p (process.progress.queries + 1) proper.ranges)) proper.lawful at act))
+
+  module _ (event : Event) (of_run : IsOfRun run.setup event) where
+    pub again_ok : IsOk (result_of_again table run event) ↔ IsNext table run event
+    again_ok = again_exact machine proper.lawful run.setup number refl state event of_run (result_of_again table run event) refl
+
+    pub again_next : IfOk (result_of_again table run event) (IsNext table run)
+    again_next = ok_is (IsNext table run) event (result_of_again table run event) again_ok (again_same machine run.setup state event)

@@ -9,17 +9,13 @@ use Rattle.cdb_base.specs.declared.event.Event.TheVariants.{Step}
 use Rattle.cdb_base.specs.declared.event.Kind.{Kind}
 use Rattle.cdb_base.specs.Limits.{MAX_STEPS}
 use Rattle.cdb_base.specs.declared.name.MsgName.{MsgName}
-use Rattle.cdb_base.specs.declared.payload.Payload.{Payload}
 use Rattle.cdb_base.specs.declared.refusal.Refusal.{Refusal}
 use Rattle.cdb_base.specs.declared.refusal.Refusal.TheVariants as refusal
-use Rattle.cdb_base.specs.declared.register.Cell.{Cell}
 use Rattle.cdb_message.specs.Mail.{MailState, copy_name, sent_by, is_sent, is_received, is_lost}
 use Rattle.cdb_process.specs.Table.{Table}
-use Rattle.cdb_process.specs.Wishes.{wished_payload, wished_cell}
 use Rattle.cdb_register.specs.Registers.{RegisterStates}
 use Rattle.cdb_rules.specs.Machines.{machine_of}
 use Rattle.cdb_rules.specs.Refusals.{first_refusal, accepts_kind, planned, planned_again, again_checks}
-use Rattle.cdb_rules.specs.InputsTaken.{sight, input_of, taken_local}
 use Rattle.cdb_rules.specs.declared.progress.Progress.{Progress}
 use Rattle.cdb_setup.specs.Parts.{Parts}
 
@@ -62,18 +58,6 @@ step_if_accepted table setup mail registers progress p kind =
     if accepts_kind (machine_of table setup) progress.local (length (sent_by mail p)) registers kind
     then next_step_of progress p kind
     else Err refusal.NotNow
-
--- the local state after a step of that kind, where the machine accepts it
-abbrev pub local_after : {L : Type 0} → Table L → Progress L → MailState → RegisterStates → ℕ → Kind → Option L
-local_after table progress mail registers p kind =
-    taken_local table.next progress.local (input_of kind (sight mail registers p kind))
-
--- the payload that the process would send, and the cell that it would write
-abbrev pub payload_due : {L : Type 0} → Table L → Progress L → Option Payload
-payload_due table progress = wished_payload (table.wish progress.local)
-
-abbrev pub cell_due : {L : Type 0} → Table L → Progress L → Option Cell
-cell_due table progress = wished_cell (table.wish progress.local)
 
 -- the receive of that copy, which is the least pending, where a step of it is not refused
 abbrev pub receive_of : (Act → Result Event Refusal) → Option MsgName → Option Event

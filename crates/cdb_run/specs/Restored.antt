@@ -11,7 +11,7 @@ use Rattle.cdb_run.specs.Back.{put_back}
 use Rattle.cdb_rules.specs.declared.progress.Progress.{Progress}
 use Rattle.cdb_base.specs.Positions.{nth, set_nth}
 use Rattle.cdb_standing.specs.declared.recorded.UndoData.{UndoData}
-use Rattle.cdb_run.specs.declared.state.State.{State}
+use Rattle.cdb_run.specs.Current.{Held}
 
 abbrev pub queries_before : ℕ → Kind → ℕ
 queries_before queries (Query leader) = queries - 1
@@ -61,19 +61,26 @@ IsRestorable registers (Write register) overwritten =
     × ForSome (register_of registers register) (λ stands. 0 < stands.writes) × IsSome overwritten
 IsRestorable registers _ overwritten = Unit {0}
 
--- The state of a run before its last step of a process.
+-- What is held before the last step of a process.
+
+abbrev pub held_before : {L B : Type 0} → (L → B → L) → Held L → ℕ → Kind → Progress L → UndoData B → Held L
+held_before before held p kind progress left =
+    record {
+      processes = set_nth held.processes p (progress_before before progress kind left.back);
+      mail = mail_before held.mail p kind;
+      registers = registers_before held.registers kind left.overwritten;
+    }
 
 -- process p may take back a step of that kind, which overwrote the cell
-pub record MayTakeBack {L : Type 0} (state : State L) (p : ℕ) (kind : Kind) (overwritten : Option Cell) : Type 0 where
-  pub countable : (progress : Progress L) → nth state.processes.items p ≡ Some progress → IsCountable progress kind
-  pub unpostable : IsUnpostable state.mail p kind
-  pub restorable : IsRestorable state.registers kind overwritten
+pub record MayTakeBack {L : Type 0} (held : Held L) (p : ℕ) (kind : Kind) (overwritten : Option Cell) : Type 0 where
+  pub within : p ≤ length held.processes
+  pub countable : (progress : Progress L) → nth held.processes p ≡ Some progress → IsCountable progress kind
+  pub unpostable : IsUnpostable held.mail p kind
+  pub restorable : IsRestorable held.registers kind overwritten
 
 -- it has taken it back, with what it left
-pub record HasTakenBack {L B : Type 0} (before : L → B → L) (old : State L)
-    (p : ℕ) (kind : Kind) (left : UndoData B) (new : State L) : Type 0 where
+pub record HasTakenBack {L B : Type 0} (before : L → B → L) (old : Held L)
+    (p : ℕ) (kind : Kind) (left : UndoData B) (new : Held L) : Type 0 where
   pub progress : Progress L
-  pub stood : nth old.processes.items p ≡ Some progress
-  pub processes : new.processes.items ≡ set_nth old.processes.items p (progress_before before progress kind left.back)
-  pub mail : new.mail ≡ mail_before old.mail p kind
-  pub registers : new.registers ≡ registers_before old.registers kind left.overwritten
+  pub stood : nth old.processes p ≡ Some progress
+  pub after : new ≡ held_before before old p kind progress left

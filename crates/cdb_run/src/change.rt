@@ -1,23 +1,17 @@
 //! What one step changes: its process, the mail and the registers.
 
-ghost use Rattle.std.specs.Prelude.{◌≡◌, ℕ, ◌<◌, ◌≤◌, Some, IsSome, IfOk, OnOk, OnErr};
-ghost use Rattle.cdb_base.specs.Limits.{MAX_STEPS};
+ghost use Rattle.std.specs.Prelude.{◌≡◌, ℕ, OnOk, OnErr};
 ghost use Rattle.cdb_message.specs.Mail.{MailState};
 ghost use Rattle.cdb_register.specs.Registers.{RegisterStates};
-ghost use Rattle.cdb_run.specs.Back.{put_back, overwritten_cell};
-ghost use Rattle.cdb_rules.specs.InputsTaken.{mail_after, IsPostable, sight, arriving, input_of};
-ghost use Rattle.cdb_rules.specs.InputsTaken.{progress_after, registers_after};
+ghost use Rattle.cdb_run.specs.Back.{overwritten_cell};
+ghost use Rattle.cdb_rules.specs.InputsTaken.{mail_after, registers_after, IsPostable, sight, arriving, input_of};
 ghost use Rattle.cdb_process.specs.Wishes.{wished_payload, wished_cell};
-ghost use Rattle.cdb_run.specs.Plans.{local_after, payload_due, cell_due};
-ghost use Rattle.cdb_run.specs.Registers.{IsWritable};
+ghost use Rattle.cdb_run.specs.Stepped.{IsWritable};
 
-use crate::progress::{count, give_back, take_input};
 use cdb_base::{Cell, Kind, MsgName, NoMemory, Payload, Proc};
 use cdb_message::mail::Mail;
 use cdb_process::{Input, Process, Wish};
 use cdb_register::Registers;
-use cdb_rules::Progress;
-use cdb_standing::UndoData;
 use std::alloc::Global;
 
 /// The payload of that message, where it was sent and its copy for process `p` is not lost.
@@ -61,7 +55,7 @@ pub(crate) fn input_at(mail: &Mail, registers: &Registers, p: Proc, kind: &Kind)
 }
 
 /// What a machine wishes for, where a step of that kind sends or writes it.
-fn due<P: Process>(local: &P, kind: &Kind) -> Option<Wish>
+pub(crate) fn due<P: Process>(local: &P, kind: &Kind) -> Option<Wish>
     ensures mail { (mail : MailState) (p : ℕ) →
         mail_after mail p kind.now (wished_payload result)
         ≡ mail_after mail p kind.now (wished_payload (P.table.wish local.now)) }
@@ -80,7 +74,7 @@ fn due<P: Process>(local: &P, kind: &Kind) -> Option<Wish>
 
 /// Sends or receives what a step of process `p` sends or receives.
 #[inline(always)]
-fn post(
+pub(crate) fn post(
     alloc: Global,
     mail: &mut Mail,
     p: Proc,
@@ -103,7 +97,7 @@ fn post(
 }
 
 /// Writes what a step writes, and returns the cell that it overwrote.
-fn write(registers: &mut Registers, kind: &Kind, wish: &Option<Wish>) -> Option<Cell>
+pub(crate) fn write(registers: &mut Registers, kind: &Kind, wish: &Option<Wish>) -> Option<Cell>
     requires { IsWritable registers.old kind.now wish.now }
     ensures after { registers.new
         ≡ registers_after registers.old kind.now (wished_cell wish.now) }
@@ -115,49 +109,4 @@ fn write(registers: &mut Registers, kind: &Kind, wish: &Option<Wish>) -> Option<
         }
         _ => None,
     }
-}
-
-/// Takes a step of process `p`, whose progress is given, with all that it changes. A refused growth
-/// changes nothing.
-pub(crate) fn change<P: Process>(
-    alloc: Global,
-    progress: &mut Progress<P>,
-    mail: &mut Mail,
-    registers: &mut Registers,
-    p: Proc,
-    kind: &Kind,
-) -> Result<UndoData<P::Back>, NoMemory>
-    requires steps { progress.old.steps < MAX_STEPS }
-    requires queries { progress.old.queries ≤ progress.old.steps }
-    requires accepted { IsSome
-        (local_after P.table progress.old mail.old registers.old p kind.now) }
-    requires postable { IsPostable mail.old p kind.now }
-    requires writable { IsWritable registers.old kind.now (P.table.wish progress.old.local) }
-    ensures next { OnOk result
-        (local_after P.table progress.old mail.old registers.old p kind.now
-        ≡ Some progress.new.local) }
-    ensures counted { OnOk result
-        (progress.new ≡ progress_after progress.old kind.now progress.new.local) }
-    ensures mail { OnOk result
-        (mail.new ≡ mail_after mail.old p kind.now (payload_due P.table progress.old)) }
-    ensures registers { OnOk result
-        (registers.new ≡ registers_after registers.old kind.now (cell_due P.table progress.old)) }
-    ensures back { IfOk result
-        (λ left. put_back P.before progress.new.local left.back ≡ progress.old.local) }
-    ensures overwritten { IfOk result
-        (λ left. left.overwritten ≡ overwritten_cell registers.old kind.now) }
-    ensures same_progress { OnErr result (progress.new ≡ progress.old) }
-    ensures same_mail { OnErr result (mail.new ≡ mail.old) }
-    ensures same_registers { OnErr result (registers.new ≡ registers.old) }
-{
-    let wish = due(&progress.local, kind);
-    let input = input_at(mail, registers, p, kind);
-    let back = take_input(alloc, &mut progress.local, input)?;
-    if let Err(refused) = post(alloc, mail, p, kind, &wish) {
-        give_back(&mut progress.local, back);
-        return Err(refused);
-    }
-    count(progress, kind);
-    let overwritten = write(registers, kind, &wish);
-    Ok(UndoData { back, overwritten })
 }

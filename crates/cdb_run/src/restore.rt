@@ -10,10 +10,9 @@ use cdb_message::mail::Mail;
 use cdb_process::Process;
 use cdb_register::Registers;
 use cdb_rules::Progress;
-use cdb_standing::UndoData;
 
 /// Takes a step of that kind out of the counts of its process, and gives back what its input left.
-fn count_back<P: Process>(progress: &mut Progress<P>, kind: &Kind, back: Option<P::Back>)
+pub(crate) fn count_back<P: Process>(progress: &mut Progress<P>, kind: &Kind, back: Option<P::Back>)
     requires { IsCountable progress.old kind.now }
     ensures { progress.new ≡ progress_before P.before progress.old kind.now back }
 {
@@ -26,7 +25,7 @@ fn count_back<P: Process>(progress: &mut Progress<P>, kind: &Kind, back: Option<
 }
 
 /// Takes back what a step of process `p` sent or received.
-fn post_back(mail: &mut Mail, p: Proc, kind: &Kind)
+pub(crate) fn post_back(mail: &mut Mail, p: Proc, kind: &Kind)
     requires { IsUnpostable mail.old p kind.now }
     ensures { mail.new ≡ mail_before mail.old p kind.now }
 {
@@ -38,7 +37,7 @@ fn post_back(mail: &mut Mail, p: Proc, kind: &Kind)
 }
 
 /// Puts back the cell that a step overwrote.
-fn write_back(registers: &mut Registers, kind: &Kind, overwritten: Option<Cell>)
+pub(crate) fn write_back(registers: &mut Registers, kind: &Kind, overwritten: Option<Cell>)
     requires { IsRestorable registers.old kind.now overwritten }
     ensures { registers.new ≡ registers_before registers.old kind.now overwritten }
 {
@@ -46,26 +45,4 @@ fn write_back(registers: &mut Registers, kind: &Kind, overwritten: Option<Cell>)
         (Kind::Write(register), Some(cell)) => registers.restore(register, cell),
         _ => {}
     }
-}
-
-/// Restores all that a step of process `p` changed, whose progress is given. It takes no
-/// memory.
-pub(crate) fn restore_change<P: Process>(
-    progress: &mut Progress<P>,
-    mail: &mut Mail,
-    registers: &mut Registers,
-    p: Proc,
-    kind: &Kind,
-    left: UndoData<P::Back>,
-)
-    requires countable { IsCountable progress.old kind.now }
-    requires unpostable { IsUnpostable mail.old p kind.now }
-    requires restorable { IsRestorable registers.old kind.now left.overwritten }
-    ensures progress { progress.new ≡ progress_before P.before progress.old kind.now left.back }
-    ensures mail { mail.new ≡ mail_before mail.old p kind.now }
-    ensures registers { registers.new ≡ registers_before registers.old kind.now left.overwritten }
-{
-    count_back(progress, kind, left.back);
-    post_back(mail, p, kind);
-    write_back(registers, kind, left.overwritten);
 }

@@ -7,6 +7,7 @@ ghost use Rattle.std.specs.Result.{result_err, result_ok};
 ghost use Rattle.cdb_message.specs.Mail.{next_pending, payload_of, is_lost};
 ghost use Rattle.cdb_rules.specs.Auto.{first_step_in};
 ghost use Rattle.cdb_run.specs.Plans.{receive_of};
+ghost use Rattle.cdb_run.specs.Proper.{IsProper};
 ghost use Rattle.cdb_rules.specs.Refusals.{IsOfRun};
 ghost use Rattle.cdb_rules.specs.Step.{is_among};
 ghost use Rattle.cdb_rules.specs.Runs.{IsNumberAmong, IsNext, IsInOrder, process_in, progress_in, alive_in};
@@ -48,14 +49,14 @@ impl<P: Process> Model for Run<P> {
     ghost use Rattle.cdb_standing.specs.Recorded.{events_of};
     ghost use Rattle.cdb_rules.specs.Machines.{machine_of};
     ghost use Rattle.cdb_rules.specs.RunView.{RunView};
-    ghost use Rattle.cdb_run.specs.Current.{IsCurrent};
+    ghost use Rattle.cdb_run.specs.Current.{IsCurrent, held_in};
 
     ghost Value = { RunView };
 
     ghost view = { λ run. record { setup = run.setup; history = events_of run.records } };
 
-    ghost invariant = { λ run. IsCurrent (machine_of P.table run.setup) P.before
-        run.state.processes.items run.state.mail run.state.registers run.records };
+    ghost invariant = { λ run.
+        IsCurrent (machine_of P.table run.setup) P.before (held_in run.state) run.records };
 }
 
 impl<P: Process> Run<P> {
@@ -71,6 +72,14 @@ impl<P: Process> Run<P> {
             state,
             records,
         })
+    }
+
+    /// What holds of every run. The function does nothing: its contract is the law.
+    #[inline(always)]
+    pub(crate) fn proper(&self)
+        ensures { IsProper P.table self.now }
+    {
+        let _ranges = self.setup.n();
     }
 
     /// Takes an enabled step. A refused growth changes nothing.
@@ -104,11 +113,8 @@ impl<P: Process> Run<P> {
     fn take(&mut self, alloc: Global, event: &Event) -> Result<(), NoMemory>
         requires { IsNext P.table self.old event.now }
         ensures ok { OnOk result (self.new ≡ with_event self.old event.now) }
-        ensures undoable { OnOk result (IsJustTaken self.new event.now self.old) }
         ensures err { OnErr result (self.new ≡ self.old) }
     {
-        let _ranges = self.setup().n();
-        let _valid = self.history();
         match event {
             Event::Step { p, k, kind } => self.take_step(alloc, *p, *k, kind),
             Event::Lost(copy) => self.take_loss(alloc, copy),
@@ -128,10 +134,14 @@ impl<P: Process> Run<P> {
         ensures err { OnErr result (self.new ≡ self.old) }
         ensures memory { OnErr result (IsOk planned) }
     {
-        if let Ok(next) = &planned {
-            self.take(alloc, next)?;
+        self.proper();
+        match planned {
+            Ok(next) => {
+                self.take(alloc, &next)?;
+                Ok(Ok(next))
+            }
+            Err(refusal) => Ok(Err(refusal)),
         }
-        Ok(planned)
     }
 
     /// The process of that number, where the run has it.
@@ -139,7 +149,8 @@ impl<P: Process> Run<P> {
         ensures number { IsNumberAmong self.now.setup.processes p result }
         ensures none { IfNone result (process_in P.table self.now p ≡ None) }
     {
-        process_among(self.setup.n(), p)
+        self.proper();
+        process_among(self.setup().n(), p)
     }
 
     /// How far a process has come.
@@ -156,16 +167,15 @@ impl<P: Process> Run<P> {
         ensures returns { result ≡ result_of_step P.table self.now p act }
         ensures enabled { IfOk result (λ event. IsNext P.table self.now event) }
     {
-        let _ranges = self.setup.n();
+        self.proper();
         let Some(process) = self.process(p) else {
             return Err(Refusal::NoProcess);
         };
-        let progress = &self.state.processes[process.index()];
         plan(
-            &self.setup,
-            &self.state.mail,
-            &self.state.registers,
-            progress,
+            self.setup(),
+            self.mail(),
+            self.registers(),
+            self.progress(process),
             process,
             act,
         )
@@ -284,25 +294,20 @@ impl<P: Process> Run<P> {
     /// What taking an undone event again returns.
     fn plan_again(&self, event: &Event) -> Result<Event, Refusal>
         requires { IsOfRun self.now.setup event.now }
-        ensures returns { result ≡ result_of_again P.table self.now event.now }
-        ensures taken { IsOk result ↔ IsNext P.table self.now event.now }
-        ensures same { IfOk result (λ taken. taken ≡ event.now) }
+        ensures { result ≡ result_of_again P.table self.now event.now }
     {
-        let _ranges = self.setup.n();
+        self.proper();
         match event {
-            Event::Step { p, k, kind } => {
-                let progress = &self.state.processes[p.index()];
-                plan_again(
-                    &self.setup,
-                    &self.state.mail,
-                    &self.state.registers,
-                    progress,
-                    *p,
-                    *k,
-                    kind,
-                )
-            }
-            Event::Lost(copy) => plan_loss_again(&self.setup, &self.state.mail, copy),
+            Event::Step { p, k, kind } => plan_again(
+                self.setup(),
+                self.mail(),
+                self.registers(),
+                self.progress(*p),
+                *p,
+                *k,
+                kind,
+            ),
+            Event::Lost(copy) => plan_loss_again(self.setup(), self.mail(), copy),
         }
     }
 
@@ -323,6 +328,7 @@ impl<P: Process> Run<P> {
         ensures err { OnErr result (self.new ≡ self.old) }
         ensures memory { OnErr result (IsOk (result_of_again P.table self.old event.now)) }
     {
+        self.proper();
         let planned = self.plan_again(event);
         self.take_planned(alloc, planned)
     }
@@ -352,8 +358,8 @@ impl<P: Process> Run<P> {
         ensures returns { result ≡ result_of_loss P.table self.now s m p }
         ensures enabled { IfOk result (λ event. IsNext P.table self.now event) }
     {
-        let _ranges = self.setup.n();
-        plan_loss(&self.setup, &self.state.mail, s, m, p)
+        self.proper();
+        plan_loss(self.setup(), self.mail(), s, m, p)
     }
 
     /// The setup of the run.
@@ -419,7 +425,7 @@ impl<P: Process> Run<P> {
         ensures mail { result.now ≡ mail_in P.table self.now }
         ensures receivers { length result.now.received ≡ self.now.setup.processes }
     {
-        let _ranges = self.setup.n();
+        self.proper();
         &self.state.mail
     }
 

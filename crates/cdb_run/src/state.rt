@@ -1,8 +1,9 @@
 //! What the standing events have made of the processes, of the mail and of the registers.
 
-use crate::change::change;
+use crate::change::{due, input_at, post, write};
 use crate::first::{first_processes, with_registers};
-use crate::restore::restore_change;
+use crate::progress::{count, give_back, take_input};
+use crate::restore::{count_back, post_back, write_back};
 use cdb_base::{Kind, NoMemory, Proc};
 use cdb_message::mail::Mail;
 use cdb_process::Process;
@@ -25,7 +26,8 @@ impl<P: Process> State<P> {
     ghost use Rattle.cdb_message.specs.Mail.{first_mail};
     ghost use Rattle.cdb_register.specs.Registers.{fresh_registers};
     ghost use Rattle.cdb_rules.specs.Machines.{progress_at_start, uses_registers};
-    ghost use Rattle.cdb_run.specs.Stepped.{MayStep, HasStepped, IsSameState};
+    ghost use Rattle.cdb_run.specs.Current.{held_in};
+    ghost use Rattle.cdb_run.specs.Stepped.{MayStep, HasStepped};
     ghost use Rattle.cdb_run.specs.Restored.{MayTakeBack, HasTakenBack};
 
     /// The state of a run of a setup in which nothing has happened.
@@ -54,31 +56,32 @@ impl<P: Process> State<P> {
         p: Proc,
         kind: &Kind,
     ) -> Result<UndoData<P::Back>, NoMemory>
-        requires process { p ≤ length self.old.processes.items }
-        requires may_step { MayStep P.table self.old p kind.now }
+        requires { MayStep P.table (held_in self.old) p kind.now }
         ensures ok { IfOk result
-            (λ left. HasStepped P.table P.before self.old p kind.now left self.new) }
-        ensures err { OnErr result (IsSameState self.old self.new) }
+            (λ left. HasStepped P.table P.before (held_in self.old) p kind.now left (held_in self.new)) }
+        ensures err { OnErr result (held_in self.new ≡ held_in self.old) }
     {
         let progress = &mut self.processes[p.index()];
-        let left = change(
-            alloc,
-            progress,
-            &mut self.mail,
-            &mut self.registers,
-            p,
-            kind,
-        )?;
-        Ok(left)
+        let wish = due(&progress.local, kind);
+        let input = input_at(&self.mail, &self.registers, p, kind);
+        let back = take_input(alloc, &mut progress.local, input)?;
+        if let Err(refused) = post(alloc, &mut self.mail, p, kind, &wish) {
+            give_back(&mut progress.local, back);
+            return Err(refused);
+        }
+        count(progress, kind);
+        let overwritten = write(&mut self.registers, kind, &wish);
+        Ok(UndoData { back, overwritten })
     }
 
     /// Takes back the last step of process `p`, with all that it changed. It takes no memory.
     pub(crate) fn take_back(&mut self, p: Proc, kind: &Kind, left: UndoData<P::Back>)
-        requires process { p ≤ length self.old.processes.items }
-        requires may_take_back { MayTakeBack self.old p kind.now left.overwritten }
-        ensures { HasTakenBack P.before self.old p kind.now left self.new }
+        requires { MayTakeBack (held_in self.old) p kind.now left.overwritten }
+        ensures { HasTakenBack P.before (held_in self.old) p kind.now left (held_in self.new) }
     {
         let progress = &mut self.processes[p.index()];
-        restore_change(progress, &mut self.mail, &mut self.registers, p, kind, left);
+        count_back(progress, kind, left.back);
+        post_back(&mut self.mail, p, kind);
+        write_back(&mut self.registers, kind, left.overwritten);
     }
 }

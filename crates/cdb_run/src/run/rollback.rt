@@ -50,7 +50,7 @@ impl<P: Process> Run<P> {
         ensures memory { OnErr result (IsOk (result_of_rollback self.old name)) }
         ensures capacity { vec_capacity removed.old ≤ vec_capacity removed.new }
     {
-        let _ranges = self.setup().n();
+        self.proper();
         let mut events = self.history().rolled_back(alloc, name)?;
         let number = events.len();
         removed.reserve(number)?;
@@ -107,8 +107,7 @@ impl<P: Process> Run<P> {
         ensures of_run { RemovesOfRun self.old (name_given event) }
         ensures capacity { vec_capacity removed.old ≤ vec_capacity removed.new }
     {
-        let _ranges = self.setup().n();
-        let _valid = self.history();
+        self.proper();
         match self.find(event) {
             Ok(name) => Ok(Ok(self.roll_back(alloc, name, removed)?)),
             Err(refusal) => Ok(Err(refusal)),
@@ -169,7 +168,7 @@ impl<P: Process> Run<P> {
         ensures direct { IfOk result
             (λ causes. AreCausesOf self.now (name_given event) causes.items) }
     {
-        let _ranges = self.setup.n();
+        self.proper();
         let name = self.find(event)?;
         Ok(self.history().direct_causes(alloc, name))
     }

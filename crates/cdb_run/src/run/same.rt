@@ -42,7 +42,8 @@ impl<P: Process> Run<P> {
         ensures exchange { IsTrue result
             ↔ IsExchanged depends self.now.history other.now.history }
     {
-        let _ranges = self.setup().n();
+        self.proper();
+        other.proper();
         are_alike(self.history(), other.history())
     }
 }

@@ -9,7 +9,7 @@ ghost use Rattle.cdb_run.specs.Found.{IsNameGiven, IsFound, IsFoundFree};
 ghost use Rattle.cdb_standing.specs.Moves.{IsTakenOut};
 
 use crate::run::Run;
-use cdb_base::{CopyName, Event, MsgName, Refusal, StepId, StepName};
+use cdb_base::{CopyName, Event, MsgName, Proc, Refusal, StepId, StepName};
 use cdb_process::Process;
 use cdb_rules::EventRef;
 
@@ -18,7 +18,7 @@ impl<P: Process> Run<P> {
     fn name_step(&self, p: u32, k: u32) -> Result<StepId, Refusal>
         ensures { IsNameGiven self.now (step_name p k) result }
     {
-        let _valid = self.history();
+        self.proper();
         let Some(p) = self.process(p) else {
             return Err(Refusal::NoProcess);
         };
@@ -33,7 +33,7 @@ impl<P: Process> Run<P> {
     fn name_loss(&self, s: u32, m: u32, p: u32) -> Result<StepId, Refusal>
         ensures { IsNameGiven self.now (loss_name s m p) result }
     {
-        let _valid = self.history();
+        self.proper();
         let Some(s) = self.process(s) else {
             return Err(Refusal::NoProcess);
         };
@@ -74,13 +74,37 @@ impl<P: Process> Run<P> {
     fn find_free(&self, event: EventRef) -> Result<StepId, Refusal>
         ensures { IsFoundFree self.now (name_given event) result }
     {
-        let _ranges = self.setup().n();
+        self.proper();
         let name = self.find(event)?;
         let asked = name;
         match self.history().first_dependent(asked) {
             Some(dependent) => Err(Refusal::NeededBy(dependent)),
             None => Ok(name),
         }
+    }
+
+    /// Takes the step of that name out, on which none depends, and restores the state before it. It takes no memory.
+    fn restore_step(&mut self, p: Proc, k: u16) -> Event
+        requires { CanUndo self.old (step_name p k) }
+        ensures event { IsTakenOut self.old.history (step_name p k) result self.new.history }
+        ensures setup { self.new.setup ≡ self.old.setup }
+    {
+        let _ranges = self.setup.n();
+        let (kind, left) = self.records.take_step(p, k);
+        self.state.take_back(p, &kind, left);
+        Event::Step { p, k, kind }
+    }
+
+    /// Takes the loss of that copy out, and restores the state before it. It takes no memory.
+    fn restore_loss(&mut self, copy: &CopyName) -> Event
+        requires { CanUndo self.old (StepId.Lost copy.now) }
+        ensures event { IsTakenOut self.old.history (StepId.Lost copy.now) result self.new.history }
+        ensures setup { self.new.setup ≡ self.old.setup }
+    {
+        let _ranges = self.setup.n();
+        self.records.take_loss(*copy);
+        self.state.mail.take_back_lose(copy.to, copy.msg);
+        Event::Lost(*copy)
     }
 
     /// Takes the event of that name out, on which none depends, and restores the state before it. It takes no memory.
@@ -90,20 +114,8 @@ impl<P: Process> Run<P> {
         ensures setup { self.new.setup ≡ self.old.setup }
     {
         match &name {
-            StepId::Step(step) => {
-                let (kind, left) = self.records.take_step(step.p, step.k);
-                self.state.take_back(step.p, &kind, left);
-                Event::Step {
-                    p: step.p,
-                    k: step.k,
-                    kind,
-                }
-            }
-            StepId::Lost(copy) => {
-                self.records.take_loss(*copy);
-                self.state.mail.take_back_lose(copy.to, copy.msg);
-                Event::Lost(*copy)
-            }
+            StepId::Step(step) => self.restore_step(step.p, step.k),
+            StepId::Lost(copy) => self.restore_loss(copy),
         }
     }
 
@@ -117,8 +129,7 @@ impl<P: Process> Run<P> {
         ensures back { IfOk result (λ event. LeadsTo P.table self.new event self.old) }
         ensures of_run { IfOk result (IsOfRun self.old.setup) }
     {
-        let _ranges = self.setup().n();
-        let _valid = self.history();
+        self.proper();
         let name = self.find_free(event)?;
         Ok(self.restore(name))
     }
@@ -127,8 +138,7 @@ impl<P: Process> Run<P> {
     pub fn refuses_undo(&self, event: EventRef) -> Option<Refusal>
         ensures { result ≡ result_err (result_of_undo self.now (name_given event)) }
     {
-        let _ranges = self.setup().n();
-        let _valid = self.history();
+        self.proper();
         match self.find_free(event) {
             Ok(_) => None,
             Err(refusal) => Some(refusal),

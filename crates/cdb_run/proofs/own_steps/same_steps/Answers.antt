@@ -1,4 +1,4 @@
-use Rattle.std.proofs.Common.{◌≡◌, ◌+◌, suc, Bool, true, false, not, length, Option, Some, None, refl, sym, ap, ◌∙◌, true≢false, below_more, arith}
+use Rattle.std.proofs.Common.{◌≡◌, ◌+◌, suc, true, false, not, length, Option, refl, sym, ap, ◌∙◌, true≢false, below_more, arith}
 use Rattle.std.proofs.lemmas.Grind.{common_steps}
 use Rattle.std.specs.Option.{option_eq}
 use Rattle.cdb_base.specs.Positions.{nth}
@@ -12,14 +12,7 @@ sound : (a b : OwnEvent) → compared.ghosts.eq a b ≡ true → a ≡ b
 sound a b h = grind (arith, common_steps)
 
 same_option : (a b : Option OwnEvent) → false ≡ not (option_eq compared.ghosts.eq a b) → a ≡ b
-same_option None None e = refl
-same_option None (Some b) e = absurd (true≢false (sym e))
-same_option (Some a) None e = absurd (true≢false (sym e))
-same_option (Some a) (Some b) e = ap Some (sound a b (by (compared.ghosts.eq a b) e))
-  where
-    by : (x : Bool) → false ≡ not x → x ≡ true
-    by true e = refl
-    by false e = absurd (true≢false (sym e))
+same_option a b e = grind (arith, common_steps, sound)
 
 pub returns-then-steps_of-count : goal.returns-then-steps_of-count
 returns-then-steps_of-count c =

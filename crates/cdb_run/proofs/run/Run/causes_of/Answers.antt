@@ -1,9 +1,7 @@
-use Rattle.std.proofs.Common.{ℕ, ap, subst}
+use Rattle.std.proofs.Common.{ℕ, subst}
 use Rattle.cdb_causal.specs.DirectCauses.{AreDirectCauses}
 use Rattle.cdb_causal.specs.Names.{IsNamedAt}
 use Rattle.cdb_rules.specs.EventRefs.{name_given}
-use Rattle.cdb_rules.specs.RunView.{RunView}
-use Rattle.cdb_setup.specs.Parts.{AreInRange}
 use Rattle.cdb_run.proofs.Found.{causes_result}
 use Rattle.cdb_run.proofs.run.Run.causes_of.Goals as goal
 
@@ -20,5 +18,4 @@ returns-clause-direct g c =
 pub returns-clause-returns : goal.returns-clause-returns
 returns-clause-returns g c =
     let are = returns-clause-direct g c in
-    let ranges = subst AreInRange (ap (λ (s : RunView). s.setup) c.self.view_is) c.n-ranges.ensures.ranges in
-    causes_result g.P.Process.table c.args.self.now ranges c.history.ensures.valid (name_given c.args.event) are.0 are.1 c.direct_causes.result.items are.2
+    causes_result g.P.Process.table c.args.self.now c.proper.ensures (name_given c.args.event) (are.0, are.1) c.direct_causes.result.items are.2

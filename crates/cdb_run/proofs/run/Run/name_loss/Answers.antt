@@ -16,7 +16,7 @@ returns-in_default-try_from g c =
     let receiver = c.in-Some-process.ensures.number in
     let name = loss_name c.args.s c.args.m c.args.p in
     none_named run.history name n (both_among n c.args.s c.args.m c.args.p sender.2 sender.1 receiver.2 receiver.1)
-    (too_great (machine_of g.P.Process.table run.setup) run.history c.history-valid.ensures.valid name (beyond c.args.m c.in_default-try_from.ensures))
+    (too_great (machine_of g.P.Process.table run.setup) run.history c.proper.ensures.in_order name (beyond c.args.m c.in_default-try_from.ensures))
 
 pub returns : goal.returns
 returns g c =

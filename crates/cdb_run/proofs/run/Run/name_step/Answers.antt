@@ -10,7 +10,7 @@ returns-in_default-try_from g c =
     let there = c.in-Some.ensures.number in
     let name = step_name c.args.p c.args.k in
     none_named run.history name run.setup.processes (among_is run.setup.processes c.args.p there.2 there.1)
-    (too_great (machine_of g.P.Process.table run.setup) run.history c.history-valid.ensures.valid name (beyond c.args.k c.in_default-try_from.ensures))
+    (too_great (machine_of g.P.Process.table run.setup) run.history c.proper.ensures.in_order name (beyond c.args.k c.in_default-try_from.ensures))
 
 pub returns : goal.returns
 returns g c =

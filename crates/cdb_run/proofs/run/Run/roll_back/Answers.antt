@@ -4,7 +4,6 @@ use Rattle.cdb_base.specs.declared.event.Event.{Event}
 use Rattle.cdb_causal.specs.Dependence.{depends}
 use Rattle.cdb_causal.specs.Names.{IsNamedAt}
 use Rattle.cdb_causal.specs.Rollback.{without, rolled_back}
-use Rattle.cdb_setup.specs.Parts.{AreInRange}
 use Rattle.cdb_run.proofs.Found.{rollback_granted, number_result, list_result, after_result}
 use Rattle.cdb_run.proofs.RollingBack.{AreLeft, next_free, none_left, all_went}
 use Rattle.cdb_run.proofs.run.Run.roll_back.Goals as goal
@@ -54,34 +53,29 @@ returns-clause-number g c =
     let all = ap length (are stands.0 stands.1) in
     let number = c.len-number.ensures in
     let long = c.in_ok-events.events.ok.0 in
-    let ranges = subst AreInRange c.setup.ensures c.n-ranges.ensures.ranges in
-    number_result g.P.Process.table run ranges c.history.ensures.valid c.args.name stands.0 stands.1 c.len-number.result
+    number_result g.P.Process.table run c.proper.ensures c.args.name stands c.len-number.result
     (omega (arith, number, long, all))
 
 pub returns-clause-after : goal.returns-clause-after
 returns-clause-after g c =
     let stands = c.requires in
-    let ranges = subst AreInRange c.setup.ensures c.n-ranges.ensures.ranges in
-    after_result g.P.Process.table c.args.self.now ranges c.history.ensures.valid c.args.name stands.0 stands.1 c.loop-event.self
+    after_result g.P.Process.table c.args.self.now c.proper.ensures c.args.name stands c.loop-event.self
     c.loop-event.invariant.setup
     (none_left c.loop-event.events.items c.loop-event.events.ok.0 c.in_default.ensures.cases.0 (c.loop-event.invariant.left stands.0 stands.1))
 
 pub returns-clause-list : goal.returns-clause-list
 returns-clause-list g c =
     let stands = c.requires in
-    let ranges = subst AreInRange c.setup.ensures c.n-ranges.ensures.ranges in
-    list_result g.P.Process.table c.args.self.now ranges c.history.ensures.valid c.args.name stands.0 stands.1 c.args.removed.now.items
+    list_result g.P.Process.table c.args.self.now c.proper.ensures c.args.name stands c.args.removed.now.items
     c.loop-event.removed.items
     (all_went c.loop-event.events.items c.loop-event.events.ok.0 c.in_default.ensures.cases.0 (c.loop-event.invariant.left stands.0 stands.1))
 
 pub returns-in_err-events-clause-memory : goal.returns-in_err-events-clause-memory
 returns-in_err-events-clause-memory g c =
-    let ranges = subst AreInRange c.setup.ensures c.n-ranges.ensures.ranges in
     rw (err_from_is_err_and c.from_residual.result c.from_residual.ensures.1).1
-    (rollback_granted g.P.Process.table c.args.self.now ranges c.history.ensures.valid c.args.name c.requires.0 c.requires.1)
+    (rollback_granted g.P.Process.table c.args.self.now c.proper.ensures c.args.name c.requires)
 
 pub returns-in_err-reserve-clause-memory : goal.returns-in_err-reserve-clause-memory
 returns-in_err-reserve-clause-memory g c =
-    let ranges = subst AreInRange c.setup.ensures c.n-ranges.ensures.ranges in
     rw (err_from_is_err_and c.from_residual-in_err-reserve.result c.from_residual-in_err-reserve.ensures.1).1
-    (rollback_granted g.P.Process.table c.args.self.now ranges c.history.ensures.valid c.args.name c.requires.0 c.requires.1)
+    (rollback_granted g.P.Process.table c.args.self.now c.proper.ensures c.args.name c.requires)

@@ -1,57 +1,34 @@
+use Rattle.std.proofs.Common.{ap, ◌∙◌}
+use Rattle.cdb_base.specs.Positions.{set_nth}
 use Rattle.cdb_rules.proofs.Positions.{set_at}
-use Rattle.cdb_run.proofs.StepsTaken.{found_there}
+use Rattle.cdb_run.proofs.Views.{found_there}
 use Rattle.cdb_run.proofs.state.State.step.Goals as goal
 
-pub change-requires-clause-steps : goal.change-requires-clause-steps
-change-requires-clause-steps g c =
-    let held =
+pub write-overwritten-requires : goal.write-overwritten-requires
+write-overwritten-requires g c =
+    let stood =
     found_there c.args.self.now.processes.items c.index.result c.args.p c.index_mut-progress.result.now
-    c.index.ensures.value c.requires.process c.index_mut-progress.ensures.value in
-    (c.requires.may_step c.index_mut-progress.result.now held).steps
-
-pub change-requires-clause-queries : goal.change-requires-clause-queries
-change-requires-clause-queries g c =
-    let held =
-    found_there c.args.self.now.processes.items c.index.result c.args.p c.index_mut-progress.result.now
-    c.index.ensures.value c.requires.process c.index_mut-progress.ensures.value in
-    (c.requires.may_step c.index_mut-progress.result.now held).queries
-
-pub change-requires-clause-accepted : goal.change-requires-clause-accepted
-change-requires-clause-accepted g c =
-    let held =
-    found_there c.args.self.now.processes.items c.index.result c.args.p c.index_mut-progress.result.now
-    c.index.ensures.value c.requires.process c.index_mut-progress.ensures.value in
-    (c.requires.may_step c.index_mut-progress.result.now held).accepted
-
-pub change-requires-clause-postable : goal.change-requires-clause-postable
-change-requires-clause-postable g c =
-    let held =
-    found_there c.args.self.now.processes.items c.index.result c.args.p c.index_mut-progress.result.now
-    c.index.ensures.value c.requires.process c.index_mut-progress.ensures.value in
-    (c.requires.may_step c.index_mut-progress.result.now held).postable
-
-pub change-requires-clause-writable : goal.change-requires-clause-writable
-change-requires-clause-writable g c =
-    let held =
-    found_there c.args.self.now.processes.items c.index.result c.args.p c.index_mut-progress.result.now
-    c.index.ensures.value c.requires.process c.index_mut-progress.ensures.value in
-    (c.requires.may_step c.index_mut-progress.result.now held).writable
+    c.index.ensures.value c.requires.within c.index_mut-progress.ensures.value in
+    c.due-wish.ensures.writable c.args.self.now.registers (c.requires.from c.index_mut-progress.result.now stood).writable
 
 pub returns-clause-ok : goal.returns-clause-ok
 returns-clause-ok g c =
-    let held =
-    found_there c.args.self.now.processes.items c.index.result c.args.p c.index_mut-progress.result.now
-    c.index.ensures.value c.requires.process c.index_mut-progress.ensures.value in
-    let ok = c.in_ok-left.ensures in
+    let held = c.args.self.now in
     record {
       progress = c.index_mut-progress.result.now;
-      stood = held;
-      further = c.change.new.progress;
-      processes = set_at c.args.self.now.processes.items c.index.result c.args.p c.change.new.progress c.index.ensures.value;
-      next = ok.next;
-      counted = ok.counted;
-      mail = ok.mail;
-      registers = ok.registers;
-      back = ok.back;
-      overwritten = ok.overwritten;
+      stood =
+          found_there held.processes.items c.index.result c.args.p c.index_mut-progress.result.now
+          c.index.ensures.value c.requires.within c.index_mut-progress.ensures.value;
+      next = c.take_input.new.local;
+      accepted = rw c.input_at-input.ensures at c.in_ok-back.ensures.next;
+      after =
+          λ i. record {
+            processes =
+                (set_at held.processes.items c.index.result c.args.p c.count.new.progress c.index.ensures.value
+                ∙ ap (set_nth held.processes.items c.args.p) c.count.ensures) i;
+            mail = (c.in_default.ensures.ok ∙ c.due-wish.ensures.mail held.mail c.args.p) i;
+            registers = (c.write-overwritten.ensures.after ∙ c.due-wish.ensures.registers held.registers) i;
+          };
+      back = c.in_ok-back.ensures.back;
+      overwritten = c.write-overwritten.ensures.overwritten;
     }
