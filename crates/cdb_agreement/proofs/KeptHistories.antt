@@ -17,7 +17,7 @@ use Rattle.cdb_process.specs.Table.{Table}
 use Rattle.cdb_rules.specs.Agreement.{AllAgree, AreProposed, HasMajorityIfNeeded}
 use Rattle.cdb_agreement.specs.Algorithms.{leader_machine, alpha_machine, rules, rules_by}
 use Rattle.cdb_rules.specs.Lawful.{KeepHistories, ShowTheSame, taken_by}
-use Rattle.cdb_rules.specs.Machines.{machine_of}
+use Rattle.cdb_rules.specs.Machines.{IsLawful, machine_of}
 use Rattle.cdb_rules.specs.Mail.{mail_of}
 use Rattle.cdb_rules.specs.Refusals.{step_result, again_result, IsOfRun}
 use Rattle.cdb_rules.specs.Decisions.{decisions_of}
@@ -30,7 +30,6 @@ use Rattle.cdb_rules.proofs.Acts.{step_by_act}
 use Rattle.cdb_rules.proofs.Again.{loss_again, step_again, again_exact, lose_enabled}
 use Rattle.cdb_agreement.proofs.Agreed.{agreed, proposed}
 use Rattle.cdb_rules.proofs.NamesFound.{among_is}
-use Rattle.cdb_rules.proofs.Granted.{IsLawful}
 use Rattle.cdb_rules.proofs.Histories.{fold_exchanged}
 use Rattle.cdb_agreement.proofs.Lawful.{of_some, answers_within, firsts_are}
 use Rattle.cdb_rules.proofs.NamedEvents.{loss_free, valid_standing}

@@ -1,10 +1,10 @@
 -- The states that valid histories of the leader machine reach, seen as runs of its steps.
 use Rattle.std.proofs.lemmas.Grind.{common_steps}
 use Rattle.std.proofs.lemmas.Option.{gets}
-use Rattle.std.proofs.Common.{◌≡◌, ℕ, zero, suc, ◌+◌, ◌*◌, ◌<◌, ◌≤◌, Bool, List, [], ◌++◌, length, Contains, Option, Some, None}
-use Rattle.std.proofs.Common.{option_map, slice_index, if◌then◌else◌, inl, inr, refl, sym, ap, subst, ◌∙◌, append-nil, arith}
+use Rattle.std.proofs.Common.{◌≡◌, ℕ, zero, suc, ◌+◌, ◌*◌, ◌<◌, ◌≤◌, List, [], ◌++◌, length, Contains, Option, Some, None}
+use Rattle.std.proofs.Common.{slice_index, inl, inr, refl, sym, ap, subst, ◌∙◌, append-nil, arith}
 use Rattle.std.specs.FinSet as set
-use Rattle.std.specs.Option.{option_or, option_map_or}
+use Rattle.std.specs.Option.{option_map_or}
 use Rattle.std.proofs.lemmas.Option.{none-some, same_Some}
 use Rattle.cdb_base.specs.Positions.{nth}
 use Rattle.cdb_base.specs.declared.event.Event.{Event}
@@ -15,7 +15,7 @@ use Rattle.cdb_base.specs.declared.payload.Payload.TheVariants.{D}
 use Rattle.cdb_process.specs.declared.Input.{Input}
 use Rattle.cdb_process.specs.declared.Wish.TheVariants as wished
 use Rattle.cdb_process.proofs.Members.{in_contained}
-use Rattle.cdb_process.specs.Wishes.{wished_payload}
+use Rattle.cdb_leader.proofs.Values.{wish_sends}
 use Rattle.cdb_leader.specs.LocalState.{LocalState, first_state}
 use Rattle.cdb_leader.specs.Table as table
 use Rattle.cdb_leader.specs.Trace.{sent_of}
@@ -92,10 +92,6 @@ module _ (setup : Parts) where
       at p = starts _ _ (first_of p)
 
 -- ---- an event
-
--- what a process would send is what the table sends
-wish_sends : (o : Option Payload) (b : Bool) → wished_payload (option_or (option_map wished.Send o) (if b then Some wished.Local else None)) ≡ o
-wish_sends o b = grind (arith, common_steps, gets)
 
 module _ (n : ℕ) (setup : Parts) (t : RunState LocalState) (lawful : Lawful n setup.quorum t) where
   abbrev mail : ℕ → List Payload

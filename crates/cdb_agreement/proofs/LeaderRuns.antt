@@ -19,7 +19,7 @@ use Rattle.cdb_leader.specs.Trace.{sent_of, sent_along, IsHeard, IsFounded}
 use Rattle.cdb_leader.proofs.Promised.{sent_messages_are_founded, received_is_brought}
 use Rattle.cdb_rules.proofs.Taken.{bound}
 use Rattle.cdb_agreement.proofs.LeaderLaws.{Chosen, JointLaws, decisions_agree}
-use Rattle.cdb_agreement.proofs.Quorums.{quorum_follows}
+use Rattle.cdb_leader.proofs.Quorum.{quorum_follows}
 
 -- the local state of each process, and what each has sent
 pub record Run : Type 0 where

@@ -4,10 +4,6 @@ use Rattle.std.proofs.Common.{arith}
 use Rattle.cdb_leader.specs.Quorum.{IsQuorum}
 use Rattle.cdb_leader.proofs.Promised.{majorities_meet}
 
--- a property that follows from another holds of the same quorum
-pub quorum_follows : (q : ℕ) (P R : ℕ → Type 0) → ((s : ℕ) → P s → R s) → IsQuorum q P → IsQuorum q R
-quorum_follows q P R follows one = (one.0, one.1, λ s low high passes. follows s (one.2 s low high passes))
-
 -- two quorums of more than half of the processes 1 to n share one
 pub quorums_meet : (n q : ℕ) (P R : ℕ → Type 0) → n ≤ 9 → n < q + q → ((s : ℕ) → P s → s ≤ n) → ((s : ℕ) → R s → s ≤ n)
     → IsQuorum q P → IsQuorum q R → (s : ℕ) × P s × R s

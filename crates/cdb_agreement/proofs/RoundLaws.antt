@@ -22,7 +22,7 @@ use Rattle.cdb_agreement.proofs.LeaderHistories as leader
 use Rattle.cdb_agreement.proofs.LeaderLaws.{Chosen, JointLaws, one_aux, locked, one_chosen}
 use Rattle.cdb_agreement.proofs.LeaderRuns.{joint_laws}
 use Rattle.cdb_rules.proofs.Positions.{nth_within}
-use Rattle.cdb_agreement.proofs.Quorums.{quorum_follows}
+use Rattle.cdb_leader.proofs.Quorum.{quorum_follows}
 
 -- ---- the leader-based algorithm
 

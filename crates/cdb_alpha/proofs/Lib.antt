@@ -1,9 +1,9 @@
 pub mod Choice
-pub mod Leads
+pub mod TableSteps
 pub mod Rounds
 pub mod Written
 pub mod SameCells
 pub mod Reached
-pub mod TableSteps
+pub mod FoundedSteps
 pub mod Values
 pub mod Promised

@@ -153,33 +153,6 @@ impl Alpha {
         shows_later_round(&self.seen, self.round)
     }
 
-    fn is_same_process(&self, other: &Self) -> bool
-        ensures { IsTrue result ↔ ((self.now.me ≡ other.now.me)
-            × (self.now.processes ≡ other.now.processes)
-            × (self.now.input ≡ other.now.input)) }
-    {
-        self.me == other.me && self.processes == other.processes && self.input == other.input
-    }
-
-    fn is_as_far(&self, other: &Self) -> bool
-        ensures { IsTrue result ↔ ((self.now.place ≡ other.now.place)
-            × (self.now.round ≡ other.now.round)
-            × (self.now.value ≡ other.now.value)
-            × (self.now.decision ≡ other.now.decision)) }
-    {
-        self.place == other.place
-            && self.round == other.round
-            && self.value == other.value
-            && self.decision == other.decision
-    }
-
-    fn has_same_cells(&self, other: &Self) -> bool
-        ensures { IsTrue result
-            ↔ ((self.now.own ≡ other.now.own) × (self.now.seen ≡ other.now.seen)) }
-    {
-        self.own == other.own && are_same(&self.seen, &other.seen)
-    }
-
     /// Goes on to the next round.
     fn go_to_next_round(&mut self) -> Back
         requires not_done { is_last self.old.place ≡ false }
@@ -220,10 +193,14 @@ impl Alpha {
     }
 
     /// Takes what the register of the decision holds.
-    fn see_decision(&mut self, value: Option<Val>)
+    fn see_decision(&mut self, value: Option<Val>) -> Back
         requires { self.old.place ≡ Place.A0 }
-        ensures { self.new ≡ see_decision self.old value }
+        ensures after { self.new ≡ see_decision self.old value }
+        ensures back { state_before self.new result ≡ self.old }
     {
+        let back = Back {
+            before: Before::Place(self.place),
+        };
         match value {
             Some(value) => {
                 self.decision = Some(value);
@@ -231,16 +208,21 @@ impl Alpha {
             }
             None => self.place = Place::A1,
         }
+        back
     }
 
     /// Adds a cell to those that are seen in this pass, after which the process is at `over`.
-    fn see(&mut self, cell: Cell, over: Place) -> Result<(), NoMemory>
+    fn see(&mut self, cell: Cell, over: Place) -> Result<Back, NoMemory>
         requires not_done { is_last self.old.place ≡ false }
         requires not_done_then { is_last over ≡ false }
         requires room { length self.old.seen < self.old.processes }
         ensures after { IfOk result (λ _. self.new ≡ see self.old.place over self.old cell) }
+        ensures back { IfOk result (λ b. state_before self.new b ≡ self.old) }
         ensures unchanged { OnErr result (self.new ≡ self.old) }
     {
+        let back = Back {
+            before: Before::Seen(self.place),
+        };
         if self.seen.is_empty() {
             self.seen.reserve(usize::from(self.processes))?;
         }
@@ -248,7 +230,7 @@ impl Alpha {
         if self.seen.len() == usize::from(self.processes) {
             self.place = over;
         }
-        Ok(())
+        Ok(back)
     }
 
     /// Takes the answer to a query.
@@ -277,27 +259,9 @@ impl Alpha {
         ensures unchanged { OnErr result (self.new ≡ self.old) }
     {
         match self.place {
-            Place::A0 => {
-                let back = Back {
-                    before: Before::Place(self.place),
-                };
-                self.see_decision(cell.val);
-                Ok(back)
-            }
-            Place::A3 => {
-                let back = Back {
-                    before: Before::Seen(self.place),
-                };
-                self.see(cell, Place::A4)?;
-                Ok(back)
-            }
-            Place::A6 => {
-                let back = Back {
-                    before: Before::Seen(self.place),
-                };
-                self.see(cell, Place::A7)?;
-                Ok(back)
-            }
+            Place::A0 => Ok(self.see_decision(cell.val)),
+            Place::A3 => self.see(cell, Place::A4),
+            Place::A6 => self.see(cell, Place::A7),
             _ => unreachable!(),
         }
     }
@@ -474,6 +438,14 @@ impl Process for Alpha {
 
 impl SameState for Alpha {
     fn has_same_state(&self, other: &Self) -> bool {
-        self.is_same_process(other) && self.is_as_far(other) && self.has_same_cells(other)
+        self.me == other.me
+            && self.processes == other.processes
+            && self.input == other.input
+            && self.place == other.place
+            && self.round == other.round
+            && self.own == other.own
+            && are_same(&self.seen, &other.seen)
+            && self.value == other.value
+            && self.decision == other.decision
     }
 }

@@ -49,12 +49,9 @@ known_long inbox y long = take-append-le KNOWN inbox (y ∷ []) long
 
 -- ---- what is read of both parts
 
-moved : {A : Type 0} (o p q : Option A) → option_or (option_or o p) q ≡ option_or o (option_or p q)
-moved o p q = grind (arith, common_steps, gets)
-
-given_parts : {X A : Type 0} (f : X → Option A) (xs ys : List X) → option_or (first_given f xs) (first_given f ys) ≡ first_given f (xs ++ ys)
+pub given_parts : {X A : Type 0} (f : X → Option A) (xs ys : List X) → option_or (first_given f xs) (first_given f ys) ≡ first_given f (xs ++ ys)
 given_parts f [] ys = refl
-given_parts f (x ∷ xs) ys = moved (f x) _ _ ∙ ap (option_or (f x)) (given_parts f xs ys)
+given_parts f (x ∷ xs) ys = let rest = given_parts f xs ys in grind (arith, common_steps, gets)
 
 parts : (inbox : List Received) → known inbox ++ later inbox ≡ inbox
 unfolding known later
@@ -68,18 +65,11 @@ either : {A : Type 0} (o p : Option A) → (is_some o || is_some p) ≡ is_some 
 either o p = grind (arith, common_steps, gets)
 
 module _ {A : Type 0} (reading : Payload → Option A) (kept : Firsts) (inbox : List Received) (h : AreFirsts reading kept (known inbox)) (s : ℕ) where
-  is_read : (is_some (position_from s kept) || is_some (first_from s reading (later inbox))) ≡ is_some (first_from s reading inbox)
+  pub is_read : (is_some (position_from s kept) || is_some (first_from s reading (later inbox))) ≡ is_some (first_from s reading inbox)
   is_read =
       ap (λ b. b || is_some (first_from s reading (later inbox))) (is_kept reading kept (known inbox) h s)
       ∙ either _ _
       ∙ ap is_some (first_from_parts reading inbox s)
-
-  -- a message is known, or it is one of the later
-  pub is_known : is_some (position_from s kept) ≡ true → true ≡ is_some (first_from s reading inbox)
-  is_known there = ap (λ b. b || is_some (first_from s reading (later inbox))) (sym there) ∙ is_read
-
-  pub is_later : is_some (position_from s kept) ≡ false → is_some (first_from s reading (later inbox)) ≡ is_some (first_from s reading inbox)
-  is_later nowhere = ap (λ b. b || is_some (first_from s reading (later inbox))) (sym nowhere) ∙ is_read
 
 pub only_parts : (r w : ℕ) (inbox : List Received)
     → (is_only_proposal r w (known inbox) && is_only_proposal r w (later inbox)) ≡ is_only_proposal r w inbox
@@ -91,9 +81,6 @@ only_parts r w inbox =
 without_end : {X : Type 0} (xs ys : List X) → ys ≡ [] → xs ++ ys ≡ xs
 without_end xs ys none = grind (arith, common_steps, gets)
 
-pub is_nil : {X : Type 0} (xs : List X) → length xs ≡ 0 → xs ≡ []
-is_nil xs none = grind (arith, common_steps, gets)
-
 pub knows_all : (inbox : List Received) → later inbox ≡ [] → known inbox ≡ inbox
 knows_all inbox none = sym (without_end _ _ none) ∙ parts inbox
 
@@ -104,9 +91,6 @@ count_all_kept reading kept inbox h none = count_kept reading kept inbox (subst 
 
 -- ---- no decision
 
-kept_nowhere : (os : List (Option ℕ)) (i : ℕ) → list_all (λ position. not (is_some position)) os ≡ true → option_flatten (slice_get os i) ≡ None
-kept_nowhere os i is = grind (arith, common_steps, gets)
-
 nowhere : (kept : Firsts) → keeps_none kept ≡ true → (s : ℕ) → position_from s kept ≡ None
 unfolding position_from
 nowhere kept is s = grind (arith, common_steps, gets)
@@ -116,7 +100,7 @@ is_none o is = grind (arith, common_steps, gets)
 
 none_given : {X A : Type 0} (f : X → Option A) (xs : List X) → ((x : X) → f x ≡ None) → None ≡ first_given f xs
 none_given f [] h = refl
-none_given f (x ∷ xs) h = none_given f xs h ∙ ap (λ o. option_or o (first_given f xs)) (sym (h x))
+none_given f (x ∷ xs) h = rw (h x) (none_given f xs h)
 
 pub no_decision : (kept : Firsts) (inbox : List Received) → AreFirsts as_decision kept (known inbox) → keeps_none kept ≡ true
     → later inbox ≡ [] → None ≡ learnt inbox

@@ -1,11 +1,11 @@
 pub mod SameMessages
 pub mod Quorum
-pub mod Steps
 pub mod Readings
 pub mod TableSteps
-pub mod IndexLaws
-pub mod LookUps
-pub mod Known
+pub mod Steps
 pub mod Trace
 pub mod Values
+pub mod LookUps
+pub mod Known
+pub mod IndexLaws
 pub mod Promised

@@ -3,10 +3,12 @@ use Rattle.std.proofs.lemmas.Grind.{common_steps}
 use Rattle.std.proofs.lemmas.Option.{gets}
 use Rattle.std.proofs.Common.{◌≡◌, ℕ, zero, suc, ◌+◌, ◌<◌, ◌≤◌, Bool, true, false, cond, ◌&&◌, List, [], ◌∷◌, Option, Some, None, length, arith, refl, ap, sym}
 use Rattle.std.proofs.Common.{subst, ◌∙◌, eq-eqb, eqb-true}
-use Rattle.std.specs.Prelude.{◌==◌, if◌then◌else◌, slice_get, slice_index_or, is_some, not, nat_le, All, ⊤, fold, count_by, find}
+use Rattle.std.specs.Prelude.{◌==◌, if◌then◌else◌, slice_get, slice_index_or, is_some, not, nat_le, All, count_by, find}
 use Rattle.std.proofs.lemmas.Option.{slice_get-get_or}
+use Rattle.std.proofs.lemmas.List.Elements.{recursion_from_All}
+use Rattle.std.proofs.lemmas.List.Sums.{sum_by-cons}
 use Rattle.std.specs.Option.{option_map, option_or, option_and_then, option_flatten}
-use Rattle.std.specs.List.{list_all}
+use Rattle.std.specs.List.{list_all, AllByRecursion}
 use Rattle.std.specs.Array.{MapsFrom}
 use Rattle.std.specs.Fn.{Called}
 use denote.Param.Members.{Mut}
@@ -26,70 +28,30 @@ use Rattle.cdb_leader.specs.Index.{first_position, position_from, AreFirsts, sai
 module _ {X A : Type 0} (f : X → Option A) where
   pub at_first : (xs : List X) → option_and_then f (option_and_then (slice_get xs) (first_position (λ x. is_some (f x)) xs)) ≡ first_given f xs
   at_first [] = refl
-  at_first (z ∷ zs) = by_first (f z) refl (first_position (λ x. is_some (f x)) zs) (at_first zs) where
-    by_first : (a : Option A) → f z ≡ a → (o : Option ℕ) → option_and_then f (option_and_then (slice_get zs) o) ≡ first_given f zs
-        → option_and_then f (option_and_then (slice_get (z ∷ zs)) (if is_some a then Some zero else option_map suc o)) ≡ option_or a (first_given f zs)
-    by_first (Some v) is o rest = is
-    by_first None is None rest = rest
-    by_first None is (Some i) rest = rest
+  at_first (z ∷ zs) = let rest = at_first zs in grind (arith, common_steps, gets)
 
   pub is_first : (xs : List X) → is_some (first_position (λ x. is_some (f x)) xs) ≡ is_some (first_given f xs)
   is_first [] = refl
-  is_first (z ∷ zs) = by_first (f z) (first_position (λ x. is_some (f x)) zs) (is_first zs) where
-    by_first : (a : Option A) (o : Option ℕ) → is_some o ≡ is_some (first_given f zs)
-        → is_some (if is_some a then Some zero else option_map suc o) ≡ is_some (option_or a (first_given f zs))
-    by_first (Some v) o rest = refl
-    by_first None None rest = rest
-    by_first None (Some i) rest = rest
+  is_first (z ∷ zs) = let rest = is_first zs in grind (arith, common_steps, gets)
 
 module _ {A : Type 0} (reading : Payload → Option A) (kept : Firsts) (inbox : List Received) (h : AreFirsts reading kept inbox) where
   -- what is read at the position that is kept for a sender
   pub read_at : (s : ℕ) → option_and_then (if_from s reading) (option_and_then (slice_get inbox) (position_from s kept)) ≡ first_from s reading inbox
-  read_at s = ap (λ o. option_and_then (if_from s reading) (option_and_then (slice_get inbox) o)) (h s) ∙ at_first (if_from s reading) inbox
+  read_at s = rw (h s) (at_first (if_from s reading) inbox)
 
   -- whether a position is kept
   pub is_kept : (s : ℕ) → is_some (position_from s kept) ≡ is_some (first_from s reading inbox)
-  is_kept s = ap is_some (h s) ∙ is_first (if_from s reading) inbox
+  is_kept s = rw (h s) (is_first (if_from s reading) inbox)
 
   -- for how many senders one is
   pub count_kept : count_by (λ s. is_some (position_from s kept)) all_processes ≡ count_by (λ s. is_some (first_from s reading inbox)) all_processes
-  count_kept = same all_processes 0 where
-    same : (ss : List ℕ) (n : ℕ)
-        → fold (λ a s. a + cond (is_some (position_from s kept)) 1 0) n ss ≡ fold (λ a s. a + cond (is_some (first_from s reading inbox)) 1 0) n ss
-    same [] n = refl
-    same (s ∷ ss) n =
-        same ss (n + cond (is_some (position_from s kept)) 1 0)
-        ∙ ap (λ b. fold (λ a t. a + cond (is_some (first_from t reading inbox)) 1 0) (n + cond b 1 0) ss) (is_kept s)
-
--- the same, as a look-up finds a message or none
-module _ {A : Type 0} (reading : Payload → Option A) (kept : Firsts) (inbox : List Received) (s : ℕ) (h : AreFirsts reading kept inbox)
-    (spot : Option ℕ) (spot_is : spot ≡ position_from s kept) (messages : List Received) (messages_are : messages ≡ inbox)
-    (o : Option Received) (at : o ≡ option_and_then (slice_get messages) spot) where
-  look_up : option_and_then (if_from s reading) o ≡ first_from s reading inbox
-  look_up =
-      ap (option_and_then (if_from s reading)) (at ∙ ap (option_and_then (slice_get messages)) spot_is
-      ∙ ap (λ m. option_and_then (slice_get m) (position_from s kept)) messages_are)
-      ∙ read_at reading kept inbox h s
-
-  pub read_none : o ≡ None → None ≡ first_from s reading inbox
-  read_none none = ap (option_and_then (if_from s reading)) (sym none) ∙ look_up
-
-  pub read_some : (e : Received) → o ≡ Some e → if_from s reading e ≡ first_from s reading inbox
-  read_some e some = ap (option_and_then (if_from s reading)) (sym some) ∙ look_up
+  count_kept = λ i. count_by (λ s. is_kept s i) all_processes
 
 -- what is read at the position of the first vote
 pub vote_at : (r : ℕ) (row : Row) (inbox : List Received) → IsRowOf r row inbox
     → option_and_then (λ e. second_phase r e.payload) (option_and_then (slice_get inbox) row.vote) ≡ vote_in r inbox
 vote_at r row inbox h =
-    ap (λ o. option_and_then (λ e. second_phase r e.payload) (option_and_then (slice_get inbox) o)) h.vote ∙ at_first (λ e. second_phase r e.payload) inbox
-
--- the same, as a look-up finds a message or none
-module _ (r : ℕ) (row : Row) (inbox : List Received) (h : IsRowOf r row inbox) (o : Option Received) (at : o ≡ option_and_then (slice_get inbox) row.vote) where
-  pub vote_none : o ≡ None → None ≡ vote_in r inbox
-  vote_none none = ap (option_and_then (λ e. second_phase r e.payload)) (sym none ∙ at) ∙ vote_at r row inbox h
-
-  pub vote_some : (e : Received) → o ≡ Some e → second_phase r e.payload ≡ vote_in r inbox
-  vote_some e some = ap (option_and_then (λ e. second_phase r e.payload)) (sym some ∙ at) ∙ vote_at r row inbox h
+    rw h.vote (at_first (λ e. second_phase r e.payload) inbox)
 
 -- ---- whether every second-phase message of a round carries one value
 
@@ -101,34 +63,19 @@ module _ {X : Type 0} (f : X → Option (Option ℕ)) (w : ℕ) where
   carries_alike : (x : Option (Option ℕ)) → carries w x ≡ not (are_different (Some (Some w)) x)
   carries_alike x = grind (arith, common_steps, gets)
 
-  pub all_carry : (xs : List X) → passes xs ≡ not (is_some (first_position (λ x. are_different (Some (Some w)) (f x)) xs))
+  all_carry : (xs : List X) → passes xs ≡ not (is_some (first_position (λ x. are_different (Some (Some w)) (f x)) xs))
   all_carry [] = refl
-  all_carry (x ∷ xs) = ap (λ b. b && passes xs) (carries_alike (f x))
-      ∙ by_first (are_different (Some (Some w)) (f x)) (first_position (λ x. are_different (Some (Some w)) (f x)) xs) (all_carry xs) where
-        by_first : (b : Bool) (o : Option ℕ) → passes xs ≡ not (is_some o)
-            → (not b && passes xs) ≡ not (is_some (if b then Some zero else option_map suc o))
-        by_first true o rest = refl
-        by_first false None rest = rest
-        by_first false (Some i) rest = rest
+  all_carry (x ∷ xs) = let rest = all_carry xs in let alike = carries_alike (f x) in grind (arith, common_steps, gets)
 
   -- where the first carries something else, they do not all carry w
   first_fails : (xs : List X) (a : Option ℕ) → first_given f xs ≡ Some a → carries w (Some a) ≡ false → passes xs ≡ false
   first_fails [] a is nil = absurd (cc)
-  first_fails (x ∷ xs) a is nil = by_first (f x) is (λ h. first_fails xs a h nil) where
-    by_first : (o : Option (Option ℕ)) → option_or o (first_given f xs) ≡ Some a → (first_given f xs ≡ Some a → passes xs ≡ false)
-        → (carries w o && passes xs) ≡ false
-    by_first (Some b) e rest =
-        let same : Path (Option (Option ℕ)) (Some b) (Some a) = e in ap (λ o. carries w o && passes xs) same ∙ ap (λ c. c && passes xs) nil
-    by_first None e rest = rest e
+  first_fails (x ∷ xs) a is nil = let rest = λ (h : first_given f xs ≡ Some a). first_fails xs a h nil in grind (arith, common_steps, gets)
 
   -- where none is there, all do
-  none_fails : (xs : List X) → first_given f xs ≡ None → passes xs ≡ true
-  none_fails [] is = refl
-  none_fails (x ∷ xs) is = by_first (f x) is (λ h. none_fails xs h) where
-    by_first : (o : Option (Option ℕ)) → option_or o (first_given f xs) ≡ None → (first_given f xs ≡ None → passes xs ≡ true)
-        → (carries w o && passes xs) ≡ true
-    by_first (Some b) e rest = absurd (cc)
-    by_first None e rest = rest e
+  pub only_by_none : (xs : List X) → first_given f xs ≡ None → passes xs ≡ true
+  only_by_none [] is = refl
+  only_by_none (x ∷ xs) is = let rest = λ (h : first_given f xs ≡ None). only_by_none xs h in grind (arith, common_steps, gets)
 
   pub only_by_first : (xs : List X) (a : Option ℕ) → first_given f xs ≡ Some a
       → passes xs ≡ (carries w (Some a) && not (is_some (first_position (λ x. are_different (first_given f xs) (f x)) xs)))
@@ -143,9 +90,6 @@ module _ {X : Type 0} (f : X → Option (Option ℕ)) (w : ℕ) where
         ∙ ap (λ o. not (is_some (first_position (λ x. are_different o (f x)) xs))) (ap Some (sym (first_is a e)) ∙ sym is)
     by_carries false e = first_fails xs a is e
 
-  pub only_by_none : (xs : List X) → first_given f xs ≡ None → passes xs ≡ true
-  only_by_none xs is = none_fails xs is
-
 -- by the row of a round
 module _ (r w : ℕ) (row : Row) (inbox : List Received) (h : IsRowOf r row inbox) where
   pub only_alike : (a : Option ℕ) → vote_in r inbox ≡ Some a → is_only_proposal r w inbox ≡ (carries w (Some a) && not (is_some row.other_vote))
@@ -156,41 +100,23 @@ module _ (r w : ℕ) (row : Row) (inbox : List Received) (h : IsRowOf r row inbo
 
 -- ---- the leader that is agreed on
 
-abbrev EachOf : (ℕ → Type 0) → List ℕ → Type 0
-EachOf P [] = ⊤
-EachOf P (x ∷ xs) = P x × EachOf P xs
-
-each_process : (P : ℕ → Type 0) → All P all_processes → EachOf P all_processes
-unfolding all_processes
-each_process P h = (
-  h 0 0 (omega arith),
-  (
-    h 1 0 (omega arith),
-    (
-      h 2 0 (omega arith),
-      (
-        h 3 0 (omega arith),
-        (h 4 0 (omega arith), (h 5 0 (omega arith), (h 6 0 (omega arith), (h 7 0 (omega arith), (h 8 0 (omega arith), tt))))),
-      ),
-    ),
-  ),
-)
-
 module _ (q r : ℕ) (said : FirstPhases) (inbox : List Received) (h : All (λ s. said_by s said ≡ first_phase_from r s inbox) all_processes) where
   abbrev Says : ℕ → Type 0
   Says s = said_by s said ≡ first_phase_from r s inbox
 
   backers_same : (m : ℕ) → backers_among m said ≡ backers r m inbox
-  backers_same m = same all_processes 0 (each_process Says h) where
-    same : (ss : List ℕ) (n : ℕ) → EachOf Says ss
-        → fold (λ a s. a + cond (names m (said_by s said)) 1 0) n ss ≡ fold (λ a s. a + cond (names m (first_phase_from r s inbox)) 1 0) n ss
-    same [] n each = refl
-    same (s ∷ ss) n each =
-        same ss (n + cond (names m (said_by s said)) 1 0) each.1
-        ∙ ap (λ o. fold (λ a t. a + cond (names m (first_phase_from r t inbox)) 1 0) (n + cond (names m o) 1 0) ss) each.0
+  backers_same m = same all_processes (recursion_from_All Says all_processes h) where
+    same : (ss : List ℕ) → AllByRecursion Says ss → count_by (λ s. names m (said_by s said)) ss ≡ count_by (λ s. names m (first_phase_from r s inbox)) ss
+    same [] each = refl
+    same (s ∷ ss) each = rw (
+      sum_by-cons (λ s. cond (names m (said_by s said)) 1 0) s ss,
+      sum_by-cons (λ s. cond (names m (first_phase_from r s inbox)) 1 0) s ss,
+      each.0,
+      same ss each.1,
+    ) refl
 
   pub agreed_same : agreed_among q said ≡ option_and_then (λ m. first_phase_from r m inbox) (agreed_leader q r inbox)
-  agreed_same = same all_processes (each_process Says h) where
+  agreed_same = same all_processes (recursion_from_All Says all_processes h) where
     step : (m : ℕ) (b : Bool) (o : Option FirstPhase) → first_phase_from r m inbox ≡ o → (rest : Option FirstPhase) (found : Option ℕ)
         → rest ≡ option_and_then (λ m. first_phase_from r m inbox) found
         → option_or (if b then o else None) rest ≡ option_and_then (λ m. first_phase_from r m inbox) (cond (b && is_some o) (Some m) found)
@@ -198,16 +124,11 @@ module _ (q r : ℕ) (said : FirstPhases) (inbox : List Received) (h : All (λ s
     step m true None is rest found e = e
     step m false o is rest found e = e
 
-    same : (ms : List ℕ) → EachOf Says ms
+    same : (ms : List ℕ) → AllByRecursion Says ms
         → first_given (λ m. if nat_le q (backers_among m said) then said_by m said else None) ms
         ≡ option_and_then (λ m. first_phase_from r m inbox) (find (is_agreed q r inbox) ms)
     same [] each = refl
-    same (m ∷ ms) each =
-        ap (λ o. option_or (if nat_le q (backers_among m said) then o else None)
-        (first_given (λ m. if nat_le q (backers_among m said) then said_by m said else None) ms)) each.0
-        ∙ ap (λ n. option_or (if nat_le q n then first_phase_from r m inbox else None)
-        (first_given (λ m. if nat_le q (backers_among m said) then said_by m said else None) ms)) (backers_same m)
-        ∙ step m (nat_le q (backers r m inbox)) (first_phase_from r m inbox) refl _ _ (same ms each.1)
+    same (m ∷ ms) each = rw (backers_same m, each.0) (step m (nat_le q (backers r m inbox)) (first_phase_from r m inbox) refl _ _ (same ms each.1))
 
   pub estimate_same : option_map (λ own. own.estimate) (agreed_among q said) ≡ agreed_estimate q r inbox
   estimate_same = ap (option_map (λ own. own.estimate)) agreed_same

@@ -1,7 +1,7 @@
 -- Where in an inbox the first messages of each kind stand.
 use Rattle.std.specs.Prelude.{◌≡◌, ℕ, zero, suc, ◌==◌, Bool, true, false, not, List, [], ◌∷◌, Option, Some, None}
 use Rattle.std.specs.Prelude.{is_some, take, drop, nat_eq, nat_le, count_by, if◌then◌else◌}
-use Rattle.std.specs.Option.{option_map, option_flatten}
+use Rattle.std.specs.Option.{option_map, option_flatten, unwrap_or}
 use Rattle.std.specs.List.{list_all}
 use Rattle.std.specs.HashMap.{get}
 use Rattle.cdb_base.specs.declared.payload.Payload.{Payload}
@@ -111,13 +111,15 @@ pub record IsEmptyRow (row : Row) : Type 0 where
   pub vote : row.vote ≡ None
   pub other_vote : row.other_vote ≡ None
 
--- a round that has no row needs an empty one
-abbrev pub IsRoundOf : ℕ → Option Row → List Received → Type 0
-IsRoundOf r (Some row) inbox = IsRowOf r row inbox
-IsRoundOf r None inbox = (row : Row) → IsEmptyRow row → IsRowOf r row inbox
+-- what is kept of a round that has no row
+abbrev pub no_firsts : Firsts
+no_firsts = record { positions = [] }
+
+abbrev pub no_row : Row
+no_row = record { first_phases = no_firsts; second_phases = no_firsts; vote = None; other_vote = None }
 
 -- ---- the index of an inbox
 
 pub record IsIndexOf (index : Index) (inbox : List Received) : Type 0 where
-  pub rounds : (r : ℕ) → IsRoundOf r (get nat_eq index.rows r) inbox
+  pub rounds : (r : ℕ) → IsRowOf r (unwrap_or (get nat_eq index.rows r) no_row) inbox
   pub decisions : AreFirsts as_decision index.decisions inbox

@@ -178,7 +178,9 @@ impl Inbox {
         ensures { AreFirsts (first_phase round) kept.now (known self.now)
             → result ≡ first_phase_from round sender (known self.now) }
     {
-        message_at(self.known(), kept.get(sender))?.first_phase(round, sender)
+        message_at(self.known(), kept.get(sender)).and_then(|message| message.first_phase(
+            round, sender,
+        ))
     }
 
     /// The first-phase message of the round from that sender, by what is kept of the round.
@@ -195,7 +197,9 @@ impl Inbox {
         ensures { AreFirsts (second_phase round) kept.now (known self.now)
             → result ≡ second_phase_from round sender (known self.now) }
     {
-        message_at(self.known(), kept.get(sender))?.second_phase(round, sender)
+        message_at(self.known(), kept.get(sender)).and_then(|message| message.second_phase(
+            round, sender,
+        ))
     }
 
     /// The second-phase message of the round from that sender, by what is kept of the round.
@@ -211,7 +215,9 @@ impl Inbox {
     fn known_decision(&self, sender: Proc) -> Option<Val>
         ensures { result ≡ decision_from sender (known self.now) }
     {
-        message_at(self.known(), self.index.decision(sender))?.decision(sender)
+        message_at(self.known(), self.index.decision(sender)).and_then(|message| message.decision(
+            sender,
+        ))
     }
 
     /// The first decision of that sender.

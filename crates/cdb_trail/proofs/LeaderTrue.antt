@@ -30,7 +30,8 @@ use Rattle.cdb_trail.specs.Flow.{slot, message, Flow, still, moves}
 use Rattle.cdb_deeds.specs.LeaderDeeds.{number_from, number_of_estimate, number_of_proposal, number_of_learnt}
 use Rattle.cdb_trail.specs.LeaderFlow.{Slot, received, estimate, aux, decision, slot_value, sets_aux, sets_estimate}
 use Rattle.cdb_trail.specs.LeaderFlow.{send_flow, query_flow, local_flow, flow, leader_flows}
-use Rattle.cdb_trail.proofs.Numbers.{IsNumbered, AreNone, numbered, given_found, given_none, found_passes}
+use Rattle.cdb_leader.proofs.Readings.{found_passes}
+use Rattle.cdb_trail.proofs.Numbers.{IsNumbered, AreNone, numbered, given_found, given_none}
 use Rattle.cdb_trail.proofs.RunFlows.{Given, given, TakesOwn, IsOwn, own_if, taken, AreSetTo, KeepsOthers, IsTrueRow, AreTrueOfOne}
 use Rattle.cdb_trail.proofs.Trails.{SameOrNot}
 

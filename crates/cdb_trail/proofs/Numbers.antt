@@ -64,10 +64,3 @@ given_none {X} {Y} f (z ∷ zs) is = go (f z) refl is (given_none f zs)
     go (Some y) at it rest = absurd (cc)
     go None at it rest = ap (λ o. option_or o (first_given f zs)) at ∙ rest it
 
-pub found_passes : {X : Type 0} (test : X → Bool) (xs : List X) (x : X) → find test xs ≡ Some x → test x ≡ true
-found_passes test [] x is = absurd (none-some x is)
-found_passes {X} test (z ∷ zs) x is = go (test z) refl is (found_passes test zs x)
-  where
-    go : (b : Bool) → test z ≡ b → cond b (Some z) (find test zs) ≡ Some x → (find test zs ≡ Some x → test x ≡ true) → test x ≡ true
-    go true at it later = let same : z ≡ x = cc in sym (ap test same) ∙ at
-    go false at it later = later it

@@ -1,8 +1,7 @@
 use Rattle.std.proofs.Common.{sym, ap, ◌∙◌, subst, is_ok, true≢false}
 use Rattle.cdb_agreement.proofs.KeptHistories.{taken_again}
 use Rattle.cdb_setup.specs.Parts.{AreInRange}
-use Rattle.cdb_rules.proofs.Granted.{IsLawful}
-use Rattle.cdb_rules.specs.Machines.{machine_of}
+use Rattle.cdb_rules.specs.Machines.{IsLawful, machine_of}
 use Rattle.cdb_rules.specs.Runs.{with_result}
 use Rattle.cdb_rules.proofs.OfRun.{last_enabled, next_of_run}
 use Rattle.cdb_trail.proofs.played.take_next.Goals as goal

@@ -1,18 +1,13 @@
-use Rattle.std.proofs.Common.{ap, sym, ◌∙◌}
-use Rattle.std.specs.Prelude.{is_some}
-use Rattle.cdb_leader.specs.Inbox.{first_phase_from}
-use Rattle.cdb_leader.proofs.Known.{is_known, is_later}
+use Rattle.std.proofs.Common.{arith}
+use Rattle.std.proofs.lemmas.Grind.{common_steps}
+use Rattle.cdb_leader.specs.Inbox.{first_phase}
+use Rattle.cdb_leader.proofs.Known.{is_read}
 use Rattle.cdb_leader.proofs.inbox.Inbox.has_first_phase.Goals as goal
 
 pub returns-then-is_kept : goal.returns-then-is_kept
 returns-then-is_kept c =
-    c.if-is_kept.true
-    ∙ is_known _ _ _ c.first_phase_positions.ensures _
-    (sym (c.is_kept.ensures ∙ ap is_some c.get.ensures) ∙ c.if-is_kept.true)
+    let read = is_read (first_phase c.args.round) _ _ c.first_phase_positions.ensures c.args.sender in grind (arith, common_steps)
 
 pub returns-else-is_kept : goal.returns-else-is_kept
 returns-else-is_kept c =
-    c.is_some.ensures
-    ∙ ap is_some (c.find_first_phase.ensures ∙ ap (first_phase_from c.args.round c.args.sender) c.later.ensures)
-    ∙ is_later _ _ _ c.first_phase_positions.ensures _
-    (sym (c.is_kept.ensures ∙ ap is_some c.get.ensures) ∙ c.if-is_kept.false)
+    let read = is_read (first_phase c.args.round) _ _ c.first_phase_positions.ensures c.args.sender in grind (arith, common_steps)

@@ -1,7 +1,9 @@
-use Rattle.std.proofs.Common.{sym}
-use Rattle.cdb_leader.proofs.IndexLaws.{first_of_none}
+use Rattle.cdb_leader.specs.Inbox.{first_phase}
+use Rattle.cdb_leader.specs.Index.{IsRowOf, no_row}
+use Rattle.cdb_leader.proofs.IndexLaws.{AreFirsts-none, row_is}
 use Rattle.cdb_leader.proofs.index.Index.first_phases.Goals as goal
 
 pub returns-in-None : goal.returns-in-None
 returns-in-None c = λ inbox h.
-    first_of_none _ _ _ (sym c.in-None.ensures.value) (h.rounds c.args.round) _ c.new.ensures
+    let kept : IsRowOf c.args.round no_row inbox = row_is _ _ _ _ c.in-None.ensures.value (h.rounds c.args.round) in
+    AreFirsts-none (first_phase c.args.round) c.new.result inbox c.new.ensures kept.first_phases
