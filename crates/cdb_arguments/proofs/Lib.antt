@@ -4,9 +4,8 @@ pub mod Named
 pub mod PlainWords
 pub mod Values
 pub mod Subcommands
-pub mod Means
 pub mod Numbers
-pub mod PlainLines
+pub mod SubcommandLines
 pub mod StepLines
 pub mod SeveralLines
 pub mod Requests

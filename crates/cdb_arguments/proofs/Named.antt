@@ -8,7 +8,7 @@ use Rattle.clap.specs.declared.builder.command.Command.{Command}
 use Rattle.clap.specs.declared.builder.command.Command.TheViews.{out-Command}
 use Rattle.cdb_arguments.specs.declared.command_line.Argument.{Argument}
 use Rattle.cdb_arguments.specs.declared.command_line.Subcommand.{Subcommand}
-use Rattle.cdb_arguments.specs.Named.{rule_named, with_argument, with_named}
+use Rattle.cdb_arguments.specs.CommandLine.{rule_named, with_argument, with_named}
 
 pub app_more : (old new : Command) (arg : Arg) (app : App) (arguments : List Argument) (i : ℕ) (d : Argument) → i < length arguments
     → AddsArg old arg new → arg.global ≡ false → rule_of arg ≡ rule_named (get_or arguments i d)

@@ -32,6 +32,11 @@ pub takes_of : (shape : Shape) (w : Walk) (words : List Text) → ValuesPass sha
 takes_of shape w [] pass = tt
 takes_of shape w (word ∷ words) pass = (pass.0, takes_of shape (with_value shape.rules w word) words pass.2)
 
+pub values_append : (shape : Shape) (w : Walk) (words more : List Text) → ValuesPass shape w words
+    → ValuesPass shape (fold (with_value shape.rules) w words) more → ValuesPass shape w (words ++ more)
+values_append shape w [] more pass rest = rest
+values_append shape w (word ∷ words) more pass rest = (pass.0, pass.1, values_append shape (with_value shape.rules w word) words more pass.2 rest)
+
 turn_at : (shape : Shape) (held : Held) (waiting : Waiting) (position : ℕ) (word : Text) → IsPlain word → WaitsForNone waiting
     → step_passes shape position held value ≡ true
     → turn_passes shape [] (record { held = held; waiting = waiting; position = position; is_trailing = false; stopped = None }) word ≡ true

@@ -1,10 +1,15 @@
--- The command line of the program, and what its words ask for.
-use Rattle.std.specs.Prelude.{codes, fold, List, [], ◌∷◌, Some, true, pos}
+-- The command line of the program, as tables: its arguments, and its subcommands.
+use Rattle.std.specs.Prelude.{codes, find, fold, List, [], ◌∷◌, Option, Some, true, pos}
+use Rattle.std.specs.Str.{bytes_eq}
 use Rattle.clap.specs.Lexer.{usize_max}
 use Rattle.clap.specs.Simple.{on_top}
 use Rattle.clap.specs.Words.{App, Rule, Text, new_app, new_rule, with_rule, with_subcommand}
 use Rattle.clap.specs.declared.builder.value_parser.ValueParser.TheVariants as vp
 use Rattle.cdb_base.specs.Limits.{MAX_NUMBER, MAX_TURNS}
+use Rattle.cdb_arguments.specs.declared.command_line.Argument.{Argument}
+use Rattle.cdb_arguments.specs.declared.command_line.Argument.TheVariants as arg
+use Rattle.cdb_arguments.specs.declared.command_line.Subcommand.{Subcommand}
+use Rattle.cdb_arguments.specs.declared.command_line.Subcommand.TheVariants as sub
 
 -- a positional argument that has to be given
 abbrev pub required_rule : Text → Rule
@@ -26,99 +31,80 @@ numbered rule = record rule { parser = Some (vp.Signed (pos 1) (pos MAX_NUMBER))
 abbrev pub several : Rule → Rule
 several rule = record rule { range = Some (record { start_inclusive = 1; end_inclusive = usize_max }) }
 
--- a subcommand with these arguments, in this order
-abbrev pub with_arguments : Text → List Rule → App
-with_arguments name = fold with_rule (new_app name)
+-- each argument
+abbrev pub rule_named : Argument → Rule
+rule_named arg.Setup = required_rule (codes "SETUP")
+rule_named arg.Script = required_rule (codes "SCRIPT")
+rule_named arg.Journal = required_rule (codes "JOURNAL")
+rule_named arg.Goal = required_rule (codes "GOAL")
+rule_named arg.Seed = numbered (required_rule (codes "SEED"))
+rule_named arg.Walks = numbered (required_rule (codes "WALKS"))
+rule_named arg.First = required_rule (codes "FIRST")
+rule_named arg.Second = required_rule (codes "SECOND")
+rule_named arg.Turns = counted (required_rule (codes "TURNS"))
+rule_named arg.Scripts = several (required_rule (codes "SCRIPT"))
+rule_named arg.Process = numbered (required_rule (codes "P"))
+rule_named arg.AnyProcess = numbered (new_rule (codes "P"))
+rule_named arg.Step = numbered (new_rule (codes "K"))
+rule_named arg.Seats = several (new_rule (codes "SEAT"))
+rule_named arg.Kept = option_rule (codes "FILE") (codes "journal")
+rule_named arg.From = option_rule (codes "JOURNAL") (codes "from")
+rule_named arg.Page = option_rule (codes "PAGE") (codes "page")
+rule_named arg.Columns = counted (option_rule (codes "N") (codes "rows"))
+rule_named arg.Frames = option_rule (codes "FOLDER") (codes "frames")
 
--- a subcommand with the files of a setup and of a script, and then these arguments
-abbrev pub on_files : Text → List Rule → App
-on_files name more = with_arguments name (required_rule (codes "SETUP") ∷ required_rule (codes "SCRIPT") ∷ more)
+-- the subcommands, in the order in which help lists them
+abbrev pub all_subcommands : List Subcommand
+all_subcommands =
+    sub.Play ∷ sub.Race ∷ sub.Explain ∷ sub.Trail ∷ sub.Draw ∷ sub.Slice ∷ sub.Debug ∷ sub.Replay ∷ sub.Search
+    ∷ sub.Same ∷ sub.Clocks ∷ sub.Shrink ∷ sub.Page ∷ []
 
--- `play SETUP SCRIPT`
-abbrev pub play_app : App
-play_app = on_files (codes "play") []
+abbrev pub name_of : Subcommand → Text
+name_of sub.Play = codes "play"
+name_of sub.Race = codes "race"
+name_of sub.Explain = codes "explain"
+name_of sub.Trail = codes "trail"
+name_of sub.Draw = codes "draw"
+name_of sub.Slice = codes "slice"
+name_of sub.Debug = codes "debug"
+name_of sub.Replay = codes "replay"
+name_of sub.Search = codes "search"
+name_of sub.Shrink = codes "shrink"
+name_of sub.Same = codes "same"
+name_of sub.Clocks = codes "clocks"
+name_of sub.Page = codes "page"
 
--- `race SETUP TURNS SCRIPT..`
-abbrev pub race_app : App
-race_app =
-    with_arguments (codes "race")
-    (required_rule (codes "SETUP") ∷ counted (required_rule (codes "TURNS"))
-    ∷ several (required_rule (codes "SCRIPT")) ∷ [])
+-- the subcommand of this name
+abbrev pub subcommand_named : Text → Option Subcommand
+subcommand_named name = find (λ subcommand. bytes_eq name (name_of subcommand)) all_subcommands
 
--- a subcommand with these files, and a step
-abbrev pub on_step : Text → App
-on_step name = on_files name (numbered (required_rule (codes "P")) ∷ numbered (new_rule (codes "K")) ∷ [])
+-- the arguments of each, in their order
+abbrev pub arguments_of : Subcommand → List Argument
+arguments_of sub.Race = arg.Setup ∷ arg.Turns ∷ arg.Scripts ∷ []
+arguments_of sub.Explain = arg.Setup ∷ arg.Script ∷ arg.Process ∷ arg.Step ∷ []
+arguments_of sub.Trail = arg.Setup ∷ arg.Script ∷ arg.Process ∷ arg.Step ∷ []
+arguments_of sub.Draw = arg.Setup ∷ arg.Script ∷ arg.AnyProcess ∷ arg.Step ∷ arg.Columns ∷ arg.Frames ∷ []
+arguments_of sub.Slice = arg.Setup ∷ arg.Script ∷ arg.AnyProcess ∷ arg.Step ∷ []
+arguments_of sub.Debug = arg.Setup ∷ arg.Seats ∷ arg.Kept ∷ arg.From ∷ arg.Page ∷ []
+arguments_of sub.Replay = arg.Setup ∷ arg.Journal ∷ []
+arguments_of sub.Search = arg.Setup ∷ arg.Goal ∷ arg.Seed ∷ arg.Walks ∷ []
+arguments_of sub.Shrink = arg.Setup ∷ arg.Script ∷ arg.Goal ∷ []
+arguments_of sub.Same = arg.Setup ∷ arg.First ∷ arg.Second ∷ []
+arguments_of other = arg.Setup ∷ arg.Script ∷ []
 
--- `explain SETUP SCRIPT P [K]`
-abbrev pub explain_app : App
-explain_app = on_step (codes "explain")
+abbrev pub with_argument : App → Argument → App
+with_argument app argument = with_rule app (rule_named argument)
 
--- `trail SETUP SCRIPT P [K]`
-abbrev pub trail_app : App
-trail_app = on_step (codes "trail")
+abbrev pub app_named : Subcommand → App
+app_named subcommand = fold with_argument (new_app (name_of subcommand)) (arguments_of subcommand)
 
--- a subcommand with these files, a step that may be left out, and then these arguments
-abbrev pub on_any_step : Text → List Rule → App
-on_any_step name more = on_files name (numbered (new_rule (codes "P")) ∷ numbered (new_rule (codes "K")) ∷ more)
+abbrev pub with_named : App → Subcommand → App
+with_named app subcommand = with_subcommand app (app_named subcommand).top
 
--- `draw [--rows N] [--frames FOLDER] SETUP SCRIPT [P [K]]`
-abbrev pub draw_app : App
-draw_app =
-    on_any_step (codes "draw")
-    (counted (option_rule (codes "N") (codes "rows")) ∷ option_rule (codes "FOLDER") (codes "frames") ∷ [])
-
--- `slice SETUP SCRIPT [P [K]]`
-abbrev pub slice_app : App
-slice_app = on_any_step (codes "slice") []
-
--- `debug [--journal FILE] [--from JOURNAL] [--page PAGE] SETUP [SEAT..]`
-abbrev pub debug_app : App
-debug_app =
-    with_arguments (codes "debug")
-    (required_rule (codes "SETUP") ∷ several (new_rule (codes "SEAT")) ∷ option_rule (codes "FILE") (codes "journal")
-    ∷ option_rule (codes "JOURNAL") (codes "from") ∷ option_rule (codes "PAGE") (codes "page") ∷ [])
-
--- `replay SETUP JOURNAL`
-abbrev pub replay_app : App
-replay_app = with_arguments (codes "replay") (required_rule (codes "SETUP") ∷ required_rule (codes "JOURNAL") ∷ [])
-
--- `search SETUP GOAL SEED WALKS`
-abbrev pub search_app : App
-search_app =
-    with_arguments (codes "search")
-    (required_rule (codes "SETUP") ∷ required_rule (codes "GOAL") ∷ numbered (required_rule (codes "SEED"))
-    ∷ numbered (required_rule (codes "WALKS")) ∷ [])
-
--- `same SETUP FIRST SECOND`
-abbrev pub same_app : App
-same_app =
-    with_arguments (codes "same")
-    (required_rule (codes "SETUP") ∷ required_rule (codes "FIRST") ∷ required_rule (codes "SECOND") ∷ [])
-
--- `clocks SETUP SCRIPT`
-abbrev pub clocks_app : App
-clocks_app = on_files (codes "clocks") []
-
--- `page SETUP SCRIPT`
-abbrev pub page_app : App
-page_app = on_files (codes "page") []
-
--- `shrink SETUP SCRIPT GOAL`
-abbrev pub shrink_app : App
-shrink_app = on_files (codes "shrink") (required_rule (codes "GOAL") ∷ [])
-
--- the program with these subcommands too
-abbrev pub with_subcommands : App → List App → App
-with_subcommands = fold (λ app sub. with_subcommand app sub.top)
-
--- the program with its version and none for help, with the subcommands that print the replies of scripts
-abbrev pub playing : App
-playing =
-    let bare =
-    on_top (λ s. record s { has_version = true; disable_help_subcommand = true }) (new_app (codes "revdbg")) in
-    with_subcommands bare (play_app ∷ race_app ∷ [])
+-- the program with its version and none for help, without its subcommands
+abbrev pub bare_program : App
+bare_program = on_top (λ s. record s { has_version = true; disable_help_subcommand = true }) (new_app (codes "revdbg"))
 
 -- the program with its subcommands
 unfoldable pub program : App
-program = with_subcommands playing (explain_app ∷ trail_app ∷ draw_app ∷ slice_app ∷ debug_app ∷ replay_app ∷ search_app
-    ∷ same_app ∷ clocks_app ∷ shrink_app ∷ page_app ∷ [])
+program = fold with_named bare_program all_subcommands

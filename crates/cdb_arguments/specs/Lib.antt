@@ -2,5 +2,3 @@
 pub mod CommandLine
 pub mod Plain
 pub mod RequestsOfRows
--- what the code keeps for itself
-pub mod Named

@@ -1,13 +1,17 @@
 -- What the arguments ask for.
-use Rattle.std.specs.Prelude.{◌≡◌, ◌⊎◌, ℕ, ◌≤◌, List, [], codes, Option, Some}
+use Rattle.std.specs.Prelude.{◌≡◌, ℕ, ◌≤◌, List, [], codes, Option, Some}
 use Rattle.std.specs.Prelude.{None, unwrap_or, Result, IfOk, IfErr, IsSome}
+use Rattle.std.specs.Option.{MatchOption}
 use Rattle.clap.specs.Words.{Kinds, IsAmong, Row, first_of, all_of, kind_of}
 use Rattle.clap.specs.declared.error.kind.ErrorKind.{ErrorKind}
 use Rattle.clap.specs.declared.error.kind.ErrorKind.TheVariants.{DisplayHelp, DisplayVersion}
 use Rattle.cdb_base.specs.Limits.{COLUMNS, MAX_NUMBER, MAX_TURNS}
 use Rattle.cdb_arguments.specs.declared.request.ArgumentsFault.{ArgumentsFault}
 use Rattle.cdb_arguments.specs.declared.request.ArgumentsFault.TheVariants.{Words, NoMemory}
-use Rattle.cdb_arguments.specs.Plain.{WritesCount, WritesNumber, question_name}
+use Rattle.cdb_arguments.specs.CommandLine.{subcommand_named}
+use Rattle.cdb_arguments.specs.declared.command_line.Subcommand.{Subcommand}
+use Rattle.cdb_arguments.specs.declared.command_line.Subcommand.TheVariants as sub
+use Rattle.cdb_arguments.specs.Plain.{WritesCount, WritesNumber}
 use Rattle.cdb_base.specs.Memory.{no_memory}
 use Rattle.cdb_base.specs.Requests.{RequestView, Script, Play, Race, Ask, Frames, Debug, Replay}
 use Rattle.cdb_base.specs.Requests.{Search, Shrink, Same, Clocks, Page, Text, asked_for}
@@ -15,15 +19,6 @@ use Rattle.cdb_base.specs.declared.question.Question.{Question}
 use Rattle.cdb_base.specs.declared.question.Question.TheVariants.{Explain, Trail, Draw, Slice}
 use Rattle.cdb_base.specs.declared.question.StepAsked.{StepAsked}
 use Rattle.cdb_base.specs.declared.request.Request.{Request}
-
--- one of the subcommands, or none
-abbrev pub NamesOne : Option (Text × List Row) → Type 0
-NamesOne None = Unit {0}
-NamesOne (Some found) = (found.0 ≡ codes "play") ⊎ ((found.0 ≡ codes "race")
-    ⊎ ((found.0 ≡ codes "explain") ⊎ ((found.0 ≡ codes "trail") ⊎ ((found.0 ≡ codes "draw")
-    ⊎ ((found.0 ≡ codes "slice") ⊎ ((found.0 ≡ codes "debug") ⊎ ((found.0 ≡ codes "replay")
-    ⊎ ((found.0 ≡ codes "search") ⊎ ((found.0 ≡ codes "same") ⊎ ((found.0 ≡ codes "clocks")
-    ⊎ ((found.0 ≡ codes "shrink") ⊎ (found.0 ≡ codes "page"))))))))))))
 
 -- the text of an argument, which is empty where the matches have none
 abbrev pub text_at : Text → List Row → Text
@@ -64,63 +59,49 @@ abbrev pub AreColumns : Option Text → ℕ → Type 0
 AreColumns None columns = columns ≡ COLUMNS
 AreColumns (Some text) columns = IsCount text columns
 
--- the question asks for the step of the matches; a picture has their columns, and no folder is given
-abbrev pub HasStepOf : List Row → Question → Type 0
-HasStepOf rows (Explain step) = IsStepIn rows step
-HasStepOf rows (Trail step) = IsStepIn rows step
-HasStepOf rows (Draw columns step) =
-    IsAnyStepIn rows step × AreColumns (first_of (codes "N") rows) columns × (first_of (codes "FOLDER") rows ≡ None)
-HasStepOf rows (Slice step) = IsAnyStepIn rows step
+-- a question of the run of two files, with a step of the matches
+abbrev pub AsksStep : {S : Type 0} → (List Row → S → Type 0) → (S → Question) → List Row → RequestView → Type 0
+AsksStep {S} IsIn question rows asked =
+    (step : S) × IsIn rows step
+    × (asked ≡ Ask (text_at (codes "SETUP") rows) (text_at (codes "SCRIPT") rows) (question step))
 
--- the subcommand that asks for it; the script on standard input has none
-abbrev pub subcommand_for : RequestView → Option Text
-subcommand_for Script = None
-subcommand_for (Play setup script) = Some (codes "play")
-subcommand_for (Race setup turns scripts) = Some (codes "race")
-subcommand_for (Ask setup script question) = Some (question_name question)
-subcommand_for (Frames setup script folder columns step) = Some (codes "draw")
-subcommand_for (Debug setup seats from journal page) = Some (codes "debug")
-subcommand_for (Replay setup journal) = Some (codes "replay")
-subcommand_for (Search setup goal seed walks) = Some (codes "search")
-subcommand_for (Shrink setup script goal) = Some (codes "shrink")
-subcommand_for (Same setup first second) = Some (codes "same")
-subcommand_for (Clocks setup script) = Some (codes "clocks")
-subcommand_for (Page setup script) = Some (codes "page")
+-- a picture with these columns, or its frames in a folder
+abbrev pub AsksDrawing : ℕ → Option Text → List Row → RequestView → Type 0
+AsksDrawing columns None rows asked = AsksStep IsAnyStepIn (λ step. Draw columns step) rows asked
+AsksDrawing columns (Some folder) rows asked =
+    (step : Option StepAsked) × IsAnyStepIn rows step
+    × (asked ≡ Frames (text_at (codes "SETUP") rows) (text_at (codes "SCRIPT") rows) folder columns step)
 
--- the texts of the matches ask for it, each at its place
-abbrev pub Asks : List Row → RequestView → Type 0
-Asks rows Script = Unit {0}
-Asks rows (Play setup script) = (setup ≡ text_at (codes "SETUP") rows) × (script ≡ text_at (codes "SCRIPT") rows)
-Asks rows (Race setup turns scripts) =
-    (setup ≡ text_at (codes "SETUP") rows) × (scripts ≡ texts_at (codes "SCRIPT") rows)
-    × IsCount (text_at (codes "TURNS") rows) turns
-Asks rows (Ask setup script question) =
-    (setup ≡ text_at (codes "SETUP") rows) × (script ≡ text_at (codes "SCRIPT") rows) × HasStepOf rows question
-Asks rows (Frames setup script folder columns step) =
-    (setup ≡ text_at (codes "SETUP") rows) × (script ≡ text_at (codes "SCRIPT") rows)
-    × (first_of (codes "FOLDER") rows ≡ Some folder)
-    × AreColumns (first_of (codes "N") rows) columns × IsAnyStepIn rows step
-Asks rows (Debug setup seats from journal page) =
-    (setup ≡ text_at (codes "SETUP") rows) × (seats ≡ texts_at (codes "SEAT") rows)
-    × (from ≡ first_of (codes "JOURNAL") rows) × (journal ≡ first_of (codes "FILE") rows)
-    × (page ≡ first_of (codes "PAGE") rows)
-Asks rows (Replay setup journal) = (setup ≡ text_at (codes "SETUP") rows) × (journal ≡ text_at (codes "JOURNAL") rows)
-Asks rows (Search setup goal seed walks) =
-    (setup ≡ text_at (codes "SETUP") rows) × (goal ≡ text_at (codes "GOAL") rows)
-    × IsNumber (text_at (codes "SEED") rows) seed × IsNumber (text_at (codes "WALKS") rows) walks
-Asks rows (Shrink setup script goal) =
-    (setup ≡ text_at (codes "SETUP") rows) × (script ≡ text_at (codes "SCRIPT") rows)
-    × (goal ≡ text_at (codes "GOAL") rows)
-Asks rows (Same setup first second) =
-    (setup ≡ text_at (codes "SETUP") rows) × (first ≡ text_at (codes "FIRST") rows)
-    × (second ≡ text_at (codes "SECOND") rows)
-Asks rows (Clocks setup script) = (setup ≡ text_at (codes "SETUP") rows) × (script ≡ text_at (codes "SCRIPT") rows)
-Asks rows (Page setup script) = (setup ≡ text_at (codes "SETUP") rows) × (script ≡ text_at (codes "SCRIPT") rows)
+-- what the matches of each subcommand ask for
+abbrev pub AsksFor : Subcommand → List Row → RequestView → Type 0
+AsksFor sub.Play rows asked = asked ≡ Play (text_at (codes "SETUP") rows) (text_at (codes "SCRIPT") rows)
+AsksFor sub.Race rows asked =
+    (turns : ℕ) × IsCount (text_at (codes "TURNS") rows) turns
+    × (asked ≡ Race (text_at (codes "SETUP") rows) turns (texts_at (codes "SCRIPT") rows))
+AsksFor sub.Explain rows asked = AsksStep IsStepIn (λ step. Explain step) rows asked
+AsksFor sub.Trail rows asked = AsksStep IsStepIn (λ step. Trail step) rows asked
+AsksFor sub.Draw rows asked =
+    (columns : ℕ) × AreColumns (first_of (codes "N") rows) columns
+    × AsksDrawing columns (first_of (codes "FOLDER") rows) rows asked
+AsksFor sub.Slice rows asked = AsksStep IsAnyStepIn (λ step. Slice step) rows asked
+AsksFor sub.Debug rows asked =
+    asked ≡ Debug (text_at (codes "SETUP") rows) (texts_at (codes "SEAT") rows) (first_of (codes "JOURNAL") rows)
+    (first_of (codes "FILE") rows) (first_of (codes "PAGE") rows)
+AsksFor sub.Replay rows asked = asked ≡ Replay (text_at (codes "SETUP") rows) (text_at (codes "JOURNAL") rows)
+AsksFor sub.Search rows asked =
+    (seed walks : ℕ) × IsNumber (text_at (codes "SEED") rows) seed × IsNumber (text_at (codes "WALKS") rows) walks
+    × (asked ≡ Search (text_at (codes "SETUP") rows) (text_at (codes "GOAL") rows) seed walks)
+AsksFor sub.Shrink rows asked =
+    asked ≡ Shrink (text_at (codes "SETUP") rows) (text_at (codes "SCRIPT") rows) (text_at (codes "GOAL") rows)
+AsksFor sub.Same rows asked =
+    asked ≡ Same (text_at (codes "SETUP") rows) (text_at (codes "FIRST") rows) (text_at (codes "SECOND") rows)
+AsksFor sub.Clocks rows asked = asked ≡ Clocks (text_at (codes "SETUP") rows) (text_at (codes "SCRIPT") rows)
+AsksFor sub.Page rows asked = asked ≡ Page (text_at (codes "SETUP") rows) (text_at (codes "SCRIPT") rows)
 
--- the matches name the subcommand that asks for it, if there is one, with its texts
+-- the matches name a subcommand and ask for this, or they name none and ask for the script on standard input
 abbrev pub NamesAsked : Option (Text × List Row) → RequestView → Type 0
 NamesAsked None asked = asked ≡ Script
-NamesAsked (Some found) asked = (subcommand_for asked ≡ Some found.0) × Asks found.1 asked
+NamesAsked (Some found) asked = MatchOption (subcommand_named found.0) ⊥ (λ it. AsksFor it found.1 asked)
 
 -- this was asked for, or there is no memory to say it
 abbrev pub IsRequest : Result Request ArgumentsFault → RequestView → Type 0

@@ -1,10 +1,11 @@
 //! The command line, as `clap` is told of it.
 
-ghost use Rattle.std.specs.Prelude.{◌≡◌, IfOk, [], false, true, codes, fold};
+ghost use Rattle.std.specs.Prelude.{◌≡◌, IfOk, false, true, codes};
 ghost use Rattle.clap.specs.Words.{app_of, new_app, new_rule, rule_of};
 ghost use Rattle.clap.specs.declared.builder.command.Command.TheViews.{out-Command};
 ghost use Rattle.cdb_arguments.specs.CommandLine.{required_rule, option_rule, counted, numbered, several, program};
-ghost use Rattle.cdb_arguments.specs.Named.{rule_named, name_of, app_named, with_argument, with_named, bare_program};
+ghost use Rattle.cdb_arguments.specs.CommandLine.{rule_named, name_of, arguments_of, app_named, with_named};
+ghost use Rattle.cdb_arguments.specs.CommandLine.{bare_program};
 
 use cdb_commands::COMMANDS;
 use clap::{Arg, Command};
@@ -167,7 +168,7 @@ impl Subcommand {
 
     /// The arguments, in their order.
     fn arguments(&self) -> &'static [Argument]
-        ensures { fold with_argument (new_app (name_of self.now)) result.now ≡ app_named self.now }
+        ensures { result.now ≡ arguments_of self.now }
     {
         match self {
             Subcommand::Play | Subcommand::Clocks | Subcommand::Page => {

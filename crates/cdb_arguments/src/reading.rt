@@ -1,15 +1,16 @@
 //! Reading the words of the command line.
 
-ghost use Rattle.std.specs.Prelude.{◌≡◌, ◌≢◌, OnOk, IfOk, IfErr, Some, [], true, map, codes};
+ghost use Rattle.std.specs.Prelude.{◌≡◌, ◌≢◌, OnOk, IfOk, IfErr, IfSome, IsSome, Some, [], true, map, codes};
 ghost use Rattle.clap.specs.Words.{Kinds, Text, HasKind, fault_of, first_of, found_of, kind_of};
 ghost use Rattle.clap.specs.Words.{rows_of, subcommand_of, subcommand_rows_of, takes};
 ghost use Rattle.cdb_base.specs.Memory.{no_memory};
-ghost use Rattle.cdb_arguments.specs.CommandLine.{program};
-ghost use Rattle.cdb_arguments.specs.RequestsOfRows.{AreColumns, HasStepOf, IsAnyStepIn, IsStepIn, NamesOne, IsCount};
+ghost use Rattle.cdb_arguments.specs.CommandLine.{program, subcommand_named};
+ghost use Rattle.cdb_arguments.specs.declared.command_line.Subcommand.TheVariants as sub;
+ghost use Rattle.cdb_arguments.specs.RequestsOfRows.{AreColumns, AsksDrawing, AsksFor, IsAnyStepIn, IsStepIn, IsCount};
 ghost use Rattle.cdb_arguments.specs.RequestsOfRows.{IsNumber, IsNumberAt, text_at, texts_at, NamesAsked, IsOfKinds};
 ghost use Rattle.cdb_arguments.specs.RequestsOfRows.{IsRequest, ask_status_of, words_status};
-ghost use Rattle.cdb_arguments.specs.Plain.{IsLine, question_name};
-ghost use Rattle.cdb_base.specs.Requests.{RequestView, any_text, asked_for, texts};
+ghost use Rattle.cdb_arguments.specs.Plain.{IsLine};
+ghost use Rattle.cdb_base.specs.Requests.{RequestView, Ask, any_text, asked_for, texts};
 
 use crate::command_line::program;
 use crate::request::{ArgumentsFault, WordsError};
@@ -112,7 +113,7 @@ fn texts_of<'a>(
 
 /// A play of two files.
 fn play_of<'a>(found: &ArgMatches<'a>) -> Request<'a>
-    ensures { NamesAsked (Some (codes "play", rows_of (found_of found.now))) (asked_for result) }
+    ensures { AsksFor sub.Play (rows_of (found_of found.now)) (asked_for result) }
 {
     Request::Play {
         setup: text_of(found, "SETUP"),
@@ -123,7 +124,7 @@ fn play_of<'a>(found: &ArgMatches<'a>) -> Request<'a>
 /// A race of scripts.
 fn race_of<'a>(alloc: Global, found: &ArgMatches<'a>) -> Result<Request<'a>, AllocError>
     ensures { IfOk result
-        (λ request. NamesAsked (Some (codes "race", rows_of (found_of found.now))) (asked_for request)) }
+        (λ request. AsksFor sub.Race (rows_of (found_of found.now)) (asked_for request)) }
 {
     Ok(Request::Race {
         setup: text_of(found, "SETUP"),
@@ -154,8 +155,8 @@ fn any_step_of(found: &ArgMatches) -> Option<StepAsked>
 
 /// What is asked of the run of two files.
 fn question_of<'a>(found: &ArgMatches<'a>, question: Question) -> Request<'a>
-    requires { HasStepOf (rows_of (found_of found.now)) question }
-    ensures { NamesAsked (Some (question_name question, rows_of (found_of found.now))) (asked_for result) }
+    ensures { asked_for result ≡ Ask (text_at (codes "SETUP") (rows_of (found_of found.now)))
+        (text_at (codes "SCRIPT") (rows_of (found_of found.now))) question }
 {
     Request::Ask {
         setup: text_of(found, "SETUP"),
@@ -176,7 +177,7 @@ fn columns_of(found: &ArgMatches) -> u32
 
 /// A picture, or the frames where a folder is given.
 fn drawing_of<'a>(found: &ArgMatches<'a>) -> Request<'a>
-    ensures { NamesAsked (Some (codes "draw", rows_of (found_of found.now))) (asked_for result) }
+    ensures { AsksFor sub.Draw (rows_of (found_of found.now)) (asked_for result) }
 {
     let columns = columns_of(found);
     let step = any_step_of(found);
@@ -195,7 +196,7 @@ fn drawing_of<'a>(found: &ArgMatches<'a>) -> Request<'a>
 /// A session for each seat.
 fn debug_of<'a>(alloc: Global, found: &ArgMatches<'a>) -> Result<Request<'a>, AllocError>
     ensures { IfOk result
-        (λ request. NamesAsked (Some (codes "debug", rows_of (found_of found.now))) (asked_for request)) }
+        (λ request. AsksFor sub.Debug (rows_of (found_of found.now)) (asked_for request)) }
 {
     Ok(Request::Debug {
         setup: text_of(found, "SETUP"),
@@ -208,7 +209,7 @@ fn debug_of<'a>(alloc: Global, found: &ArgMatches<'a>) -> Result<Request<'a>, Al
 
 /// A journal that is played again.
 fn replay_of<'a>(found: &ArgMatches<'a>) -> Request<'a>
-    ensures { NamesAsked (Some (codes "replay", rows_of (found_of found.now))) (asked_for result) }
+    ensures { AsksFor sub.Replay (rows_of (found_of found.now)) (asked_for result) }
 {
     Request::Replay {
         setup: text_of(found, "SETUP"),
@@ -218,7 +219,7 @@ fn replay_of<'a>(found: &ArgMatches<'a>) -> Request<'a>
 
 /// A search for a run in which a goal holds.
 fn search_of<'a>(found: &ArgMatches<'a>) -> Request<'a>
-    ensures { NamesAsked (Some (codes "search", rows_of (found_of found.now))) (asked_for result) }
+    ensures { AsksFor sub.Search (rows_of (found_of found.now)) (asked_for result) }
 {
     Request::Search {
         setup: text_of(found, "SETUP"),
@@ -230,7 +231,7 @@ fn search_of<'a>(found: &ArgMatches<'a>) -> Request<'a>
 
 /// Whether two scripts leave the same run.
 fn same_of<'a>(found: &ArgMatches<'a>) -> Request<'a>
-    ensures { NamesAsked (Some (codes "same", rows_of (found_of found.now))) (asked_for result) }
+    ensures { AsksFor sub.Same (rows_of (found_of found.now)) (asked_for result) }
 {
     Request::Same {
         setup: text_of(found, "SETUP"),
@@ -241,7 +242,7 @@ fn same_of<'a>(found: &ArgMatches<'a>) -> Request<'a>
 
 /// The clocks of the run that a script leaves.
 fn clocks_of<'a>(found: &ArgMatches<'a>) -> Request<'a>
-    ensures { NamesAsked (Some (codes "clocks", rows_of (found_of found.now))) (asked_for result) }
+    ensures { AsksFor sub.Clocks (rows_of (found_of found.now)) (asked_for result) }
 {
     Request::Clocks {
         setup: text_of(found, "SETUP"),
@@ -251,7 +252,7 @@ fn clocks_of<'a>(found: &ArgMatches<'a>) -> Request<'a>
 
 /// A page of the run of two files.
 fn page_of<'a>(found: &ArgMatches<'a>) -> Request<'a>
-    ensures { NamesAsked (Some (codes "page", rows_of (found_of found.now))) (asked_for result) }
+    ensures { AsksFor sub.Page (rows_of (found_of found.now)) (asked_for result) }
 {
     Request::Page {
         setup: text_of(found, "SETUP"),
@@ -261,7 +262,7 @@ fn page_of<'a>(found: &ArgMatches<'a>) -> Request<'a>
 
 /// A script that is made small.
 fn shrink_of<'a>(found: &ArgMatches<'a>) -> Request<'a>
-    ensures { NamesAsked (Some (codes "shrink", rows_of (found_of found.now))) (asked_for result) }
+    ensures { AsksFor sub.Shrink (rows_of (found_of found.now)) (asked_for result) }
 {
     Request::Shrink {
         setup: text_of(found, "SETUP"),
@@ -276,7 +277,7 @@ fn asked_under<'a>(
     name: &str,
     found: &ArgMatches<'a>,
 ) -> Result<Request<'a>, AllocError>
-    requires { NamesOne (Some (name.now, rows_of (found_of found.now))) }
+    requires { IsSome (subcommand_named name.now) }
     ensures { IfOk result
         (λ request. NamesAsked (Some (name.now, rows_of (found_of found.now))) (asked_for request)) }
 {
@@ -299,7 +300,7 @@ fn asked_under<'a>(
 
 /// What the matches ask for.
 fn asked_by<'a>(alloc: Global, matches: &ArgMatches<'a>) -> Result<Request<'a>, AllocError>
-    requires { NamesOne (subcommand_rows_of matches.now) }
+    requires { IfSome (subcommand_rows_of matches.now) (λ found. IsSome (subcommand_named found.0)) }
     ensures { IfOk result
         (λ request. NamesAsked (subcommand_rows_of matches.now) (asked_for request)) }
 {

@@ -1,5 +1,5 @@
 use Rattle.clap.specs.Words.{new_app}
-use Rattle.cdb_arguments.specs.Named.{name_of}
+use Rattle.cdb_arguments.specs.CommandLine.{name_of}
 use Rattle.cdb_arguments.proofs.Named.{app_more, stays_local}
 use Rattle.cdb_arguments.proofs.command_line.command_of.Goals as goal
 

@@ -2,7 +2,7 @@ use Rattle.std.proofs.Common.{◌≡◌, false, take}
 use Rattle.std.specs.Prelude.{fold}
 use Rattle.clap.specs.Words.{app_of, new_app}
 use Rattle.clap.specs.declared.builder.command.Command.TheViews.{out-Command}
-use Rattle.cdb_arguments.specs.Named.{name_of, with_argument}
+use Rattle.cdb_arguments.specs.CommandLine.{name_of, with_argument}
 use Rattle.cdb_arguments.proofs.command_line.command_of.Given as goal
 
 abbrev pub invariant-loop-argument : goal.invariant-loop-argument

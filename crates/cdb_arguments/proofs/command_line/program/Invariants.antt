@@ -1,7 +1,7 @@
 use Rattle.std.proofs.Common.{◌≡◌, take}
 use Rattle.std.specs.Prelude.{fold}
 use Rattle.clap.specs.Words.{app_of}
-use Rattle.cdb_arguments.specs.Named.{bare_program, with_named}
+use Rattle.cdb_arguments.specs.CommandLine.{bare_program, with_named}
 use Rattle.cdb_arguments.proofs.command_line.program.Given as goal
 
 abbrev pub invariant-loop-subcommand : goal.invariant-loop-subcommand
