@@ -1,20 +1,41 @@
--- What the final journal has of the seats of a race.
-use Rattle.std.proofs.Common.{◌≡◌, ℕ, ◌+◌, ◌-◌, ◌<◌, ◌≤◌, List, [], ◌∷◌, All, length, get_or, refl, sym, ap, ◌∙◌, subst, arith}
+-- What the final journal has of the seats of a race, and what a race has done when it ended.
+use Rattle.std.proofs.lemmas.Grind.{common_steps}
+use Rattle.std.proofs.lemmas.Option.{gets}
+use Rattle.std.proofs.Common.{◌≡◌, ℕ, ◌+◌, ◌-◌, ◌<◌, ◌≤◌, List, [], ◌∷◌, All, Some, Result, Err, length, map, reverse, replicate, take, get_or, refl}
+use Rattle.std.proofs.Common.{sym, ap, ◌∙◌, subst, arith, length-append}
+use Rattle.std.proofs.lemmas.List.{length-map, length-reverse}
 use Rattle.atomic_table.specs.Seated.{TableId}
+use Rattle.cdb_base.specs.Limits.{MAX_ENTRIES}
 use Rattle.cdb_control.proofs.Own.{replies_of-same}
-use Rattle.cdb_commands.specs.ReplyView.{ReplyView}
+use Rattle.cdb_commands.specs.ReplyView.{ReplyView, reply_view}
 use Rattle.cdb_control.specs.Journal.{Journaled, opened, own, replies_of, AreOfSeats}
 use Rattle.cdb_commands.specs.declared.command.Command.{Command}
+use Rattle.cdb_commands.specs.declared.command.Command.TheVariants.{Auto}
+use Rattle.cdb_race.specs.Faults.{fault_at, AreWell}
 use Rattle.cdb_race.specs.Plans.{seats_of}
-use Rattle.cdb_race.specs.Promises.{IsReady}
-use Rattle.cdb_race.specs.Races.{AllFinished, AllRan, AreSeatsOf, IsRaced, replies_in}
-use Rattle.cdb_race.specs.Runs.{IsDrivenOut, HasFinished}
+use Rattle.cdb_race.specs.Promises.{HasRan, IsReady}
+use Rattle.cdb_race.specs.Races.{AllRan, AreRepliesOf, AreSeatsOf, IsRaced, IsUnderWay, replies_in}
+use Rattle.cdb_race.specs.Runs.{HasFinished, IsDrivenOut}
 use Rattle.cdb_race.specs.declared.plan.Plan.{Plan}
+use Rattle.cdb_race.specs.declared.threads.ThreadFault.{ThreadFault}
+use Rattle.cdb_race.specs.declared.threads.ThreadFault.TheVariants as fault
 use Rattle.cdb_race.specs.declared.worker.Ran.{Ran}
+use Rattle.cdb_race.proofs.Collected.{taken_at}
+use Rattle.cdb_race.proofs.Finishes.{ends_well, finished}
 use Rattle.cdb_rules.specs.Rules.{Rules}
 use Rattle.cdb_setup.specs.Parts.{Parts}
 use Rattle.cdb_shared.specs.Seats.{SeatView, AreFresh, RestsAt, IsKnownBy, fresh_seat}
 use Rattle.cdb_shared.specs.Sessions.{calls_of, replies_to}
+use Rattle.cdb_shared.specs.declared.session.End.{End}
+use Rattle.cdb_shared.specs.declared.session.End.TheVariants.{JournalFull}
+
+-- equal answers have equal faults
+pub same_fault : {A : Type 0} (x y : Result A ThreadFault) (a b : ThreadFault) → x ≡ Err a → y ≡ Err b → x ≡ y → a ≡ b
+same_fault x y a b left right same = cc
+
+-- a full journal is the fault of a seat that met one
+pub met_full : (seat : ℕ) (end : End) → fault_at seat end ≡ Some fault.JournalFull → end ≡ JournalFull
+met_full seat end has = grind (arith, common_steps, gets)
 
 pub all_ready : (shared : TableId) (plan : Plan) (setup : Parts) (seats : List SeatView)
     → AreFresh shared setup (seats_of plan) seats → All (λ seat. IsReady shared plan seat) seats
@@ -22,23 +43,12 @@ all_ready shared plan setup seats new k d low =
     let below : k < seats_of plan = omega (arith, new.many) in
     subst (λ (s : SeatView). IsReady shared plan s) (sym (new.each k d below)) (record { rests = (refl, refl); new = refl; planned = omega arith })
 
-some_of : {T : Type 0} (rans : List (Ran T)) → 0 < length rans → Ran T
+pub some_of : {T : Type 0} (rans : List (Ran T)) → 0 < length rans → Ran T
 some_of [] low = absurd (omega arith)
 some_of (ran ∷ rans) low = ran
 
-pub all_rest : {T : Type 0} (rules : Parts → Rules) (shared : TableId) (plan : Plan) (setup : Parts) (before seats : List SeatView) (rans : List (Ran T))
-    → AreFresh shared setup (seats_of plan) before → length rans ≡ seats_of plan → length seats ≡ length rans
-    → AllRan rules plan before rans → AreSeatsOf seats rans → All (λ seat. RestsAt shared seat) seats
-all_rest rules shared plan setup before seats rans new many long all gathered k d low =
-    let nobody = some_of rans (omega (arith, long, low)) in
-    let none = fresh_seat shared (opened setup 0) 0 in
-    let position = length rans - 1 - k in
-    let ran = all position nobody (omega (arith, long, low)) none in
-    let first = new.each (length before - 1 - position) none (omega (arith, new.many, many, long, low)) in
-    subst (RestsAt shared) (sym (gathered k d nobody (omega (arith, long, low)))) (ran.later.home ∙ ap (λ (b : SeatView). b.home) first, ran.later.rests)
-
 -- the commands and the answers of a seat whose journal is known
-pub own_known : (c : Journaled) (seat : SeatView) (n : ℕ) → seat.number ≡ n → IsKnownBy c seat → own n c.journal ≡ calls_of seat
+own_known : (c : Journaled) (seat : SeatView) (n : ℕ) → seat.number ≡ n → IsKnownBy c seat → own n c.journal ≡ calls_of seat
 own_known c seat n is known = ap (λ m. own m c.journal) (sym is) ∙ known.calls
 
 replies_known_now : (rules : Parts → Rules) (c : Journaled) (seat : SeatView) (n : ℕ)
@@ -47,68 +57,118 @@ replies_known_now rules c seat n is known =
     (λ i. replies_of (rules (known.setup i)) (known.setup i) (known.seats i) (sym is i) c.journal)
     ∙ replies_of-same (rules seat.setup) seat.setup seat.seats seat.number seat.seen c.journal known.begins known.calls
 
-module _ (rules : Parts → Rules) (shared : TableId) (plan : Plan) (setup : Parts)
-    (c : Journaled) (before seats : List SeatView) (replies_given : List (List ReplyView))
-    (same : plan.processes ≡ setup.processes) (new : AreFresh shared setup (seats_of plan) before) (many : length seats ≡ seats_of plan)
-    (finished : AllFinished rules plan before seats replies_given) (known : All (λ seat. IsKnownBy c seat) seats) where
-  abbrev nobody : SeatView
-  nobody = fresh_seat shared (opened setup 0) 0
+module _ {T : Type 0} (rules : Parts → Rules) (shared : TableId) (plan : Plan) (setup : Parts) (before : List SeatView) (rans : List (Ran T))
+    (new : AreFresh shared setup (seats_of plan) before) (many : length rans ≡ seats_of plan) (all : AllRan rules plan before rans) where
+  -- what the seat at this position has done
+  pub has_ran : (k : ℕ) (ran : Ran T) → k < seats_of plan
+      → HasRan rules plan (fresh_seat shared (opened setup (seats_of plan)) (1 + k)) (get_or rans (seats_of plan - 1 - k) ran)
+  has_ran k ran low =
+      let none = fresh_seat shared (opened setup 0) 0 in
+      let position : length before - 1 - (seats_of plan - 1 - k) ≡ k = omega (arith, new.many, low) in
+      subst (λ (b : SeatView). HasRan rules plan b (get_or rans (seats_of plan - 1 - k) ran)) (ap (λ i. get_or before i none) position ∙ new.each k none low)
+      (all (seats_of plan - 1 - k) ran (omega (arith, many, low)) none)
 
-  abbrev seat_at : ℕ → SeatView
-  seat_at k = get_or seats k nobody
+  module _ (seats : List SeatView) (gathered : AreSeatsOf seats rans) where
+    among : length seats ≡ seats_of plan
+    among = ap length gathered ∙ length-map (reverse rans) _ ∙ length-reverse rans ∙ many
 
-  finished_at : (k : ℕ) → k < seats_of plan
-      → HasFinished rules plan (fresh_seat shared (opened setup (seats_of plan)) (1 + k)) (seat_at k) (get_or replies_given k [])
-  finished_at k low =
-      subst (λ (b : SeatView). HasFinished rules plan b (seat_at k) (get_or replies_given k []))
-      (new.each k nobody low) (finished k nobody [] (omega arith) nobody)
+    pub all_rest : All (λ seat. RestsAt shared seat) seats
+    all_rest k d low =
+        let nobody = some_of rans (omega (arith, low, among, many)) in
+        let later = (has_ran k nobody (omega (arith, low, among))).later in
+        subst (RestsAt shared) (sym (taken_at (λ (r : Ran T). r.seat) rans (seats_of plan) k nobody d gathered many (omega (arith, low, among))))
+        (later.home, later.rests)
 
-  known_at : (k : ℕ) → k < seats_of plan → IsKnownBy c (seat_at k)
-  known_at k low = known k nobody (omega arith)
+    module _ (nobody : Ran T) (c : Journaled) (same : plan.processes ≡ setup.processes) (known : All (λ seat. IsKnownBy c seat) seats)
+        (some : 1 ≤ setup.processes) (entries : AreOfSeats c.seats c.journal) where
+      abbrev ran_at : ℕ → Ran T
+      ran_at k = get_or rans (seats_of plan - 1 - k) nobody
 
-  driven_at : (p : ℕ) → 1 ≤ p → p ≤ plan.processes → IsDrivenOut p plan.turns (own p c.journal) (replies_in rules p c)
-  driven_at p from to =
-      let k = p - 1 in
-      let low : k < seats_of plan = omega arith in
-      let f = finished_at k low in
-      let seat = seat_at k in
-      let is : seat.number ≡ p = f.later.number ∙ omega arith in
-      let at = known_at k low in
-      subst (λ (y : ℕ × List Command × List ReplyView). IsDrivenOut y.0 plan.turns y.1 y.2)
-      (λ i. (is i, sym (own_known c seat p is at) i, sym (replies_known_now rules c seat p is at) i)) (f.driven (omega arith)).0
+      knows : (k : ℕ) → k < seats_of plan → IsKnownBy c (ran_at k).seat
+      knows k low =
+          subst (IsKnownBy c) (taken_at (λ (r : Ran T). r.seat) rans (seats_of plan) k nobody nobody.seat gathered many low)
+          (known k nobody.seat (omega (arith, low, among)))
 
-  served_at : (k : ℕ) → k < length plan.scripts.now
-      → (own (plan.processes + k + 1) c.journal ≡ get_or plan.scripts.now k [])
-      × (get_or replies_given (plan.processes + k) [] ≡ replies_in rules (plan.processes + k + 1) c)
-  served_at k below =
-      let position = plan.processes + k in
-      let low : position < seats_of plan = omega arith in
-      let f = finished_at position low in
-      let seat = seat_at position in
-      let is : seat.number ≡ position + 1 = f.later.number ∙ omega arith in
-      let at = known_at position low in
-      let served = f.served (omega arith) in
-      let its : 1 + position - plan.processes - 1 ≡ k = omega arith in (
-        own_known c seat (position + 1) is at ∙ served.0
-            ∙ ap (λ n. get_or plan.scripts.now n []) its,
-        sym (replies_known_now rules c seat (position + 1) is at ∙ served.1),
-      )
+      own_at : (k n : ℕ) → k < seats_of plan → n ≡ 1 + k → ((ran_at k).seat.number ≡ n) × (own n c.journal ≡ calls_of (ran_at k).seat)
+      own_at k n low is =
+          let number = (has_ran k nobody low).later.number ∙ sym is in
+          (number, own_known c (ran_at k).seat n number (knows k low))
 
-  -- the whole race
-  pub raced : 1 ≤ setup.processes → length replies_given ≡ length seats
-      → AreOfSeats c.seats c.journal → IsRaced rules setup plan.turns plan.scripts.now c replies_given
-  raced some long entries =
-      let low : 0 < seats_of plan = omega arith in
-      let first = (finished_at 0 low).later in
-      let at = known_at 0 low in
-      let seats_are : c.seats ≡ seats_of plan = at.seats ∙ first.seats in
-      record {
-        setup_is = at.setup ∙ first.setup;
+      replies_at : (k n : ℕ) → k < seats_of plan → n ≡ 1 + k → replies_in rules n c ≡ replies_to rules (ran_at k).seat
+      replies_at k n low is = replies_known_now rules c (ran_at k).seat n (own_at k n low is).0 (knows k low)
+
+      setup_is : c.setup ≡ setup
+      setup_is = let low : 0 < seats_of plan = omega (arith, some, same) in (knows 0 low).setup ∙ (has_ran 0 nobody low).later.setup
+
+      seats_are : c.seats ≡ seats_of plan
+      seats_are = let low : 0 < seats_of plan = omega (arith, some, same) in (knows 0 low).seats ∙ (has_ran 0 nobody low).later.seats
+
+      -- the script of a seat
+      script_at : (k : ℕ) → get_or plan.scripts.now (1 + (plan.processes + k) - plan.processes - 1) [] ≡ get_or plan.scripts.now k []
+      script_at k = let its : 1 + (plan.processes + k) - plan.processes - 1 ≡ k = omega arith in ap (λ n. get_or plan.scripts.now n []) its
+
+      -- a race that a fault ended
+      pub under_way : IsUnderWay setup plan.turns plan.scripts.now c
+      under_way = record {
+        setup_is = setup_is;
         seats_are = seats_are ∙ ap (λ n. n + length plan.scripts.now) same;
         entries = entries;
-        driven = λ p from to. driven_at p from (omega arith);
-        served = λ k below. ap (λ n. own (n + k + 1) c.journal) (sym same) ∙ (served_at k below).0;
-        many = long ∙ many ∙ sym seats_are;
-        none = λ k below. ((finished_at k (omega arith)).driven (omega arith)).1;
-        replied = λ k below. ap (λ n. get_or replies_given (n + k) []) (sym same) ∙ (served_at k below).1 ∙ ap (λ n. replies_in rules (n + k + 1) c) same;
+        driven = λ p from to.
+            let low : p - 1 < seats_of plan = omega (arith, from, to, same) in
+            let mine = own_at (p - 1) p low (omega (arith, from)) in
+            let driven = ((has_ran (p - 1) nobody low).driven (omega (arith, from, to, same))).0 in
+            (driven.count, driven.few, mine.1 ∙ driven.calls ∙ ap (λ n. replicate driven.count (Auto n)) mine.0);
+        served = λ k below.
+            let low : plan.processes + k < seats_of plan = omega (arith, below) in
+            let served = (has_ran (plan.processes + k) nobody low).served (omega arith) in
+            let count = length (map reply_view (ran_at (plan.processes + k)).replies.items) in (
+              count,
+              (own_at (plan.processes + k) (setup.processes + k + 1) low (omega (arith, same))).1 ∙ served.calls ∙ ap (take count) (script_at k),
+            );
       }
+
+      -- the journal that a seat saw is no longer than the final one
+      pub full_at : (position : ℕ) → position < length rans → (get_or rans position nobody).end ≡ JournalFull
+          → length c.journal ≤ MAX_ENTRIES → length c.journal ≡ MAX_ENTRIES
+      full_at position low is few =
+          let k = seats_of plan - 1 - position in
+          let back : seats_of plan - 1 - k ≡ position = omega (arith, low, many) in
+          let under : k < seats_of plan = omega (arith, low, many) in
+          let seen = (has_ran k nobody under).full (ap (λ i. (get_or rans i nobody).end) back ∙ is) in
+          let begins = (knows k under).begins in
+          omega (arith, seen, few, ap length begins.1, length-append (ran_at k).seat.seen begins.0)
+
+      -- a race in which no session met a fault
+      pub raced : (well : AreWell rans) (replies_given : List (List ReplyView)) → AreRepliesOf replies_given rans
+          → IsRaced rules setup plan.turns plan.scripts.now c replies_given
+      raced well replies_given answered =
+          let finished_at : (k : ℕ) → k < seats_of plan → HasFinished rules plan (fresh_seat shared (opened setup (seats_of plan)) (1 + k))
+          (ran_at k).seat (map reply_view (ran_at k).replies.items) =
+          λ k low. finished rules plan _ (ran_at k).seat (map reply_view (ran_at k).replies.items) (ran_at k).end
+          (ends_well _ _ (well (seats_of plan - 1 - k) nobody (omega (arith, low, many)))) (has_ran k nobody low) in
+          let replied_at : (k : ℕ) → k < seats_of plan → get_or replies_given k [] ≡ map reply_view (ran_at k).replies.items =
+          λ k low. taken_at (λ (r : Ran T). map reply_view r.replies.items) rans (seats_of plan) k nobody [] answered many low in
+          record {
+            setup_is = setup_is;
+            seats_are = seats_are ∙ ap (λ n. n + length plan.scripts.now) same;
+            entries = entries;
+            driven = λ p from to.
+                let low : p - 1 < seats_of plan = omega (arith, from, to, same) in
+                let is : p ≡ 1 + (p - 1) = omega (arith, from) in
+                let mine = own_at (p - 1) p low is in
+                subst (λ (y : ℕ × List Command × List ReplyView). IsDrivenOut y.0 plan.turns y.1 y.2)
+                (λ i. (mine.0 i, sym mine.1 i, sym (replies_at (p - 1) p low is) i)) ((finished_at (p - 1) low).driven (omega (arith, from, to, same))).0;
+            served = λ k below.
+                let low : plan.processes + k < seats_of plan = omega (arith, below) in
+                (own_at (plan.processes + k) (setup.processes + k + 1) low (omega (arith, same))).1
+                ∙ ((finished_at (plan.processes + k) low).served (omega arith)).0 ∙ script_at k;
+            many = ap length answered ∙ length-map (reverse rans) _ ∙ length-reverse rans ∙ many ∙ sym seats_are;
+            none = λ k below.
+                let low : k < seats_of plan = omega (arith, below, same) in
+                replied_at k low ∙ ((finished_at k low).driven (omega (arith, below, same))).1;
+            replied = λ k below.
+                let low : plan.processes + k < seats_of plan = omega (arith, below) in
+                ap (λ n. get_or replies_given (n + k) []) (sym same) ∙ replied_at (plan.processes + k) low
+                ∙ sym (replies_at (plan.processes + k) (setup.processes + k + 1) low (omega (arith, same))
+                ∙ ((finished_at (plan.processes + k) low).served (omega arith)).1);
+          }

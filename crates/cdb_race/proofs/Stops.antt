@@ -1,4 +1,6 @@
 -- A race's fault names one of its seats, where it names a seat.
+use Rattle.std.proofs.lemmas.Grind.{common_steps}
+use Rattle.std.proofs.lemmas.Option.{gets}
 use Rattle.std.proofs.Common.{◌≡◌, inl, inr, ℕ, ◌+◌, ◌-◌, ◌<◌, ◌≤◌, Bool, List, [], ◌∷◌, Option, Some, length, get_or, refl, sym, ap, ◌∙◌, subst, arith}
 use Rattle.atomic_table.specs.Seated.{TableId}
 use Rattle.cdb_control.specs.Journal.{opened}
@@ -11,6 +13,7 @@ use Rattle.cdb_race.specs.declared.plan.Plan.{Plan}
 use Rattle.cdb_race.specs.declared.threads.ThreadFault.{ThreadFault}
 use Rattle.cdb_race.specs.declared.threads.ThreadFault.TheVariants as fault
 use Rattle.cdb_race.specs.declared.worker.Ran.{Ran}
+use Rattle.cdb_race.proofs.Outcomes.{has_ran}
 use Rattle.cdb_rules.specs.Rules.{Rules}
 use Rattle.cdb_setup.specs.Parts.{Parts, IsWithin}
 use Rattle.cdb_shared.specs.Gates.{GateCall}
@@ -30,53 +33,37 @@ of_end n seat Stopped why has within = let same : fault.Stopped seat ≡ why = c
 of_end n seat (NoMemory refused) why has within = let same : fault.NoMemory refused ≡ why = cc in subst (IsAmongSeats n) same tt
 of_end n seat JournalFull why has within = let same : fault.JournalFull ≡ why = cc in subst (IsAmongSeats n) same tt
 
--- what each outcome says of its seat: the last seat's comes first
-number_at : {T : Type 0} (rules : Parts → Rules) (shared : TableId) (plan : Plan) (setup : Parts) (before : List SeatView) (rans : List (Ran T))
-    → AreFresh shared setup (seats_of plan) before → length rans ≡ seats_of plan
-    → AllRan rules plan before rans → (k : ℕ) (its : Ran T) → k < length rans → get_or rans k its ≡ its → its.seat.number ≡ 1 + (length before - 1 - k)
-number_at {T} rules shared plan setup before rans new many all k its within at =
-    let nobody = fresh_seat shared (opened setup 0) 0 in
-    let position = length before - 1 - k in
-    let later = (all k its within nobody).later.number in
-    let first = ap (λ (s : SeatView). s.number) (new.each position nobody (omega (arith, new.many, within))) in
-    ap (λ (r : Ran T). r.seat.number) (sym at) ∙ later ∙ first
+module _ {T : Type 0} (rules : Parts → Rules) (shared : TableId) (plan : Plan) (setup : Parts) (before : List SeatView) (rans : List (Ran T))
+    (new : AreFresh shared setup (seats_of plan) before) (many : length rans ≡ seats_of plan) (all : AllRan rules plan before rans) where
+  -- what each outcome says of its seat: the last seat's comes first
+  number_at : (k : ℕ) (its : Ran T) → k < length rans → get_or rans k its ≡ its → its.seat.number ≡ seats_of plan - k
+  number_at k its within at =
+      let back : seats_of plan - 1 - (seats_of plan - 1 - k) ≡ k = omega (arith, within, many) in
+      let number = (has_ran rules shared plan setup before rans new many all (seats_of plan - 1 - k) its (omega (arith, within, many))).later.number in
+      ap (λ (r : Ran T). r.seat.number) (sym at) ∙ ap (λ i. (get_or rans i its).seat.number) (sym back) ∙ number ∙ omega (arith, within, many)
 
--- and so does that of the least seat
-pub of_last : {T : Type 0} (rules : Parts → Rules) (shared : TableId) (plan : Plan) (setup : Parts) (before : List SeatView)
-    (rans : List (Ran T)) (why : ThreadFault) → AreFresh shared setup (seats_of plan) before → length rans ≡ seats_of plan
-    → AllRan rules plan before rans → IsLastFault why rans → IsAmongSeats (seats_of plan) why
-of_last {T} rules shared plan setup before rans why new many all last =
-    let its = last.its in
-    let number = number_at rules shared plan setup before rans new many all last.position its last.within last.at in
-    of_end (seats_of plan) its.seat.number its.end why last.has
-    (omega (arith, number, last.within, new.many, many), omega (arith, number, new.many, many, last.within))
+  -- and so does that of the least seat
+  pub of_last : (why : ThreadFault) → IsLastFault why rans → IsAmongSeats (seats_of plan) why
+  of_last why last =
+      let its = last.its in
+      let number = number_at last.position its last.within last.at in
+      of_end (seats_of plan) its.seat.number its.end why last.has (omega (arith, number, last.within, many), omega (arith, number))
 
--- the last outcome with a fault is that of the least seat which has one
-pub least_seat : {T : Type 0} (rules : Parts → Rules) (shared : TableId) (plan : Plan) (setup : Parts) (before : List SeatView)
-    (rans : List (Ran T)) (why : ThreadFault) → AreFresh shared setup (seats_of plan) before → length rans ≡ seats_of plan
-    → AllRan rules plan before rans → IsLastFault why rans → IsOfLeastSeat why rans
-least_seat {T} rules shared plan setup before rans why new many all last =
-    let number : (k : ℕ) (its : Ran T) → k < length rans → get_or rans k its ≡ its → its.seat.number ≡ 1 + (length before - 1 - k) =
-    number_at rules shared plan setup before rans new many all in
-    record {
-      its = last.its;
-      ran = (last.position, last.within, last.at);
-      has = last.has;
-      least = λ other among has.
-          let k = among.0 in
-          let earlier : k ≤ last.position = at_most k last.position (λ behind. has (ap fault_in (sym among.2) ∙ last.last k other behind among.1)) in
-          let own = number last.position last.its last.within last.at in
-          let its = number k other among.1 among.2 in
-          omega (arith, own, its, earlier, among.1, last.within);
-    }
+  -- the last outcome with a fault is that of the least seat which has one
+  pub least_seat : (why : ThreadFault) → IsLastFault why rans → IsOfLeastSeat why rans
+  least_seat why last = record {
+    its = last.its;
+    ran = (last.position, last.within, last.at);
+    has = last.has;
+    least = λ other among has.
+        let k = among.0 in
+        let earlier : k ≤ last.position = at_most k last.position (λ behind. has (ap fault_in (sym among.2) ∙ last.last k other behind among.1)) in
+        omega (arith, number_at last.position last.its last.within last.at, number_at k other among.1 among.2, earlier);
+  }
 
 -- a seat that is told to have stopped did stop
 stopped : (seat n : ℕ) (end : End) → fault_at seat end ≡ Some (fault.Stopped n) → end ≡ Stopped
-stopped seat n All has = absurd cc
-stopped seat n Done has = absurd cc
-stopped seat n Stopped has = refl
-stopped seat n (NoMemory refused) has = absurd cc
-stopped seat n JournalFull has = absurd cc
+stopped seat n end has = grind (arith, common_steps, gets)
 
 some_gate : {G : Type 0} (gates : List G) → 0 < length gates → G
 some_gate [] low = absurd (omega arith)

@@ -6,7 +6,7 @@ use Rattle.atomic_table.specs.Seated.{TableId}
 use Rattle.cdb_commands.specs.declared.command.Command.{Command}
 use Rattle.cdb_commands.specs.declared.reply.Reply.{Reply}
 use Rattle.cdb_race.specs.Plans.{seats_of}
-use Rattle.cdb_race.specs.Races.{all_reply_views, AllRan, AllEnded, AllFinished}
+use Rattle.cdb_race.specs.Races.{AllRan, AllEnded}
 use Rattle.cdb_race.specs.declared.plan.Plan.{Plan}
 use Rattle.cdb_race.specs.declared.threads.ThreadFault.{ThreadFault}
 use Rattle.cdb_race.specs.declared.threads.ThreadFault.TheVariants as fault
@@ -33,14 +33,6 @@ fault_in ran = fault_at ran.seat.number ran.end
 -- none of the sessions has one
 abbrev pub AreWell : {T : Type 0} → List (Ran T) → Type 0
 AreWell rans = All (λ ran. fault_in ran ≡ None) rans
-
--- where none has, these are the seats and the replies of a race whose seats have finished
-abbrev pub HaveFinished : {T : Type 0} → (Parts → Rules) → Vec (Ran T) Global
-    → Vec SeatView Global → Vec (Vec Reply Global) Global → Type 0
-HaveFinished rules rans seats replies =
-    (plan : Plan) (before : List SeatView) → length before ≡ vec_len rans
-    → AllRan rules plan before rans.items → AreWell rans.items
-    → AllFinished rules plan before seats.items (all_reply_views replies.items)
 
 -- there is room for so many seats and their replies
 abbrev pub IsRoomFor : ℕ → Vec SeatView Global → Vec (Vec Reply Global) Global → Type 0

@@ -1,6 +1,6 @@
 -- What a race has done.
 use Rattle.std.specs.Prelude.{◌≡◌, ℕ, ◌+◌, ◌-◌, ◌*◌, ◌<◌, ◌≤◌, Bool, true, List, [], Option}
-use Rattle.std.specs.Prelude.{All, length, map, replicate, sum, take, slice_index_or, Vec}
+use Rattle.std.specs.Prelude.{All, length, map, replicate, reverse, sum, take, slice_index_or, Vec}
 use Rattle.std.specs.Global.{Global}
 use Rattle.cdb_base.specs.Limits.{MAX_ENTRIES}
 use Rattle.cdb_commands.specs.ReplyView.{ReplyView, reply_view}
@@ -10,7 +10,7 @@ use Rattle.cdb_commands.specs.declared.command.Command.{Command}
 use Rattle.cdb_commands.specs.declared.command.Command.TheVariants.{Auto}
 use Rattle.cdb_commands.specs.declared.reply.Reply.{Reply}
 use Rattle.cdb_race.specs.Promises.{HasRan, HasEndedAtGate}
-use Rattle.cdb_race.specs.Runs.{HasFinished, IsDrivenOut}
+use Rattle.cdb_race.specs.Runs.{IsDrivenOut}
 use Rattle.cdb_race.specs.declared.plan.Plan.{Plan}
 use Rattle.cdb_race.specs.declared.threads.Raced.{Raced}
 use Rattle.cdb_race.specs.declared.worker.Ran.{Ran}
@@ -42,18 +42,12 @@ AllEnded {T} {G} gate_calls passes gates seats rans =
 abbrev pub AllPass : {G : Type 0} → (G → Bool) → List G → Type 0
 AllPass passes gates = All (λ gate. passes gate ≡ true) gates
 
--- these are the seats of the outcomes, the first seat first
+-- these are the seats of the outcomes, and these their replies, the first seat's first
 abbrev pub AreSeatsOf : {T : Type 0} → List SeatView → List (Ran T) → Type 0
-AreSeatsOf {T} seats rans =
-    (k : ℕ) (seat : SeatView) (ran : Ran T) → k < length rans
-    → slice_index_or seats k seat ≡ (slice_index_or rans (length rans - 1 - k) ran).seat
+AreSeatsOf seats rans = seats ≡ map (λ ran. ran.seat) (reverse rans)
 
--- each of these seats has finished, and each has its replies
-abbrev pub AllFinished : (Parts → Rules) → Plan → List SeatView → List SeatView → List (List ReplyView) → Type 0
-AllFinished rules plan before seats replies_given =
-    (k : ℕ) (seat : SeatView) (list : List ReplyView) → k < length seats
-    → (b : SeatView) → HasFinished rules plan (slice_index_or before k b)
-    (slice_index_or seats k seat) (slice_index_or replies_given k list)
+abbrev pub AreRepliesOf : {T : Type 0} → List (List ReplyView) → List (Ran T) → Type 0
+AreRepliesOf replies_given rans = replies_given ≡ map (λ ran. map reply_view ran.replies.items) (reverse rans)
 
 -- The final control and the replies of each seat: each process was driven by its seat, each script was served by its
 -- seat, and the journal has no other entries.

@@ -2,11 +2,12 @@
 ghost use Rattle.std.specs.Prelude.{◌≡◌, ◌+◌, ◌<◌, ◌≤◌, length, vec_len, All, IfOk, IfErr, MatchOption, Err};
 ghost use Rattle.cdb_base.specs.Memory.{no_memory};
 ghost use Rattle.cdb_base.specs.Limits.{MAX_SEATS};
-ghost use Rattle.cdb_race.specs.Faults.{fault_in, AreWell, HaveFinished, IsAmongSeats, IsFaultOfStart};
+ghost use Rattle.cdb_race.specs.Faults.{fault_in, AreWell, IsAmongSeats, IsFaultOfStart};
 ghost use Rattle.cdb_race.specs.Faults.{IsFaultOfThreads, IsNotStopped, IsRoomFor, IsFaultOfOne};
 ghost use Rattle.cdb_race.specs.LastFault.{IsLastFault};
 ghost use Rattle.cdb_race.specs.Promises.{IsReady, ArePromises, IsPromise, HasRan, HasEndedAtGate};
-ghost use Rattle.cdb_race.specs.Races.{AllRan, AllEnded, AllPass, AreSeatsOf, FillsJournal, HasRaced, MayFill};
+ghost use Rattle.cdb_race.specs.Races.{all_reply_views, AllRan, AllEnded, AllPass, AreRepliesOf, AreSeatsOf};
+ghost use Rattle.cdb_race.specs.Races.{FillsJournal, HasRaced, MayFill};
 ghost use Rattle.cdb_control.specs.Journal.{opened};
 ghost use Rattle.cdb_shared.specs.Seats.{fresh_seats, HasHeadline};
 
@@ -205,7 +206,7 @@ fn collect<T: Runs>(
     requires room { IsRoomFor (vec_len rans) seats replied }
     ensures count { (vec_len result.0 ≡ vec_len rans) × (vec_len result.1 ≡ vec_len rans) }
     ensures seats { AreSeatsOf result.0.items rans.items }
-    ensures each { HaveFinished T.rules rans result.0 result.1 }
+    ensures replies { AreRepliesOf (all_reply_views result.1.items) rans.items }
 {
     while let Some(ran) = rans.pop() {
         let Ran {

@@ -1,23 +1,30 @@
--- The calls of a gate after one call more.
+-- What a session has made after each call: its seat's calls, their replies, and the calls of its gate.
 use Rattle.std.proofs.lemmas.Grind.{common_steps}
 use Rattle.std.proofs.lemmas.Option.{gets}
-use Rattle.std.proofs.Common.{◌≡◌, ℕ, ◌+◌, Bool, true, List, [], ◌∷◌, ◌++◌, length, Option, refl, sym, ap, ◌∙◌, append-nil, append_assoc, arith}
+use Rattle.std.proofs.Common.{◌≡◌, ℕ, ◌+◌, Bool, true, false, List, [], ◌∷◌, ◌++◌, length, Option, refl, sym, ap, ◌∙◌, append-nil, append_assoc, arith}
+use Rattle.std.proofs.Common.{length-append}
 use Rattle.cdb_commands.specs.declared.command.Command.{Command}
-use Rattle.cdb_shared.specs.Gates.{GateCall, Asked, Notified, and_calls, gate_calls_of, last_gate_calls, CallsGate}
-use Rattle.cdb_shared.specs.Seats.{SeatView}
+use Rattle.cdb_commands.specs.ReplyView.{ReplyView}
+use Rattle.cdb_control.proofs.Own.{Begins-refl}
 use Rattle.cdb_control.specs.declared.control.CallFault.{CallFault}
 use Rattle.cdb_control.specs.declared.control.CallFault.TheVariants.{JournalFull, NoMemory}
-use Rattle.cdb_shared.specs.Sessions.{calls_of, end_at}
+use Rattle.cdb_rules.specs.Rules.{Rules}
+use Rattle.cdb_setup.specs.Parts.{Parts}
 use Rattle.cdb_shared.specs.declared.session.End.{End}
+use Rattle.cdb_shared.specs.declared.session.End.TheVariants.{Stopped}
+use Rattle.cdb_shared.specs.Gates.{GateCall, Asked, Notified, and_calls, IsAsked, IsNotified, gate_calls_of, last_gate_calls, CallsGate}
+use Rattle.cdb_shared.specs.Seats.{SeatView, IsLater, IsCall, SameCalls}
+use Rattle.cdb_shared.specs.Sessions.{calls_of, replies_to, end_at}
+use Rattle.cdb_shared.proofs.Steps.{IsLater-trans, calls_of-call, calls_of-fault, replies_to-call, replies_to-fault, append_one}
 
 and_calls_twice : (old : Option (List GateCall)) (a b : List GateCall) → and_calls (and_calls old a) b ≡ and_calls old (a ++ b)
 and_calls_twice old a b = grind (arith, common_steps, gets)
 
 -- the calls of a gate for one answered call
-abbrev pub calls_of_one : ℕ → List Command → Command → List GateCall
+abbrev calls_of_one : ℕ → List Command → Command → List GateCall
 calls_of_one number made command = Asked number made true ∷ Notified number (made ++ command ∷ []) ∷ []
 
-pub gate_calls_of-push : (number : ℕ) (made replied : List Command) (command : Command)
+gate_calls_of-push : (number : ℕ) (made replied : List Command) (command : Command)
     → gate_calls_of number made (replied ++ command ∷ [])
     ≡ gate_calls_of number made replied ++ calls_of_one (number + length replied) (made ++ replied) command
 gate_calls_of-push number made [] command = λ i. calls_of_one (none i) (sym (append-nil made) i) command
@@ -31,62 +38,101 @@ gate_calls_of-push number made (c ∷ cs) command =
     (gate_calls_of-push (number + 1) all cs command
     ∙ (λ i. gate_calls_of (number + 1) all cs ++ calls_of_one (next i) (append_assoc made (c ∷ []) cs i) command))
 
--- asked before the call after these
-pub calls_with_asked : (old : Option (List GateCall)) (made replied : List Command) {was new : Option (List GateCall)} {calls : List Command} {number : ℕ}
-    {answer passed : Bool}
-    → was ≡ and_calls old (gate_calls_of 1 made replied) → calls ≡ made ++ replied → number ≡ length replied + 1 → answer ≡ passed
-    → new ≡ and_calls was (Asked number calls answer ∷ [])
-    → new ≡ and_calls old (gate_calls_of 1 made replied ++ Asked (length replied + 1) (made ++ replied) passed ∷ [])
-calls_with_asked old made replied before same count is asked =
-    asked ∙ (λ i. and_calls (before i) (Asked (count i) (same i) (is i) ∷ [])) ∙ and_calls_twice old (gate_calls_of 1 made replied) _
+-- A session so far: it has made these calls, this many, and had the replies; its gate was asked before each call and
+-- notified after it.
+pub record Made (rules : Parts → Rules) (old new : SeatView) (before after : Option (List GateCall)) (number : ℕ)
+    (commands : List Command) (replies : List ReplyView) : Type 0 where
+  pub seat : IsLater old new
+  pub calls : calls_of new ≡ calls_of old ++ commands
+  pub replied : replies_to rules new ≡ replies_to rules old ++ replies
+  pub many : number ≡ length commands
+  pub gate_calls : after ≡ and_calls before (gate_calls_of 1 (calls_of old) commands)
 
--- notified after it
-pub calls_with_notified : (old : Option (List GateCall)) (made replied : List Command) (command : Command) {was asked new : Option (List GateCall)}
-    {more calls after : List Command} {number : ℕ} {answer : Bool}
-    → was ≡ and_calls old (gate_calls_of 1 made replied) → calls ≡ made ++ replied → number ≡ length replied + 1 → answer ≡ true
-    → asked ≡ and_calls was (Asked number calls answer ∷ []) → after ≡ calls ++ command ∷ []
-    → new ≡ and_calls asked (Notified number after ∷ []) → more ≡ replied ++ command ∷ [] → new ≡ and_calls old (gate_calls_of 1 made more)
-calls_with_notified old made replied command before same count is asked grows said longer =
-    let ask = Asked (length replied + 1) (made ++ replied) true in
-    let one : 1 + length replied ≡ length replied + 1 = omega arith in
-    let all = grows ∙ ap (λ l. l ++ command ∷ []) same in
-    said ∙ (λ i. and_calls (calls_with_asked old made replied before same count is asked i) (Notified (count i) (all i) ∷ []))
-    ∙ and_calls_twice old (gate_calls_of 1 made replied ++ ask ∷ []) _
-    ∙ ap (and_calls old) (append_assoc (gate_calls_of 1 made replied) (ask ∷ []) _
-    ∙ (λ i. gate_calls_of 1 made replied ++ calls_of_one (sym one i) (made ++ replied) command)
-    ∙ sym (gate_calls_of-push 1 made replied command) ∙ ap (gate_calls_of 1 made) (sym longer))
+-- A session that ended at a fault: it has made these calls and had the replies.
+pub record Faulted (rules : Parts → Rules) (old new : SeatView) (before after : Option (List GateCall)) (end : End)
+    (commands : List Command) (replies : List ReplyView) : Type 0 where
+  pub seat : IsLater old new
+  pub calls : calls_of new ≡ calls_of old ++ commands
+  pub replied : replies_to rules new ≡ replies_to rules old ++ replies
+  pub gate : CallsGate before after old new end
 
--- a session that ended at a call that was asked for
-pub gate_asked : (replied : List Command) {old new : Option (List GateCall)} {before after : SeatView} {end : End} {passed : Bool}
-    → calls_of after ≡ calls_of before ++ replied
-    → last_gate_calls end (length replied + 1) (calls_of before ++ replied) ≡ Asked (length replied + 1) (calls_of before ++ replied) passed ∷ []
-    → new ≡ and_calls old (gate_calls_of 1 (calls_of before) replied ++ Asked (length replied + 1) (calls_of before ++ replied) passed ∷ [])
-    → CallsGate old new before after end
-gate_asked replied {old} {before = before} calls last gate_calls = record {
-  replied = replied;
-  calls = calls;
-  gate_calls = gate_calls ∙ ap (λ l. and_calls old (gate_calls_of 1 (calls_of before) replied ++ l)) (sym last);
+-- of no call
+pub none_made : (rules : Parts → Rules) {seat : SeatView} (gate : Option (List GateCall)) {replies : List ReplyView} → seat.rests ≡ true → replies ≡ []
+    → Made rules seat seat gate gate 0 [] replies
+none_made rules {seat} gate rests none = record {
+  seat = record { home = refl; setup = refl; seats = refl; number = refl; rests = rests; begins = Begins-refl seat.seen };
+  calls = sym (append-nil _);
+  replied = sym (append-nil _) ∙ ap (λ l. replies_to rules seat ++ l) (sym none);
+  many = refl;
+  gate_calls = none_known gate;
 }
-
--- a session whose calls were all answered
-pub gate_notified : (replied : List Command) {old new : Option (List GateCall)} {before after : SeatView} {end : End}
-    → calls_of after ≡ calls_of before ++ replied → last_gate_calls end (length replied + 1) (calls_of before ++ replied) ≡ []
-    → new ≡ and_calls old (gate_calls_of 1 (calls_of before) replied) → CallsGate old new before after end
-gate_notified replied {old} {before = before} calls last gate_calls = record {
-  replied = replied;
-  calls = calls;
-  gate_calls = gate_calls ∙ ap (and_calls old) (sym (append-nil _) ∙ ap (λ l. gate_calls_of 1 (calls_of before) replied ++ l) (sym last));
-}
-
--- a session that ended at a fault
-pub gate_at_fault : (replied : List Command) (fault : CallFault) {old new : Option (List GateCall)} {before after : SeatView} {end : End}
-    → end ≡ end_at fault → calls_of after ≡ calls_of before ++ replied
-    → new ≡ and_calls old (gate_calls_of 1 (calls_of before) replied ++ Asked (length replied + 1) (calls_of before ++ replied) true ∷ [])
-    → CallsGate old new before after end
-gate_at_fault replied fault {before = before} is calls gate_calls =
-    gate_asked replied calls (ap (λ (e : End). last_gate_calls e (length replied + 1) (calls_of before ++ replied)) is ∙ last fault) gate_calls
   where
-    last : (f : CallFault) → last_gate_calls (end_at f) (length replied + 1) (calls_of before ++ replied)
-        ≡ Asked (length replied + 1) (calls_of before ++ replied) true ∷ []
-    last JournalFull = refl
-    last (NoMemory refused) = refl
+    none_known : (gate : Option (List GateCall)) → gate ≡ and_calls gate []
+    none_known gate = grind (arith, common_steps, gets)
+
+module _ {rules : Parts → Rules} {old seat : SeatView} {before was : Option (List GateCall)} {number : ℕ} {commands : List Command}
+    {replies : List ReplyView} (made : Made rules old seat before was number commands replies) where
+  -- a session whose calls were all answered
+  pub finished : {end : End} → last_gate_calls end (length commands + 1) (calls_of old ++ commands) ≡ [] → CallsGate before was old seat end
+  finished last = record {
+    replied = commands;
+    calls = made.calls;
+    gate_calls = made.gate_calls ∙ ap (and_calls before) (sym (append-nil _) ∙ ap (λ l. gate_calls_of 1 (calls_of old) commands ++ l) (sym last));
+  }
+
+  module _ {asked : Option (List GateCall)} {answer : Bool} (ask : IsAsked was asked (number + 1) seat answer) where
+    -- the gate was asked before the next call
+    with_asked : (passed : Bool) → answer ≡ passed
+        → asked ≡ and_calls before (gate_calls_of 1 (calls_of old) commands ++ Asked (length commands + 1) (calls_of old ++ commands) passed ∷ [])
+    with_asked passed is =
+        ask ∙ (λ i. and_calls (made.gate_calls i) (Asked (made.many i + 1) (made.calls i) (is i) ∷ []))
+        ∙ and_calls_twice before (gate_calls_of 1 (calls_of old) commands) _
+
+    -- it did not let it pass
+    pub stopped : answer ≡ false → CallsGate before asked old seat Stopped
+    stopped is = record { replied = commands; calls = made.calls; gate_calls = with_asked false is }
+
+    module _ (is : answer ≡ true) {new : SeatView} (later : IsLater seat new) where
+      -- the call met a fault
+      pub faulted : (fault : CallFault) {end : End} → SameCalls seat new.seen → end ≡ end_at fault → Faulted rules old new before asked end commands replies
+      faulted fault {end} same ends =
+          let calls = calls_of-fault seat new later same ∙ made.calls in
+          record {
+            seat = IsLater-trans old seat new made.seat later;
+            calls = calls;
+            replied = replies_to-fault rules seat new later same ∙ made.replied;
+            gate = record {
+              replied = commands;
+              calls = calls;
+              gate_calls = with_asked true is ∙ ap (λ l. and_calls before (gate_calls_of 1 (calls_of old) commands ++ l))
+                  (sym (ap (λ (e : End). last_gate_calls e (length commands + 1) (calls_of old ++ commands)) ends ∙ last fault));
+            };
+          }
+        where
+          last : (f : CallFault) → last_gate_calls (end_at f) (length commands + 1) (calls_of old ++ commands)
+              ≡ Asked (length commands + 1) (calls_of old ++ commands) true ∷ []
+          last JournalFull = refl
+          last (NoMemory refused) = refl
+
+      -- the call had its reply, and the gate was notified
+      pub one_more : (command : Command) {reply : ReplyView} {notified : Option (List GateCall)} {more : List Command} {all : List ReplyView}
+          → IsCall rules seat command reply new → IsNotified asked notified (number + 1) new → more ≡ commands ++ command ∷ [] → all ≡ replies ++ reply ∷ []
+          → Made rules old new before notified (number + 1) more all
+      one_more command {reply} call said longer longer_replies =
+          let made_all = gate_calls_of 1 (calls_of old) commands in
+          let ask_one = Asked (length commands + 1) (calls_of old ++ commands) true in
+          let one : 1 + length commands ≡ length commands + 1 = omega arith in
+          let calls = calls_of-call rules seat new command reply later call in
+          let added = calls ∙ ap (λ l. l ++ command ∷ []) made.calls in
+          record {
+            seat = IsLater-trans old seat new made.seat later;
+            calls = append_one (calls_of old) commands command made.calls calls longer;
+            replied = append_one (replies_to rules old) replies reply made.replied (replies_to-call rules seat new command reply later call) longer_replies;
+            many = omega (arith, made.many, ap length longer, length-append commands (command ∷ []));
+            gate_calls =
+                said ∙ (λ i. and_calls (with_asked true is i) (Notified (made.many i + 1) (added i) ∷ []))
+                ∙ and_calls_twice before (made_all ++ ask_one ∷ []) _
+                ∙ ap (and_calls before) (append_assoc made_all (ask_one ∷ []) _
+                ∙ (λ i. made_all ++ calls_of_one (sym one i) (calls_of old ++ commands) command)
+                ∙ sym (gate_calls_of-push 1 (calls_of old) commands command) ∙ ap (gate_calls_of 1 (calls_of old)) (sym longer));
+          }

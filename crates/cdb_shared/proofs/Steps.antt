@@ -15,7 +15,7 @@ use Rattle.cdb_rules.specs.Rules.{Rules}
 use Rattle.cdb_setup.specs.Parts.{Parts}
 use Rattle.cdb_control.proofs.Own.{Begins-trans, own-push, replies_of-push, replies_of-same}
 use Rattle.cdb_shared.specs.declared.session.End.{End}
-use Rattle.cdb_shared.specs.declared.session.End.TheVariants.{All, Done, Stopped}
+use Rattle.cdb_shared.specs.declared.session.End.TheVariants.{Done, Stopped}
 use Rattle.cdb_shared.specs.Seats.{SeatView, IsLater, IsCall, SameCalls}
 use Rattle.cdb_shared.specs.Sessions.{calls_of, replies_to, end_at, NoneDone, IsDriven}
 
@@ -67,10 +67,11 @@ pub NoneDone-push : (rs : List ReplyView) (r : ReplyView) → NoneDone rs → r 
 NoneDone-push [] r none apart = (apart, tt)
 NoneDone-push (x ∷ rs) r none apart = (none.0, NoneDone-push rs r none.1 apart)
 
--- a driven seat whose call met a fault
-pub ends_at_fault : (fault : CallFault) {end : End} → end ≡ end_at fault → (end ≢ All) × (end ≢ Done) × (end ≢ Stopped)
+-- a session whose call met a fault
+pub ends_at_fault : (fault : CallFault) {end : End} → end ≡ end_at fault → (end ≢ Done) × (end ≢ Stopped)
 ends_at_fault fault is = grind (arith, common_steps, gets)
 
+-- a driven seat whose call did
 pub driven_fault : (fault : CallFault) {end : End} {count turns : ℕ} (replies : List ReplyView) → end ≡ end_at fault
     → count < turns → NoneDone replies → IsDriven end count turns replies
 driven_fault fault {count} {turns} replies is low none = subst (λ (e : End). IsDriven e count turns replies) (sym is) (by_fault fault)

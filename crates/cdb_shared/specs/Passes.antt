@@ -5,14 +5,13 @@ use Rattle.std.specs.Prelude.{◌≡◌, ℕ, ◌≤◌, Bool, true, false, List
 use Rattle.atomic_table.specs.Seated.{TableId}
 use Rattle.cdb_shared.specs.Seats.{SeatView}
 use Rattle.cdb_shared.specs.declared.knowledge.Stage.{Stage}
-use Rattle.cdb_shared.specs.declared.knowledge.Stage.TheVariants.{Spent, Resting, Holding}
+use Rattle.cdb_shared.specs.declared.knowledge.Stage.TheVariants.{Resting}
 use Rattle.cdb_shared.specs.declared.knowledge.KnownSeat.{KnownSeat}
 use Rattle.cdb_shared.specs.declared.knowledge.Knowledge.{Knowledge}
 
 abbrev pub is_resting : Stage → Bool
-is_resting Spent = false
 is_resting Resting = true
-is_resting Holding = false
+is_resting stage = false
 
 -- the pass is of one seat
 abbrev pub IsOfOneSeat : Knowledge → Type 0
@@ -26,10 +25,9 @@ only_of [] one = absurd (suc-ne-zero 0 (sym one))
 abbrev pub known_seat_of : (v : Knowledge) → IsOfOneSeat v → KnownSeat
 known_seat_of v one = only_of v.known_seats one
 
--- the seat whose pass knows this
-abbrev pub seat_of_pass : TableId → (v : Knowledge) → IsOfOneSeat v → SeatView
-seat_of_pass home v one =
-    let p = known_seat_of v one in
+-- the seat whose pass knows this at a stage
+abbrev pub seat_of : TableId → Stage → KnownSeat → SeatView
+seat_of home stage p =
     record {
       home = home;
       setup = p.setup;
@@ -37,8 +35,11 @@ seat_of_pass home v one =
       number = p.number;
       seen = p.seen;
       rests =
-          is_resting v.stage;
+          is_resting stage;
     }
+
+abbrev pub seat_of_pass : TableId → (v : Knowledge) → IsOfOneSeat v → SeatView
+seat_of_pass home v one = seat_of home v.stage (known_seat_of v one)
 
 -- it has this number, one of those of all seats
 pub record HasNumber (number : ℕ) (p : KnownSeat) : Type 0 where

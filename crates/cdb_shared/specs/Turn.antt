@@ -1,13 +1,12 @@
 -- The rule of the turn. One control stands in the queue, or one pass holds it.
-use Rattle.std.specs.Prelude.{◌≡◌, ℕ, ◌+◌, ◌≤◌, ◌==◌, ◌⊎◌, if◌then◌else◌, List, [], ◌∷◌, ◌++◌, map, take, drop, Option}
-use Rattle.std.specs.Prelude.{Some, None}
+use Rattle.std.specs.Prelude.{◌≡◌, ℕ, ◌+◌, ◌≤◌, ◌==◌, ◌⊎◌, if◌then◌else◌, List, [], ◌∷◌, ◌++◌, map, take, drop, length}
 use mathlib.Core.Option.{some}
 use lib.ListN.{get_elem?}
 use Rattle.std.specs.List.{AllByRecursion, range_with_len}
 use Rattle.cdb_commands.specs.declared.command.Command.{Command}
 use Rattle.cdb_control.specs.Journal.{Journaled, Begins, entry, own}
 use Rattle.cdb_shared.specs.declared.knowledge.Stage.{Stage}
-use Rattle.cdb_shared.specs.declared.knowledge.Stage.TheVariants.{Spent, Resting, Holding}
+use Rattle.cdb_shared.specs.declared.knowledge.Stage.TheVariants.{Opening, Resting, Holding}
 use Rattle.cdb_shared.specs.declared.knowledge.KnownSeat.{KnownSeat}
 use Rattle.cdb_shared.specs.declared.knowledge.Story.{Story}
 use Rattle.cdb_shared.specs.declared.knowledge.Knowledge.{Knowledge}
@@ -20,21 +19,21 @@ story c = record { setup = c.setup; seats = c.seats; journal = c.journal }
 abbrev pub longer : Story → ℕ → Command → Story
 longer c seat command = record c { journal = c.journal ++ entry seat command ∷ [] }
 
--- the first pass, until it gives the turn back: it holds the control that is handed in
+-- the first pass, until it gives the turn back: it has the control that is handed in
 abbrev pub opening : Knowledge
-opening = record { stage = Holding; known_seats = []; held = None }
-
--- a pass that another took in
-abbrev pub spent : Knowledge
-spent = record { stage = Spent; known_seats = []; held = None }
+opening = record { stage = Opening; known_seats = [] }
 
 -- a pass that has not the turn
 abbrev pub resting : List KnownSeat → Knowledge
-resting known_seats = record { stage = Resting; known_seats = known_seats; held = None }
+resting known_seats = record { stage = Resting; known_seats = known_seats }
+
+-- a pass that another took in
+abbrev pub spent : Knowledge
+spent = resting []
 
 -- a pass that has this control
 abbrev pub holding : List KnownSeat → Story → Knowledge
-holding known_seats c = record { stage = Holding; known_seats = known_seats; held = Some c }
+holding known_seats c = record { stage = Holding c; known_seats = known_seats }
 
 -- The control has the setup and the number of seats that the seat knows. Its journal begins with what the seat
 -- has seen, and has of the seat's calls just those.
@@ -47,46 +46,46 @@ pub record Knows (c : Story) (p : KnownSeat) : Type 0 where
 abbrev pub AllKnow : Story → List KnownSeat → Type 0
 AllKnow c known_seats = AllByRecursion (Knows c) known_seats
 
--- where the control is: in the queue, or held by a pass
-pub data Whereabouts : Type 0 where
-  InQueue : Whereabouts
-  HeldBy : ℕ → Whereabouts
-
--- what the queue then holds
-abbrev pub queued : Whereabouts → Story → List Story
-queued InQueue c = c ∷ []
-queued (HeldBy pass) c = []
-
--- who holds it then
-abbrev pub IsHeld : Whereabouts → List Knowledge → Type 0
-IsHeld InQueue views = Unit {0}
-IsHeld (HeldBy pass) views = (v : Knowledge) × (get_elem? views pass ≡ some v) × (v.stage ≡ Holding)
+-- a pass with the turn holds just this control
+abbrev pub HoldsOnly : Story → Stage → Type 0
+HoldsOnly c Opening = ⊥
+HoldsOnly c Resting = Unit {0}
+HoldsOnly c (Holding held) = held ≡ c
 
 -- what a pass knows of the control
-abbrev pub FitsAt : Stage → Story → Whereabouts → ℕ → Knowledge → Type 0
-FitsAt Spent c turn pass v = Unit {0}
-FitsAt Resting c turn pass v = AllKnow c v.known_seats
-FitsAt Holding c turn pass v = AllKnow c v.known_seats × (turn ≡ HeldBy pass) × (v.held ≡ Some c)
+pub record Fits (c : Story) (v : Knowledge) : Type 0 where
+  pub known : AllKnow c v.known_seats
+  pub held : HoldsOnly c v.stage
 
--- how many seats of this number are among these
-abbrev pub seat_count : ℕ → List KnownSeat → ℕ
-seat_count number [] = 0
-seat_count number (p ∷ ps) = (if p.number == number then 1 else 0) + seat_count number ps
+-- how many turns a pass has at this stage
+abbrev pub turns_at : Stage → ℕ
+turns_at Resting = 0
+turns_at stage = 1
 
--- the same over all passes
-abbrev pub total_of : ℕ → List Knowledge → ℕ
-total_of number [] = 0
-total_of number (v ∷ vs) = seat_count number v.known_seats + total_of number vs
+abbrev pub turn_count : Knowledge → ℕ
+turn_count v = turns_at v.stage
 
--- After the opening: each pass knows the one control, which stands in the queue or is held by one pass, and no
--- two seats have one number.
+-- how many seats of this number a pass has
+abbrev pub seats_among : ℕ → List KnownSeat → ℕ
+seats_among number [] = 0
+seats_among number (p ∷ ps) = (if p.number == number then 1 else 0) + seats_among number ps
+
+abbrev pub seat_count : ℕ → Knowledge → ℕ
+seat_count number v = seats_among number v.known_seats
+
+-- such a number over all passes
+abbrev pub total_of : (Knowledge → ℕ) → List Knowledge → ℕ
+total_of count [] = 0
+total_of count (v ∷ vs) = count v + total_of count vs
+
+-- After the opening: each pass knows the one control, which stands in the queue or is held by the one pass that has
+-- the turn, and no two seats have one number.
 pub record Turns (items : List Journaled) (views : List Knowledge) : Type 0 where
   pub control : Story
-  pub turn : Whereabouts
-  pub waits : map story items ≡ queued turn control
-  pub held : IsHeld turn views
-  pub each : (pass : ℕ) (v : Knowledge) → get_elem? views pass ≡ some v → FitsAt v.stage control turn pass v
-  pub once : (number : ℕ) → total_of number views ≤ 1
+  pub waits : AllByRecursion (λ x. story x ≡ control) items
+  pub each : (pass : ℕ) (v : Knowledge) → get_elem? views pass ≡ some v → Fits control v
+  pub turn : length items + total_of turn_count views ≡ 1
+  pub once : (number : ℕ) → total_of (seat_count number) views ≤ 1
 
 -- the rule
 abbrev pub IsRuled : List Journaled → List Knowledge → Type 0
@@ -118,13 +117,14 @@ MayGrow known_seats before after =
     (after ≡ before)
     ⊎ ((p : KnownSeat) × (command : Command) × (known_seats ≡ p ∷ []) × (after ≡ longer before p.number command))
 
--- what a pass that holds this may give back; the first pass gives what is handed in
-abbrev pub MayFollow : Option Story → List KnownSeat → Story → Type 0
-MayFollow None known_seats c = Unit {0}
-MayFollow (Some before) known_seats c = MayGrow known_seats before c
+-- what a pass may give back; the first pass gives what is handed in
+abbrev pub MayFollow : Stage → List KnownSeat → Story → Type 0
+MayFollow Opening known_seats c = Unit {0}
+MayFollow Resting known_seats c = ⊥
+MayFollow (Holding before) known_seats c = MayGrow known_seats before c
 
 abbrev pub MayGive : Knowledge → Journaled → Type 0
-MayGive v c = (v.stage ≡ Holding) × MayFollow v.held v.known_seats (story c)
+MayGive v c = MayFollow v.stage v.known_seats (story c)
 
 -- the watch of a control, which has the number 0 and gives no command, and all its seats
 abbrev pub watch_and_seats : Story → List KnownSeat
@@ -132,13 +132,13 @@ watch_and_seats c = known_seat_at c 0 ∷ known_seats_from c 1 c.seats
 
 -- the seats of a pass that has given back, which have seen the journal; of the first pass the watch and all seats of
 -- the control
-abbrev pub seats_after : Option Story → List KnownSeat → Story → List KnownSeat
-seats_after None known_seats c = watch_and_seats c
-seats_after (Some before) known_seats c = seen_by c known_seats
+abbrev pub seats_after : Stage → List KnownSeat → Story → List KnownSeat
+seats_after Opening known_seats c = watch_and_seats c
+seats_after stage known_seats c = seen_by c known_seats
 
 -- the turn is given back: the pass rests
 abbrev pub TurnGiven : Knowledge → Journaled → Knowledge → Type 0
-TurnGiven v c w = w ≡ resting (seats_after v.held v.known_seats (story c))
+TurnGiven v c w = w ≡ resting (seats_after v.stage v.known_seats (story c))
 
 -- while a pass holds the control, none stands in the queue
 abbrev pub NoneWaits : Knowledge → List Journaled → Type 0

@@ -6,11 +6,11 @@ use cdb_setup::Setup;
 use crossbeam_queue::protocol::{Join, Lesson, Outcome, Protocol, Split};
 use std::collections::LinkedList;
 
-/// Whether a pass has the turn. `Spent` is one that another took in.
+/// Whether a pass has the turn: the first one does, until it gives a control, and one that took the control.
 pub enum Stage {
-    Spent,
+    Opening,
     Resting,
-    Holding,
+    Holding(Story),
 }
 
 /// A seat: its number, the setup and the number of seats of the opening, and the journal that it has seen.
@@ -28,11 +28,10 @@ pub struct Story {
     pub journal: LinkedList<Entry>,
 }
 
-/// What a pass knows: its seats, and the control that it took.
+/// What a pass knows: whether it has the turn, and its seats.
 pub struct Knowledge {
     pub stage: Stage,
     pub known_seats: LinkedList<KnownSeat>,
-    pub held: Option<Story>,
 }
 
 /// The rule: one control, which stands in the queue or is with one pass.

@@ -1,17 +1,14 @@
-use Rattle.std.proofs.Common.{◌≡◌, inr, ◌+◌, ◌∙◌, ap, subst, arith, List, All, Some, None, Err, refl, length}
-use Rattle.std.proofs.lemmas.List.{length-map}
-use Rattle.cdb_race.specs.Faults.{fault_in, IsAmongSeats}
+use Rattle.std.proofs.Common.{◌≡◌, inr, ◌+◌, ◌∙◌, ap, subst, arith, Some, Err, refl, length}
+use Rattle.cdb_race.specs.Faults.{AreWell, IsAmongSeats}
 use Rattle.cdb_race.specs.LastFault.{IsLastFault}
 use Rattle.cdb_race.specs.Plans.{seats_of}
-use Rattle.cdb_race.specs.Races.{all_reply_views}
 use Rattle.cdb_race.specs.declared.plan.Plan.{Plan}
 use Rattle.cdb_race.specs.declared.threads.ThreadFault.{ThreadFault}
 use Rattle.cdb_race.specs.declared.threads.ThreadFault.TheVariants as fault
 use Rattle.cdb_race.specs.declared.worker.Ran.{Ran}
-use Rattle.cdb_race.proofs.Outcomes.{all_ready, all_rest, raced}
+use Rattle.cdb_race.proofs.Outcomes.{all_ready, all_rest, raced, same_fault, met_full, some_of, under_way, full_at}
 use Rattle.cdb_race.proofs.Most.{few_calls}
 use Rattle.cdb_race.proofs.Stops.{least_seat, of_last, passes_or_threads}
-use Rattle.cdb_race.proofs.Underway.{same_fault, met_full, under_way, full_at}
 use Rattle.cdb_shared.proofs.Fresh.{fresh_of}
 use Rattle.cdb_race.proofs.threads.race.Goals as goal
 
@@ -56,12 +53,10 @@ finish-control-requires-clause-rest g c =
     let plan : Plan = record { processes = c.n-processes.result; turns = c.args.turns; scripts = c.args.scripts } in
     let new = fresh_of c.in_ok-shared.shared c.args.setup (seats_of plan) _ _ (omega arith) c.in_ok-shared.ensures.seats in
     let rans = c.in-Ok.rans in
-    let seats = c.collect-seats.result.0 in
     let before = c.in_ok-shared.seats in
-    let long : length seats.items ≡ length rans.items = omega (arith, c.collect-seats.ensures.count.0, seats.ok.0, rans.ok.0) in
     let many : length rans.items ≡ seats_of plan = omega (arith, c.in-Ok.ensures.count, new.many, rans.ok.0, before.ok.0) in
-    all_rest g.T.Runs.rules c.in_ok-shared.shared plan c.args.setup before.items
-    seats.items rans.items new many long c.in-Ok.ensures.each c.collect-seats.ensures.seats
+    all_rest g.T.Runs.rules c.in_ok-shared.shared plan c.args.setup before.items rans.items new many c.in-Ok.ensures.each
+    c.collect-seats.result.0.items c.collect-seats.ensures.seats
 
 pub returns-in-None-clause-raced : goal.returns-in-None-clause-raced
 returns-in-None-clause-raced g c =
@@ -69,17 +64,13 @@ returns-in-None-clause-raced g c =
     let new = fresh_of c.in_ok-shared.shared c.args.setup (seats_of plan) _ _ (omega arith) c.in_ok-shared.ensures.seats in
     let rans = c.in-Ok.rans in
     let before = c.in_ok-shared.seats in
-    let seats = c.collect-seats.result.0 in
-    let got = c.collect-seats.ensures in
-    let replies = c.collect-seats.result.1 in
-    let clean : All (λ ran. fault_in ran ≡ None) rans.items =
-    subst (λ (l : List (Ran g.row.T.Denot)). All (λ ran. fault_in ran ≡ None) l) c.as_slice.ensures.value c.in-None.ensures in
-    let finished = got.each plan before.items (omega (arith, c.in-Ok.ensures.count, before.ok.0)) c.in-Ok.ensures.each clean in
-    let many : length seats.items ≡ length before.items = omega (arith, got.count.0, c.in-Ok.ensures.count, seats.ok.0, before.ok.0) in
-    let long : length (all_reply_views replies.items) ≡ length seats.items =
-    length-map replies.items _ ∙ omega (arith, got.count.0, got.count.1, replies.ok.0, seats.ok.0) in
-    raced g.T.Runs.rules c.in_ok-shared.shared plan c.args.setup c.finish-control.result before.items seats.items _ c.n-processes.ensures.value
-    new (many ∙ new.many) finished c.finish-control.ensures.known c.n-processes.ensures.ranges.processes.0 long c.journal.ensures.seats
+    let many : length rans.items ≡ seats_of plan = omega (arith, c.in-Ok.ensures.count, new.many, rans.ok.0, before.ok.0) in
+    let some = c.n-processes.ensures.ranges.processes.0 in
+    let nobody = some_of rans.items (omega (arith, many, some, c.n-processes.ensures.value)) in
+    let well : AreWell rans.items = subst AreWell c.as_slice.ensures.value c.in-None.ensures in
+    raced g.T.Runs.rules c.in_ok-shared.shared plan c.args.setup before.items rans.items new many c.in-Ok.ensures.each
+    c.collect-seats.result.0.items c.collect-seats.ensures.seats nobody c.finish-control.result c.n-processes.ensures.value
+    c.finish-control.ensures.known some c.journal.ensures.seats well _ c.collect-seats.ensures.replies
 
 pub returns-in-Some-clause-fault : goal.returns-in-Some-clause-fault
 returns-in-Some-clause-fault g c =
@@ -90,7 +81,7 @@ returns-in-Some-clause-fault g c =
     let why = c.in-Some.fault in
     let last : IsLastFault why rans.items = subst (IsLastFault why) c.as_slice.ensures.value c.in-Some.ensures in
     let many : length rans.items ≡ seats_of plan = omega (arith, c.in-Ok.ensures.count, new.many, rans.ok.0, before.ok.0) in
-    let it = of_last g.T.Runs.rules c.in_ok-shared.shared plan c.args.setup before.items rans.items why new many c.in-Ok.ensures.each last in
+    let it = of_last g.T.Runs.rules c.in_ok-shared.shared plan c.args.setup before.items rans.items new many c.in-Ok.ensures.each why last in
     subst (λ n. IsAmongSeats (n + length c.args.scripts.now) why) c.n-processes.ensures.value it
 
 pub returns-in-Some-clause-full : goal.returns-in-Some-clause-full
@@ -99,23 +90,21 @@ returns-in-Some-clause-full g c = λ full.
     let new = fresh_of c.in_ok-shared.shared c.args.setup (seats_of plan) _ _ (omega arith) c.in_ok-shared.ensures.seats in
     let rans = c.in-Ok.rans in
     let before = c.in_ok-shared.seats in
-    let seats = c.collect-seats.result.0 in
-    let got = c.collect-seats.ensures in
     let why = c.in-Some.fault in
     let last : IsLastFault why rans.items = subst (IsLastFault why) c.as_slice.ensures.value c.in-Some.ensures in
     let many : length rans.items ≡ seats_of plan = omega (arith, c.in-Ok.ensures.count, new.many, rans.ok.0, before.ok.0) in
-    let long : length seats.items ≡ length rans.items = omega (arith, got.count.0, seats.ok.0, rans.ok.0) in
     let same : why ≡ fault.JournalFull = same_fault (Err why) (Err fault.JournalFull) why fault.JournalFull refl refl full in
     let met = met_full last.its.seat.number last.its.end (last.has ∙ ap (λ (f : ThreadFault). Some f) same) in
-    let final = c.finish-control.result in
     let so_far =
-    under_way g.T.Runs.rules c.in_ok-shared.shared plan c.args.setup final before.items rans.items last.its c.n-processes.ensures.value new many
-    c.in-Ok.ensures.each seats.items long got.seats c.finish-control.ensures.known c.n-processes.ensures.ranges.processes.0 c.journal.ensures.seats in
+    under_way g.T.Runs.rules c.in_ok-shared.shared plan c.args.setup before.items rans.items new many c.in-Ok.ensures.each
+    c.collect-seats.result.0.items c.collect-seats.ensures.seats last.its c.finish-control.result c.n-processes.ensures.value
+    c.finish-control.ensures.known c.n-processes.ensures.ranges.processes.0 c.journal.ensures.seats in
     let whole =
-    full_at g.T.Runs.rules c.in_ok-shared.shared plan c.args.setup final before.items rans.items last.its
-    c.n-processes.ensures.value new many c.in-Ok.ensures.each seats.items long got.seats c.finish-control.ensures.known
+    full_at g.T.Runs.rules c.in_ok-shared.shared plan c.args.setup before.items rans.items new many c.in-Ok.ensures.each
+    c.collect-seats.result.0.items c.collect-seats.ensures.seats last.its c.finish-control.result c.n-processes.ensures.value
+    c.finish-control.ensures.known c.n-processes.ensures.ranges.processes.0 c.journal.ensures.seats
     last.position last.within (ap (λ (r : Ran g.row.T.Denot). r.end) last.at ∙ met) c.journal.ensures.limit in
-    (final, so_far, whole)
+    (c.finish-control.result, so_far, whole)
 
 pub returns-in-Some-clause-of_one : goal.returns-in-Some-clause-of_one
 returns-in-Some-clause-of_one g c =
@@ -138,7 +127,7 @@ returns-in-Some-clause-of_one g c =
       many = many;
       ran = c.in-Ok.ensures.each;
       ended = c.in-Ok.ensures.ended;
-      least = least_seat g.T.Runs.rules c.in_ok-shared.shared plan c.args.setup before.items rans.items why new many c.in-Ok.ensures.each last;
+      least = least_seat g.T.Runs.rules c.in_ok-shared.shared plan c.args.setup before.items rans.items new many c.in-Ok.ensures.each why last;
     })
 
 pub returns-in-Some-clause-most : goal.returns-in-Some-clause-most

@@ -13,6 +13,6 @@ pub returns-clause-rest : goal.returns-clause-rest
 returns-clause-rest g c =
     let control = c.args.control in
     let first : view c.in-Ok-ruled.pass ≡ opening = c.in-Ok-ruled.ensures.3 in
-    let given = c.give.ensures.given ∙ ap (λ (v : Knowledge). resting (seats_after v.held v.known_seats (story control))) first in
+    let given = c.give.ensures.given ∙ ap (λ (v : Knowledge). resting (seats_after v.stage v.known_seats (story control))) first in
     let left = c.another-alone.ensures.rule.0 ∙ ap without_first given in
     rest_dealt _ control _ (c.deal-seats.ensures control (left ∙ ap (λ n. resting (known_seats_from (story control) 1 n)) (sym c.seats-count.ensures.0)))
