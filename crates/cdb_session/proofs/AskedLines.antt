@@ -54,10 +54,6 @@ AllZip-more [] (other ∷ lines) exchange line are is = absurd are
 AllZip-more (other ∷ exchanges) [] exchange line are is = absurd are
 AllZip-more (other ∷ exchanges) (other_line ∷ lines) exchange line are is = (are.0, AllZip-more exchanges lines exchange line are.1 is)
 
-pub AreOthers-more : (lines : List (List ℕ)) (line : List ℕ) → AreOthers lines → ¬ IsQuit line → AreOthers (lines ++ line ∷ [])
-AreOthers-more [] line are is = (is, tt)
-AreOthers-more (other ∷ lines) line are is = (are.0, AreOthers-more lines line are.1 is)
-
 is_false : (b : Bool) → b ≢ true → b ≡ false
 is_false b = elim b as (λ v. v ≢ true → v ≡ false) [ true ↦ λ no. absurd (no refl) | false ↦ λ no. refl ]
 

@@ -1,252 +1,258 @@
--- A session looks at the bytes that it was given, whatever replies will follow.
-use Rattle.std.proofs.Common.{◌⊎◌, inl, inr, ◌≡◌, ◌≢◌, rules, ℕ, ◌+◌, ◌<◌, Bool, true, false, List, [], ◌∷◌}
-use Rattle.std.proofs.Common.{◌++◌, drop, length, take, refl, sym, ap, subst, ◌∙◌, append_assoc, append-nil}
-use Rattle.std.specs.Prelude.{Result, Ok, Err, IsTrue, fold, None}
+-- A session responds to the lines of the bytes that it was given, whatever replies will follow.
+use Rattle.std.proofs.Common.{◌≡◌, ◌≢◌, rules, inl, inr, ℕ, ◌+◌, ◌<◌, Bool, true, false, List, [], ◌∷◌, ◌++◌, length, take}
+use Rattle.std.proofs.Common.{refl, sym, ap, subst, ◌∙◌, append_assoc}
+use Rattle.std.specs.Prelude.{Result, Ok, Err, IsTrue}
 use Rattle.cdb_base.specs.Memory.{no_memory as refused}
 use Rattle.cdb_commands.specs.ReplyView.{ReplyView}
+use Rattle.cdb_rules.proofs.Alls.{all-append}
+use Rattle.cdb_rules.specs.RunView.{RunView}
+use Rattle.cdb_streams.specs.Lines.{lines_of}
 use Rattle.cdb_streams.specs.declared.buffer.OutputFault.{OutputFault}
 use Rattle.cdb_streams.specs.declared.buffer.OutputFault.TheVariants as output
-use Rattle.cdb_streams.specs.declared.fault.PlayFault.{PlayFault}
 use Rattle.cdb_setup.specs.Format.{longest}
-use Rattle.cdb_session.specs.Unfinished.{IsOver, part_with, ended_well, ended_by}
-use Rattle.cdb_session.specs.Requests.{HasNoEnd}
-use Rattle.cdb_session.specs.Moves.{Known, Move, AreWrites, Makes}
-use Rattle.cdb_rules.specs.RunView.{RunView}
-use Rattle.cdb_session.specs.Exchanges.{Answer, Exchange, commands_among}
-use Rattle.cdb_session.specs.News.{watched_next}
+use Rattle.cdb_session.specs.Answers.{HasExchanges}
+use Rattle.cdb_session.specs.Exchanges.{Answer, Exchange}
+use Rattle.cdb_session.specs.Lines.{SessionView, HasGot, at_line}
+use Rattle.cdb_session.specs.Moves.{Known, Move, FailsToWrite, Makes, read_in, written_in}
+use Rattle.cdb_session.specs.Parts.{seat_next}
+use Rattle.cdb_session.specs.Replies.{begun_along, next_along, shown, dialogue}
+use Rattle.cdb_session.specs.Requests.{HasNoEnd, Asks, AsksFor, IsQuit, ended_lines, up_to_quit}
+use Rattle.cdb_session.specs.Served.{HoldsSession, IsAnswered, IsServed, IsSession}
+use Rattle.cdb_session.specs.Sessions.{HasEnded, HasResponded, by_quit}
+use Rattle.cdb_session.specs.Styles.{StyleView, Part, MakesNone}
+use Rattle.cdb_session.specs.Typed.{line_meant}
+use Rattle.cdb_session.specs.Unfinished.{ended_well, ended_by, part_with, Arrives, IsAlong, IsBehind, IsHandled, IsLost, MoreMayFollow, RespondsOnTime}
+use Rattle.cdb_session.specs.Unfinished.{RespondsToLast, RespondsToLine, StaysAt}
 use Rattle.cdb_session.specs.declared.inquiry.Inquiry.{Inquiry}
 use Rattle.cdb_session.specs.declared.request.Request.{Request}
 use Rattle.cdb_session.specs.declared.request.Request.TheVariants.{Quit}
-use Rattle.cdb_session.proofs.MovesInOrder.{Makes-nothing, Makes-more}
-use Rattle.cdb_session.proofs.WrittenText.{AreWrites-append}
-use Rattle.cdb_session.specs.Styles.{StyleView, Part, MakesNone}
-use Rattle.cdb_session.specs.Replies.{Along, begun_along, next_along}
-use Rattle.cdb_session.specs.Parts.{seat_behind}
-use Rattle.cdb_session.proofs.Along.{replies_along, seat_along, watched_along}
-use Rattle.cdb_session.specs.Unfinished.{IsAt, MoreMayFollow, StaysAt, IsLineDone, IsLineBroken, IsRequestLost, RespondsToLine, HasEndedAs, Feeds}
-use Rattle.cdb_session.specs.Lines.{SessionView, HasDone, HasGot, HasLooked, at_line}
-use Rattle.cdb_session.specs.Answers.{HasExchanges}
-use Rattle.cdb_session.specs.Served.{IsSession}
-use Rattle.cdb_session.proofs.GotReplies.{HasPart, SameLine, MakesNone-refl, none_got, nothing_lost, may_follow, same_replies, same_line, commands_done}
-use Rattle.cdb_session.proofs.GotReplies.{commands_lost}
-use Rattle.cdb_session.proofs.NextState.{more_unfinished, lost_before, line_lost, line_broken, line_responded}
-use Rattle.cdb_session.proofs.NextState.{line_quit, last_lost, last_broken, last_responded, no_last_line}
+use Rattle.cdb_session.proofs.Along.{along_after-more, dialogue-more}
+use Rattle.cdb_session.proofs.AskedLines.{is_not_quit, AllZip-more, up_to_quit-one, up_to_quit-quit}
+use Rattle.cdb_session.proofs.CutLines.{ended_and_more}
+use Rattle.cdb_session.proofs.GotReplies.{SameLine, MakesNone-refl, none_got, nothing_lost, may_follow, same_replies, same_line, commands_done, commands_lost}
+use Rattle.cdb_session.proofs.MovesInOrder.{Makes-more, EndsWith-more, writes_more, written-append}
+use Rattle.cdb_session.proofs.NextState.{StandsBefore, asked_behind, ended_line, finish, last_line, line_lost, lost_before, more_unfinished, no_further}
+use Rattle.cdb_session.proofs.NextState.{no_last_line, none_in_nothing, now_ended, now_read, open_writes, over_more, read_more}
+use Rattle.cdb_session.proofs.NextState.{unfinished_of_nothing, whole_line}
 
-false_is_not_true : (b : Bool) → b ≡ false → IsTrue b → ⊥
-false_is_not_true b is holds = search rules
-
-true_is_true : (b : Bool) → b ≡ true → IsTrue b
-true_is_true b is = search rules
-
-no_more : (part : Part) → MoreMayFollow [] part
-no_more part full = refl
-
-module _ (Answers : RunView → Inquiry → Answer → Type 0) (style : StyleView) where
-  -- the seat of a session is that which its lines chose last
-  sits : {replies : List ReplyView} {moves : List Move} {part : Part} {along : Along} {unfinished left : List ℕ}
-      (at : IsAt Answers style replies moves part along unfinished left) → along.seat ≡ seat_behind style.chooses style.first at.exchanges
-  sits {replies} at = ap (λ (s : Along). s.seat) at.along_is ∙ seat_along style (begun_along style replies) at.exchanges
-
-  -- the replies that are left follow those to the commands so far
-  behind : {replies : List ReplyView} {moves : List Move} {part : Part} {along : Along} {unfinished left : List ℕ}
-      (at : IsAt Answers style replies moves part along unfinished left) → drop (commands_among at.exchanges) replies ≡ along.replies
-  behind {replies} at = sym (ap (λ (s : Along). s.replies) at.along_is ∙ replies_along style (begun_along style replies) at.exchanges)
-
-  -- it watches from where its lines left off
-  watching : {replies : List ReplyView} {moves : List Move} {part : Part} {along : Along} {unfinished left : List ℕ}
-      (at : IsAt Answers style replies moves part along unfinished left) → along.watched ≡ fold watched_next None at.exchanges
-  watching {replies} at = ap (λ (s : Along). s.watched) at.along_is ∙ watched_along style (begun_along style replies) at.exchanges
-
-  -- where no reply follows, the replies are those of the seat
-  finish : (returned : Result (Unit {0}) PlayFault) (moves : List Move) (session : SessionView)
-      → IsSession Answers style (part_with (session.part.replies ++ []) session.part) returned moves → HasEndedAs Answers style returned moves session
-  finish returned moves session s = search rules
-
-  module _ (moves : List Move) (old : SessionView) (unfinished left : List ℕ) (at : StaysAt Answers style moves old unfinished left) where
-    pub as_seen : IsAt Answers style old.part.replies moves old.part (at_line old []) unfinished left
-    as_seen =
-        subst (λ (r : List ReplyView). IsAt Answers style r moves old.part (at_line old []) unfinished left)
-        (append-nil old.part.replies) (at [] (no_more old.part))
-
+module _ {Answers : RunView → Inquiry → Answer → Type 0} {style : StyleView} where
+  module _ {moves : List Move} {old : SessionView} {unfinished left : List ℕ} (at : StaysAt Answers style moves old unfinished left) where
     -- the replies that a line gets come first
     before_line : (new : Part) (request : Request) (got : List ReplyView) → HasGot old.seat old.part request got new → (more : List ReplyView)
-        → MoreMayFollow more new → IsAt Answers style (new.replies ++ more) moves old.part (at_line old (got ++ more)) unfinished left
+        → MoreMayFollow more new → IsAlong Answers style (new.replies ++ more) at.exchanges moves old.part (at_line old (got ++ more))
     before_line new request got calls more may =
-        subst (λ (r : List ReplyView). IsAt Answers style r moves old.part (at_line old (got ++ more)) unfinished left)
-        (same_replies old.seat old.part request got new calls more)
-        (at (got ++ more) (may_follow old.seat old.part request got new calls more may))
-
-    -- what a line asks for was done
-    record IsDone (new : SessionView) (exchange : Exchange) (got more : List ReplyView) : Type 0 where
-      now : IsAt Answers style (new.part.replies ++ more) moves old.part (at_line old (got ++ more)) unfinished left
-      same : SameLine Answers style old.seat exchange got more old.lines old.watched
-      commands : HasExchanges Answers style (part_with (new.part.replies ++ more) new.part) (now.exchanges ++ exchange ∷ [])
-
-    is_done : (new : SessionView) (exchange : Exchange) (got : List ReplyView) → HasDone Answers old.seat old.part exchange got new.part
-        → HasLooked old exchange new → (more : List ReplyView) → MoreMayFollow more new.part → IsDone new exchange got more
-    is_done new exchange got done looked more may =
-        let now = before_line new.part exchange.0 got done.calls more may in
-        record {
-          now = now;
-          same = same_line Answers style old.seat old.part exchange got new.part done more may old.lines old.watched;
-          commands =
-              commands_done Answers style old.seat now.exchanges (sits now) old.watched (watching now) (new.part.replies ++ more)
-              old.part new.part more may exchange got (behind now) done looked now.commands;
-        }
-
-    -- or nothing of it, or a part
-    may_be_done : (new : SessionView) (d : IsRequestLost Answers style old new unfinished)
-        → (now : IsAt Answers style (new.part.replies ++ []) moves old.part (at_line old (d.begun.got ++ [])) unfinished left)
-        × HasPart Answers style now.exchanges (new.part.replies ++ []) new.part d.request
-    may_be_done new d =
-        let now = before_line new.part d.request d.begun.got d.begun.calls [] (no_more new.part) in (
-          now,
-          commands_lost Answers style old.seat now.exchanges (sits now) old.watched (watching now) (new.part.replies ++ [])
-              old.part new.part d.request d.begun d.effect d.looked (behind now) now.commands,
-        )
+        subst (λ (r : List ReplyView). IsAlong Answers style r at.exchanges moves old.part (at_line old (got ++ more)))
+        (same_replies old.seat old.part request got new calls more) (at.along (got ++ more) (may_follow old.seat old.part request got new calls more may))
 
     -- memory is out, and nothing of a line was done
-    pub nothing_done : (new : SessionView) → MakesNone old.part new.part → HasEndedAs Answers style (ended_by (output.NoMemory refused)) moves new
+    nothing_done : (new : SessionView) → MakesNone old.part new.part → IsSession Answers style new.part (ended_by (output.NoMemory refused)) moves
     nothing_done new none =
         let got = none_got old.seat Quit old.part new.part none in
-        let now = before_line new.part Quit [] got [] (no_more new.part) in
-        finish (ended_by (output.NoMemory refused)) moves new
-        (lost_before now new.part (nothing_lost Answers style old.seat now.exchanges (sits now) old.watched (watching now)
-        (new.part.replies ++ []) old.part new.part Quit [] got refl now.commands))
+        let its = before_line new.part Quit [] got [] (λ full. refl) in
+        finish new.part (ended_by (output.NoMemory refused)) moves
+        (lost_before at its new.part (nothing_lost Answers style its new.part Quit [] got refl))
 
-    pub out_of_memory : HasEndedAs Answers style (ended_by (output.NoMemory refused)) moves old
-    out_of_memory = nothing_done old (MakesNone-refl old.part)
+    -- or a part of it
+    lost : (others : List (List ℕ)) → StandsBefore at others → (new : SessionView) → IsLost Answers style old new unfinished
+        → IsSession Answers style new.part (ended_by (output.NoMemory refused)) moves
+    lost others begins new (inl none) = nothing_done new none
+    lost others begins new (inr (request, asks, inl none)) = nothing_done new none
+    lost others begins new (inr (request, asks, inr (begun, effect, looked))) =
+        let its = before_line new.part request begun.got begun.calls [] (λ full. refl) in
+        finish new.part (ended_by (output.NoMemory refused)) moves
+        (line_lost at its new.part request (whole_line at (request, effect) asks) others begins
+        (commands_lost Answers style its new.part request begun effect looked refl))
 
-  -- the same of a line that was held, and of a last line
-  module _ (moves : List Move) (old : SessionView) (unfinished left : List ℕ)
-      (at : StaysAt Answers style moves old unfinished (10 ∷ left)) (new : SessionView) where
-    line_done : (kept : List ℕ) (was_quit : Bool) (made : List Move) → IsLineDone Answers style old new unfinished kept was_quit made
-        → was_quit ≡ false → StaysAt Answers style (moves ++ made) new kept left
-    line_done kept was_quit made d goes_on more may =
-        let s = is_done moves old unfinished (10 ∷ left) at new d.exchange d.got d.done d.looked more may in
-        let other : d.exchange.0 ≢ Quit = λ is. (let yes : IsTrue was_quit = d.quit_exactly.1 is in absurd (false_is_not_true was_quit goes_on yes)) in
-        let next : at_line new more ≡ next_along style (at_line old (d.got ++ more)) d.exchange =
-        (λ i. record { seat = d.seat i; replies = more; lines = d.lines i; watched = d.watched i }) ∙ sym s.same.1 in
-        line_responded s.now d.exchange d.asks new.part s.commands made d.writes (at_line new more) kept (d.written ∙ s.same.0) next d.lines d.emptied other
+  -- ---- a line was handled
 
-    line_quits : (kept : List ℕ) (was_quit : Bool) (made : List Move) → IsLineDone Answers style old new unfinished kept was_quit made
-        → was_quit ≡ true → HasEndedAs Answers style ended_well (moves ++ made) new
-    line_quits kept was_quit made d quit_exactly =
-        let s = is_done moves old unfinished (10 ∷ left) at new d.exchange d.got d.done d.looked [] (no_more new.part) in
-        finish ended_well (moves ++ made) new
-        (line_quit s.now d.exchange d.asks new.part s.commands made d.writes (d.written ∙ s.same.0) (d.quit_exactly.0 (true_is_true was_quit quit_exactly)))
+  module _ {moves : List Move} {before next : Known} {old new : SessionView} {unfinished left : List ℕ} {result : Result Bool OutputFault}
+      (at : StaysAt Answers style moves old unfinished left) (line : IsHandled Answers style result before next old new unfinished) where
+    abbrev made : List Move
+    made = line.outputs.0
 
-    line_breaks : (made : List Move) → IsLineBroken Answers style old new unfinished made → HasEndedAs Answers style (ended_by output.Write) (moves ++ made) new
-    line_breaks made d =
-        let s = is_done moves old unfinished (10 ∷ left) at new d.exchange d.got d.done d.looked [] (no_more new.part) in
-        finish (ended_by output.Write) (moves ++ made) new
-        (line_broken s.now d.exchange d.asks new.part s.commands made d.writes d.missing (sym s.same.0 ∙ d.written) d.fails)
+    abbrev exchanges_now : List Exchange
+    exchanges_now = at.exchanges ++ line.exchange ∷ []
 
-    line_loses : MakesNone old.part new.part ⊎ IsRequestLost Answers style old new unfinished
-        → HasEndedAs Answers style (ended_by (output.NoMemory refused)) moves new
-    line_loses (inl none) = nothing_done moves old unfinished (10 ∷ left) at new none
-    line_loses (inr d) =
-        let s = may_be_done moves old unfinished (10 ∷ left) at new d in
-        finish (ended_by (output.NoMemory refused)) moves new (line_lost s.0 (d.request, d.effect) d.asks new.part s.1)
+    asked : Asks line.exchange at.line
+    asked = whole_line at line.exchange line.asks
 
-  module _ (moves : List Move) (old : SessionView) (unfinished : List ℕ) (at : StaysAt Answers style moves old unfinished []) (over : IsOver moves) where
-    pub last_is_none : length unfinished ≡ 0 → HasEndedAs Answers style ended_well moves old
-    last_is_none none = no_last_line (as_seen moves old unfinished [] at) over none
+    module _ (more : List ReplyView) (may : MoreMayFollow more new.part) where
+      abbrev replies : List ReplyView
+      replies = new.part.replies ++ more
 
-    module _ (some : 0 < length unfinished) (new : SessionView) where
-      pub last_is_done : (kept : List ℕ) (was_quit : Bool) (made : List Move)
-          → IsLineDone Answers style old new unfinished kept was_quit made → HasEndedAs Answers style ended_well (moves ++ made) new
-      last_is_done kept was_quit made d =
-          let s = is_done moves old unfinished [] at new d.exchange d.got d.done d.looked [] (no_more new.part) in
-          finish ended_well (moves ++ made) new
-          (last_responded s.now over some d.exchange d.asks new.part s.commands made d.writes (d.written ∙ s.same.0))
+      so_far : IsAlong Answers style replies at.exchanges moves old.part (at_line old (line.got ++ more))
+      so_far = before_line at new.part line.exchange.0 line.got line.done.calls more may
 
-      pub last_breaks : (made : List Move) → IsLineBroken Answers style old new unfinished made
-          → HasEndedAs Answers style (ended_by output.Write) (moves ++ made) new
-      last_breaks made d =
-          let s = is_done moves old unfinished [] at new d.exchange d.got d.done d.looked [] (no_more new.part) in
-          finish (ended_by output.Write) (moves ++ made) new
-          (last_broken s.now over some d.exchange d.asks new.part s.commands made d.writes d.missing (sym s.same.0 ∙ d.written) d.fails)
+      commands : HasExchanges Answers style (part_with replies new.part) exchanges_now
+      commands = commands_done Answers style so_far new.part more may line.exchange line.got refl line.done line.looked
 
-      pub last_loses : MakesNone old.part new.part ⊎ IsRequestLost Answers style old new unfinished
-          → HasEndedAs Answers style (ended_by (output.NoMemory refused)) moves new
-      last_loses (inl none) = nothing_done moves old unfinished [] at new none
-      last_loses (inr d) =
-          let s = may_be_done moves old unfinished [] at new d in
-          finish (ended_by (output.NoMemory refused)) moves new (last_lost s.0 over some (d.request, d.effect) d.asks new.part s.1)
+      same : SameLine Answers style old.seat line.exchange line.got more old.lines old.watched
+      same = same_line Answers style old.seat old.part line.exchange line.got new.part line.done more may old.lines old.watched
 
-  -- from the first of the bytes on, up to those that are left
-  pub record Goes (before : Known) (old : SessionView) (unfinished bytes : List ℕ) (now : Known) (session : SessionView) (kept left : List ℕ) : Type 0 where
-    pub goes : (moves : List Move) → StaysAt Answers style moves old unfinished bytes
-        → (made : List Move) × Makes before now made × AreWrites made × StaysAt Answers style (moves ++ made) session kept left
+      text : written_in moves ++ shown style (at_line old line.got) line.exchange ≡ dialogue style replies exchanges_now
+      text =
+          (λ i. so_far.written i ++ same.0 i) ∙ ap (λ s. dialogue style replies at.exchanges ++ shown style s line.exchange) so_far.along_is
+          ∙ sym (dialogue-more style replies at.exchanges line.exchange)
 
-  pub starts : (before : Known) (old : SessionView) (unfinished bytes : List ℕ) → Goes before old unfinished bytes before old unfinished bytes
-  starts before old unfinished bytes = record {
-    goes =
-        λ moves at. ([], Makes-nothing before, tt, subst (λ all. StaysAt Answers style all old unfinished bytes) (sym (append-nil moves)) at);
-  }
+      in_time : RespondsOnTime Answers style replies exchanges_now (moves ++ made)
+      in_time final others has =
+          writes_more (HasResponded (IsAnswered Answers style (part_with replies final))) moves made
+          (so_far.in_time final (line.exchange ∷ others)
+          (subst (HasExchanges Answers style (part_with replies final)) (append_assoc at.exchanges (line.exchange ∷ []) others) has)) line.outputs.2
 
-module _ {Answers : RunView → Inquiry → Answer → Type 0} {style : StyleView} {before : Known} {old : SessionView} {unfinished bytes : List ℕ} {now : Known}
-    {session : SessionView} {kept : List ℕ} where
-  module _ {left : List ℕ} (so : Goes Answers style before old unfinished bytes now session kept left) where
+      along_behind : written_in made ≡ shown style (at_line old line.got) line.exchange → new.lines ≡ old.lines + 1
+          → new.seat ≡ seat_next style.chooses old.seat line.exchange.0
+          → IsAlong Answers style replies exchanges_now (moves ++ made) new.part (at_line new more)
+      along_behind said one seat = record {
+        written = written-append moves made ∙ ap (λ outputs. written_in moves ++ outputs) said ∙ text;
+        along_is =
+            (λ i. record { seat = seat i; replies = more; lines = one i; watched = line.watched i }) ∙ sym same.1
+            ∙ ap (λ s. next_along style s line.exchange) so_far.along_is ∙ sym (along_after-more style (begun_along style replies) at.exchanges line.exchange);
+        commands = commands;
+        in_time = in_time;
+      }
+
+  module _ {moves : List Move} {before next : Known} {old : SessionView} {unfinished left : List ℕ}
+      (at : StaysAt Answers style moves old unfinished left) (others : List (List ℕ)) (begins : StandsBefore at others) where
+    -- the writing failed
+    broken : {new : SessionView} (line : IsHandled Answers style (Err output.Write) before next old new unfinished)
+        → IsSession Answers style new.part (ended_by output.Write) (moves ++ made at line)
+    broken {new} line =
+        let missing = line.outputs.3.0 in
+        let has = commands at line [] (λ full. refl) in
+        finish new.part (ended_by output.Write) (moves ++ made at line)
+        (record {
+          in_time =
+              in_time at line [] (λ full. refl) new.part []
+              (no_further Answers style (part_with (new.part.replies ++ []) new.part) (exchanges_now at line) has);
+          ends = (
+            record {
+              lines = at.lines ++ at.line ∷ [];
+              others = others;
+              outputs = dialogue style (new.part.replies ++ []) (exchanges_now at line);
+              missing = missing;
+              begins = ap lines_of (read_more moves (made at line) line.outputs.2) ∙ begins;
+              responded = (exchanges_now at line, asked_behind at line.exchange (asked at line) (at.line ∷ []) (up_to_quit-one at.line), refl, has);
+              written =
+                  sym (text at line [] (λ full. refl)) ∙ ap (λ outputs. written_in moves ++ outputs) line.outputs.3.1
+                  ∙ sym (append_assoc (written_in moves) (written_in (made at line)) missing)
+                  ∙ ap (λ front. front ++ missing) (sym (written-append moves (made at line)));
+            },
+            EndsWith-more FailsToWrite moves (made at line) line.outputs.3.2,
+          );
+        })
+
+    -- it was the last
+    served : {new : SessionView} {was_quit : Bool} (line : IsHandled Answers style (Ok was_quit) before next old new unfinished) {kept : List ℕ}
+        → IsBehind Answers style old new line.exchange.0 kept was_quit → up_to_quit (at.line ∷ others) ≡ at.line ∷ []
+        → HasEnded (moves ++ made at line) → IsSession Answers style new.part ended_well (moves ++ made at line)
+    served {new} line is ends ended =
+        let its = along_behind at line [] (λ full. refl) line.outputs.3 is.lines is.seat in
+        let part : Part = part_with (new.part.replies ++ []) new.part in
+        let lines : lines_of (read_in (moves ++ made at line)) ≡ at.lines ++ at.line ∷ others =
+        ap lines_of (read_more moves (made at line) line.outputs.2) ∙ begins ∙ append_assoc at.lines (at.line ∷ []) others in
+        finish new.part ended_well (moves ++ made at line)
+        (record {
+          in_time = its.in_time new.part [] (no_further Answers style part (exchanges_now at line) its.commands);
+          ends = record {
+            responded =
+                subst (λ parts. IsServed Answers style part parts (written_in (moves ++ made at line))) (sym lines)
+                (exchanges_now at line, asked_behind at line.exchange (asked at line) (at.line ∷ others) ends, its.written, its.commands);
+            ended = ended;
+          };
+        })
+
+    -- it failed
+    line_fails : {first : Known} → Makes first before moves → (fault : OutputFault) (new : SessionView) (kept : List ℕ)
+        → RespondsToLine Answers style (Err fault) before next old new unfinished kept → HoldsSession Answers style new.part (ended_by fault) first next
+    line_fails makes output.Write new kept line = (moves ++ made at line, Makes-more _ before next moves (made at line) makes line.outputs.1, broken line)
+    line_fails {first} makes (output.NoMemory why) new kept a = (moves, subst (λ known. Makes first known moves) a.0 makes, lost at others begins new a.1)
+
+  -- ---- bytes are looked at
+
+  module _ {first now : Known} {session : SessionView} {kept left : List ℕ} {read : ℕ} (a : Arrives Answers style first now session kept left read) where
     -- memory is out
-    pub no_memory : (all : List ℕ) → Feeds Answers style (Err (output.NoMemory refused)) before now old session unfinished all bytes
-    no_memory all moves at =
-        let s = so.goes moves at in
-        (s.0, s.1, s.2, out_of_memory Answers style (moves ++ s.0) session kept left s.3)
+    pub no_memory : HoldsSession Answers style session.part (ended_by (output.NoMemory refused)) first now
+    no_memory = (a.moves, a.makes, nothing_done a.stays session (MakesNone-refl session.part))
 
     -- the bytes up to some are held
     pub holds : (more behind all : List ℕ) → left ≡ more ++ behind → HasNoEnd more
-        → all ≡ take (longest + 1) (kept ++ more) → Goes Answers style before old unfinished bytes now session all behind
-    holds more behind all cut none is = record {
-      goes =
-          λ moves at. let s = so.goes moves at in (s.0, s.1, s.2, λ follow may. more_unfinished (s.3 follow may) more behind all cut none is);
-    }
+        → all ≡ take (longest + 1) (kept ++ more) → Arrives Answers style first now session all behind read
+    holds more behind all cut none is =
+        record { moves = a.moves; makes = a.makes; stays = more_unfinished a.stays more behind all cut none is; many = a.many; still = a.still }
 
   -- a line has ended
-  module _ {left : List ℕ} (so : Goes Answers style before old unfinished bytes now session kept (10 ∷ left))
-      (behind : Known) (new : SessionView) (all : List ℕ) where
-    pub responds : (was_quit : Bool) → RespondsToLine Answers style (Ok was_quit) now behind session new kept all
-        → was_quit ≡ false → Goes Answers style before old unfinished bytes behind new all left
-    responds was_quit a goes_on = record {
-      goes =
-          λ moves at.
-          let s = so.goes moves at in (
-            s.0 ++ a.0,
-            Makes-more before now behind s.0 a.0 s.1 a.1,
-            AreWrites-append s.0 a.0 s.2 a.2.writes,
-            subst (λ made. StaysAt Answers style made new all left) (append_assoc moves s.0 a.0)
-                (line_done Answers style (moves ++ s.0) session kept left s.3 new all was_quit a.0 a.2 goes_on),
-          );
-    }
+  module _ {first now next : Known} {session : SessionView} {kept left : List ℕ} {read : ℕ}
+      (a : Arrives Answers style first now session kept (10 ∷ left) read) where
+    -- it is not `quit`
+    pub responds : {new : SessionView} {all : List ℕ} (was_quit : Bool) → RespondsToLine Answers style (Ok was_quit) now next session new kept all
+        → was_quit ≡ false → Arrives Answers style first next new all left read
+    responds was_quit (line, is) goes_on =
+        let at = a.stays in
+        let its : List Move = made at line in
+        let read = read_more a.moves its line.outputs.2 in
+        let other : line.exchange.0 ≢ Quit = λ quits. (let yes : IsTrue was_quit = is.quit_exactly.1 quits in absurd (no_quit was_quit goes_on yes)) in
+        record {
+          moves = a.moves ++ its;
+          makes = Makes-more first now next a.moves its a.makes line.outputs.1;
+          stays = record {
+            lines = at.lines ++ at.line ∷ [];
+            line = [];
+            exchanges = exchanges_now at line;
+            read = read ∙ now_read at;
+            ended = now_ended at;
+            unended = none_in_nothing;
+            unfinished_is = is.emptied ∙ sym unfinished_of_nothing;
+            asked = AllZip-more at.exchanges at.lines line.exchange at.line at.asked (asked at line);
+            goes_on = all-append (λ its. ¬ IsQuit its) at.lines (at.line ∷ []) at.goes_on (is_not_quit line.exchange at.line (asked at line) other, tt);
+            along = λ more may. along_behind at line more may line.outputs.3 is.lines is.seat;
+          };
+          many = ap length read ∙ a.many;
+          still = open_writes a.moves its a.still line.outputs.2;
+        }
+      where
+        no_quit : (b : Bool) → b ≡ false → IsTrue b → ⊥
+        no_quit b is holds = search rules
 
-    pub quits : (was_quit : Bool) → RespondsToLine Answers style (Ok was_quit) now behind session new kept all
-        → was_quit ≡ true → Feeds Answers style (Ok true) before behind old new unfinished all bytes
-    quits was_quit a quit_exactly moves at =
-        let s = so.goes moves at in (
-          s.0 ++ a.0,
-          Makes-more before now behind s.0 a.0 s.1 a.1,
-          AreWrites-append s.0 a.0 s.2 a.2.writes,
-          subst (λ made. HasEndedAs Answers style ended_well made new) (append_assoc moves s.0 a.0)
-              (line_quits Answers style (moves ++ s.0) session kept left s.3 new all was_quit a.0 a.2 quit_exactly),
+    pub quits : {new : SessionView} {all : List ℕ} (was_quit : Bool) → RespondsToLine Answers style (Ok was_quit) now next session new kept all
+        → was_quit ≡ true → HoldsSession Answers style new.part ended_well first next
+    quits {new} was_quit (line, is) quit =
+        let at = a.stays in
+        let its : List Move = made at line in
+        let is_quit : line.exchange.0 ≡ Quit = is.quit_exactly.0 (true_is_true was_quit quit) in
+        let quits : IsQuit at.line = (subst (λ (r : Request). AsksFor r (line_meant at.line)) is_quit (asked at line)).1 in
+        let ended : ended_lines (read_in (a.moves ++ its)) ≡ at.lines ++ at.line ∷ ended_lines left =
+        ap ended_lines (read_more a.moves its line.outputs.2 ∙ now_read at) ∙ ended_and_more (at.lines ++ at.line ∷ []) left (now_ended at)
+        ∙ append_assoc at.lines (at.line ∷ []) (ended_lines left) in (
+          a.moves ++ its,
+          Makes-more first now next a.moves its a.makes line.outputs.1,
+          served at (lines_of left) (ended_line at) line is (up_to_quit-quit at.line (lines_of left) quits)
+              (by_quit (at.lines, ended_lines left, at.line, ended, quits)),
         )
+      where
+        true_is_true : (b : Bool) → b ≡ true → IsTrue b
+        true_is_true b is = search rules
 
-    pub fails : (fault : OutputFault) → RespondsToLine Answers style (Err fault) now behind session new kept all
-        → Feeds Answers style (Err fault) before behind old new unfinished all bytes
-    fails output.Write a moves at =
-        let s = so.goes moves at in (
-          s.0 ++ a.0,
-          Makes-more before now behind s.0 a.0 s.1 a.1,
-          AreWrites-append s.0 a.0 s.2 a.2.writes,
-          subst (λ made. HasEndedAs Answers style (ended_by output.Write) made new)
-              (append_assoc moves s.0 a.0) (line_breaks Answers style (moves ++ s.0) session kept left s.3 new a.0 a.2),
-        )
-    fails (output.NoMemory why) a moves at =
-        let s = so.goes moves at in
-        let made : s.0 ++ a.0 ≡ s.0 = ap (λ more. s.0 ++ more) a.2.none ∙ append-nil s.0 in (
-          s.0 ++ a.0,
-          Makes-more before now behind s.0 a.0 s.1 a.1,
-          subst AreWrites (sym made) s.2,
-          subst (λ more. HasEndedAs Answers style (ended_by (output.NoMemory refused)) (moves ++ more) new)
-              (sym made) (line_loses Answers style (moves ++ s.0) session kept left s.3 new a.2.lost),
-        )
+    pub fails : (fault : OutputFault) (new : SessionView) (all : List ℕ) → RespondsToLine Answers style (Err fault) now next session new kept all
+        → HoldsSession Answers style new.part (ended_by fault) first next
+    fails = line_fails a.stays (lines_of left) (ended_line a.stays) a.makes
+
+  -- ---- the last line
+
+  pub last_none : (before : Known) (session : SessionView) (unfinished : List ℕ) → length unfinished ≡ 0
+      → RespondsToLast Answers style ended_well before before session session unfinished
+  last_none before session unfinished none first moves makes at over = (moves, makes, no_last_line at over none)
+
+  module _ {before next : Known} {session : SessionView} {unfinished : List ℕ} (some : 0 < length unfinished) where
+    pub last_done : {new : SessionView} {kept : List ℕ} (was_quit : Bool) → RespondsToLine Answers style (Ok was_quit) before next session new unfinished kept
+        → RespondsToLast Answers style ended_well before next session new unfinished
+    last_done was_quit (line, is) first moves makes at over = (
+      moves ++ made at line,
+      Makes-more first before next moves (made at line) makes line.outputs.1,
+      served at [] (last_line at some) line is (up_to_quit-one at.line) (over_more moves (made at line) line.outputs.2 over),
+    )
+
+    pub last_fails : (fault : OutputFault) (new : SessionView) (kept : List ℕ)
+        → RespondsToLine Answers style (Err fault) before next session new unfinished kept
+        → RespondsToLast Answers style (ended_by fault) before next session new unfinished
+    last_fails fault new kept line first moves makes at over = line_fails at [] (last_line at some) makes fault new kept line

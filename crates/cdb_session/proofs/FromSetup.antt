@@ -90,9 +90,7 @@ module _ (rules : Parts → Rules) (Answers : RunView → Inquiry → Answer →
             e.begins ∙ append_assoc e.lines e.next e.others;
         responded = answered e.lines (written_in moves) e.responded;
       }
-  ends (Err (fault.Setup why)) moves e = e
-  ends (Err (fault.Line script line why)) moves e = e
-  ends (Err (fault.ScriptTooLong script)) moves e = e
+  ends (Err other) moves e = e
 
   by_table : (returned : Result (Unit {0}) PlayFault) (moves : List Move) → IsSession Answers (nine greeting prompt) (came rules c before) returned moves
       → table.IsSession Answers greeting prompt (begun rules given before) returned moves
@@ -116,18 +114,8 @@ fits json refused long = at_most (length json) longest (λ more. cc (long more))
 pub setup_failed : (json journal : List ℕ) (seats : ℕ) (why : SetupFault)
     → (let read : Result (Unit {0}) SetupFault = Err why in IfFault read (λ first. IsFirstFault first json)) → (longest < length json → why ≡ setup.TooLong)
     → table.IsFaultOfBeginning json journal seats (of_setup why)
-setup_failed json journal seats setup.NotJson is long = is (λ e. cc)
-setup_failed json journal seats setup.NotObject is long = is (λ e. cc)
-setup_failed json journal seats setup.UnknownKey is long = is (λ e. cc)
-setup_failed json journal seats (setup.Missing key) is long = is (λ e. cc)
-setup_failed json journal seats setup.BadAlgorithm is long = is (λ e. cc)
-setup_failed json journal seats setup.BadCount is long = is (λ e. cc)
-setup_failed json journal seats setup.BadQuorum is long = is (λ e. cc)
-setup_failed json journal seats (setup.BadInput position) is long = is (λ e. cc)
-setup_failed json journal seats (setup.BadOracle process position) is long = is (λ e. cc)
-setup_failed json journal seats setup.TooLong is long = is (λ e. cc)
-setup_failed json journal seats setup.BadVersion is long = is (λ e. cc)
 setup_failed json journal seats (setup.NoMemory refused) is long = fits json refused long
+setup_failed json journal seats why is long = is (λ e. cc)
 
 -- and those of the journal come before the session
 pub journal_failed : (json journal : List ℕ) (seats : ℕ) (given : Parts) → Encodes json given → (why : ScriptFault)

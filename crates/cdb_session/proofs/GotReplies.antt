@@ -14,20 +14,20 @@ use Rattle.cdb_rules.specs.RunView.{RunView}
 use Rattle.cdb_text.specs.Texts.{text_of}
 use Rattle.cdb_session.specs.Answers.{AnswersNow, EachLine, IsAnsweredAfter, IsDoneAfter, HasExchanges}
 use Rattle.cdb_session.specs.Exchanges.{Answer, Exchange, Effect, given_at, commands_among}
-use Rattle.cdb_session.specs.Moves.{says}
+use Rattle.cdb_session.specs.Moves.{Move, says}
 use Rattle.cdb_session.specs.declared.inquiry.Inquiry.{Inquiry}
 use Rattle.cdb_session.specs.declared.request.Request.{Request}
-use Rattle.cdb_session.specs.declared.request.Request.TheVariants.{Call, Ask, Watch, Seat, Help, Quit, Fault, TooLong}
+use Rattle.cdb_session.specs.declared.request.Request.TheVariants.{Call, Ask}
 use Rattle.cdb_session.specs.Repeats.{times_given}
 use Rattle.cdb_session.specs.Requests.{AsksFor, AsksForNoLess}
 use Rattle.cdb_session.specs.Styles.{StyleView, Part, GoesOn, IsFull, AreCalled, MakesNone}
-use Rattle.cdb_session.specs.Replies.{Along, next_along, replies_text, shown}
+use Rattle.cdb_session.specs.Replies.{Along, begun_along, next_along, replies_text, shown}
 use Rattle.cdb_session.specs.Typed.{line_meant}
-use Rattle.cdb_session.specs.Unfinished.{MoreMayFollow, part_with}
+use Rattle.cdb_session.specs.Unfinished.{IsAlong, MoreMayFollow, part_with}
 use Rattle.cdb_session.specs.Lines.{HasBegun, HasGot, HasDone}
 use Rattle.cdb_session.specs.News.{AreNews, HasNews, HasNewsAfter, watched_next, watches}
-use Rattle.cdb_session.specs.Parts.{HaveJust, IsGiven, all_asked, asked_of, entries_of, seat_next, seat_behind, all_of, HasCommands}
-use Rattle.cdb_session.proofs.Along.{all_asked-more}
+use Rattle.cdb_session.specs.Parts.{HaveJust, IsGiven, all_asked, asked_of, entries_of, seat_next, all_of, HasCommands}
+use Rattle.cdb_session.proofs.Along.{all_asked-more, replies_along, seat_along, watched_along}
 use Rattle.cdb_session.proofs.LaterParts.{AsManyLater, each_line_on, news_on}
 
 GoesOn-refl : (part : Part) → GoesOn part part
@@ -48,6 +48,12 @@ no_entry seat request = grind (arith, common_steps, gets)
 
 pub none_got : (seat : ℕ) (request : Request) (old new : Part) → MakesNone old new → HasGot seat old request [] new
 none_got seat request old new same = subst (λ (made : List Entry). AreCalled old made [] new) (sym (no_entry seat request)) (none_called old new same)
+
+-- nor one where no reply was got
+same_calls : (seat : ℕ) (request : Request) (got : List ReplyView) {old new : Part} → HasGot seat old request got new → got ≡ [] → new.calls ≡ old.calls
+same_calls seat request got {old} calls nothing =
+    calls.calls ∙ ap (λ (g : List ReplyView). old.calls ++ entries_of seat request (length g)) nothing
+    ∙ ap (λ (made : List Entry). old.calls ++ made) (no_entry seat request) ∙ append-nil old.calls
 
 pub none : (got : List ReplyView) → length got ≤ 0 → got ≡ []
 none got few = nil_from_length got (omega (arith, few))
@@ -120,13 +126,7 @@ module _ (Answers : RunView → Inquiry → Answer → Type 0) (style : StyleVie
     ap (with_replies seat (lines + 1) (watched_next watched (Call command times, effect)))
         (left_same effect.given got more done.fits (λ low. may (done.full low))),
   )
-  same_line seat old (Ask inquiry, effect) got new done more may lines watched = (refl, next_same seat (Ask inquiry, effect) got more lines watched done.fits)
-  same_line seat old (Watch begins, effect) got new done more may lines watched = (refl, next_same seat (Watch begins, effect) got more lines watched done.fits)
-  same_line seat old (Seat chosen, effect) got new done more may lines watched = (refl, next_same seat (Seat chosen, effect) got more lines watched done.fits)
-  same_line seat old (Help about, effect) got new done more may lines watched = (refl, next_same seat (Help about, effect) got more lines watched done.fits)
-  same_line seat old (Quit, effect) got new done more may lines watched = (refl, next_same seat (Quit, effect) got more lines watched done.fits)
-  same_line seat old (Fault fault, effect) got new done more may lines watched = (refl, next_same seat (Fault fault, effect) got more lines watched done.fits)
-  same_line seat old (TooLong, effect) got new done more may lines watched = (refl, next_same seat (TooLong, effect) got more lines watched done.fits)
+  same_line seat old exchange got new done more may lines watched = (refl, next_same seat exchange got more lines watched done.fits)
 
   -- ---- the session's entries, at a line of the seat that the lines before chose
 
@@ -143,13 +143,7 @@ module _ (Answers : RunView → Inquiry → Answer → Type 0) (style : StyleVie
         ap (λ n. replicate n one) (sym both) ∙ sym (replicate-append-replicate count (effect.given - count) one),
         λ most. let nothing : effect.given - count ≡ 0 = omega (arith, most) in ap (λ n. replicate n one) nothing,
       )
-  asked_behind seat (Ask inquiry, effect) count fits = ([], refl, λ most. refl)
-  asked_behind seat (Watch begins, effect) count fits = ([], refl, λ most. refl)
-  asked_behind seat (Seat chosen, effect) count fits = ([], refl, λ most. refl)
-  asked_behind seat (Help about, effect) count fits = ([], refl, λ most. refl)
-  asked_behind seat (Quit, effect) count fits = ([], refl, λ most. refl)
-  asked_behind seat (Fault fault, effect) count fits = ([], refl, λ most. refl)
-  asked_behind seat (TooLong, effect) count fits = ([], refl, λ most. refl)
+  asked_behind seat exchange count fits = ([], refl, λ most. refl)
 
   -- the entries that a line asks for are as many as its commands
   as_many_at : (seat : ℕ) (exchange : Exchange) → length (asked_of seat exchange) ≡ given_at exchange
@@ -197,17 +191,33 @@ module _ (Answers : RunView → Inquiry → Answer → Type 0) (style : StyleVie
       ⊎ ((begun : Exchange) × HasExchanges Answers style (part_with replies new) (exchanges ++ begun ∷ [])
       × ((line : List ℕ) → AsksFor request (line_meant line) → AsksForNoLess begun line))
 
-  module _ (seat : ℕ) (exchanges : List Exchange) (is_seat : seat ≡ seat_behind style.chooses style.first exchanges) (watched : Option ℕ)
-      (is_watched : watched ≡ fold watched_next None exchanges) where
+  module _ {replies : List ReplyView} {exchanges : List Exchange} {moves : List Move} {old : Part} {along : Along}
+      (its : IsAlong Answers style replies exchanges moves old along) (new : Part) where
+    abbrev seat : ℕ
+    seat = along.seat
+
+    -- the seat of a session is that which its lines chose last
     all_of-more : (exchange : Exchange) → all_of style (exchanges ++ exchange ∷ []) ≡ all_of style exchanges ++ asked_of seat exchange
     all_of-more exchange =
-        all_asked-more style.chooses style.first exchanges exchange ∙ ap (λ (its : ℕ). all_of style exchanges ++ asked_of its exchange) (sym is_seat)
+        all_asked-more style.chooses style.first exchanges exchange
+        ∙ ap (λ (seat : ℕ). all_of style exchanges ++ asked_of seat exchange)
+        (sym (ap (λ (s : Along). s.seat) its.along_is ∙ seat_along style (begun_along style replies) exchanges))
+
+    -- the replies that are left follow those to the commands so far
+    behind : drop (0 + commands_among exchanges) replies ≡ along.replies
+    behind =
+        ap (λ (n : ℕ). drop n replies) (let e : 0 + commands_among exchanges ≡ commands_among exchanges = omega arith in e)
+        ∙ sym (ap (λ (s : Along). s.replies) its.along_is ∙ replies_along style (begun_along style replies) exchanges)
+
+    -- it watches from where its lines left off
+    watching : along.watched ≡ fold watched_next None exchanges
+    watching = ap (λ (s : Along). s.watched) its.along_is ∙ watched_along style (begun_along style replies) exchanges
 
     -- ---- a line that gives a command
 
-    has_more : (old new : Part) (exchange : Exchange) (got : List ReplyView) → HasGot seat old exchange.0 got new → length got ≤ given_at exchange
+    has_more : (exchange : Exchange) (got : List ReplyView) → HasGot seat old exchange.0 got new → length got ≤ given_at exchange
         → (length got < given_at exchange → IsFull new) → HasCommands style old exchanges → HasCommands style new (exchanges ++ exchange ∷ [])
-    has_more old new exchange got calls fits full (inl all) =
+    has_more exchange got calls fits full (inl all) =
         let behind = asked_behind seat exchange (length got) fits in
         let whole : all_of style (exchanges ++ exchange ∷ []) ≡ new.calls ++ behind.0 =
         all_of-more exchange ∙ (λ i. sym all i ++ behind.1 i) ∙ sym (append_assoc old.calls (entries_of seat exchange.0 (length got)) behind.0)
@@ -216,22 +226,20 @@ module _ (Answers : RunView → Inquiry → Answer → Type 0) (style : StyleVie
           | inl short ↦ inr (full short, behind.0, whole)
           | inr most ↦ inl (sym (append-nil new.calls) ∙ ap (λ (rest : List Entry). new.calls ++ rest) (sym (behind.2 most)) ∙ sym whole)
         ]
-    has_more old new exchange got calls fits full (inr some) =
-        let its = calls.full some.0 in
-        let same : new.calls ≡ old.calls =
-        calls.calls ∙ ap (λ (g : List ReplyView). old.calls ++ entries_of seat exchange.0 (length g)) its.0
-        ∙ ap (λ (made : List Entry). old.calls ++ made) (no_entry seat exchange.0) ∙ append-nil old.calls in
+    has_more exchange got calls fits full (inr some) =
+        let none = calls.full some.0 in
+        let same = same_calls seat exchange.0 got calls none.0 in
         inr (
-          its.1,
+          none.1,
           some.1 ++ asked_of seat exchange,
           all_of-more exchange ∙ ap (λ (front : List Entry). front ++ asked_of seat exchange) some.2 ∙ append_assoc old.calls some.1 (asked_of seat exchange)
               ∙ ap (λ (front : List Entry). front ++ (some.1 ++ asked_of seat exchange)) (sym same),
         )
 
     -- the journal has all the commands before
-    as_many_later : (old new : Part) (request : Request) (got : List ReplyView) → HasGot seat old request got new
+    as_many_later : (request : Request) (got : List ReplyView) → HasGot seat old request got new
         → HasCommands style old exchanges → AsManyLater old new (0 + commands_among exchanges)
-    as_many_later old new request got calls (inl all) n low =
+    as_many_later request got calls (inl all) n low =
         omega (
           arith,
           low,
@@ -240,137 +248,104 @@ module _ (Answers : RunView → Inquiry → Answer → Type 0) (style : StyleVie
           ap length all,
           as_many_asked style.chooses style.first exchanges,
         )
-    as_many_later old new request got calls (inr some) n low =
-        let its = calls.full some.0 in
-        let same : new.calls ≡ old.calls =
-        calls.calls ∙ ap (λ (g : List ReplyView). old.calls ++ entries_of seat request (length g)) its.0
-        ∙ ap (λ (made : List Entry). old.calls ++ made) (no_entry seat request) ∙ append-nil old.calls in
-        ap (λ (made : List Entry). min n (length made)) same
+    as_many_later request got calls (inr some) n low =
+        ap (λ (made : List Entry). min n (length made)) (same_calls seat request got calls (calls.full some.0).0)
 
-    no_more_than : (part : Part) → HasCommands style part exchanges → length part.calls ≤ commands_among exchanges
-    no_more_than part (inl all) = omega (arith, ap length all, as_many_asked style.chooses style.first exchanges)
-    no_more_than part (inr some) = omega (arith, ap length some.2, length-append part.calls some.1, as_many_asked style.chooses style.first exchanges)
+    no_more_than : HasCommands style old exchanges → length old.calls ≤ commands_among exchanges
+    no_more_than (inl all) = omega (arith, ap length all, as_many_asked style.chooses style.first exchanges)
+    no_more_than (inr some) = omega (arith, ap length some.2, length-append old.calls some.1, as_many_asked style.chooses style.first exchanges)
 
-    module _ (replies : List ReplyView) (old new : Part) where
-      answers_later : (request : Request) (got : List ReplyView) → HasGot seat old request got new
-          → HasExchanges Answers style (part_with replies old) exchanges → EachLine (IsDoneAfter Answers (part_with replies new)) 0 None exchanges
-      answers_later request got calls has =
-          each_line_on Answers (part_with replies old) (part_with replies new) (on calls.goes_on)
-          refl 0 None exchanges (as_many_later old new request got calls has.0) has.1
-        where
-          on : GoesOn old new → GoesOn (part_with replies old) (part_with replies new)
-          on k = record { before = k.before; longer = k.longer; calls_in = k.calls_in; left_by = k.left_by; news = k.news }
+    answers_later : (request : Request) (got : List ReplyView) → HasGot seat old request got new
+        → EachLine (IsDoneAfter Answers (part_with replies new)) 0 None exchanges
+    answers_later request got calls =
+        each_line_on Answers (part_with replies old) (part_with replies new) (on calls.goes_on)
+        refl 0 None exchanges (as_many_later request got calls its.commands.0) its.commands.1
+      where
+        on : GoesOn old new → GoesOn (part_with replies old) (part_with replies new)
+        on k = record { before = k.before; longer = k.longer; calls_in = k.calls_in; left_by = k.left_by; news = k.news }
 
-      -- the answer of the run as it stands, after all commands so far
-      answers_at : (exchange : Exchange) → ((inquiry : Inquiry) → exchange.0 ≡ Ask inquiry → AnswersNow Answers new inquiry exchange.1.answer)
-          → (given_at exchange ≡ 0 → length new.calls ≤ commands_among exchanges)
-          → IsAnsweredAfter Answers (part_with replies new) (0 + commands_among exchanges) exchange
-      answers_at (Call command times, effect) answer few = tt
-      answers_at (Ask inquiry, effect) answer few = let now = answer inquiry refl in
-          let just : HaveJust (part_with replies new) (0 + commands_among exchanges) new.entries =
-          record { since = now.0.since; within = omega arith; commands = omega (arith, now.0.commands, few refl) } in
-          (new.entries, just, now.1)
-      answers_at (Watch begins, effect) answer few = tt
-      answers_at (Seat chosen, effect) answer few = tt
-      answers_at (Help about, effect) answer few = tt
-      answers_at (Quit, effect) answer few = tt
-      answers_at (Fault fault, effect) answer few = tt
-      answers_at (TooLong, effect) answer few = tt
+    -- the answer of the run as it stands, after all commands so far
+    answers_at : (exchange : Exchange) → ((inquiry : Inquiry) → exchange.0 ≡ Ask inquiry → AnswersNow Answers new inquiry exchange.1.answer)
+        → (given_at exchange ≡ 0 → length new.calls ≤ commands_among exchanges)
+        → IsAnsweredAfter Answers (part_with replies new) (0 + commands_among exchanges) exchange
+    answers_at (Ask inquiry, effect) answer few =
+        let now = answer inquiry refl in
+        let just : HaveJust (part_with replies new) (0 + commands_among exchanges) new.entries =
+        record { since = now.0.since; within = omega arith; commands = omega (arith, now.0.commands, few refl) } in
+        (new.entries, just, now.1)
+    answers_at exchange answer few = tt
 
-      given_behind : (exchange : Exchange) (got more : List ReplyView) → IsGiven exchange got → length got ≤ given_at exchange → (length got < given_at exchange
-          → more ≡ []) → drop (commands_among exchanges) replies ≡ got ++ more → IsGiven exchange (drop (0 + commands_among exchanges) replies)
-      given_behind (Call command times, effect) got more given fits last left =
-          given ∙ sym (given_same times got more (omega (arith, fits, given)) (λ low. last (omega (arith, low, given)))) ∙ ap (times_given times)
-          (sym left ∙ ap (λ (n : ℕ). drop n replies) (let e : commands_among exchanges ≡ 0 + commands_among exchanges = omega arith in e))
-      given_behind (Ask inquiry, effect) got more given fits last left = tt
-      given_behind (Watch begins, effect) got more given fits last left = tt
-      given_behind (Seat chosen, effect) got more given fits last left = tt
-      given_behind (Help about, effect) got more given fits last left = tt
-      given_behind (Quit, effect) got more given fits last left = tt
-      given_behind (Fault fault, effect) got more given fits last left = tt
-      given_behind (TooLong, effect) got more given fits last left = tt
+    given_behind : (exchange : Exchange) (got more : List ReplyView) → IsGiven exchange got → length got ≤ given_at exchange
+        → (length got < given_at exchange → more ≡ []) → along.replies ≡ got ++ more → IsGiven exchange (drop (0 + commands_among exchanges) replies)
+    given_behind (Call command times, effect) got more given fits last left =
+        given ∙ sym (given_same times got more (omega (arith, fits, given)) (λ low. last (omega (arith, low, given))))
+        ∙ ap (times_given times) (sym (behind ∙ left))
+    given_behind exchange got more given fits last left = tt
 
-      -- the news follow those of the lines before
-      news_behind : (exchange : Exchange) (got : List ReplyView) → HasGot seat old exchange.0 got new
-          → HasNews new (length old.calls) old.entries watched exchange.0 exchange.1.seen exchange.1.news
-          → HasExchanges Answers style (part_with replies old) exchanges
-          → HasNewsAfter (part_with replies new) (0 + commands_among exchanges) (fold watched_next None exchanges) exchange
-      news_behind exchange got calls looked has =
-          let same : GoesOn new (part_with replies new) =
-          record { before = refl; longer = omega arith; calls_in = λ first few. refl; left_by = λ first few. refl; news = λ from to few. refl } in
-          let least = seen_all (part_with replies old) 0 None exchanges has.1 (omega arith) in
-          news_on new (part_with replies new) same (length old.calls) (0 + commands_among exchanges) old.entries
-          (unwrap_or (fold watched_next None exchanges) 0) least (as_many_now has.0) (fold watched_next None exchanges)
-          exchange.0 exchange.1.seen exchange.1.news
-          (subst (λ (from : Option ℕ). HasNews new (length old.calls) old.entries from exchange.0 exchange.1.seen exchange.1.news) is_watched looked)
-        where
-          as_many_now : HasCommands style old exchanges
-              → min (0 + commands_among exchanges) (length new.calls) ≡ min (length old.calls) (length new.calls)
-          as_many_now (inl all) = omega (arith, ap length all, as_many_asked style.chooses style.first exchanges)
-          as_many_now (inr some) =
-              omega (arith, no_more_than old (inr some), as_many_later old new exchange.0 got calls (inr some) (0 + commands_among exchanges) (omega arith))
+    -- the news follow those of the lines before
+    news_behind : (exchange : Exchange) (got : List ReplyView) → HasGot seat old exchange.0 got new
+        → HasNews new (length old.calls) old.entries along.watched exchange.0 exchange.1.seen exchange.1.news
+        → HasNewsAfter (part_with replies new) (0 + commands_among exchanges) (fold watched_next None exchanges) exchange
+    news_behind exchange got calls looked =
+        let same : GoesOn new (part_with replies new) =
+        record { before = refl; longer = omega arith; calls_in = λ first few. refl; left_by = λ first few. refl; news = λ from to few. refl } in
+        let least = seen_all (part_with replies old) 0 None exchanges its.commands.1 (omega arith) in
+        news_on new (part_with replies new) same (length old.calls) (0 + commands_among exchanges) old.entries
+        (unwrap_or (fold watched_next None exchanges) 0) least (as_many_now its.commands.0) (fold watched_next None exchanges)
+        exchange.0 exchange.1.seen exchange.1.news
+        (subst (λ (from : Option ℕ). HasNews new (length old.calls) old.entries from exchange.0 exchange.1.seen exchange.1.news) watching looked)
+      where
+        as_many_now : HasCommands style old exchanges
+            → min (0 + commands_among exchanges) (length new.calls) ≡ min (length old.calls) (length new.calls)
+        as_many_now (inl all) = omega (arith, ap length all, as_many_asked style.chooses style.first exchanges)
+        as_many_now (inr some) =
+            omega (arith, no_more_than (inr some), as_many_later exchange.0 got calls (inr some) (0 + commands_among exchanges) (omega arith))
 
-      -- ---- a line was done
+    -- ---- a line was done
 
-      module _ (more : List ReplyView) (may : MoreMayFollow more new) where
-        pub commands_done : (exchange : Exchange) (got : List ReplyView) → drop (commands_among exchanges) replies ≡ got ++ more
-            → HasDone Answers seat old exchange got new
-            → HasNews new (length old.calls) old.entries watched exchange.0 exchange.1.seen exchange.1.news
-            → HasExchanges Answers style (part_with replies old) exchanges
-            → HasExchanges Answers style (part_with replies new) (exchanges ++ exchange ∷ [])
-        commands_done exchange got left done looked has =
-            let few : given_at exchange ≡ 0 → length new.calls ≤ commands_among exchanges = (λ nothing.
-            let short = none got (omega (arith, done.fits, nothing)) in
-            let same : new.calls ≡ old.calls =
-            done.calls.calls ∙ ap (λ (g : List ReplyView). old.calls ++ entries_of seat exchange.0 (length g)) short
-            ∙ ap (λ (made : List Entry). old.calls ++ made) (no_entry seat exchange.0) ∙ append-nil old.calls in
-            omega (arith, ap length same, no_more_than old has.0)) in (
-              has_more old new exchange got done.calls done.fits done.full has.0,
-              one_line_more (IsDoneAfter Answers (part_with replies new)) 0 None exchanges exchange (answers_later exchange.0 got done.calls has)
-                  (record {
-                    answered = answers_at exchange done.answer few;
-                    given = given_behind exchange got more done.given done.fits (λ low. may (done.full low)) left;
-                    news = news_behind exchange got done.calls looked has;
-                  }),
-            )
+    pub commands_done : (more : List ReplyView) → MoreMayFollow more new → (exchange : Exchange) (got : List ReplyView) → along.replies ≡ got ++ more
+        → HasDone Answers seat old exchange got new → HasNews new (length old.calls) old.entries along.watched exchange.0 exchange.1.seen exchange.1.news
+        → HasExchanges Answers style (part_with replies new) (exchanges ++ exchange ∷ [])
+    commands_done more may exchange got left done looked =
+        let few : given_at exchange ≡ 0 → length new.calls ≤ commands_among exchanges = (λ nothing.
+        let same = same_calls seat exchange.0 got done.calls (none got (omega (arith, done.fits, nothing))) in
+        omega (arith, ap length same, no_more_than its.commands.0)) in (
+          has_more exchange got done.calls done.fits done.full its.commands.0,
+          one_line_more (IsDoneAfter Answers (part_with replies new)) 0 None exchanges exchange (answers_later exchange.0 got done.calls)
+              (record {
+                answered = answers_at exchange done.answer few;
+                given = given_behind exchange got more done.given done.fits (λ low. may (done.full low)) left;
+                news = news_behind exchange got done.calls looked;
+              }),
+        )
 
-      pub nothing_lost : (request : Request) (got : List ReplyView) → HasGot seat old request got new → got ≡ []
-          → HasExchanges Answers style (part_with replies old) exchanges → HasExchanges Answers style (part_with replies new) exchanges
-      nothing_lost request got calls nothing has =
-          let same : new.calls ≡ old.calls =
-          calls.calls ∙ ap (λ (g : List ReplyView). old.calls ++ entries_of seat request (length g)) nothing
-          ∙ ap (λ (made : List Entry). old.calls ++ made) (no_entry seat request) ∙ append-nil old.calls in (
-            elim has.0 [
-              | inl all ↦ inl (same ∙ all)
-              | inr some ↦ inr ((calls.full some.0).1, some.1, some.2 ∙ ap (λ (front : List Entry). front ++ some.1) (sym same))
-            ],
-            answers_later request got calls has,
-          )
+    pub nothing_lost : (request : Request) (got : List ReplyView) → HasGot seat old request got new → got ≡ []
+        → HasExchanges Answers style (part_with replies new) exchanges
+    nothing_lost request got calls nothing =
+        let same = same_calls seat request got calls nothing in (
+          elim its.commands.0 [
+            | inl all ↦ inl (same ∙ all)
+            | inr some ↦ inr ((calls.full some.0).1, some.1, some.2 ∙ ap (λ (front : List Entry). front ++ some.1) (sym same))
+          ],
+          answers_later request got calls,
+        )
 
-      pub commands_lost : (request : Request) (begun : HasBegun seat old request new) (effect : Effect)
-          → HasNews new (length old.calls) old.entries watched request effect.seen effect.news
-          → drop (commands_among exchanges) replies ≡ begun.got ++ [] → HasExchanges Answers style (part_with replies old) exchanges
-          → HasPart exchanges replies new request
-      commands_lost (Call command times) begun effect looked left has =
-          let got = begun.got in
-          let exchange : Exchange = (Call command (length got), record effect { given = length got; answer = Ok [] }) in
-          let done : HasDone Answers seat old exchange got new =
-          record {
-            calls = begun.calls;
-            given = sym begun.due.1;
-            fits = omega arith;
-            full =
-                λ low. absurd (omega (arith, low));
-            answer = λ inquiry asks. absurd cc;
-          } in
-          inr (exchange, commands_done [] (λ full. refl) exchange got left done looked has, λ line asks. (times, begun.due.0, asks))
-      commands_lost (Ask inquiry) begun effect looked left has = inl (nothing_lost (Ask inquiry) begun.got begun.calls begun.due has)
-      commands_lost (Watch begins) begun effect looked left has = inl (nothing_lost (Watch begins) begun.got begun.calls begun.due has)
-      commands_lost (Seat chosen) begun effect looked left has = inl (nothing_lost (Seat chosen) begun.got begun.calls begun.due has)
-      commands_lost (Help about) begun effect looked left has = inl (nothing_lost (Help about) begun.got begun.calls begun.due has)
-      commands_lost Quit begun effect looked left has = inl (nothing_lost Quit begun.got begun.calls begun.due has)
-      commands_lost (Fault fault) begun effect looked left has = inl (nothing_lost (Fault fault) begun.got begun.calls begun.due has)
-      commands_lost TooLong begun effect looked left has = inl (nothing_lost TooLong begun.got begun.calls begun.due has)
+    pub commands_lost : (request : Request) (begun : HasBegun seat old request new) (effect : Effect)
+        → HasNews new (length old.calls) old.entries along.watched request effect.seen effect.news
+        → along.replies ≡ begun.got ++ [] → HasPart exchanges replies new request
+    commands_lost (Call command times) begun effect looked left =
+        let got = begun.got in
+        let exchange : Exchange = (Call command (length got), record effect { given = length got; answer = Ok [] }) in
+        let done : HasDone Answers seat old exchange got new =
+        record {
+          calls = begun.calls;
+          given = sym begun.due.1;
+          fits = omega arith;
+          full = λ low. absurd (omega (arith, low));
+          answer = λ inquiry asks. absurd cc;
+        } in
+        inr (exchange, commands_done [] (λ full. refl) exchange got left done looked, λ line asks. (times, begun.due.0, asks))
+    commands_lost request begun effect looked left = inl (nothing_lost request begun.got begun.calls begun.due)
 
 -- ---- what was done was begun
 
@@ -398,10 +373,4 @@ pub begun_where_done : (Answers : RunView → Inquiry → Answer → Type 0) (se
 begun_where_done Answers seat old new (Call command times) effect got done =
     let fits : length got ≤ times_given times got = omega (arith, done.fits, done.given) in
     record { got = got; calls = done.calls; due = (let few = no_more_given times got in omega (arith, fits, few), all_given times got fits) }
-begun_where_done Answers seat old new (Ask inquiry) effect got done = record { got = got; calls = done.calls; due = none got done.fits }
-begun_where_done Answers seat old new (Watch begins) effect got done = record { got = got; calls = done.calls; due = none got done.fits }
-begun_where_done Answers seat old new (Seat chosen) effect got done = record { got = got; calls = done.calls; due = none got done.fits }
-begun_where_done Answers seat old new (Help about) effect got done = record { got = got; calls = done.calls; due = none got done.fits }
-begun_where_done Answers seat old new Quit effect got done = record { got = got; calls = done.calls; due = none got done.fits }
-begun_where_done Answers seat old new (Fault fault) effect got done = record { got = got; calls = done.calls; due = none got done.fits }
-begun_where_done Answers seat old new TooLong effect got done = record { got = got; calls = done.calls; due = none got done.fits }
+begun_where_done Answers seat old new request effect got done = record { got = got; calls = done.calls; due = none got done.fits }

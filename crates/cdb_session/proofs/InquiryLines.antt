@@ -40,13 +40,9 @@ no_watch line inquiry is begins same = grind (arith, common_steps, gets)
 number_reads : (n : ℕ) → IsInRange (number n) → number_of (decimal n) ≡ Some n
 number_reads n range = number_again n range.0 range.1
 
-step_again : (p : ℕ) (k : Option ℕ) → AllByRecursion IsInRange (numbers_of p k) → step_in (map part_text (numbers_of p k)) ≡ Some (step_with p k)
-unfolding step_in
-step_again p None range = ap last_step (number_reads p range.0)
-step_again p (Some k) range = λ i. numbered_step (number_reads p range.0 i) (number_reads k range.1.0 i)
-
 read_again : (step : StepAsked) (words : List (List ℕ)) → AreStepWords step words → step_in words ≡ Some step
-read_again step words is = ap step_in is.are ∙ step_again step.p step.k is.in_range
+unfolding step_in
+read_again step words is = grind (arith, common_steps, gets, number_reads)
 
 words_say : (first : List ℕ) (found : Option ℕ) (step : StepAsked) → number_of first ≡ found → last_step found ≡ Some step → AreStepWords step (first ∷ [])
 words_say first None step reads e = cc
@@ -80,21 +76,11 @@ none_named p k e = grind (arith, common_steps, gets)
 
 any_read_again : (step : Option StepAsked) (words : List (List ℕ)) → AreAnyStepWords step words → any_step_in words ≡ Some step
 unfolding any_step_in
-any_read_again None words is = ap any_step_in is
-any_read_again (Some step) [] is = let never = is.are in absurd (none_named step.p step.k never)
-any_read_again (Some step) (word ∷ words) is = ap (option_map Some) (read_again step (word ∷ words) is)
-
-named_so : (words : List (List ℕ)) (found : Option StepAsked) (step : Option StepAsked) → step_in words ≡ found → option_map Some found ≡ Some step
-    → AreAnyStepWords step words
-named_so words None step reads e = cc
-named_so words (Some its) None reads e = cc
-named_so words (Some its) (Some step) reads e = let same : its ≡ step = cc in step_says words step (reads ∙ ap Some same)
+any_read_again step words is = grind (arith, common_steps, gets, read_again, none_named)
 
 any_step_says : (words : List (List ℕ)) (step : Option StepAsked) → any_step_in words ≡ Some step → AreAnyStepWords step words
 unfolding any_step_in
-any_step_says [] None e = refl
-any_step_says [] (Some step) e = cc
-any_step_says (word ∷ words) step e = named_so (word ∷ words) (step_in (word ∷ words)) step refl e
+any_step_says words step e = grind (arith, common_steps, gets, step_says)
 
 draws_again : (name : List ℕ) (step : Option StepAsked) (words : List (List ℕ)) → AreInquiryWords (Draw name step) words
     → drawing_in words ≡ Some (Draw name step)
@@ -203,7 +189,7 @@ repeats_no_inquiry line inquiry p times is repeats = grind (arith, common_steps,
 
 pub repeat_again : (line : List ℕ) (p times : ℕ) → IsRepeatLine p times line → repeat_in (words_of line) ≡ Some (p, times)
 unfolding repeat_in
-repeat_again line p times is = ap repeat_in is.0 ∙ ap with_count (step_again p (Some times) is.1.1)
+repeat_again line p times is = ap repeat_in is.0 ∙ ap with_count (read_again (step_with p (Some times)) _ (record { are = refl; in_range = is.1.1 }))
 
 same_pair : (one other : ℕ × ℕ) → Some one ≡ Some other → (one.0 ≡ other.0) × (one.1 ≡ other.1)
 same_pair one other e = let same : one ≡ other = cc in (ap (λ (both : ℕ × ℕ). both.0) same, ap (λ (both : ℕ × ℕ). both.1) same)

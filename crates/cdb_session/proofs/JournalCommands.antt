@@ -16,7 +16,7 @@ use Rattle.cdb_session.specs.Table.{Session, begun, after_line, control_behind, 
 use Rattle.cdb_session.specs.Laws.{JournalHasTheCommands}
 use Rattle.cdb_session.specs.Parts.{all_asked}
 use Rattle.cdb_session.specs.Exchanges.{Exchange}
-use Rattle.cdb_session.specs.declared.request.Request.TheVariants.{Call, Ask, Watch, Seat, Help, Quit, Fault, TooLong}
+use Rattle.cdb_session.specs.declared.request.Request.TheVariants.{Call}
 
 -- the positions are taken one after the other, up to the last
 pick : (most : ℕ) (b : Bool) (c d : Journaled) (one : Entry) (others : List Entry) → (b ≡ true → most ≤ length c.journal) → d.journal ≡ c.journal ++ one ∷ []
@@ -28,7 +28,7 @@ fits : (most : ℕ) (b : Bool) (c d : Journaled) (one : Entry) → (b ≡ false 
     → let now : Journaled = if b then c else d in length now.journal ≤ most
 fits most b c d one room few is = grind (arith, common_steps, gets)
 
-not_full : (n most : ℕ) → n ≤ most → (n == most) ≡ false → n < most
+pub not_full : (n most : ℕ) → n ≤ most → (n == most) ≡ false → n < most
 not_full n most few other = grind arith
 
 -- a command that is given several times
@@ -57,13 +57,7 @@ grown s [] few = sym (ap (take MAX_ENTRIES) (append-nil s.control.journal) ∙ t
 grown s ((Call command times, effect) ∷ exchanges) few =
     let more = grown_all s.rules s.seat command s.control effect.given (all_asked true s.seat exchanges) few in
     grown (after_line s (Call command times, effect)) exchanges more.1 ∙ more.0
-grown s ((Ask inquiry, answer) ∷ exchanges) few = grown (after_line s (Ask inquiry, answer)) exchanges few
-grown s ((Watch begins, answer) ∷ exchanges) few = grown (after_line s (Watch begins, answer)) exchanges few
-grown s ((Seat chosen, answer) ∷ exchanges) few = grown (after_line s (Seat chosen, answer)) exchanges few
-grown s ((Help about, answer) ∷ exchanges) few = grown (after_line s (Help about, answer)) exchanges few
-grown s ((Quit, answer) ∷ exchanges) few = grown (after_line s (Quit, answer)) exchanges few
-grown s ((Fault fault, answer) ∷ exchanges) few = grown (after_line s (Fault fault, answer)) exchanges few
-grown s ((TooLong, answer) ∷ exchanges) few = grown (after_line s (TooLong, answer)) exchanges few
+grown s (exchange ∷ exchanges) few = grown (after_line s exchange) exchanges few
 
 pub journal_has_the_commands : JournalHasTheCommands
 journal_has_the_commands rules setup entries exchanges few = grown (begun rules setup entries) exchanges few

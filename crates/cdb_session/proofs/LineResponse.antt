@@ -1,14 +1,13 @@
 -- What a session answers to one line.
 use Rattle.std.proofs.lemmas.Grind.{common_steps}
 use Rattle.std.proofs.lemmas.Option.{gets}
-use Rattle.std.proofs.Common.{rules, ◌≡◌, ◌≢◌, inl, inr, ◌+◌, ℕ, Bool, true, List, [], ◌++◌, map, length, length-append, min, refl, sym, ap, subst, ◌∙◌, arith}
+use Rattle.std.proofs.Common.{rules, ◌≡◌, ◌≢◌, inr, ◌+◌, ℕ, Bool, true, List, [], ◌++◌, map, length, length-append, min, refl, sym, ap, subst, ◌∙◌, arith}
 use Rattle.std.proofs.Common.{Vec, Global}
-use Rattle.std.specs.Prelude.{Option, Some, None, Result, Ok, Err, IfOk, IsTrue, ◌↔◌, is_some, if◌then◌else◌}
-use Rattle.cdb_base.specs.Memory.{no_memory}
+use Rattle.std.specs.Prelude.{Option, Some, None, Result, Ok, Err, IfOk, is_some, if◌then◌else◌}
 use Rattle.cdb_commands.specs.ReplyView.{ReplyView}
 use Rattle.cdb_commands.specs.declared.command.Command.{Command}
 use Rattle.cdb_control.specs.declared.control.Entry.{Entry}
-use Rattle.cdb_session.specs.Moves.{WritesAll, Known, Makes, file, says}
+use Rattle.cdb_session.specs.Moves.{WritesAll, Known, file, says}
 use Rattle.cdb_session.specs.Requests.{AsksFor}
 use Rattle.cdb_rules.specs.RunView.{RunView}
 use Rattle.cdb_session.specs.Answers.{AnswersNow}
@@ -17,16 +16,15 @@ use Rattle.cdb_session.specs.Typed.{line_meant}
 use Rattle.cdb_session.specs.Exchanges.{Answer, Effect, Exchange}
 use Rattle.cdb_session.specs.declared.inquiry.Inquiry.{Inquiry}
 use Rattle.cdb_session.specs.declared.request.Request.{Request}
-use Rattle.cdb_session.specs.declared.request.Request.TheVariants.{Call, Ask, Quit}
+use Rattle.cdb_session.specs.declared.request.Request.TheVariants.{Call, Ask}
 use Rattle.cdb_session.specs.declared.shown.Shown.{Shown}
-use Rattle.cdb_session.proofs.MovesInOrder.{Makes-nothing}
-use Rattle.cdb_streams.specs.declared.buffer.OutputFault.TheVariants as output
+use Rattle.cdb_streams.specs.declared.buffer.OutputFault.{OutputFault}
 use Rattle.cdb_session.specs.Styles.{StyleView, Part, AreCalled, MakesNone}
 use Rattle.cdb_session.specs.Replies.{Along, own_response, responded}
 use Rattle.cdb_session.specs.News.{HasNews, watches}
-use Rattle.cdb_session.specs.Parts.{entries_of, seat_next}
-use Rattle.cdb_session.specs.Unfinished.{RespondsToLine}
-use Rattle.cdb_session.specs.Lines.{SessionView, HasBegun, HasDone, IsToBeGiven, Responds, PutsOut, Shows, at_line, outputs_of}
+use Rattle.cdb_session.specs.Parts.{entries_of}
+use Rattle.cdb_session.specs.Unfinished.{IsHandled}
+use Rattle.cdb_session.specs.Lines.{SessionView, HasBegun, HasDone, HasLooked, IsToBeGiven, Responds, PutsOut, Shows, at_line, outputs_of}
 use Rattle.cdb_session.proofs.GotReplies.{MakesNone-refl, begun_where_done, none_done, none_got}
 use Rattle.cdb_session.proofs.LaterParts.{news_on}
 
@@ -124,68 +122,20 @@ module _ (Answers : RunView → Inquiry → Answer → Type 0) (style : StyleVie
 
   -- ---- a held line
 
-  -- memory is out before it is known what the line asks for
-  pub line_is_unread : (before : Known) (old : SessionView) (unfinished kept : List ℕ)
-      → RespondsToLine Answers style (Err (output.NoMemory no_memory)) before before old old unfinished kept
-  line_is_unread before old unfinished kept = ([], Makes-nothing before, record { lost = inl (MakesNone-refl old.part); none = refl })
-
-  module _ (before behind : Known) (old new : SessionView) (unfinished kept : List ℕ) (request : Request) (asks : AsksFor request (line_meant unfinished)) where
-    pub line_is_lost : (E : Type 0) (e : E) → before ≡ behind
-        → (let r : Result Shown E = Err e in Shows Answers style r old request new)
-        → RespondsToLine Answers style (Err (output.NoMemory no_memory)) before behind old new unfinished kept
-    line_is_lost E e same (inl none) =
-        ([], subst (λ now. Makes before now []) same (Makes-nothing before), record { lost = inl none; none = refl })
-    line_is_lost E e same (inr s) = (
-      [],
-      subst (λ now. Makes before now []) same (Makes-nothing before),
-      record { lost = inr (record { request = request; asks = asks; begun = s.0; effect = s.1; looked = s.2 }); none = refl },
-    )
-
-    pub line_is_broken : (E : Type 0) (its : Shown) (A F : Type 0) (f : F) → Shows Answers style {E = E} (Ok its) old request new
-        → (saved : Bool) → WritesAll {A = A} {E = F} (Err f) before behind (outputs_of [] its saved)
-        → RespondsToLine Answers style (Err output.Write) before behind old new unfinished kept
-    line_is_broken E its A F f s saved puts =
-        let here = s saved in (
-          puts.0,
-          puts.1,
-          record {
-            exchange = (request, here.0);
-            asks = asks;
-            writes = puts.2;
-            got = here.1;
-            done = here.2;
-            looked = here.3;
-            missing = puts.3.0;
-            written = sym here.4 ∙ puts.3.1;
-            fails = puts.3.2;
-          },
-        )
-
-    pub line_is_done : (E : Type 0) (its : Shown) (A F : Type 0) (a : A) (was_quit : Bool)
-        → Shows Answers style {E = E} (Ok its) old request new
-        → (saved : Bool) → WritesAll {A = A} {E = F} (Ok a) before behind (outputs_of [] its saved)
-        → new.lines ≡ old.lines + 1 → new.seat ≡ seat_next style.chooses old.seat request → kept ≡ []
-        → (IsTrue was_quit ↔ (request ≡ Quit)) → RespondsToLine Answers style (Ok was_quit) before behind old new unfinished kept
-    line_is_done E its A F a was_quit s saved puts one seat emptied quit_exactly =
-        let here = s saved in (
-          puts.0,
-          puts.1,
-          record {
-            exchange = (request, here.0);
-            asks = asks;
-            writes = puts.2;
-            got = here.1;
-            done = here.2;
-            looked = here.3;
-            written =
-                puts.3 ∙ here.4;
-            lines = one;
-            seat = seat;
-            watched = here.5;
-            emptied = emptied;
-            quit_exactly = quit_exactly;
-          },
-        )
+  abbrev pub line_handled : (E : Type 0) (its : Shown) {before behind : Known} {old new : SessionView} {unfinished : List ℕ} {result : Result Bool OutputFault}
+      {request : Request} → AsksFor request (line_meant unfinished) → Shows Answers style {E = E} (Ok its) old request new → (saved : Bool)
+      → WritesAll result before behind (outputs_of [] its saved) → IsHandled Answers style result before behind old new unfinished
+  line_handled E its {before = before} {behind = behind} {result = result} {request = request} asks shows saved puts =
+      let here = shows saved in
+      record {
+        exchange = (request, here.0);
+        asks = asks;
+        got = here.1;
+        done = here.2;
+        looked = here.3;
+        watched = here.5;
+        outputs = subst (WritesAll result before behind) here.4 puts;
+      }
 
   -- ---- a line, from the look at the journal on
 
@@ -198,6 +148,21 @@ module _ (Answers : RunView → Inquiry → Answer → Type 0) (style : StyleVie
     as_seen : {E : Type 0} (saved : Bool) (r : Result Shown E) → PutsOut Answers style (with_news saved) r mid request new
         → PutsOut Answers style (with_news saved) r (record old { part = mid.part }) request new
     as_seen saved r responds = subst (λ (s : SessionView). PutsOut Answers style (with_news saved) r s request new) is_mid responds
+
+    -- what was done and seen of the line, where there is a response
+    abbrev done_and_seen : (E : Type 0) (its : Shown) → ((effect : Effect) → PutsOut Answers style {E = E} effect (Ok its) mid request new) → (saved : Bool)
+        → (effect : Effect) × (got : List ReplyView) × HasDone Answers old.seat old.part (request, effect) got new.part × HasLooked old (request, effect) new
+        × (outputs_of news its saved ≡ responded style (at_line old got) (request, effect))
+    done_and_seen E its responds saved =
+        let r : Result Shown E = Ok its in
+        let s = as_seen saved r (responds (with_news saved)) in
+        let effect : Effect = record { seen = seen; news = news; given = s.0; answer = s.1; saved = saved } in (
+          effect,
+          s.2,
+          done_behind old.part mid.part new.part none Answers old.seat (request, effect) s.2 s.3.0,
+          looked_before old.part mid.part new.part none (entries_of old.seat request (length s.2)) s.2 s.3.0.calls old.watched request seen news has,
+          s.3.1,
+        )
 
     -- there is no memory for the response
     pub unanswered : (E F : Type 0) (e : E) (f : F)
@@ -217,32 +182,14 @@ module _ (Answers : RunView → Inquiry → Answer → Type 0) (style : StyleVie
     pub unshown : (E F : Type 0) (its : Shown) (f : F) → ((effect : Effect) → PutsOut Answers style {E = E} effect (Ok its) mid request new)
         → Shows Answers style {E = F} (Err f) old request new
     unshown E F its f responds =
-        let r : Result Shown E = Ok its in
-        let s = as_seen true r (responds (with_news true)) in
-        let effect : Effect = record { seen = seen; news = news; given = s.0; answer = s.1; saved = true } in
-        inr (
-          begun_where_done Answers old.seat old.part new.part request effect s.2
-              (done_behind old.part mid.part new.part none Answers old.seat (request, effect) s.2 s.3.0),
-          effect,
-          looked_before old.part mid.part new.part none (entries_of old.seat request (length s.2)) s.2 s.3.0.calls old.watched request seen news has,
-        )
+        let s = done_and_seen E its responds true in
+        inr (begun_where_done Answers old.seat old.part new.part request s.0 s.1 s.2, s.0, s.3)
 
     pub shows : (E F : Type 0) (its all : Shown) → ((effect : Effect) → PutsOut Answers style {E = E} effect (Ok its) mid request new)
         → IsAround its all news (prompt_after style.prompt request)
-        → (now : SessionView) → now.part ≡ new.part → now.watched ≡ (if watches (is_some old.watched) request then Some seen else None)
-        → Shows Answers style {E = F} (Ok all) old request now
-    shows E F its all responds is now same watched = λ saved.
-        let r : Result Shown E = Ok its in
-        let s = as_seen saved r (responds (with_news saved)) in
-        let effect : Effect = record { seen = seen; news = news; given = s.0; answer = s.1; saved = saved } in
-        let done = done_behind old.part mid.part new.part none Answers old.seat (request, effect) s.2 s.3.0 in
-        let looked =
-        looked_before old.part mid.part new.part none (entries_of old.seat request (length s.2)) s.2 s.3.0.calls old.watched request seen news has in
-        let prompt : List ℕ = prompt_after style.prompt request in (
-          effect,
-          s.2,
-          subst (HasDone Answers old.seat old.part (request, effect) s.2) (sym same) done,
-          subst (λ (part : Part). HasNews part (length old.part.calls) old.part.entries old.watched request seen news) (sym same) looked,
-          around its all news prompt is saved ∙ ap (λ front. front ++ says prompt) s.3.1,
-          watched,
-        )
+        → (next : Option ℕ) → next ≡ (if watches (is_some old.watched) request then Some seen else None)
+        → Shows Answers style {E = F} (Ok all) old request (record new { watched = next })
+    shows E F its all responds is next watched = λ saved.
+        let s = done_and_seen E its responds saved in
+        let prompt : List ℕ = prompt_after style.prompt request in
+        (s.0, s.1, s.2, s.3, around its all news prompt is saved ∙ ap (λ front. front ++ says prompt) s.4, watched)

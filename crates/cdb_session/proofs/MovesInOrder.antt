@@ -13,18 +13,21 @@ use Rattle.cdb_session.specs.Moves.{AreWrites, EndsWith, FindsTheEnd, Continues,
 abbrev pub AtEachAsk : (List Move → Type 0) → List Move → Type 0
 AtEachAsk Holds moves = (before : List Move) (ask : Move) (later : List Move) → moves ≡ before ++ ask ∷ later → AsksForInput ask → Holds before
 
--- a list that ends with an item is cut at that item or before
-one_more : (moves before later : List Move) (last ask : Move) → moves ++ last ∷ [] ≡ before ++ ask ∷ later
-    → ((moves ≡ before) × (last ≡ ask)) ⊎ ((rest : List Move) × (moves ≡ before ++ ask ∷ rest))
-one_more [] [] later last ask e = inl (refl, cc)
-one_more [] (b ∷ before) later last ask e = absurd (omega (arith, ap length e, length-append before (ask ∷ later)))
-one_more (m ∷ moves) [] later last ask e = let same : m ≡ ask = cc in inr (moves, rw same refl)
-one_more (m ∷ moves) (b ∷ before) later last ask e =
+-- two lists, one after the other, are cut at an item of the second or of the first
+cut_of_two : (made more before later : List Move) (ask : Move) → made ++ more ≡ before ++ ask ∷ later
+    → ((rest : List Move) × (before ≡ made ++ rest) × (more ≡ rest ++ ask ∷ later))
+    ⊎ ((rest : List Move) × (made ≡ before ++ ask ∷ rest) × (later ≡ rest ++ more))
+cut_of_two [] more before later ask e = inl (before, refl, e)
+cut_of_two (m ∷ made) more [] later ask e =
+    let same : m ≡ ask = cc in
+    let others : made ++ more ≡ later = cc in
+    inr (made, rw same refl, sym others)
+cut_of_two (m ∷ made) more (b ∷ before) later ask e =
     let same : m ≡ b = cc in
-    let others : moves ++ last ∷ [] ≡ before ++ ask ∷ later = cc in
-    elim (one_more moves before later last ask others) [
-      | inl found ↦ inl (rw (same, found.0) refl, found.1)
-      | inr found ↦ inr (found.0, rw (same, found.1) refl)
+    let others : made ++ more ≡ before ++ ask ∷ later = cc in
+    elim (cut_of_two made more before later ask others) [
+      | inl found ↦ inl (found.0, rw (same, found.1) refl, found.2)
+      | inr found ↦ inr (found.0, rw (same, found.1) refl, found.2)
     ]
 
 module _ (Holds : List Move → Type 0) where
@@ -35,10 +38,16 @@ module _ (Holds : List Move → Type 0) where
   -- one move more, before which it holds where the move asks
   pub one_move : (moves : List Move) (move : Move) → AtEachAsk Holds moves → (AsksForInput move → Holds moves) → AtEachAsk Holds (moves ++ move ∷ [])
   one_move moves move so holds before ask later e asks =
-      elim (one_more moves before later move ask e) [
-        | inl found ↦ subst Holds found.0 (holds (subst AsksForInput (sym found.1) asks))
+      elim (cut_of_two moves (move ∷ []) before later ask e) [
+        | inl found ↦
+            let last = only_one move ask found.0 later found.2 in
+            subst Holds (sym (found.1 ∙ ap (λ rest. moves ++ rest) last.0 ∙ append-nil moves)) (holds (subst AsksForInput (sym last.1) asks))
         | inr found ↦ so before ask found.0 found.1 asks
       ]
+    where
+      only_one : (move ask : Move) (rest later : List Move) → move ∷ [] ≡ rest ++ ask ∷ later → (rest ≡ []) × (move ≡ ask)
+      only_one move ask [] later is = (refl, cc)
+      only_one move ask (first ∷ rest) later is = absurd (omega (arith, ap length is, length-append rest (ask ∷ later)))
 
   -- writes ask for nothing
   pub writes_more : (moves made : List Move) → AtEachAsk Holds moves → AreWrites made → AtEachAsk Holds (moves ++ made)
@@ -81,22 +90,6 @@ count_more is_such old now new made more e f = grind (arith, common_steps, gets)
 
 -- ---- the end of the input
 
--- two lists, one after the other, are cut at an item of the second or of the first
-cut_of_two : (made more before later : List Move) (ask : Move) → made ++ more ≡ before ++ ask ∷ later
-    → ((rest : List Move) × (more ≡ rest ++ ask ∷ later)) ⊎ ((rest : List Move) × (made ≡ before ++ ask ∷ rest) × (later ≡ rest ++ more))
-cut_of_two [] more before later ask e = inl (before, e)
-cut_of_two (m ∷ made) more [] later ask e =
-    let same : m ≡ ask = cc in
-    let others : made ++ more ≡ later = cc in
-    inr (made, rw same refl, sym others)
-cut_of_two (m ∷ made) more (b ∷ before) later ask e =
-    let same : m ≡ b = cc in
-    let others : made ++ more ≡ before ++ ask ∷ later = cc in
-    elim (cut_of_two made more before later ask others) [
-      | inl found ↦ inl found
-      | inr found ↦ inr (found.0, rw (same, found.1) refl, found.2)
-    ]
-
 -- of writes, one list after the other, each are writes
 are_first : (made more : List Move) → AreWrites (made ++ more) → AreWrites made
 are_first [] more are = tt
@@ -117,7 +110,7 @@ all_read old now made more consumes first second (before, later, e, writes) =
     elim (cut_of_two made more before later (Read []) e) [
       | inl found ↦
           subst (AreAllOf old) (sym (read-append made more))
-          (all_later old now (read_in made) (read_in more) consumes (second (found.0, later, found.1, writes)))
+          (all_later old now (read_in made) (read_in more) consumes (second (found.0, later, found.2, writes)))
       | inr found ↦
           let are : AreWrites (found.0 ++ more) = subst AreWrites found.2 writes in
           let none : read_in more ≡ [] = nothing_read more (are_last found.0 more are) in

@@ -55,12 +55,8 @@ module _ (line : List ℕ) where
     only_inquiry inquiry is (Call command times) asks =
         absurd (let r = repeats line command times asks.1 (inr (inr (inr (inl (inquiry, is))))) in repeats_no_inquiry line inquiry r.0 times is r.2)
     only_inquiry inquiry is (Ask another) asks = ap (λ (i : Inquiry). Ask i) (one_inquiry line another inquiry asks.1 is)
-    only_inquiry inquiry is (Watch begins) asks = absurd (no_watch line inquiry is begins asks.1)
-    only_inquiry inquiry is (Seat seat) asks = absurd (no_seat line inquiry is seat asks.1.1)
-    only_inquiry inquiry is (Help about) asks = absurd (no_help line inquiry is about asks.1)
-    only_inquiry inquiry is Quit asks = absurd (no_quit line inquiry is asks.1)
     only_inquiry inquiry is (Fault fault) asks = absurd (asks.1.0 (inr (inr (inr (inl (inquiry, is))))))
-    only_inquiry inquiry is TooLong asks = absurd (omega (arith, few, asks))
+    only_inquiry inquiry is other asks = absurd (grind (arith, no_help, no_quit, no_seat, no_watch))
 
     pub only_repeat : (p times : ℕ) → IsRepeatLine p times line → (other : Request) → AsksFor other line → other ≡ Call (Auto p) times
     only_repeat p times is other asks = grind (arith, one_repeat, repeats_no_inquiry)

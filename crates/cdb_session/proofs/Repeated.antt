@@ -8,6 +8,7 @@ use Rattle.cdb_commands.specs.ReplyView.{ReplyView, is_refused}
 use Rattle.cdb_commands.specs.declared.command.Command.{Command}
 use Rattle.cdb_control.specs.Journal.{entry}
 use Rattle.cdb_control.specs.declared.control.Entry.{Entry}
+use Rattle.cdb_rules.proofs.Alls.{all-append}
 use Rattle.cdb_rules.specs.RunView.{RunView}
 use Rattle.cdb_text.specs.Texts.{text_of}
 use Rattle.cdb_session.specs.Dialogues.{full_text}
@@ -53,10 +54,6 @@ given_more (reply ∷ got) more n (suc all) are is =
     let e : is_refused reply ≡ false = are.0 in
     rw e (omega (arith, rest))
 
-all_more : (got : List ReplyView) (reply : ReplyView) → AllByRecursion IsCarriedOut got → IsCarriedOut reply → AllByRecursion IsCarriedOut (got ++ reply ∷ [])
-all_more [] reply are is = (is, tt)
-all_more (other ∷ got) reply are is = (are.0, all_more got reply are.1 is)
-
 one_longer : (got : List ReplyView) (reply : ReplyView) → length (got ++ reply ∷ []) ≡ length got + 1
 one_longer got reply = length-append got (reply ∷ [])
 
@@ -88,7 +85,7 @@ repeated_more seat command old got now before so E last text new (inl (reply, ca
   record {
     calls = once_more (entry seat command) got old now new reply so.calls call;
     carried_out =
-        all_more got reply so.carried_out (sym refused ∙ goes_on);
+        all-append IsCarriedOut got (reply ∷ []) so.carried_out (sym refused ∙ goes_on, tt);
     text_is = sym (text_more got reply before text so.text_is is);
   },
 )

@@ -11,14 +11,14 @@ use Rattle.std.proofs.lemmas.List.{drop-drop, length-drop, length-replicate, len
 use Rattle.cdb_base.specs.Limits.{MAX_ENTRIES, MAX_SEATS}
 use Rattle.cdb_commands.specs.ReplyView.{ReplyView, is_refused}
 use Rattle.cdb_commands.specs.declared.command.Command.{Command}
-use Rattle.cdb_control.specs.Commands.{obey}
+use Rattle.cdb_control.proofs.Refused.{state_extended}
 use Rattle.cdb_control.specs.Journal.{Journaled, Begins, entry, extended, reply_in, control_state, replay, replay_from}
 use Rattle.cdb_control.specs.State.{first_control_state}
 use Rattle.cdb_control.specs.declared.control.Entry.{Entry}
 use Rattle.cdb_session.specs.Table as table
 use Rattle.cdb_session.specs.Exchanges.{Answer, Exchange, Effect, given_at}
 use Rattle.cdb_session.specs.News.{AreNews, looks, watched_next}
-use Rattle.cdb_session.specs.declared.request.Request.TheVariants.{Call, Ask, Watch, Seat, Help, Quit, Fault, TooLong}
+use Rattle.cdb_session.specs.declared.request.Request.TheVariants.{Call, Ask}
 use Rattle.cdb_rules.specs.RunView.{RunView}
 use Rattle.cdb_rules.specs.Rules.{Rules}
 use Rattle.cdb_session.specs.declared.inquiry.Inquiry.{Inquiry}
@@ -31,15 +31,12 @@ use Rattle.cdb_session.specs.Answers.{EachLine, HasExchanges, IsDoneAfter, Answe
 use Rattle.cdb_session.specs.Parts.{all_asked, all_of, asked_of, seat_next, HasCommands}
 use Rattle.cdb_session.specs.declared.request.Request.{Request}
 use Rattle.cdb_session.proofs.HeldBytes.{take-take_append}
-use Rattle.cdb_session.proofs.JournalCommands.{fits_one, grown_all}
+use Rattle.cdb_session.proofs.JournalCommands.{fits_one, grown_all, not_full}
 use Rattle.cdb_session.specs.Repeats.{times_given}
 use Rattle.cdb_session.specs.Since.{since}
 use Rattle.cdb_session.specs.Styles.{Part}
 use Rattle.cdb_journal.specs.OpenedFrom.{opened_from}
 use Rattle.cdb_session.proofs.OwnControl.{all_replies-append}
-
-not_full : (n most : ℕ) → n ≤ most → (n == most) ≡ false → n < most
-not_full n most few other = grind arith
 
 one_less : (n most : ℕ) → n < most → most - n ≡ suc (most - (n + 1))
 one_less n most low = omega (arith, low)
@@ -60,12 +57,6 @@ came rules c before = since (whole_part rules (opened_from c.setup MAX_SEATS bef
 abbrev replies_at : (Parts → Rules) → Journaled → List Entry → List ReplyView
 replies_at rules c asked = all_replies_from (rules c.setup) (control_state rules c) (take (MAX_ENTRIES - length c.journal) asked)
 
--- the control state after one entry more
-state_more : (rules : Parts → Rules) (c : Journaled) (seat : ℕ) (command : Command)
-    → control_state rules (extended rules c seat command) ≡ obey (rules c.setup) (control_state rules c) seat command
-unfolding replay
-state_more rules c seat command = grind (arith, common_steps, gets)
-
 none_at : (rules : Parts → Rules) (c : Journaled) (asked : List Entry) → (length c.journal == MAX_ENTRIES) ≡ true → replies_at rules c asked ≡ []
 none_at rules c asked is = grind (arith, common_steps, gets)
 
@@ -84,7 +75,7 @@ module _ (rules : Parts → Rules) (seat : ℕ) (command : Command) where
       let more : length (c.journal ++ one ∷ []) ≡ length c.journal + 1 = length-append c.journal (one ∷ []) in
       ap (λ (n : ℕ). all_replies_from (rules c.setup) (control_state rules c) (take n (one ∷ rest))) less
       ∙ ap (λ (others : List ReplyView). reply_in rules c seat command ∷ others)
-      (λ i. all_replies_from (rules c.setup) (sym (state_more rules c seat command) i) (take (MAX_ENTRIES - sym more i) rest))
+      (λ i. all_replies_from (rules c.setup) (sym (state_extended rules c seat command) i) (take (MAX_ENTRIES - sym more i) rest))
 
   -- given once
   abbrev IsStep : Journaled → List Entry → Type 0
@@ -168,14 +159,7 @@ module _ (Answers : RunView → Inquiry → Answer → Type 0) (greeting prompt 
       (says (its.0 i) ++ says prompt) ++ plain_from a exchanges)
       ∙ ap (λ outputs. (says (table.texts_at s.rules s.seat command s.control effect.given) ++ says prompt) ++ outputs)
       (same (watched_next watched (Call command times, effect)) (table.after_line s (Call command times, effect)) exchanges others more.1)
-  same watched s ((Ask inquiry, effect) ∷ exchanges) others few = ap (λ text. table_one prompt s (Ask inquiry, effect) ++ text) (same _ _ exchanges others few)
-  same watched s ((Watch begins, effect) ∷ exchanges) others few =
-      ap (λ text. table_one prompt s (Watch begins, effect) ++ text) (same _ _ exchanges others few)
-  same watched s ((Seat chosen, effect) ∷ exchanges) others few = ap (λ text. table_one prompt s (Seat chosen, effect) ++ text) (same _ _ exchanges others few)
-  same watched s ((Help about, effect) ∷ exchanges) others few = ap (λ text. table_one prompt s (Help about, effect) ++ text) (same _ _ exchanges others few)
-  same watched s ((Quit, effect) ∷ exchanges) others few = ap (λ text. table_one prompt s (Quit, effect) ++ text) (same _ _ exchanges others few)
-  same watched s ((Fault fault, effect) ∷ exchanges) others few = ap (λ text. table_one prompt s (Fault fault, effect) ++ text) (same _ _ exchanges others few)
-  same watched s ((TooLong, effect) ∷ exchanges) others few = ap (λ text. table_one prompt s (TooLong, effect) ++ text) (same _ _ exchanges others few)
+  same watched s (exchange ∷ exchanges) others few = ap (λ text. table_one prompt s exchange ++ text) (same _ _ exchanges others few)
 
   -- the journal has as many of the entries as it has room for behind those that it went on from
   as_many : (before its : List Entry) (part : Part) (exchanges : List Exchange) → part.calls ≡ its
@@ -350,18 +334,8 @@ module _ (Answers : RunView → Inquiry → Answer → Type 0) (greeting prompt 
       answered_there s asked ((Ask inquiry, effect) ∷ (exchanges ++ others)) count inquiry effect.answer at said.0.answered,
       answered_from (table.after_line s (Ask inquiry, effect)) asked exchanges others _ _ (unmoved at refl refl) said.1,
     )
-    answered_from s asked ((Watch begins, effect) ∷ exchanges) others count watched at said =
-        (tt, answered_from (table.after_line s (Watch begins, effect)) asked exchanges others _ _ (unmoved at refl refl) said.1)
-    answered_from s asked ((Seat chosen, effect) ∷ exchanges) others count watched at said =
-        (tt, answered_from (table.after_line s (Seat chosen, effect)) asked exchanges others _ _ (unmoved at refl refl) said.1)
-    answered_from s asked ((Help about, effect) ∷ exchanges) others count watched at said =
-        (tt, answered_from (table.after_line s (Help about, effect)) asked exchanges others _ _ (unmoved at refl refl) said.1)
-    answered_from s asked ((Quit, effect) ∷ exchanges) others count watched at said =
-        (tt, answered_from (table.after_line s (Quit, effect)) asked exchanges others _ _ (unmoved at refl refl) said.1)
-    answered_from s asked ((Fault fault, effect) ∷ exchanges) others count watched at said =
-        (tt, answered_from (table.after_line s (Fault fault, effect)) asked exchanges others _ _ (unmoved at refl refl) said.1)
-    answered_from s asked ((TooLong, effect) ∷ exchanges) others count watched at said =
-        (tt, answered_from (table.after_line s (TooLong, effect)) asked exchanges others _ _ (unmoved at refl refl) said.1)
+    answered_from s asked (exchange ∷ exchanges) others count watched at said =
+        (tt, answered_from (table.after_line s exchange) asked exchanges others _ _ (unmoved at refl refl) said.1)
 
   pub all_answered : (rules : Parts → Rules) (c : Journaled) (before : List Entry) (exchanges others : List Exchange)
       → c.seats ≡ MAX_SEATS → Begins before c.journal → length c.journal ≤ MAX_ENTRIES

@@ -3,6 +3,7 @@ use Rattle.std.proofs.Common.{◌≡◌, ℕ, ◌+◌, ◌-◌, List, [], ◌∷
 use Rattle.std.specs.Prelude.{Result, Ok, Err}
 use Rattle.std.proofs.lemmas.List.{map-append, take_rest}
 use Rattle.std.proofs.Math.Seq.{take-add}
+use Rattle.cdb_rules.proofs.Alls.{all-append}
 use Rattle.cdb_session.specs.Moves.{WritesAll, Known, Move, Output, Saving, Wrote, Saves, byte, file, says, written_in, written_by, AsksForInput, AreWrites}
 use Rattle.cdb_session.specs.Moves.{FailsToWrite, Makes}
 use Rattle.cdb_session.proofs.MovesInOrder.{Makes-nothing, Makes-more, EndsWith-more, written-append}
@@ -17,9 +18,8 @@ pub record HasWritten (old now : Known) (text : List ℕ) (done : ℕ) : Type 0 
   pub writes : AreWrites made
   pub written : written_in made ≡ says (take done text)
 
-pub AreWrites-append : (made more : List Move) → AreWrites made → AreWrites more → AreWrites (made ++ more)
-AreWrites-append [] more are others = others
-AreWrites-append (move ∷ made) more are others = (are.0, AreWrites-append made more are.1 others)
+AreWrites-append : (made more : List Move) → AreWrites made → AreWrites more → AreWrites (made ++ more)
+AreWrites-append made more are others = all-append (λ move. ¬ AsksForInput move) made more are others
 
 pub nothing_said : (old : Known) (text : List ℕ) → HasWritten old old text 0
 nothing_said old text = record { made = []; makes = Makes-nothing old; writes = tt; written = refl }

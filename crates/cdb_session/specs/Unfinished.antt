@@ -5,11 +5,10 @@ use Rattle.std.specs.List.{AllZip, AllByRecursion, flat_map}
 use Rattle.cdb_commands.specs.ReplyView.{ReplyView}
 use Rattle.cdb_session.specs.Requests.{HasNoEnd, Asks, AsksFor, IsQuit}
 use Rattle.cdb_session.specs.Typed.{line_meant}
-use Rattle.cdb_session.specs.Moves.{Known, Move, Output, read_in, written_in, AreWrites, FailsToWrite, EndsWith}
-use Rattle.cdb_session.specs.Moves.{FindsTheEnd, Makes}
+use Rattle.cdb_session.specs.Moves.{Known, Move, read_in, written_in, FindsTheEnd, Makes, WritesAll}
 use Rattle.cdb_rules.specs.RunView.{RunView}
 use Rattle.cdb_session.specs.Answers.{HasExchanges}
-use Rattle.cdb_session.specs.Exchanges.{Answer, Effect, Exchange}
+use Rattle.cdb_session.specs.Exchanges.{Answer, Exchange}
 use Rattle.cdb_session.specs.declared.inquiry.Inquiry.{Inquiry}
 use Rattle.cdb_session.specs.declared.request.Request.{Request}
 use Rattle.cdb_session.specs.declared.request.Request.TheVariants.{Quit}
@@ -20,11 +19,11 @@ use Rattle.cdb_streams.specs.Faults.{of_output}
 use Rattle.cdb_setup.specs.Format.{longest}
 use Rattle.cdb_session.specs.Styles.{StyleView, Part, IsFull, MakesNone}
 use Rattle.cdb_session.specs.Replies.{Along, begun_along, along_after, shown, dialogue}
-use Rattle.cdb_session.specs.Lines.{SessionView, HasDone, HasBegun, HasLooked, at_line}
+use Rattle.cdb_session.specs.Lines.{SessionView, HasDone, HasLooked, Shows, at_line}
 use Rattle.cdb_session.specs.News.{watched_next}
 use Rattle.cdb_session.specs.Parts.{seat_next}
-use Rattle.cdb_session.specs.Served.{IsAnswered, IsSession}
-use Rattle.cdb_session.specs.Sessions.{most_input, RespondsInTime}
+use Rattle.cdb_session.specs.Served.{HoldsSession, IsAnswered}
+use Rattle.cdb_session.specs.Sessions.{most_input, IsOpen, RespondsInTime}
 
 -- the lines, each with its end
 abbrev pub with_ends : List (List ℕ) → List ℕ
@@ -61,10 +60,17 @@ module _ (Answers : RunView → Inquiry → Answer → Type 0) (style : StyleVie
       → HasExchanges Answers style (part_with replies final) (exchanges ++ others)
       → RespondsInTime (IsAnswered Answers style (part_with replies final)) moves
 
-  -- After these moves the lines that have ended have their responses, with these of the replies. Of the next line this
-  -- much is held, and these bytes that were read are not yet looked at.
-  pub record IsAt (replies : List ReplyView) (moves : List Move) (part : Part) (along : Along)
-      (unfinished left : List ℕ) : Type 0 where
+  -- the moves have the responses to these lines by these replies, and the session is there
+  pub record IsAlong (replies : List ReplyView) (exchanges : List Exchange) (moves : List Move) (part : Part)
+      (along : Along) : Type 0 where
+    pub written : written_in moves ≡ dialogue style replies exchanges
+    pub along_is : along ≡ along_after style (begun_along style replies) exchanges
+    pub commands : HasExchanges Answers style (part_with replies part) exchanges
+    pub in_time : RespondsOnTime replies exchanges moves
+
+  -- After these moves the lines that have ended have their responses, whatever replies will follow. Of the next line
+  -- this much is held, and these bytes that were read are not yet looked at.
+  pub record StaysAt (moves : List Move) (session : SessionView) (unfinished left : List ℕ) : Type 0 where
     pub lines : List (List ℕ)
     pub line : List ℕ
     pub exchanges : List Exchange
@@ -74,93 +80,70 @@ module _ (Answers : RunView → Inquiry → Answer → Type 0) (style : StyleVie
     pub unfinished_is : unfinished ≡ unfinished_of line
     pub asked : AllZip Asks exchanges lines
     pub goes_on : AllByRecursion (λ line. ¬ IsQuit line) lines
-    pub written : written_in moves ≡ dialogue style replies exchanges
-    pub along_is : along ≡ along_after style (begun_along style replies) exchanges
-    pub few : along.lines + length left ≤ length (read_in moves)
-    pub commands : HasExchanges Answers style (part_with replies part) exchanges
-    pub in_time : RespondsOnTime replies exchanges moves
+    pub along : (more : List ReplyView) → MoreMayFollow more session.part
+        → IsAlong (session.part.replies ++ more) exchanges moves session.part (at_line session more)
 
-  -- so it is whatever replies will follow
-  abbrev pub StaysAt : List Move → SessionView → List ℕ → List ℕ → Type 0
-  StaysAt moves session unfinished left =
-      (more : List ReplyView) → MoreMayFollow more session.part
-      → IsAt (session.part.replies ++ more) moves session.part (at_line session more) unfinished left
-
-  -- what a line asks for was done, with the response to it; it was `quit` where this is true
-  pub record IsLineDone (old new : SessionView) (unfinished left : List ℕ) (was_quit : Bool)
-      (made : List Move) : Type 0 where
+  -- what a line asks for was done, and what is to be put out then was handed over
+  pub record IsHandled (result : Result Bool OutputFault) (before behind : Known) (old new : SessionView)
+      (unfinished : List ℕ) : Type 0 where
     pub exchange : Exchange
     pub asks : Asks exchange unfinished
-    pub writes : AreWrites made
     pub got : List ReplyView
     pub done : HasDone Answers old.seat old.part exchange got new.part
     pub looked : HasLooked old exchange new
-    pub written : written_in made ≡ shown style (at_line old got) exchange
-    pub lines : new.lines ≡ old.lines + 1
-    pub seat : new.seat ≡ seat_next style.chooses old.seat exchange.0
     pub watched : new.watched ≡ watched_next old.watched exchange
+    pub outputs : WritesAll result before behind (shown style (at_line old got) exchange)
+
+  -- after such a line nothing is held, and it was `quit` where this is true
+  pub record IsBehind (old new : SessionView) (request : Request) (left : List ℕ) (was_quit : Bool) : Type 0 where
+    pub lines : new.lines ≡ old.lines + 1
+    pub seat : new.seat ≡ seat_next style.chooses old.seat request
     pub emptied : left ≡ []
-    pub quit_exactly : IsTrue was_quit ↔ (exchange.0 ≡ Quit)
+    pub quit_exactly : IsTrue was_quit ↔ (request ≡ Quit)
 
-  -- a beginning of the response was written
-  pub record IsLineBroken (old new : SessionView) (unfinished : List ℕ) (made : List Move) : Type 0 where
-    pub exchange : Exchange
-    pub asks : Asks exchange unfinished
-    pub writes : AreWrites made
-    pub got : List ReplyView
-    pub done : HasDone Answers old.seat old.part exchange got new.part
-    pub looked : HasLooked old exchange new
-    pub missing : List Output
-    pub written : shown style (at_line old got) exchange ≡ written_in made ++ missing
-    pub fails : EndsWith FailsToWrite made
-
-  -- what the line asks for may have been done
-  pub record IsRequestLost (old new : SessionView) (unfinished : List ℕ) : Type 0 where
-    pub request : Request
-    pub asks : AsksFor request (line_meant unfinished)
-    pub begun : HasBegun old.seat old.part request new.part
-    pub effect : Effect
-    pub looked : HasLooked old (request, effect) new
-
-  -- nothing of the response was written, and memory is out
-  pub record IsLineLost (old new : SessionView) (unfinished : List ℕ) (made : List Move) : Type 0 where
-    pub lost : MakesNone old.part new.part ⊎ IsRequestLost old new unfinished
-    pub none : made ≡ []
-
-  abbrev pub RespondsAs : Result Bool OutputFault → SessionView → SessionView → List ℕ → List ℕ → List Move → Type 0
-  RespondsAs (Ok was_quit) old new unfinished left made = IsLineDone old new unfinished left was_quit made
-  RespondsAs (Err output.Write) old new unfinished left made = IsLineBroken old new unfinished made
-  RespondsAs (Err (output.NoMemory refused)) old new unfinished left made = IsLineLost old new unfinished made
+  -- memory is out, and what the line asks for may have been begun
+  abbrev pub IsLost : SessionView → SessionView → List ℕ → Type 0
+  IsLost old new unfinished =
+      MakesNone old.part new.part
+      ⊎ ((request : Request) × AsksFor request (line_meant unfinished)
+      × Shows Answers style {E = Unit {0}} (Err tt) old request new)
 
   -- a line that had ended was responded to
   abbrev pub RespondsToLine : Result Bool OutputFault → Known → Known → SessionView → SessionView → List ℕ → List ℕ
       → Type 0
-  RespondsToLine result before behind old new unfinished left =
-      (made : List Move) × Makes before behind made × RespondsAs result old new unfinished left made
+  RespondsToLine (Ok was_quit) before behind old new unfinished left =
+      (line : IsHandled (Ok was_quit) before behind old new unfinished)
+      × IsBehind old new line.exchange.0 left was_quit
+  RespondsToLine (Err output.Write) before behind old new unfinished left =
+      IsHandled (Err output.Write) before behind old new unfinished
+  RespondsToLine (Err (output.NoMemory refused)) before behind old new unfinished left =
+      (before ≡ behind) × IsLost old new unfinished
 
-  -- the session has ended, and returns this
-  abbrev pub HasEndedAs : Result (Unit {0}) PlayFault → List Move → SessionView → Type 0
-  HasEndedAs returned moves session = IsSession Answers style session.part returned moves
+  -- From the first of what is known on, all that was read has its response, but for what is held of the next line and
+  -- what is left: so many bytes were read, and the input was not found at its end.
+  pub record Arrives (first now : Known) (session : SessionView) (unfinished left : List ℕ) (read : ℕ) : Type 0 where
+    pub moves : List Move
+    pub makes : Makes first now moves
+    pub stays : StaysAt moves session unfinished left
+    pub many : length (read_in moves) ≡ read
+    pub still : IsOpen moves
 
   -- where a session has come to that was at some bytes to be looked at: behind them, or at its end
-  abbrev pub HasComeTo : Result Bool OutputFault → List Move → SessionView → List ℕ → Type 0
-  HasComeTo (Ok false) moves session unfinished = StaysAt moves session unfinished []
-  HasComeTo (Ok true) moves session unfinished = HasEndedAs ended_well moves session
-  HasComeTo (Err fault) moves session unfinished = HasEndedAs (ended_by fault) moves session
+  abbrev pub HasComeTo : Result Bool OutputFault → Known → Known → SessionView → List ℕ → ℕ → Type 0
+  HasComeTo (Ok false) first now session unfinished read = Arrives first now session unfinished [] read
+  HasComeTo (Ok true) first now session unfinished read = HoldsSession Answers style session.part ended_well first now
+  HasComeTo (Err fault) first now session unfinished read =
+      HoldsSession Answers style session.part (ended_by fault) first now
 
   -- the bytes were looked at
   abbrev pub Feeds : Result Bool OutputFault → Known → Known → SessionView → SessionView → List ℕ → List ℕ → List ℕ
       → Type 0
   Feeds result before behind old new unfinished left bytes =
-      (moves : List Move) → StaysAt moves old unfinished bytes
-      → (made : List Move) × Makes before behind made × AreWrites made × HasComeTo result (moves ++ made) new left
+      (first : Known) (read : ℕ) → Arrives first before old unfinished bytes read
+      → HasComeTo result first behind new left read
 
   -- a last line that has not ended was responded to
   abbrev pub RespondsToLast : Result (Unit {0}) PlayFault → Known → Known → SessionView → SessionView → List ℕ → Type 0
   RespondsToLast result before behind old new unfinished =
-      (moves : List Move) → StaysAt moves old unfinished [] → IsOver moves
-      → (made : List Move) × Makes before behind made × HasEndedAs result (moves ++ made) new
-
-  -- all has had its response, from the first line on
-  abbrev pub RespondsToAll : Result (Unit {0}) PlayFault → Known → Known → SessionView → Type 0
-  RespondsToAll result before behind new = (made : List Move) × Makes before behind made × HasEndedAs result made new
+      (first : Known) (moves : List Move) → Makes first before moves → StaysAt moves old unfinished [] → IsOver moves
+      → HoldsSession Answers style new.part result first behind

@@ -6,7 +6,7 @@ ghost use Rattle.cdb_session.specs.Served.{HoldsSession};
 ghost use Rattle.cdb_session.specs.Since.{since};
 ghost use Rattle.cdb_session.specs.Moves.{WritesAll, says};
 ghost use Rattle.cdb_session.specs.Styles.{MaySit, Onward};
-ghost use Rattle.cdb_session.specs.Unfinished.{RespondsToLast, RespondsToAll};
+ghost use Rattle.cdb_session.specs.Unfinished.{RespondsToLast};
 
 use crate::caller::Caller;
 use crate::console::{Console, write_all};
@@ -106,8 +106,8 @@ fn run_from_first<C: Caller, T: Console>(
     requires lines { session.old.lines ≡ 0 }
     requires seat { session.old.seat ≡ style.now.first }
     requires watched { session.old.watched ≡ None }
-    ensures all { RespondsToAll C.answers style.now result (T.known console.old) (T.known console.new)
-        (seen_by C.part session.new) }
+    ensures all { HoldsSession C.answers style.now (C.part session.new.caller) result (T.known console.old)
+        (T.known console.new) }
     ensures later { Onward C.later session.old.caller session.new.caller }
 {
     let Ok(()) = write_opening(style, console) else {

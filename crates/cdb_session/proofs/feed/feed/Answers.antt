@@ -5,40 +5,34 @@ use Rattle.cdb_setup.specs.Format.{longest}
 use Rattle.cdb_session.specs.Lines.{seen_by}
 use Rattle.cdb_session.specs.Styles.{stays}
 use Rattle.cdb_session.proofs.CallChain.{Onward-trans}
-use Rattle.cdb_session.proofs.FedBytes.{starts, no_memory, holds, responds, quits, fails}
+use Rattle.cdb_session.proofs.FedBytes.{no_memory, holds, responds, quits, fails}
 use Rattle.cdb_session.proofs.feed.feed.Goals as goal
 
 pub loop-line-init : goal.loop-line-init
-loop-line-init g c = record {
-  few = c.requires.unfinished;
-  lines = omega arith;
-  sits = c.requires.sits;
-  later = stays;
-  goes = starts g.C.Caller.answers c.args.style.now _ _ _ _;
-}
+loop-line-init g c =
+    record { few = c.requires.unfinished; lines = omega arith; sits = c.requires.sits; later = stays; goes = λ first read a. a }
 
 pub returns-in_err-hold-clause-feeds : goal.returns-in_err-hold-clause-feeds
 returns-in_err-hold-clause-feeds g c =
     let p = err_from_is_err_and c.from_residual.result c.from_residual.ensures.1 in
-    rw (p.1, p.2) (no_memory c.loop-line.invariant.goes c.hold.new.unfinished.items)
+    rw (p.1, p.2) (λ first read a. no_memory (c.loop-line.invariant.goes first read a))
 
 pub returns-in_err-respond_to_line-clause-feeds : goal.returns-in_err-respond_to_line-clause-feeds
 returns-in_err-respond_to_line-clause-feeds g c =
     let p = err_from_is_err_and c.from_residual-in_err-respond_to_line.result c.from_residual-in_err-respond_to_line.ensures.1 in
     let some = c.in-Some.ensures.some in
-    let goes = holds c.loop-line.invariant.goes _ (10 ∷ c.in-Some.behind.now) c.hold.new.unfinished.items some.1 some.0 c.in_ok-hold.ensures in
-    rw (p.1, p.2) (fails goes (g.T.Console.known c.respond_to_line.new.console) (seen_by g.C.Caller.part c.respond_to_line.new.session)
-    c.respond_to_line.new.unfinished.items c.in_err-respond_to_line.field-0.0 c.in_err-respond_to_line.ensures.unfinished)
+    rw (p.1, p.2) (λ first read a. fails (holds (c.loop-line.invariant.goes first read a) _ (10 ∷ c.in-Some.behind.now) c.hold.new.unfinished.items
+    some.1 some.0 c.in_ok-hold.ensures) c.in_err-respond_to_line.field-0.0 (seen_by g.C.Caller.part c.respond_to_line.new.session)
+    c.respond_to_line.new.unfinished.items c.in_err-respond_to_line.ensures.unfinished)
 
 pub returns-in_err-respond_to_line-clause-later : goal.returns-in_err-respond_to_line-clause-later
 returns-in_err-respond_to_line-clause-later g c = Onward-trans g.C.Caller.later _ _ _ c.loop-line.invariant.later c.respond_to_line.ensures.later
 
 pub returns-then-branch-clause-feeds : goal.returns-then-branch-clause-feeds
-returns-then-branch-clause-feeds g c =
+returns-then-branch-clause-feeds g c = λ first read a.
     let some = c.in-Some.ensures.some in
-    let goes = holds c.loop-line.invariant.goes _ (10 ∷ c.in-Some.behind.now) c.hold.new.unfinished.items some.1 some.0 c.in_ok-hold.ensures in
-    quits goes (g.T.Console.known c.respond_to_line.new.console) (seen_by g.C.Caller.part c.respond_to_line.new.session)
-    c.respond_to_line.new.unfinished.items c.in_ok-respond_to_line.field-0 c.in_ok-respond_to_line.ensures.unfinished c.if-branch.true
+    quits (holds (c.loop-line.invariant.goes first read a) _ (10 ∷ c.in-Some.behind.now) c.hold.new.unfinished.items some.1 some.0 c.in_ok-hold.ensures)
+    c.in_ok-respond_to_line.field-0 c.in_ok-respond_to_line.ensures.unfinished c.if-branch.true
 
 pub returns-then-branch-clause-later : goal.returns-then-branch-clause-later
 returns-then-branch-clause-later g c = Onward-trans g.C.Caller.later _ _ _ c.loop-line.invariant.later c.respond_to_line.ensures.later
@@ -46,29 +40,27 @@ returns-then-branch-clause-later g c = Onward-trans g.C.Caller.later _ _ _ c.loo
 pub loop-line-preserved : goal.loop-line-preserved
 loop-line-preserved g c =
     let some = c.in-Some.ensures.some in
-    let goes = holds c.loop-line.invariant.goes _ (10 ∷ c.in-Some.behind.now) c.hold.new.unfinished.items some.1 some.0 c.in_ok-hold.ensures in
-    let done = c.in_ok-respond_to_line.ensures.unfinished.2 in
-    let cut = ap length c.in-Some.ensures.some.1 in
-    let parts = length-append c.in-Some.line.now (10 ∷ c.in-Some.behind.now) in
+    let done = c.in_ok-respond_to_line.ensures.unfinished.1 in
     record {
       few = omega (arith, ap length done.emptied);
-      lines = omega (arith, c.loop-line.invariant.lines, done.lines, cut, parts);
+      lines = omega (arith, c.loop-line.invariant.lines, done.lines, ap length some.1, length-append c.in-Some.line.now (10 ∷ c.in-Some.behind.now));
       sits = c.in_ok-respond_to_line.ensures.sits;
       later = Onward-trans g.C.Caller.later _ _ _ c.loop-line.invariant.later c.respond_to_line.ensures.later;
-      goes =
-          responds goes (g.T.Console.known c.respond_to_line.new.console) (seen_by g.C.Caller.part c.respond_to_line.new.session)
-          c.respond_to_line.new.unfinished.items c.in_ok-respond_to_line.field-0 c.in_ok-respond_to_line.ensures.unfinished c.if-branch.false;
+      goes = λ first read a.
+          responds (holds (c.loop-line.invariant.goes first read a) _ (10 ∷ c.in-Some.behind.now) c.hold.new.unfinished.items some.1 some.0
+          c.in_ok-hold.ensures) c.in_ok-respond_to_line.field-0 c.in_ok-respond_to_line.ensures.unfinished c.if-branch.false;
     }
 
 pub returns-in_err-hold-2-clause-feeds : goal.returns-in_err-hold-2-clause-feeds
 returns-in_err-hold-2-clause-feeds g c =
     let p = err_from_is_err_and c.from_residual-in_err-hold-2.result c.from_residual-in_err-hold-2.ensures.1 in
-    rw (p.1, p.2) (no_memory c.loop-line.invariant.goes c.hold-2.new.unfinished.items)
+    rw (p.1, p.2) (λ first read a. no_memory (c.loop-line.invariant.goes first read a))
 
 pub returns-clause-feeds : goal.returns-clause-feeds
-returns-clause-feeds g c =
+returns-clause-feeds g c = λ first read a.
     let rest = c.loop-line.rest.now in
-    (holds c.loop-line.invariant.goes rest [] c.hold-2.new.unfinished.items (sym (append-nil rest)) c.in_default.ensures.none c.in_ok-hold-2.ensures).goes
+    holds (c.loop-line.invariant.goes first read a) rest [] c.hold-2.new.unfinished.items
+    (sym (append-nil rest)) c.in_default.ensures.none c.in_ok-hold-2.ensures
 
 pub returns-clause-unfinished : goal.returns-clause-unfinished
 returns-clause-unfinished g c =

@@ -1,8 +1,8 @@
-use Rattle.std.proofs.Common.{◌+◌, ◌-◌, ◌≤◌, length}
+use Rattle.std.proofs.Common.{◌+◌, ◌-◌, ◌≤◌, [], length}
 use Rattle.cdb_setup.specs.Format.{longest}
 use Rattle.cdb_session.specs.Lines.{seen_by}
 use Rattle.cdb_session.specs.Styles.{MaySit, Onward}
-use Rattle.cdb_session.proofs.WholeSession.{Arrives}
+use Rattle.cdb_session.specs.Unfinished.{Arrives}
 use Rattle.cdb_session.proofs.repl.run_from_first.Given as goal
 
 abbrev pub invariant-loop-read : goal.invariant-loop-read
@@ -13,7 +13,7 @@ invariant-loop-read g l = record {
   sits : MaySit l.style (g.C.Caller.seats l.session.caller) l.session.seat;
   later : Onward g.C.Caller.later l.fn.session.caller l.session.caller;
   arrives : Arrives g.C.Caller.answers l.style (g.T.Console.known l.fn.console)
-      (g.T.Console.known l.console) (seen_by g.C.Caller.part l.session) l.unfinished.items l.read;
+      (g.T.Console.known l.console) (seen_by g.C.Caller.part l.session) l.unfinished.items [] l.read;
 }
 
 abbrev pub decreases-loop-read : goal.decreases-loop-read

@@ -1,8 +1,7 @@
-use Rattle.std.proofs.Common.{◌+◌, ◌++◌, ◌∷◌, [], ℕ, refl, ap, subst, ◌∙◌, arith, length-append, Err, Ok}
+use Rattle.std.proofs.Common.{◌+◌, ◌++◌, ◌∷◌, [], refl, ap, ◌∙◌, arith, length-append}
 use Rattle.std.proofs.lemmas.Result.{err_from_is_err_and}
 use Rattle.cdb_base.specs.declared.no_memory.NoMemory.{NoMemory}
-use Rattle.cdb_control.specs.Journal.{entry}
-use Rattle.cdb_session.specs.Lines.{GivesOnce, seen_by}
+use Rattle.cdb_session.specs.Lines.{seen_by}
 use Rattle.cdb_session.specs.Styles.{stays, goes}
 use Rattle.cdb_session.proofs.Repeated.{begun_repeat, repeated_more, all_given, last_given, cut_short}
 use Rattle.cdb_session.proofs.session.Session.call_times.Goals as goal
@@ -23,9 +22,7 @@ pub loop-preserved : goal.loop-preserved
 loop-preserved g c =
     let so = c.loop.invariant in
     let part = g.C.Caller.part in
-    let gives =
-    subst (λ (seat : ℕ). GivesOnce {E = NoMemory} (Ok c.in_ok-call.field-0) (part c.loop.self.caller) (entry seat c.args.command.now)
-    c.loop.text.items c.call.new.text.items (part c.call.new.self.caller)) so.seat c.in_ok-call.ensures.gives in
+    let gives = rw so.seat at c.in_ok-call.ensures.gives in
     let more =
     repeated_more c.args.self.now.seat c.args.command.now (part c.args.self.now.caller) so.so_far.0 (part c.loop.self.caller)
     c.loop.text.items so.so_far.2 NoMemory c.in_ok-call.field-0 c.call.new.text.items (part c.call.new.self.caller) gives c.if-branch.false in
@@ -43,9 +40,7 @@ returns-in_err-call-clause-responds g c =
     let so = c.loop.invariant in
     let part = g.C.Caller.part in
     let p = err_from_is_err_and c.from_residual.result c.from_residual.ensures.1 in
-    let gives =
-    subst (λ (seat : ℕ). GivesOnce {E = NoMemory} (Err c.in_err-call.field-0.0) (part c.loop.self.caller) (entry seat c.args.command.now)
-    c.loop.text.items c.call.new.text.items (part c.call.new.self.caller)) so.seat c.in_err-call.ensures.gives in
+    let gives = rw so.seat at c.in_err-call.ensures.gives in
     rw p.1
     (λ effect. cut_short g.C.Caller.answers c.args.style.now effect (seen_by part c.args.self.now) c.args.command.now
     c.args.times so.so_far.0 (rw so.so_far.1 c.loop-test.true) (part c.loop.self.caller) c.loop.text.items so.so_far.2
@@ -58,9 +53,7 @@ pub returns-then-branch-clause-responds : goal.returns-then-branch-clause-respon
 returns-then-branch-clause-responds g c =
     let so = c.loop.invariant in
     let part = g.C.Caller.part in
-    let gives =
-    subst (λ (seat : ℕ). GivesOnce {E = NoMemory} (Ok c.in_ok-call.field-0) (part c.loop.self.caller) (entry seat c.args.command.now)
-    c.loop.text.items c.call.new.text.items (part c.call.new.self.caller)) so.seat c.in_ok-call.ensures.gives in
+    let gives = rw so.seat at c.in_ok-call.ensures.gives in
     λ effect. last_given g.C.Caller.answers c.args.style.now effect (seen_by part c.args.self.now) c.args.command.now c.args.times
     so.so_far.0 (rw so.so_far.1 c.loop-test.true) (part c.loop.self.caller) c.loop.text.items so.so_far.2
     NoMemory c.call.new.text (seen_by part c.call.new.self) c.in_ok-call.field-0 gives c.if-branch.true

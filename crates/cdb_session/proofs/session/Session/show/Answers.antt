@@ -1,9 +1,9 @@
-use Rattle.std.proofs.Common.{◌≡◌, ◌++◌, ℕ, Bool, List, Option, Some, None, refl, sym, ap, ◌∙◌}
+use Rattle.std.proofs.Common.{◌≡◌, ◌++◌, ℕ, Bool, List, Option, Some, None, sym, ap, ◌∙◌}
 use Rattle.std.specs.Prelude.{if◌then◌else◌, is_some}
 use Rattle.std.proofs.lemmas.Result.{err_from_is_err_and}
 use Rattle.cdb_base.specs.declared.no_memory.NoMemory.{NoMemory}
 use Rattle.cdb_session.specs.Dialogues.{prompt_after}
-use Rattle.cdb_session.specs.Lines.{SessionView, seen_by}
+use Rattle.cdb_session.specs.Lines.{seen_by}
 use Rattle.cdb_session.specs.News.{watches}
 use Rattle.cdb_session.proofs.CallChain.{Onward-trans}
 use Rattle.cdb_session.proofs.LineResponse.{unanswered, unshown, shows}
@@ -63,14 +63,13 @@ returns-clause-shows g c =
     ] in
     let prompt = prompt_after c.args.style.now.prompt request in
     let between : List ℕ → List ℕ → List ℕ = λ text front. (front ++ text) ++ prompt in
-    let now : SessionView = record new { watched = c.if-watches.self } in
     shows g.C.Caller.answers c.args.style.now old mid new looked.none is_mid request news.seen news.text.items c.in_ok-news.ensures.news
     NoMemory NoMemory c.in_ok-response.response c.in_ok-shown.shown c.in_ok-response.ensures.responds
     (record {
       file = c.in_ok-shown.ensures.file;
       text_is = c.in_ok-shown.ensures.text ∙ ap (between c.in_ok-response.response.text.items) c.as_slice.ensures.value;
       failed_is = c.in_ok-shown.ensures.failed ∙ ap (between c.in_ok-response.response.failed.items) c.as_slice.ensures.value;
-    }) now refl watched
+    }) c.if-watches.self watched
 
 pub returns-clause-later : goal.returns-clause-later
 returns-clause-later g c = Onward-trans g.C.Caller.later _ _ _ c.look.ensures.later c.respond.ensures.later
