@@ -1,41 +1,34 @@
 -- What has led to an event, by its last direct cause.
 use Rattle.std.proofs.Common.{◌≡◌, ℕ, zero, suc, ◌+◌, ◌<◌, ◌≤◌, inl, inr, ⊎_elim, List, Some, refl}
-use Rattle.std.proofs.Common.{sym, subst, arith, eq-eqb, Bool, true, false, ◌||◌, true≢false}
+use Rattle.std.proofs.Common.{subst, arith, eq-eqb, true}
 use Rattle.cdb_base.specs.Positions.{nth}
 use Rattle.cdb_base.specs.declared.event.Event.{Event}
 use Rattle.cdb_base.specs.declared.event.Event.TheVariants.{Step}
 use Rattle.cdb_base.specs.declared.event.Kind.{Kind}
-use Rattle.cdb_causal.proofs.PastLaws.{by_direct_causes, turned_round}
-use Rattle.cdb_causal.specs.Causality.{IsDirectCause, IsLink, onward}
-use Rattle.cdb_causal.specs.Dependence.{are_a, depends, loss_and_receive, same_process, send_and_loss, send_and_receive, write_and_access}
+use Rattle.cdb_causal.proofs.PastLaws.{by_direct_causes, linked_past}
+use Rattle.cdb_causal.specs.Causality.{IsDirectCause}
+use Rattle.cdb_causal.specs.Dependence.{depends}
 use Rattle.cdb_causal.specs.Past.{HasLedTo, IsInPast, one_link, link_before}
-
-first_of_five : (a b c d e : Bool) → a ≡ true → (a || b || c || d || e) ≡ true
-first_of_five true b c d e is = refl
-first_of_five false b c d e is = absurd (true≢false (sym is))
 
 -- two steps of one process depend on each other
 own_depends : (p l k : ℕ) (kind its : Kind) → depends (Step p l kind) (Step p k its) ≡ true
-own_depends p l k kind its =
-    let one : Event = Step p l kind in
-    let other : Event = Step p k its in
-    first_of_five (same_process one other) (are_a send_and_receive one other)
-    (are_a write_and_access one other) (are_a send_and_loss one other) (are_a loss_and_receive one other)
-    (eq-eqb p p refl)
+own_depends p l k kind its = rw (eq-eqb p p refl) refl
 
 module _ (history : List Event) where
-  pub earlier : {j i : ℕ} → IsInPast depends history j i → i < j
+  earlier : {j i : ℕ} → IsInPast depends history j i → i < j
   earlier (one_link link) = link.later
   earlier (link_before link past) = let less = earlier past in let later = link.later in omega (arith, less, later)
 
-  -- what has led to a cause has led to its effect
-  pub led_on : (x y at : ℕ) → IsLink depends history y at → HasLedTo depends history y x → HasLedTo depends history at x
-  led_on x y at link (inl same) = inr (one_link (subst (λ n. IsLink depends history n at) (sym same) link))
-  led_on x y at link (inr past) = inr ((turned_round depends history x at).1 (onward ((turned_round depends history x y).0 past) link))
+  pub no_later : (x at : ℕ) → HasLedTo depends history at x → x ≤ at
+  no_later x at (inl same) = omega (arith, same)
+  no_later x at (inr past) = let less = earlier past in omega (arith, less)
 
-  led_back : (x k y : ℕ) → IsLink depends history x k → HasLedTo depends history y k → HasLedTo depends history y x
-  led_back x k y link (inl same) = inr (one_link (subst (IsLink depends history x) same link))
-  led_back x k y link (inr past) = inr (link_before link past)
+  -- what has led to an event has led to what that one has led to
+  pub led_then : (y z x : ℕ) → HasLedTo depends history y x → HasLedTo depends history z y → HasLedTo depends history z x
+  led_then y z x (inl same) later = rw same later
+  led_then y z x (inr (one_link link)) later = inr (linked_past depends history z x y link later)
+  led_then y z x (inr (link_before {i = between} link past)) later =
+      inr (linked_past depends history z x between link (led_then y z between (inr past) later))
 
   -- a direct cause of an event that something before has led to
   abbrev pub LastCause : ℕ → ℕ → Type 0
@@ -51,7 +44,7 @@ module _ (history : List Event) where
       (λ same. (x, subst (IsDirectCause depends history x) same through.1, inl refl))
       (λ more.
       let last = by_last n k at (omega (arith, few, later)) more in
-      (last.0, last.1, led_back x k last.0 (through.1).link last.2))
+      (last.0, last.1, inr (linked_past depends history last.0 x k (through.1).link last.2)))
       through.2
 
   pub last_cause : (x at : ℕ) → IsInPast depends history at x → LastCause at x

@@ -1,8 +1,9 @@
 -- A clock that is raised to those of the direct causes of a step.
-use Rattle.std.proofs.Common.{◌≡◌, ℕ, suc, ◌<◌, ◌≤◌, ◌↔◌, ◌⊎◌, inl, inr, ⊎_elim, List, [], ◌∷◌, ◌++◌, Some}
-use Rattle.std.proofs.Common.{length, slice_set, replicate, max, refl, sym, ap, ◌∙◌, subst, arith}
+use Rattle.std.proofs.Common.{◌≡◌, ℕ, suc, ◌<◌, ◌≤◌, ◌↔◌, ◌⊎◌, inl, inr, List, [], ◌∷◌, ◌++◌}
+use Rattle.std.proofs.Common.{Some, length, slice_set, replicate, max, refl, sym, ap, ◌∙◌, subst, arith}
 use Rattle.std.proofs.lemmas.Bool.{cases_eq}
-use Rattle.std.proofs.lemmas.Option.{none-some, same_Some}
+use Rattle.std.proofs.lemmas.Grind.{common_steps}
+use Rattle.std.proofs.lemmas.Option.{gets, none-some}
 use Rattle.cdb_base.specs.Event.{event_name}
 use Rattle.cdb_base.specs.Positions.{nth}
 use Rattle.cdb_base.specs.declared.event.Event.{Event}
@@ -15,32 +16,21 @@ use Rattle.cdb_causal.specs.Causality.{IsDirectCause}
 use Rattle.cdb_causal.specs.Dependence.{depends}
 use Rattle.cdb_causal.specs.DirectCauses.{AreDirectCauses, NamesDirectCause}
 use Rattle.cdb_causal.specs.Names.{IsNamedAt}
-use Rattle.cdb_causal.specs.Past.{HasLedTo}
-use Rattle.cdb_clocks.proofs.Led.{earlier, last_cause, led_on, own_led}
-use Rattle.cdb_clocks.specs.Clocks.{CountsLed, IsClock}
+use Rattle.cdb_causal.specs.Past.{HasLedTo, one_link}
+use Rattle.cdb_clocks.proofs.Led.{last_cause, led_then, no_later, own_led}
+use Rattle.cdb_clocks.specs.Clocks.{IsClock}
 use Rattle.cdb_clocks.specs.Rows.{clock_named, AreKept, HasLedOf, IsRaised, IsRaisedBy}
 use Rattle.cdb_same.proofs.Counted.{count_other, count_set, none_counted}
 use Rattle.cdb_same.proofs.Ranks.{from_one, in_order}
 use Rattle.cdb_same.specs.Comparisons.{AreNumberedUpTo, IsComparable}
 use Rattle.cdb_standing.specs.Cuts.{cut_of as count_of}
-use Rattle.cdb_standing.specs.Moves.{HasStep}
 use Rattle.cdb_standing.specs.Tables.{row_of}
 
 above_either : (l a b m : ℕ) → m ≡ max a b → l ≤ m → (l ≤ a) ⊎ (l ≤ b)
 above_either l a b m is less = grind arith
 
-above_first : (l a b m : ℕ) → m ≡ max a b → l ≤ a → l ≤ m
-above_first l a b m is less = omega (arith, is, less)
-
-above_second : (l a b m : ℕ) → m ≡ max a b → l ≤ b → l ≤ m
-above_second l a b m is less = omega (arith, is, less)
-
 one_of : (a b m : ℕ) → m ≡ max a b → (m ≡ a) ⊎ (m ≡ b)
 one_of a b m is = grind arith
-
-abbrev pub name_of_step : Event → ℕ × ℕ
-name_of_step (Step p k kind) = (p, k)
-name_of_step (Lost copy) = (0, 0)
 
 module _ (history : List Event) (comparable : IsComparable history) (numbered : AreNumberedUpTo history 9) where
   its_order : (at other q l k : ℕ) (kind its : Kind) → nth history at ≡ Some (Step q l kind) → nth history other ≡ Some (Step q k its) → (l ≤ k) ↔ (at ≤ other)
@@ -68,27 +58,26 @@ module _ (history : List Event) (comparable : IsComparable history) (numbered : 
     by_step y p k kind direct at_y raised =
         let later = direct.link.later in
         let own = kept.clocks y p k kind at_y (omega (arith, later)) in
-        let is : IsRaisedBy own.0 clock new = subst (λ o. IsRaised o clock new) own.1 raised in
+        let is : IsRaisedBy own.0 clock new = rw own.1 at raised in
         let name : StepId = named.Step (record { p = p; k = k }) in
         record {
           only = λ other q l its stands few.
-              ⊎_elim (λ old. so_far.only other q l its stands old)
-              (λ more. led_on history other y (suc end) direct.link (((own.2 q).led other l its stands).0 more))
-              (above_either l (count_of clock q) (count_of own.0 q) (count_of new q) (is q) few);
+              elim (above_either l (count_of clock q) (count_of own.0 q) (count_of new q) (is q) few) [
+                | inl old ↦ so_far.only other q l its stands old
+                | inr more ↦ led_then history y (suc end) other (((own.2 q).led other l its stands).0 more) (inr (one_link direct.link))
+              ];
           each = λ i cause other_name get is_named other q l its stands led.
-              ⊎_elim
-              (λ front. above_first l (count_of clock q) (count_of own.0 q) (count_of new q)
-              (is q) (so_far.each i cause other_name front.0 is_named other q l its stands led))
-              (λ back.
-              let same = comparable.standing.names_differ cause y other_name is_named (Step p k kind, at_y, back.0) in
-              above_second l (count_of clock q) (count_of own.0 q) (count_of new q) (is q)
-              (((own.2 q).led other l its stands).1 (subst (λ (n : ℕ). HasLedTo depends history n other) same led)))
-              (push_cases names name other_name i get);
+              elim (push_cases names name other_name i get) [
+                | inl front ↦ let counted = so_far.each i cause other_name front.0 is_named other q l its stands led in rw (is q) (omega (arith, counted))
+                | inr back ↦ let same = comparable.standing.names_differ cause y other_name is_named (Step p k kind, at_y, back.0) in
+                    let counted = ((own.2 q).led other l its stands).1 (rw same at led) in
+                    rw (is q) (omega (arith, counted))
+              ];
           last = λ q.
-              ⊎_elim
-              (λ old. subst (λ (n : ℕ). (n ≡ 0) ⊎ HasStep history q n) (sym old) (so_far.last q))
-              (λ more. subst (λ (n : ℕ). (n ≡ 0) ⊎ HasStep history q n) (sym more) (own.2 q).last)
-              (one_of (count_of clock q) (count_of own.0 q) (count_of new q) (is q));
+              elim (one_of (count_of clock q) (count_of own.0 q) (count_of new q) (is q)) [
+                | inl old ↦ rw old (so_far.last q)
+                | inr more ↦ rw more (own.2 q).last
+              ];
         }
 
     -- the clock is raised to that of one direct cause more
@@ -114,9 +103,7 @@ module _ (history : List Event) (comparable : IsComparable history) (numbered : 
 
     past_counted : (other q l : ℕ) (its : Kind) → nth history other ≡ Some (Step q l its)
         → (q ≡ p → ⊥) → HasLedTo depends history at other → l ≤ count_of clock q
-    past_counted other q l its there apart (inl same) =
-        absurd (apart (ap (λ e. (name_of_step e).0)
-        (same_Some (Step q l its) (Step p k kind) (sym there ∙ subst (λ (n : ℕ). nth history n ≡ Some (Step p k kind)) (sym same) stands))))
+    past_counted other q l its there apart (inl same) = let here = stands in grind (arith, common_steps, gets)
     past_counted other q l its there apart (inr past) =
         let last = last_cause history other at past in
         let cause = (last.1).link.cause in
@@ -124,27 +111,30 @@ module _ (history : List Event) (comparable : IsComparable history) (numbered : 
         let listed = causes.each (event_name cause) (last.0, last.1, named) in
         has.each listed.0 last.0 (event_name cause) listed.1 named other q l its there last.2
 
-    own_before : (other l : ℕ) (its : Kind) → nth history other ≡ Some (Step p l its) → HasLedTo depends history at other → other ≤ at
-    own_before other l its there (inl same) = omega (arith, same)
-    own_before other l its there (inr past) = let less = earlier history past in omega (arith, less)
-
-    own_led_to : (other l : ℕ) (its : Kind) → nth history other ≡ Some (Step p l its) → other ≤ at → HasLedTo depends history at other
-    own_led_to other l its there less =
-        ⊎_elim (λ same. inl same) (λ apart. own_led history other at p l k its kind (omega (arith, less, apart)) there stands) (cases_eq other at)
+    led_if_before : (other l : ℕ) (its : Kind) → nth history other ≡ Some (Step p l its) → (other ≤ at) ↔ HasLedTo depends history at other
+    led_if_before other l its there = (
+      (λ less.
+          elim (cases_eq other at) [
+            | inl same ↦ inl same
+            | inr apart ↦ own_led history other at p l k its kind (omega (arith, less, apart)) there stands
+          ]),
+      no_later history other at,
+    )
 
     pub clock_is : IsClock history at new
     clock_is q =
-        ⊎_elim
-        (λ own. subst (λ (r : ℕ). CountsLed history at r (count_of new r)) (sym own) (record {
-          led = λ other l its there.
-              let order = its_order other at p l k its kind there stands in (
-                (λ few. own_led_to other l its there (order.0 (omega (arith, few, own_count)))),
-                (λ led. let less = order.1 (own_before other l its there led) in omega (arith, less, own_count)),
-              );
-          last = inr (kind, (at, stands ∙ ap (λ (n : ℕ). Some (Step p n kind)) (sym own_count)));
-        }))
-        (λ other. subst (CountsLed history at q) (sym (others_count q other)) (record {
-          led = λ x l its there. (λ few. has.only x q l its there few, λ led. past_counted x q l its there other led);
-          last = has.last q;
-        }))
-        (cases_eq q p)
+        elim (cases_eq q p) [
+          | inl own ↦ rw own (record {
+            led = λ other l its there.
+                let order = its_order other at p l k its kind there stands in
+                let led = led_if_before other l its there in (
+                  (λ few. led.0 (order.0 (omega (arith, few, own_count)))),
+                  (λ has. let less = order.1 (led.1 has) in omega (arith, less, own_count)),
+                );
+            last = rw own_count (inr (kind, (at, stands)));
+          })
+          | inr other ↦ rw (others_count q other) (record {
+            led = λ x l its there. (has.only x q l its there, past_counted x q l its there other);
+            last = has.last q;
+          })
+        ]

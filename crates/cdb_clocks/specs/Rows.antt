@@ -13,11 +13,7 @@ use Rattle.cdb_causal.specs.Past.{HasLedTo}
 use Rattle.cdb_clocks.specs.Clocks.{IsClock}
 use Rattle.cdb_standing.specs.Cuts.{cut_of as count_of}
 use Rattle.cdb_standing.specs.Moves.{HasStep}
-use Rattle.cdb_standing.specs.Tables.{row_of, IsPutOn}
-
--- a clock has been added to the row of process p
-abbrev pub IsAddedTo : ℕ → List (List (List ℕ)) → List ℕ → List (List (List ℕ)) → Type 0
-IsAddedTo p old clock new = IsPutOn p old clock new
+use Rattle.cdb_standing.specs.Tables.{row_of}
 
 -- the clock of the step of that name
 abbrev pub clock_named : List (List (List ℕ)) → StepId → Option (List ℕ)

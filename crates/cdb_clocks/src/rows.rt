@@ -2,8 +2,7 @@
 
 ghost use Rattle.std.specs.Prelude.{◌≡◌, ℕ, [], length, IfOk, OnOk};
 ghost use Rattle.cdb_base.specs.Positions.{nth};
-ghost use Rattle.cdb_clocks.specs.Rows.{IsAddedTo};
-ghost use Rattle.cdb_standing.specs.Tables.{rows_in, row_of};
+ghost use Rattle.cdb_standing.specs.Tables.{rows_in, row_of, IsPutOn};
 
 use crate::clock::Clock;
 use cdb_base::{NoMemory, Proc};
@@ -35,7 +34,7 @@ pub(crate) fn clock_at(rows: &Vec<Vec<Clock>>, p: Proc, k: u16) -> Option<Clock>
 /// Adds the clock of the next step of process `p`.
 pub(crate) fn add_clock(rows: &mut Vec<Vec<Clock>>, p: Proc, clock: Clock) -> Result<(), NoMemory>
     requires { length rows.old.items ≡ 9 }
-    ensures { OnOk result (IsAddedTo p (rows_in rows.old.items) clock (rows_in rows.new.items)) }
+    ensures { OnOk result (IsPutOn p (rows_in rows.old.items) clock (rows_in rows.new.items)) }
 {
     rows[p.index()].push(clock)?;
     Ok(())

@@ -10,7 +10,7 @@ use Rattle.cdb_explain.proofs.Returned.{fault_left, is_no_setup, reads_none}
 use Rattle.cdb_explain.specs.Asked.{IsMissing}
 use Rattle.cdb_explain.specs.RunLeft.{Leaves}
 use Rattle.cdb_explain.specs.declared.fault.AnswerFault.{AnswerFault}
-use Rattle.cdb_explain.specs.declared.fault.AnswerFault.TheVariants.{NoStep, NoValue, TooManyEvents, NotFound, DoesNotHold, Play}
+use Rattle.cdb_explain.specs.declared.fault.AnswerFault.TheVariants.{TooManyEvents, Play}
 use Rattle.cdb_rules.specs.RunView.{RunView}
 use Rattle.cdb_rules.specs.Runs.{with_history}
 use Rattle.cdb_setup.specs.declared.fault.SetupFault.{SetupFault}
@@ -32,30 +32,14 @@ past_drawn run drawn columns position shown same (events, others, slice, is) tex
 module _ (step : Option StepAsked) (run : RunView) where
   pub fault_drawn : (json : List ℕ) (old new : Stream) → Leaves rules json old new run → (result : Result (Unit {0}) AnswerFault)
       → IfErr result (IsFaultOfPicture run step) → IfErr result (IsFaultOfDraw rules json step old new)
-  fault_drawn json old new left (Ok done) none = tt
-  fault_drawn json old new left (Err NoStep) missing = (run, left, missing)
-  fault_drawn json old new left (Err NoValue) none = (run, left, none)
   fault_drawn json old new left (Err TooManyEvents) much = (run, left, much)
-  fault_drawn json old new left (Err (NotFound walks)) much = absurd much
-  fault_drawn json old new left (Err DoesNotHold) much = absurd much
-  fault_drawn json old new left (Err (Play fault)) why =
-      fault_left rules json old new (λ (r : RunView). IsMissing r.history step) (λ (r : RunView). ⊥) run left (Err (Play fault)) why
+  fault_drawn json old new left result why = fault_left rules json old new (λ (r : RunView). IsMissing r.history step) (λ (r : RunView). ⊥) run left result why
 
   pub no_setup_drawn : (result : Result (Unit {0}) AnswerFault) (fault : SetupFault)
       → IfErr result (IsFaultOfPicture run step) → result ≡ Err (Play (play.Setup fault)) → ⊥
-  no_setup_drawn (Ok done) fault is same = cc
-  no_setup_drawn (Err NoStep) fault is same = cc
-  no_setup_drawn (Err NoValue) fault is same = cc
   no_setup_drawn (Err TooManyEvents) fault is same = cc
-  no_setup_drawn (Err (NotFound walks)) fault is same = cc
-  no_setup_drawn (Err DoesNotHold) fault is same = cc
-  no_setup_drawn (Err (Play made)) fault is same = is_no_setup (IsMissing run.history step) ⊥ (Err (Play made)) fault is same
+  no_setup_drawn result fault is same = is_no_setup (IsMissing run.history step) ⊥ result fault is same
 
   pub none_read_drawn : (result : Result (Unit {0}) AnswerFault) → IfErr result (IsFaultOfPicture run step) → result ≡ Err (Play play.Read) → ⊥
-  none_read_drawn (Ok done) is same = cc
-  none_read_drawn (Err NoStep) is same = cc
-  none_read_drawn (Err NoValue) is same = cc
   none_read_drawn (Err TooManyEvents) is same = cc
-  none_read_drawn (Err (NotFound walks)) is same = cc
-  none_read_drawn (Err DoesNotHold) is same = cc
-  none_read_drawn (Err (Play made)) is same = reads_none (IsMissing run.history step) ⊥ (Err (Play made)) is same
+  none_read_drawn result is same = reads_none (IsMissing run.history step) ⊥ result is same

@@ -2,7 +2,7 @@
 use Rattle.std.proofs.Common.{◌≡◌, ◌∙◌, ℕ, suc, ◌+◌, ◌-◌, ◌<◌, ◌≤◌, Bool, List, [], ◌∷◌, ◌++◌, Option, Some, None}
 use Rattle.std.proofs.Common.{get_or, length, map, max, fold, slice_get, take, refl, sym, ap, subst, arith}
 use Rattle.std.specs.List.{All, AllByRecursion, flat_map, range_with_len}
-use Rattle.std.specs.Prelude.{MatchOption, option_map}
+use Rattle.std.specs.Prelude.{option_map}
 use Rattle.std.proofs.lemmas.List.{take_more}
 use Rattle.std.proofs.lemmas.List.Elements.{All-weaker, recursion_from_All}
 use Rattle.std.proofs.lemmas.Option.{slice_get-get_or, slice_get-map}
@@ -33,11 +33,6 @@ pub frame_is : (k events stand : ℕ) (found : Option Bool) (took : Bool) → ev
     → frame_by k stand found ≡ record { commands = k; events = events; took = took } ∷ []
 frame_is k events stand found took a b = rw (b, a) refl
 
-pub no_frame_at : (at : List Frame) (P : Frame → Type 0) (found : Option Frame)
-    → MatchOption found (at ≡ []) P → ((frame : Frame) → found ≡ Some frame → ⊥) → at ≡ []
-no_frame_at at P None none other = none
-no_frame_at at P (Some frame) is other = absurd (other frame refl)
-
 -- no frame has more room than each may
 pub few_from : (most : ℕ) (frames : List Frame) (a : ℕ) → a ≤ most → AllByRecursion (λ (frame : Frame). frame.events ≤ most) frames
     → fold (λ (m : ℕ) (frame : Frame). max m frame.events) a frames ≤ most
@@ -67,13 +62,12 @@ module _ (rules : Parts → Rules) (setup : Parts) (commands : List Command) whe
 
 module _ (rules : Parts → Rules) (setup : Parts) (commands : List Command) (i : ℕ) where
   -- the frames up to it
-  pub one_more_frame : {frames grown : List Frame} (one : List Frame) → frame_at rules setup commands (i + 1) ≡ one
-      → frames ≡ flat_map (frame_at rules setup commands) (range_with_len 1 i) → grown ≡ frames ++ one
-      → grown ≡ flat_map (frame_at rules setup commands) (range_with_len 1 (i + 1))
-  one_more_frame one is so grows =
+  pub frames_more : {frames grown : List Frame} → frames ≡ flat_map (frame_at rules setup commands) (range_with_len 1 i)
+      → grown ≡ frames ++ frame_at rules setup commands (i + 1) → grown ≡ flat_map (frame_at rules setup commands) (range_with_len 1 (i + 1))
+  frames_more so grows =
       let f = frame_at rules setup commands in
       let next : i + 1 ≡ 1 + i = omega arith in
-      grows ∙ ap (λ (l : List Frame). l ++ one) so ∙ ap (λ (l : List Frame). flat_map f (range_with_len 1 i) ++ l) (sym is ∙ ap f next) ∙ sym (each_more f 1 i)
+      grows ∙ ap (λ (l : List Frame). l ++ f (i + 1)) so ∙ ap (λ n. flat_map f (range_with_len 1 i) ++ f n) next ∙ sym (each_more f 1 i)
 
   module _ (command : Command) (below : i < length commands) (is : command ≡ get_or commands i command)
       (control : Journaled) (along : HasCarriedOut setup (take i commands) control) where

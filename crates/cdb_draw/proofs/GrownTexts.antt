@@ -1,5 +1,5 @@
 -- Texts of one item after the other.
-use Rattle.std.proofs.Common.{◌≡◌, ℕ, ◌+◌, List, [], ◌∷◌, ◌++◌, refl, ap, ◌∙◌, append-nil, append_assoc}
+use Rattle.std.proofs.Common.{◌≡◌, ℕ, ◌+◌, List, [], ◌∷◌, ◌++◌, refl, ap, append-nil}
 use Rattle.std.specs.List.{flat_map, range_with_len}
 use Rattle.std.proofs.lemmas.Grind.{flat_map-append}
 use Rattle.std.proofs.lemmas.List.{map-id}
@@ -11,9 +11,3 @@ range_more a n = simp map-id at (map-range_with_len_more (λ (k : ℕ). k) a n (
 -- the text of one number more
 pub each_more : {A : Type 0} (f : ℕ → List A) (a n : ℕ) → flat_map f (range_with_len a (n + 1)) ≡ flat_map f (range_with_len a n) ++ f (a + n)
 each_more {A = A} f a n = rw (range_more a n, flat_map-append) (ap (λ (t : List A). flat_map f (range_with_len a n) ++ t) (append-nil (f (a + n))))
-
--- the same after what was there before
-pub text_more : (f : ℕ → List ℕ) (a n : ℕ) {p : ℕ} (start : List ℕ) {now later : List ℕ}
-    → p ≡ a + n → now ≡ start ++ flat_map f (range_with_len a n) → later ≡ now ++ f p
-    → later ≡ start ++ flat_map f (range_with_len a (n + 1))
-text_more f a n start is so more = more ∙ rw (so, is, each_more f a n) (append_assoc start _ _)

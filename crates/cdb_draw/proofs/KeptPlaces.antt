@@ -2,7 +2,7 @@
 use Rattle.std.proofs.Common.{◌≡◌, ◌≢◌, ◌⊎◌, inl, inr, ℕ, ◌+◌, ◌-◌, ◌*◌, ◌/◌, ◌%◌, ◌<◌, ◌≤◌, Bool}
 use Rattle.std.proofs.Common.{true, false, if◌then◌else◌, nat_eq, nat_lt, List, refl, ap, arith}
 use Rattle.std.proofs.Math.Nat.{mul-le-mul_right, div-add-mod}
-use Rattle.std.proofs.lemmas.Bool.{cases_eq, cases_lt}
+use Rattle.std.proofs.lemmas.Bool.{cases_lt}
 use Rattle.std.proofs.lemmas.Bool.Decides.{nat_tests}
 use Rattle.cdb_draw.specs.Apart.{ArrowsKeepOff, IsOff, IsOneOf, IsWayOff}
 use Rattle.cdb_draw.specs.Layout.{columns_for, lane_y, row_of, spot, x_of}
@@ -13,48 +13,33 @@ use Rattle.cdb_draw.specs.declared.way.Side.{Side}
 use Rattle.cdb_draw.specs.declared.way.Side.TheVariants.{Below, Above, Own}
 
 -- one row is above another
-abbrev pub IsAbove : ℕ → ℕ → ℕ → Type 0
-IsAbove high r t = r * high + high ≤ t * high
-
-over : (high r t : ℕ) → r < t → IsAbove high r t
+over : (high r t : ℕ) → r < t → r * high + high ≤ t * high
 over high r t less =
     let times : (r + 1) * high ≤ t * high = mul-le-mul_right {m = r + 1} {n = t} high (omega arith) in
     omega (arith, times)
 
-rows : (high r t : ℕ) → IsAbove high r t ⊎ (IsAbove high t r ⊎ (r ≡ t))
-rows high r t = elim (cases_lt r t) [
-  | inl less ↦ inl (over high r t less)
-  | inr more ↦ elim (cases_lt t r) [
-    | inl less ↦ inr (inl (over high t r less))
-    | inr least ↦ inr (inr (omega arith))
-  ]
-]
+abbrev IsOrdered : ℕ → ℕ → Type 0
+IsOrdered a b = (a < b) ⊎ ((b < a) ⊎ (a ≡ b))
+
+ordered : (a b : ℕ) → IsOrdered a b
+ordered a b = grind arith
 
 -- where the mark of position k stands, seen from position i: in a row above it, in a row below it, to its left, or to its right
-abbrev pub Place : ℕ → ℕ → ℕ → ℕ → Type 0
-Place high c k i =
-    IsAbove high ((k - 1) / c) ((i - 1) / c) ⊎ (IsAbove high ((i - 1) / c) ((k - 1) / c)
-    ⊎ (((k - 1) % c < (i - 1) % c) ⊎ ((i - 1) % c < (k - 1) % c)))
+abbrev Place : ℕ → ℕ → ℕ → Type 0
+Place c k i =
+    ((k - 1) / c < (i - 1) / c) ⊎ (((i - 1) / c < (k - 1) / c) ⊎ (((k - 1) % c < (i - 1) % c) ⊎ ((i - 1) % c < (k - 1) % c)))
 
-columns : (c k i : ℕ) → 1 ≤ k → 1 ≤ i → k ≢ i → (k - 1) / c ≡ (i - 1) / c → ((k - 1) % c < (i - 1) % c) ⊎ ((i - 1) % c < (k - 1) % c)
-columns c k i a b other same = elim (cases_lt ((k - 1) % c) ((i - 1) % c)) [
-  | inl less ↦ inl less
-  | inr more ↦ elim (cases_lt ((i - 1) % c) ((k - 1) % c)) [
-    | inl less ↦ inr less
-    | inr least ↦
-        let both = ap (λ row. c * row) same in
-        absurd (other (omega (arith, div-add-mod (k - 1) c, div-add-mod (i - 1) c, both, more, least)))
-  ]
-]
+place_by : (c k i : ℕ) → 1 ≤ k → 1 ≤ i → k ≢ i → IsOrdered ((k - 1) / c) ((i - 1) / c) → IsOrdered ((k - 1) % c) ((i - 1) % c) → Place c k i
+place_by c k i a b other (inl above) column = inl above
+place_by c k i a b other (inr (inl below)) column = inr (inl below)
+place_by c k i a b other (inr (inr same)) (inl left) = inr (inr (inl left))
+place_by c k i a b other (inr (inr same)) (inr (inl right)) = inr (inr (inr right))
+place_by c k i a b other (inr (inr same)) (inr (inr level)) =
+    let both = ap (λ row. c * row) same in
+    absurd (other (omega (arith, div-add-mod (k - 1) c, div-add-mod (i - 1) c, both, level)))
 
-pub place : (high c k i : ℕ) → 1 ≤ k → 1 ≤ i → k ≢ i → Place high c k i
-place high c k i a b other = elim (rows high ((k - 1) / c) ((i - 1) / c)) [
-  | inl above ↦ inl above
-  | inr rest ↦ elim rest [
-    | inl below ↦ inr (inl below)
-    | inr same ↦ inr (inr (columns c k i a b other same))
-  ]
-]
+place : (c k i : ℕ) → 1 ≤ k → 1 ≤ i → k ≢ i → Place c k i
+place c k i a b other = place_by c k i a b other (ordered _ _) (ordered _ _)
 
 -- the two ends of a line may change places
 swapped : {mark from to : Point} → IsOff 8 mark from to → IsOff 8 mark to from
@@ -77,36 +62,30 @@ module _ (n high : ℕ) (tall : high ≡ 88 * n + 20) (r q a : ℕ) (among : q +
   mark = record { x = 110 + 52 * a; y = 80 + r * high + 88 * q }
 
   -- a line between lane b and the next one
-  between : (b x1 y1 x2 y2 : ℕ) → b + 1 ≤ n → IsAbove high r t ⊎ (IsAbove high t r ⊎ (r ≡ t))
+  between : (b x1 y1 x2 y2 : ℕ) → b + 1 ≤ n → IsOrdered r t
       → 80 + t * high + 88 * b + 22 ≤ y1 → y1 ≤ 80 + t * high + 88 * b + 66 → 80 + t * high + 88 * b + 22 ≤ y2 → y2 ≤ 80 + t * high + 88 * b + 66
       → IsOff 8 mark (record { x = x1; y = y1 }) (record { x = x2; y = y2 })
-  between b x1 y1 x2 y2 few row low1 up1 low2 up2 = elim row [
-    | inl above ↦ inr (inr (inl (omega arith, omega arith)))
-    | inr rest ↦ elim rest [
-      | inl below ↦ inr (inr (inr (omega arith, omega arith)))
-      | inr same ↦
-          let level = ap (λ k. k * high) same in
-          elim (cases_lt b q) [
-            | inl under ↦ inr (inr (inr (omega (arith, level, under), omega (arith, level, under))))
-            | inr over ↦ inr (inr (inl (omega (arith, level, over), omega (arith, level, over))))
-          ]
-    ]
-  ]
+  between b x1 y1 x2 y2 few (inl above) low1 up1 low2 up2 =
+      let up = over high r t above in
+      inr (inr (inl (omega (arith, up), omega (arith, up))))
+  between b x1 y1 x2 y2 few (inr (inl below)) low1 up1 low2 up2 =
+      let down = over high t r below in
+      inr (inr (inr (omega (arith, down), omega (arith, down))))
+  between b x1 y1 x2 y2 few (inr (inr same)) low1 up1 low2 up2 =
+      let level = ap (λ k. k * high) same in
+      elim (cases_lt b q) [
+        | inl under ↦ inr (inr (inr (omega (arith, level, under), omega (arith, level, under))))
+        | inr over ↦ inr (inr (inl (omega (arith, level, over), omega (arith, level, over))))
+      ]
 
   -- a line of half a column at an event of column b, on lane s
-  steep : (b s x y : ℕ) → s + 1 ≤ n → IsAbove high r t ⊎ (IsAbove high t r ⊎ ((a < b) ⊎ (b < a)))
+  steep : (b s x y : ℕ) → s + 1 ≤ n → (r < t) ⊎ ((t < r) ⊎ ((a < b) ⊎ (b < a)))
       → 110 + 52 * b ≤ x + 26 → x ≤ 110 + 52 * b + 26 → 80 + t * high + 88 * s ≤ y + 22 → y ≤ 80 + t * high + 88 * s + 44
       → IsOff 8 mark (record { x = 110 + 52 * b; y = 80 + t * high + 88 * s }) (record { x = x; y = y })
-  steep b s x y few seen left right low up = elim seen [
-    | inl above ↦ inr (inr (inl (omega arith, omega arith)))
-    | inr rest ↦ elim rest [
-      | inl below ↦ inr (inr (inr (omega arith, omega arith)))
-      | inr beside ↦ elim beside [
-        | inl less ↦ inl (omega arith, omega arith)
-        | inr more ↦ inr (inl (omega arith, omega arith))
-      ]
-    ]
-  ]
+  steep b s x y few (inl above) left right low up = let up = over high r t above in inr (inr (inl (omega (arith, up), omega (arith, up))))
+  steep b s x y few (inr (inl below)) left right low up = let down = over high t r below in inr (inr (inr (omega (arith, down), omega (arith, down))))
+  steep b s x y few (inr (inr (inl less))) left right low up = inl (omega arith, omega arith)
+  steep b s x y few (inr (inr (inr more))) left right low up = inr (inl (omega arith, omega arith))
 
 -- the side is that of the receiver
 abbrev pub Suits : Side → ℕ → ℕ → Type 0
@@ -114,22 +93,14 @@ Suits Below s p = s < p
 Suits Above s p = p < s
 Suits Own s p = s ≡ p
 
+suits_by : (same below : Bool) (s p : ℕ) → nat_eq s p ≡ same → nat_lt s p ≡ below
+    → Suits (if same then Own else (if below then Below else Above)) s p
+suits_by true below s p a b = grind (arith, nat_tests)
+suits_by false true s p a b = grind (arith, nat_tests)
+suits_by false false s p a b = grind (arith, nat_tests)
+
 suits : (s p : ℕ) → Suits (side_of s p) s p
-suits s p = elim (cases_eq s p) [
-  | inl same ↦
-      let is : nat_eq s p ≡ true = grind (arith, nat_tests, same) in
-      rw is same
-  | inr other ↦
-      let no : nat_eq s p ≡ false = grind (arith, nat_tests, other) in
-      elim (cases_lt s p) [
-        | inl less ↦
-            let is : nat_lt s p ≡ true = grind (arith, nat_tests, less) in
-            rw (no, is) less
-        | inr more ↦
-            let is : nat_lt s p ≡ false = grind (arith, nat_tests, more) in
-            rw (no, is) (omega arith)
-      ]
-]
+suits s p = suits_by (nat_eq s p) (nat_lt s p) s p refl refl
 
 -- The ways, where the mark is at position k on lane q.
 module _ (n high c r : ℕ) (tall : high ≡ 88 * n + 20) (k q : ℕ) (late : 1 ≤ k) (among : IsOneOf n q) where
@@ -147,7 +118,7 @@ module _ (n high c r : ℕ) (tall : high ≡ 88 * n + 20) (k q : ℕ) (late : 1 
       → IsOff 8 here (spot grid i s) (record { x = x; y = y })
   steep_at i s x y early other one left right low up =
       steep n high tall (row_of grid k) (q - 1) ((k - 1) % c) (omega arith) (row_of grid i)
-      ((i - 1) % c) (s - 1) x y (omega arith) (place high c k i late early other)
+      ((i - 1) % c) (s - 1) x y (omega arith) (place c k i late early other)
       left right low up
 
   begins : (side : Side) (i s p : ℕ) → 1 ≤ i → k ≢ i → Suits side s p → IsOneOf n s → IsOneOf n p
@@ -159,7 +130,7 @@ module _ (n high c r : ℕ) (tall : high ≡ 88 * n + 20) (k q : ℕ) (late : 1 
   between_at : (i b x1 y1 x2 y2 : ℕ) → b + 1 ≤ n → lane i (b + 1) + 22 ≤ y1 → y1 ≤ lane i (b + 1) + 66 → lane i (b + 1) + 22 ≤ y2 → y2 ≤ lane i (b + 1) + 66
       → IsOff 8 here (record { x = x1; y = y1 }) (record { x = x2; y = y2 })
   between_at i b x1 y1 x2 y2 few low1 up1 low2 up2 =
-      between n high tall (row_of grid k) (q - 1) ((k - 1) % c) (omega arith) (row_of grid i) b x1 y1 x2 y2 few (rows high (row_of grid k) (row_of grid i))
+      between n high tall (row_of grid k) (q - 1) ((k - 1) % c) (omega arith) (row_of grid i) b x1 y1 x2 y2 few (ordered (row_of grid k) (row_of grid i))
       (omega arith) (omega arith) (omega arith) (omega arith)
 
   passes : (side : Side) (i s p x1 x2 : ℕ) → Suits side s p → IsOneOf n s → IsOneOf n p

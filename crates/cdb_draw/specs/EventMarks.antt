@@ -17,7 +17,7 @@ use Rattle.cdb_base.specs.declared.register.Reg.{Reg}
 use Rattle.cdb_base.specs.NameTexts.{message_text, register_text, step_text}
 use Rattle.cdb_control.specs.Commands.{decides}
 use Rattle.cdb_deeds.specs.declared.deed.Deed.{Deed}
-use Rattle.cdb_deeds.specs.declared.deed.Deed.TheVariants.{Nothing, Round, Votes, VotesNone}
+use Rattle.cdb_deeds.specs.declared.deed.Deed.TheVariants.{Round, Votes, VotesNone}
 use Rattle.cdb_deeds.specs.declared.deed.Deed.TheVariants.{Settles, Adopts, Keeps, Learns}
 use Rattle.cdb_deeds.specs.declared.deed.Deed.TheVariants.{SettlesRegister, SettlesInput, GivesUp, Carries}
 use Rattle.cdb_explain.specs.Explanations.{deed_at, run_after, whole_text}
@@ -88,8 +88,6 @@ carried_text (Some payload) = value_text (value_of payload)
 -- what a step did, and with which value or round
 
 abbrev pub deed_word : Deed → List ℕ
-deed_word Nothing = []
-deed_word (Round round) = []
 deed_word (Votes source leader by) = codes "votes"
 deed_word (VotesNone by) = codes "votes"
 deed_word (Settles source by) = codes "settles"
@@ -100,10 +98,9 @@ deed_word (SettlesRegister value register) = codes "settles"
 deed_word (SettlesInput value) = codes "settles"
 deed_word (GivesUp round register) = codes "gives up"
 deed_word (Carries round) = codes "carries"
+deed_word did = []
 
 abbrev pub deed_with : Deed → List ℕ
-deed_with Nothing = []
-deed_with (Round round) = []
 deed_with (Votes source leader by) = decimal source.value
 deed_with (VotesNone by) = codes "none"
 deed_with (Settles source by) = decimal source.value
@@ -114,20 +111,17 @@ deed_with (SettlesRegister value register) = decimal value
 deed_with (SettlesInput value) = decimal value
 deed_with (GivesUp round register) = codes "round " ++ decimal round
 deed_with (Carries round) = codes "round " ++ decimal round
+deed_with did = []
 
 -- the first row: the value, the leader, or what a step by itself did
 
-abbrev pub kind_below : MailState → Deed → ℕ → Kind → List ℕ
-kind_below mail did p (Query leader) = codes "leader " ++ decimal leader
-kind_below mail did p (Send m) = carried_text (payload_of mail (message_name p m))
-kind_below mail did p (Recv s m) = carried_text (payload_of mail (message_name s m))
-kind_below mail did p Local = deed_word did
-kind_below mail did p Learn = deed_word did
-kind_below mail did p kind = []
-
 abbrev pub event_below : MailState → Deed → Event → List ℕ
-event_below mail did (Step p k kind) = kind_below mail did p kind
-event_below mail did (Lost copy) = []
+event_below mail did (Step p k (Query leader)) = codes "leader " ++ decimal leader
+event_below mail did (Step p k (Send m)) = carried_text (payload_of mail (message_name p m))
+event_below mail did (Step p k (Recv s m)) = carried_text (payload_of mail (message_name s m))
+event_below mail did (Step p k Local) = deed_word did
+event_below mail did (Step p k Learn) = deed_word did
+event_below mail did event = []
 
 -- a decision has its value there, a ring round the mark, and `decides` above it
 
@@ -165,14 +159,10 @@ tick_text (Some round) = codes "<path d='M-15,-5v10'/>"
 
 -- the second row: that round, or with what a step by itself did what it did
 
-abbrev pub kind_note : Deed → Kind → List ℕ
-kind_note did Local = deed_with did
-kind_note did Learn = deed_with did
-kind_note did kind = []
-
 abbrev pub event_note : Deed → Event → List ℕ
-event_note did (Step p k kind) = kind_note did kind
-event_note did (Lost copy) = []
+event_note did (Step p k Local) = deed_with did
+event_note did (Step p k Learn) = deed_with did
+event_note did event = []
 
 abbrev pub note_text : Option ℕ → Deed → Event → List ℕ
 note_text None did event = event_note did event

@@ -2,12 +2,11 @@
 
 ghost use Rattle.std.specs.Prelude.{◌≡◌, ◌≤◌, length};
 ghost use Rattle.cdb_draw.specs.Arrows.{arrow_at, arrow_text, copy_arrow, event_arrow};
-ghost use Rattle.cdb_draw.specs.Arrows.{register_lane, register_spot, step_arrow};
-ghost use Rattle.cdb_draw.specs.Arrows.{upright};
+ghost use Rattle.cdb_draw.specs.Arrows.{register_lane, register_spot, upright};
 ghost use Rattle.cdb_draw.specs.Layout.{end_x, IsGrid, IsOnPage};
 ghost use Rattle.cdb_draw.specs.Pieces.{pieces_text};
 ghost use Rattle.cdb_draw.specs.Sends.{AreSendsOf, AreTakesOf};
-ghost use Rattle.cdb_draw.specs.Ways.{broken_way, way_of, whole_way};
+ghost use Rattle.cdb_draw.specs.Ways.{broken_way, whole_way};
 ghost use Rattle.cdb_streams.specs.PiecesPut.{Puts};
 
 use crate::layout::{Grid, Point, end_x, lane_y, register_y, row_of, spot, x_of};
@@ -123,36 +122,6 @@ fn upright_arrow(
     ]
 }
 
-/// Puts the arrow of a copy, from position `i` on the lane of process `s` to position `j` on that of process `p`.
-fn put_way<W: Sink>(
-    grid: Grid,
-    class: &'static str,
-    weight: Weight,
-    i: usize,
-    s: Proc,
-    j: usize,
-    p: Proc,
-    buffer: &mut Buffer,
-    out: &mut W,
-) -> Result<(), OutputFault>
-    requires grid { IsGrid grid }
-    requires sent { i ≤ MAX_ENTRIES }
-    requires received { j ≤ MAX_ENTRIES }
-    ensures { Puts W.stream result out.old buffer.old out.new buffer.new
-        (arrow_text class.now weight (way_of grid i s j p)) }
-{
-    let (from, to) = (spot(grid, i, s), spot(grid, j, p));
-    let side = side_of(s, p);
-    let row = row_of(grid, j);
-    if row_of(grid, i) == row {
-        put_each(&whole_arrow(class, weight, side, from, to), buffer, out)
-    } else {
-        let lane = lane_y(grid, row, s);
-        let pieces = broken_arrow(class, weight, side, end_x(grid), from, lane, to);
-        put_each(&pieces, buffer, out)
-    }
-}
-
 /// Puts the arrow of a copy to an event at a position, from where its message was sent.
 fn put_copy<W: Sink>(
     grid: Grid,
@@ -173,10 +142,19 @@ fn put_copy<W: Sink>(
     ensures { Puts W.stream result out.old buffer.old out.new buffer.new
         (copy_arrow grid events.now class.now weight name position p) }
 {
-    let sender = name.s;
-    match position_of_send(sends, name) {
-        Some(i) => put_way(grid, class, weight, i, sender, position, p, buffer, out),
-        None => Ok(()),
+    let s = name.s;
+    let Some(i) = position_of_send(sends, name) else {
+        return put_each(&[], buffer, out);
+    };
+    let (from, to) = (spot(grid, i, s), spot(grid, position, p));
+    let side = side_of(s, p);
+    let row = row_of(grid, position);
+    if row_of(grid, i) == row {
+        put_each(&whole_arrow(class, weight, side, from, to), buffer, out)
+    } else {
+        let lane = lane_y(grid, row, s);
+        let pieces = broken_arrow(class, weight, side, end_x(grid), from, lane, to);
+        put_each(&pieces, buffer, out)
     }
 }
 
@@ -205,53 +183,6 @@ pub(crate) fn register_spot(grid: Grid, position: usize, register: Reg) -> Point
     }
 }
 
-/// Puts the arrow of a step of that kind at a position.
-fn put_step<W: Sink>(
-    grid: Grid,
-    events: &[Event],
-    sends: &Sends,
-    takes: &Takes,
-    weight: Weight,
-    position: usize,
-    p: Proc,
-    kind: Kind,
-    buffer: &mut Buffer,
-    out: &mut W,
-) -> Result<(), OutputFault>
-    requires grid { IsGrid grid }
-    requires few { length events.now ≤ MAX_ENTRIES }
-    requires position { position ≤ MAX_ENTRIES }
-    requires sends { AreSendsOf sends.now events.now }
-    requires takes { AreTakesOf takes.now events.now }
-    ensures { Puts W.stream result out.old buffer.old out.new buffer.new
-        (step_arrow grid events.now weight position p kind) }
-{
-    let row = row_of(grid, position);
-    match kind {
-        Kind::Recv(s, m) => {
-            let name = MsgName { s, m };
-            put_copy(
-                grid, events, sends, "copy", weight, name, position, p, buffer, out,
-            )
-        }
-        Kind::Read(register) => {
-            let from = register_spot(grid, position, register);
-            let pieces = upright_arrow("read", weight, from.x, from.y, lane_y(grid, row, p));
-            put_each(&pieces, buffer, out)
-        }
-        Kind::Write(register) => {
-            let to = register_spot(grid, position, register);
-            let pieces = upright_arrow("write", weight, to.x, lane_y(grid, row, p), to.y);
-            put_each(&pieces, buffer, out)
-        }
-        Kind::Send(m) => {
-            let name = MsgName { s: p, m };
-            put_on_way(grid, events, takes, weight, position, &name, buffer, out)
-        }
-        Kind::Query(_) | Kind::Local | Kind::Learn | Kind::Crash => Ok(()),
-    }
-}
-
 /// Puts the arrow of the event at a position, from 1, where it has one.
 pub(crate) fn put_arrow<W: Sink>(
     grid: Grid,
@@ -272,12 +203,31 @@ pub(crate) fn put_arrow<W: Sink>(
     ensures { Puts W.stream result out.old buffer.old out.new buffer.new
         (event_arrow grid events.now weight position event.now) }
 {
+    let row = row_of(grid, position);
     match *event {
-        Event::Step { p, kind, .. } => {
-            put_step(
-                grid, events, sends, takes, weight, position, p, kind, buffer, out,
-            )
-        }
+        Event::Step { p, kind, .. } => match kind {
+            Kind::Recv(s, m) => {
+                let name = MsgName { s, m };
+                put_copy(
+                    grid, events, sends, "copy", weight, name, position, p, buffer, out,
+                )
+            }
+            Kind::Read(register) => {
+                let from = register_spot(grid, position, register);
+                let pieces = upright_arrow("read", weight, from.x, from.y, lane_y(grid, row, p));
+                put_each(&pieces, buffer, out)
+            }
+            Kind::Write(register) => {
+                let to = register_spot(grid, position, register);
+                let pieces = upright_arrow("write", weight, to.x, lane_y(grid, row, p), to.y);
+                put_each(&pieces, buffer, out)
+            }
+            Kind::Send(m) => {
+                let name = MsgName { s: p, m };
+                put_on_way(grid, events, takes, weight, position, &name, buffer, out)
+            }
+            Kind::Query(_) | Kind::Local | Kind::Learn | Kind::Crash => put_each(&[], buffer, out),
+        },
         Event::Lost(copy) => {
             let (name, to) = (copy.msg, copy.to);
             put_copy(

@@ -24,7 +24,8 @@ use std::alloc::Global;
 /// The weight of each event, by the flags of those that have led to a step, and of those on the trail to it.
 fn weigh_each(alloc: Global, past: &[bool], trail: &[bool]) -> Result<Vec<Weight>, NoMemory>
     requires { length trail.now ≡ length past.now }
-    ensures { IfOk result (λ weights. weights.items ≡ weigh_each past.now trail.now) }
+    ensures weights { IfOk result (λ weights. weights.items ≡ weigh_each past.now trail.now) }
+    ensures each { IfOk result (λ weights. length weights.items ≡ length past.now) }
 {
     let mut weights = Vec::new(alloc);
     for i in 0..past.len() {
@@ -107,6 +108,5 @@ pub fn draw_run<W: Sink>(
 {
     let weights = weights_for(alloc, run, position)?;
     let grid = grid_of(run.setup(), columns as usize, run.events().len());
-    write_picture::<AnyRun, W>(alloc, grid, run, weights.as_slice(), out)?;
-    Ok(())
+    write_picture::<AnyRun, W>(alloc, grid, run, weights.as_slice(), out)
 }

@@ -1,7 +1,7 @@
 //! The frames of a script: the picture of the run after each of its commands that changed it, for slides.
 
 ghost use Rattle.std.specs.Prelude.{◌≡◌, ◌+◌, ◌<◌, ◌≤◌, [], ◌∷◌, ◌++◌, Some, length, slice_get};
-ghost use Rattle.std.specs.Prelude.{take, Err, IfErr, IfOk, OnOk, MatchOption};
+ghost use Rattle.std.specs.Prelude.{take, Err, IfErr, IfOk, OnOk};
 ghost use Rattle.std.specs.List.{All};
 ghost use Rattle.cdb_agreement.specs.Algorithms.{rules};
 ghost use Rattle.cdb_commands.specs.ReplyView.{reply_view};
@@ -77,47 +77,50 @@ fn carry_out(
     }
 }
 
+/// Adds a frame.
+fn push_frame(frames: &mut Vec<Frame>, frame: Frame) -> Result<(), NoMemory>
+    ensures { OnOk result (frames.new.items ≡ frames.old.items ++ frame ∷ []) }
+{
+    frames.push(frame)?;
+    Ok(())
+}
+
 /// Carries the command at this position of a script out, from 0, for the only seat of a control that has carried out
-/// those before it, and tells the frame after it, where it changed the run. `TooManyEvents` where more than 5,000
+/// those before it, and adds the frame after it, where it changed the run. `TooManyEvents` where more than 5,000
 /// events stand then.
-fn next_frame(
+fn add_next(
     alloc: Global,
     control: &mut Control<AnyRun>,
     commands: &[Command],
     i: usize,
-) -> Result<Option<Frame>, AnswerFault>
+    frames: &mut Vec<Frame>,
+) -> Result<(), AnswerFault>
     requires few { length commands.now ≤ MAX_ENTRIES }
     requires i { i < length commands.now }
     requires before { HasCarriedOut control.old.setup (take i commands.now) control.old }
     ensures setup { OnOk result (control.new.setup ≡ control.old.setup) }
     ensures carried { OnOk result
         (HasCarriedOut control.old.setup (take (i + 1) commands.now) control.new) }
-    ensures frame { IfOk result (λ frame. MatchOption frame
-        (frame_at rules control.old.setup commands.now (i + 1) ≡ [])
-        (λ it. (frame_at rules control.old.setup commands.now (i + 1) ≡ it ∷ [])
-        × IsFrameOf rules control.old.setup commands.now it)) }
+    ensures frames { OnOk result ((frames.new.items
+        ≡ frames.old.items ++ frame_at rules control.old.setup commands.now (i + 1))
+        × (All (IsFrameOf rules control.old.setup commands.now) frames.old.items
+        → All (IsFrameOf rules control.old.setup commands.now) frames.new.items)) }
     ensures fault { IfErr result (IsFaultOfFinding rules control.old.setup commands.now) }
 {
     let Some(took) = carry_out(alloc, control, commands[i])? else {
-        return Ok(None);
+        return Ok(());
     };
     let standing = control.run().events(alloc)?;
     let events = standing.as_slice().len();
     if events > MOST_DRAWN {
         return Err(AnswerFault::TooManyEvents);
     }
-    Ok(Some(Frame {
+    let frame = Frame {
         commands: i + 1,
         events,
         took,
-    }))
-}
-
-/// Adds a frame.
-fn push_frame(frames: &mut Vec<Frame>, frame: Frame) -> Result<(), NoMemory>
-    ensures { OnOk result (frames.new.items ≡ frames.old.items ++ frame ∷ []) }
-{
-    frames.push(frame)?;
+    };
+    push_frame(frames, frame)?;
     Ok(())
 }
 
@@ -138,9 +141,7 @@ fn find_each(
 {
     let mut frames = Vec::new(alloc);
     for i in 0..commands.len() {
-        if let Some(frame) = next_frame(alloc, control, commands, i)? {
-            push_frame(&mut frames, frame)?;
-        }
+        add_next(alloc, control, commands, i, &mut frames)?;
     }
     Ok(frames)
 }

@@ -77,8 +77,8 @@ pub(crate) fn put_written<T: Runs, W: Sink>(
                 let pieces = holding(grid, weight, position, register, value);
                 put_each(&pieces, buffer, out)
             }
-            _ => Ok(()),
+            _ => put_each(&[], buffer, out),
         },
-        Event::Lost(_) => Ok(()),
+        Event::Lost(_) => put_each(&[], buffer, out),
     }
 }

@@ -2,7 +2,7 @@
 
 ghost use Rattle.std.specs.Prelude.{◌≡◌, ◌≤◌, [], option_copied, string_bytes};
 ghost use Rattle.cdb_draw.specs.EventMarks.{begun, below_place, below_text, carried_text, decided_text};
-ghost use Rattle.cdb_draw.specs.EventMarks.{decision_place, deed_with, deed_word, event_below, event_note, first_row};
+ghost use Rattle.cdb_draw.specs.EventMarks.{deed_with, deed_word, first_row};
 ghost use Rattle.cdb_draw.specs.EventMarks.{kind_with, kind_word, lane_of, mark_text, marked_text, note_text};
 ghost use Rattle.cdb_draw.specs.EventMarks.{second_row, shape_of, third_row, tick_text, value_of};
 ghost use Rattle.cdb_draw.specs.Layout.{IsGrid};
@@ -183,11 +183,14 @@ fn deed_with(deed: &Deed) -> Piece<'static>
     }
 }
 
-/// What stands in the first row below the mark of an event that decides nothing.
-fn event_below<T: Runs>(run: &T, deed: &Deed, event: &Event) -> Piece<'static>
+/// What stands in the first row below the mark of an event: the value that it decides, or else what its kind has there.
+fn below<T: Runs>(run: &T, deed: &Deed, event: &Event, decided: Option<Val>) -> Piece<'static>
     ensures { piece_text result
-        ≡ event_below (mail_in T.rules (T.run run.now)) deed.now event.now }
+        ≡ below_text decided (mail_in T.rules (T.run run.now)) deed.now event.now }
 {
+    if let Some(value) = decided {
+        return Number(value.number() as usize);
+    }
     match *event {
         Event::Step { p, kind, .. } => match kind {
             Kind::Query(leader) => After("leader ", usize::from(leader.number())),
@@ -200,37 +203,20 @@ fn event_below<T: Runs>(run: &T, deed: &Deed, event: &Event) -> Piece<'static>
     }
 }
 
-/// What stands in the first row below the mark of an event.
-fn below<T: Runs>(run: &T, deed: &Deed, event: &Event, decided: Option<Val>) -> Piece<'static>
-    ensures { piece_text result
-        ≡ below_text decided (mail_in T.rules (T.run run.now)) deed.now event.now }
-{
-    match decided {
-        Some(value) => Number(value.number() as usize),
-        None => event_below(run, deed, event),
-    }
-}
-
-/// How the value of a decision looks and where it stands: beside the arrow of a read or a write.
-fn decision_place(event: &Event) -> &'static str
-    ensures { result.now ≡ decision_place event.now }
-{
-    match *event {
-        Event::Step {
-            kind: Kind::Read(_) | Kind::Write(_),
-            ..
-        } => "class='beside' x='3' y='33'",
-        _ => "class='decision' y='22'",
-    }
-}
-
-/// How what stands below a mark looks, and where it stands.
+/// How what stands below a mark looks, and where it stands: a decision beside the arrow of a read or a write.
 fn below_place(event: &Event, decided: Option<Val>) -> &'static str
     ensures { result.now ≡ below_place decided event.now }
 {
-    match decided {
-        Some(_) => decision_place(event),
-        None => "class='value' y='22'",
+    match (decided, *event) {
+        (None, _) => "class='value' y='22'",
+        (
+            Some(_),
+            Event::Step {
+                kind: Kind::Read(_) | Kind::Write(_),
+                ..
+            },
+        ) => "class='beside' x='3' y='33'",
+        (Some(_), _) => "class='decision' y='22'",
     }
 }
 
@@ -264,26 +250,19 @@ fn tick(round: Option<u32>) -> &'static str
     }
 }
 
-/// What stands in the second row below the mark of an event that begins no round.
-fn event_note(deed: &Deed, event: &Event) -> Piece<'static>
-    ensures { piece_text result ≡ event_note deed.now event.now }
+/// What stands in the second row below the mark of an event: the round that it begins, or with what it did what it did.
+fn note(round: Option<u32>, deed: &Deed, event: &Event) -> Piece<'static>
+    ensures { piece_text result ≡ note_text round deed.now event.now }
 {
+    if let Some(round) = round {
+        return After("round ", round as usize);
+    }
     match *event {
         Event::Step {
             kind: Kind::Local | Kind::Learn,
             ..
         } => deed_with(deed),
         _ => Text(""),
-    }
-}
-
-/// What stands in the second row below the mark of an event.
-fn note(round: Option<u32>, deed: &Deed, event: &Event) -> Piece<'static>
-    ensures { piece_text result ≡ note_text round deed.now event.now }
-{
-    match round {
-        Some(round) => After("round ", round as usize),
-        None => event_note(deed, event),
     }
 }
 
@@ -351,6 +330,7 @@ fn mark<'a, T: Runs>(
 }
 
 /// Puts the mark of the last event of a run, which stands at a position, from 1. Its whole text is made in `whole`.
+#[tactic(auto, using(cdb_streams::proofs::PiecesPut::puts_nothing))]
 fn put_marked<T: Runs, W: Sink>(
     alloc: Global,
     grid: Grid,
@@ -379,6 +359,7 @@ fn put_marked<T: Runs, W: Sink>(
 }
 
 /// Puts the mark of the last event of a run, and what the event left in a register.
+#[tactic(auto, using(crate::proofs::Parted::cut_before, crate::proofs::Parted::then))]
 pub(crate) fn put_mark<T: Runs, W: Sink>(
     alloc: Global,
     grid: Grid,

@@ -64,22 +64,14 @@ fn document(w: usize, h: usize, heading: Piece<'static>) -> [Piece<'static>; 13]
     ]
 }
 
-/// Puts what comes before the lanes.
-fn put_head<W: Sink>(
-    grid: Grid,
-    run: &Trace,
-    buffer: &mut Buffer,
-    out: &mut W,
-) -> Result<(), OutputFault>
-    requires grid { IsGrid grid }
-    requires few { length run.now.history ≤ MAX_ENTRIES }
-    ensures { Puts W.stream result out.old buffer.old out.new buffer.new
-        (head_text grid run.now) }
+/// The same for a run.
+fn head(grid: Grid, run: &Trace) -> [Piece<'static>; 13]
+    requires { IsGrid grid }
+    ensures { pieces_text result ≡ head_text grid run.now }
 {
     let setup = run.setup();
     let heading = heading(setup.algorithm(), usize::from(setup.q()));
-    let pieces = document(width(grid), height(grid), heading);
-    put_each(&pieces, buffer, out)
+    document(width(grid), height(grid), heading)
 }
 
 /// Puts the arrow of the event at a position, from 1.
@@ -112,6 +104,7 @@ fn put_arrow_at<W: Sink>(
 }
 
 /// Puts the arrows of all events.
+#[tactic(auto, using(cdb_streams::proofs::PiecesPut::put_nothing, cdb_streams::proofs::PiecesPut::puts_nothing))]
 fn put_arrows<W: Sink>(
     alloc: Global,
     grid: Grid,
@@ -168,6 +161,7 @@ fn put_mark_at<T: Runs, W: Sink>(
 }
 
 /// Puts the marks of all events. The run is played again, event by event, and asked when that is soonest answered.
+#[tactic(auto, using(cdb_streams::proofs::PiecesPut::puts_nothing))]
 fn put_marks<T: HasDeeds, W: Sink>(
     alloc: Global,
     grid: Grid,
@@ -227,34 +221,11 @@ fn put_picture<T: HasDeeds, W: Sink>(
     ensures { Puts W.stream result out.old buffer.old out.new buffer.new
         (picture_text T.rules grid run.now weights.now) }
 {
-    put_head(grid, run, buffer, out)?;
+    put_each(&head(grid, run), buffer, out)?;
     put_lanes(grid, run, buffer, out)?;
     put_arrows(alloc, grid, run, weights, buffer, out)?;
     put_marks::<T, W>(alloc, grid, run, weights, buffer, out)?;
     put_each(&[Text("</svg>\n")], buffer, out)
-}
-
-/// Puts the picture into an empty buffer, and writes what is left in it.
-fn write_pieces<T: HasDeeds, W: Sink>(
-    alloc: Global,
-    grid: Grid,
-    run: &Trace,
-    weights: &[Weight],
-    buffer: &mut Buffer,
-    out: &mut W,
-) -> Result<(), OutputFault>
-    requires valid { IsInOrder T.rules run.now }
-    requires grid { IsGrid grid }
-    requires processes { grid.processes ≡ run.now.setup.processes }
-    requires few { length run.now.history ≤ MAX_ENTRIES }
-    requires a_weight_each { length weights.now ≡ length run.now.history }
-    requires empty { buffer.old ≡ [] }
-    ensures { IsWritten W.stream (pieces_ending result) out.old out.new
-        (Only (picture_text T.rules grid run.now weights.now)) }
-{
-    put_picture::<T, W>(alloc, grid, run, weights, buffer, out)?;
-    buffer.flush(out)?;
-    Ok(())
 }
 
 /// Writes the picture in which the events are drawn in these weights. After `Write` what was
@@ -275,5 +246,7 @@ pub(crate) fn write_picture<T: HasDeeds, W: Sink>(
         (Only (picture_text T.rules grid run.now weights.now)) }
 {
     let mut buffer = Buffer::new(alloc)?;
-    write_pieces::<T, W>(alloc, grid, run, weights, &mut buffer, out)
+    put_picture::<T, W>(alloc, grid, run, weights, &mut buffer, out)?;
+    buffer.flush(out)?;
+    Ok(())
 }

@@ -35,6 +35,7 @@ fn put_number<W: Sink>(number: usize, buffer: &mut Buffer, out: &mut W) -> Resul
 }
 
 /// Puts a piece.
+#[tactic(auto, using(crate::proofs::Parted::cut_before, crate::proofs::Parted::then))]
 fn put_piece<W: Sink>(piece: Piece<'_>, buffer: &mut Buffer, out: &mut W) -> Result<(), OutputFault>
     ensures { Puts W.stream result out.old buffer.old out.new buffer.new
         (piece_text piece.entry) }

@@ -4,7 +4,7 @@ ghost use Rattle.std.specs.HashMap.{get};
 ghost use Rattle.std.specs.Prelude.{◌≡◌, ◌<◌, ◌^◌, ◌*◌, ℕ, List, nat_eq, IfOk, OnOk};
 ghost use Rattle.cdb_base.specs.declared.event.Event.{Event as EventName};
 ghost use Rattle.cdb_draw.specs.Positions.{copy_of, crashed_at, is_crash_of, sent_at, taken_at};
-ghost use Rattle.cdb_draw.specs.Sends.{AreSendsOf, AreTakesOf, copy_code, HasNoted, HasTaken};
+ghost use Rattle.cdb_draw.specs.Sends.{AreSendsOf, AreTakesOf, copy_code, HasNoted};
 ghost use Rattle.cdb_draw.specs.Sends.{kept_or_noted, message_code, message_of};
 
 use cdb_base::{CopyName, Event, Kind, MsgName, NoMemory, Proc};
@@ -16,7 +16,7 @@ pub(crate) type Sends = HashMap<u32, usize>;
 
 /// A number for the name of a message.
 fn message_code(name: MsgName) -> u32
-    ensures value { result ≡ message_code name.s name.m }
+    ensures value { result ≡ message_code name }
     ensures small { name.m < 2 ^ 16 }
     ensures most { result < 10 * 2 ^ 16 }
 {
@@ -48,7 +48,7 @@ fn note(sends: &mut Sends, code: u32, position: usize) -> Result<(), NoMemory>
 
 /// Notes the position of an event, where it sends a message.
 fn note_event(sends: &mut Sends, event: &Event, position: usize) -> Result<(), NoMemory>
-    ensures { OnOk result (HasNoted sends.old sends.new position event.now) }
+    ensures { OnOk result (HasNoted AreSendsOf sends.old sends.new position event.now) }
 {
     match message_of(event) {
         Some(name) => note(sends, message_code(name), position),
@@ -107,7 +107,7 @@ fn copy_of(event: &Event) -> Option<CopyName>
 
 /// Notes the position of an event, where it receives or loses a copy.
 fn note_take(takes: &mut Takes, event: &Event, position: usize) -> Result<(), NoMemory>
-    ensures { OnOk result (HasTaken takes.old takes.new position event.now) }
+    ensures { OnOk result (HasNoted AreTakesOf takes.old takes.new position event.now) }
 {
     match copy_of(event) {
         Some(copy) => note(takes, copy_code(copy), position),

@@ -1,8 +1,7 @@
-use Rattle.std.proofs.Common.{◌≡◌, suc, Some, replicate, sym, ap, ◌∙◌, subst}
+use Rattle.std.proofs.Common.{◌≡◌, suc, Some, ap, ◌∙◌}
 use Rattle.cdb_base.specs.Positions.{nth}
 use Rattle.cdb_base.specs.declared.event.Event.TheVariants.{Step}
 use Rattle.cdb_clocks.proofs.Next.{kept_at_loss, kept_at_step}
-use Rattle.cdb_clocks.specs.Rows.{IsClockIfStep}
 use Rattle.cdb_standing.specs.Tables.{rows_in}
 use Rattle.cdb_clocks.proofs.clock.add_next.Goals as goal
 
@@ -10,16 +9,12 @@ pub returns-in_ok-add_clock-in-Step-clause-next : goal.returns-in_ok-add_clock-i
 returns-in_ok-add_clock-in-Step-clause-next c = λ end stands kept.
     let history = c.args.history.now in
     let at : nth history (suc end) ≡ Some (Step c.in-Step.p c.in-Step.k c.in-Step.kind) = stands ∙ ap Some c.in-Step.is in
-    let clock = c.next_clock-clock.result in
     let is = c.next_clock-clock.ensures end c.in-Step.kind at kept in (
       kept_at_step history end (rows_in c.args.rows.now.items) kept c.requires.comparable c.requires.numbered c.in-Step.p
-          c.in-Step.k c.in-Step.kind at clock is (rows_in c.add_clock.new.rows.items) c.in_ok-add_clock-in-Step.ensures,
-      subst (λ e. IsClockIfStep history (suc end) e clock) (sym c.in-Step.is) is,
+          c.in-Step.k c.in-Step.kind at c.next_clock-clock.result is (rows_in c.add_clock.new.rows.items) c.in_ok-add_clock-in-Step.ensures,
+      rw c.in-Step.is is,
     )
 
 pub returns-in-Lost-clause-next : goal.returns-in-Lost-clause-next
 returns-in-Lost-clause-next c = λ end stands kept.
-    let history = c.args.history.now in
-    let lost = c.in-Lost.is in
-    let at = stands ∙ ap Some lost in
-    (kept_at_loss history end (rows_in c.args.rows.now.items) kept _ at, subst (λ e. IsClockIfStep history (suc end) e (replicate 9 0)) (sym lost) tt)
+    (kept_at_loss c.args.history.now end (rows_in c.args.rows.now.items) kept _ (stands ∙ ap Some c.in-Lost.is), rw c.in-Lost.is tt)

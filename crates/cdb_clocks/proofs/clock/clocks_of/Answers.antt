@@ -1,12 +1,9 @@
-use Rattle.std.proofs.Common.{◌≡◌, ℕ, suc, ◌+◌, List, [], ◌∷◌, ◌++◌, Some, length, refl, sym, ap, ◌∙◌, subst, ⊎_elim, length-append, arith}
+use Rattle.std.proofs.Common.{◌≡◌, ℕ, suc, ◌+◌, List, [], ◌∷◌, ◌++◌, length, refl, sym, ap, ◌∙◌, inl, inr, length-append, add-one, arith}
 use Rattle.std.proofs.lemmas.Option.{same_Some}
-use Rattle.cdb_base.specs.Positions.{nth}
 use Rattle.cdb_base.specs.declared.event.Event.{Event}
 use Rattle.cdb_base.specs.declared.event.Event.TheVariants.{Step}
 use Rattle.cdb_causal.proofs.Lists.{nth_front, nth_within}
 use Rattle.cdb_clocks.proofs.Next.{at_end, last_position, no_rows_kept, stands_from}
-use Rattle.cdb_clocks.specs.Clocks.{IsClock}
-use Rattle.cdb_clocks.specs.Rows.{AreKept, IsClockIfStep}
 use Rattle.cdb_rules.proofs.Flagged.{item_at}
 use Rattle.cdb_standing.specs.Tables.{rows_in}
 use Rattle.cdb_clocks.proofs.clock.clocks_of.Goals as goal
@@ -34,26 +31,20 @@ loop-event-preserved c =
     let here = item_at (c.as_slice-event-items.ensures.value ∙ c.in_ok-events.ensures) i event c.loop-event-test.true c.event-item.is in
     let clock : List ℕ = c.in_ok-add_next.field-0 in
     let next = c.in_ok-add_next.ensures.next i here was.kept in
-    let more : suc i ≡ i + 1 = omega arith in
     let pushed : c.push.new.self.items ≡ c.loop-event.clocks.items ++ clock ∷ [] = c.in_ok-push.ensures.items in
     record {
       nine = c.in_ok-add_next.ensures.rows;
-      kept = subst (λ (n : ℕ). AreKept history n (rows_in c.add_next.new.rows.items)) more next.0;
-      number = ap length pushed ∙ length-append c.loop-event.clocks.items (clock ∷ []) ∙ ap (λ (n : ℕ). n + 1) was.number;
+      kept = rw (← add-one i) at next.0;
+      number = rw pushed (length-append c.loop-event.clocks.items (clock ∷ []) ∙ ap (λ (n : ℕ). n + 1) was.number);
       clocks = λ at p k kind there few.
-          ⊎_elim
-          (λ before.
-          let old = was.clocks at p k kind there before in
-          (old.0, ap (λ (l : List (List ℕ)). nth l at) pushed ∙ nth_front c.loop-event.clocks.items clock old.0 at old.1, old.2))
-          (λ last.
-          let same = same_Some event (Step p k kind) (sym here ∙ subst (λ (n : ℕ). nth history n ≡ Some (Step p k kind)) last there) in
-          let is : IsClock history (suc i) clock = subst (λ e. IsClockIfStep history (suc i) e clock) same next.1 in (
-            clock,
-            ap (λ (l : List (List ℕ)). nth l at) pushed
-                ∙ at_end c.loop-event.clocks.items clock at (last ∙ ap suc (sym was.number)),
-            subst (λ (n : ℕ). IsClock history n clock) (sym last) is,
-          ))
-          (last_position at i (omega (arith, few)));
+          elim (last_position at i (omega (arith, few))) [
+            | inl before ↦ let old = was.clocks at p k kind there before in (old.0, rw pushed (nth_front c.loop-event.clocks.items clock old.0 at old.1), old.2)
+            | inr last ↦ let same = same_Some event (Step p k kind) (sym here ∙ (rw last at there)) in (
+              clock,
+              rw pushed (at_end c.loop-event.clocks.items clock at (last ∙ ap suc (sym was.number))),
+              rw last (rw same at next.1),
+            )
+          ];
     }
 
 pub returns-clause-clocks : goal.returns-clause-clocks

@@ -1,7 +1,5 @@
-use Rattle.std.proofs.Common.{◌≡◌, ℕ, List, ◌+◌, ◌-◌, ◌≤◌, slice_get, ap, ◌∙◌, subst, arith}
+use Rattle.std.proofs.Common.{◌≡◌, ◌+◌, ◌-◌, ◌≤◌, slice_get, arith}
 use Rattle.std.specs.Option.{option_copied}
-use Rattle.cdb_base.specs.Positions.{nth}
-use Rattle.cdb_standing.specs.Tables.{rows_in, row_of}
 use Rattle.cdb_standing.proofs.RowUpdates.{item_at, looked_up}
 use Rattle.cdb_clocks.proofs.rows.clock_at.Goals as goal
 
@@ -11,7 +9,5 @@ returns c =
     let place : c.index.result + 1 ≡ c.args.p = c.index.ensures.value in
     let found : option_copied c.get.result ≡ slice_get c.deref.result.now (c.args.k - 1) =
     looked_up c.get.result c.deref.result.now (c.args.k - 1) c.get.ensures.lookup.3 in
-    let is : slice_get c.deref.result.now (c.args.k - 1) ≡ slice_get c.index-2.result.now.items (c.args.k - 1) =
-    ap (λ (l : List (List ℕ)). slice_get l (c.args.k - 1)) c.deref.ensures.value in
-    subst (λ (p : ℕ). c.copied.result ≡ nth (row_of (rows_in c.args.rows.now.items) p) c.args.k) place
-    (c.copied.ensures ∙ found ∙ is ∙ item_at c.args.rows.now.items c.index.result c.index-2.result.now c.args.k (omega arith) c.index-2.ensures some)
+    rw (c.copied.ensures, found, c.deref.ensures.value, ← place)
+    (item_at c.args.rows.now.items c.index.result c.index-2.result.now c.args.k (omega arith) c.index-2.ensures some)

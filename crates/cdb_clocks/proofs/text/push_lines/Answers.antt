@@ -1,13 +1,14 @@
 use Rattle.std.proofs.lemmas.Option.{slice_get-get_or}
-use Rattle.std.proofs.Common.{ℕ, List, [], ◌∙◌, get_or, ◌<◌, length, string_bytes, sym, ap, arith}
+use Rattle.std.proofs.Common.{ℕ, List, [], get_or, ◌<◌, length, string_bytes, refl, ap, append_assoc, arith}
 use Rattle.cdb_base.specs.declared.event.Event.{Event}
-use Rattle.cdb_deeds.specs.Deeds.{deed_in, received_by_each}
+use Rattle.cdb_deeds.specs.Deeds.{deed_in}
 use Rattle.cdb_explain.proofs.Along.{next_valid, next_along, its_line}
 use Rattle.cdb_explain.specs.declared.line.Causes.TheVariants.{Shown}
 use Rattle.cdb_rules.proofs.Flagged.{item_at}
 use Rattle.cdb_rules.specs.RunView.{RunView}
 use Rattle.cdb_setup.specs.Parts.{AreInRange}
-use Rattle.cdb_clocks.proofs.Lines.{its_lines, text_more}
+use Rattle.cdb_clocks.proofs.Lines.{its_lines, lines_more}
+use Rattle.cdb_clocks.specs.Texts.{first_lines, step_text}
 use Rattle.cdb_clocks.proofs.text.push_lines.Goals as goal
 
 pub push_next-requires-clause-next : goal.push_next-requires-clause-next
@@ -27,21 +28,24 @@ loop-i-preserved g c =
     let at = item_at c.events-events.ensures i event (omega arith) c.index-events-i.is in
     let range : AreInRange run.setup = rw c.setup.ensures at c.n-ranges.ensures.ranges in
     let standing = (g.met.T.Runs.histories run.setup range).standing run.history c.requires.valid in
+    let before : RunView = g.T.Runs.run c.loop-i.again in
     let later : RunView = g.T.Runs.run c.push_next.new.again in
     let taken = c.in_ok-push_next.ensures.taken in
-    let line =
-    its_line g.T.Runs.rules g.T.Runs.same_state g.met.T.Runs.histories run i event at (g.T.Runs.run c.loop-i.again) so.again Shown standing later taken in
-    let added = c.in_ok-push_next.ensures.lines in
+    let line = its_line g.T.Runs.rules g.T.Runs.same_state g.met.T.Runs.histories run i event at before so.again Shown standing later taken in
     let within : i < length c.args.clocks.now =
     (let test = c.loop-i-test.true in omega (arith, test, ap length c.events-events.ensures, c.requires.a_clock_each)) in
     let clock : List ℕ = get_or c.args.clocks.now i [] in
-    let kept = c.in_ok-add.ensures (g.T.Runs.run c.loop-i.again).history so.names in
     record {
-      names = kept ∙ ap (λ (r : RunView). received_by_each r.history) (sym taken);
+      names = rw (taken, ← c.in_ok-add.ensures before.history so.names) refl;
       again = next_along g.T.Runs.rules g.T.Runs.same_state g.met.T.Runs.histories run i event at _ so.again later taken;
       text =
-          text_more g.T.Runs.rules run c.args.clocks.now i (string_bytes c.args.text.now)
-          (string_bytes c.loop-i.text) (string_bytes c.push_next.new.text) _ so.text added
-          (its_lines g.T.Runs.rules run c.args.clocks.now i event clock later
-          (deed_in (g.T.Runs.run c.loop-i.again) event) at (slice_get-get_or c.args.clocks.now i [] within) line);
+          rw (
+            c.in_ok-push_next.ensures.lines,
+            so.text,
+            lines_more g.T.Runs.rules run c.args.clocks.now i,
+            its_lines g.T.Runs.rules run c.args.clocks.now i event clock later (deed_in before event) at
+                (slice_get-get_or c.args.clocks.now i [] within) line,
+          )
+          (append_assoc (string_bytes c.args.text.now) (first_lines g.T.Runs.rules run c.args.clocks.now i)
+          (step_text g.T.Runs.rules later (deed_in before event) clock event));
     }

@@ -1,5 +1,4 @@
-use Rattle.cdb_base.specs.Memory.{no_memory}
-use Rattle.std.proofs.Common.{rules, suc, ◌+◌, ◌<◌, ◌≡◌, ◌∙◌, length, sym, ap, arith}
+use Rattle.std.proofs.Common.{suc, ◌+◌, ◌≡◌, ◌∙◌, length, sym, ap, arith}
 use Rattle.std.proofs.lemmas.Result.{err_from_is_err_and}
 use Rattle.cdb_rules.specs.RunView.{RunView}
 use Rattle.cdb_draw.specs.EventMarks.{mark_at}
@@ -7,16 +6,9 @@ use Rattle.cdb_rules.proofs.Flagged.{item_at}
 use Rattle.cdb_explain.proofs.Along.{deed_along, next_along, next_valid}
 use Rattle.cdb_deeds.specs.Deeds.{received_by_each}
 use Rattle.cdb_explain.specs.Explanations.{deed_at}
-use Rattle.cdb_streams.specs.declared.buffer.OutputFault.TheVariants.{NoMemory}
-use Rattle.cdb_streams.proofs.PiecesPut.{put_nothing, puts_nothing}
-use Rattle.cdb_draw.proofs.Parted.{cut_one, put_one}
+use Rattle.cdb_streams.proofs.PiecesPut.{put_nothing}
+use Rattle.cdb_draw.proofs.Parted.{cut_one, put_one, stopped}
 use Rattle.cdb_draw.proofs.picture.put_marks.Goals as goal
-
-pub returns-in_err-again : goal.returns-in_err-again
-returns-in_err-again g c = search (rules, puts_nothing)
-
-pub returns-in_err-names : goal.returns-in_err-names
-returns-in_err-names g c = search (rules, puts_nothing)
 
 pub take_next-requires : goal.take_next-requires
 take_next-requires g c =
@@ -48,11 +40,9 @@ put_mark_at-requires-clause-did g c =
 pub returns-in_err-deed : goal.returns-in_err-deed
 returns-in_err-deed g c =
     let p = err_from_is_err_and c.from_residual-in_err-deed.result c.from_residual-in_err-deed.ensures.1 in
-    let below : c.loop-i.i < length c.args.run.now.history = omega (arith, ap length c.events-events.ensures) in
+    let below = rw c.events-events.ensures at c.loop-i-test.true in
     rw (p.1, p.2)
-    (cut_one g.W.Sink.stream (Unit {0}) (NoMemory no_memory)
-    (mark_at g.T.Runs.rules c.args.grid c.args.run.now c.args.weights.now) _ _ 1 _ c.loop-i.i {k = c.loop-i.i + 1}
-    (omega arith) below c.loop-i.invariant.put (puts_nothing g.W.Sink.stream _ _ _))
+    (stopped g.W.Sink.stream (mark_at g.T.Runs.rules c.args.grid c.args.run.now c.args.weights.now) 1 _ c.loop-i.i below c.loop-i.invariant.put)
 
 pub loop-i-init : goal.loop-i-init
 loop-i-init g c = record {
@@ -78,25 +68,21 @@ loop-i-preserved g c = record {
 pub returns-in_err-take_next : goal.returns-in_err-take_next
 returns-in_err-take_next g c =
     let p = err_from_is_err_and c.from_residual-in_err-take_next.result c.from_residual-in_err-take_next.ensures.1 in
-    let below : c.loop-i.i < length c.args.run.now.history = omega (arith, ap length c.events-events.ensures) in
+    let below = rw c.events-events.ensures at c.loop-i-test.true in
     rw (p.1, p.2)
-    (cut_one g.W.Sink.stream (Unit {0}) (NoMemory no_memory)
-    (mark_at g.T.Runs.rules c.args.grid c.args.run.now c.args.weights.now) _ _ 1 _ c.loop-i.i {k = c.loop-i.i + 1}
-    (omega arith) below c.loop-i.invariant.put (puts_nothing g.W.Sink.stream _ _ _))
+    (stopped g.W.Sink.stream (mark_at g.T.Runs.rules c.args.grid c.args.run.now c.args.weights.now) 1 _ c.loop-i.i below c.loop-i.invariant.put)
 
 pub returns-in_err-add : goal.returns-in_err-add
 returns-in_err-add g c =
     let p = err_from_is_err_and c.from_residual-in_err-add.result c.from_residual-in_err-add.ensures.1 in
-    let below : c.loop-i.i < length c.args.run.now.history = omega (arith, ap length c.events-events.ensures) in
+    let below = rw c.events-events.ensures at c.loop-i-test.true in
     rw (p.1, p.2)
-    (cut_one g.W.Sink.stream (Unit {0}) (NoMemory no_memory)
-    (mark_at g.T.Runs.rules c.args.grid c.args.run.now c.args.weights.now) _ _ 1 _ c.loop-i.i {k = c.loop-i.i + 1}
-    (omega arith) below c.loop-i.invariant.put (puts_nothing g.W.Sink.stream _ _ _))
+    (stopped g.W.Sink.stream (mark_at g.T.Runs.rules c.args.grid c.args.run.now c.args.weights.now) 1 _ c.loop-i.i below c.loop-i.invariant.put)
 
 pub returns-in_err-put_mark_at : goal.returns-in_err-put_mark_at
 returns-in_err-put_mark_at g c =
     let p = err_from_is_err_and c.from_residual-in_err-put_mark_at.result c.from_residual-in_err-put_mark_at.ensures.1 in
-    let below : c.loop-i.i < length c.args.run.now.history = omega (arith, ap length c.events-events.ensures) in
+    let below = rw c.events-events.ensures at c.loop-i-test.true in
     rw (p.1, p.2)
     (cut_one g.W.Sink.stream (Unit {0}) _
     (mark_at g.T.Runs.rules c.args.grid c.args.run.now c.args.weights.now) _ _ 1 _ c.loop-i.i

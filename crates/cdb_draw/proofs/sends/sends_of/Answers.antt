@@ -1,14 +1,9 @@
-use Rattle.std.proofs.Common.{take, refl, arith}
-use Rattle.std.proofs.lemmas.List.{length-take-le}
-use Rattle.cdb_rules.proofs.Beginnings.{one_more}
-use Rattle.cdb_rules.proofs.Flagged.{item_at}
+use Rattle.std.proofs.Common.{arith}
+use Rattle.cdb_draw.proofs.SentMessages.{noted_next}
+use Rattle.cdb_draw.specs.Sends.{AreSendsOf}
 use Rattle.cdb_draw.proofs.sends.sends_of.Goals as goal
 
 pub loop-i-preserved : goal.loop-i-preserved
 loop-i-preserved c =
-    let events = c.args.events.now in
-    let i = c.loop-i.i in
-    let event = c.index-events-i.result in
-    let at = item_at refl i event (omega arith) c.index-events-i.is in
-    let count = length-take-le i events (omega arith) in
-    rw (one_more events i event at) at (c.in_ok-note_event.ensures (take i events) (omega (arith, count)) c.loop-i.invariant)
+    noted_next AreSendsOf c.args.events.now c.loop-i.i c.index-events-i.result c.loop-i.sends c.note_event.new.sends
+    (omega arith) c.index-events-i.is c.loop-i.invariant c.in_ok-note_event.ensures
