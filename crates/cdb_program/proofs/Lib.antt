@@ -3,6 +3,5 @@ pub mod OpenedFiles
 pub mod Seen
 pub mod Raced
 pub mod Reported
-pub mod Answered
 pub mod Seated
 pub mod Framed

@@ -1,8 +1,9 @@
 -- Seats are found one after the other, and what is known of their sessions.
 use Rattle.std.proofs.Common.{◌≡◌, ℕ, zero, suc, ◌+◌, ◌<◌, List, [], ◌∷◌, ◌++◌, length, get_or, take}
-use Rattle.std.proofs.Common.{drop, map, Bor, refl, sym, ap, subst, ◌∙◌, arith}
-use Rattle.std.specs.Prelude.{Option, Some, None, option_map, Result, Err}
+use Rattle.std.proofs.Common.{map, Bor, refl, sym, ap, subst, ◌∙◌, arith}
+use Rattle.std.specs.Prelude.{Option, Some, None, option_map, Result}
 use Rattle.std.proofs.lemmas.List.{length-map, get_or-map}
+use Rattle.std.proofs.lemmas.Slice.Zip.{AllZip-long}
 use Rattle.cdb_session.specs.Moves.{Known}
 use Rattle.cdb_journal.specs.OpenedFrom.{IsOpenedFrom}
 use Rattle.cdb_shared_session.specs.Openings.{SeatSeen}
@@ -21,68 +22,39 @@ use Rattle.cdb_streams.specs.declared.buffer.OutputFault.{OutputFault}
 use Rattle.cdb_rules.specs.Rules.{Rules}
 use Rattle.cdb_setup.specs.Parts.{Parts}
 use Rattle.cdb_streams.specs.declared.fault.PlayFault.{PlayFault}
+use Rattle.cdb_streams.specs.declared.fault.PlayFault.TheVariants as play
 use Rattle.cdb_base.specs.Requests.{texts}
 use Rattle.cdb_program.specs.Known.{FilesSeen, after_opening, any_name}
 use Rattle.cdb_program.specs.FilesRead.{FailsToRead}
 use Rattle.cdb_program.specs.declared.fault.Fault.{Fault}
 use Rattle.cdb_program.specs.declared.fault.Fault.TheVariants.{Play}
-use Rattle.cdb_streams.specs.Faults.{of_reading}
 use Rattle.cdb_streams.specs.declared.source.ReadFault.{ReadFault}
-use Rattle.cdb_streams.specs.declared.source.ReadFault.TheVariants as reading
-use Rattle.cdb_program.specs.SeatStreams.{AreOpenersOf, CanOpenSeat, FindsSeat, IsFaultOfSeats, IsOpenerOf, MakesFile}
+use Rattle.cdb_program.specs.SeatStreams.{AreOpenersOf, CanOpenSeat, IsFaultOfSeats, IsOpenerOf}
 use Rattle.cdb_streams.specs.Endings.{whole_ending}
 use Rattle.cdb_streams.specs.Streams.{Stream, Writes}
 use Rattle.cdb_streams.specs.declared.sink.Failed.{Failed}
 use Rattle.cdb_program.proofs.Seen.{stream_written, stream_writes}
-use Rattle.cdb_program.proofs.OpenedFiles.{by_reading, read_none, opened_then, fails_before, fails_later, one_more_name, taken_and_left}
+use Rattle.cdb_program.proofs.OpenedFiles.{AllZip-append, fails_before, fails_later, one_more_name}
 
 -- ---- seats that are found
 
--- it is refused
-pub one_fails : (P : Type 0) (opens : P → Result SeatSeen ReadFault → Type 0) (old new : FilesSeen) (name : Bor (List ℕ)) (fault : ReadFault)
-    → (let found : Result P ReadFault = Err fault in FindsSeat opens old new name.now found)
-    → FailsToRead old new (name.now ∷ []) (Play (of_reading fault) name)
-one_fails P opens old new name reading.Failed is = ([], [], refl, is)
-one_fails P opens old new name (reading.NoMemory refused) is = ([], name.now ∷ [], refl, is ∙ (read_none old).0)
+-- Why there are no sessions: the setup or the journal can't be read, or a seat is refused, or a file.
+module _ (setup : List ℕ) (seats : List (List ℕ)) (from : Option (List ℕ)) (files : List (List ℕ)) (old new : FilesSeen) where
+  as_fault : (fault : Fault) → FailsToRead old new (setup ∷ (any_name from ++ (seats ++ files))) fault
+      → IsFaultOfSeats setup seats from files old new fault
+  as_fault (Play play.Read name) fails = fails
+  as_fault (Play (play.NoMemory refused) name) fails = fails
+  as_fault other fails = absurd fails
 
--- what can't be read or opened is why there are no sessions
-pub as_fault : (setup : List ℕ) (seats : List (List ℕ)) (from : Option (List ℕ)) (files : List (List ℕ)) (old new : FilesSeen) (fault : Fault)
-    → FailsToRead old new (setup ∷ (any_name from ++ (seats ++ files))) fault → IsFaultOfSeats setup seats from files old new fault
-as_fault setup seats from files old new =
-    by_reading old new (setup ∷ (any_name from ++ (seats ++ files))) (IsFaultOfSeats setup seats from files old new)
-    (λ name fails. fails) (λ refused name fails. fails)
+  pub none_begun : (fault : Fault) → FailsToRead old new (setup ∷ any_name from) fault → IsFaultOfSeats setup seats from files old new fault
+  none_begun fault fails = as_fault fault (fails_before old new (setup ∷ any_name from) (seats ++ files) fault fails)
 
-pub no_file : (P : Type 0) (stream : P → Stream) (old new : FilesSeen) (name : Bor (List ℕ)) (fault : ReadFault)
-    → (let made : Result P ReadFault = Err fault in MakesFile stream old new name.now made) → FailsToRead old new (name.now ∷ []) (Play (of_reading fault) name)
-no_file P stream old new name reading.Failed is = ([], [], refl, is)
-no_file P stream old new name (reading.NoMemory refused) is = ([], name.now ∷ [], refl, is ∙ (read_none old).0)
-
--- the seat at this position of a list is refused
-pub seat_fails : (old mid new : FilesSeen) (names : List (Bor (List ℕ))) (i : ℕ) (d : Bor (List ℕ)) (fault : Fault)
-    → i < length names → mid ≡ after_opening old (texts (take i names))
-    → FailsToRead mid new ((get_or names i d).now ∷ []) fault → FailsToRead old new (texts names) fault
-seat_fails old mid new names i d fault below before fails =
-    subst (λ (l : List (List ℕ)). FailsToRead old new l fault) (sym (taken_and_left names (i + 1)))
-    (fails_before old new (texts (take (i + 1) names)) (texts (drop (i + 1) names)) fault
-    (subst (λ (l : List (List ℕ)). FailsToRead old new l fault) (sym (one_more_name names i d below))
-    (fails_later old mid new (texts (take i names)) ((get_or names i d).now ∷ []) fault before fails)))
-
--- one seat more is found
-pub seat_opened : (old mid new : FilesSeen) (names : List (Bor (List ℕ))) (i : ℕ) (d : Bor (List ℕ)) → i < length names
-    → mid ≡ after_opening old (texts (take i names)) → new ≡ after_opening mid ((get_or names i d).now ∷ [])
-    → new ≡ after_opening old (texts (take (i + 1) names))
-seat_opened old mid new names i d below before after =
-    opened_then old mid new (texts (take i names)) ((get_or names i d).now ∷ []) before after ∙ ap (after_opening old) (sym (one_more_name names i d below))
+  pub none_after : (begun : FilesSeen) (fault : Fault) → begun ≡ after_opening old (setup ∷ any_name from)
+      → FailsToRead begun new (seats ++ files) fault → IsFaultOfSeats setup seats from files old new fault
+  none_after begun fault opened fails = as_fault fault (fails_later old begun new (setup ∷ any_name from) (seats ++ files) fault opened fails)
 
 module _ {P : Type 0} (opens : P → Result SeatSeen ReadFault → Type 0) where
-  one_more_seat : (files : FilesSeen) (names : List (List ℕ)) (openers : List P) (name : List ℕ) (opener : P)
-      → AreOpenersOf opens files names openers → IsOpenerOf opens files name opener → AreOpenersOf opens files (names ++ name ∷ []) (openers ++ opener ∷ [])
-  one_more_seat files [] [] name opener before its = (its, tt)
-  one_more_seat files [] (p ∷ openers) name opener before its = absurd before
-  one_more_seat files (n ∷ names) [] name opener before its = absurd before
-  one_more_seat files (n ∷ names) (p ∷ openers) name opener before its = (before.0, one_more_seat files names openers name opener before.1 its)
-
-  -- and its opener is that of its name
+  -- the opener of one more is that of its name
   pub seat_openers : (old mid : FilesSeen) (names : List (Bor (List ℕ))) (i : ℕ) (d : Bor (List ℕ)) (openers : List P) (opener : P)
       → i < length names → mid ≡ after_opening old (texts (take i names))
       → AreOpenersOf opens old (texts (take i names)) openers → IsOpenerOf opens mid (get_or names i d).now opener
@@ -90,18 +62,13 @@ module _ {P : Type 0} (opens : P → Result SeatSeen ReadFault → Type 0) where
   seat_openers old mid names i d openers opener below before seats its =
       let name = (get_or names i d).now in
       subst (λ (l : List (List ℕ)). AreOpenersOf opens old l (openers ++ opener ∷ [])) (sym (one_more_name names i d below))
-      (one_more_seat old (texts (take i names)) openers name opener seats (subst (λ (f : FilesSeen). IsOpenerOf opens f name opener) before its))
+      (AllZip-append (IsOpenerOf opens old) (texts (take i names)) (name ∷ []) openers (opener ∷ []) seats
+      (subst (λ (f : FilesSeen). IsOpenerOf opens f name opener) before its, tt))
 
   -- the openers are those of the names, whatever was opened before
   pub seats_known : (old mid : FilesSeen) (first names : List (List ℕ)) (openers : List P)
       → mid ≡ after_opening old first → AreOpenersOf opens mid names openers → AreOpenersOf opens old names openers
   seats_known old mid first names openers before are = subst (λ (f : FilesSeen). AreOpenersOf opens f names openers) before are
-
-  pub as_many : (files : FilesSeen) (names : List (List ℕ)) (openers : List P) → AreOpenersOf opens files names openers → length names ≡ length openers
-  as_many files [] [] are = refl
-  as_many files [] (opener ∷ openers) are = absurd are
-  as_many files (name ∷ names) [] are = absurd are
-  as_many files (name ∷ names) (opener ∷ openers) are = ap suc (as_many files names openers are.1)
 
   opener_at : (files : FilesSeen) (names : List (List ℕ)) (openers : List P) (k : ℕ) (n : List ℕ) (p : P)
       → AreOpenersOf opens files names openers → k < length openers → IsOpenerOf opens files (get_or names k n) (get_or openers k p)
@@ -141,7 +108,7 @@ module _ {P T J O E : Type 0} (rules : Parts → Rules) (Answers : RunView → I
       (error_stream error_after) ended
   holds_seen files names json from openers file output output_after error error_after ended are h =
       let same = same_outcomes known h.finished in
-      let many = as_many opens files names openers are in
+      let many = sym (AllZip-long (IsOpenerOf opens files) names openers are) in
       record {
         setup = h.setup;
         encodes = h.encodes;

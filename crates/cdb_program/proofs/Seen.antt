@@ -1,6 +1,6 @@
 -- What is known of readers and writers, as streams.
-use Rattle.std.proofs.Common.{◌≡◌, ℕ, Bool, List, Result, Ok, Err, ap, subst, inl, inr}
-use Rattle.std.specs.Prelude.{IfErr, IfOk}
+use Rattle.std.proofs.Common.{◌≡◌, ℕ, List, Result, Ok, Err, ap, subst, inl, inr}
+use Rattle.std.specs.Prelude.{IfErr}
 use Rattle.cdb_rules.specs.Rules.{Rules}
 use Rattle.cdb_setup.specs.Parts.{Parts}
 use Rattle.cdb_session.specs.Moves.{Known}
@@ -10,30 +10,13 @@ use Rattle.cdb_session.specs.declared.inquiry.Inquiry.{Inquiry}
 use Rattle.cdb_shared_session.specs.KeptAlone.{DebugsKept}
 use Rattle.cdb_shared_session.specs.declared.keeping.Kept.{Kept}
 use Rattle.cdb_shared_session.proofs.KeptEntries.{seen_kept, seen_is}
-use Rattle.cdb_streams.specs.Endings.{Ending, Complete, WriterFailed, CutShort, NotBegun, play_ending}
-use Rattle.cdb_streams.specs.Faults.{IsFaultOfPlay}
+use Rattle.cdb_streams.specs.Endings.{Ending, Complete, WriterFailed, CutShort, NotBegun}
 use Rattle.cdb_streams.specs.Streams.{FailsWhere, Stream, Writes, itself}
-use Rattle.cdb_play.specs.Transcripts.{Plays, RestsOnHeadline}
 use Rattle.cdb_streams.specs.Written.{IsWritten}
 use Rattle.cdb_streams.specs.declared.fault.PlayFault.{PlayFault}
 use Rattle.cdb_streams.specs.declared.fault.PlayFault.TheVariants as play
-use Rattle.cdb_agreement.specs.Algorithms.{rules}
-use Rattle.cdb_agreement.specs.SameState.{ReachSameState}
 use Rattle.cdb_setup.specs.declared.fault.SetupFault.{SetupFault}
-use Rattle.cdb_journal.specs.Replays.{IsFaultOfReplay, Replays, RepliesAgain}
-use Rattle.cdb_same.specs.Same.{same_ending, ComparesText, IsFaultOfSame, DecidesSame}
-use Rattle.cdb_clocks.specs.WrittenClocks.{clocks_ending, IsFaultOfClocks, WritesClocks}
-use Rattle.cdb_program.specs.Clocks.{AreWritten}
-use Rattle.cdb_program.specs.Comparisons.{IsCompared}
-use Rattle.cdb_program.specs.Plays.{IsPlay}
-use Rattle.cdb_program.specs.Replays.{IsReplay}
-use Rattle.cdb_program.specs.Searches.{IsSearch, IsShrink}
-use Rattle.cdb_goal.specs.declared.goal.Goal.{Goal}
-use Rattle.cdb_explain.specs.Explained.{answer_ending}
-use Rattle.cdb_search.specs.Found.{IsFaultOfSearch, IsFound}
-use Rattle.cdb_search.specs.Shrunk.{IsFaultOfShrink, WritesShrunk}
-use Rattle.cdb_explain.specs.declared.fault.AnswerFault.{AnswerFault}
-use Rattle.cdb_explain.specs.declared.fault.AnswerFault.TheVariants.{Play}
+use Rattle.cdb_program.specs.TextsOfRuns.{IsTextOfRun}
 
 -- what was written of a text, by the writer's stream
 pub stream_written : {W : Type 0} (stream : W → Stream) (ending : Ending) (old new : W) (IsText : List ℕ → Type 0)
@@ -50,74 +33,20 @@ pub stream_writes : {W : Type 0} (stream : W → Stream) (A E : Type 0) (result 
 stream_writes stream A E (Ok done) old new text wrote = wrote
 stream_writes stream A E (Err failed) old new text wrote = wrote
 
--- what a play says of its reader and its writer
-pub play_seen : {R W : Type 0} (reader : R → Stream) (writer : W → Stream)
-    (json : List ℕ) (played : Result (Unit {0}) PlayFault) (script rest : R) (old new : W)
-    → IsWritten writer (play_ending played) old new (Plays rules json (reader script) (reader rest)) → IsWritten writer (play_ending played) old
-    new (RestsOnHeadline rules ReachSameState json (reader script) (reader rest)) → IfErr played (IsFaultOfPlay json (reader script) (reader rest))
-    → ((fault : SetupFault) → played ≡ Err (play.Setup fault) → rest ≡ script) → FailsWhere reader (played ≡ Err play.Read) script rest
-    → IsPlay json played (reader script) (reader rest) (writer old) (writer new)
-play_seen reader writer json played script rest old new wrote headline fault same read = record {
-  wrote = stream_written writer (play_ending played) old new (Plays rules json (reader script) (reader rest)) wrote;
-  headline = stream_written writer (play_ending played) old new (RestsOnHeadline rules ReachSameState json (reader script) (reader rest)) headline;
+-- what the writing of a text about a run says of its reader and its writer
+pub text_seen : {R W F : Type 0} (reader : R → Stream) (writer : W → Stream) (of_play : PlayFault → F) (ended : Result (Unit {0}) F)
+    (ending : Ending) (IsText : List ℕ → Type 0) (IsFault : F → Type 0) (script rest : R) (old new : W)
+    → IsWritten writer ending old new IsText → IfErr ended IsFault
+    → ((fault : SetupFault) → ended ≡ Err (of_play (play.Setup fault)) → rest ≡ script) → FailsWhere reader (ended ≡ Err (of_play play.Read)) script rest
+    → IsTextOfRun of_play ended ending IsText IsFault (reader script) (reader rest) (writer old) (writer new)
+text_seen reader writer of_play ended ending IsText IsFault script rest old new wrote fault same read = record {
+  wrote = stream_written writer ending old new IsText wrote;
   fault = fault;
   unread = λ why is. ap reader (same why is);
   read = read;
 }
 
--- what a replay says of its reader and its writer
-pub replay_seen : {R W : Type 0} (reader : R → Stream) (writer : W → Stream)
-    (json : List ℕ) (replayed : Result (Unit {0}) PlayFault) (journal rest : R) (old new : W)
-    → IsWritten writer (play_ending replayed) old new (Replays rules json (reader journal) (reader rest)) → IsWritten writer (play_ending replayed)
-    old new (RepliesAgain rules json (reader journal) (reader rest)) → IfErr replayed (IsFaultOfReplay json (reader journal) (reader rest))
-    → ((fault : SetupFault) → replayed ≡ Err (play.Setup fault) → rest ≡ journal) → FailsWhere reader (replayed ≡ Err play.Read) journal rest
-    → IsReplay json replayed (reader journal) (reader rest) (writer old) (writer new)
-replay_seen reader writer json replayed journal rest old new wrote again fault same read = record {
-  wrote = stream_written writer (play_ending replayed) old new (Replays rules json (reader journal) (reader rest)) wrote;
-  again = stream_written writer (play_ending replayed) old new (RepliesAgain rules json (reader journal) (reader rest)) again;
-  fault = fault;
-  unread = λ why is. ap reader (same why is);
-  read = read;
-}
-
--- what a search says of its writer
-pub search_seen : {W : Type 0} (writer : W → Stream) (json : List ℕ) (goal : Goal) (walks : ℕ) (searched : Result (Unit {0}) AnswerFault) (old new : W)
-    → IsWritten writer (answer_ending searched) old new (IsFound rules json goal)
-    → IfErr searched (IsFaultOfSearch json walks) → IsSearch json goal walks searched (writer old) (writer new)
-search_seen writer json goal walks searched old new wrote fault =
-    record { wrote = stream_written writer (answer_ending searched) old new (IsFound rules json goal) wrote; fault = fault }
-
--- what a comparison of runs says of its writer
-pub compared_seen : {W : Type 0} (writer : W → Stream) (json first second : List ℕ) (said : Result Bool PlayFault) (old new : W)
-    → IsWritten writer (same_ending said) old new (ComparesText rules json first second)
-    → IfOk said (DecidesSame rules json first second) → IfErr said (IsFaultOfSame json first second)
-    → IsCompared json first second said (writer old) (writer new)
-compared_seen writer json first second said old new wrote same fault =
-    record { wrote = stream_written writer (same_ending said) old new (ComparesText rules json first second) wrote; same = same; fault = fault }
-
--- and what the writing of clocks says of it
-pub clocks_seen : {W : Type 0} (writer : W → Stream) (json script : List ℕ) (written : Result (Unit {0}) PlayFault) (old new : W)
-    → IsWritten writer (clocks_ending written) old new (WritesClocks rules json script)
-    → IfErr written (IsFaultOfClocks json script) → AreWritten json script written (writer old) (writer new)
-clocks_seen writer json script written old new wrote fault =
-    record { wrote = stream_written writer (clocks_ending written) old new (WritesClocks rules json script) wrote; fault = fault }
-
--- what the making of a small script says of its reader and its writer
-pub shrink_seen : {R W : Type 0} (reader : R → Stream) (writer : W → Stream) (json : List ℕ)
-    (goal : Goal) (shrunk : Result (Unit {0}) AnswerFault) (script rest : R) (old new : W)
-    → IsWritten writer (answer_ending shrunk) old new (WritesShrunk rules json goal (reader script) (reader rest))
-    → IfErr shrunk (IsFaultOfShrink rules json goal (reader script) (reader rest))
-    → ((fault : SetupFault) → shrunk ≡ Err (Play (play.Setup fault)) → rest ≡ script)
-    → FailsWhere reader (shrunk ≡ Err (Play play.Read)) script rest
-    → IsShrink json goal shrunk (reader script) (reader rest) (writer old) (writer new)
-shrink_seen reader writer json goal shrunk script rest old new wrote fault same read = record {
-  wrote = stream_written writer (answer_ending shrunk) old new (WritesShrunk rules json goal (reader script) (reader rest)) wrote;
-  fault = fault;
-  unread = λ why is. ap reader (same why is);
-  read = read;
-}
-
--- the same of a session whose journal was kept
+-- what is known of a session whose journal was kept
 debugged_seen : {J : Type 0} (stream : J → Stream) (rules_of : Parts → Rules) (Answers : RunView → Inquiry → Answer → Type 0)
     (prompt json from : List ℕ) (old new : Known) (file : J) (ended : Result (Unit {0}) PlayFault × Kept J)
     → DebugsKept stream rules_of Answers prompt json from old new file ended

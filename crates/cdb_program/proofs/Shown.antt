@@ -1,38 +1,23 @@
 -- Sessions of whose run a page is shown.
-use Rattle.std.proofs.Common.{◌≡◌, ◌∙◌, inl, inr, ℕ, List, [], ◌∷◌, ◌++◌, Bor, refl, append_assoc}
+use Rattle.std.proofs.Common.{◌≡◌, ◌∙◌, inl, inr, ℕ, List, [], ◌++◌, refl, append_assoc}
 use Rattle.std.specs.Prelude.{Option, Some, None, IfSome, Result, Ok, Err}
 use Rattle.std.specs.Io.KnownBytes.{Appends}
 use Rattle.cdb_agreement.specs.Algorithms.{rules}
 use Rattle.cdb_control.specs.declared.control.Entry.{Entry}
 use Rattle.cdb_explain.specs.declared.fault.AnswerFault.{AnswerFault}
-use Rattle.cdb_page.specs.Live.{IsMadeWith, KeepsUp, Live, Versions, made_with, stream_of}
+use Rattle.cdb_page.specs.Live.{IsMadeWith, KeepsUp, Live, made_with, stream_of}
 use Rattle.cdb_page.proofs.OnAndOn.{made_with_same}
 use Rattle.cdb_session.specs.Moves.{Known}
 use Rattle.cdb_shared_session.specs.KeptAlone.{DebugsKept}
 use Rattle.cdb_shared_session.specs.KeptOutcomes.{HasKept, IsKept}
 use Rattle.cdb_shared_session.specs.declared.keeping.Kept.{Kept}
-use Rattle.cdb_streams.specs.Faults.{of_reading}
 use Rattle.cdb_streams.specs.Streams.{Stream}
 use Rattle.cdb_streams.specs.declared.buffer.OutputFault.{OutputFault}
 use Rattle.cdb_streams.specs.declared.buffer.OutputFault.TheVariants as output
 use Rattle.cdb_streams.specs.declared.fault.PlayFault.{PlayFault}
-use Rattle.cdb_streams.specs.declared.source.ReadFault.{ReadFault}
-use Rattle.cdb_streams.specs.declared.source.ReadFault.TheVariants as reading
 use Rattle.cdb_program.specs.Answers.{IsAnswer}
-use Rattle.cdb_program.specs.Known.{FilesSeen}
-use Rattle.cdb_program.specs.LivePages.{IsKeptPage, IsNewPage, MakesPage}
-use Rattle.cdb_program.specs.FilesRead.{FailsToRead}
+use Rattle.cdb_program.specs.LivePages.{IsKeptPage, IsNewPage}
 use Rattle.cdb_program.specs.SeatStreams.{IsNewFile}
-use Rattle.cdb_program.specs.declared.fault.Fault.TheVariants.{Play}
-use Rattle.cdb_program.proofs.OpenedFiles.{read_none}
-
-pub no_page : (P : Type 0) (versions : P → Versions) (old new : FilesSeen) (name : Bor (List ℕ)) (fault : ReadFault)
-    → (let made : Result P ReadFault = Err fault in MakesPage versions old new name.now made)
-    → FailsToRead old new (name.now ∷ []) (Play (of_reading fault) name)
-no_page P versions old new name reading.Failed is = ([], [], refl, is)
-no_page P versions old new name (reading.NoMemory refused) is = ([], name.now ∷ [], refl, is ∙ (read_none old).0)
-
--- ---- the page that is made, and that is kept
 
 pub new_page : (name : Option (List ℕ)) (file : Option Stream) (json from : List ℕ) (it : Live) → IsNewFile name file
     → IsMadeWith file json from it → it.taken ≡ [] → IsNewPage name json from it

@@ -20,11 +20,15 @@ abbrev pub AreFirstBytes : FilesSeen → ℕ → List ℕ → List ℕ → Type 
 AreFirstBytes files most name bytes =
     (length bytes ≤ most) × ((content : List ℕ) → content_of files name ≡ Some content → bytes ≡ take most content)
 
--- One file is read, by how that ended. Where an allocation failed it counts as not opened.
+-- What this names, a file, a folder or a seat, could not be opened. Where an allocation failed it counts as not opened.
+abbrev pub FailsToOpen : FilesSeen → FilesSeen → List ℕ → ReadFault → Type 0
+FailsToOpen old new name reading.Failed = new ≡ after_failing old (name ∷ [])
+FailsToOpen old new name (reading.NoMemory refused) = new ≡ old
+
+-- one file is read, by how that ended
 abbrev pub ReadsFile : FilesSeen → FilesSeen → List ℕ → ℕ → Result (Vec ℕ Global) ReadFault → Type 0
 ReadsFile old new name most (Ok bytes) = (new ≡ after_opening old (name ∷ [])) × AreFirstBytes old most name bytes.items
-ReadsFile old new name most (Err reading.Failed) = new ≡ after_failing old (name ∷ [])
-ReadsFile old new name most (Err (reading.NoMemory refused)) = new ≡ old
+ReadsFile old new name most (Err fault) = FailsToOpen old new name fault
 
 -- these files were read, one after the other and no others, and gave these bytes
 abbrev pub HasRead : FilesSeen → FilesSeen → List (List ℕ) → List (List ℕ) → Type 0

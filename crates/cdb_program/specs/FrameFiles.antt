@@ -9,17 +9,15 @@ use Rattle.cdb_explain.specs.declared.fault.AnswerFault.{AnswerFault}
 use Rattle.cdb_streams.specs.declared.buffer.OutputFault.{OutputFault}
 use Rattle.cdb_streams.specs.declared.fault.PlayFault.TheVariants.{Read, Write, NoMemory}
 use Rattle.cdb_streams.specs.declared.source.ReadFault.{ReadFault}
-use Rattle.cdb_streams.specs.declared.source.ReadFault.TheVariants as reading
 use Rattle.cdb_program.specs.Known.{FilesSeen, Seen, after_failing, after_opening, after_writing, in_memory}
 use Rattle.cdb_program.specs.Outcomes.{RequestEnd, IsOfAnswer}
-use Rattle.cdb_program.specs.FilesRead.{CannotReadFiles, HasRead}
+use Rattle.cdb_program.specs.FilesRead.{CannotReadFiles, FailsToOpen, HasRead}
 use Rattle.cdb_program.specs.declared.fault.Fault.TheVariants.{Play}
 
--- One folder is taken, by how that ended. Where an allocation failed it counts as not opened.
+-- one folder is taken, by how that ended
 abbrev pub TakesFolder : FilesSeen → FilesSeen → List ℕ → Result (Unit {0}) ReadFault → Type 0
 TakesFolder old new name (Ok done) = new ≡ after_opening old (name ∷ [])
-TakesFolder old new name (Err reading.Failed) = new ≡ after_failing old (name ∷ [])
-TakesFolder old new name (Err (reading.NoMemory refused)) = new ≡ old
+TakesFolder old new name (Err fault) = FailsToOpen old new name fault
 
 -- one file is written whole, or not at all
 abbrev pub WritesWhole : FilesSeen → FilesSeen → List ℕ → List ℕ → Result (Unit {0}) OutputFault → Type 0

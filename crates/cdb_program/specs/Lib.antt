@@ -3,6 +3,7 @@ pub mod Known
 -- what a request does there
 pub mod Outcomes
 pub mod FilesRead
+pub mod TextsOfRuns
 pub mod Reports
 pub mod Plays
 pub mod Races

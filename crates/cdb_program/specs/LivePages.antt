@@ -4,6 +4,7 @@ use Rattle.std.specs.Prelude.{Option, Some, Result, Ok, Err, IfSome}
 use Rattle.cdb_agreement.specs.Algorithms.{rules}
 use Rattle.cdb_explain.specs.declared.fault.AnswerFault.{AnswerFault}
 use Rattle.cdb_page.specs.Live.{IsMadeWith, KeepsUp, Live, Versions, stream_of}
+use Rattle.cdb_session.specs.Moves.{Known}
 use Rattle.cdb_shared_session.specs.KeptAlone.{DebugsKept}
 use Rattle.cdb_shared_session.specs.Reported.{RunsSessions}
 use Rattle.cdb_shared_session.specs.declared.keeping.Kept.{Kept}
@@ -11,13 +12,12 @@ use Rattle.cdb_streams.specs.Streams.{Stream, itself}
 use Rattle.cdb_streams.specs.declared.buffer.OutputFault.{OutputFault}
 use Rattle.cdb_streams.specs.declared.fault.PlayFault.{PlayFault}
 use Rattle.cdb_streams.specs.declared.source.ReadFault.{ReadFault}
-use Rattle.cdb_streams.specs.declared.source.ReadFault.TheVariants as reading
 use Rattle.cdb_program.specs.Answers.{IsAnswer}
 use Rattle.cdb_program.specs.Beginnings.{AreOfBeginning}
 use Rattle.cdb_program.specs.DebugSessions.{console_of}
-use Rattle.cdb_program.specs.Known.{FilesSeen, HasNoSession, Seen, after_opening, after_failing, any_name}
+use Rattle.cdb_program.specs.Known.{FilesSeen, HasNoSession, Seen, after_opening, any_name}
 use Rattle.cdb_program.specs.Outcomes.{RequestEnd, IsOfKept}
-use Rattle.cdb_program.specs.FilesRead.{CannotReadFiles}
+use Rattle.cdb_program.specs.FilesRead.{CannotReadFiles, FailsToOpen}
 use Rattle.cdb_program.specs.Reports.{IsReported}
 use Rattle.cdb_program.specs.SeatStreams.{CanOpenSeat, HasSeated, IsNewFile, RefusesSeats}
 use Rattle.cdb_program.specs.declared.fault.Fault.TheVariants.{Page}
@@ -28,11 +28,10 @@ use Rattle.cdb_program.specs.declared.fault.Fault.TheVariants.{Page}
 abbrev pub HasHadNone : Versions → Type 0
 HasHadNone versions = IfSome versions.texts (λ texts. texts ≡ [])
 
--- One file of a page is made, by how that ended. Where an allocation failed it counts as not opened.
+-- one file of a page is made, by how that ended
 abbrev pub MakesPage : {P : Type 0} → (P → Versions) → FilesSeen → FilesSeen → List ℕ → Result P ReadFault → Type 0
 MakesPage versions old new name (Ok file) = (new ≡ after_opening old (name ∷ [])) × HasHadNone (versions file)
-MakesPage versions old new name (Err reading.Failed) = new ≡ after_failing old (name ∷ [])
-MakesPage versions old new name (Err (reading.NoMemory refused)) = new ≡ old
+MakesPage versions old new name (Err fault) = FailsToOpen old new name fault
 
 -- the files that are made for one: that of the journal, if one was named, and then that of the page
 abbrev pub files_for : Option (List ℕ) → List ℕ → List (List ℕ)
@@ -74,11 +73,11 @@ IsOfPaged debugged kept shown outcome =
 -- where one was named. All the time the page was a whole one, of the run that the first lines of the journal leave; at
 -- the end it is that of the whole journal, or why it is not is told.
 pub record DebugsBytesPaged (journal : Option (List ℕ))
-    (json from prompt : List ℕ) (old new : Seen) (outcome : RequestEnd) : Type 0 where
+    (json from prompt : List ℕ) (old new : Known) (outcome : RequestEnd) : Type 0 where
   pub first : Live
   pub begun : IsNewPage journal json from first
   pub ended : Result (Unit {0}) PlayFault × Kept Live
-  pub session : DebugsKept stream_of rules IsAnswer prompt json from (console_of old) (console_of new) first ended
+  pub session : DebugsKept stream_of rules IsAnswer prompt json from old new first ended
   pub page : IsKeptPage first ended.1.file
   pub ends : IsOfPaged ended.0 (ended.1).outcome (ended.1.file).outcome outcome
 
@@ -89,7 +88,8 @@ abbrev pub DebugsFilePaged : List ℕ → Option (List ℕ) → Option (List ℕ
 DebugsFilePaged setup from journal page prompt old new outcome =
     (CannotReadFiles (setup ∷ (any_name from ++ files_for journal page)) old new outcome × HasNoSession old new)
     ⊎ ((json begun : List ℕ) × (new.files ≡ after_opening old.files (setup ∷ (any_name from ++ files_for journal page)))
-    × AreOfBeginning old.files setup from json begun × DebugsBytesPaged journal json begun prompt old new outcome)
+    × AreOfBeginning old.files setup from json begun
+    × DebugsBytesPaged journal json begun prompt (console_of old) (console_of new) outcome)
 
 -- ---- sessions of several seats
 

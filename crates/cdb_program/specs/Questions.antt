@@ -1,44 +1,19 @@
 -- What a request does that answers a question of the run that a script leaves.
-use Rattle.std.specs.Prelude.{◌≡◌, ℕ, List, [], ◌∷◌, Option, Some, Result, Err, IfErr}
+use Rattle.std.specs.Prelude.{ℕ, List, [], ◌∷◌}
 use Rattle.cdb_base.specs.declared.question.Question.{Question}
 use Rattle.cdb_base.specs.declared.question.Question.TheVariants.{Explain, Trail, Draw, Slice}
 use Rattle.cdb_draw.specs.Drawn.{draw_ending, Draws, IsFaultOfDraw}
 use Rattle.cdb_explain.specs.Explained.{answer_ending, Explains, IsFaultOfExplain}
 use Rattle.cdb_explain.specs.declared.fault.AnswerFault.{AnswerFault}
-use Rattle.cdb_explain.specs.declared.fault.AnswerFault.TheVariants.{Play}
 use Rattle.cdb_slice.specs.Slices.{WritesSlice, IsFaultOfSlice}
 use Rattle.cdb_streams.specs.Endings.{Ending}
-use Rattle.cdb_streams.specs.Streams.{FailsWhere, Stream, itself}
-use Rattle.cdb_streams.specs.Written.{IsWritten}
-use Rattle.cdb_streams.specs.declared.fault.PlayFault.TheVariants as play
+use Rattle.cdb_streams.specs.Streams.{Stream}
 use Rattle.cdb_agreement.specs.Algorithms.{rules}
-use Rattle.cdb_setup.specs.declared.fault.SetupFault.{SetupFault}
 use Rattle.cdb_trail.specs.Written.{WritesTrail, IsFaultOfTrail}
-use Rattle.cdb_program.specs.Known.{Seen, in_memory}
+use Rattle.cdb_program.specs.Known.{Seen}
 use Rattle.cdb_program.specs.Outcomes.{RequestEnd, IsOfAnswer}
 use Rattle.cdb_program.specs.FilesRead.{ReadsThen}
-
--- how the writing of such a text ended
-abbrev pub TextEnd : Type 0
-TextEnd = Result (Unit {0}) AnswerFault
-
--- The writing of a text of this kind ended so, and its fault, where it has one, is of this kind. The script's reader
--- and the output are seen before and after.
-pub record IsTextOfRun (ended : TextEnd) (ending : Ending) (IsText : List ℕ → Type 0)
-    (IsFault : AnswerFault → Type 0) (script left old new : Stream) : Type 0 where
-  pub wrote : IsWritten itself ending old new IsText
-  pub fault : IfErr ended IsFault
-  pub unread : (fault : SetupFault) → ended ≡ Err (Play (play.Setup fault)) → left ≡ script
-  pub read : FailsWhere itself (ended ≡ Err (Play play.Read)) script left
-
--- the bytes of a setup and of a script, of this name, and this is done with them
-abbrev pub DoesWithBytes : List ℕ → (List ℕ → TextEnd → Stream → Stream → Type 0) → RequestEnd → List (List ℕ) → Type 0
-DoesWithBytes name IsDone outcome (json ∷ script ∷ []) =
-    (ended : TextEnd) × (left : Option (List ℕ)) × IsOfAnswer name ended outcome
-    × IsDone json ended (in_memory (Some script)) (in_memory left)
-DoesWithBytes name IsDone outcome others = ⊥
-
--- ---- the answers
+use Rattle.cdb_program.specs.TextsOfRuns.{DoesWithBytes, IsTextOfRun, TextEnd, as_answer_fault}
 
 -- the text that answers a question of the run that a script leaves
 abbrev pub Answers : List ℕ → Question → Stream → Stream → List ℕ → Type 0
@@ -62,11 +37,11 @@ question_ending question ended = answer_ending ended
 -- the answer was written, with the text of a setup, and a script's reader and the output before and after
 abbrev pub IsAnswered : Question → Stream → Stream → List ℕ → TextEnd → Stream → Stream → Type 0
 IsAnswered question old new json ended script left =
-    IsTextOfRun ended (question_ending question ended) (Answers json question script left)
+    IsTextOfRun as_answer_fault ended (question_ending question ended) (Answers json question script left)
     (IsFaultOfQuestion json question script left) script left old new
 
 -- the file of the setup and then that of the script are read, and the question is answered
 abbrev pub AsksFiles : List ℕ → List ℕ → Question → Seen → Seen → RequestEnd → Type 0
 AsksFiles setup script question old new outcome =
     ReadsThen (setup ∷ script ∷ []) old new outcome
-    (DoesWithBytes script (IsAnswered question old.output new.output) outcome)
+    (DoesWithBytes (IsOfAnswer script) (IsAnswered question old.output new.output) outcome)

@@ -1,18 +1,16 @@
 -- What replays do.
-use Rattle.std.specs.Prelude.{◌≡◌, ◌⊎◌, ℕ, ◌+◌, ◌*◌, List, [], ◌∷◌, Option, Some, Result, Ok, Err, IfErr, Vec}
+use Rattle.std.specs.Prelude.{◌≡◌, ◌⊎◌, ℕ, ◌+◌, ◌*◌, List, [], ◌∷◌, Result, Ok, Err, Vec}
 use Rattle.std.specs.Global.{Global}
 use Rattle.cdb_base.specs.Limits.{MAX_ENTRIES}
 use Rattle.cdb_streams.specs.Endings.{play_ending}
-use Rattle.cdb_streams.specs.Streams.{FailsWhere, Stream, itself}
+use Rattle.cdb_streams.specs.Streams.{Stream, itself}
 use Rattle.cdb_streams.specs.Written.{IsWritten}
-use Rattle.cdb_streams.specs.declared.fault.PlayFault.{PlayFault}
-use Rattle.cdb_streams.specs.declared.fault.PlayFault.TheVariants as play
 use Rattle.cdb_agreement.specs.Algorithms.{rules}
 use Rattle.cdb_journal.specs.Journals.{longest_line}
 use Rattle.cdb_journal.specs.Replays.{IsFaultOfReplay, Replays, RepliesAgain}
-use Rattle.cdb_setup.specs.declared.fault.SetupFault.{SetupFault}
-use Rattle.cdb_program.specs.Known.{FilesSeen, Seen, after_opening, in_memory}
+use Rattle.cdb_program.specs.Known.{FilesSeen, Seen, after_opening}
 use Rattle.cdb_program.specs.Outcomes.{RequestEnd, IsOfPlay}
+use Rattle.cdb_program.specs.TextsOfRuns.{DoesWithBytes, IsTextOfRun, PlayEnd}
 use Rattle.cdb_program.specs.FilesRead.{AreFirstBytes, CannotReadFiles, FailsToRead, most_read}
 use Rattle.cdb_program.specs.declared.fault.Fault.{Fault}
 
@@ -41,21 +39,12 @@ ReadsBoth old new setup journal (Err fault) = FailsToRead old new (setup ∷ jou
 
 -- ---- the replay
 
--- A replay of a journal on the setup of this text ended so. The journal's reader and the output are seen before and
--- after.
-pub record IsReplay (json : List ℕ) (replayed : Result (Unit {0}) PlayFault)
-    (journal left old new : Stream) : Type 0 where
-  pub wrote : IsWritten itself (play_ending replayed) old new (Replays rules json journal left)
+-- A replay of a journal on the setup of this text ended so, and its replies are those of the commands. The journal's
+-- reader and the output are seen before and after.
+pub record IsReplay (old new : Stream) (json : List ℕ) (replayed : PlayEnd) (journal left : Stream) : Type 0 where
+  pub text : IsTextOfRun (λ fault. fault) replayed (play_ending replayed) (Replays rules json journal left)
+      (IsFaultOfReplay json journal left) journal left old new
   pub again : IsWritten itself (play_ending replayed) old new (RepliesAgain rules json journal left)
-  pub fault : IfErr replayed (IsFaultOfReplay json journal left)
-  pub unread : (fault : SetupFault) → replayed ≡ Err (play.Setup fault) → left ≡ journal
-  pub read : FailsWhere itself (replayed ≡ Err play.Read) journal left
-
--- the journal, of this name and these bytes, is played again on the setup
-abbrev pub ReplaysBytes : List ℕ → List ℕ → List ℕ → Stream → Stream → RequestEnd → Type 0
-ReplaysBytes name json bytes old new outcome =
-    (replayed : Result (Unit {0}) PlayFault) × (left : Option (List ℕ)) × IsOfPlay name replayed outcome
-    × IsReplay json replayed (in_memory (Some bytes)) (in_memory left) old new
 
 -- The file of the setup and then that of the journal are read, and the journal is played again on the setup. Where one
 -- can't be read it is not. Standard input is left as it is.
@@ -64,4 +53,4 @@ ReplaysFiles setup journal old new outcome =
     (new.input ≡ old.input)
     × (CannotReadFiles (setup ∷ journal ∷ []) old new outcome
     ⊎ ((json bytes : List ℕ) × HasReadBoth old.files new.files setup journal json bytes
-    × ReplaysBytes journal json bytes old.output new.output outcome))
+    × DoesWithBytes (IsOfPlay journal) (IsReplay old.output new.output) outcome (json ∷ bytes ∷ [])))

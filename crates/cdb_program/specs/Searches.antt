@@ -1,20 +1,17 @@
 -- What searches do, and what makes scripts small.
-use Rattle.std.specs.Prelude.{◌≡◌, ◌⊎◌, ℕ, List, [], ◌∷◌, Option, Some, Result, Err, IfErr}
+use Rattle.std.specs.Prelude.{◌≡◌, ◌⊎◌, ℕ, List, [], ◌∷◌, Err, IfErr}
 use Rattle.cdb_agreement.specs.Algorithms.{rules}
 use Rattle.cdb_goal.specs.Words.{IsWordOf}
 use Rattle.cdb_goal.specs.declared.goal.Goal.{Goal}
 use Rattle.cdb_explain.specs.Explained.{answer_ending}
 use Rattle.cdb_search.specs.Found.{IsFaultOfSearch, IsFound}
 use Rattle.cdb_search.specs.Shrunk.{IsFaultOfShrink, WritesShrunk}
-use Rattle.cdb_explain.specs.declared.fault.AnswerFault.{AnswerFault}
-use Rattle.cdb_explain.specs.declared.fault.AnswerFault.TheVariants.{Play}
-use Rattle.cdb_setup.specs.declared.fault.SetupFault.{SetupFault}
-use Rattle.cdb_streams.specs.Streams.{FailsWhere, Stream, itself}
+use Rattle.cdb_streams.specs.Streams.{Stream, itself}
 use Rattle.cdb_streams.specs.Written.{IsWritten}
-use Rattle.cdb_streams.specs.declared.fault.PlayFault.TheVariants as play
-use Rattle.cdb_program.specs.Known.{Seen, in_memory}
+use Rattle.cdb_program.specs.Known.{Seen}
 use Rattle.cdb_program.specs.Outcomes.{RequestEnd, IsOfAnswer}
 use Rattle.cdb_program.specs.FilesRead.{ReadsThen}
+use Rattle.cdb_program.specs.TextsOfRuns.{DoesWithBytes, IsTextOfRun, TextEnd, as_answer_fault}
 use Rattle.cdb_program.specs.declared.fault.Fault.TheVariants.{NoGoal}
 
 -- no file is opened, standard input is left as it is, and nothing is written: the word names no goal
@@ -25,14 +22,14 @@ RefusesWord word old new outcome =
 
 -- A search on the setup of this text, for the goal, of so many walks, ended so. The output is seen before and after.
 pub record IsSearch (json : List ℕ) (goal : Goal) (walks : ℕ)
-    (searched : Result (Unit {0}) AnswerFault) (old new : Stream) : Type 0 where
+    (searched : TextEnd) (old new : Stream) : Type 0 where
   pub wrote : IsWritten itself (answer_ending searched) old new (IsFound rules json goal)
   pub fault : IfErr searched (IsFaultOfSearch json walks)
 
 -- with the bytes of the setup's file, which has this name
 abbrev pub SearchesBytes : List ℕ → Goal → ℕ → Stream → Stream → RequestEnd → List (List ℕ) → Type 0
 SearchesBytes name goal walks old new outcome (json ∷ []) =
-    (searched : Result (Unit {0}) AnswerFault) × IsOfAnswer name searched outcome
+    (searched : TextEnd) × IsOfAnswer name searched outcome
     × IsSearch json goal walks searched old new
 SearchesBytes name goal walks old new outcome others = ⊥
 
@@ -49,26 +46,18 @@ SearchesFile setup word walks old new outcome =
 
 -- ---- scripts made small
 
--- A script is made small on the setup of this text, as long as the goal holds, and it ended so. The script's reader and
--- the output are seen before and after.
-pub record IsShrink (json : List ℕ) (goal : Goal)
-    (shrunk : Result (Unit {0}) AnswerFault) (script left old new : Stream) : Type 0 where
-  pub wrote : IsWritten itself (answer_ending shrunk) old new (WritesShrunk rules json goal script left)
-  pub fault : IfErr shrunk (IsFaultOfShrink rules json goal script left)
-  pub unread : (fault : SetupFault) → shrunk ≡ Err (Play (play.Setup fault)) → left ≡ script
-  pub read : FailsWhere itself (shrunk ≡ Err (Play play.Read)) script left
-
--- with the bytes of the setup's file and those of the script's, which has this name
-abbrev pub ShrinksBytes : List ℕ → Goal → Stream → Stream → RequestEnd → List (List ℕ) → Type 0
-ShrinksBytes name goal old new outcome (json ∷ script ∷ []) =
-    (shrunk : Result (Unit {0}) AnswerFault) × (left : Option (List ℕ)) × IsOfAnswer name shrunk outcome
-    × IsShrink json goal shrunk (in_memory (Some script)) (in_memory left) old new
-ShrinksBytes name goal old new outcome others = ⊥
+-- the script was made small, as long as the goal holds, with the text of a setup, and a script's reader and the output
+-- before and after
+abbrev pub IsShrunk : Goal → Stream → Stream → List ℕ → TextEnd → Stream → Stream → Type 0
+IsShrunk goal old new json ended script left =
+    IsTextOfRun as_answer_fault ended (answer_ending ended) (WritesShrunk rules json goal script left)
+    (IsFaultOfShrink rules json goal script left) script left old new
 
 -- the file of the setup and then that of the script are read, and the script is made small
 abbrev pub ShrinksTo : List ℕ → List ℕ → Goal → Seen → Seen → RequestEnd → Type 0
 ShrinksTo setup script goal old new outcome =
-    ReadsThen (setup ∷ script ∷ []) old new outcome (ShrinksBytes script goal old.output new.output outcome)
+    ReadsThen (setup ∷ script ∷ []) old new outcome
+    (DoesWithBytes (IsOfAnswer script) (IsShrunk goal old.output new.output) outcome)
 
 -- the same for a goal that the word names, where it names one
 abbrev pub ShrinksFiles : List ℕ → List ℕ → List ℕ → Seen → Seen → RequestEnd → Type 0

@@ -12,8 +12,8 @@ use Rattle.cdb_streams.specs.declared.source.ReadFault.TheVariants as reading
 use Rattle.cdb_agreement.specs.Algorithms.{rules}
 use Rattle.cdb_program.specs.Answers.{IsAnswer}
 use Rattle.cdb_program.specs.Beginnings.{AreOfBeginning}
-use Rattle.cdb_program.specs.Known.{FilesSeen, HasNoSession, Seen, seat_of, after_opening, after_failing, any_name}
-use Rattle.cdb_program.specs.FilesRead.{FailsToRead}
+use Rattle.cdb_program.specs.Known.{FilesSeen, HasNoSession, Seen, seat_of, after_opening, any_name}
+use Rattle.cdb_program.specs.FilesRead.{FailsToOpen, FailsToRead}
 use Rattle.cdb_program.specs.Reports.{IsReported}
 use Rattle.cdb_program.specs.declared.fault.Fault.{Fault}
 use Rattle.cdb_program.specs.declared.fault.Fault.TheVariants.{Race, TooManySeats}
@@ -39,22 +39,20 @@ abbrev pub AreOpenersOf : {P : Type 0} → (P → Result SeatSeen ReadFault → 
     → FilesSeen → List (List ℕ) → List P → Type 0
 AreOpenersOf opens files names openers = AllZip (IsOpenerOf opens files) names openers
 
--- One seat is found, by how that ended. Where an allocation failed it counts as not opened.
+-- one seat is found, by how that ended
 abbrev pub FindsSeat : {P : Type 0} → (P → Result SeatSeen ReadFault → Type 0)
     → FilesSeen → FilesSeen → List ℕ → Result P ReadFault → Type 0
 FindsSeat opens old new name (Ok opener) = (new ≡ after_opening old (name ∷ [])) × IsOpenerOf opens old name opener
-FindsSeat opens old new name (Err reading.Failed) = new ≡ after_failing old (name ∷ [])
-FindsSeat opens old new name (Err (reading.NoMemory refused)) = new ≡ old
+FindsSeat opens old new name (Err fault) = FailsToOpen old new name fault
 
 -- nothing is in it, as far as it is known
 abbrev pub IsEmpty : Stream → Type 0
 IsEmpty stream = IfSome stream.bytes (λ bytes. bytes ≡ [])
 
--- One file is made, by how that ended. Where an allocation failed it counts as not opened.
+-- one file is made, by how that ended
 abbrev pub MakesFile : {J : Type 0} → (J → Stream) → FilesSeen → FilesSeen → List ℕ → Result J ReadFault → Type 0
 MakesFile stream old new name (Ok file) = (new ≡ after_opening old (name ∷ [])) × IsEmpty (stream file)
-MakesFile stream old new name (Err reading.Failed) = new ≡ after_failing old (name ∷ [])
-MakesFile stream old new name (Err (reading.NoMemory refused)) = new ≡ old
+MakesFile stream old new name (Err fault) = FailsToOpen old new name fault
 
 -- where a file was asked for, there is one, and at first nothing was in it
 abbrev pub IsNewFile : Option (List ℕ) → Option Stream → Type 0

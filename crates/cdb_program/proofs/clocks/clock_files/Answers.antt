@@ -1,6 +1,6 @@
 use Rattle.std.proofs.Common.{◌≡◌, refl, inl, inr, ◌∷◌, []}
 use Rattle.std.proofs.lemmas.Result.{err_from_is_err_and}
-use Rattle.cdb_program.proofs.Seen.{clocks_seen}
+use Rattle.cdb_program.proofs.Seen.{stream_written}
 use Rattle.cdb_program.proofs.clocks.clock_files.Goals as goal
 
 pub returns-in_err-json-clause-does : goal.returns-in_err-json-clause-does
@@ -24,7 +24,7 @@ returns-clause-does g c =
           c.clocks-written.result,
           c.of_play.ensures,
           rw (← json_is, ← bytes_is)
-              (clocks_seen g.O.Sink.stream c.as_slice.result.now c.as_slice-2.result.now c.clocks-written.result _ _ said.wrote said.fault),
+              (record { wrote = stream_written g.O.Sink.stream _ _ _ _ said.wrote; fault = said.fault }),
         ),
       ),
     )

@@ -1,6 +1,6 @@
 use Rattle.std.proofs.Common.{◌≡◌, refl, inl, inr, ◌∷◌, []}
 use Rattle.std.proofs.lemmas.Result.{err_from_is_err_and}
-use Rattle.cdb_program.proofs.Seen.{compared_seen}
+use Rattle.cdb_program.proofs.Seen.{stream_written}
 use Rattle.cdb_program.proofs.compares.compare_files.Goals as goal
 
 pub returns-in_err-json-clause-does : goal.returns-in_err-json-clause-does
@@ -26,8 +26,7 @@ returns-clause-does g c =
           c.same-compared.result,
           c.of_same.ensures,
           rw (← json_is, ← one_is, ← other_is)
-              (compared_seen g.O.Sink.stream c.as_slice.result.now c.as_slice-2.result.now
-              c.as_slice-3.result.now c.same-compared.result _ _ said.wrote said.same said.fault),
+              (record { wrote = stream_written g.O.Sink.stream _ _ _ _ said.wrote; same = said.same; fault = said.fault }),
         ),
       ),
     )

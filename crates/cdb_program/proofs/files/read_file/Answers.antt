@@ -1,6 +1,5 @@
 use Rattle.cdb_program.proofs.OpenedFiles.{fails_one}
-use Rattle.cdb_program.specs.FilesRead.{most_read}
 use Rattle.cdb_program.proofs.files.read_file.Goals as goal
 
 pub returns-in-Err : goal.returns-in-Err
-returns-in-Err g c = rw c.from.ensures (fails_one _ _ _ most_read c.in-Err.fault c.in-Err.ensures)
+returns-in-Err g c = rw c.from.ensures (fails_one _ _ _ c.in-Err.fault c.in-Err.ensures)

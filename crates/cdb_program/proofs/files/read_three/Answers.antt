@@ -1,6 +1,6 @@
 use Rattle.std.proofs.Common.{◌∷◌, []}
 use Rattle.std.proofs.lemmas.Result.{err_from_is_err_and}
-use Rattle.cdb_program.proofs.OpenedFiles.{fails_before, fails_then, read_then}
+use Rattle.cdb_program.proofs.OpenedFiles.{fails_before, fails_later, read_then}
 use Rattle.cdb_program.proofs.files.read_three.Goals as goal
 
 pub returns-in_err-json : goal.returns-in_err-json
@@ -11,8 +11,8 @@ returns-in_err-json g c =
 pub returns-in_err-other : goal.returns-in_err-other
 returns-in_err-other g c =
     let p = err_from_is_err_and c.from_residual-in_err-other.result c.from_residual-in_err-other.ensures.1 in
-    rw (p.1, p.2) (fails_then _ _ _ (c.args.setup.now ∷ c.args.first.now ∷ []) (c.args.second.now ∷ [])
-    (c.in_ok-json.json.items ∷ c.in_ok-json.one.items ∷ []) c.in_err-other.field-0.0 c.in_ok-json.ensures c.in_err-other.ensures)
+    rw (p.1, p.2) (fails_later _ _ _ (c.args.setup.now ∷ c.args.first.now ∷ []) (c.args.second.now ∷ [])
+    c.in_err-other.field-0.0 c.in_ok-json.ensures.0 c.in_err-other.ensures)
 
 pub returns : goal.returns
 returns g c =

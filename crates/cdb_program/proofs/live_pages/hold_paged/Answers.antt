@@ -10,41 +10,35 @@ use Rattle.cdb_program.specs.Answers.{IsAnswer}
 use Rattle.cdb_program.specs.Known.{any_name}
 use Rattle.cdb_program.specs.LivePages.{IsNewPage, IsOfPage, files_for}
 use Rattle.cdb_program.proofs.OpenedFiles.{fails_before, fails_later, opened_then}
-use Rattle.cdb_program.proofs.Seated.{as_fault, holds_seen, seats_known}
+use Rattle.cdb_program.proofs.Seated.{holds_seen, none_after, none_begun, seats_known}
 use Rattle.cdb_program.proofs.Shown.{kept_by}
 use Rattle.cdb_program.proofs.live_pages.hold_paged.Goals as goal
 
 pub returns-in_err-json-clause-fault : goal.returns-in_err-json-clause-fault
 returns-in_err-json-clause-fault g c =
     let p = err_from_is_err_and c.from_residual.result c.from_residual.ensures.1 in
-    let names = texts c.args.seats.now in
-    let from = any_text c.args.from in
-    let files = files_for (any_text c.args.journal) c.args.page.now in
     rw (p.1, p.2, ← c.world.view_is)
-    (as_fault _ names from files _ _ c.in_err-json.field-0.0
-    (fails_before _ _ (c.args.setup.now ∷ any_name from) (names ++ files) c.in_err-json.field-0.0 c.in_err-json.ensures))
+    (none_begun c.args.setup.now (texts c.args.seats.now) (any_text c.args.from) (files_for (any_text c.args.journal) c.args.page.now) _ _
+    c.in_err-json.field-0.0 c.in_err-json.ensures)
 
 pub returns-in_err-openers-clause-fault : goal.returns-in_err-openers-clause-fault
 returns-in_err-openers-clause-fault g c =
     let p = err_from_is_err_and c.from_residual-in_err-openers.result c.from_residual-in_err-openers.ensures.1 in
-    let names = texts c.args.seats.now in
-    let from = any_text c.args.from in
-    let files = files_for (any_text c.args.journal) c.args.page.now in
     let why = c.in_err-openers.field-0.0 in
-    let fails = fails_before _ _ names files why c.in_err-openers.ensures.fault in
     rw (p.1, p.2, ← c.world.view_is)
-    (as_fault _ names from files _ _ why (fails_later _ _ _ (c.args.setup.now ∷ any_name from) (names ++ files) why c.in_ok-json.ensures.0 fails))
+    (none_after c.args.setup.now (texts c.args.seats.now) (any_text c.args.from)
+    (files_for (any_text c.args.journal) c.args.page.now) _ _ _ why c.in_ok-json.ensures.0
+    (fails_before _ _ (texts c.args.seats.now) (files_for (any_text c.args.journal) c.args.page.now) why c.in_err-openers.ensures.fault))
 
 pub returns-in_err-live-clause-fault : goal.returns-in_err-live-clause-fault
 returns-in_err-live-clause-fault g c =
     let p = err_from_is_err_and c.from_residual-in_err-live.result c.from_residual-in_err-live.ensures.1 in
-    let names = texts c.args.seats.now in
-    let from = any_text c.args.from in
-    let files = files_for (any_text c.args.journal) c.args.page.now in
     let why = c.in_err-live.field-0.0 in
-    let fails = fails_later _ _ _ names files why c.in_ok-openers.ensures.opened c.in_err-live.ensures.fault in
     rw (p.1, p.2, ← c.world.view_is)
-    (as_fault _ names from files _ _ why (fails_later _ _ _ (c.args.setup.now ∷ any_name from) (names ++ files) why c.in_ok-json.ensures.0 fails))
+    (none_after c.args.setup.now (texts c.args.seats.now) (any_text c.args.from)
+    (files_for (any_text c.args.journal) c.args.page.now) _ _ _ why c.in_ok-json.ensures.0
+    (fails_later _ _ _ (texts c.args.seats.now)
+    (files_for (any_text c.args.journal) c.args.page.now) why c.in_ok-openers.ensures.opened c.in_err-live.ensures.fault))
 
 pub returns-in-Ok-clause-sessions : goal.returns-in-Ok-clause-sessions
 returns-in-Ok-clause-sessions g c =

@@ -1,6 +1,6 @@
 use Rattle.std.proofs.Common.{◌≡◌, ℕ, List, Some, refl, inl, inr, ◌∷◌, []}
 use Rattle.std.proofs.lemmas.Result.{err_from_is_err_and}
-use Rattle.cdb_program.proofs.Seen.{play_seen}
+use Rattle.cdb_program.proofs.Seen.{stream_written, text_seen}
 use Rattle.cdb_program.specs.Known.{in_memory}
 use Rattle.cdb_program.proofs.plays.play_files.Goals as goal
 
@@ -25,9 +25,12 @@ returns-clause-does g c =
           c.play-played.result,
           Some c.play-played.new.script,
           c.of_play.ensures,
-          rw (← json_is, ← bytes_is)
-              (play_seen (λ (bytes : List ℕ). in_memory (Some bytes)) g.O.Sink.stream c.as_slice.result.now c.play-played.result
-              c.new-commands.result c.play-played.new.script _ _ said.wrote said.headline said.fault said.unread said.read),
+          rw (← json_is, ← bytes_is) (record {
+            text =
+                text_seen (λ (bytes : List ℕ). in_memory (Some bytes)) g.O.Sink.stream (λ fault. fault) c.play-played.result _ _ _
+                c.new-commands.result c.play-played.new.script _ _ said.wrote said.fault said.unread said.read;
+            headline = stream_written g.O.Sink.stream _ _ _ _ said.headline;
+          }),
         ),
       ),
     )

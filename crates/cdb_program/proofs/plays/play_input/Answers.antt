@@ -1,5 +1,5 @@
 use Rattle.std.proofs.Common.{refl}
-use Rattle.cdb_program.proofs.Seen.{play_seen}
+use Rattle.cdb_program.proofs.Seen.{stream_written, text_seen}
 use Rattle.cdb_program.proofs.plays.play_input.Goals as goal
 
 pub returns-clause-does : goal.returns-clause-does
@@ -10,6 +10,11 @@ returns-clause-does g c =
       (
         c.play-played.result,
         c.of_play.ensures,
-        play_seen g.I.Source.stream g.O.Sink.stream _ c.play-played.result _ _ _ _ said.wrote said.headline said.fault said.unread said.read,
+        record {
+          text =
+              text_seen g.I.Source.stream g.O.Sink.stream (λ fault. fault) c.play-played.result _ _ _ _ _ _ _
+              said.wrote said.fault said.unread said.read;
+          headline = stream_written g.O.Sink.stream _ _ _ _ said.headline;
+        },
       ),
     )

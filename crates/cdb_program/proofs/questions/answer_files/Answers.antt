@@ -1,7 +1,8 @@
 use Rattle.std.proofs.Common.{◌≡◌, ◌∙◌, ℕ, List, Some, Bor, ap, refl, inl, inr, ◌∷◌, []}
 use Rattle.cdb_streams.specs.declared.input.Bytes.{Bytes}
 use Rattle.std.proofs.lemmas.Result.{err_from_is_err_and}
-use Rattle.cdb_program.proofs.Answered.{text_seen}
+use Rattle.cdb_program.proofs.Seen.{text_seen}
+use Rattle.cdb_program.specs.TextsOfRuns.{as_answer_fault}
 use Rattle.cdb_program.specs.Known.{in_memory}
 use Rattle.cdb_program.proofs.questions.answer_files.Goals as goal
 
@@ -27,7 +28,7 @@ returns-clause-does g c =
           Some c.answer-answered.new.script.rest.now,
           c.of_answer.ensures,
           rw (← json_is, ← bytes_is)
-              (text_seen (λ (b : Bytes). in_memory (Some b.rest.now)) g.O.Sink.stream c.answer-answered.result _ _ _
+              (text_seen (λ (b : Bytes). in_memory (Some b.rest.now)) g.O.Sink.stream as_answer_fault c.answer-answered.result _ _ _
               c.new-commands.result c.answer-answered.new.script _ _ said.wrote said.fault said.unread said.read),
         ),
       ),

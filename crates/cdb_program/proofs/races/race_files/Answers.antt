@@ -3,7 +3,7 @@ use Rattle.std.proofs.lemmas.Result.{err_from_is_err_and}
 use Rattle.cdb_play.specs.Races.{bytes_of}
 use Rattle.cdb_program.specs.Races.{RacesOn}
 use Rattle.cdb_base.specs.Requests.{texts}
-use Rattle.cdb_program.proofs.OpenedFiles.{fails_before, fails_then, read_then}
+use Rattle.cdb_program.proofs.OpenedFiles.{fails_before, fails_later, read_then}
 use Rattle.cdb_program.proofs.races.race_files.Goals as goal
 
 pub returns-in_err-json-clause-does : goal.returns-in_err-json-clause-does
@@ -15,14 +15,9 @@ returns-in_err-json-clause-does g c =
 pub returns-in_err-contents-clause-does : goal.returns-in_err-contents-clause-does
 returns-in_err-contents-clause-does g c =
     let p = err_from_is_err_and c.from_residual-in_err-contents.result c.from_residual-in_err-contents.ensures.1 in
-    rw (p.1, p.2, ← c.world.view_is) (
-      refl,
-      inl (
-        fails_then _ _ _ (c.args.setup.now ∷ []) (texts c.args.scripts.now)
-            (c.in_ok-json.json.items ∷ []) c.in_err-contents.field-0.0 c.in_ok-json.ensures c.in_err-contents.ensures,
-        refl,
-      ),
-    )
+    let fails =
+    fails_later _ _ _ (c.args.setup.now ∷ []) (texts c.args.scripts.now) c.in_err-contents.field-0.0 c.in_ok-json.ensures.0 c.in_err-contents.ensures in
+    rw (p.1, p.2, ← c.world.view_is) (refl, inl (fails, refl))
 
 pub returns-clause-does : goal.returns-clause-does
 returns-clause-does g c =

@@ -3,7 +3,7 @@ use Rattle.std.proofs.lemmas.Result.{err_from_is_err_and}
 use Rattle.cdb_program.specs.Known.{FilesSeen}
 use Rattle.cdb_program.specs.FilesRead.{AreFirstBytes}
 use Rattle.cdb_program.specs.Replays.{most_of_journal}
-use Rattle.cdb_program.proofs.OpenedFiles.{fails_before, fails_then, opened_then}
+use Rattle.cdb_program.proofs.OpenedFiles.{fails_before, fails_later, opened_then}
 use Rattle.cdb_program.proofs.replays.read_both.Goals as goal
 
 pub returns-in_err-json : goal.returns-in_err-json
@@ -14,8 +14,8 @@ returns-in_err-json g c =
 pub returns-in_err-bytes : goal.returns-in_err-bytes
 returns-in_err-bytes g c =
     let p = err_from_is_err_and c.from_residual-in_err-bytes.result c.from_residual-in_err-bytes.ensures.1 in
-    rw (p.1, p.2) (fails_then _ _ _ (c.args.setup.now ∷ []) (c.args.journal.now ∷ [])
-    (c.in_ok-json.json.items ∷ []) c.in_err-bytes.field-0.0 c.in_ok-json.ensures c.in_err-bytes.ensures)
+    rw (p.1, p.2) (fails_later _ _ _ (c.args.setup.now ∷ []) (c.args.journal.now ∷ [])
+    c.in_err-bytes.field-0.0 c.in_ok-json.ensures.0 c.in_err-bytes.ensures)
 
 pub returns : goal.returns
 returns g c =

@@ -1,6 +1,6 @@
 use Rattle.std.proofs.Common.{◌≡◌, ℕ, List, Some, refl, inl, inr}
 use Rattle.std.proofs.lemmas.Result.{err_from_is_err_and}
-use Rattle.cdb_program.proofs.Seen.{replay_seen}
+use Rattle.cdb_program.proofs.Seen.{stream_written, text_seen}
 use Rattle.cdb_program.specs.Known.{in_memory}
 use Rattle.cdb_program.proofs.replays.replay_files.Goals as goal
 
@@ -27,8 +27,12 @@ returns-clause-does g c =
           Some c.replay-replayed.new.journal,
           c.of_play.ensures,
           rw (← json_is, ← bytes_is)
-              (replay_seen (λ (bytes : List ℕ). in_memory (Some bytes)) g.O.Sink.stream c.as_slice.result.now c.replay-replayed.result
-              c.new-entries.result c.replay-replayed.new.journal _ _ said.wrote said.again said.fault said.unread said.read),
+              (record {
+                text =
+                    text_seen (λ (bytes : List ℕ). in_memory (Some bytes)) g.O.Sink.stream (λ fault. fault) c.replay-replayed.result _ _ _
+                    c.new-entries.result c.replay-replayed.new.journal _ _ said.wrote said.fault said.unread said.read;
+                again = stream_written g.O.Sink.stream _ _ _ _ said.again;
+              }),
         ),
       ),
     )

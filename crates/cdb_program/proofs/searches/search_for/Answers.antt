@@ -1,6 +1,6 @@
 use Rattle.std.proofs.Common.{refl, inl, inr, ◌∷◌, []}
 use Rattle.std.proofs.lemmas.Result.{err_from_is_err_and}
-use Rattle.cdb_program.proofs.Seen.{search_seen}
+use Rattle.cdb_program.proofs.Seen.{stream_written}
 use Rattle.cdb_program.proofs.searches.search_for.Goals as goal
 
 pub returns-in_err-json-clause-does : goal.returns-in_err-json-clause-does
@@ -20,7 +20,7 @@ returns-clause-does g c =
           c.search-searched.result,
           c.of_answer.ensures,
           rw (← c.as_slice.ensures.value)
-              (search_seen g.O.Sink.stream c.as_slice.result.now c.args.goal c.args.walks c.search-searched.result _ _ said.wrote said.fault),
+              (record { wrote = stream_written g.O.Sink.stream _ _ _ _ said.wrote; fault = said.fault }),
         ),
       ),
     )

@@ -1,6 +1,7 @@
 use Rattle.std.proofs.Common.{◌≡◌, ◌∙◌, ℕ, List, Some, Bor, ap, refl, inl, inr, ◌∷◌, []}
 use Rattle.std.proofs.lemmas.Result.{err_from_is_err_and}
-use Rattle.cdb_program.proofs.Seen.{shrink_seen}
+use Rattle.cdb_program.proofs.Seen.{text_seen}
+use Rattle.cdb_program.specs.TextsOfRuns.{as_answer_fault}
 use Rattle.cdb_program.specs.Known.{in_memory}
 use Rattle.cdb_streams.specs.declared.input.Bytes.{Bytes}
 use Rattle.cdb_program.proofs.searches.shrink_to.Goals as goal
@@ -27,8 +28,8 @@ returns-clause-does g c =
           Some c.shrink-shrunk.new.script.rest.now,
           c.of_answer.ensures,
           rw (← json_is, ← bytes_is)
-              (shrink_seen (λ (b : Bytes). in_memory (Some b.rest.now)) g.O.Sink.stream c.as_slice-2.result.now c.args.goal
-              c.shrink-shrunk.result c.new-commands.result c.shrink-shrunk.new.script _ _ said.wrote said.fault said.unread said.read),
+              (text_seen (λ (b : Bytes). in_memory (Some b.rest.now)) g.O.Sink.stream as_answer_fault c.shrink-shrunk.result _ _ _
+              c.new-commands.result c.shrink-shrunk.new.script _ _ said.wrote said.fault said.unread said.read),
         ),
       ),
     )

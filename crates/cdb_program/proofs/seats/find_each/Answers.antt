@@ -4,8 +4,8 @@ use Rattle.std.proofs.lemmas.Result.{err_from_is_err_and}
 use Rattle.cdb_program.specs.Known.{after_opening}
 use Rattle.cdb_base.specs.Requests.{texts}
 use Rattle.cdb_program.specs.SeatStreams.{AreOpenersOf}
-use Rattle.cdb_program.proofs.OpenedFiles.{read_none, taken_and_left}
-use Rattle.cdb_program.proofs.Seated.{seat_fails, seat_opened, seat_openers}
+use Rattle.cdb_program.proofs.OpenedFiles.{fails_at, opened_at, read_none, taken_and_left}
+use Rattle.cdb_program.proofs.Seated.{seat_openers}
 use Rattle.cdb_program.proofs.seats.find_each.Goals as goal
 
 pub loop-name-init : goal.loop-name-init
@@ -14,7 +14,7 @@ loop-name-init g c = record { opened = (read_none _).0; seats = rw c.new-openers
 pub returns-in_err-opener-clause-fault : goal.returns-in_err-opener-clause-fault
 returns-in_err-opener-clause-fault g c =
     let p = err_from_is_err_and c.from_residual.result c.from_residual.ensures.1 in
-    rw (p.1, p.2) (seat_fails _ _ _ c.args.names.now c.loop-name.name-index _ c.in_err-opener.field-0.0
+    rw (p.1, p.2) (fails_at _ _ _ c.args.names.now c.loop-name.name-index _ c.in_err-opener.field-0.0
     c.loop-name-test.true c.loop-name.invariant.opened c.in_err-opener.ensures.fault)
 
 pub returns-in-Err-clause-fault : goal.returns-in-Err-clause-fault
@@ -24,12 +24,12 @@ returns-in-Err-clause-fault g c =
       texts (take (i + 1) names),
       texts (drop (i + 1) names),
       taken_and_left names (i + 1),
-      seat_opened _ _ _ names i _ c.loop-name-test.true c.loop-name.invariant.opened c.in_ok-opener.ensures.opened,
+      opened_at _ _ _ names i _ c.loop-name-test.true c.loop-name.invariant.opened c.in_ok-opener.ensures.opened,
     )
 
 pub loop-name-preserved : goal.loop-name-preserved
 loop-name-preserved g c = record {
-  opened = seat_opened _ _ _ c.args.names.now c.loop-name.name-index _ c.loop-name-test.true c.loop-name.invariant.opened c.in_ok-opener.ensures.opened;
+  opened = opened_at _ _ _ c.args.names.now c.loop-name.name-index _ c.loop-name-test.true c.loop-name.invariant.opened c.in_ok-opener.ensures.opened;
   seats =
       let items : c.push.new.self.items ≡ c.loop-name.openers.items ++ c.in_ok-opener.opener ∷ [] = search rules in
       rw items (seat_openers g.F.Seat.Opener.opens _ _ c.args.names.now c.loop-name.name-index _ c.loop-name.openers.items

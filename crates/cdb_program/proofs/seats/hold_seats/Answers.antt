@@ -7,41 +7,32 @@ use Rattle.cdb_program.specs.Answers.{IsAnswer}
 use Rattle.cdb_program.specs.Known.{any_name}
 use Rattle.std.specs.Prelude.{◌++◌, option_map}
 use Rattle.cdb_program.proofs.OpenedFiles.{fails_before, fails_later, opened_then}
-use Rattle.cdb_program.proofs.Seated.{as_fault, file_seen, holds_seen, seats_known}
+use Rattle.cdb_program.proofs.Seated.{file_seen, holds_seen, none_after, none_begun, seats_known}
 use Rattle.cdb_shared_session.proofs.KeptEntries.{seen_kept}
 use Rattle.cdb_program.proofs.seats.hold_seats.Goals as goal
 
 pub returns-in_err-json-clause-fault : goal.returns-in_err-json-clause-fault
 returns-in_err-json-clause-fault g c =
     let p = err_from_is_err_and c.from_residual.result c.from_residual.ensures.1 in
-    let names = texts c.args.seats.now in
-    let from = any_text c.args.from in
-    let file = any_name (any_text c.args.file) in
     rw (p.1, p.2, ← c.world.view_is)
-    (as_fault _ names from file _ _ c.in_err-json.field-0.0
-    (fails_before _ _ (c.args.setup.now ∷ any_name from) (names ++ file) c.in_err-json.field-0.0 c.in_err-json.ensures))
+    (none_begun c.args.setup.now (texts c.args.seats.now) (any_text c.args.from) (any_name (any_text c.args.file)) _ _
+    c.in_err-json.field-0.0 c.in_err-json.ensures)
 
 pub returns-in_err-openers-clause-fault : goal.returns-in_err-openers-clause-fault
 returns-in_err-openers-clause-fault g c =
     let p = err_from_is_err_and c.from_residual-in_err-openers.result c.from_residual-in_err-openers.ensures.1 in
-    let names = texts c.args.seats.now in
-    let from = any_text c.args.from in
-    let file = any_name (any_text c.args.file) in
     let why = c.in_err-openers.field-0.0 in
-    let fails = fails_before _ _ names (file) why c.in_err-openers.ensures.fault in
     rw (p.1, p.2, ← c.world.view_is)
-    (as_fault _ names from file _ _ why (fails_later _ _ _ (c.args.setup.now ∷ any_name from) (names ++ file) why c.in_ok-json.ensures.0 fails))
+    (none_after c.args.setup.now (texts c.args.seats.now) (any_text c.args.from) (any_name (any_text c.args.file)) _ _ _ why c.in_ok-json.ensures.0
+    (fails_before _ _ (texts c.args.seats.now) (any_name (any_text c.args.file)) why c.in_err-openers.ensures.fault))
 
 pub returns-in_err-file-clause-fault : goal.returns-in_err-file-clause-fault
 returns-in_err-file-clause-fault g c =
     let p = err_from_is_err_and c.from_residual-in_err-file.result c.from_residual-in_err-file.ensures.1 in
-    let names = texts c.args.seats.now in
-    let from = any_text c.args.from in
-    let file = any_name (any_text c.args.file) in
     let why = c.in_err-file.field-0.0 in
-    let fails = fails_later _ _ _ names (file) why c.in_ok-openers.ensures.opened c.in_err-file.ensures.fault in
     rw (p.1, p.2, ← c.world.view_is)
-    (as_fault _ names from file _ _ why (fails_later _ _ _ (c.args.setup.now ∷ any_name from) (names ++ file) why c.in_ok-json.ensures.0 fails))
+    (none_after c.args.setup.now (texts c.args.seats.now) (any_text c.args.from) (any_name (any_text c.args.file)) _ _ _ why c.in_ok-json.ensures.0
+    (fails_later _ _ _ (texts c.args.seats.now) (any_name (any_text c.args.file)) why c.in_ok-openers.ensures.opened c.in_err-file.ensures.fault))
 
 pub returns-in-Ok-clause-sessions : goal.returns-in-Ok-clause-sessions
 returns-in-Ok-clause-sessions g c =
