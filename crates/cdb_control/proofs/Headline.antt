@@ -117,7 +117,7 @@ rolled-is rules t seat (id.Lost copy) r is = ap (λ x. granted x t (rolled_to t 
 redone-is : (rules : Rules) (t : State) (seat : ℕ) (event : Event) → last_of (redo_of t seat) ≡ Some event
     → rules.again t.history event ≡ Ok event → outcome rules t seat Redo ≡ redone rules t seat event
 unfolding outcome
-redone-is rules t seat event h1 h2 = grind (arith, common_steps, gets)
+redone-is rules t seat event top done = grind (arith, common_steps, gets)
 
 -- ---- an undo
 
@@ -193,7 +193,7 @@ front_pushed xs x = grind (arith, common_steps, gets)
 
 -- a list that holds an event is one of the lists
 within_lists : (lists : List (List Event)) (i : ℕ) (xs : List Event) (x : Event) → get_or lists i [] ≡ xs ++ x ∷ [] → i < length lists
-within_lists lists i xs x h1 = grind (arith, common_steps, gets)
+within_lists lists i xs x found = grind (arith, common_steps, gets)
 
 module _ (rules : Rules) (SameState : List Event → List Event → Type 0) (setup : Parts)
     (keeps : KeepHistories rules SameState setup) (before : State) (seat : ℕ) where

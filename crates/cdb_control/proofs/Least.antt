@@ -39,7 +39,7 @@ module _ (taken : TakenStep) where
 
   -- those of the rest have greater numbers
   above : (b : ℕ × Stop) (more : Stops) → AreRising (b ∷ more) → (number : ℕ) → IsFired taken more number → b.0 ≤ number
-  above b more h1 number h2 = grind (arith, common_steps, gets)
+  above b more rising number fired = grind (arith, common_steps, gets)
 
   not_head : (b : ℕ × Stop) (more : Stops) → fires taken b.1 ≡ false → (number : ℕ) → IsFired taken (b ∷ more) number → IsFired taken more number
   not_head b more quiet number its = ⊎_elim (λ h. absurd (cc)) (λ rest. rest) (head_or_rest b more number its)

@@ -22,7 +22,7 @@ pub Begins-push : (a b : List Entry) (e : Entry) → Begins a b → Begins a (b 
 Begins-push a b e x = (x.0 ++ e ∷ [], ap (λ l. l ++ e ∷ []) x.1 ∙ append_assoc a x.0 (e ∷ []))
 
 if_append : (b : Bool) (x : Command) (xs ys zs : List Command) → zs ≡ xs ++ ys → cond b (x ∷ zs) zs ≡ cond b (x ∷ xs) xs ++ ys
-if_append b x xs ys zs h1 = grind (arith, common_steps, gets)
+if_append b x xs ys zs same = grind (arith, common_steps, gets)
 
 pub own-append : (seat : ℕ) (es fs : List Entry) → own seat (es ++ fs) ≡ own seat es ++ own seat fs
 own-append seat [] fs = refl
@@ -42,7 +42,7 @@ own-push_other seat other es command apart =
     other_seat n m ne = grind arith
 
 replies_if : (b : Bool) (r : ReplyView) (xs ys zs : List ReplyView) → zs ≡ xs ++ ys → cond b (r ∷ zs) zs ≡ cond b (r ∷ xs) xs ++ ys
-replies_if b r xs ys zs h1 = grind (arith, common_steps, gets)
+replies_if b r xs ys zs same = grind (arith, common_steps, gets)
 
 pub replies_from-append : (rules : Rules) (t : State) (seat : ℕ) (es fs : List Entry)
     → replies_from rules t seat (es ++ fs) ≡ replies_from rules t seat es ++ replies_from rules (replay_from rules t es) seat fs
@@ -59,7 +59,7 @@ nothing_added (x ∷ xs) ys e = nothing_added xs ys (cc)
 
 none_if : (b : Bool) (x : Command) (xs : List Command) (r : ReplyView) (rs : List ReplyView)
     → (xs ≡ [] → rs ≡ []) → cond b (x ∷ xs) xs ≡ [] → cond b (r ∷ rs) rs ≡ []
-none_if b x xs r rs h1 h2 = grind (arith, common_steps, gets)
+none_if b x xs r rs none empty = grind (arith, common_steps, gets)
 
 -- a seat with no command has no reply
 pub replies_from-none : (rules : Rules) (t : State) (seat : ℕ) (es : List Entry) → own seat es ≡ [] → replies_from rules t seat es ≡ []

@@ -99,7 +99,7 @@ forget_keeps_the_history rules t seat = refl
 
 pub next_number_used : (rules : Rules) (t : State) (seat : ℕ) (stop : Stop) → UsesNextNumber rules t seat stop
 unfolding outcome
-next_number_used rules t seat stop number h1 = grind (arith, common_steps, gets)
+next_number_used rules t seat stop number replied = grind (arith, common_steps, gets)
 
 -- ---- one entry more
 

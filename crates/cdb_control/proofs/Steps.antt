@@ -28,7 +28,7 @@ on_error (Err e) holds = holds
 -- what is refused leaves the history as it was
 pub refused_leaves : (x : Result (Event × List Event) Refusal) (history : List Event) (why : Refusal)
     → Some why ≡ result_err (result_alone x) → left_by history x ≡ history
-refused_leaves x history why h1 = grind (arith, common_steps, gets)
+refused_leaves x history why refused = grind (arith, common_steps, gets)
 
 -- ---- what an undo or a rollback answers, together with what it leaves
 
@@ -56,29 +56,29 @@ pub undone-as : (t u : State) (seat : ℕ) (x : Result (Event × List Event) Ref
     → r ≡ result_alone x → u ≡ with_lists t seat (left_by t.history x) (with_taken (redo_of t seat) r) → r ≡ Ok event
     → (let o : Outcome = record { reply = reply.Undone event; after = u } in o)
     ≡ granted x t (undone_to t seat)
-undone-as t u seat x r event h1 h2 h3 = grind (arith, common_steps, gets)
+undone-as t u seat x r event same new done = grind (arith, common_steps, gets)
 
 pub undo_refused-as : (t u : State) (seat : ℕ) (x : Result (Event × List Event) Refusal)
     (r : Result Event Refusal) (why : Refusal) (go : Event × List Event → Outcome)
     → r ≡ result_alone x → u ≡ with_lists t seat (left_by t.history x) (with_taken (redo_of t seat) r) → r ≡ Err why
     → (let o : Outcome = record { reply = reply.Refused why; after = u } in o) ≡ granted x t go
-undo_refused-as t u seat x r why go h1 h2 h3 = grind (arith, common_steps, gets)
+undo_refused-as t u seat x r why go same new refused = grind (arith, common_steps, gets)
 
 pub rolled_back-as : (t u : State) (seat : ℕ) (x : Result (List Event × List Event) Refusal) (r : Result ℕ Refusal) (count : ℕ)
     → r ≡ number_removed (result_alone x) → u ≡ with_lists t seat (left_by t.history x) (with_removed (redo_of t seat) (result_alone x)) → r ≡ Ok count
     → (let o : Outcome = record { reply = reply.RolledBack count; after = u } in o)
     ≡ granted x t (rolled_to t seat)
-rolled_back-as t u seat x r count h1 h2 h3 = grind (arith, common_steps, gets)
+rolled_back-as t u seat x r count same new done = grind (arith, common_steps, gets)
 
 pub rollback_refused-as : (t u : State) (seat : ℕ) (x : Result (List Event × List Event) Refusal)
     (r : Result ℕ Refusal) (why : Refusal) (go : List Event × List Event → Outcome)
     → r ≡ number_removed (result_alone x) → u ≡ with_lists t seat (left_by t.history x) (with_removed (redo_of t seat) (result_alone x)) → r ≡ Err why
     → (let o : Outcome = record { reply = reply.Refused why; after = u } in o) ≡ granted x t go
-rollback_refused-as t u seat x r why go h1 h2 h3 = grind (arith, common_steps, gets)
+rollback_refused-as t u seat x r why go same new refused = grind (arith, common_steps, gets)
 
 pub redone-as : (rules : Rules) (t u : State) (seat : ℕ) (undone event : Event) (given : Option ℕ) (r : Result Event Refusal)
     → Some undone ≡ last_of (redo_of t seat) → r ≡ rules.again t.history undone → u ≡ with_lists t seat (with_taken t.history r) (without_last (redo_of t seat))
     → given ≡ decides rules (with_taken t.history r) event → r ≡ Ok event
     → (let o : Outcome = record { reply = reply.Redone event given; after = u } in o) ≡ outcome rules t seat command.Redo
 unfolding outcome
-redone-as rules t u seat undone event given r h1 h2 h3 h4 h5 = grind (arith, common_steps, gets)
+redone-as rules t u seat undone event given r top same new decided done = grind (arith, common_steps, gets)

@@ -28,7 +28,7 @@ use Rattle.cdb_text.proofs.Entries.{one_seat, one_entry_line}
 use Rattle.cdb_text.proofs.Printed.{some_part}
 use Rattle.cdb_text.proofs.Whole.{one_command}
 use Rattle.cdb_streams.specs.Lines.{without_empty_end, lines_of}
-use Rattle.cdb_streams.proofs.CutLines.{is_newline, no_lines}
+use Rattle.cdb_streams.proofs.CutLines.{is_newline, no_lines, before_others}
 use Rattle.cdb_journal.specs.Journals.{AreEntriesOf, IsJournal, IsTooLong, IsWritable, entry_line, journal_text, longest_line}
 
 -- ---- no line has a byte 10
@@ -101,11 +101,6 @@ text_is_line seat command is ranges =
     (joined_is_line (command_parts command) (no_ends command) ranges)
 
 -- ---- the lines of a journal are those of its entries
-
-before_others : (part : List ℕ) (parts : List (List ℕ)) → 0 < length parts → without_empty_end (part ∷ parts) ≡ part ∷ without_empty_end parts
-before_others part [] some = absurd (omega arith)
-before_others [] (next ∷ parts) some = refl
-before_others (byte ∷ part) (next ∷ parts) some = refl
 
 one_line_more : (line rest : List ℕ) → IsLine line → lines_of ((line ++ codes "\n") ++ rest) ≡ line ∷ lines_of rest
 unfolding lines_of

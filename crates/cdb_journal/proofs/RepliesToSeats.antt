@@ -5,11 +5,9 @@ use Rattle.std.proofs.Common.{◌≡◌, ℕ, zero, suc, ◌<◌, ◌≤◌, len
 use Rattle.std.proofs.lemmas.Grind.{flat_map-append}
 use Rattle.cdb_base.specs.Limits.{MAX_ENTRIES, MAX_SEATS}
 use Rattle.cdb_control.specs.Commands.{reply_of, obey}
-use Rattle.cdb_control.specs.Journal.{AreOfSeats, Journaled, control_state, entry, extended, opened, replay, replay_from}
+use Rattle.cdb_control.specs.Journal.{AreOfSeats, control_state, opened, replay, replay_from}
 use Rattle.cdb_control.specs.State.{State, first_control_state}
 use Rattle.cdb_control.specs.declared.control.Entry.{Entry}
-use Rattle.cdb_control.proofs.Along.{replay-push}
-use Rattle.cdb_commands.specs.declared.command.Command.{Command}
 use Rattle.cdb_rules.specs.Rules.{Rules}
 use Rattle.cdb_setup.specs.Parts.{Parts, IsWithin}
 use Rattle.cdb_streams.specs.Endings.{pieces_ending, play_ending}
@@ -25,11 +23,6 @@ use Rattle.cdb_journal.specs.SeatReplies.{SeatReply, seat_replies_from, seat_rep
 pub first_state : (rules : Parts → Rules) (setup : Parts) → control_state rules (opened setup MAX_SEATS) ≡ first_control_state setup MAX_SEATS
 unfolding replay
 first_state rules setup = refl
-
--- one command more
-pub next_state : (rules : Parts → Rules) (c : Journaled) (seat : ℕ) (command : Command)
-    → control_state rules (extended rules c seat command) ≡ obey (rules c.setup) (control_state rules c) seat command
-next_state rules c seat command = replay-push (rules c.setup) c.setup c.seats c.journal (entry seat command)
 
 pub state_behind : (rules : Rules) (t : State) (done : List Entry) (e : Entry)
     → replay_from rules t (done ++ e ∷ []) ≡ obey rules (replay_from rules t done) e.seat e.command

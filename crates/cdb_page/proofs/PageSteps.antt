@@ -13,6 +13,7 @@ use Rattle.cdb_causal.specs.Past.{HasLedTo, IsInPast, one_link, link_before}
 use Rattle.cdb_causal.specs.Rollback.{IsParted, IsRolledBack, kept, gone}
 use Rattle.cdb_process.proofs.Members.{IsIn, contained_in, in_contained}
 use Rattle.cdb_rules.specs.RunView.{RunView}
+use Rattle.cdb_rules.proofs.NamesFound.{stands_from_one}
 use Rattle.cdb_page.specs.Entries.{AreEntries, IsEntry}
 use Rattle.cdb_page.specs.Followed.{IsReached, itself, its_causes, its_dependents}
 use Rattle.cdb_page.specs.Followed.{onward as further}
@@ -65,10 +66,6 @@ some_at [] (suc i) low high = absurd (omega (arith, high))
 some_at (x ∷ xs) (suc zero) low high = (x, refl)
 some_at (x ∷ xs) (suc (suc i)) low high = some_at xs (suc i) (omega arith) (omega (arith, high))
 
-from_one : {A : Type 0} (xs : List A) (at : ℕ) (x : A) → nth xs at ≡ Some x → 1 ≤ at
-from_one xs zero x is = absurd (none-some x is)
-from_one xs (suc i) x is = omega arith
-
 past_earlier : (history : List Event) (j i : ℕ) → IsInPast depends history j i → i < j
 past_earlier history j i (one_link link) = link.later
 past_earlier history j i (link_before {i = k} link rest) =
@@ -84,7 +81,7 @@ module _ (run : RunView) (entries : List Entry) (are : AreEntries run entries) w
 
   pub has_entry : (at : ℕ) (event : Event) → nth run.history at ≡ Some event → (entry : Entry) × (nth entries at ≡ Some entry)
   has_entry at event is =
-      let low = from_one run.history at event is in
+      let low = stands_from_one run.history at event is in
       let high = nth_within run.history at event is in
       let number = are.0 in
       some_at entries at low (omega (arith, high, number))
@@ -103,7 +100,7 @@ module _ (run : RunView) (entries : List Entry) (are : AreEntries run entries) w
   has_cause : (at other : ℕ) (entry : Entry) → nth entries at ≡ Some entry → IsDirect other at → Contains (its_causes entry) other
   has_cause at other entry is cause =
       let listed = (entry_of at entry is).causes in
-      let low = from_one run.history other cause.link.cause cause.link.at_cause in
+      let low = stands_from_one run.history other cause.link.cause cause.link.at_cause in
       let high = nth_within run.history other cause.link.cause cause.link.at_cause in
       in_contained (its_causes entry) other
       (listed_each (λ it. IsDirect it at) (length run.history) listed.0 (its_causes entry) listed.1 other cause low (omega (arith, high)))
@@ -116,7 +113,7 @@ module _ (run : RunView) (entries : List Entry) (are : AreEntries run entries) w
   has_dependent : (at other : ℕ) (entry : Entry) → nth entries at ≡ Some entry → IsDirect at other → Contains (its_dependents entry) other
   has_dependent at other entry is cause =
       let listed = (entry_of at entry is).dependents in
-      let low = from_one run.history other cause.link.effect cause.link.at_effect in
+      let low = stands_from_one run.history other cause.link.effect cause.link.at_effect in
       let high = nth_within run.history other cause.link.effect cause.link.at_effect in
       in_contained (its_dependents entry) other
       (listed_each (λ it. IsDirect at it) (length run.history) listed.0 (its_dependents entry) listed.1 other cause low (omega (arith, high)))

@@ -14,7 +14,7 @@ use Rattle.cdb_trail.specs.AlphaFlow.{alpha_flows}
 use Rattle.cdb_trail.specs.Flow.{Flows}
 use Rattle.cdb_trail.specs.LeaderFlow.{leader_flows}
 use Rattle.cdb_trail.specs.Origins.{IsOrigin, IsOriginBy}
-use Rattle.cdb_trail.specs.Trails.{Carries, IsFed, IsTrail, Sets, Takes, TakesInput, TakesValue, flow_in, state_before}
+use Rattle.cdb_trail.specs.Trails.{IsFed, IsTrail, Sets, Takes, TakesInput, TakesValue, flow_in, state_before}
 use Rattle.cdb_trail.specs.Trails as trails
 use Rattle.cdb_trail.specs.declared.flow.Spot.{Spot}
 use Rattle.cdb_trail.specs.declared.flow.Spot.TheVariants.{Slot as slot}

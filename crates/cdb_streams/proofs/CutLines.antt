@@ -15,7 +15,7 @@ abbrev pub is_newline : ℕ → Bool
 is_newline byte = nat_eq byte 10
 
 -- where parts follow, the first part is a line
-before_others : (part : List ℕ) (parts : List (List ℕ)) → 0 < length parts → without_empty_end (part ∷ parts) ≡ part ∷ without_empty_end parts
+pub before_others : (part : List ℕ) (parts : List (List ℕ)) → 0 < length parts → without_empty_end (part ∷ parts) ≡ part ∷ without_empty_end parts
 before_others part [] some = absurd (omega arith)
 before_others [] (next ∷ parts) some = refl
 before_others (byte ∷ part) (next ∷ parts) some = refl

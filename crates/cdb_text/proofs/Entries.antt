@@ -59,7 +59,7 @@ no_seat words fault e seat others is same =
     let read : seat_at words ≡ Ok (seat, others) = ap seat_at same ∙ seat_again seat others is in absurd cc
 
 number_fault : (words : Words) (fault : LineFault) → words ≢ [] → seat_at words ≡ Err fault → fault ≡ Number
-number_fault words fault h1 h2 = grind (arith, common_steps, gets)
+number_fault words fault some faulty = grind (arith, common_steps, gets)
 
 -- ---- the words of a line
 
@@ -123,7 +123,7 @@ fault_of_line line some fault = (
 
 -- a first word, and then the others
 joined_behind : (word : List ℕ) (words : Words) → words ≢ [] → join_with_byte 32 (word ∷ words) ≡ word ++ codes " " ++ join_with_byte 32 words
-joined_behind word words h1 = grind (arith, common_steps, gets)
+joined_behind word words some = grind (arith, common_steps, gets)
 
 no_words : (parts : List CommandPart) → parts ≢ [] → map part_text parts ≢ []
 no_words [] some same = some refl

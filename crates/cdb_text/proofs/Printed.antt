@@ -35,7 +35,7 @@ joined word (next ∷ words) is all =
 -- ---- the words of a command
 
 digit_is_no_space : (byte : ℕ) → digit_value byte < 10 → is_space byte ≡ false
-digit_is_no_space byte h1 = grind (arith, common_steps, gets)
+digit_is_no_space byte low = grind (arith, common_steps, gets)
 
 digits_are_spaceless : (word : List ℕ) → AllDigits 10 word → IsSpaceless word
 digits_are_spaceless [] all = tt

@@ -230,7 +230,7 @@ refuses_number r fault parts goes fits = absurd fits
 
 its_fault : {A : Type 0} (found : Option A) (behind : A → CommandPart × Reader) (its fault : LineFault)
     → (ok_or found its >>= λ x. Ok (behind x)) ≡ Err fault → its ≡ fault
-its_fault found behind its fault h1 = grind (arith, common_steps, gets)
+its_fault found behind its fault faulty = grind (arith, common_steps, gets)
 
 pub refuses : (r : Reader) (parts : List CommandPart) (w : List ℕ) (fault : LineFault) → Keeps r parts → next r w ≡ Err fault → Refuses fault r parts
 refuses (end command) parts w fault keeps e =

@@ -41,7 +41,7 @@ unfolding register_named
 register_again x is = grind (arith, common_steps, gets, decimal_digit)
 
 two_bytes : (word : List ℕ) → length word ≡ 2 → word ≡ get_or word 0 0 ∷ get_or word 1 0 ∷ []
-two_bytes word h1 = grind (arith, common_steps, gets)
+two_bytes word two = grind (arith, common_steps, gets)
 
 -- a word that is read as a register is that register
 pub register_says : (word : List ℕ) (x : Reg) → register_named word ≡ Some x → (word ≡ part_text (register x)) × IsInRange (register x)
@@ -49,7 +49,7 @@ unfolding register_named
 register_says word x e = grind (arith, common_steps, gets, two_bytes, decimal_digit, bytes_eq-Decides)
 
 starts_with_letter : (x : Reg) → IsInRange (register x) → 97 ≤ get_or (part_text (register x)) 0 0
-starts_with_letter x h1 = grind (arith, common_steps, gets)
+starts_with_letter x ranges = grind (arith, common_steps, gets)
 
 -- a number is no register
 pub number_is_no_register : (n : ℕ) → IsInRange (number n) → register_named (decimal n) ≡ None

@@ -9,10 +9,10 @@ use Rattle.cdb_text.specs.Reports.{register_line, decision_line, registers_from}
 pub goes_on : (before after : List ℕ) (cells : List Cell) (i : ℕ) (cell : Cell) (all : List ℕ) → i + 1 < length cells → cell ≡ get_or cells i cell
     → after ≡ before ++ register_line (i + 1) cell → before ++ registers_from (i + 1) (drop i cells) ≡ all
     → after ++ registers_from (i + 1 + 1) (drop (i + 1) cells) ≡ all
-goes_on before after cells i cell all h1 h2 h3 h4 = grind (arith, common_steps, gets)
+goes_on before after cells i cell all low found pushed rest = grind (arith, common_steps, gets)
 
 pub ends : (before after : List ℕ) (cells : List Cell) (i : ℕ) (cell : Cell) (all : List ℕ)
     → i < length cells → length cells ≤ i + 1 → cell ≡ get_or cells i cell
     → after ≡ before ++ decision_line cell → before ++ registers_from (i + 1) (drop i cells) ≡ all
     → after ++ registers_from (i + 1 + 1) (drop (i + 1) cells) ≡ all
-ends before after cells i cell all h1 h2 h3 h4 h5 = grind (arith, common_steps, gets)
+ends before after cells i cell all low last found pushed rest = grind (arith, common_steps, gets)

@@ -9,7 +9,7 @@ use Rattle.cdb_commands.specs.declared.command.Command.TheVariants.{Auto}
 use Rattle.cdb_text.specs.Grammar.{AreWordsOf, words_of}
 
 cut : (digit : ℕ) → 49 ≤ digit → words_of (97 ∷ 117 ∷ 116 ∷ 111 ∷ 32 ∷ digit ∷ []) ≡ codes "auto" ∷ (digit ∷ []) ∷ []
-cut digit h1 = grind (arith, common_steps, gets)
+cut digit high = grind (arith, common_steps, gets)
 
 words : (line : List ℕ) (digit : ℕ) → line ≡ 97 ∷ 117 ∷ 116 ∷ 111 ∷ 32 ∷ digit ∷ [] → 49 ≤ digit → digit ≤ 57 → AreWordsOf (Auto (digit - 48)) (words_of line)
 words line digit is low high =

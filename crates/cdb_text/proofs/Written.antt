@@ -22,4 +22,4 @@ pub ◌then◌ : {from next end : ℕ} {old middle new first second : List ℕ} 
 -- the text of the first item, and of the others
 pub first_of : {X : Type 0} (text : X → List ℕ) (xs : List X) (x : X) → 1 ≤ length xs
     → x ≡ get_or xs 0 x → text x ++ flat_map text (take (length xs - 1) (drop 1 xs)) ≡ flat_map text xs
-first_of text xs x h1 h2 = grind (arith, common_steps, gets)
+first_of text xs x some first = grind (arith, common_steps, gets)

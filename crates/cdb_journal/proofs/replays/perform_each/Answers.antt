@@ -7,8 +7,9 @@ use Rattle.cdb_streams.proofs.PiecesPut.{put_more, cut_short}
 use Rattle.cdb_control.specs.Commands.{obey, reply_of}
 use Rattle.cdb_control.specs.Journal.{Journaled, control_state, entry, extended, reply_in, replay_from}
 use Rattle.cdb_control.specs.declared.control.Entry.{Entry}
+use Rattle.cdb_control.proofs.Refused.{state_extended}
 use Rattle.cdb_journal.specs.SeatReplies.{seat_replies_from, seat_reply_line, seat_replies_text}
-use Rattle.cdb_journal.proofs.RepliesToSeats.{next_state, state_behind, text_behind, parted_text, one_reply}
+use Rattle.cdb_journal.proofs.RepliesToSeats.{state_behind, text_behind, parted_text, one_reply}
 use Rattle.cdb_journal.proofs.replays.perform_each.Goals as goal
 
 pub returns-in_err-perform : goal.returns-in_err-perform
@@ -57,7 +58,7 @@ loop-entry-preserved g c =
       setup = ap (λ (k : Journaled). k.setup) is ∙ so.setup;
       seats = ap (λ (k : Journaled). k.seats) is ∙ so.seats;
       len = omega (arith, longer, length-append control.journal (entry e.seat e.command ∷ []), so.len);
-      state = ap (control_state rules_of) is ∙ next_state rules_of control e.seat e.command
+      state = ap (control_state rules_of) is ∙ state_extended rules_of control e.seat e.command
           ∙ (λ j. obey (rules_of (so.setup j)) (so.state j) e.seat e.command)
           ∙ sym (state_behind rules t done e) ∙ ap (replay_from rules t) more;
       put = subst (IsPut g.W.Sink.stream c.args.out.now c.args.buffer.now c.perform.new.out c.perform.new.buffer)
