@@ -63,4 +63,3 @@ given_none {X} {Y} f (z ∷ zs) is = go (f z) refl is (given_none f zs)
         → option_or (f z) (first_given f zs) ≡ None
     go (Some y) at it rest = absurd (cc)
     go None at it rest = ap (λ o. option_or o (first_given f zs)) at ∙ rest it
-
