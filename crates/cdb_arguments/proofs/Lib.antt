@@ -9,3 +9,4 @@ pub mod SubcommandLines
 pub mod StepLines
 pub mod SeveralLines
 pub mod Requests
+pub mod Turns

@@ -1,13 +1,10 @@
 -- Which action is made.
 use Rattle.std.proofs.Common.{◌≡◌, inl, inr, ℕ, List, [], Option, Some, None, Result, Ok, Err, IfOk, IfErr, subst, sym}
-use Rattle.std.specs.Option.{MatchOption}
 use Rattle.clap.specs.Words.{Row}
 use Rattle.cdb_base.specs.Memory.{no_memory}
-use Rattle.cdb_base.specs.Requests.{RequestView, Text}
-use Rattle.cdb_arguments.specs.CommandLine.{subcommand_named}
-use Rattle.cdb_arguments.specs.RequestsOfRows.{AsksDrawing, AsksFor, IsOfKinds, NamesAsked}
-use Rattle.cdb_arguments.specs.declared.command_line.Subcommand.{Subcommand}
-use Rattle.cdb_arguments.specs.declared.command_line.Subcommand.TheVariants as sub
+use Rattle.cdb_base.specs.Requests.{RequestView, Script, Play, Race, Ask, Frames, Debug, Replay, Search, Shrink, Same, Clocks, Page, Text}
+use Rattle.cdb_arguments.specs.RequestsOfRows.{IsOfKinds, NamesAsked}
+use Rattle.cdb_arguments.proofs.Turns.{race_has_turns}
 use Rattle.cdb_arguments.specs.declared.request.ArgumentsFault.{ArgumentsFault}
 use Rattle.cdb_arguments.specs.declared.request.ArgumentsFault.TheVariants as fault_of_asking
 use Rattle.cdb_program.specs.Known.{Seen}
@@ -40,33 +37,21 @@ only_memory action (inr memory) = memory
 pub memory_has_no_kinds : (fault : ArgumentsFault) → fault ≡ fault_of_asking.NoMemory no_memory → IsOfKinds [] fault
 memory_has_no_kinds fault is = subst (IsOfKinds []) (sym is) tt
 
--- a race that the matches ask for has turns
-drawing_has_turns : (columns : ℕ) (folder : Option Text) (rows : List Row) (asked : RequestView) → AsksDrawing columns folder rows asked → HasTurns asked
-drawing_has_turns columns None rows asked is = rw is.2 tt
-drawing_has_turns columns (Some folder) rows asked is = rw is.2 tt
-
-has_turns : (it : Subcommand) (rows : List Row) (asked : RequestView) → AsksFor it rows asked → HasTurns asked
-has_turns sub.Race rows asked is = rw is.2 is.1.0
-has_turns sub.Draw rows asked is = drawing_has_turns is.0 _ rows asked is.2
-has_turns sub.Explain rows asked is = rw is.2 tt
-has_turns sub.Trail rows asked is = rw is.2 tt
-has_turns sub.Slice rows asked is = rw is.2 tt
-has_turns sub.Search rows asked is = rw is.4 tt
-has_turns sub.Play rows asked is = rw is tt
-has_turns sub.Debug rows asked is = rw is tt
-has_turns sub.Replay rows asked is = rw is tt
-has_turns sub.Shrink rows asked is = rw is tt
-has_turns sub.Same rows asked is = rw is tt
-has_turns sub.Clocks rows asked is = rw is tt
-has_turns sub.Page rows asked is = rw is tt
-
+-- a race that the matches name has turns
 pub turns_named : (found : Option (Text × List Row)) (asked : RequestView) → NamesAsked found asked → HasTurns asked
 turns_named None asked is = rw is tt
-turns_named (Some found) asked names = of_named (subcommand_named found.0) names
-  where
-    of_named : (it : Option Subcommand) → MatchOption it ⊥ (λ it. AsksFor it found.1 asked) → HasTurns asked
-    of_named None none = absurd none
-    of_named (Some it) asks = has_turns it found.1 asked asks
+turns_named (Some found) (Race setup turns scripts) names = race_has_turns setup turns scripts (Some found) names
+turns_named (Some found) Script names = tt
+turns_named (Some found) (Play setup script) names = tt
+turns_named (Some found) (Ask setup script question) names = tt
+turns_named (Some found) (Frames setup script folder columns step) names = tt
+turns_named (Some found) (Debug setup seats from journal page) names = tt
+turns_named (Some found) (Replay setup journal) names = tt
+turns_named (Some found) (Search setup goal seed walks) names = tt
+turns_named (Some found) (Shrink setup script goal) names = tt
+turns_named (Some found) (Same setup first second) names = tt
+turns_named (Some found) (Clocks setup script) names = tt
+turns_named (Some found) (Page setup script) names = tt
 
 -- an allocation failed before it was known what is asked for
 pub memory_is_asked : (prompt : Text) (words : List Text) (action : Action) → IsOutOfMemory action → IsAskedBy prompt words action

@@ -1,12 +1,14 @@
 use Rattle.std.proofs.Common.{List, [], ap, inl, inr, subst}
-use Rattle.clap.specs.Words.{Kinds}
+use Rattle.clap.specs.Words.{Kinds, subcommand_of}
+use Rattle.cdb_arguments.specs.CommandLine.{program}
 use Rattle.cdb_base.specs.Requests.{RequestView, Text, asked_for, texts}
 use Rattle.revdbg.specs.Requested.{IsAskedBy, IsPerformed, IsRefusal, OrOutOfMemory}
 use Rattle.revdbg.proofs.Requests.{memory_has_no_kinds, only_memory, turns_named}
 use Rattle.revdbg.proofs.requested.asked_in.Goals as goal
 
 pub returns-in-Ok-asked-clause-turns : goal.returns-in-Ok-asked-clause-turns
-returns-in-Ok-asked-clause-turns c = turns_named _ (asked_for c.in-Ok-asked.asked) c.in-Ok-asked.ensures.ok
+returns-in-Ok-asked-clause-turns c =
+    turns_named (subcommand_of program (texts c.as_slice.result.now)) (asked_for c.in-Ok-asked.asked) c.in-Ok-asked.ensures.ok
 
 pub returns-in-Ok-asked-clause-asked : goal.returns-in-Ok-asked-clause-asked
 returns-in-Ok-asked-clause-asked c =
