@@ -35,10 +35,11 @@ abbrev pub HasNoted : {T : Type 0} → (T → List Event → Type 0) → T → T
 HasNoted IsOf old new position event =
     (before : List Event) → suc (length before) ≡ position → IsOf old before → IsOf new (before ++ event ∷ [])
 
--- of each message's send
+-- a name whose number fits
 abbrev pub IsShort : MsgName → Type 0
 IsShort name = name.m < 2 ^ 16
 
+-- the table has where each message was sent
 abbrev pub AreSendsOf : {S : Type 0} → HashMap ℕ ℕ S → List Event → Type 0
 AreSendsOf = HasFirst message_code IsShort is_send_of
 
@@ -46,9 +47,10 @@ AreSendsOf = HasFirst message_code IsShort is_send_of
 abbrev pub copy_code : CopyName → ℕ
 copy_code copy = message_code copy.msg * 16 + copy.to
 
--- of where each copy was received or lost
+-- a copy whose numbers fit
 abbrev pub IsShortCopy : CopyName → Type 0
 IsShortCopy copy = IsShort copy.msg × (copy.to < 16)
 
+-- the table has where each copy was received or lost
 abbrev pub AreTakesOf : {S : Type 0} → HashMap ℕ ℕ S → List Event → Type 0
 AreTakesOf = HasFirst copy_code IsShortCopy takes

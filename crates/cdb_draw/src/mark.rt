@@ -250,7 +250,7 @@ fn tick(round: Option<u32>) -> &'static str
     }
 }
 
-/// What stands in the second row below the mark of an event: the round that it begins, or with what it did what it did.
+/// What stands in the second row below the mark of an event: the round that it begins, or the value of what it did.
 fn note(round: Option<u32>, deed: &Deed, event: &Event) -> Piece<'static>
     ensures { piece_text result ≡ note_text round deed.now event.now }
 {

@@ -119,8 +119,8 @@ module _ (Answers : RunView → Inquiry → Answer → Type 0) (style : StyleVie
   RespondsToLine (Err (output.NoMemory refused)) before behind old new unfinished left =
       (before ≡ behind) × IsLost old new unfinished
 
-  -- From the first of what is known on, all that was read has its response, but for what is held of the next line and
-  -- what is left: so many bytes were read, and the input was not found at its end.
+  -- From the first of what is known on, this number of bytes was read, and not the end of the input. Each line among
+  -- them has its response; what is left is the beginning of a line that is held, and bytes that were not looked at.
   pub record Arrives (first now : Known) (session : SessionView) (unfinished left : List ℕ) (read : ℕ) : Type 0 where
     pub moves : List Move
     pub makes : Makes first now moves
