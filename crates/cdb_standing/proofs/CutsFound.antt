@@ -1,10 +1,11 @@
--- Numbers that are lowered until what they cut off is closed.
+-- Numbers that are lowered until what they cut off is closed: that is the step with its consequences.
 use Rattle.std.proofs.lemmas.Grind.{common_steps}
 use Rattle.std.proofs.lemmas.Bool.{cases_eq, cases_lt}
-use Rattle.std.proofs.Common.{◌≡◌, ◌≢◌, ℕ, zero, suc, ◌+◌, ◌<◌, ◌≤◌, false}
-use Rattle.std.proofs.Common.{List, [], ◌∷◌, length, set, slice_index, length-set, replicate, ◌-◌, Option}
-use Rattle.std.proofs.Common.{Some, None, ◌⊎◌, inl, inr, refl, sym, ap, ◌∙◌, arith}
+use Rattle.std.proofs.Common.{◌≡◌, ◌≢◌, ℕ, suc, ◌+◌, ◌<◌, ◌≤◌, false, List, length, set, slice_index, length-set, replicate, ◌-◌, Option, Some, None}
+use Rattle.std.proofs.Common.{◌⊎◌, inl, inr, refl, sym, ap, ◌∙◌, arith, ◌↔◌}
 use Rattle.std.proofs.lemmas.Option.{none-some, gets}
+use Rattle.std.proofs.lemmas.List.Sums.{sum_by-set}
+use Rattle.std.specs.List.{sum_by}
 use Rattle.cdb_base.specs.Event.{event_name, is_step_of}
 use Rattle.cdb_base.specs.declared.event.Event.{Event}
 use Rattle.cdb_base.specs.declared.event.Event.TheVariants as event
@@ -12,19 +13,26 @@ use Rattle.cdb_base.specs.declared.event.Kind.{Kind}
 use Rattle.cdb_base.specs.declared.name.CopyName.{CopyName}
 use Rattle.cdb_base.specs.declared.name.StepId.TheVariants as named
 use Rattle.cdb_base.specs.declared.name.StepName.{StepName}
-use Rattle.cdb_standing.specs.Cuts.{total, cut_of, IsReached, IsSoundCut, HasNoneBehind, IsClosedOf, IsClosedAt, IsClosedFrom}
-use Rattle.cdb_standing.specs.Cuts.{IsLower, lowered, AreLowered, AreEnds, AreCuts, IsLookedAt, IsRootIn}
+use Rattle.cdb_standing.specs.Cuts.{cut_of, IsReached, IsSoundCut, HasNoneBehind, IsClosedOf, IsClosedAt, IsClosedFrom, IsLower, lowered, AreLowered}
+use Rattle.cdb_standing.specs.Cuts.{AreEnds, AreCuts, IsLookedAt, IsRootIn, IsCut}
 use Rattle.cdb_standing.specs.Dependents.{IsDependent, process_of, IsFoundOfOthers}
-use Rattle.cdb_standing.specs.Tables.{row_of, entry_of, IsEntry, IsSound}
+use Rattle.cdb_standing.specs.Tables.{row_of, entry_of, IsEntry, IsSound, history_of, standing, Stands}
 use Rattle.cdb_standing.specs.declared.dependents.Found.{Found}
 use Rattle.cdb_standing.specs.declared.tables.Copied.TheVariants.{Received, Lost}
 use Rattle.cdb_standing.specs.declared.tables.Entry.{Entry}
 use Rattle.cdb_standing.specs.declared.tables.Sent.{Sent}
-use Rattle.cdb_standing.proofs.Links.{why, number_below, process_within}
+use Rattle.cdb_standing.proofs.Links.{why, number_below, process_within, loss_dependent}
 use Rattle.cdb_standing.proofs.MailRows.{same_copy}
-use Rattle.cdb_standing.proofs.Places.{step_named}
-use Rattle.cdb_standing.proofs.Reaches.{at_once, reached_on, own_reached}
-use Rattle.cdb_standing.proofs.Rows.{nth_within}
+use Rattle.cdb_standing.proofs.Places.{step_named, at_once, reached_on, own_reached, IsPlace, stands_at, mark_at, dependent_of}
+use Rattle.cdb_standing.proofs.Rows.{nth_within, same_at}
+use Rattle.std.specs.Prelude.{⊤}
+use Rattle.cdb_base.specs.Positions.{nth}
+use Rattle.cdb_base.specs.declared.event.Kind.TheVariants.{Send}
+use Rattle.cdb_causal.specs.Causality.{IsConsequence, direct, onward}
+use Rattle.cdb_causal.specs.Dependence.{depends}
+use Rattle.cdb_causal.specs.Rollback.{IsRolledBack}
+use Rattle.cdb_standing.specs.InOrder.{Marked}
+use Rattle.cdb_standing.proofs.Joined.{marked}
 
 -- ---- a number that is lowered
 
@@ -154,10 +162,8 @@ set_cases cuts i n q less = elim (cases_eq q (suc i)) [
 pub zeros : (n q : ℕ) → cut_of (replicate n 0) q ≡ 0
 zeros n q = grind (arith, common_steps, gets)
 
-pub sum_less : (xs : List ℕ) (i : ℕ) → i < length xs → 0 < slice_index xs i → total (set xs i (slice_index xs i - 1)) < total xs
-sum_less [] i less some = absurd (omega (arith, less))
-sum_less (x ∷ xs) zero less some = omega (arith, some)
-sum_less (x ∷ xs) (suc i) less some = let h = sum_less xs i (omega (arith, less)) some in omega (arith, h)
+pub sum_falls : (f : ℕ → ℕ) (xs : List ℕ) (i n : ℕ) → i < length xs → f n < f (slice_index xs i) → sum_by f (set xs i n) < sum_by f xs
+sum_falls f xs i n within less = omega (arith, sum_by-set f xs i n 0 within)
 
 -- ---- all numbers
 
@@ -236,3 +242,52 @@ module _ {next : ℕ} {steps : List (List Entry)} {sent : List (List Sent)} (sou
       → ((q : ℕ) → cut_of looked q ≤ cut_of cuts q) → AreCuts steps sent one mark cuts
   cutting_ends was none_open =
       record { sound = was.only; rooted = was.rooted; closed = λ q l a kind at le. was.closed q l a kind at (let h = none_open q in omega arith) }
+
+-- ---- what the numbers cut off is the step with its consequences
+
+abbrev pub IsStepEvent : Event → Type 0
+IsStepEvent (event.Step p k kind) = ⊤
+IsStepEvent (event.Lost copy) = ⊥
+
+module _ {next : ℕ} {steps : List (List Entry)} {sent : List (List Sent)} (sound : IsSound next steps sent) (one : Event) (mark : ℕ)
+    {cuts : List ℕ} (are : AreCuts steps sent one mark cuts) where
+  abbrev History : List Event
+  History = history_of steps sent
+
+  -- what is cut off is reached
+  cut_reached : (b : ℕ) (it : Event) → Stands steps sent b it → IsCut sent cuts it → IsReached steps sent one mark b it
+  cut_reached b (event.Step q l kind) at cut = are.sound q l b kind at cut
+  cut_reached b (event.Lost copy) at cut =
+      let send = sound.sent_is copy.msg.s copy.msg.m cut.0 cut.1 in
+      reached_on sound send.1 (are.sound copy.msg.s cut.0 send.0 (Send copy.msg.m) send.1 cut.2) (at_once sound (loss_dependent sound copy send.1 at))
+
+  -- and what is reached is cut off
+  next_cut : {a b : ℕ} (cause effect : Event) → IsDependent steps sent cause a b effect → IsCut sent cuts cause → IsCut sent cuts effect
+  next_cut {a} {b} (event.Step q l kind) (event.Step r j other) d cut =
+      are.closed q l a kind d.cause cut b r j other d (process_within sound r j b other d.effect).1
+  next_cut {a} (event.Step q l kind) (event.Lost copy) d cut =
+      let is = why sound d in (l, sound.is_sent copy.msg.s copy.msg.m l a (rw (is.0, is.1) at d.cause), rw is.0 at cut)
+  next_cut (event.Lost copy) effect d cut = absurd (why sound d)
+
+  module _ (step : IsStepEvent one) (at : ℕ) (place : IsPlace sound at mark one) where
+    root_cut : (it : Event) → one ≡ it → IsStepEvent it → IsCut sent cuts it
+    root_cut (event.Step q l kind) e step = are.rooted q l kind e
+    root_cut (event.Lost copy) e step = absurd step
+
+    consequence_cut : (j : ℕ) → IsConsequence depends History at j → (b : ℕ) (it : Event) → IsPlace sound j b it → IsCut sent cuts it
+    consequence_cut j (direct link) b it there = next_cut one it (dependent_of sound at j place there link) (root_cut one refl step)
+    consequence_cut j (onward {j = i} c link) b it there =
+        let here = mark_at sound i link.cause link.at_cause in
+        next_cut link.cause it (dependent_of sound i j here.1 there link) (consequence_cut i c here.0 link.cause here.1)
+
+    pub exactly_cut : (other : ℕ) (it : Event) → nth History other ≡ Some it → (IsCut sent cuts it) ↔ (IsRolledBack depends History at other)
+    exactly_cut other it there = let here = mark_at sound other it there in (
+      (λ cut. (cut_reached here.0 it (stands_at sound other here.0 it here.1) cut).leads at other place here.1),
+      (λ rolled. by here.0 here.1 rolled),
+    )
+      where
+        by : (b : ℕ) → IsPlace sound other b it → IsRolledBack depends History at other → IsCut sent cuts it
+        by b here (inl e) =
+            let same = same_at (standing steps sent) at (marked mark one) (marked b it) place (rw e at here) in
+            root_cut it (ap (λ (x : Marked). x.event) same) (rw (ap (λ (x : Marked). x.event) same) at step)
+        by b here (inr c) = consequence_cut other c b it here

@@ -1,8 +1,8 @@
--- The first event that depends on another, found in the tables.
+-- The first event that depends on another, found in the tables, is the first in the history.
 use Rattle.std.proofs.lemmas.Grind.{common_steps}
 use Rattle.std.proofs.lemmas.Bool.{cases_eq, cases_Bool}
-use Rattle.std.proofs.Common.{◌≡◌, ℕ, ◌+◌, ◌<◌, ◌≤◌, true, false, nat_le, leb-true, leb-false, true≢false}
-use Rattle.std.proofs.Common.{eq-eqb, List, Option, Some, None, ◌⊎◌, inl, inr, ⊎_elim, refl, sym, ap, ◌∙◌, arith}
+use Rattle.std.proofs.Common.{◌≡◌, ℕ, ◌+◌, ◌<◌, ◌≤◌, true, false, nat_le, leb-true, leb-false, true≢false, eq-eqb, List, Option, Some, None, ◌⊎◌, inl}
+use Rattle.std.proofs.Common.{inr, ⊎_elim, refl, sym, ap, ◌∙◌, arith}
 use Rattle.std.proofs.lemmas.Option.{same_Some, none-some, gets}
 use Rattle.std.specs.Option.{option_map}
 use Rattle.cdb_base.specs.Event.{event_name, is_step_of}
@@ -14,9 +14,9 @@ use Rattle.cdb_base.specs.declared.event.Kind.TheVariants.{Send, Recv}
 use Rattle.cdb_base.specs.declared.name.StepId.TheVariants as named
 use Rattle.cdb_standing.specs.Accesses.{cell, access_of, AreListed, IsFirstBehindOrNone}
 use Rattle.cdb_standing.specs.Dependents.{IsFoundOfOthers, found, earlier_of, found_step, found_copy, found_access, IsFoundByCopy, IsFoundByList}
-use Rattle.cdb_standing.specs.Dependents.{IsDependent, process_of, IsLeast, IsFound, IsFoundByOthers, IsFoundFirst}
+use Rattle.cdb_standing.specs.Dependents.{IsDependent, process_of, IsLeast, IsFound, IsFoundByOthers, IsFoundFirst, IsFirstName}
 use Rattle.cdb_standing.specs.InOrder.{Has}
-use Rattle.cdb_standing.specs.Tables.{row_of, copy_named, entry_of, IsEntry, IsCopy, Stands, IsSound}
+use Rattle.cdb_standing.specs.Tables.{row_of, copy_named, entry_of, IsEntry, IsCopy, Stands, IsSound, history_of}
 use Rattle.cdb_standing.specs.declared.dependents.Found.{Found}
 use Rattle.cdb_standing.specs.declared.tables.Access.{Access}
 use Rattle.cdb_standing.specs.declared.tables.Copied.{Copied}
@@ -24,8 +24,12 @@ use Rattle.cdb_standing.specs.declared.tables.Copied.TheVariants.{Waits, Receive
 use Rattle.cdb_standing.specs.declared.tables.Entry.{Entry}
 use Rattle.cdb_standing.specs.declared.tables.Sent.{Sent}
 use Rattle.cdb_standing.proofs.Rows.{nth_within, nth_some}
-use Rattle.cdb_standing.proofs.Lasts.{is_listed, listed_is}
+use Rattle.cdb_standing.proofs.AccessLists.{is_listed, listed_is}
 use Rattle.cdb_standing.proofs.Links.{IsSought, turned, why, mark_le, number_below, own_dependent, receive_dependent, loss_dependent, conflict_dependent}
+use Rattle.cdb_base.specs.declared.name.CopyName.{CopyName}
+use Rattle.cdb_base.specs.declared.name.StepId.{StepId}
+use Rattle.cdb_causal.specs.Names.{IsNamedAt, IsFirstDependentOrFree}
+use Rattle.cdb_standing.proofs.Places.{the_place, step_of_name, loss_of_name, IsPlace, place_of, event_in, mark_at, link_of, dependent_of, not_before}
 
 -- ---- what is found of two
 
@@ -188,3 +192,38 @@ module _ {next : ℕ} {steps : List (List Entry)} {sent : List (List Sent)} (sou
     all_found own others own_is by_others =
         of_others _ _ _ _ (earlier_of own others) (of_both _ (Own p k mark kind at) _ own others (rw own_is (own_found p k mark kind at)) by_others)
         (λ b it d. d) (λ b it h. elim (cases_Bool (is_step_of p it)) [ inl e ↦ inl (h, e) | inr e ↦ inr (h, process_to_nine b it h.effect, e) ])
+
+-- ---- in the history
+
+module _ {next : ℕ} {steps : List (List Entry)} {sent : List (List Sent)} (sound : IsSound next steps sent) where
+  is_first : (one : Event) (mark at : ℕ) → IsPlace sound at mark one → (it : Option Found) → IsFoundFirst steps sent one mark it
+      → IsFirstDependentOrFree (history_of steps sent) at (option_map (λ (f : Found). f.name) it)
+  is_first one mark at place None none = λ j link.
+      let there = mark_at sound j link.effect link.at_effect in none there.0 link.effect (dependent_of sound at j place there.1 link)
+  is_first one mark at place (Some f) first =
+      let there = place_of sound f.mark first.event first.is.effect in
+      record {
+        position = there.0;
+        named = (first.event, event_in sound there.0 f.mark first.event there.1, first.named);
+        link = link_of sound at there.0 place there.1 first.is;
+        first = λ j link.
+            let other = mark_at sound j link.effect link.at_effect in
+            not_before sound there.0 j f.mark other.0 first.event link.effect there.1 other.1
+            (first.least other.0 link.effect (dependent_of sound at j place other.1 link));
+      }
+
+  pub first_by_name : (p k : ℕ) (result : Option StepId)
+      → ((mark : ℕ) (kind : Kind) → IsEntry steps p k mark kind → IsFirstName steps sent (event.Step p k kind) mark result)
+      → (at : ℕ) → IsNamedAt (history_of steps sent) at (named.Step (record { p = p; k = k })) → IsFirstDependentOrFree (history_of steps sent) at result
+  first_by_name p k result first at h =
+      let entry = step_of_name sound p k at h in
+      let one = event.Step p k entry.1 in
+      let it = first entry.0 entry.1 entry.2 in
+      rw it.2 (is_first one entry.0 at (the_place sound entry.0 one entry.2 at h) it.0 it.1)
+
+  -- nothing depends on a loss
+  pub first_of_loss : (copy : CopyName) (at : ℕ) → IsNamedAt (history_of steps sent) at (named.Lost copy)
+      → IsFirstDependentOrFree (history_of steps sent) at None
+  first_of_loss copy at h =
+      let lost = loss_of_name sound copy at h in
+      is_first (event.Lost copy) lost.0 at (the_place sound lost.0 (event.Lost copy) lost.1 at h) None (λ b it d. why sound d)

@@ -1,7 +1,7 @@
 -- Numbers that are raised until what is up to them is closed under causes.
 use Rattle.std.proofs.lemmas.Grind.{common_steps}
-use Rattle.std.proofs.Common.{◌≡◌, ◌↔◌, ℕ, zero, suc, ◌+◌, ◌<◌, ◌≤◌, List, []}
-use Rattle.std.proofs.Common.{◌∷◌, length, set, slice_index, length-set, replicate, Option, Some, None, ◌⊎◌, inl, inr, refl, sym, ap, ◌∙◌, arith}
+use Rattle.std.proofs.Common.{◌≡◌, ◌↔◌, ℕ, suc, ◌+◌, ◌-◌, ◌<◌, ◌≤◌, List}
+use Rattle.std.proofs.Common.{length, set, slice_index, length-set, replicate, Option, Some, None, ◌⊎◌, inl, inr, refl, sym, ap, ◌∙◌, arith}
 use Rattle.std.proofs.lemmas.Bool.{cases_lt, cases_eq}
 use Rattle.std.proofs.lemmas.Option.{same_Some, gets}
 use Rattle.cdb_base.specs.Event.{event_name}
@@ -24,11 +24,10 @@ use Rattle.cdb_standing.specs.Tables.{row_of, history_of, standing, entry_of, Is
 use Rattle.cdb_standing.specs.declared.tables.Entry.{Entry}
 use Rattle.cdb_standing.specs.declared.tables.Sent.{Sent}
 use Rattle.cdb_causal.proofs.PastLaws.{turned_round}
-use Rattle.cdb_standing.proofs.CutsFound.{cut_at, set_cases, zeros}
+use Rattle.cdb_standing.proofs.CutsFound.{cut_at, set_cases, sum_falls, zeros}
 use Rattle.cdb_standing.proofs.Joined.{marked}
 use Rattle.cdb_standing.proofs.Links.{why, process_within}
-use Rattle.cdb_standing.proofs.Places.{IsPlace, stands_at, mark_at, one_name}
-use Rattle.cdb_standing.proofs.Reaches.{dependent_of, itself, at_once, reached_on, own_reached}
+use Rattle.cdb_standing.proofs.Places.{IsPlace, stands_at, mark_at, one_name, dependent_of, itself, at_once, reached_on, own_reached}
 use Rattle.cdb_standing.proofs.Rows.{nth_within, same_at}
 
 -- ---- a number that is raised
@@ -41,11 +40,6 @@ raised_ge p found q n = grind (arith, common_steps, gets)
 
 pub raised_far : (p l n : ℕ) → l ≤ raised p (Some l) p n
 raised_far p l n = grind (arith, common_steps, gets)
-
-pub more_room : (xs : List ℕ) (i : ℕ) → i < length xs → slice_index xs i < 65536 → room (set xs i (slice_index xs i + 1)) < room xs
-more_room [] i less few = absurd (omega (arith, less))
-more_room (x ∷ xs) zero less few = omega (arith, few)
-more_room (x ∷ xs) (suc i) less few = let h = more_room xs i (omega (arith, less)) few in omega (arith, h)
 
 -- what holds while numbers are raised
 pub record IsRaising (steps : List (List Entry)) (sent : List (List Sent)) (one : Event) (end : ℕ) (looked ends : List ℕ) : Type 0 where
@@ -159,7 +153,7 @@ module _ {next : ℕ} {steps : List (List Entry)} {sent : List (List Sent)} (sou
         let e : i + 1 ≡ suc i = omega arith in
         let first = rw e at less in
         let long = was.long in
-        more_room looked i (omega arith) (omega arith)
+        sum_falls (λ (n : ℕ). 65536 - n) looked i next_one (omega arith) (omega arith)
 
     module _ (new : List ℕ) (higher : IsLower new ends) where
       before : (q l : ℕ) → l ≤ end_of looked q → IsLookedBehind steps sent q l new

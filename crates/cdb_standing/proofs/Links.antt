@@ -17,7 +17,7 @@ use Rattle.cdb_causal.proofs.Symmetry.{symmetric}
 use Rattle.cdb_standing.specs.Accesses.{number_of, accessed, written}
 use Rattle.cdb_standing.specs.Causes.{writes}
 use Rattle.cdb_standing.specs.Dependents.{IsDependent}
-use Rattle.cdb_standing.specs.Tables.{row_of, entry_of, IsEntry, IsCopy, IsSound}
+use Rattle.cdb_standing.specs.Tables.{row_of, entry_of, IsEntry, IsCopy, Stands, IsSound}
 use Rattle.cdb_standing.specs.declared.tables.Copied.TheVariants.{Lost}
 use Rattle.cdb_standing.specs.declared.tables.Entry.{Entry}
 use Rattle.cdb_standing.specs.declared.tables.Sent.{Sent}
@@ -146,37 +146,28 @@ module _ {next : ℕ} {steps : List (List Entry)} {sent : List (List Sent)} (sou
   process_within p k a kind at = let within = nth_within steps p (row_of steps p) (is_row steps p k (entry_of a kind) at) in (within.0, omega arith)
 
   -- the dependents by their reasons
+  pub by_reason : (one other : Event) {a b : ℕ} → Stands steps sent a one → Stands steps sent b other → a < b → Why one other
+      → IsDependent steps sent one a b other
+  by_reason one other here there less is = record { cause = here; effect = there; later = less; linked = links one other is }
+
   pub own_dependent : (p : ℕ) {k l a b : ℕ} {kind other : Kind} → IsEntry steps p k a kind → IsEntry steps p l b other → k < l
       → IsDependent steps sent (event.Step p k kind) a b (event.Step p l other)
   own_dependent p {k} {l} {a} {b} {kind} {other} here there less =
-      record {
-        cause = here;
-        effect = there;
-        later = sound.rises p k l a b kind other here there less;
-        linked = links (event.Step p k kind) (event.Step p l other) (inl refl);
-      }
+      by_reason (event.Step p k kind) (event.Step p l other) here there (sound.rises p k l a b kind other here there less) (inl refl)
 
   pub receive_dependent : (p m : ℕ) {k q l a b : ℕ} → IsEntry steps p k a (Send m) → IsEntry steps q l b (Recv p m)
       → IsDependent steps sent (event.Step p k (Send m)) a b (event.Step q l (Recv p m))
   receive_dependent p m {k} {q} {l} {a} {b} here there =
-      record {
-        cause = here;
-        effect = there;
-        later = sound.sent_first p m k a q l b here there;
-        linked = links (event.Step p k (Send m)) (event.Step q l (Recv p m)) (inr (inl (record { m = m; sends = refl; receives = refl })));
-      }
+      by_reason (event.Step p k (Send m)) (event.Step q l (Recv p m)) here there (sound.sent_first p m k a q l b here there)
+      (inr (inl (record { m = m; sends = refl; receives = refl })))
 
   pub loss_dependent : (copy : CopyName) {k a b : ℕ} → IsEntry steps copy.msg.s k a (Send copy.msg.m) → IsCopy sent copy.msg.s copy.msg.m copy.to (Lost b)
       → IsDependent steps sent (event.Step copy.msg.s k (Send copy.msg.m)) a b (event.Lost copy)
   loss_dependent copy {k} {a} {b} here there =
-      record {
-        cause = here;
-        effect = there;
-        later = sound.sent_lost copy.msg.s copy.msg.m k a copy.to b here there;
-        linked = links (event.Step copy.msg.s k (Send copy.msg.m)) (event.Lost copy) (refl, refl);
-      }
+      by_reason (event.Step copy.msg.s k (Send copy.msg.m)) (event.Lost copy) here there
+      (sound.sent_lost copy.msg.s copy.msg.m k a copy.to b here there) (refl, refl)
 
   pub conflict_dependent : {p k a : ℕ} {kind : Kind} {q l b : ℕ} {other : Kind} → IsEntry steps p k a kind → IsEntry steps q l b other → a < b
       → AreInConflict kind other → IsDependent steps sent (event.Step p k kind) a b (event.Step q l other)
   conflict_dependent {p} {k} {a} {kind} {q} {l} {b} {other} here there less c =
-      record { cause = here; effect = there; later = less; linked = links (event.Step p k kind) (event.Step q l other) (inr (inr c)) }
+      by_reason (event.Step p k kind) (event.Step q l other) here there less (inr (inr c))

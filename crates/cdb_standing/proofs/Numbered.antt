@@ -1,9 +1,9 @@
--- The steps of a process in the history, and their numbers.
+-- The steps of a process in the history, and their numbers; how many writes of a register stand before a step.
 use Rattle.std.proofs.lemmas.Grind.{common_steps}
-use Rattle.std.proofs.Common.{◌≡◌, ℕ, zero, suc, ◌+◌, ◌<◌, ◌≤◌, Bool, true, List, [], ◌∷◌, length, slice_get}
-use Rattle.std.proofs.Common.{Some, filter, inl, ⊎_elim, refl, sym, ap, ◌∙◌, subst, true≢false, eqb-true, eq-eqb, arith}
+use Rattle.std.proofs.Common.{◌≡◌, ℕ, zero, suc, ◌+◌, ◌<◌, ◌≤◌, Bool, true, List, [], ◌∷◌, length, slice_get, Some, filter, inl, ⊎_elim, refl, sym}
+use Rattle.std.proofs.Common.{ap, ◌∙◌, subst, true≢false, eqb-true, eq-eqb, arith, ◌&&◌, cond, nat_le, nat_lt, take, Option, None, inr}
 use Rattle.std.proofs.lemmas.Bool.{cases_lt}
-use Rattle.std.proofs.lemmas.Option.{none-some, same_Some}
+use Rattle.std.proofs.lemmas.Option.{none-some, same_Some, gets}
 use Rattle.cdb_base.specs.Event.{event_name, is_step_of}
 use Rattle.cdb_base.specs.Positions.{nth}
 use Rattle.cdb_base.specs.declared.event.Event.{Event}
@@ -11,18 +11,29 @@ use Rattle.cdb_base.specs.declared.event.Event.TheVariants as event
 use Rattle.cdb_base.specs.declared.name.StepId.{StepId}
 use Rattle.cdb_base.specs.declared.name.StepId.TheVariants as named
 use Rattle.cdb_base.specs.declared.name.StepName.{StepName}
-use Rattle.cdb_standing.specs.Comparisons.{steps_by, AreNumbered}
+use Rattle.cdb_standing.specs.Comparisons.{steps_by, AreNumbered, is_write_of, AreWritesBefore}
 use Rattle.cdb_standing.specs.InOrder.{Marked, Has, IsRising, each_from, events_of}
 use Rattle.cdb_standing.specs.Moves.{HasStep, IsEndOf, IsStandingName}
-use Rattle.cdb_standing.specs.Tables.{row_of, entry_of, step_at, history_of, standing, IsSound, Stands}
+use Rattle.cdb_standing.specs.Tables.{row_of, entry_of, step_at, history_of, standing, IsSound, Stands, IsEntry}
 use Rattle.cdb_standing.specs.declared.tables.Entry.{Entry}
 use Rattle.cdb_standing.specs.declared.tables.Sent.{Sent}
 use Rattle.cdb_standing.proofs.Joined.{marked}
-use Rattle.cdb_standing.proofs.Lasts.{row_rising}
+use Rattle.cdb_standing.proofs.AccessLists.{row_rising, split_counts}
 use Rattle.cdb_standing.proofs.Listed.{standing_rising, standing_only, standing_has}
 use Rattle.cdb_standing.proofs.Ordered.{has_at, at_has, pairwise_each, same_list}
 use Rattle.cdb_standing.proofs.Rows.{nth_some, each_one_only, each_one_has}
-use Rattle.cdb_standing.proofs.Places.{step_named}
+use Rattle.cdb_standing.proofs.Places.{step_named, the_place, step_of_name}
+use Rattle.std.proofs.lemmas.List.Sums.{sum_by-cons}
+use Rattle.std.specs.List.{count_by}
+use Rattle.cdb_base.specs.declared.event.Kind.{Kind}
+use Rattle.cdb_base.specs.declared.register.Reg.{Reg}
+use Rattle.cdb_causal.specs.Names.{IsNamedAt}
+use Rattle.cdb_standing.specs.Accesses.{number_of, listed, written, cell, AreListed, IsSplitAt}
+use Rattle.cdb_standing.specs.Counts.{is_before, writes_register, is_write_before}
+use Rattle.cdb_standing.specs.Dependents.{process_of}
+use Rattle.cdb_standing.specs.declared.tables.Access.{Access}
+use Rattle.cdb_standing.proofs.Links.{process_within}
+use Rattle.cdb_standing.proofs.Gathering.{one_if, sum_none}
 
 -- what passes a test
 
@@ -36,7 +47,7 @@ module _ {A : Type 0} (test : A → Bool) where
   passing_has (z ∷ xs) x h is = let again = passing_has xs x in grind (arith, common_steps, again)
 
 module _ (p : ℕ) where
-  abbrev is_its : Marked → Bool
+  abbrev pub is_its : Marked → Bool
   is_its x = is_step_of p x.event
 
   its_rising : (xs : List Marked) → IsRising xs → IsRising (filter is_its xs)
@@ -83,14 +94,15 @@ module _ {next : ℕ} {steps : List (List Entry)} {sent : List (List Sent)} (sou
       let found = each_one_only (step_at p) row x h in
       ⊎_elim (λ e. rw (← e) (found.2, eq-eqb p p refl)) (λ no. absurd no) found.3
 
-  steps_are : steps_by p (history_of steps sent) ≡ events_of (each_from (step_at p) 1 row)
-  steps_are =
-      its_events p (standing steps sent)
-      ∙ ap events_of
-      (same_list (filter (is_its p) (standing steps sent)) (each_from (step_at p) 1 row)
+  pub its_row : filter (is_its p) (standing steps sent) ≡ each_from (step_at p) 1 row
+  its_row =
+      same_list (filter (is_its p) (standing steps sent)) (each_from (step_at p) 1 row)
       (its_rising p (standing steps sent) (standing_rising steps sent)) (row_rises p row (row_rising sound p))
       (λ x h. let of = passing_only (is_its p) (standing steps sent) x h in in_row x (standing_only steps sent x of.0) of.1)
-      (λ x h. let of = of_row x h in passing_has (is_its p) (standing steps sent) x (standing_has steps sent sound.single x.mark x.event of.0) of.1))
+      (λ x h. let of = of_row x h in passing_has (is_its p) (standing steps sent) x (standing_has steps sent sound.single x.mark x.event of.0) of.1)
+
+  steps_are : steps_by p (history_of steps sent) ≡ events_of (each_from (step_at p) 1 row)
+  steps_are = its_events p (standing steps sent) ∙ ap events_of its_row
 
   pub steps_counted : length row ≡ length (steps_by p (history_of steps sent))
   steps_counted = sym (ap length steps_are ∙ row_length p 1 row)
@@ -130,3 +142,120 @@ module _ (p : ℕ) (history : List Event) where
       → named.Step (record { p = p; k = k }) ≡ name
   last_named k name numbered count end l is other_end standing =
       ap (λ n. named.Step (record { p = p; k = n })) (sym (last_number k l numbered count end other_end (subst (IsStandingName history) is standing))) ∙ sym is
+
+-- ---- how many writes of a register stand before a step
+
+-- ---- counts of any list
+
+module _ {A : Type 0} where
+  count_same : (one other : A → Bool) (xs : List A) → ((x : A) → Has xs x → one x ≡ other x) → count_by one xs ≡ count_by other xs
+  count_same one other [] same = refl
+  count_same one other (x ∷ xs) same =
+      let here = same x (inl refl) in let rest = count_same one other xs (λ y h. same y (inr h)) in grind (arith, common_steps, sum_by-cons)
+
+  -- those that pass a test are those that pass another one, and those that pass one after a third
+  count_parts : (one other first after : A → Bool) (xs : List A) → ((x : A) → one_if (one x) ≡ one_if (other x) + one_if (first x && after x))
+      → count_by one xs ≡ count_by other xs + count_by after (filter first xs)
+  count_parts one other first after [] parts = refl
+  count_parts one other first after (x ∷ xs) parts =
+      let here = parts x in let rest = count_parts one other first after xs parts in grind (arith, common_steps, sum_by-cons)
+
+listed_few : (of : Kind → Option ℕ) (n k : ℕ) (row : List Entry) → length (listed of n k row) ≤ length row
+listed_few of n k [] = omega arith
+listed_few of n k (x ∷ xs) = let few = listed_few of n (suc k) xs in grind (arith, common_steps)
+
+-- the writes before an element of a list in order are those with lower marks
+module _ (one other : Event → Bool) (same : (e : Event) → one e ≡ other e) where
+  abbrev is_one_before : ℕ → Marked → Bool
+  is_one_before mark x = one x.event && nat_lt x.mark mark
+
+  not_before : (mark : ℕ) (x : Marked) → mark ≤ x.mark → one_if (is_one_before mark x) ≡ 0
+  not_before mark x high = grind (arith, common_steps, gets)
+
+  is_before_one : (mark : ℕ) (x : Marked) → x.mark < mark → one_if (is_one_before mark x) ≡ one_if (other x.event)
+  is_before_one mark x low = grind (arith, common_steps, gets)
+
+  pub counted_before : (xs : List Marked) (i : ℕ) (x : Marked) → IsRising xs → slice_get xs i ≡ Some x
+      → count_by (is_one_before x.mark) xs ≡ count_by other (take i (events_of xs))
+  counted_before [] i x rising at = absurd (none-some x at)
+  counted_before (z ∷ xs) zero x rising at =
+      sum_none (λ y. cond (is_one_before x.mark y) 1 0) (z ∷ xs)
+      (λ y h. let after = rising.0 y in let first = same_Some z x at in not_before x.mark y (grind (arith, after)))
+  counted_before (z ∷ xs) (suc i) x rising at =
+      let here = is_before_one x.mark z (rising.0 x (at_has xs i x at)) in
+      let rest = counted_before xs i x rising.1 at in
+      let left = sum_by-cons (λ y. cond (is_one_before x.mark y) 1 0) z xs in
+      let right = sum_by-cons (λ e. cond (other e) 1 0) z.event (take i (events_of xs)) in
+      omega arith
+
+same_writes : (register : Reg) (e : Event) → writes_register (number_of register) e ≡ is_write_of register e
+same_writes register e = grind (arith, common_steps, gets)
+
+-- ---- process by process
+
+-- the writes of the processes up to one
+abbrev pub is_write_upto : ℕ → ℕ → ℕ → Marked → Bool
+is_write_upto n mark i x = nat_le (process_of x.event) i && is_write_before n mark x
+
+next_process : (n mark i a : ℕ) (it : Event) → one_if (is_write_upto n mark (suc i) (marked a it))
+    ≡ one_if (is_write_upto n mark i (marked a it)) + one_if (is_its (suc i) (marked a it) && is_write_before n mark (marked a it))
+next_process n mark i a (event.Step p k kind) = grind (arith, common_steps, gets)
+next_process n mark i a (event.Lost copy) = grind (arith, common_steps, gets)
+
+row_counts : (n mark p k : ℕ) (row : List Entry)
+    → count_by (is_write_before n mark) (each_from (step_at p) k row) ≡ count_by (is_before mark) (listed written n k row)
+row_counts n mark p k [] = refl
+row_counts n mark p k (x ∷ xs) = let again = row_counts n mark p (suc k) xs in grind (arith, common_steps, sum_by-cons)
+
+module _ {next : ℕ} {steps : List (List Entry)} {sent : List (List Sent)} (sound : IsSound next steps sent) where
+  abbrev upto : ℕ → ℕ → ℕ → ℕ
+  upto n mark i = count_by (is_write_upto n mark i) (standing steps sent)
+
+  pub none_counted : (n mark : ℕ) → upto n mark 0 ≡ 0
+  none_counted n mark = sum_none (λ x. cond (is_write_upto n mark 0 x) 1 0) (standing steps sent) (λ x h. none x.mark x.event (standing_only steps sent x h))
+    where
+      none : (a : ℕ) (it : Event) → Stands steps sent a it → one_if (is_write_upto n mark 0 (marked a it)) ≡ 0
+      none a (event.Step p k kind) at = let within = process_within sound p k a kind at in grind (arith, common_steps)
+      none a (event.Lost copy) at = grind (arith, common_steps)
+
+  pub all_counted : (n mark : ℕ) → upto n mark 9 ≡ count_by (is_write_before n mark) (standing steps sent)
+  all_counted n mark =
+      count_same (is_write_upto n mark 9) (is_write_before n mark) (standing steps sent) (λ x h. all x.mark x.event (standing_only steps sent x h))
+    where
+      all : (a : ℕ) (it : Event) → Stands steps sent a it → is_write_upto n mark 9 (marked a it) ≡ is_write_before n mark (marked a it)
+      all a (event.Step p k kind) at = let within = process_within sound p k a kind at in grind (arith, common_steps)
+      all a (event.Lost copy) at = grind (arith, common_steps)
+
+  -- one process more is counted
+  pub next_counted : {writes : List (List Access)} {n : ℕ} (mark i found : ℕ) → AreListed written writes steps → n < 11 → i < 9
+      → {list : List Access} → row_of writes (cell (suc i) n) ≡ list → IsSplitAt list mark found
+      → (found ≤ 65535) × (upto n mark (i + 1) ≡ upto n mark i + found)
+  next_counted {writes} {n} mark i found lists eleven nine {list} list_is split =
+      let row = row_of steps (suc i) in
+      let is : list ≡ listed written n 1 row = sym list_is ∙ lists.each (suc i) n (omega arith) (omega arith) eleven in
+      let one : suc i ≡ i + 1 = omega arith in
+      let short = split.within in
+      let shorter = listed_few written n 1 row in
+      let long = ap length is in
+      let few = sound.few (suc i) in
+      let counts = split_counts mark list found split in
+      let parts =
+      count_parts (is_write_upto n mark (suc i)) (is_write_upto n mark i) (is_its (suc i)) (is_write_before n mark) (standing steps sent)
+      (λ x. next_process n mark i x.mark x.event) in
+      let here =
+      ap (count_by (is_write_before n mark)) (its_row sound (suc i)) ∙ row_counts n mark (suc i) 1 row
+      ∙ ap (count_by (is_before mark)) (sym is) in
+      (omega arith, rw (← one) (omega arith))
+
+  -- by name
+  pub writes_are : (register : Reg) (p k mark : ℕ) (kind : Kind) → IsEntry steps p k mark kind
+      → (count : ℕ) → count ≡ count_by (is_write_before (number_of register) mark) (standing steps sent)
+      → AreWritesBefore (history_of steps sent) register (named.Step (record { p = p; k = k })) count
+  writes_are register p k mark kind at count is zero h = absurd (none-some h.0 h.1)
+  writes_are register p k mark kind at count is (suc i) h =
+      is
+      ∙ counted_before (writes_register (number_of register)) (is_write_of register) (same_writes register) (standing steps sent) i
+      (marked mark (event.Step p k kind)) (standing_rising steps sent) (the_place sound mark (event.Step p k kind) at (suc i) h)
+
+  pub none_there : (p k : ℕ) → nth (row_of steps p) k ≡ None → (at : ℕ) → IsNamedAt (history_of steps sent) at (named.Step (record { p = p; k = k })) → ⊥
+  none_there p k none at h = let entry = step_of_name sound p k at h in none-some (entry_of entry.0 entry.1) (sym none ∙ entry.2)

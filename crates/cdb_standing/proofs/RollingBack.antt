@@ -7,7 +7,6 @@ use Rattle.cdb_base.specs.Event.{event_name}
 use Rattle.cdb_base.specs.Positions.{nth}
 use Rattle.cdb_base.specs.declared.event.Event.{Event}
 use Rattle.cdb_base.specs.declared.event.Event.TheVariants as event
-use Rattle.cdb_base.specs.declared.event.Kind.TheVariants.{Send}
 use Rattle.cdb_base.specs.declared.name.CopyName.{CopyName}
 use Rattle.cdb_base.specs.declared.name.StepId.{StepId}
 use Rattle.cdb_base.specs.declared.name.StepId.TheVariants as named
@@ -19,21 +18,19 @@ use Rattle.cdb_causal.proofs.Chains.{parted, rolled_back_split}
 use Rattle.cdb_causal.proofs.LeastSet.{consequences_parted}
 use Rattle.cdb_causal.proofs.Lists.{nth_map}
 use Rattle.cdb_causal.proofs.Parted.{none_found}
-use Rattle.cdb_standing.specs.Cuts.{cut_of, IsCut, AreConsequencesCut}
+use Rattle.cdb_standing.specs.Cuts.{cut_of, AreConsequencesCut}
 use Rattle.cdb_standing.specs.Gathered.{AreInOrder}
 use Rattle.cdb_standing.specs.InOrder.{Marked, Has, IsRising, events_of}
 use Rattle.cdb_standing.specs.Kept.{history_in, AreKept}
 use Rattle.cdb_standing.specs.Moves.{IsStandingName}
-use Rattle.cdb_standing.specs.Tables.{rows_in, row_of, history_of, standing, entry_of, Stands, IsSound}
+use Rattle.cdb_standing.specs.Tables.{rows_in, history_of, standing, IsSound}
 use Rattle.cdb_standing.specs.declared.tables.Entry.{Entry}
 use Rattle.cdb_standing.specs.declared.tables.Sent.{Sent}
 use Rattle.cdb_standing.specs.declared.tables.Tables.{Tables}
-use Rattle.cdb_standing.proofs.Firsts.{first_of_loss}
+use Rattle.cdb_standing.proofs.EarliestFound.{first_of_loss}
 use Rattle.cdb_standing.proofs.Listed.{standing_rising, standing_only, standing_has}
-use Rattle.cdb_standing.proofs.Merge.{IsOf, step, loss, of_stands, all_only, all_has}
+use Rattle.cdb_standing.proofs.Gathering.{origin, cut_in}
 use Rattle.cdb_standing.proofs.Ordered.{has_at, at_has, same_list}
-use Rattle.cdb_standing.proofs.Places.{stands_in, in_stands}
-use Rattle.cdb_standing.proofs.Rows.{same_at}
 
 -- ---- the marks of what is removed
 
@@ -96,48 +93,21 @@ free_alone history at it one there free =
 
 module _ {next : ℕ} {steps : List (List Entry)} {sent : List (List Sent)} (sound : IsSound next steps sent)
     {cuts : List ℕ} {events : List Event} (ordered : AreInOrder cuts steps sent events) where
-  -- each event is of a step
-  abbrev HasOrigin : ℕ → Event → Type 0
-  HasOrigin mark it = (p : ℕ) × (k : ℕ) × (entry : Entry) × (nth (row_of steps p) k ≡ Some entry) × IsOf sound p k mark it
-
-  origin : (mark : ℕ) (it : Event) → Stands steps sent mark it → HasOrigin mark it
-  origin mark (event.Step p k kind) at = (p, k, entry_of mark kind, at, step at)
-  origin mark (event.Lost copy) at =
-      let send = sound.sent_is (copy.msg).s (copy.msg).m (at.it).k (record { it = at.it; was_sent = at.was_sent; by = refl }) in
-      ((copy.msg).s, (at.it).k, entry_of send.0 (Send (copy.msg).m), send.1, loss send.1 at)
-
-  in_all : (x : Marked) (origin : HasOrigin x.mark x.event) → cut_of cuts origin.0 ≤ origin.1 → Has ordered.marked x
-  in_all x (p, k, entry, at, of) cut = (ordered.same x).1 (all_has sound cuts p k x.mark x.event entry at cut of)
-
-  of_all : (x : Marked) → Has ordered.marked x → (p : ℕ) × (k : ℕ) × (cut_of cuts p ≤ k) × IsOf sound p k x.mark x.event
-  of_all x h = all_only sound cuts x ((ordered.same x).0 h)
-
   -- where nothing is below the numbers, that is the whole history
-  pub all_marked : ((q : ℕ) → cut_of cuts q ≡ 0) → ordered.marked ≡ standing steps sent
-  all_marked none =
-      same_list ordered.marked (standing steps sent) ordered.rising (standing_rising steps sent)
-      (λ x h. standing_has steps sent sound.single x.mark x.event (of_stands sound (of_all x h).3))
-      (λ x h. let of = origin x.mark x.event (standing_only steps sent x h) in let zero_is = none of.0 in in_all x of (omega arith))
-
   pub all_in_order : ((q : ℕ) → cut_of cuts q ≡ 0) → events ≡ history_of steps sent
-  all_in_order none = ordered.are ∙ ap events_of (all_marked none)
+  all_in_order none =
+      ordered.are
+      ∙ ap events_of
+      (same_list ordered.marked (standing steps sent) ordered.rising (standing_rising steps sent)
+      (λ x h. standing_has steps sent sound.single x.mark x.event ((ordered.same x).0 h).0)
+      (λ x h.
+      let there = standing_only steps sent x h in
+      let of = origin sound x.mark x.event there in
+      let zero_is = none of.0 in
+      (ordered.same x).1 (there, cut_in sound cuts x.event of (omega arith))))
 
-  -- ---- a step with its consequences
-
-  cut_in : {p k mark : ℕ} {it : Event} → IsOf sound p k mark it → cut_of cuts p ≤ k → IsCut (history_of steps sent) cuts it
-  cut_in (step at) cut = cut
-  cut_in {p} {k} (loss {a = a} {m = m} at copy) cut = (k, stands_in sound a (event.Step p k (Send m)) at, cut)
-
-  in_cut : {p k mark : ℕ} {it : Event} → IsOf sound p k mark it → IsCut (history_of steps sent) cuts it → cut_of cuts p ≤ k
-  in_cut (step at) cut = cut
-  in_cut {p} {k} (loss {a = a} {m = m} at copy) (l, there, cut) =
-      let other = in_stands sound (event.Step p l (Send m)) there in
-      let one = sound.is_sent p m k a at in
-      let two = sound.is_sent p m l other.0 other.1 in
-      let same : k ≡ l = sym one.by ∙ ap (λ (x : Sent). x.k) (same_at (row_of sent p) m one.it two.it one.was_sent two.was_sent) ∙ two.by in
-      omega arith
-
-  pub cut_in_order : (name : StepId) → AreConsequencesCut (history_of steps sent) name cuts → (at : ℕ)
+  -- a step with its consequences
+  pub cut_in_order : (name : StepId) → AreConsequencesCut steps sent name cuts → (at : ℕ)
       → IsNamedAt (history_of steps sent) at name → 1 ≤ at → events ≡ rolled_back depends (history_of steps sent) at
   cut_in_order name are at named one =
       let part =
@@ -147,17 +117,18 @@ module _ {next : ℕ} {steps : List (List Entry)} {sent : List (List Sent)} (sou
       ∙ ap events_of
       (same_list ordered.marked part.part ordered.rising part.rising
       (λ x h.
-      let of = of_all x h in
-      let found = has_at (standing steps sent) x (standing_has steps sent sound.single x.mark x.event (of_stands sound of.3)) in
-      let there = nth_map (λ (m : Marked). m.event) (standing steps sent) (suc found.0) x found.1 in
-      part.all (suc found.0) found.0 x (omega arith) found.1 ((are at named (suc found.0) x.event there).0 (cut_in of.3 of.2)))
+      let cut = (ordered.same x).0 h in
+      let found = has_at (standing steps sent) x (standing_has steps sent sound.single x.mark x.event cut.0) in
+      part.all (suc found.0) found.0 x (omega arith) found.1 ((are at named (suc found.0) x.event (event_there found.0 x found.1)).0 cut.1))
       (λ x h.
       let found = part.only x h in
       let number : found.0 ≡ suc found.1 = omega arith in
-      let of = origin x.mark x.event (standing_only steps sent x (at_has (standing steps sent) found.1 x found.3)) in
-      let there = nth_map (λ (m : Marked). m.event) (standing steps sent) (suc found.1) x found.3 in
-      in_all x of (in_cut of.4 ((are at named (suc found.1) x.event there).1 (rw number at found.4)))))
+      let there = standing_only steps sent x (at_has (standing steps sent) found.1 x found.3) in
+      (ordered.same x).1 (there, (are at named (suc found.1) x.event (event_there found.1 x found.3)).1 (rw number at found.4))))
       ∙ part.are
+    where
+      event_there : (i : ℕ) (x : Marked) → slice_get (standing steps sent) i ≡ Some x → nth (history_of steps sent) (suc i) ≡ Some x.event
+      event_there i x there = nth_map (λ (m : Marked). m.event) (standing steps sent) (suc i) x there
 
 -- ---- by name
 
@@ -168,7 +139,8 @@ module _ {t : Tables} (kept : AreKept t) where
   abbrev IsRolledBackFrom : StepId → List Event → Type 0
   IsRolledBackFrom name events = (at : ℕ) → IsNamedAt (history_in t) at name → events ≡ rolled_back depends (history_in t) at
 
-  pub step_rolled : (name : StepId) {cuts : List ℕ} {events : List Event} → (IsStandingName (history_in t) name → AreConsequencesCut (history_in t) name cuts)
+  pub step_rolled : (name : StepId) {cuts : List ℕ} {events : List Event}
+      → (IsStandingName (history_in t) name → AreConsequencesCut (rows_in t.steps.items) (rows_in t.sent.items) name cuts)
       → AreInOrder cuts (rows_in t.steps.items) (rows_in t.sent.items) events → IsRolledBackFrom name events
   step_rolled name are ordered at h = cut_in_order kept.sound ordered name (are (at, h)) at h (from_one (history_in t) at name h)
 

@@ -8,9 +8,8 @@ use Rattle.std.proofs.lemmas.List.{map-set}
 use Rattle.std.specs.Option.{option_copied, MatchOption}
 use Rattle.std.specs.List.{HoldsAt}
 use Rattle.std.specs.Prelude.{vec_len, vec_capacity}
-use Rattle.cdb_standing.specs.Rooms.{HasRoomIn}
+use Rattle.cdb_standing.specs.Tables.{HasRoomIn, rows_in, row_of, IsPutOn, IsCopySet, IsRowSet}
 use Rattle.cdb_base.specs.Positions.{nth}
-use Rattle.cdb_standing.specs.Tables.{rows_in, row_of, IsPutOn, IsCopySet, IsRowSet}
 use Rattle.cdb_standing.specs.declared.tables.Copied.{Copied}
 use Rattle.cdb_standing.specs.declared.tables.Sent.{Sent}
 

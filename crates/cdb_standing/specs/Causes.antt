@@ -11,7 +11,7 @@ use Rattle.cdb_base.specs.declared.name.StepId.{StepId}
 use Rattle.cdb_base.specs.declared.name.StepId.TheVariants as named
 use Rattle.cdb_causal.specs.DirectCauses.{ComesBefore, AreDirectCauses}
 use Rattle.cdb_causal.specs.Names.{IsNamedAt}
-use Rattle.cdb_standing.specs.Accesses.{accessed, is_that, cell, IsLastBeforeOrNone}
+use Rattle.cdb_standing.specs.Accesses.{accessed, is_that, IsLastBeforeOrNone}
 use Rattle.cdb_standing.specs.Dependents.{IsDependent}
 use Rattle.cdb_standing.specs.InOrder.{Has}
 use Rattle.cdb_standing.specs.Kept.{history_in}
@@ -46,9 +46,9 @@ register_of_both kind other = option_and_then (λ n. cond (is_that (accessed oth
 abbrev pub between_in : List (List Access) → List (List Access) → Kind → ℕ → Kind → ℕ → List (List Access)
 between_in accesses writing cause p kind s = cond (writes cause && (nat_eq s p || writes kind)) accesses writing
 
-abbrev pub HasAccessBetween : List (List Access) → ℕ → ℕ → ℕ → ℕ → Type 0
-HasAccessBetween table s n behind ahead =
-    (access : Access) × Has (row_of table (cell s n)) access × (behind < access.mark) × (access.mark < ahead)
+abbrev pub HasAccessBetween : List Access → ℕ → ℕ → Type 0
+HasAccessBetween accesses behind ahead =
+    (access : Access) × Has accesses access × (behind < access.mark) × (access.mark < ahead)
 
 -- ---- causes
 

@@ -1,15 +1,16 @@
 -- The events that numbers cut off, as they are gathered: of each process its steps from a number on, each with the
 -- losses of what it sent.
-use Rattle.std.specs.Prelude.{◌≡◌, ◌↔◌, ℕ, suc, ◌+◌, ◌-◌, ◌<◌, ◌≤◌, List, [], ◌++◌, cond, nat_le}
+use Rattle.std.specs.Prelude.{◌≡◌, ◌≢◌, ◌↔◌, ℕ, suc, ◌+◌, ◌-◌, ◌<◌, ◌≤◌, List, [], ◌++◌}
 use Rattle.std.specs.Prelude.{Option, Some, MatchOption, length, slice_get}
 use Rattle.std.specs.Option.{option_map_or}
 use Rattle.cdb_base.specs.Positions.{nth}
 use Rattle.cdb_base.specs.declared.event.Event.{Event}
+use Rattle.cdb_base.specs.declared.event.Event.TheVariants.{Step, Lost}
 use Rattle.cdb_base.specs.declared.event.Kind.{Kind}
 use Rattle.cdb_base.specs.declared.event.Kind.TheVariants.{Send}
-use Rattle.cdb_standing.specs.Cuts.{cut_of}
-use Rattle.cdb_standing.specs.InOrder.{Marked, Has, IsRising, each_from, events_of}
-use Rattle.cdb_standing.specs.Tables.{row_of, step_at, losses_to}
+use Rattle.cdb_standing.specs.Cuts.{cut_of, IsCut}
+use Rattle.cdb_standing.specs.InOrder.{Marked, Has, IsPairwise, IsRising, events_of}
+use Rattle.cdb_standing.specs.Tables.{row_of, step_at, losses_to, IsMessage, Stands}
 use Rattle.cdb_standing.specs.declared.order.Next.{Next}
 use Rattle.cdb_standing.specs.declared.tables.Entry.{Entry}
 use Rattle.cdb_standing.specs.declared.tables.Sent.{Sent}
@@ -23,15 +24,19 @@ losses_of sent p _ = []
 abbrev pub of_step : List (List Sent) → ℕ → ℕ → Entry → List Marked
 of_step sent p k entry = step_at p k entry ++ losses_of sent p entry.kind
 
--- the steps of a row from a number on, with these
-abbrev pub step_from : List (List Sent) → ℕ → ℕ → ℕ → Entry → List Marked
-step_from sent from p k entry = cond (nat_le from k) (of_step sent p k entry) []
+-- the event is the k-th step of process p, or the loss of a copy of what that step sent
+abbrev pub IsOf : List (List Sent) → ℕ → ℕ → Event → Type 0
+IsOf sent p k (Step q l kind) = (q ≡ p) × (l ≡ k)
+IsOf sent p k (Lost copy) = ((copy.msg).s ≡ p) × IsMessage sent p (copy.msg).m k
 
-abbrev pub steps_from : List (List Sent) → ℕ → ℕ → List Entry → List Marked
-steps_from sent from p row = each_from (step_from sent from p) 1 row
+abbrev pub HasOtherEvent : Marked → Marked → Type 0
+HasOtherEvent x y = x.event ≢ y.event
 
-abbrev pub all_from : List ℕ → List (List Entry) → List (List Sent) → List Marked
-all_from cuts steps sent = each_from (λ p row. steps_from sent (cut_of cuts p) p row) 1 steps
+-- each event that the numbers cut off is there once
+pub record AreGathered (cuts : List ℕ) (steps : List (List Entry)) (sent : List (List Sent))
+    (found : List Marked) : Type 0 where
+  pub same : (x : Marked) → Has found x ↔ (Stands steps sent x.mark x.event × IsCut sent cuts x.event)
+  pub apart : IsPairwise HasOtherEvent found
 
 -- the row at that index has a step of the process's number or a higher one
 abbrev pub IsLeftAt : List (List Entry) → List ℕ → ℕ → Type 0
@@ -55,10 +60,10 @@ pub record IsGathered (steps : List (List Entry)) (sent : List (List Sent))
   pub number : n ≡ cut_of from (suc i) - 1 + 2
   pub more : new ≡ old ++ of_step sent (suc i) (suc (cut_of from (suc i) - 1)) entry
 
--- the same events in the order of their marks
+-- the events that the numbers cut off, in the order of their marks
 pub record AreInOrder (cuts : List ℕ) (steps : List (List Entry))
     (sent : List (List Sent)) (events : List Event) : Type 0 where
   pub marked : List Marked
   pub rising : IsRising marked
-  pub same : (one : Marked) → Has marked one ↔ Has (all_from cuts steps sent) one
+  pub same : (x : Marked) → Has marked x ↔ (Stands steps sent x.mark x.event × IsCut sent cuts x.event)
   pub are : events ≡ events_of marked

@@ -1,5 +1,6 @@
 -- The past of an event in the tables: of each process the steps up to a number.
-use Rattle.std.specs.Prelude.{◌≡◌, ℕ, ◌+◌, ◌-◌, ◌≤◌, ⊤, cond, nat_eq, nat_lt, List, [], ◌∷◌, Option, Some, None}
+use Rattle.std.specs.Prelude.{◌≡◌, ℕ, ◌-◌, ◌≤◌, ⊤, cond, nat_eq, nat_lt, List, Option, Some, None}
+use Rattle.std.specs.List.{sum_by}
 use Rattle.cdb_base.specs.declared.event.Event.{Event}
 use Rattle.cdb_base.specs.declared.event.Event.TheVariants.{Step, Lost}
 use Rattle.cdb_base.specs.declared.event.Kind.{Kind}
@@ -76,5 +77,4 @@ pub record IsPast (steps : List (List Entry)) (sent : List (List Sent))
 
 -- how many steps may still be looked at
 abbrev pub room : List ℕ → ℕ
-room [] = 0
-room (x ∷ xs) = (65536 - x) + room xs
+room numbers = sum_by (λ n. 65536 - n) numbers

@@ -3,8 +3,9 @@
 ghost use Rattle.std.specs.Prelude.{◌≡◌, ◌+◌, ◌<◌, ◌≤◌, length, OnOk};
 ghost use Rattle.cdb_standing.specs.Accesses.{accessed as accessed_by, written as written_by, access_of};
 ghost use Rattle.cdb_standing.specs.Accesses.{HasRoomToList, IsListedAt, IsRegisterOf};
-ghost use Rattle.cdb_standing.specs.Rooms.{HoldSameSteps, HasRoomFor, HasRoomToMail, HoldSame, HasRows};
-ghost use Rattle.cdb_standing.specs.Tables.{rows_in, HasCopy, IsCopySet, IsMailedBy, MayMail, IsStepAdded};
+ghost use Rattle.cdb_standing.specs.Tables.{steps_of, sent_of, HoldSameSteps, HasRoomFor, HasRoomToMail};
+ghost use Rattle.cdb_standing.specs.Tables.{HoldSame, HasRows, rows_in, HasCopy, IsCopySet, IsMailedBy};
+ghost use Rattle.cdb_standing.specs.Tables.{MayMail, IsStepAdded};
 ghost use Rattle.cdb_standing.specs.declared.tables.Copied.TheVariants.{Lost};
 
 use crate::accesses::{accessed, list_at, reserve_list, written};
@@ -54,8 +55,7 @@ pub(crate) fn reserve_step(tables: &mut Tables, p: Proc, kind: &Kind) -> Result<
     ensures mark { OnOk result (tables.new.next < u64.MAX) }
     ensures room { OnOk result (HasRoomFor tables.new.steps.items p) }
     ensures mail { OnOk result (HasRoomToMail p kind.now tables.new.sent.items) }
-    ensures accesses { OnOk result
-        (HasRoomToList (accessed_by kind.now) p tables.new.accesses.items) }
+    ensures accesses { OnOk result (HasRoomToList (accessed_by kind.now) p tables.new.accesses.items) }
     ensures writes { OnOk result (HasRoomToList (written_by kind.now) p tables.new.writes.items) }
 {
     reserve_mark(tables)?;
@@ -87,12 +87,11 @@ pub(crate) fn add_step(tables: &mut Tables, p: Proc, k: u16, kind: &Kind)
     requires mark { tables.old.next < u64.MAX }
     requires room { HasRoomFor tables.old.steps.items p }
     requires mail_room { HasRoomToMail p kind.now tables.old.sent.items }
-    requires may_mail { MayMail p kind.now (rows_in tables.old.sent.items) }
+    requires may_mail { MayMail p kind.now (sent_of tables.old) }
     requires accesses_room { HasRoomToList (accessed_by kind.now) p tables.old.accesses.items }
     requires writes_room { HasRoomToList (written_by kind.now) p tables.old.writes.items }
-    ensures added { IsStepAdded tables.old.next p k kind.now
-        (rows_in tables.old.steps.items) (rows_in tables.old.sent.items)
-        (rows_in tables.new.steps.items) (rows_in tables.new.sent.items) }
+    ensures added { IsStepAdded tables.old.next p k kind.now (steps_of tables.old) (sent_of tables.old)
+        (steps_of tables.new) (sent_of tables.new) }
     ensures accesses { IsListedAt (accessed_by kind.now) p (access_of tables.old.next k)
         (rows_in tables.old.accesses.items) (rows_in tables.new.accesses.items) }
     ensures writes { IsListedAt (written_by kind.now) p (access_of tables.old.next k)
@@ -113,10 +112,9 @@ pub(crate) fn add_step(tables: &mut Tables, p: Proc, k: u16, kind: &Kind)
 /// Adds the loss of a copy that waits. It takes no memory.
 pub(crate) fn add_loss(tables: &mut Tables, copy: &CopyName)
     requires mark { tables.old.next < u64.MAX }
-    requires sent { HasCopy (rows_in tables.old.sent.items) copy.now.msg.s copy.now.msg.m copy.now.to }
-    ensures lost { IsCopySet (rows_in tables.old.sent.items)
-        copy.now.msg.s copy.now.msg.m copy.now.to (Lost tables.old.next)
-        (rows_in tables.new.sent.items) }
+    requires sent { HasCopy (sent_of tables.old) copy.now.msg.s copy.now.msg.m copy.now.to }
+    ensures lost { IsCopySet (sent_of tables.old) copy.now.msg.s copy.now.msg.m copy.now.to (Lost tables.old.next)
+        (sent_of tables.new) }
     ensures next { tables.new.next ≡ tables.old.next + 1 }
     ensures same { HoldSameSteps tables.old tables.new }
     ensures to_nine { copy.now.to ≤ 9 }

@@ -7,9 +7,9 @@ ghost use Rattle.cdb_standing.specs.Causes.{sent_by, writes as writes_of, regist
 ghost use Rattle.cdb_standing.specs.Causes.{HasAccessBetween, IsLastByList, IsLastCause, IsLastCauseOrNone};
 ghost use Rattle.cdb_standing.specs.Causes.{FindsBetween, IsDirectOf, AreDirect, AreDirectByName};
 ghost use Rattle.cdb_standing.specs.Kept.{AreKept};
-ghost use Rattle.cdb_standing.specs.Tables.{rows_in, row_of, IsEntry, Stands};
+ghost use Rattle.cdb_standing.specs.Tables.{steps_of, sent_of, rows_in, row_of, IsEntry, Stands};
 
-use crate::accesses::{accessed, last_of, number_of};
+use crate::accesses::{accessed, last_before, list_of, number_of};
 use crate::find::find_marked;
 use crate::table::item;
 use crate::tables::{Access, Entry, Sent, Tables};
@@ -29,14 +29,12 @@ fn by_message(sent: &Vec<Vec<Sent>>, s: Proc, m: u16, q: Proc) -> Option<u16>
     }
 }
 
-/// The number of the last step before a mark that a process has on a list.
-fn by_list(table: &Vec<Vec<Access>>, q: Proc, n: usize, ahead: u64) -> Option<u16>
-    requires few { n < 11 }
-    requires count { length table.now.items ≡ 99 }
-    requires rising { IsRisingBy (row_of (rows_in table.now.items) (cell q n)) }
-    ensures { IsLastByList (row_of (rows_in table.now.items) (cell q n)) ahead result }
+/// The number of the last step before a mark on a list.
+fn by_list(list: &[Access], ahead: u64) -> Option<u16>
+    requires { IsRisingBy list.now }
+    ensures { IsLastByList list.now ahead result }
 {
-    Some(last_of(table, q, n, ahead)?.k)
+    Some(last_before(list, ahead)?.k)
 }
 
 /// The number of the last step of process `q` on which the `k`-th step of process `p` depends: its own last step before
@@ -50,9 +48,8 @@ fn last_cause_of_step(
     q: Proc,
 ) -> Option<u16>
     requires kept { AreKept tables.now }
-    requires at { IsEntry (rows_in tables.now.steps.items) p k ahead kind.now }
-    ensures { IsLastCauseOrNone (rows_in tables.now.steps.items) (rows_in tables.now.sent.items)
-        (Step p k kind.now) ahead q result }
+    requires at { IsEntry (steps_of tables.now) p k ahead kind.now }
+    ensures { IsLastCauseOrNone (steps_of tables.now) (sent_of tables.now) (Step p k kind.now) ahead q result }
 {
     let _number = q.number();
     if p == q {
@@ -60,8 +57,8 @@ fn last_cause_of_step(
     }
     match kind {
         Kind::Recv(s, m) => by_message(&tables.sent, *s, *m, q),
-        Kind::Read(register) => by_list(&tables.writes, q, number_of(register), ahead),
-        Kind::Write(register) => by_list(&tables.accesses, q, number_of(register), ahead),
+        Kind::Read(register) => by_list(list_of(&tables.writes, q, number_of(register)), ahead),
+        Kind::Write(register) => by_list(list_of(&tables.accesses, q, number_of(register)), ahead),
         _ => None,
     }
 }
@@ -69,10 +66,8 @@ fn last_cause_of_step(
 /// The number of the last step of process `q` on which an event depends.
 pub(crate) fn last_cause(tables: &Tables, effect: &Event, ahead: u64, q: Proc) -> Option<u16>
     requires kept { AreKept tables.now }
-    requires stands { Stands (rows_in tables.now.steps.items) (rows_in tables.now.sent.items)
-        ahead effect.now }
-    ensures { IsLastCauseOrNone (rows_in tables.now.steps.items) (rows_in tables.now.sent.items)
-        effect.now ahead q result }
+    requires stands { Stands (steps_of tables.now) (sent_of tables.now) ahead effect.now }
+    ensures { IsLastCauseOrNone (steps_of tables.now) (sent_of tables.now) effect.now ahead q result }
 {
     match effect {
         Event::Step { p, k, kind } => last_cause_of_step(tables, *p, *k, kind, ahead, q),
@@ -99,14 +94,12 @@ fn common_register(kind: &Kind, other: &Kind) -> Option<usize>
     if accessed(other)? == n { Some(n) } else { None }
 }
 
-/// Whether a process has an access on a list between two marks.
-fn has_between(table: &Vec<Vec<Access>>, s: Proc, n: usize, behind: u64, ahead: u64) -> bool
-    requires few { n < 11 }
-    requires count { length table.now.items ≡ 99 }
-    requires rising { IsRisingBy (row_of (rows_in table.now.items) (cell s n)) }
-    ensures { IsTrue result ↔ HasAccessBetween (rows_in table.now.items) s n behind ahead }
+/// Whether an access of a list has a mark between two.
+fn has_between(list: &[Access], behind: u64, ahead: u64) -> bool
+    requires { IsRisingBy list.now }
+    ensures { IsTrue result ↔ HasAccessBetween list.now behind ahead }
 {
-    match last_of(table, s, n, ahead) {
+    match last_before(list, ahead) {
         Some(access) => behind < access.mark,
         None => false,
     }
@@ -127,14 +120,14 @@ fn is_between(
     requires kept { AreKept tables.now }
     requires few { n < 11 }
     ensures { IsTrue result
-        ↔ HasAccessBetween (between_in (rows_in tables.now.accesses.items) (rows_in tables.now.writes.items)
-        cause.now p kind.now s) s n behind ahead }
+        ↔ HasAccessBetween (row_of (between_in (rows_in tables.now.accesses.items) (rows_in tables.now.writes.items)
+        cause.now p kind.now s) (cell s n)) behind ahead }
 {
     let _number = s.number();
     if writes(cause) && (s == p || writes(kind)) {
-        has_between(&tables.accesses, s, n, behind, ahead)
+        has_between(list_of(&tables.accesses, s, n), behind, ahead)
     } else {
-        has_between(&tables.writes, s, n, behind, ahead)
+        has_between(list_of(&tables.writes, s, n), behind, ahead)
     }
 }
 
@@ -149,11 +142,10 @@ fn is_hidden_from_step(
     ahead: u64,
 ) -> bool
     requires kept { AreKept tables.now }
-    requires at { IsEntry (rows_in tables.now.steps.items) p k ahead kind.now }
-    ensures { (q l : ℕ) →
-        IsLastCause (rows_in tables.now.steps.items) (rows_in tables.now.sent.items)
+    requires at { IsEntry (steps_of tables.now) p k ahead kind.now }
+    ensures { (q l : ℕ) → IsLastCause (steps_of tables.now) (sent_of tables.now)
         (Step p k kind.now) ahead q l cause.now.mark cause.now.kind →
-        FindsBetween (rows_in tables.now.steps.items) (rows_in tables.now.sent.items)
+        FindsBetween (steps_of tables.now) (sent_of tables.now)
         (Step q l cause.now.kind) cause.now.mark (Step p k kind.now) ahead result }
 {
     let Some(n) = common_register(&cause.kind, kind) else {
@@ -172,12 +164,9 @@ fn is_hidden_from_step(
 /// step, and on which the event depends.
 fn is_hidden(tables: &Tables, cause: &Entry, effect: &Event, ahead: u64) -> bool
     requires kept { AreKept tables.now }
-    requires stands { Stands (rows_in tables.now.steps.items) (rows_in tables.now.sent.items)
-        ahead effect.now }
-    ensures { (q l : ℕ) →
-        IsLastCause (rows_in tables.now.steps.items) (rows_in tables.now.sent.items)
-        effect.now ahead q l cause.now.mark cause.now.kind →
-        FindsBetween (rows_in tables.now.steps.items) (rows_in tables.now.sent.items)
+    requires stands { Stands (steps_of tables.now) (sent_of tables.now) ahead effect.now }
+    ensures { (q l : ℕ) → IsLastCause (steps_of tables.now) (sent_of tables.now)
+        effect.now ahead q l cause.now.mark cause.now.kind → FindsBetween (steps_of tables.now) (sent_of tables.now)
         (Step q l cause.now.kind) cause.now.mark effect.now ahead result }
 {
     match effect {
@@ -189,10 +178,8 @@ fn is_hidden(tables: &Tables, cause: &Entry, effect: &Event, ahead: u64) -> bool
 /// The name of the direct cause of an event that is a step of process `q`, if one is.
 fn direct_of(tables: &Tables, effect: &Event, ahead: u64, q: Proc) -> Option<StepId>
     requires kept { AreKept tables.now }
-    requires stands { Stands (rows_in tables.now.steps.items) (rows_in tables.now.sent.items)
-        ahead effect.now }
-    ensures { IsDirectOf (rows_in tables.now.steps.items) (rows_in tables.now.sent.items)
-        effect.now ahead q result }
+    requires stands { Stands (steps_of tables.now) (sent_of tables.now) ahead effect.now }
+    ensures { IsDirectOf (steps_of tables.now) (sent_of tables.now) effect.now ahead q result }
 {
     let k = last_cause(tables, effect, ahead, q)?;
     let cause = item(&tables.steps, q.index(), k)?;
@@ -206,10 +193,8 @@ fn direct_of(tables: &Tables, effect: &Event, ahead: u64, q: Proc) -> Option<Ste
 /// The names of the direct causes of an event, by process.
 fn direct_in(alloc: Global, tables: &Tables, effect: &Event, ahead: u64) -> SmallVec<StepId, 9>
     requires kept { AreKept tables.now }
-    requires stands { Stands (rows_in tables.now.steps.items) (rows_in tables.now.sent.items)
-        ahead effect.now }
-    ensures { AreDirect (rows_in tables.now.steps.items) (rows_in tables.now.sent.items)
-        effect.now ahead 9 result.items }
+    requires stands { Stands (steps_of tables.now) (sent_of tables.now) ahead effect.now }
+    ensures { AreDirect (steps_of tables.now) (sent_of tables.now) effect.now ahead 9 result.items }
 {
     let mut causes = SmallVec::new(alloc);
     for i in 0..9u8 {

@@ -2,30 +2,20 @@
 
 ghost use Rattle.std.specs.Prelude.{◌≡◌, ◌↔◌, ◌+◌, ◌<◌, ℕ, length, IsTrue};
 ghost use Rattle.std.specs.List.{count_by};
-ghost use Rattle.cdb_standing.specs.Accesses.{cell, IsRisingBy};
-ghost use Rattle.cdb_standing.specs.Counts.{is_before, is_write_before, HasLost, LoseSameOf, LoseSameIn};
+ghost use Rattle.cdb_standing.specs.Counts.{is_write_before, HasLost, LoseSameOf, LoseSameIn};
 ghost use Rattle.cdb_standing.specs.Kept.{AreKept};
-ghost use Rattle.cdb_standing.specs.Tables.{rows_in, row_of, standing};
+ghost use Rattle.cdb_standing.specs.Tables.{steps_of, sent_of, rows_in, row_of, standing};
 
-use crate::accesses::list_of;
-use crate::row::row;
-use crate::tables::{Access, Copied, Sent, Tables};
+use crate::accesses::{count_before, list_of};
+use crate::table::row;
+use crate::tables::{Copied, Sent, Tables};
 use cdb_base::Proc;
-
-/// How many accesses of a list have lower marks.
-fn count_before(accesses: &[Access], mark: u64) -> usize
-    requires { IsRisingBy accesses.now }
-    ensures { result ≡ count_by (is_before mark) accesses.now }
-{
-    accesses.partition_point(|access| access.mark < mark)
-}
 
 /// How many writes of the register of that number have lower marks.
 pub(crate) fn writes_before(tables: &Tables, n: usize, mark: u64) -> usize
     requires kept { AreKept tables.now }
     requires few { n < 11 }
-    ensures { result ≡ count_by (is_write_before n mark)
-        (standing (rows_in tables.now.steps.items) (rows_in tables.now.sent.items)) }
+    ensures { result ≡ count_by (is_write_before n mark) (standing (steps_of tables.now) (sent_of tables.now)) }
 {
     let mut count = 0;
     for i in 0..9u8 {

@@ -26,7 +26,7 @@ use crate::find::find_in;
 use crate::may::{is_next_step, is_pending, may_do};
 use crate::order::{in_order, one_event};
 use crate::past::past_in;
-use crate::table::{empty_rows, item};
+use crate::table::{empty_rows, item, row};
 use crate::tables::Tables;
 use crate::take::{take_loss, take_step};
 use cdb_base::{CopyName, Event, Kind, NoMemory, Proc, Reg, StepId};
@@ -208,7 +208,7 @@ impl History {
         ensures end { IsEndOf self.now p result }
         ensures numbered { AreNumbered p self.now }
     {
-        self.tables.steps[p.index()].len() as u16
+        row(&self.tables.steps, p.index()).len() as u16
     }
 
     /// How many writes of a register stand before the `k`-th step of process `p`, which stands.

@@ -7,7 +7,7 @@ ghost use Rattle.cdb_standing.specs.Tables.{rows_in, IsCopy, MayMail};
 ghost use Rattle.cdb_standing.specs.declared.tables.Copied.TheVariants.{Waits};
 
 use crate::copies::{copy_of, has_copies, has_copy};
-use crate::row::row;
+use crate::table::row;
 use crate::tables::{Copied, Sent, Tables};
 use cdb_base::{CopyName, Kind, Proc};
 

@@ -1,13 +1,13 @@
 //! The events that numbers cut off, in the order in which they were taken.
 
 ghost use Rattle.std.specs.Prelude.{◌≡◌, ◌<◌, ◌≤◌, ◌++◌, ◌∷◌, [], None, length};
-ghost use Rattle.std.specs.Prelude.{IfOk, OnOk, IfSome, IfNone, IsPermutation};
+ghost use Rattle.std.specs.Prelude.{IfOk, OnOk, IfSome, IfNone};
 ghost use Rattle.cdb_base.specs.declared.event.Kind.TheVariants.{Send};
-ghost use Rattle.cdb_standing.specs.Gathered.{losses_of, of_step, all_from, AreInOrder, IsLeftAt};
+ghost use Rattle.cdb_standing.specs.Gathered.{losses_of, of_step, AreGathered, AreInOrder, IsLeftAt};
 ghost use Rattle.cdb_standing.specs.Gathered.{IsNextOf, IsNextOrNone, NoneIsLeft, IsGathered};
 ghost use Rattle.cdb_standing.specs.InOrder.{events_of};
 ghost use Rattle.cdb_standing.specs.Kept.{AreKept};
-ghost use Rattle.cdb_standing.specs.Tables.{rows_in, row_of, loss_at, IsEntry};
+ghost use Rattle.cdb_standing.specs.Tables.{steps_of, sent_of, rows_in, loss_at};
 
 use crate::table::item;
 use crate::tables::{Copied, Entry, Marked, Sent, Tables};
@@ -31,8 +31,7 @@ fn push_marked(found: &mut Vec<Marked>, it: Marked) -> Result<(), NoMemory>
 
 /// Adds the loss of a copy, where it is lost.
 fn push_loss(copy: CopyName, copied: Copied, found: &mut Vec<Marked>) -> Result<(), NoMemory>
-    ensures { OnOk result (found.new.items
-        ≡ found.old.items ++ loss_at copy.msg.s copy.msg.m copy.to copied) }
+    ensures { OnOk result (found.new.items ≡ found.old.items ++ loss_at copy.msg.s copy.msg.m copy.to copied) }
 {
     if let Copied::Lost(mark) = copied {
         let event = Event::Lost(copy);
@@ -49,8 +48,7 @@ fn push_losses(
     found: &mut Vec<Marked>,
 ) -> Result<(), NoMemory>
     requires { length sent.now.items ≡ 9 }
-    ensures { OnOk result (found.new.items
-        ≡ found.old.items ++ losses_of (rows_in sent.now.items) s (Send m)) }
+    ensures { OnOk result (found.new.items ≡ found.old.items ++ losses_of (rows_in sent.now.items) s (Send m)) }
 {
     let Some(it) = item(sent, s.index(), m) else {
         return Ok(());
@@ -73,8 +71,7 @@ fn push_step(
     found: &mut Vec<Marked>,
 ) -> Result<(), NoMemory>
     requires { length sent.now.items ≡ 9 }
-    ensures { OnOk result (found.new.items
-        ≡ found.old.items ++ of_step (rows_in sent.now.items) p k entry.now) }
+    ensures { OnOk result (found.new.items ≡ found.old.items ++ of_step (rows_in sent.now.items) p k entry.now) }
 {
     let kind = entry.kind;
     let event = Event::Step { p, k, kind };
@@ -98,7 +95,7 @@ pub(crate) struct Next {
 fn next_at(tables: &Tables, from: &[usize; 9], i: usize) -> Option<Next>
     requires kept { AreKept tables.now }
     requires few { i < 9 }
-    ensures { IsNextOrNone (rows_in tables.now.steps.items) from.now i result }
+    ensures { IsNextOrNone (steps_of tables.now) from.now i result }
 {
     let entry = tables.steps[i].get(from[i].saturating_sub(1))?;
     Some(Next {
@@ -119,10 +116,9 @@ fn earliest(
 ) -> Option<Next>
     requires kept { AreKept tables.now }
     requires few { end ≤ 9 }
-    requires left { IfSome other (IsNextOf (rows_in tables.now.steps.items) from.now) }
-    ensures left { IfSome result (IsNextOf (rows_in tables.now.steps.items) from.now) }
-    ensures none { IfNone result
-        ((other ≡ None) × NoneIsLeft (rows_in tables.now.steps.items) from.now start end) }
+    requires left { IfSome other (IsNextOf (steps_of tables.now) from.now) }
+    ensures left { IfSome result (IsNextOf (steps_of tables.now) from.now) }
+    ensures none { IfNone result ((other ≡ None) × NoneIsLeft (steps_of tables.now) from.now start end) }
 {
     let mut found = other;
     for i in start..end {
@@ -144,8 +140,8 @@ fn earliest(
 fn first_left(tables: &Tables, from: &[usize; 9], start: usize, low: u64) -> Option<Next>
     requires kept { AreKept tables.now }
     requires few { start < 9 }
-    ensures left { IfSome result (IsNextOf (rows_in tables.now.steps.items) from.now) }
-    ensures none { IfNone result (NoneIsLeft (rows_in tables.now.steps.items) from.now 0 9) }
+    ensures left { IfSome result (IsNextOf (steps_of tables.now) from.now) }
+    ensures none { IfNone result (NoneIsLeft (steps_of tables.now) from.now 0 9) }
 {
     let found = earliest(tables, from, start, 9, low, None);
     if let Some(next) = found {
@@ -177,8 +173,8 @@ fn push_next(
     found: &mut Vec<Marked>,
 ) -> Result<usize, NoMemory>
     requires kept { AreKept tables.now }
-    requires left { IsLeftAt (rows_in tables.now.steps.items) from.now i }
-    ensures { IfOk result (IsGathered (rows_in tables.now.steps.items) (rows_in tables.now.sent.items)
+    requires left { IsLeftAt (steps_of tables.now) from.now i }
+    ensures { IfOk result (IsGathered (steps_of tables.now) (sent_of tables.now)
         from.now i found.old.items found.new.items) }
 {
     let j = from[i].saturating_sub(1);
@@ -190,8 +186,7 @@ fn push_next(
 /// What the numbers cut off, with its marks, in the order of its marks but for the losses.
 fn gathered(alloc: Global, tables: &Tables, cuts: &[usize; 9]) -> Result<Vec<Marked>, NoMemory>
     requires { AreKept tables.now }
-    ensures { IfOk result (λ found. IsPermutation (all_from cuts.now
-        (rows_in tables.now.steps.items) (rows_in tables.now.sent.items)) found.items) }
+    ensures { IfOk result (λ found. AreGathered cuts.now (steps_of tables.now) (sent_of tables.now) found.items) }
 {
     let mut found = Vec::with_capacity(alloc, count_steps(tables, cuts))?;
     let mut from = *cuts;
@@ -223,8 +218,7 @@ pub(crate) fn in_order(
     cuts: &[usize; 9],
 ) -> Result<Vec<Event>, NoMemory>
     requires { AreKept tables.now }
-    ensures { IfOk result (λ events. AreInOrder cuts.now (rows_in tables.now.steps.items)
-        (rows_in tables.now.sent.items) events.items) }
+    ensures { IfOk result (λ events. AreInOrder cuts.now (steps_of tables.now) (sent_of tables.now) events.items) }
 {
     let mut found = gathered(alloc, tables, cuts)?;
     found.sort_by_key(|it| it.mark)?;

@@ -6,7 +6,7 @@ ghost use Rattle.cdb_standing.specs.Kept.{history_in, AreKept};
 ghost use Rattle.cdb_standing.specs.LedTo.{IsPastOfName};
 ghost use Rattle.cdb_standing.specs.Pasts.{AreRaised, StaysSoundPast, KeepsSoundPast, HasCausesWithin};
 ghost use Rattle.cdb_standing.specs.Pasts.{AreFew, IsLookedBehind, IsPastBegun, IsPast};
-ghost use Rattle.cdb_standing.specs.Tables.{rows_in, Stands};
+ghost use Rattle.cdb_standing.specs.Tables.{steps_of, sent_of, Stands};
 
 use crate::causes::last_cause;
 use crate::cuts::first_open;
@@ -30,13 +30,11 @@ fn raise(numbers: &mut [usize; 9], q: Proc, found: Option<u16>)
 /// Raises the numbers to the steps on which an event depends.
 fn look_behind(tables: &Tables, numbers: &mut [usize; 9], effect: &Event, ahead: u64)
     requires kept { AreKept tables.now }
-    requires stands { Stands (rows_in tables.now.steps.items) (rows_in tables.now.sent.items)
-        ahead effect.now }
+    requires stands { Stands (steps_of tables.now) (sent_of tables.now) ahead effect.now }
     requires few { AreFew numbers.old }
-    ensures sound { KeepsSoundPast (rows_in tables.now.steps.items) (rows_in tables.now.sent.items)
+    ensures sound { KeepsSoundPast (steps_of tables.now) (sent_of tables.now)
         ahead effect.now numbers.old numbers.new }
-    ensures within { HasCausesWithin (rows_in tables.now.steps.items)
-        (rows_in tables.now.sent.items) effect.now ahead 9 numbers.new }
+    ensures within { HasCausesWithin (steps_of tables.now) (sent_of tables.now) effect.now ahead 9 numbers.new }
     ensures higher { IsLower numbers.new numbers.old }
     ensures few { AreFew numbers.new }
 {
@@ -52,10 +50,8 @@ fn look_behind_step(tables: &Tables, numbers: &mut [usize; 9], q: Proc, l: usize
     requires short { l ≤ 65535 }
     requires own { l ≤ end_of numbers.old q }
     requires few { AreFew numbers.old }
-    ensures sound { StaysSoundPast (rows_in tables.now.steps.items) (rows_in tables.now.sent.items)
-        numbers.old numbers.new }
-    ensures looked { IsLookedBehind (rows_in tables.now.steps.items)
-        (rows_in tables.now.sent.items) q l numbers.new }
+    ensures sound { StaysSoundPast (steps_of tables.now) (sent_of tables.now) numbers.old numbers.new }
+    ensures looked { IsLookedBehind (steps_of tables.now) (sent_of tables.now) q l numbers.new }
     ensures higher { IsLower numbers.new numbers.old }
     ensures few { AreFew numbers.new }
 {
@@ -72,10 +68,8 @@ fn look_behind_step(tables: &Tables, numbers: &mut [usize; 9], q: Proc, l: usize
 /// The numbers to begin with: that of the event itself, if it is a step, and those of the steps on which it depends.
 fn first_numbers(tables: &Tables, effect: &Event, ahead: u64) -> [usize; 9]
     requires kept { AreKept tables.now }
-    requires stands { Stands (rows_in tables.now.steps.items) (rows_in tables.now.sent.items)
-        ahead effect.now }
-    ensures { IsPastBegun (rows_in tables.now.steps.items) (rows_in tables.now.sent.items)
-        effect.now ahead result }
+    requires stands { Stands (steps_of tables.now) (sent_of tables.now) ahead effect.now }
+    ensures { IsPastBegun (steps_of tables.now) (sent_of tables.now) effect.now ahead result }
 {
     let mut numbers = [0; 9];
     look_behind(tables, &mut numbers, effect, ahead);
@@ -89,10 +83,8 @@ fn first_numbers(tables: &Tables, effect: &Event, ahead: u64) -> [usize; 9]
 /// Of each process the number up to which its steps led to an event, or are the event itself.
 fn past_of(tables: &Tables, effect: &Event, ahead: u64) -> [usize; 9]
     requires kept { AreKept tables.now }
-    requires stands { Stands (rows_in tables.now.steps.items) (rows_in tables.now.sent.items)
-        ahead effect.now }
-    ensures { IsPast (rows_in tables.now.steps.items) (rows_in tables.now.sent.items)
-        effect.now ahead result }
+    requires stands { Stands (steps_of tables.now) (sent_of tables.now) ahead effect.now }
+    ensures { IsPast (steps_of tables.now) (sent_of tables.now) effect.now ahead result }
 {
     let mut numbers = first_numbers(tables, effect, ahead);
     let mut looked = [0; 9];

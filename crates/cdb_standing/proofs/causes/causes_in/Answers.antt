@@ -1,5 +1,5 @@
-use Rattle.cdb_standing.proofs.DirectCauses.{all_direct}
-use Rattle.cdb_standing.proofs.Named.{the_place}
+use Rattle.cdb_standing.proofs.CausesFound.{all_direct}
+use Rattle.cdb_standing.proofs.Places.{the_place}
 use Rattle.cdb_standing.proofs.causes.causes_in.Goals as goal
 
 pub returns-in-Some : goal.returns-in-Some

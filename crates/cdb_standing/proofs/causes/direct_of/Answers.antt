@@ -1,4 +1,4 @@
-use Rattle.cdb_standing.proofs.DirectCauses.{at_entry, hidden, shown, no_cause}
+use Rattle.cdb_standing.proofs.CausesFound.{at_entry, hidden, shown, no_cause}
 use Rattle.cdb_standing.proofs.causes.direct_of.Goals as goal
 
 pub returns-in_err-k : goal.returns-in_err-k

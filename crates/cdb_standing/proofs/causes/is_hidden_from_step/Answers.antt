@@ -1,6 +1,6 @@
 use Rattle.std.proofs.lemmas.Bool.{cases_eq}
 use Rattle.std.proofs.Common.{ℕ, true≢false, inl, inr, sym, ◌∙◌, arith}
-use Rattle.cdb_standing.proofs.Between.{none_without, from_list, none_on_lists}
+use Rattle.cdb_standing.proofs.CausesFound.{none_without, from_list, none_on_lists}
 use Rattle.cdb_standing.proofs.causes.is_hidden_from_step.Goals as goal
 
 pub returns-in_default : goal.returns-in_default

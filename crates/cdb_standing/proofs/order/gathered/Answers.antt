@@ -1,30 +1,18 @@
-use Rattle.std.proofs.Common.{length-set, ◌∙◌}
-use Rattle.cdb_standing.specs.Gathered.{all_from}
-use Rattle.cdb_standing.specs.Tables.{rows_in}
-use Rattle.cdb_standing.proofs.AllEvents.{gathered_more, fewer_left, nothing_left}
+use Rattle.std.proofs.Common.{arith}
+use Rattle.cdb_standing.proofs.Gathering.{gathering_begins, gathering_goes_on, less_room, gathering_ends}
 use Rattle.cdb_standing.proofs.order.gathered.Goals as goal
 
+pub loop-next-init : goal.loop-next-init
+loop-next-init c = record { gathering = gathering_begins c.requires.sound (omega arith) c.in_ok-found.ensures.items; few = omega arith }
+
 pub loop-next-smaller : goal.loop-next-smaller
-loop-next-smaller c =
-    let t = c.args.tables.now in
-    fewer_left (rows_in t.steps.items) (rows_in t.sent.items) c.requires.sound.processes
-    c.loop-next.invariant.long c.in-Some.ensures.left.0 c.in_ok-from.ensures
+loop-next-smaller c = less_room c.requires.sound c.in-Some.ensures.left.0 c.loop-next.invariant.gathering c.in_ok-from.ensures
 
 pub loop-next-preserved : goal.loop-next-preserved
-loop-next-preserved c =
-    let t = c.args.tables.now in
-    record {
-      same =
-          gathered_more (rows_in t.steps.items) (rows_in t.sent.items) c.requires.sound.processes
-          (all_from c.args.cuts.now (rows_in t.steps.items) (rows_in t.sent.items))
-          c.loop-next.invariant.long c.in-Some.ensures.left.0 c.in_ok-from.ensures c.loop-next.invariant.same;
-      long = length-set c.loop-next.from c.in-Some.next.i c.in_ok-from.field-0 ∙ c.loop-next.invariant.long;
-      few = c.in-Some.ensures.left.0;
-    }
+loop-next-preserved c = record {
+  gathering = gathering_goes_on c.requires.sound c.in-Some.ensures.left.0 c.loop-next.invariant.gathering c.in_ok-from.ensures;
+  few = c.in-Some.ensures.left.0;
+}
 
 pub returns : goal.returns
-returns c =
-    let t = c.args.tables.now in
-    nothing_left (rows_in t.steps.items) (rows_in t.sent.items) c.requires.sound.processes c.requires.sound
-    (all_from c.args.cuts.now (rows_in t.steps.items) (rows_in t.sent.items)) c.loop-next.from
-    c.loop-next.found.items c.in_default.ensures.none c.loop-next.invariant.same
+returns c = gathering_ends c.requires.sound c.in_default.ensures.none c.loop-next.invariant.gathering

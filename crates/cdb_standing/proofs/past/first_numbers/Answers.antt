@@ -1,5 +1,5 @@
 use Rattle.cdb_standing.proofs.Led.{none_sound, begun}
-use Rattle.cdb_standing.proofs.Reaches.{itself}
+use Rattle.cdb_standing.proofs.Places.{itself}
 use Rattle.cdb_standing.proofs.past.first_numbers.Goals as goal
 
 pub returns-in-Step : goal.returns-in-Step

@@ -1,5 +1,5 @@
 use Rattle.cdb_standing.proofs.Led.{exactly_led}
-use Rattle.cdb_standing.proofs.Named.{the_place}
+use Rattle.cdb_standing.proofs.Places.{the_place}
 use Rattle.cdb_standing.proofs.past.past_in.Goals as goal
 
 pub returns-in-Some : goal.returns-in-Some

@@ -1,8 +1,7 @@
 use Rattle.std.proofs.Common.{inr, refl, arith}
 use Rattle.std.proofs.lemmas.Result.{err_from_is_err_and}
 use Rattle.cdb_base.specs.declared.event.Event.TheVariants.{Lost}
-use Rattle.cdb_standing.proofs.Counted.{few, one_event_more}
-use Rattle.cdb_standing.proofs.Undos.{may_lose, lose_kept, lose_history}
+use Rattle.cdb_standing.proofs.Held.{few, one_event_more, may_lose, lose_kept, lose_history}
 use Rattle.cdb_standing.proofs.history.History.push_loss_with.Goals as goal
 
 pub add_loss-requires-clause-sent : goal.add_loss-requires-clause-sent

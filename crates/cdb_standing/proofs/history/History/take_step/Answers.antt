@@ -1,8 +1,7 @@
 use Rattle.cdb_base.specs.declared.event.Event.TheVariants.{Step}
 use Rattle.cdb_base.specs.declared.name.StepId.TheVariants as named
 use Rattle.cdb_standing.specs.Kept.{AreKept}
-use Rattle.cdb_standing.proofs.Counted.{one_event_less}
-use Rattle.cdb_standing.proofs.Undos.{has_some, has_listed, take_kept, take_history, was_last, last_left}
+use Rattle.cdb_standing.proofs.Held.{one_event_less, has_some, has_listed, take_kept, take_history, was_last, last_left}
 use Rattle.cdb_standing.proofs.history.History.take_step.Goals as goal
 
 pub take_step-entry-requires-clause-some : goal.take_step-entry-requires-clause-some

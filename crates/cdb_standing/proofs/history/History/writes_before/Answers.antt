@@ -1,5 +1,5 @@
 use Rattle.std.proofs.Common.{◌≡◌, ◌+◌, sym}
-use Rattle.cdb_standing.proofs.PartCounts.{writes_are, none_there}
+use Rattle.cdb_standing.proofs.Numbered.{writes_are, none_there}
 use Rattle.cdb_standing.proofs.history.History.writes_before.Goals as goal
 
 pub returns-in-Some : goal.returns-in-Some

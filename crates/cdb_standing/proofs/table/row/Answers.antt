@@ -1,6 +1,6 @@
 use Rattle.std.proofs.Common.{◌≡◌, suc, ◌+◌, sym, ◌∙◌, arith}
 use Rattle.cdb_standing.proofs.RowUpdates.{row_at}
-use Rattle.cdb_standing.proofs.row.row.Goals as goal
+use Rattle.cdb_standing.proofs.table.row.Goals as goal
 
 pub returns : goal.returns
 returns g c =
