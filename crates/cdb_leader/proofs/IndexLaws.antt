@@ -15,7 +15,7 @@ use Rattle.cdb_leader.specs.declared.row.Row.{Row}
 use Rattle.cdb_leader.specs.declared.index.Index.{Index}
 use Rattle.cdb_leader.specs.Inbox.{first_given, first_phase, second_phase, as_decision}
 use Rattle.cdb_leader.specs.Spot.{noted, forgotten}
-use Rattle.cdb_leader.specs.Index.{message_round, first_position, position_from, ChangesFrom, reads_from, AreFirsts, vote_in, are_different, no_firsts, no_row}
+use Rattle.cdb_leader.specs.Index.{message_round, first_position, ChangesFrom, reads_from, AreFirsts, vote_in, are_different}
 use Rattle.cdb_leader.specs.Index.{IsRowOf, IsEmptyRow, IsIndexOf}
 use Rattle.cdb_leader.proofs.Known.{given_parts}
 
@@ -192,63 +192,51 @@ module _ {y : Received} {change : Option ℕ → Option ℕ} {before after : Lis
       other_vote = other;
     }
 
-  pub IsIndexOf-row : (r : ℕ) {row : Row} {old new : Index} → message_round y.payload ≡ Some r → new.decisions ≡ old.decisions
+  pub IsIndexOf-row : (r : ℕ) {row : Row} {old new : Index} → message_round y.payload ≡ Some r → (new.decisions ≡ old.decisions) × (new.no_row ≡ old.no_row)
       → ((q : ℕ) → get nat_eq new.rows q ≡ cond (nat_eq r q) (Some row) (get nat_eq old.rows q))
       → IsIndexOf old before → IsRowOf r row after → IsIndexOf new after
-  IsIndexOf-row r {row} {old} {new} at decisions updates h row_is = record {
-    rounds = λ q. rw (updates q) (by_round q (nat_eq r q) refl);
-    decisions = rw decisions (AreFirsts-same as_decision old.decisions (not_decision _ r at) h.decisions);
+  IsIndexOf-row r {row} {old} {new} at same updates h row_is = record {
+    rounds = λ q. rw (updates q, same.1) (by_round q (nat_eq r q) refl);
+    none = rw same.1 h.none;
+    decisions = rw same.0 (AreFirsts-same as_decision old.decisions (not_decision _ r at) h.decisions);
   } where
-    by_round : (q : ℕ) (b : Bool) → nat_eq r q ≡ b → IsRowOf q (unwrap_or (cond b (Some row) (get nat_eq old.rows q)) no_row) after
+    by_round : (q : ℕ) (b : Bool) → nat_eq r q ≡ b → IsRowOf q (unwrap_or (cond b (Some row) (get nat_eq old.rows q)) old.no_row) after
     by_round q true e = subst (λ n. IsRowOf n row after) (eqb-true r q e) row_is
     by_round q false e = let other = other_round _ r q at e in IsRowOf-same q other.0 other.1 _ (h.rounds q)
 
-  pub IsIndexOf-decision : {old new : Index} → message_round y.payload ≡ None → new.rows ≡ old.rows → IsIndexOf old before
+  pub IsIndexOf-decision : {old new : Index} → message_round y.payload ≡ None → (new.rows ≡ old.rows) × (new.no_row ≡ old.no_row) → IsIndexOf old before
       → ChangesFrom y.from change old.decisions new.decisions → IsIndexOf new after
-  IsIndexOf-decision {old} {new} none rows h changes =
+  IsIndexOf-decision {old} {new} none same h changes =
       let d = a_decision _ none in
       record {
-        rounds = λ q. rw rows (IsRowOf-same q (d.2 q) (d.3 q) _ (h.rounds q));
+        rounds = λ q. rw (same.0, same.1) (IsRowOf-same q (d.2 q) (d.3 q) _ (h.rounds q));
+        none = rw same.1 h.none;
         decisions = AreFirsts-changed as_decision old.decisions new.decisions d.1 h.decisions changes;
       }
 
 -- ---- a round that has no row
 
-no_position : (s : ℕ) → position_from s no_firsts ≡ None
-unfolding position_from
-no_position s = grind (arith, common_steps, gets)
-
-pub AreFirsts-none : {A : Type 0} (reading : Payload → Option A) (kept : Firsts) (inbox : List Received) → ((s : ℕ) → position_from s kept ≡ None)
-    → AreFirsts reading no_firsts inbox → AreFirsts reading kept inbox
-AreFirsts-none reading kept inbox empty h = λ s. empty s ∙ sym (no_position s) ∙ h s
-
-pub IsRowOf-empty : (r : ℕ) {row : Row} {inbox : List Received} → IsEmptyRow row → IsRowOf r no_row inbox → IsRowOf r row inbox
-IsRowOf-empty r {row} {inbox} e h = record {
-  first_phases = AreFirsts-none (first_phase r) row.first_phases inbox e.first_phases h.first_phases;
-  second_phases = AreFirsts-none (second_phase r) row.second_phases inbox e.second_phases h.second_phases;
-  vote = e.vote ∙ h.vote;
-  other_vote = e.other_vote ∙ h.other_vote;
-}
-
 -- nothing is kept of an empty inbox
-pub no_row-first : (r : ℕ) (o : Option Row) → None ≡ o → IsRowOf r (unwrap_or o no_row) []
-no_row-first r o none = rw (← none) (record { first_phases = no_position; second_phases = no_position; vote = refl; other_vote = refl })
+pub row_of_none : (r : ℕ) {row : Row} (o : Option Row) → None ≡ o → IsEmptyRow row → IsRowOf r (unwrap_or o row) []
+row_of_none r o none e = rw (← none) (record { first_phases = e.first_phases; second_phases = e.second_phases; vote = e.vote; other_vote = e.other_vote })
 
 -- what is known of the row that a look-up finds, or of none
-pub row_is : (r : ℕ) (o : Option Row) (inbox : List Received) (found : Option Row) → found ≡ o
-    → IsRowOf r (unwrap_or o no_row) inbox → IsRowOf r (unwrap_or found no_row) inbox
-row_is r o inbox found is h = rw is h
+pub row_is : (r : ℕ) (row : Row) (o : Option Row) (inbox : List Received) (found : Option Row) → found ≡ o
+    → IsRowOf r (unwrap_or o row) inbox → IsRowOf r (unwrap_or found row) inbox
+row_is r row o inbox found is h = rw is h
 
 -- a round of which a message came has one
 there : {X : Type 0} (test : X → Bool) (xs : List X) (y : X) → test y ≡ true → None ≡ first_position test (xs ++ y ∷ []) → ⊥
 there test xs y passes none = let push = first_position-push test xs y in grind (arith, common_steps, gets)
 
-pub has_row : (r : ℕ) (inbox : List Received) (y : Received) → message_round y.payload ≡ Some r → IsRowOf r no_row (inbox ++ y ∷ []) → ⊥
-has_row r inbox y at h = by_phase y.payload refl where
+pub has_row : (r : ℕ) {row : Row} (inbox : List Received) (y : Received) → message_round y.payload ≡ Some r → IsEmptyRow row
+    → IsRowOf r row (inbox ++ y ∷ []) → ⊥
+has_row r inbox y at e h = by_phase y.payload refl where
   by_phase : (x : Payload) → y.payload ≡ x → ⊥
   by_phase (P1 round est lead) is =
       let reads = first_of _ r round est lead is at in
-      there (reads_from y.from (first_phase r)) inbox y (read_true _ _ _ reads ∙ eq-eqb y.from y.from refl) (sym (no_position y.from) ∙ h.first_phases y.from)
+      there (reads_from y.from (first_phase r)) inbox y (read_true _ _ _ reads ∙ eq-eqb y.from y.from refl)
+      (sym (e.first_phases y.from) ∙ h.first_phases y.from)
   by_phase (P2 round aux) is =
-      there (λ e. is_some (second_phase r e.payload)) inbox y (ap is_some (second_of _ r round aux is at)) h.vote
+      there (λ e. is_some (second_phase r e.payload)) inbox y (ap is_some (second_of _ r round aux is at)) (sym e.vote ∙ h.vote)
   by_phase (D est) is = let nowhere : Path (Option ℕ) None (Some r) = sym (ap message_round is) ∙ at in absurd (cc)

@@ -1,13 +1,12 @@
 -- The messages of an inbox that its index knows, and those after them.
 use Rattle.std.proofs.lemmas.Grind.{common_steps}
 use Rattle.std.proofs.lemmas.Option.{gets}
-use Rattle.std.proofs.Common.{◌≡◌, ℕ, ◌<◌, ◌≤◌, List, [], ◌∷◌, ◌++◌, Option, None, length, length-append, length-drop, true, false, ◌-◌, take, drop, arith}
-use Rattle.std.proofs.Common.{refl, ap, sym, subst, ◌∙◌}
+use Rattle.std.proofs.Common.{◌≡◌, ℕ, ◌<◌, ◌≤◌, List, [], ◌∷◌, ◌++◌, Option, Some, None, length, length-append, length-drop, true, false, ◌-◌}
+use Rattle.std.proofs.Common.{take, drop, arith, refl, ap, sym, subst, ◌∙◌}
 use Rattle.std.proofs.lemmas.List.{take-append-drop, take_all, take_min, take-append-le}
 use Rattle.std.proofs.lemmas.List.Folds.{list_all-append}
-use Rattle.std.specs.Prelude.{min, ◌&&◌, is_some, ◌||◌, count_by, not, slice_get}
-use Rattle.std.specs.Option.{option_or, option_flatten}
-use Rattle.std.specs.List.{list_all}
+use Rattle.std.specs.Prelude.{min, ◌&&◌, is_some, ◌||◌, count_by, slice_get}
+use Rattle.std.specs.Option.{option_or, option_and_then}
 use Rattle.cdb_base.specs.Processes.{all_processes}
 use Rattle.cdb_base.specs.declared.payload.Payload.{Payload}
 use Rattle.cdb_leader.specs.declared.inbox.Received.{Received}
@@ -15,7 +14,7 @@ use Rattle.cdb_leader.specs.declared.firsts.Firsts.{Firsts}
 use Rattle.cdb_leader.specs.declared.spot.TheConstants.{KNOWN}
 use Rattle.cdb_leader.specs.Inbox.{first_given, if_from, first_from, carries, second_phase, is_only_proposal, as_decision, decision_from, learnt}
 use Rattle.cdb_leader.specs.Index.{known, later, AreFirsts, position_from, keeps_none}
-use Rattle.cdb_leader.proofs.LookUps.{is_kept, count_kept}
+use Rattle.cdb_leader.proofs.LookUps.{is_kept, count_kept, given_there, given_later}
 
 -- what is dropped, where no more is asked for than there is
 pub drop_min : {X : Type 0} (n : ℕ) (xs : List X) → drop (min n (length xs)) xs ≡ drop n xs
@@ -70,6 +69,19 @@ module _ {A : Type 0} (reading : Payload → Option A) (kept : Firsts) (inbox : 
       ap (λ b. b || is_some (first_from s reading (later inbox))) (is_kept reading kept (known inbox) h s)
       ∙ either _ _
       ∙ ap is_some (first_from_parts reading inbox s)
+
+module _ {A : Type 0} (reading : Payload → Option A) (kept : Firsts) (inbox : List Received) (h : AreFirsts reading kept (known inbox)) (s : ℕ) where
+  -- the message at the position that is kept for a sender is its first
+  pub read_there : {o : Option Received} {m : Received} → o ≡ option_and_then (slice_get (known inbox)) (position_from s kept) → o ≡ Some m
+      → if_from s reading m ≡ first_from s reading inbox
+  read_there {o} {m} at is =
+      given_there (if_from s reading) (known inbox) (later inbox) m (rw (← h s) (sym at ∙ is)) ∙ ap (first_from s reading) (parts inbox)
+
+  -- without one it is the first of those after them
+  pub read_later : {o : Option Received} → o ≡ option_and_then (slice_get (known inbox)) (position_from s kept) → o ≡ None
+      → first_from s reading (later inbox) ≡ first_from s reading inbox
+  read_later at none =
+      given_later (if_from s reading) (known inbox) (later inbox) (rw (← h s) (sym at ∙ none)) ∙ ap (first_from s reading) (parts inbox)
 
 pub only_parts : (r w : ℕ) (inbox : List Received)
     → (is_only_proposal r w (known inbox) && is_only_proposal r w (later inbox)) ≡ is_only_proposal r w inbox

@@ -2,7 +2,6 @@ pub mod SameMessages
 pub mod Quorum
 pub mod Readings
 pub mod TableSteps
-pub mod Steps
 pub mod Trace
 pub mod Values
 pub mod LookUps

@@ -1,8 +1,8 @@
 -- What is read by the index of an inbox is what stands in the inbox.
 use Rattle.std.proofs.lemmas.Grind.{common_steps}
 use Rattle.std.proofs.lemmas.Option.{gets}
-use Rattle.std.proofs.Common.{◌≡◌, ℕ, zero, suc, ◌+◌, ◌<◌, ◌≤◌, Bool, true, false, cond, ◌&&◌, List, [], ◌∷◌, Option, Some, None, length, arith, refl, ap, sym}
-use Rattle.std.proofs.Common.{subst, ◌∙◌, eq-eqb, eqb-true}
+use Rattle.std.proofs.Common.{◌≡◌, ℕ, zero, suc, ◌+◌, ◌<◌, ◌≤◌, Bool, true, false, cond, ◌&&◌, List, [], ◌∷◌, ◌++◌, Option, Some, None}
+use Rattle.std.proofs.Common.{length, arith, refl, ap, sym, subst, ◌∙◌, eq-eqb, eqb-true}
 use Rattle.std.specs.Prelude.{◌==◌, if◌then◌else◌, slice_get, slice_index_or, is_some, not, nat_le, All, count_by, find}
 use Rattle.std.proofs.lemmas.Option.{slice_get-get_or}
 use Rattle.std.proofs.lemmas.List.Elements.{recursion_from_All}
@@ -34,11 +34,18 @@ module _ {X A : Type 0} (f : X → Option A) where
   is_first [] = refl
   is_first (z ∷ zs) = let rest = is_first zs in grind (arith, common_steps, gets)
 
-module _ {A : Type 0} (reading : Payload → Option A) (kept : Firsts) (inbox : List Received) (h : AreFirsts reading kept inbox) where
-  -- what is read at the position that is kept for a sender
-  pub read_at : (s : ℕ) → option_and_then (if_from s reading) (option_and_then (slice_get inbox) (position_from s kept)) ≡ first_from s reading inbox
-  read_at s = rw (h s) (at_first (if_from s reading) inbox)
+  -- where more follow, it is what is given first, and without one that is given by what follows
+  pub given_there : (xs ys : List X) (x : X) → option_and_then (slice_get xs) (first_position (λ x. is_some (f x)) xs) ≡ Some x
+      → f x ≡ first_given f (xs ++ ys)
+  given_there [] ys x is = absurd (cc)
+  given_there (z ∷ zs) ys x is = let rest = given_there zs ys x in grind (arith, common_steps, gets)
 
+  pub given_later : (xs ys : List X) → option_and_then (slice_get xs) (first_position (λ x. is_some (f x)) xs) ≡ None
+      → first_given f ys ≡ first_given f (xs ++ ys)
+  given_later [] ys is = refl
+  given_later (z ∷ zs) ys is = let rest = given_later zs ys in grind (arith, common_steps, gets)
+
+module _ {A : Type 0} (reading : Payload → Option A) (kept : Firsts) (inbox : List Received) (h : AreFirsts reading kept inbox) where
   -- whether a position is kept
   pub is_kept : (s : ℕ) → is_some (position_from s kept) ≡ is_some (first_from s reading inbox)
   is_kept s = rw (h s) (is_first (if_from s reading) inbox)

@@ -1,9 +1,9 @@
 -- What the leader machine reads from its inbox stands there.
 use Rattle.std.proofs.lemmas.Grind.{common_steps}
-use Rattle.std.proofs.lemmas.Option.{gets, none-some, same_Some}
-use Rattle.std.specs.Prelude.{◌≡◌, ℕ, ◌≤◌, Bool, true, false, cond, ◌==◌, ◌&&◌, nat_le, List, [], ◌∷◌, Contains, Option, Some, None, is_some, refl}
+use Rattle.std.proofs.lemmas.Option.{gets, none-some}
+use Rattle.std.specs.Prelude.{◌≡◌, ℕ, ◌≤◌, Bool, true, ◌==◌, ◌&&◌, nat_le, List, [], ◌∷◌, Contains, Option, Some, None, is_some, refl}
 use Rattle.std.specs.Prelude.{if◌then◌else◌, count_by, find}
-use Rattle.std.specs.Option.{option_or, option_map, option_and_then, option_flatten}
+use Rattle.std.specs.Option.{option_map, option_and_then, option_flatten}
 use Rattle.std.specs.List.{list_all}
 use Rattle.std.proofs.Common.{inl, inr, arith, sym, ◌∙◌, ap, subst, eqb-true, eq-eqb, leb-true}
 use Rattle.cdb_base.specs.Processes.{all_processes}
@@ -21,51 +21,33 @@ use Rattle.cdb_process.proofs.Members.{IsIn, contained_in, in_contained}
 -- ---- where a choice among options is some
 
 pub mapped : {A B : Type 0} (f : A → B) (o : Option A) (y : B) → option_map f o ≡ Some y → (x : A) × (o ≡ Some x) × (f x ≡ y)
-mapped f None y is = absurd (none-some y is)
-mapped f (Some x) y is = (x, refl, same_Some (f x) y is)
+mapped f o y is = grind (arith, gets)
 
-pub bound : {A B : Type 0} (f : A → Option B) (o : Option A) (y : B) → option_and_then f o ≡ Some y → (x : A) × (o ≡ Some x) × (f x ≡ Some y)
-bound f None y is = absurd (none-some y is)
-bound f (Some x) y is = (x, refl, is)
+bound : {A B : Type 0} (f : A → Option B) (o : Option A) (y : B) → option_and_then f o ≡ Some y → (x : A) × (o ≡ Some x) × (f x ≡ Some y)
+bound f o y is = grind (arith, gets)
 
 pub where_true : {A : Type 0} (b : Bool) (o : Option A) (y : A) → (if b then o else None) ≡ Some y → (b ≡ true) × (o ≡ Some y)
-where_true true o y is = (refl, is)
-where_true false o y is = absurd (none-some y is)
+where_true b o y is = grind arith
 
 some_of : {A : Type 0} (o : Option A) → is_some o ≡ true → (a : A) × (o ≡ Some a)
-some_of None is = absurd (cc)
-some_of (Some a) is = (a, refl)
+some_of o is = grind (arith, gets)
 
 both_true : (a b : Bool) → a && b ≡ true → (a ≡ true) × (b ≡ true)
-both_true a b is = grind (arith, common_steps, gets)
+both_true a b is = grind arith
 
 -- ---- lists
 
 given_from : {X Y : Type 0} (f : X → Option Y) (xs : List X) (y : Y) → first_given f xs ≡ Some y → (x : X) × IsIn x xs × (f x ≡ Some y)
 given_from f [] y is = absurd (none-some y is)
-given_from {X} {Y} f (x ∷ xs) y is = go (f x) refl is (given_from f xs y)
-  where
-    go : (o : Option Y) → f x ≡ o → option_or o (first_given f xs) ≡ Some y → (first_given f xs ≡ Some y → (z : X) × IsIn z xs × (f z ≡ Some y))
-        → (z : X) × IsIn z (x ∷ xs) × (f z ≡ Some y)
-    go (Some z) at it later = (x, inl refl, at ∙ it)
-    go None at it later = let found = later it in (found.0, inr found.1, found.2)
+given_from f (x ∷ xs) y is = let later = given_from f xs y in grind (arith, common_steps, gets)
 
 none_given : {X Y : Type 0} (f : X → Option Y) (xs : List X) → first_given f xs ≡ None → (x : X) → IsIn x xs → f x ≡ None
 none_given f [] is x here = elim here [ ]
-none_given {X} {Y} f (z ∷ zs) is x here = go (f z) refl is here (λ it. none_given f zs it x)
-  where
-    go : (o : Option Y) → f z ≡ o → option_or o (first_given f zs) ≡ None → IsIn x (z ∷ zs) → (first_given f zs ≡ None → IsIn x zs → f x ≡ None) → f x ≡ None
-    go (Some y) at it any later = absurd (cc)
-    go None at it (inl same) later = ap f same ∙ at
-    go None at it (inr there) later = later it there
+none_given f (z ∷ zs) is x here = let later = λ (h : first_given f zs ≡ None). none_given f zs h x in grind (arith, common_steps, gets)
 
 pub found_passes : {X : Type 0} (test : X → Bool) (xs : List X) (x : X) → find test xs ≡ Some x → test x ≡ true
 found_passes test [] x is = absurd (none-some x is)
-found_passes {X} test (z ∷ zs) x is = go (test z) refl is (found_passes test zs x)
-  where
-    go : (b : Bool) → test z ≡ b → cond b (Some z) (find test zs) ≡ Some x → (find test zs ≡ Some x → test x ≡ true) → test x ≡ true
-    go true at it later = ap test (sym (same_Some z x it)) ∙ at
-    go false at it later = later it
+found_passes test (z ∷ zs) x is = let later = found_passes test zs x in grind (arith, common_steps, gets)
 
 all_pass : {X : Type 0} (test : X → Bool) (xs : List X) → list_all test xs ≡ true → (x : X) → IsIn x xs → test x ≡ true
 all_pass test (z ∷ zs) is x (inl same) = ap test same ∙ (both_true _ _ is).0
@@ -111,42 +93,48 @@ module _ (r s : ℕ) (inbox : List Received) where
   named_heard m None at is = absurd (cc)
   named_heard m (Some said) at is = (said.estimate, rw (← eqb-true said.lead m is) (first_phase_heard said at))
 
--- a decision that the process learns was heard
-pub learnt_heard : (inbox : List Received) (v : ℕ) → learnt inbox ≡ Some v → (s : ℕ) × IsHeard inbox s (D v)
-learnt_heard inbox v is =
-    let sender = given_from (λ s. decision_from s inbox) all_processes v is in
-    let found = heard_from as_decision sender.0 inbox v sender.2 in
-    (sender.0, rw (← reads found.0 found.2) found.1)
-  where
-    reads : (x : Payload) → as_decision x ≡ Some v → x ≡ D v
-    reads x it = grind (arith, common_steps, gets)
+-- ---- what is heard, at any time
 
--- an aux rests on a quorum that named one leader, and on that leader's own message
-pub agreed_rests : (q r : ℕ) (inbox : List Received) (v : ℕ) → agreed_estimate q r inbox ≡ Some v → AuxBasis q (IsHeard inbox) r v
-agreed_rests q r inbox v is =
-    let own = mapped (λ (said : FirstPhase). said.estimate) _ v is in
-    let agreed = bound (λ m. first_phase_from r m inbox) (agreed_leader q r inbox) own.0 own.1 in
-    let m : ℕ = agreed.0 in
-    let enough : q ≤ backers r m inbox = leb-true _ _ (both_true _ _ (found_passes (is_agreed q r inbox) all_processes m agreed.1)).0 in
-    let same = count_all (λ s. names m (first_phase_from r s inbox)) in
-    record {
-      leader = m;
-      named = own.0.lead;
-      quorum = ((λ s. names m (first_phase_from r s inbox)), omega arith, λ s low high it. named_heard r s inbox m _ refl it);
-      estimate = subst (λ e. IsHeard inbox m (P1 r e own.0.lead)) own.2 (first_phase_heard r m inbox own.0 agreed.2);
-    }
+module _ (inbox : List Received) (Heard : ℕ → Payload → Type 0) (heard : (s : ℕ) (x : Payload) → IsHeard inbox s x → Heard s x) where
+  -- a decision that the process learns was heard
+  pub learnt_heard : (v : ℕ) → learnt inbox ≡ Some v → (s : ℕ) × Heard s (D v)
+  learnt_heard v is =
+      let sender = given_from (λ s. decision_from s inbox) all_processes v is in
+      let found = heard_from as_decision sender.0 inbox v sender.2 in
+      (sender.0, heard _ _ (rw (← reads found.0 found.2) found.1))
+    where
+      reads : (x : Payload) → as_decision x ≡ Some v → x ≡ D v
+      reads x it = grind (arith, common_steps, gets)
 
-module _ (r : ℕ) (inbox : List Received) where
+  -- an aux rests on a quorum that named one leader, and on that leader's own message
+  pub agreed_rests : (q r v : ℕ) → agreed_estimate q r inbox ≡ Some v → AuxBasis q Heard r v
+  agreed_rests q r v is =
+      let own = mapped (λ (said : FirstPhase). said.estimate) _ v is in
+      let agreed = bound (λ m. first_phase_from r m inbox) (agreed_leader q r inbox) own.0 own.1 in
+      let m : ℕ = agreed.0 in
+      let enough : q ≤ backers r m inbox = leb-true _ _ (both_true _ _ (found_passes (is_agreed q r inbox) all_processes m agreed.1)).0 in
+      let same = count_all (λ s. names m (first_phase_from r s inbox)) in
+      record {
+        leader = m;
+        named = own.0.lead;
+        quorum = (
+          (λ s. names m (first_phase_from r s inbox)),
+          omega arith,
+          λ s low high it. let said = named_heard r s inbox m _ refl it in (said.0, heard _ _ said.1),
+        );
+        estimate = subst (λ e. Heard m (P1 r e own.0.lead)) own.2 (heard _ _ (first_phase_heard r m inbox own.0 agreed.2));
+      }
+
   -- a proposal was voted by somebody
-  pub proposal_carried : (w : ℕ) → proposal r inbox ≡ Some w → Carried (IsHeard inbox) r w
-  proposal_carried w is =
+  pub proposal_carried : (r w : ℕ) → proposal r inbox ≡ Some w → Carried Heard r w
+  proposal_carried r w is =
       let found = given_from (λ s. option_flatten (second_phase_from r s inbox)) all_processes w is in
-      (found.0, second_phase_heard r found.0 inbox (Some w) (flat (second_phase_from r found.0 inbox) found.2))
+      (found.0, heard _ _ (second_phase_heard r found.0 inbox (Some w) (flat (second_phase_from r found.0 inbox) found.2)))
     where
       flat : (o : Option (Option ℕ)) → option_flatten o ≡ Some w → o ≡ Some (Some w)
       flat o it = grind (arith, common_steps, gets)
 
-  module _ (q : ℕ) (enough : nat_le q (second_phase_senders r inbox) ≡ true) where
+  module _ (q r : ℕ) (enough : nat_le q (second_phase_senders r inbox) ≡ true) where
     -- what holds of each sender of a second-phase message holds of a quorum
     of_voters : (P : ℕ → Type 0) → ((s : ℕ) (a : Option ℕ) → IsIn s all_processes → second_phase_from r s inbox ≡ Some a → IsHeard inbox s (P2 r a) → P s)
         → IsQuorum q P
@@ -159,22 +147,22 @@ module _ (r : ℕ) (inbox : List Received) where
         )
 
     -- with no proposal all that voted voted none
-    pub voted_none : (e : ℕ) → proposal r inbox ≡ None → IsQuorum q (Voted (IsHeard inbox) r e)
+    pub voted_none : (e : ℕ) → proposal r inbox ≡ None → IsQuorum q (Voted Heard r e)
     voted_none e none =
         of_voters _ (λ s a process is here. (
           a,
-          here,
+          heard _ _ here,
           inl (ap option_flatten (sym is)
               ∙ none_given (λ s. option_flatten (second_phase_from r s inbox)) all_processes none s process),
         ))
 
-    pub voted_some : (w : ℕ) → proposal r inbox ≡ Some w → IsQuorum q (Voted (IsHeard inbox) r w)
-    voted_some w some = of_voters _ (λ s a process is here. (a, here, inr (proposal_carried w some)))
+    pub voted_some : (w : ℕ) → proposal r inbox ≡ Some w → IsQuorum q (Voted Heard r w)
+    voted_some w some = of_voters _ (λ s a process is here. (a, heard _ _ here, inr (proposal_carried r w some)))
 
     -- where every vote carries w, all that voted voted w
-    pub voted_alike : (w : ℕ) → is_only_proposal r w inbox ≡ true → VotedAlike q (IsHeard inbox) r w
+    pub voted_alike : (w : ℕ) → is_only_proposal r w inbox ≡ true → VotedAlike q Heard r w
     voted_alike w only =
-        of_voters _ (λ s a process is here. rw (← same s a (all_pass _ inbox only _ (contained_in inbox _ here))) here)
+        of_voters _ (λ s a process is here. rw (← same s a (all_pass _ inbox only _ (contained_in inbox _ here))) (heard _ _ here))
       where
         same : (s : ℕ) (a : Option ℕ) → carries w (second_phase r (P2 r a)) ≡ true → a ≡ Some w
         same s a it = grind (arith, common_steps, gets, eq-eqb)

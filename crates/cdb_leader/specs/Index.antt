@@ -111,15 +111,9 @@ pub record IsEmptyRow (row : Row) : Type 0 where
   pub vote : row.vote ≡ None
   pub other_vote : row.other_vote ≡ None
 
--- what is kept of a round that has no row
-abbrev pub no_firsts : Firsts
-no_firsts = record { positions = [] }
-
-abbrev pub no_row : Row
-no_row = record { first_phases = no_firsts; second_phases = no_firsts; vote = None; other_vote = None }
-
 -- ---- the index of an inbox
 
 pub record IsIndexOf (index : Index) (inbox : List Received) : Type 0 where
-  pub rounds : (r : ℕ) → IsRowOf r (unwrap_or (get nat_eq index.rows r) no_row) inbox
+  pub rounds : (r : ℕ) → IsRowOf r (unwrap_or (get nat_eq index.rows r) index.no_row) inbox
+  pub none : IsEmptyRow index.no_row
   pub decisions : AreFirsts as_decision index.decisions inbox

@@ -173,33 +173,15 @@ impl Inbox {
         &self.messages[KNOWN.min(self.messages.len())..]
     }
 
-    /// The first-phase message of the round from that sender that the index knows, by what is kept of the round.
-    fn known_first_phase(&self, kept: &Firsts, round: u32, sender: Proc) -> Option<FirstPhase>
-        ensures { AreFirsts (first_phase round) kept.now (known self.now)
-            → result ≡ first_phase_from round sender (known self.now) }
-    {
-        message_at(self.known(), kept.get(sender)).and_then(|message| message.first_phase(
-            round, sender,
-        ))
-    }
-
     /// The first-phase message of the round from that sender, by what is kept of the round.
     fn first_phase_at(&self, kept: &Firsts, round: u32, sender: Proc) -> Option<FirstPhase>
         ensures { AreFirsts (first_phase round) kept.now (known self.now)
             → result ≡ first_phase_from round sender self.now }
     {
-        self.known_first_phase(kept, round, sender)
-            .or_else(|| later::find_first_phase(self.later(), round, sender))
-    }
-
-    /// The second-phase message of the round from that sender that the index knows, by what is kept of the round.
-    fn known_second_phase(&self, kept: &Firsts, round: u32, sender: Proc) -> Option<Option<Val>>
-        ensures { AreFirsts (second_phase round) kept.now (known self.now)
-            → result ≡ second_phase_from round sender (known self.now) }
-    {
-        message_at(self.known(), kept.get(sender)).and_then(|message| message.second_phase(
-            round, sender,
-        ))
+        match message_at(self.known(), kept.get(sender)) {
+            Some(message) => message.first_phase(round, sender),
+            None => later::find_first_phase(self.later(), round, sender),
+        }
     }
 
     /// The second-phase message of the round from that sender, by what is kept of the round.
@@ -207,44 +189,25 @@ impl Inbox {
         ensures { AreFirsts (second_phase round) kept.now (known self.now)
             → result ≡ second_phase_from round sender self.now }
     {
-        self.known_second_phase(kept, round, sender)
-            .or_else(|| later::find_second_phase(self.later(), round, sender))
-    }
-
-    /// The first decision of that sender that the index knows.
-    fn known_decision(&self, sender: Proc) -> Option<Val>
-        ensures { result ≡ decision_from sender (known self.now) }
-    {
-        message_at(self.known(), self.index.decision(sender)).and_then(|message| message.decision(
-            sender,
-        ))
+        match message_at(self.known(), kept.get(sender)) {
+            Some(message) => message.second_phase(round, sender),
+            None => later::find_second_phase(self.later(), round, sender),
+        }
     }
 
     /// The first decision of that sender.
     fn find_decision(&self, sender: Proc) -> Option<Val>
         ensures { result ≡ decision_from sender self.now }
     {
-        self.known_decision(sender)
-            .or_else(|| later::find_decision(self.later(), sender))
-    }
-
-    /// Where the first-phase messages of that round stand.
-    fn first_phase_positions(&self, round: u32) -> Firsts
-        ensures { AreFirsts (first_phase round) result (known self.now) }
-    {
-        self.index.first_phases(round)
-    }
-
-    /// Where the second-phase messages of that round stand.
-    fn second_phase_positions(&self, round: u32) -> Firsts
-        ensures { AreFirsts (second_phase round) result (known self.now) }
-    {
-        self.index.second_phases(round)
+        match message_at(self.known(), self.index.decision(sender)) {
+            Some(message) => message.decision(sender),
+            None => later::find_decision(self.later(), sender),
+        }
     }
 
     /// Where the first messages of that round stand.
-    fn row(&self, round: u32) -> Row
-        ensures { IsRowOf round result (known self.now) }
+    fn row(&self, round: u32) -> &Row
+        ensures { IsRowOf round result.now (known self.now) }
     {
         self.index.row(round)
     }
@@ -253,7 +216,7 @@ impl Inbox {
     pub(crate) fn has_first_phase(&self, round: u32, sender: Proc) -> bool
         ensures { result ≡ is_some (first_phase_from round sender self.now) }
     {
-        self.first_phase_positions(round).get(sender).is_kept()
+        self.row(round).first_phases.get(sender).is_kept()
             || later::find_first_phase(self.later(), round, sender).is_some()
     }
 
@@ -261,7 +224,7 @@ impl Inbox {
     fn has_second_phase(&self, round: u32, sender: Proc) -> bool
         ensures { result ≡ is_some (second_phase_from round sender self.now) }
     {
-        self.second_phase_positions(round).get(sender).is_kept()
+        self.row(round).second_phases.get(sender).is_kept()
             || later::find_second_phase(self.later(), round, sender).is_some()
     }
 
@@ -270,7 +233,7 @@ impl Inbox {
         ensures { result ≡ first_phase_senders round self.now }
     {
         if self.later().is_empty() {
-            return self.first_phase_positions(round).count();
+            return self.row(round).first_phases.count();
         }
         Proc::all()
             .iter()
@@ -283,7 +246,7 @@ impl Inbox {
         ensures { result ≡ second_phase_senders round self.now }
     {
         if self.later().is_empty() {
-            return self.second_phase_positions(round).count();
+            return self.row(round).second_phases.count();
         }
         Proc::all()
             .iter()
@@ -295,9 +258,9 @@ impl Inbox {
     fn first_phases(&self, round: u32) -> FirstPhases
         ensures { All (λ s. said_by s result ≡ first_phase_from round s self.now) all_processes }
     {
-        let kept = self.first_phase_positions(round);
+        let kept = &self.row(round).first_phases;
         FirstPhases {
-            by_sender: Proc::all().map(|sender| self.first_phase_at(&kept, round, sender)),
+            by_sender: Proc::all().map(|sender| self.first_phase_at(kept, round, sender)),
         }
     }
 
@@ -315,9 +278,9 @@ impl Inbox {
     pub(crate) fn find_proposal(&self, round: u32) -> Option<Val>
         ensures { result ≡ proposal round self.now }
     {
-        let kept = self.second_phase_positions(round);
+        let kept = &self.row(round).second_phases;
         for sender in Proc::all() {
-            if let Some(Some(value)) = self.second_phase_at(&kept, round, sender) {
+            if let Some(Some(value)) = self.second_phase_at(kept, round, sender) {
                 return Some(value);
             }
         }

@@ -3,8 +3,7 @@
 
 ghost use Rattle.std.specs.Prelude.{◌≡◌, ◌<◌, length, List, [], ◌∷◌, ◌++◌, OnOk, OnErr};
 ghost use Rattle.cdb_leader.specs.declared.inbox.Received.{Received};
-ghost use Rattle.cdb_leader.specs.Inbox.{first_phase, second_phase, as_decision};
-ghost use Rattle.cdb_leader.specs.Index.{position_from, keeps_none, known, AreFirsts, IsRowOf, IsIndexOf};
+ghost use Rattle.cdb_leader.specs.Index.{position_from, keeps_none, known, IsRowOf, IsIndexOf};
 
 use crate::firsts::Firsts;
 use crate::inbox::Received;
@@ -15,11 +14,12 @@ use std::alloc::Global;
 use std::collections::HashMap;
 
 /// Where in an inbox the first messages of each kind stand: a row for each round that one came of,
-/// and the first decisions.
+/// and the first decisions. Beside them stands the row of all other rounds, which keeps nothing.
 #[derive(Drop)]
 pub struct Index {
     rows: HashMap<u32, Row>,
     decisions: Firsts,
+    no_row: Row,
 }
 
 impl Index {
@@ -30,38 +30,18 @@ impl Index {
         Index {
             rows: HashMap::new(alloc),
             decisions: Firsts::new(),
+            no_row: Row::new(),
         }
     }
 
-    /// What is kept for that round.
-    pub(crate) fn row(&self, round: u32) -> Row
-        ensures { (inbox : List Received) → IsIndexOf self.now inbox → IsRowOf round result inbox }
-    {
-        match self.rows.get(&round) {
-            Some(row) => *row,
-            None => Row::new(),
-        }
-    }
-
-    /// What is kept of that round's first phase.
-    pub(crate) fn first_phases(&self, round: u32) -> Firsts
+    /// What is kept of that round.
+    pub(crate) fn row(&self, round: u32) -> &Row
         ensures { (inbox : List Received) → IsIndexOf self.now inbox
-            → AreFirsts (first_phase round) result inbox }
+            → IsRowOf round result.now inbox }
     {
         match self.rows.get(&round) {
-            Some(row) => row.first_phases,
-            None => Firsts::new(),
-        }
-    }
-
-    /// What is kept of that round's second phase.
-    pub(crate) fn second_phases(&self, round: u32) -> Firsts
-        ensures { (inbox : List Received) → IsIndexOf self.now inbox
-            → AreFirsts (second_phase round) result inbox }
-    {
-        match self.rows.get(&round) {
-            Some(row) => row.second_phases,
-            None => Firsts::new(),
+            Some(row) => row,
+            None => &self.no_row,
         }
     }
 
@@ -93,7 +73,7 @@ impl Index {
                     row.note(round, messages, message);
                     return Ok(());
                 }
-                let mut row = Row::new();
+                let mut row = self.no_row;
                 row.note(round, messages, message);
                 self.rows.insert(round, row)?;
             }

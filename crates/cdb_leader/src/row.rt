@@ -45,7 +45,7 @@ impl Row {
     pub(crate) fn find_vote(&self, round: u32, messages: &[Received]) -> Option<Option<Val>>
         ensures { IsRowOf round self.now messages.now → result ≡ vote_in round messages.now }
     {
-        message_at(messages, self.vote).and_then(|message| message.vote(round))
+        message_at(messages, self.vote)?.vote(round)
     }
 
     /// Whether a second-phase message of the round carries something else than the first.

@@ -7,4 +7,4 @@ pub returns-then-is_empty : goal.returns-then-is_empty
 returns-then-is_empty c =
     let none : length c.later.result.now ≡ 0 = search rules in
     c.count.ensures
-    ∙ count_all_kept _ _ _ c.first_phase_positions.ensures (sym c.later.ensures ∙ nil_from_length _ none)
+    ∙ count_all_kept _ _ _ c.row.ensures.first_phases (sym c.later.ensures ∙ nil_from_length _ none)

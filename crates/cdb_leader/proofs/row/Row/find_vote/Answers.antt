@@ -1,10 +1,11 @@
-use Rattle.std.proofs.Common.{rules, ◌≡◌, ◌∙◌}
-use Rattle.std.specs.Option.{option_and_then, option_copied}
-use Rattle.cdb_leader.specs.Inbox.{second_phase}
+use Rattle.std.proofs.Common.{arith}
+use Rattle.std.proofs.lemmas.Grind.{common_steps}
+use Rattle.std.proofs.lemmas.Option.{gets}
 use Rattle.cdb_leader.proofs.LookUps.{vote_at}
 use Rattle.cdb_leader.proofs.row.Row.find_vote.Goals as goal
 
+pub returns-in_err-message_at : goal.returns-in_err-message_at
+returns-in_err-message_at c = λ h. (let vote = vote_at _ _ _ h in grind (arith, common_steps, gets))
+
 pub returns : goal.returns
-returns c = λ h.
-    let read : c.and_then.result ≡ option_and_then (λ e. second_phase c.args.round e.payload) (option_copied c.message_at.result) = search rules in
-    read ∙ rw c.message_at.ensures (vote_at _ _ _ h)
+returns c = λ h. (let vote = vote_at _ _ _ h in grind (arith, common_steps, gets))
