@@ -1,9 +1,8 @@
 -- An event that was undone is taken again exactly where it is enabled.
 use Rattle.std.proofs.lemmas.Grind.{common_steps}
 use Rattle.std.proofs.lemmas.Option.{gets}
-use Rattle.std.proofs.Common.{◌≡◌, ℕ, ◌≤◌, Bool, ◌==◌, ◌↔◌, List, length, Option, Some, None, Result, Ok, Err, IsOk, IfOk, is_ok, IsSome, refl, sym, ap, ◌∙◌}
+use Rattle.std.proofs.Common.{◌≡◌, ℕ, ◌≤◌, Bool, ◌==◌, ◌↔◌, List, length, Option, Some, None, Result, Ok, IsOk, IfOk, is_ok, IsSome, refl, sym, ap, ◌∙◌}
 use Rattle.std.proofs.Common.{arith}
-use Rattle.std.specs.Option.{option_map_or}
 use Rattle.std.proofs.lemmas.Bool.Decides.{nat_tests}
 use Rattle.cdb_base.specs.Positions.{nth}
 use Rattle.cdb_base.specs.declared.event.Event.{Event}
@@ -12,11 +11,10 @@ use Rattle.cdb_base.specs.declared.event.Kind.{Kind}
 use Rattle.cdb_base.specs.declared.name.CopyName.{CopyName}
 use Rattle.cdb_base.specs.declared.name.MsgName.{MsgName}
 use Rattle.cdb_base.specs.declared.refusal.Refusal.{Refusal}
-use Rattle.cdb_base.specs.declared.refusal.Refusal.TheVariants as refusal
 use Rattle.cdb_message.specs.Mail.{copy_name}
 use Rattle.cdb_rules.specs.Machines.{IsLawful}
 use Rattle.cdb_rules.specs.Mail.{mail_of}
-use Rattle.cdb_rules.specs.Refusals.{first_refusal, again_checks, again_result, planned_again, lose_checks, loss_result, unless_refused, NamesProcess, IsOfRun}
+use Rattle.cdb_rules.specs.Refusals.{first_refusal, again_checks, again_result, loss_result, unless_refused, NamesProcess, IsOfRun}
 use Rattle.cdb_rules.specs.State.{Machine, ProcessState, RunState}
 use Rattle.cdb_rules.specs.Step.{after}
 use Rattle.cdb_rules.proofs.Granted.{IsReady, AllPass, all_pass, none_refuses, unrefused, ready_enabled, enabled_ready}
@@ -40,15 +38,7 @@ module _ {L : Type 0} (machine : Machine L) (lawful : IsLawful machine) (setup :
     checks = again_checks machine (mail_of state) state.registers process.progress p k kind
 
     ready_where_pass : k ≤ 9999 → NamesProcess setup.processes kind → AllPass checks → IsReady machine lawful state p process at k kind
-    ready_where_pass limit names pass =
-        record {
-          alive = grind (arith, common_steps, gets);
-          going = grind (arith, common_steps, gets);
-          number = grind (arith, common_steps, gets);
-          limit = grind (arith, nat_tests);
-          accepted = grind (arith, common_steps, gets);
-          fits = grind (arith, common_steps, gets, nat_tests);
-        }
+    ready_where_pass limit names pass = grind (arith, common_steps, gets, nat_tests)
 
     pub step_enabled : (event : Event) → k ≤ 9999 → NamesProcess setup.processes kind
         → again_result machine setup state (Step p k kind) ≡ Ok event → IsSome (after machine state (Step p k kind))
@@ -83,13 +73,7 @@ unless_same why event = grind (arith, common_steps, gets)
 
 pub again_same : {L : Type 0} (machine : Machine L) (setup : Parts) (state : RunState L) (event : Event)
     → IfOk (again_result machine setup state event) (λ taken. taken ≡ event)
-again_same machine setup state (Step p k kind) =
-    elim (nth state.processes p) as (λ o. IfOk (option_map_or (λ (x : ProcessState _).
-    planned_again machine (mail_of state) state.registers x.progress p k kind) o (Err refusal.NoProcess)) (λ taken. taken ≡ Step p k kind)) [
-      | None ↦ tt
-      | Some process ↦ unless_same (first_refusal (again_checks machine (mail_of state) state.registers process.progress p k kind)) (Step p k kind)
-    ]
-again_same machine setup state (Lost copy) = unless_same (first_refusal (lose_checks setup (mail_of state) copy.msg copy.to)) (Lost copy)
+again_same machine setup state event = grind (arith, common_steps, gets, unless_same)
 
 -- where the loss of a copy is answered, it is enabled
 pub lose_enabled : {L : Type 0} (machine : Machine L) (setup : Parts) (number : length machine.firsts ≡ setup.processes) (loses : machine.loses_copies

@@ -22,8 +22,8 @@ use Rattle.cdb_rules.specs.Undo.{IsEventNamed, event_named, found_at, names_proc
 use Rattle.cdb_rules.proofs.Results.{free_result, needed_result, found_is}
 use Rattle.cdb_rules.proofs.Bounds.{taken_sound}
 use Rattle.cdb_rules.proofs.NamesFound.{stands_from_one, stands_named, none_named, among_is}
-use Rattle.cdb_rules.proofs.Limits.{in_front}
 use Rattle.cdb_rules.proofs.Members.{losable}
+use Rattle.cdb_rules.proofs.SameState.{first_of}
 use Rattle.cdb_rules.proofs.NamedEvents.{in_position, of_processes, lost_after_send, names_differ}
 
 -- the event there has its name, and where no other has, that is its position
@@ -95,8 +95,7 @@ module _ {L : Type 0} (machine : Machine L) where
     its_processes (Lost copy) i =
         let at = taken_sound machine history valid (Lost copy) i in
         let sent = lost_after_send machine history valid copy i in
-        let send = Step copy.msg.s sent.0 (Send copy.msg.m) in
-        rw (stepped copy.msg.s sent.0 (Send copy.msg.m) (in_front send (Lost copy) history sent.1), (losable machine at.0 at.1 copy at.3).among)
+        rw (stepped copy.msg.s sent.0 (Send copy.msg.m) (first_of sent.1), (losable machine at.0 at.1 copy at.3).among)
 
     pub valid_named : (at : ℕ) (event : Event) → nth history at ≡ Some event → IsEventNamed count history (event_name event) at event
     valid_named at event stands =

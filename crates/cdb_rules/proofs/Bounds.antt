@@ -1,7 +1,7 @@
 -- How far the numbers of a run can rise.
 use Rattle.std.proofs.lemmas.Grind.{common_steps}
-use Rattle.std.proofs.lemmas.Option.{gets, none-some, same_Some}
-use Rattle.std.proofs.Common.{◌≡◌, ℕ, zero, suc, ◌+◌, ◌*◌, ◌<◌, ◌≤◌, slice_get, slice_set, List, [], ◌∷◌, length, Some, refl, sym, ap, ◌∙◌, subst, arith}
+use Rattle.std.proofs.lemmas.Option.{gets, none-some}
+use Rattle.std.proofs.Common.{rules, ◌≡◌, ℕ, suc, ◌+◌, ◌*◌, ◌<◌, ◌≤◌, slice_get, slice_set, List, [], ◌∷◌, length, Some, refl, sym, ap, ◌∙◌, subst, arith}
 use Rattle.std.proofs.lemmas.List.{length-map}
 use Rattle.cdb_base.specs.Positions.{nth, set_nth}
 use Rattle.cdb_base.specs.declared.event.Event.{Event}
@@ -13,13 +13,11 @@ use Rattle.cdb_register.specs.Registers.{register_of}
 use Rattle.cdb_register.specs.declared.RegisterState.{RegisterState}
 use Rattle.cdb_rules.specs.State.{Machine, ProcessState, RunState, start, fresh_process}
 use Rattle.cdb_rules.specs.Step.{after, fold, IsValid}
-use Rattle.cdb_rules.specs.InputsTaken.{queries_after}
 use Rattle.cdb_rules.proofs.Commutes.{lost_from}
 use Rattle.cdb_rules.proofs.FoldKeeps.{turn}
 use Rattle.cdb_rules.proofs.Kept.{left, each_left}
 use Rattle.cdb_rules.proofs.Members.{nth-fresh, start_unwritten}
 use Rattle.cdb_rules.proofs.Numbers.{of_register, writes_of, writes_more}
-use Rattle.cdb_rules.proofs.Stages.{sent_after}
 use Rattle.cdb_rules.proofs.Taken.{IsTaken, taken_from, parts, some_of}
 
 -- what a process has counted
@@ -39,28 +37,18 @@ pub record IsSound {L : Type 0} (machine : Machine L) (state : RunState L) : Typ
   pub bounded : (p : ℕ) (process : ProcessState L) → nth state.processes p ≡ Some process → IsBounded process
   pub few_writes : (register : Reg) → writes_of state register ≤ all_steps state.processes
 
-length-slice_set : {A : Type 0} (xs : List A) (i : ℕ) (a : A) → length (slice_set xs i a) ≡ length xs
-length-slice_set xs i a = grind (arith, common_steps, gets)
-
 pub length-set_nth : {A : Type 0} (xs : List A) (p : ℕ) (a : A) → length (set_nth xs p a) ≡ length xs
-length-set_nth xs zero a = refl
-length-set_nth xs (suc i) a = length-slice_set xs i a
-
-queries_few : (queries steps : ℕ) (kind : Kind) → queries ≤ steps → queries_after queries kind ≤ steps + 1
-queries_few queries steps kind few = grind (arith, common_steps)
+length-set_nth xs p a = grind (arith, common_steps, gets)
 
 module _ {L : Type 0} where
   one_step_more : (processes : List (ProcessState L)) (i : ℕ) (process after_it : ProcessState L) → slice_get processes i ≡ Some process
       → after_it.progress.steps ≡ process.progress.steps + 1 → all_steps (slice_set processes i after_it) ≡ all_steps processes + 1
   one_step_more [] i process after_it at more = absurd (none-some process at)
-  one_step_more (x ∷ xs) zero process after_it at more =
-      let same = ap (λ (y : ProcessState L). y.progress.steps) (same_Some x process at) in omega arith
-  one_step_more (x ∷ xs) (suc i) process after_it at more = let rest = one_step_more xs i process after_it at more in omega (arith, rest)
+  one_step_more (x ∷ xs) i process after_it at more = grind (arith, common_steps, gets, one_step_more xs)
 
   pub all_steps_after : (processes : List (ProcessState L)) (p : ℕ) (process after_it : ProcessState L) → nth processes p ≡ Some process
       → after_it.progress.steps ≡ process.progress.steps + 1 → all_steps (set_nth processes p after_it) ≡ all_steps processes + 1
-  all_steps_after processes zero process after_it at more = absurd (none-some process at)
-  all_steps_after processes (suc i) process after_it at more = one_step_more processes i process after_it at more
+  all_steps_after processes p process after_it at more = grind (arith, common_steps, gets, one_step_more processes)
 
   pub all_steps_few : (processes : List (ProcessState L))
       → ((p : ℕ) (process : ProcessState L) → nth processes p ≡ Some process → IsBounded process) → all_steps processes ≤ 9999 * length processes
@@ -69,10 +57,6 @@ module _ {L : Type 0} where
       let here_few = (bounded 1 x refl).steps in
       let rest = all_steps_few xs (λ p process at. bounded (suc p) process (grind (arith, common_steps, gets))) in
       omega (arith, here_few, rest)
-
-  sends_few : (machine : Machine L) (process : ProcessState L) (kind : Kind)
-      → length process.sent ≤ process.progress.steps → length (sent_after machine process kind) ≤ process.progress.steps + 1
-  sends_few machine process kind few = grind (arith, common_steps, gets)
 
   module _ (machine : Machine L) where
     -- a step keeps a run sound
@@ -86,8 +70,8 @@ module _ {L : Type 0} where
           bounded = each_left machine state to p k kind t IsBounded
               (record {
                 steps = omega (arith, a.number, a.limit);
-                queries = queries_few t.process.progress.queries t.process.progress.steps kind was.queries;
-                sends = sends_few machine t.process kind was.sends;
+                queries = let few = was.queries in grind (arith, common_steps);
+                sends = let few = was.sends in grind (arith, common_steps, gets);
               })
               sound.bounded;
           few_writes = λ register.
@@ -99,8 +83,7 @@ module _ {L : Type 0} where
     pub event_sound : (state to : RunState L) (event : Event) → after machine state event ≡ Some to → IsSound machine state → IsSound machine to
     event_sound state to (Step p k kind) leads sound = step_sound state to p k kind (taken_from machine state to p k kind leads) sound
     event_sound state to (Lost copy) leads sound =
-        subst (IsSound machine) (lost_from machine state to copy leads).1
-        (record { count = sound.count; bounded = sound.bounded; few_writes = sound.few_writes })
+        subst (IsSound machine) (lost_from machine state to copy leads).1 (search (rules, sound))
 
     pub start_sound : IsSound machine (start machine)
     start_sound =

@@ -1,5 +1,5 @@
 -- Two events that do not depend on each other may be taken in either order, with the same outcome.
-use Rattle.std.proofs.Common.{arith, ◌≡◌, ℕ, Bool, true, false, not, ◌&&◌, ◌≢◌, length, Option, Some, None, if◌then◌else◌, refl, sym, ap, ap₂, ◌∙◌, subst}
+use Rattle.std.proofs.Common.{arith, ◌≡◌, ℕ, true, false, ◌≢◌, Option, Some, None, if◌then◌else◌, refl, sym, ap, ◌∙◌, subst}
 use Rattle.std.proofs.lemmas.Grind.{common_steps}
 use Rattle.std.proofs.lemmas.Option.{gets}
 use Rattle.std.specs.FinSet as set
@@ -15,14 +15,13 @@ use Rattle.cdb_causal.specs.Effects.{kind_affects}
 use Rattle.cdb_causal.specs.Reach.{IsCommuting}
 use Rattle.cdb_causal.proofs.Reaches.{commuting_from_diamond}
 use Rattle.cdb_causal.proofs.Symmetry.{symmetric, other_process, unaffected, unaffecting}
-use Rattle.cdb_message.specs.Mail.{is_sent, is_received}
 use Rattle.cdb_message.specs.Names.{CopySet}
 use Rattle.cdb_message.proofs.Sets.{copy_cmp_total, copy_cmp-IsAntisymmetric}
 use Rattle.cdb_rules.specs.Mail.{mail_of}
 use Rattle.cdb_rules.specs.State.{Machine, ProcessState, RunState}
 use Rattle.cdb_process.specs.Wishes.{wished_cell}
-use Rattle.cdb_rules.specs.Step.{is_among, may_lose, after}
-use Rattle.cdb_rules.specs.InputsTaken.{Sight, registers_after}
+use Rattle.cdb_rules.specs.Step.{may_lose, after}
+use Rattle.cdb_rules.specs.InputsTaken.{registers_after}
 use Rattle.cdb_rules.proofs.Stages.{sight_in, accepted, process_after, state_after}
 use Rattle.cdb_rules.proofs.Kept.{nat_eq-ne, other_copy, registers_swap, process_kept, sight_kept, may_lose_kept, with_loss, sight_but}
 use Rattle.cdb_rules.proofs.Positions.{set_nth-set_nth}
@@ -78,8 +77,7 @@ module _ {L : Type 0} (machine : Machine L) where
   moved_swap : (state : RunState L) (p q : ℕ) (one two : ProcessState L) (kind kind' : Kind) (a b : Option Cell) → q ≢ p → kind_affects p kind kind' ≡ false
       → moved (moved state q two kind' b) p one kind a ≡ moved (moved state p one kind a) q two kind' b
   moved_swap state p q one two kind kind' a b apart h =
-      ap₂ (λ processes registers. let s : RunState L = record { processes = processes; registers = registers; lost = state.lost } in s)
-      (set_nth-set_nth state.processes q p two one apart) (sym (registers_swap state.registers p kind kind' a b h))
+      rw (set_nth-set_nth state.processes q p two one apart, registers_swap state.registers p kind kind' a b h) refl
 
   step_step : (state between to : RunState L) (p k q l : ℕ) (kind kind' : Kind) → depends (Step p k kind) (Step q l kind') ≡ false
       → after machine state (Step p k kind) ≡ Some between → after machine between (Step q l kind') ≡ Some to → Turns state to (Step p k kind) (Step q l kind')
@@ -96,14 +94,11 @@ module _ {L : Type 0} (machine : Machine L) where
       let other = state_after machine state q l kind' u.process u.next in
       let sees_too = sight_kept machine state other q l kind' v p kind (unaffected second first turned) in
       let w = elsewhere state between other p k kind t (process_kept machine state other q l kind' v p apart) sees_too in
-      let left = λ (around : Sight). process_after machine t.process p k kind around t.next in
-      let then_left = λ (around : Sight). process_after machine u.process q l kind' around u.next in
+      let then_left = process_after machine u.process q l kind' (sight_in state q kind') u.next in
       let same : state_after machine other p k kind t.process t.next ≡ to =
-      ap (λ around. moved other p (left around) kind (would_write t.process)) sees_too
-      ∙ moved_swap state p q (left (sight_in state p kind)) (then_left (sight_in state q kind')) kind kind' (would_write t.process) (would_write u.process)
-      apart (unaffected first second h)
-      ∙ ap₂ (λ s around. moved s q (then_left around) kind' (would_write u.process)) t.leads_to (sym sees)
-      ∙ u.leads_to in
+      rw sees_too (moved_swap state p q _ then_left kind kind' (would_write t.process) (would_write u.process) apart (unaffected first second h))
+      ∙ ap (λ s. moved s q then_left kind' (would_write u.process)) t.leads_to
+      ∙ rw (← sees) u.leads_to in
       (other, after_taken state other q l kind' v, after_taken other (state_after machine other p k kind t.process t.next) p k kind w ∙ ap Some same)
 
   -- whether a copy may be lost after a step that neither sends nor receives it
@@ -145,27 +140,15 @@ module _ {L : Type 0} (machine : Machine L) where
             ∙ ap Some (sym (step_beside state p k kind copy t.process t.next same) ∙ t.leads_to),
       )
 
-  -- what a loss asks for, besides that the copy is not lost
-  abbrev open_for : RunState L → CopyName → Bool
-  open_for state c =
-      machine.loses_copies && is_among (length machine.firsts) c.to && is_sent (mail_of state) c.msg && not (is_received (mail_of state) c.to c.msg)
-
-  parts_of : (state : RunState L) (c : CopyName) (b : Bool) → (open_for state c && not b) ≡ true → (open_for state c ≡ true) × (b ≡ false)
-  parts_of state c b h = grind (arith, common_steps)
-
   loss_loss : (state between to : RunState L) (copy copy' : CopyName) → after machine state (Lost copy) ≡ Some between
       → after machine between (Lost copy') ≡ Some to → Turns state to (Lost copy) (Lost copy')
   loss_loss state between to copy copy' one two =
       let c = lost_from state between copy one in
       let d = lost_from (with_loss state copy) to copy' (subst (λ b. after machine b (Lost copy') ≡ Some to) (sym c.1) two) in
-      let first = parts_of state copy (set.contains state.lost copy) c.0 in
-      let second = parts_of state copy' (set.contains (set.insert state.lost copy) copy') d.0 in
-      let l = lacked state.lost copy copy' second.1 in (
+      let l = lacked state.lost copy copy' (grind (arith, common_steps)) in (
         with_loss state copy',
-        after_lost state copy' (ap₂ (λ a b. a && not b) second.0 l.0),
-        after_lost (with_loss state copy') copy (ap₂ (λ a b. a && not b) first.0 (other_copy state.lost copy' copy (λ e. l.1 (sym e)) ∙ first.1))
-            ∙ ap (λ lost. let s : RunState L = record state { lost = lost } in Some s) (insert-insert state.lost copy' copy)
-            ∙ ap Some d.1,
+        grind (arith, common_steps),
+        grind (arith, common_steps, other_copy state.lost copy' copy, insert-insert state.lost copy' copy),
       )
 
   diamond : (state between to : RunState L) (first second : Event) → depends first second ≡ false

@@ -1,8 +1,9 @@
 -- Flags of the events up to numbers, one event after the other.
-use Rattle.std.proofs.Common.{◌≡◌, ℕ, suc, ◌+◌, ◌-◌, ◌<◌, ◌≤◌, Bool, true, IsTrue, ◌↔◌, ◌⊎◌, inl, inr, ⊎_elim, List, [], ◌∷◌, ◌++◌, Some, length, get_or}
-use Rattle.std.proofs.Common.{slice_get, sym, ap, ◌∙◌, subst, arith}
+use Rattle.std.proofs.Common.{◌≡◌, ℕ, suc, ◌+◌, ◌-◌, ◌<◌, ◌≤◌, Bool, true, IsTrue, ◌↔◌, inl, inr, List, [], ◌∷◌, ◌++◌, Some, length, get_or}
+use Rattle.std.proofs.Common.{slice_get, sym, ap, ◌∙◌, arith}
+use Rattle.std.proofs.lemmas.Grind.{common_steps}
 use Rattle.std.proofs.lemmas.List.{length_push}
-use Rattle.std.proofs.lemmas.Option.{slice_get-get_or}
+use Rattle.std.proofs.lemmas.Option.{gets, slice_get-get_or}
 use Rattle.cdb_base.specs.Positions.{nth}
 use Rattle.cdb_base.specs.declared.event.Event.{Event}
 use Rattle.cdb_base.specs.declared.name.StepId.{StepId}
@@ -11,7 +12,7 @@ use Rattle.cdb_causal.specs.Past.{HasLedTo, IsInPast, one_link, link_before}
 use Rattle.cdb_causal.specs.Names.{IsNamedAt}
 use Rattle.cdb_causal.proofs.Lists.{by_next}
 use Rattle.cdb_standing.specs.LedTo.{IsPastOfName, IsUpTo}
-use Rattle.cdb_standing.proofs.Rows.{nth_back, nth_front, nth_push, nth_some, nth_within, same_at}
+use Rattle.cdb_standing.proofs.Rows.{nth_some, nth_within, same_at}
 use Rattle.cdb_rules.specs.Flags.{IsFlagged, FlagsPast}
 
 -- the first n events are flagged where they are up to the numbers
@@ -28,36 +29,19 @@ module _ {A : Type 0} {xs ys : List A} (same : xs ≡ ys) where
   item_one at x from_one to_len is =
       by_next (λ n. nth ys n ≡ Some x) at from_one (item_at (at - 1) x (omega (arith, ap length same)) is)
 
-at_end : (at n : ℕ) → at ≤ n + 1 → (at ≤ n) ⊎ (at ≡ suc n)
-at_end at n most = grind arith
-
 -- a flag more
 module _ {numbers : List ℕ} {name : StepId} {events : List Event} {n : ℕ} {flags : List Bool} (so : IsFlagging numbers name events n flags) (b : Bool) where
-  abbrev IsRight : ℕ → Event → Type 0
-  IsRight at it = IsFlagged (flags ++ b ∷ []) at ↔ IsUpTo numbers name it
-
-  before : (at : ℕ) (it : Event) → nth events at ≡ Some it → at ≤ n → IsRight at it
-  before at it stands low =
-      let was = so.each at it low stands in
-      let number = so.number in (
-        λ is. was.0 (⊎_elim (λ old. old) (λ new. let e = new.0 in absurd (omega arith)) (nth_push flags b true at is)),
-        λ is. nth_front flags b true at (was.1 is),
-      )
-
-  last : (event : Event) → IsTrue b ↔ IsUpTo numbers name event → (at : ℕ) → at ≡ suc n → IsRight at event
-  last event up_to at e =
-      let number = so.number in
-      let flag = nth_back flags b at (omega arith) in
-      (λ is. up_to.0 (same_at (flags ++ b ∷ []) at b true flag is), λ is. flag ∙ ap Some (up_to.1 is))
-
   pub flagged_more : (event : Event) → slice_get events n ≡ Some event → IsTrue b ↔ IsUpTo numbers name event
       → IsFlagging numbers name events (n + 1) (flags ++ b ∷ [])
-  flagged_more event here up_to = record {
-    number = length_push flags b ∙ ap (λ k. k + 1) so.number;
-    each = λ at it most stands.
-        ⊎_elim (before at it stands)
-        (λ e. subst (IsRight at) (same_at events (suc n) event it here (rw e at stands)) (last event up_to at e)) (at_end at n most);
-  }
+  flagged_more event here up_to =
+      record {
+        number = length_push flags b ∙ ap (λ k. k + 1) so.number;
+        each = λ at it most stands.
+            let was = so.each at it in
+            let number = so.number in
+            let last = same_at events (suc n) event it here in
+            grind (arith, common_steps, gets);
+      }
 
 -- what has led to an event stands
 module _ {history : List Event} {at other : ℕ} {event : Event} (stands : nth history at ≡ Some event) where
@@ -77,15 +61,12 @@ flags_past {history} {at} {name} {numbers} {flags} all named past = (all.number,
     has_led : (other : ℕ) → IsFlagged flags other → HasLedTo depends history at other
     has_led other is =
         let within = nth_within flags other true is in
-        let number = all.number in
-        let low = within.0 in
-        let high = within.1 in
-        let it = nth_some history other low (omega arith) in
-        (past at named other it.0 it.1).0 ((all.each other it.0 (omega arith) it.1).0 is)
+        let few : other ≤ length history = omega (arith, all.number, within.1) in
+        let it = nth_some history other within.0 few in
+        (past at named other it.0 it.1).0 ((all.each other it.0 few it.1).0 is)
 
     is_flagged : (other : ℕ) → HasLedTo depends history at other → IsFlagged flags other
     is_flagged other led =
         let it = led_stands named.1 led in
         let within = nth_within history other it.0 it.1 in
-        let high = within.1 in
-        (all.each other it.0 high it.1).1 ((past at named other it.0 it.1).1 led)
+        (all.each other it.0 within.1 it.1).1 ((past at named other it.0 it.1).1 led)

@@ -88,23 +88,10 @@ module _ {L : Type 0} (machine : Machine L) (lawful : IsLawful machine) (state :
 
   -- and an enabled step is ready
 
-  accepts_by : (k : ℕ) (kind : Kind) (next : L) → IsAccepted machine process k kind (sight_in state p kind) next → accepts kind ≡ true
-  accepts_by k kind next a = grind (arith, common_steps, gets)
-
-  fits_by : (k : ℕ) (kind : Kind) (next : L) → IsAccepted machine process k kind (sight_in state p kind) next → Fits machine (mail_of state) p kind
-  fits_by k kind next a = grind (arith, common_steps, gets, arrives (mail_of state) p, received_is state p process at)
-
   pub enabled_ready : (k : ℕ) (kind : Kind) → IsSome (after machine state (Step p k kind)) → IsReady k kind
   enabled_ready k kind enabled =
       let to = some_of (after machine state (Step p k kind)) enabled in
       let t = taken_from machine state to.0 p k kind to.1 in
       let same = same_Some t.process process (sym t.at_process ∙ at) in
       let a = subst (λ (x : ProcessState L). IsAccepted machine x k kind (sight_in state p kind) t.next) same (parts machine state to.0 p k kind t) in
-      record {
-        alive = a.alive;
-        going = a.going;
-        number = let is = a.number in grind (arith, nat_tests);
-        limit = let is = a.limit in grind (arith, nat_tests);
-        accepted = accepts_by k kind t.next a;
-        fits = fits_by k kind t.next a;
-      }
+      grind (arith, common_steps, gets, nat_tests, arrives (mail_of state) p, received_is state p process at)

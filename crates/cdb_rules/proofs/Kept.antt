@@ -1,11 +1,12 @@
 -- What an event leaves of what another one meets, where the one does not affect the other.
 use Rattle.std.proofs.lemmas.Grind.{common_steps}
 use Rattle.std.proofs.lemmas.Option.{gets, same_Some}
-use Rattle.std.proofs.Common.{◌≡◌, ℕ, ◌≢◌, Bool, true, false, ◌&&◌, ◌||◌, Option, Some, None, nat_eq, if◌then◌else◌, refl, sym, ap, ap₂, ◌∙◌, subst, true≢false}
+use Rattle.std.proofs.Common.{◌≡◌, ℕ, ◌≢◌, Bool, true, false, ◌&&◌, Option, Some, nat_eq, refl, sym, ap, ◌∙◌, subst, true≢false}
 use Rattle.std.proofs.Common.{eq-eqb, eqb-true, arith}
 use Rattle.std.specs.FinSet as set
-use Rattle.std.specs.Cmp.{Equal-is}
+use Rattle.std.specs.Cmp.{IsTotalOrder, Equal-is}
 use Rattle.std.specs.Ordering.{eq_by_cmp}
+use Rattle.std.specs.declared.cmp.Ordering.{Ordering}
 use Rattle.cdb_base.specs.Positions.{nth}
 use Rattle.cdb_base.specs.Registers.{same_register}
 use Rattle.cdb_base.specs.declared.event.Event.TheVariants.{Step, Lost}
@@ -15,19 +16,17 @@ use Rattle.cdb_base.specs.declared.name.CopyName.{CopyName}
 use Rattle.cdb_base.specs.declared.name.MsgName.{MsgName}
 use Rattle.cdb_base.specs.declared.register.Cell.{Cell}
 use Rattle.cdb_base.specs.declared.register.Reg.{Reg}
-use Rattle.cdb_base.specs.declared.register.Reg.TheVariants.{R, Dec}
 use Rattle.cdb_causal.specs.Dependence.{sends, receives}
 use Rattle.cdb_causal.specs.Effects.{kind_affects, affects}
-use Rattle.cdb_message.specs.Mail.{copy_name, sent_by, received_by, payload_of, is_received}
-use Rattle.cdb_message.specs.Names.{NameSet, CopySet, name_cmp, copy_cmp}
+use Rattle.cdb_message.specs.Mail.{sent_by, received_by, payload_of, is_received}
+use Rattle.cdb_message.specs.Names.{CopySet, copy_cmp}
 use Rattle.cdb_message.proofs.Sets.{name_cmp_total, name_cmp-IsAntisymmetric, copy_cmp_total, copy_cmp-IsAntisymmetric}
 use Rattle.cdb_register.specs.Registers.{RegisterStates, register_of, with_register, put_cell}
 use Rattle.cdb_rules.specs.Mail.{mail_of}
 use Rattle.cdb_rules.specs.State.{Machine, ProcessState, RunState}
-use Rattle.cdb_process.specs.Wishes.{wished_cell}
 use Rattle.cdb_rules.specs.Step.{may_lose}
 use Rattle.cdb_rules.specs.InputsTaken.{arriving, registers_after}
-use Rattle.cdb_rules.proofs.Stages.{sight_in, received_after, process_after}
+use Rattle.cdb_rules.proofs.Stages.{sight_in, process_after}
 use Rattle.cdb_rules.proofs.Mails.{sent_is, received_is}
 use Rattle.cdb_rules.proofs.Positions.{nth-map, nth-set_nth_other, nth-set_nth_same, nth-update_nth_other, update_nth-update_nth}
 use Rattle.cdb_rules.proofs.Taken.{IsTaken}
@@ -50,27 +49,16 @@ at_each P p own others q =
 
 register_of_other : (registers : RegisterStates) (x y : Reg) (cell : Cell) → same_register x y ≡ false
     → register_of (with_register (put_cell cell) registers x) y ≡ register_of registers y
-register_of_other registers (R p) (R q) cell h = nth-update_nth_other (put_cell cell) registers.of_processes p q (nat_eq-ne p q h)
-register_of_other registers Dec Dec cell h = absurd (true≢false h)
-register_of_other registers _ y cell h = refl
+register_of_other registers x y cell h = grind (arith, common_steps, gets, nth-update_nth_other (put_cell cell) registers.of_processes)
 
 put_cell-put_cell : (registers : RegisterStates) (x y : Reg) (a b : Cell) → same_register x y ≡ false
     → with_register (put_cell b) (with_register (put_cell a) registers x) y ≡ with_register (put_cell a) (with_register (put_cell b) registers y) x
-put_cell-put_cell registers (R p) (R q) a b h =
-    ap (λ l. record registers { of_processes = l }) (update_nth-update_nth (put_cell a) (put_cell b) registers.of_processes p q (nat_eq-ne p q h))
-put_cell-put_cell registers Dec Dec a b h = absurd (true≢false h)
-put_cell-put_cell registers _ y a b h = refl
+put_cell-put_cell registers x y a b h = grind (arith, common_steps, gets, update_nth-update_nth (put_cell a) (put_cell b) registers.of_processes)
 
 -- writes of different registers may change places
 pub registers_swap : (registers : RegisterStates) (p : ℕ) (first second : Kind) (a b : Option Cell) → kind_affects p first second ≡ false
     → registers_after (registers_after registers first a) second b ≡ registers_after (registers_after registers second b) first a
-registers_swap registers p (Write x) (Write y) (Some a) (Some b) h = put_cell-put_cell registers x y a b h
-registers_swap registers p _ _ a b h = refl
-
-register_of_after : (registers : RegisterStates) (p : ℕ) (kind : Kind) (cell : Option Cell) (x : Reg)
-    → kind_affects p kind (Read x) ≡ false → register_of (registers_after registers kind cell) x ≡ register_of registers x
-register_of_after registers p (Write y) (Some cell) x h = register_of_other registers y x cell h
-register_of_after registers p _ cell x h = refl
+registers_swap registers p first second a b h = grind (arith, common_steps, gets, put_cell-put_cell registers)
 
 -- what affects a write of a register affects a read of it
 pub affects_read : (p : ℕ) (kind : Kind) (x : Reg) → kind_affects p kind (Read x) ≡ kind_affects p kind (Write x)
@@ -82,27 +70,19 @@ affects_receive p kind s m = grind (arith, common_steps, gets)
 
 -- the sets of names
 
+module _ {K : Type 0} {R : K → K → Ordering} (total : IsTotalOrder R) (same : set.IsAntisymmetric R) where
+  pub same_key : (a b : K) → eq_by_cmp R a b ≡ true → a ≡ b
+  same_key a b h = same a b ((Equal-is (R a b)).0 h)
+
+  -- another key is in the set or not as before
+  pub other_key : (keys : set.FinSet R) (a b : K) → a ≢ b → set.contains (set.insert keys a) b ≡ set.contains keys b
+  other_key keys a b ne = grind (arith, common_steps, set.contains-insert total keys a b, same_key b a)
+
 pub same_copy : (a b : CopyName) → eq_by_cmp copy_cmp a b ≡ true → a ≡ b
-same_copy a b h = copy_cmp-IsAntisymmetric a b ((Equal-is (copy_cmp a b)).0 h)
+same_copy = same_key copy_cmp_total copy_cmp-IsAntisymmetric
 
-pub same_name : (a b : MsgName) → eq_by_cmp name_cmp a b ≡ true → a ≡ b
-same_name a b h = name_cmp-IsAntisymmetric a b ((Equal-is (name_cmp a b)).0 h)
-
--- another copy is lost or not as before
 pub other_copy : (lost : CopySet) (a b : CopyName) → a ≢ b → set.contains (set.insert lost a) b ≡ set.contains lost b
-other_copy lost a b ne =
-    set.contains-insert copy_cmp_total lost a b ∙ ap (λ t. t || set.contains lost b) (is_false (eq_by_cmp copy_cmp b a) (λ e. ne (sym (same_copy b a e))))
-
--- another name is received or not as before
-pub other_name : (received : NameSet) (a b : MsgName) → a ≢ b → set.contains (set.insert received a) b ≡ set.contains received b
-other_name received a b ne =
-    set.contains-insert name_cmp_total received a b
-    ∙ ap (λ t. t || set.contains received b) (is_false (eq_by_cmp name_cmp b a) (λ e. ne (sym (same_name b a e))))
-
--- a step that receives no such message leaves the set as it is, as far as that message goes
-received_other : (received : NameSet) (kind : Kind) (name : MsgName) → receives name.s name.m kind ≡ false
-    → set.contains (received_after received kind) name ≡ set.contains received name
-received_other received kind name h = grind (arith, common_steps, gets, other_name received)
+other_copy = other_key copy_cmp_total copy_cmp-IsAntisymmetric
 
 module _ {L : Type 0} (machine : Machine L) where
   -- what a step leaves
@@ -146,15 +126,13 @@ module _ {L : Type 0} (machine : Machine L) where
     received_kept q name h =
         let now = received_is to p left at_left in
         let was = received_is state p t.process t.at_process in
-        grind (arith, common_steps, gets, other_received_kept q, received_other t.process.received kind name)
+        grind (arith, common_steps, gets, other_received_kept q, other_key name_cmp_total name_cmp-IsAntisymmetric t.process.received)
 
     arriving_kept : (q : ℕ) (name : MsgName) → sends name.s name.m p kind ≡ false → arriving (mail_of to) q name ≡ arriving (mail_of state) q name
-    arriving_kept q name h = ap₂ (λ lost o. if set.contains lost (copy_name name q) then None else o) lost_kept (payload_kept name h)
+    arriving_kept q name h = rw (payload_kept name h, lost_kept)
 
     pub register_kept : (x : Reg) → kind_affects p kind (Read x) ≡ false → register_of to.registers x ≡ register_of state.registers x
-    register_kept x h =
-        ap (λ (y : RunState L). register_of y.registers x) (sym t.leads_to)
-        ∙ register_of_after state.registers p kind (wished_cell (machine.wish t.process.progress.local)) x h
+    register_kept x h = grind (arith, common_steps, gets, register_of_other state.registers)
 
     -- what a step meets that this one does not affect
     pub sight_kept : (q : ℕ) (other : Kind) → kind_affects p kind other ≡ false → sight_in to q other ≡ sight_in state q other

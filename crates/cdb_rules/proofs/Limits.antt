@@ -5,22 +5,19 @@ use Rattle.cdb_base.specs.declared.event.Event.TheVariants.{Step, Lost}
 use Rattle.cdb_base.specs.declared.event.Kind.{Kind}
 use Rattle.cdb_base.specs.declared.event.Kind.TheVariants.{Send}
 use Rattle.cdb_base.specs.declared.name.CopyName.{CopyName}
-use Rattle.cdb_causal.specs.Exchange.{IsIn, IsBefore, here, there}
+use Rattle.cdb_causal.specs.Exchange.{IsIn}
 use Rattle.cdb_rules.specs.State.{Machine}
 use Rattle.cdb_rules.specs.Step.{IsValid}
 use Rattle.cdb_rules.proofs.Bounds.{taken_sound}
 use Rattle.cdb_rules.proofs.NamedEvents.{lost_after_send}
 use Rattle.cdb_rules.proofs.Numbers.{send_number}
 use Rattle.cdb_rules.proofs.Mails.{sent_is}
+use Rattle.cdb_rules.proofs.SameState.{first_of}
 use Rattle.cdb_rules.proofs.Taken.{taken_from, parts}
 
 -- a step has a number that a step can have, and what it sends has one too
 abbrev IsNumberedWithin : ℕ → Kind → Type 0
 IsNumberedWithin k kind = (k ≤ 9999) × ((m : ℕ) → kind ≡ Send m → m ≤ 9999)
-
-pub in_front : (first second : Event) (events : List Event) → IsBefore first second events → IsIn first events
-in_front first second _ (here later) = here
-in_front first second _ (there {rest = events} before) = there (in_front first second events before)
 
 module _ {L : Type 0} (machine : Machine L) where
   module _ (history : List Event) (valid : IsValid machine history) where
@@ -39,4 +36,4 @@ module _ {L : Type 0} (machine : Machine L) where
     pub loss_within : (copy : CopyName) → IsIn (Lost copy) history → copy.msg.m ≤ 9999
     loss_within copy i =
         let sent = lost_after_send machine history valid copy i in
-        (stand_within copy.msg.s sent.0 (Send copy.msg.m) (in_front (Step copy.msg.s sent.0 (Send copy.msg.m)) (Lost copy) history sent.1)).1 copy.msg.m refl
+        (stand_within copy.msg.s sent.0 (Send copy.msg.m) (first_of sent.1)).1 copy.msg.m refl

@@ -44,17 +44,23 @@ module _ {L : Type 0} where
     same : {A : Type 0} (f : ProcessState L → A) → set_nth (map f state.processes) p (f process) ≡ map f state.processes
     same f = set_nth_same (map f state.processes) p (f process) (nth-map f state.processes p ∙ ap (option_map f) at)
 
-    by_kind : (kind : Kind) → with_mail (set_nth (map sent state.processes) p (sent_after machine process kind))
-        (set_nth (map received state.processes) p (received_after process.received kind))
-        ≡ mail_after (mail_of state) p kind (wished_payload (machine.wish process.progress.local))
-    by_kind kind = grind (arith, common_steps, gets, append-nil, sent_is state p process at, received_is state p process at, same sent, same received)
-
     -- the mail after a step of each kind
     pub mail_left : (kind : Kind) → left.sent ≡ sent_after machine process kind → left.received ≡ received_after process.received kind
         → with_mail (map sent (set_nth state.processes p left)) (map received (set_nth state.processes p left))
         ≡ mail_after (mail_of state) p kind (wished_payload (machine.wish process.progress.local))
     mail_left kind sent_left received_left =
-        rw (map-set_nth sent state.processes p left, map-set_nth received state.processes p left, sent_left, received_left) (by_kind kind)
+        grind (
+          arith,
+          common_steps,
+          gets,
+          append-nil,
+          sent_is state p process at,
+          received_is state p process at,
+          same sent,
+          same received,
+          map-set_nth sent state.processes p,
+          map-set_nth received state.processes p,
+        )
 
   -- a step that is due and meets what it needs can be posted
   pub postable : (machine : Machine L) (state : RunState L) (p : ℕ) (process : ProcessState L) (kind : Kind)

@@ -1,7 +1,7 @@
 -- What an event of a list says of the state before the list and of the state behind it, and what the order of two
 -- events says.
-use Rattle.std.proofs.Common.{◌≡◌, ℕ, ◌<◌, ◌≤◌, Bool, true, false, ◌⊎◌, inl, inr, ⊎_elim, List, ◌∷◌, length, Option, Some, refl, sym, ap, ◌∙◌, subst}
-use Rattle.std.proofs.Common.{true≢false, arith, if◌then◌else◌}
+use Rattle.std.proofs.Common.{◌≡◌, ℕ, ◌<◌, ◌≤◌, Bool, true, false, ◌⊎◌, ⊎_elim, List, ◌∷◌, length, Option, Some, refl, sym, ap, ◌∙◌, subst}
+use Rattle.std.proofs.Common.{true≢false, arith}
 use Rattle.std.proofs.lemmas.Grind.{common_steps}
 use Rattle.std.proofs.lemmas.Option.{gets}
 use Rattle.std.specs.FinSet as set
@@ -15,19 +15,19 @@ use Rattle.cdb_base.specs.declared.register.Reg.{Reg}
 use Rattle.cdb_causal.specs.Dependence.{accesses}
 use Rattle.cdb_causal.specs.Exchange.{IsIn, IsBefore}
 use Rattle.cdb_causal.specs.Reach.{reached}
-use Rattle.cdb_message.specs.Mail.{message_name, copy_name, sent_by, is_sent, is_received, is_lost}
+use Rattle.cdb_message.specs.Mail.{message_name, copy_name, is_sent, is_received, is_lost}
 use Rattle.cdb_message.specs.Names.{copy_cmp}
-use Rattle.cdb_register.specs.Registers.{fresh_registers, register_of}
+use Rattle.cdb_message.proofs.Sets.{copy_cmp_total}
 use Rattle.cdb_rules.specs.Mail.{mail_of}
 use Rattle.cdb_rules.specs.State.{Machine, OwnEvent, ProcessState, RunState, fresh_process, start}
 use Rattle.cdb_rules.specs.Step.{is_among, after}
 use Rattle.cdb_rules.proofs.Commutes.{lost_from}
 use Rattle.cdb_rules.proofs.FoldKeeps.{comes, reached_keeps, turn, turn_before}
-use Rattle.cdb_rules.proofs.Numbers.{HasGrown, IsCounted, grown_itself, grown_on, event_grown, steps_of, sends_of, of_register, writes_of, own_at, noted}
+use Rattle.cdb_rules.proofs.Numbers.{HasGrown, IsCounted, grown_itself, grown_on, event_grown, steps_of, sends_of, writes_of, own_at, noted}
 use Rattle.cdb_rules.proofs.Numbers.{number_is, number_after, send_number, received_sent, received_not_lost, received_now, access_noted, write_counts}
-use Rattle.cdb_rules.proofs.Numbers.{step_stands, copy_joins, sends_grow, lost_cases, own_cases, counted_after}
-use Rattle.cdb_rules.proofs.Positions.{nth-map, nth_within}
-use Rattle.cdb_rules.proofs.Taken.{taken_from, bound, mapped, some_of}
+use Rattle.cdb_rules.proofs.Numbers.{step_stands, joins, sends_grow, counted_on}
+use Rattle.cdb_rules.proofs.Positions.{nth-map}
+use Rattle.cdb_rules.proofs.Taken.{taken_from, bound, mapped}
 
 false_not : {b : Bool} → b ≡ false → b ≡ true → ⊥
 false_not f t = true≢false (sym t ∙ f)
@@ -50,31 +50,7 @@ module _ {L : Type 0} (machine : Machine L) where
     pub fresh : is_lost (mail_of state) copy ≡ false
 
   pub losable : (state to : RunState L) (copy : CopyName) → after machine state (Lost copy) ≡ Some to → IsLosable state copy
-  losable state to copy h =
-      record {
-        loses = grind (arith, common_steps, gets);
-        among = grind (arith, common_steps, gets);
-        sent = grind (arith, common_steps, gets);
-        unreceived = grind (arith, common_steps, gets);
-        fresh = grind (arith, common_steps, gets);
-      }
-
-  -- what stands in the own lists at the end stood there before, or is in the list, and so do lost copies
-
-  came : (P : RunState L → Type 0) (event : Event) → ((s : RunState L) (e : Event) (u : RunState L) → after machine s e ≡ Some u → P u → P s ⊎ (e ≡ event))
-      → (events : List Event) (state to : RunState L) → Reaches state events to → P to → P state ⊎ IsIn event events
-  came P event by events state to h is =
-      ⊎_elim inl (λ i. inr (subst (λ x. IsIn x events) i.2 i.1)) (comes (after machine) P (λ e. e ≡ event) by state events to h is)
-
-  pub own_comes : (events : List Event) (state to : RunState L) → Reaches state events to
-      → (p k : ℕ) (own : OwnEvent) → own_at to p k ≡ Some own → (own_at state p k ≡ Some own) ⊎ IsIn own.event events
-  own_comes events state to h p k own at =
-      came (λ x. own_at x p k ≡ Some own) own.event (λ s e u one. own_cases machine s u e one p k own) events state to h at
-
-  pub lost_comes : (events : List Event) (state to : RunState L) → Reaches state events to → (copy : CopyName)
-      → is_lost (mail_of to) copy ≡ true → (is_lost (mail_of state) copy ≡ true) ⊎ IsIn (Lost copy) events
-  lost_comes events state to h copy is =
-      came (λ x. is_lost (mail_of x) copy ≡ true) (Lost copy) (λ s e u one. lost_cases machine s u e one copy) events state to h is
+  losable state to copy h = grind (arith, common_steps, gets)
 
   -- what an event of a list says of the state before it and of the state after the list
 
@@ -89,6 +65,7 @@ module _ {L : Type 0} (machine : Machine L) where
   pub record IsLossMember (state to : RunState L) (copy : CopyName) : Type 0 where
     pub fresh : is_lost (mail_of state) copy ≡ true → ⊥
     pub unreceived : is_received (mail_of state) copy.to copy.msg ≡ true → ⊥
+    pub sent : is_sent (mail_of to) copy.msg ≡ true
     pub stands : is_lost (mail_of to) copy ≡ true
 
   abbrev pub IsMember : RunState L → RunState L → Event → Type 0
@@ -97,17 +74,14 @@ module _ {L : Type 0} (machine : Machine L) where
 
   pub now_lost : (state next : RunState L) (copy : CopyName) → after machine state (Lost copy) ≡ Some next → is_lost (mail_of next) copy ≡ true
   now_lost state next copy one =
-      subst (λ (x : RunState L). is_lost (mail_of x) copy ≡ true) (lost_from machine state next copy one).1 (copy_joins state.lost copy)
-
-  counted_on : (s : RunState L) (event : Event) (u : RunState L) → IsCounted s → after machine s event ≡ Some u → IsCounted u
-  counted_on s event u counted one = counted_after machine s u event one counted
+      subst (λ (x : RunState L). is_lost (mail_of x) copy ≡ true) (lost_from machine state next copy one).1 (joins copy_cmp_total state.lost copy)
 
   -- what is kept on the way from a state
   abbrev IsOnFrom : RunState L → RunState L → Type 0
   IsOnFrom state later = HasGrown state later × IsCounted later
 
   stays_on : (state s : RunState L) (event : Event) (u : RunState L) → IsOnFrom state s → after machine s event ≡ Some u → IsOnFrom state u
-  stays_on state s event u so one = (grown_on so.0 (event_grown machine s u event one), counted_after machine s u event one so.1)
+  stays_on state s event u so one = (grown_on so.0 (event_grown machine s u event one), counted_on machine s event u so.1 one)
 
   grown_to : (events : List Event) (state to : RunState L) → Reaches state events to → HasGrown state to
   grown_to events state to h =
@@ -132,6 +106,7 @@ module _ {L : Type 0} (machine : Machine L) where
       record {
         fresh = λ is. false_not lost.fresh (on.0.lost copy is);
         unreceived = λ is. false_not lost.unreceived (on.0.received copy.to copy.msg is);
+        sent = let sent = lost.sent in grind (arith, common_steps, gets, sends_grow machine before next (Lost copy) one copy.msg.s, later.sends copy.msg.s);
         stands = later.lost copy (now_lost before next copy one);
       }
 
@@ -194,10 +169,9 @@ module _ {L : Type 0} (machine : Machine L) where
       (received_now machine state next p k kind (taken_from machine state next p k kind one) copy.msg.s copy.msg.m receives.1))
   its_order state next to (Lost copy) (Step p k kind) counted one later m = (
     λ sends.
-        let sent = some_of (nth (sent_by (mail_of state) copy.msg.s) copy.msg.m) (losable state next copy one).sent in
-        let low = nth_within (sent_by (mail_of state) copy.msg.s) copy.msg.m sent.0 sent.1 in
-        let high = subst (λ i. sends_of next i < copy.msg.m) sends.0 (m.send copy.msg.m sends.1) in
-        absurd (omega (arith, low, high, sends_grow machine state next (Lost copy) one copy.msg.s)),
+        let sent = (losable state next copy one).sent in
+        let high = m.send copy.msg.m sends.1 in
+        absurd (grind (arith, common_steps, gets, sends_grow machine state next (Lost copy) one)),
     λ receives.
         m.not_lost copy.msg.s copy.msg.m receives.1
         (subst (λ i. is_lost (mail_of next) (copy_name copy.msg i) ≡ true) (sym receives.0) (now_lost state next copy one)),
@@ -208,10 +182,10 @@ module _ {L : Type 0} (machine : Machine L) where
   pub ordered : (events : List Event) (state to : RunState L) → IsCounted state → Reaches state events to
       → (first second : Event) → IsBefore first second events → IsOrdered to first second
   ordered events state to counted h first second b =
-      let at = turn_before (after machine) IsCounted counted_on b state to counted h in
+      let at = turn_before (after machine) IsCounted (counted_on machine) b state to counted h in
       let turn = at.2 in
       its_order turn.before turn.next to first second turn.kept turn.taken (grown_to at.0 turn.next to turn.leads_on)
-      (member at.0 turn.next to (counted_on turn.before first turn.next turn.kept turn.taken) turn.leads_on second at.1)
+      (member at.0 turn.next to (counted_on machine turn.before first turn.next turn.kept turn.taken) turn.leads_on second at.1)
 
   -- at the start no process has done anything, and no copy is lost
 
@@ -227,9 +201,13 @@ module _ {L : Type 0} (machine : Machine L) where
   pub start_unlost : (copy : CopyName) → is_lost (mail_of (start machine)) copy ≡ true → ⊥
   start_unlost copy = false_not (set.contains-empty copy_cmp copy)
 
+  -- what is not so at the start comes about by an event of the history
+  module _ (P : RunState L → Type 0) (Brings : Event → Type 0) (none : P (start machine) → ⊥)
+      (by : (s : RunState L) (e : Event) (u : RunState L) → after machine s e ≡ Some u → P u → P s ⊎ Brings e) where
+    pub came : (history : List Event) (to : RunState L) → Reaches (start machine) history to → P to → (e : Event) × IsIn e history × Brings e
+    came history to h is =
+        ⊎_elim (λ old. absurd (none old)) (λ found. found) (comes (after machine) P Brings by (start machine) history to h is)
+
   -- and nobody has written
   pub start_unwritten : (register : Reg) → writes_of (start machine) register ≡ 0
-  start_unwritten register = unwritten (if machine.has_registers then length machine.firsts else 0) register
-    where
-      unwritten : (n : ℕ) (register : Reg) → of_register (register_of (fresh_registers n) register) ≡ 0
-      unwritten n register = grind (arith, common_steps, gets)
+  start_unwritten register = grind (arith, common_steps, gets)

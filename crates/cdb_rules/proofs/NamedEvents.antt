@@ -1,8 +1,8 @@
 -- In a valid history names name one event each, and losses stand where they may.
-use Rattle.std.proofs.Common.{◌≡◌, ℕ, zero, suc, ◌<◌, ◌≤◌, length, true, false, ◌⊎◌, inl, inr, ⊎_elim, List, [], ◌∷◌, Some, None, option_map, unwrap_or, refl}
-use Rattle.std.proofs.Common.{sym, ap, ◌∙◌, subst, arith}
+use Rattle.std.proofs.Common.{◌≡◌, ℕ, zero, suc, ◌<◌, ◌≤◌, length, true, false, ◌⊎◌, inl, inr, ⊎_elim, List, [], ◌∷◌, Some, refl}
+use Rattle.std.proofs.Common.{sym, ◌∙◌, subst, arith}
 use Rattle.std.proofs.lemmas.Grind.{common_steps}
-use Rattle.std.proofs.lemmas.Option.{gets, same_Some, none-some}
+use Rattle.std.proofs.lemmas.Option.{gets, same_Some}
 use Rattle.cdb_base.specs.Event.{event_name}
 use Rattle.cdb_base.specs.Positions.{nth}
 use Rattle.cdb_base.specs.declared.event.Event.{Event}
@@ -22,40 +22,30 @@ use Rattle.cdb_standing.proofs.Rows.{nth_within}
 use Rattle.cdb_rules.specs.Mail.{mail_of}
 use Rattle.cdb_rules.specs.State.{Machine, ProcessState, RunState, fresh_process, start}
 use Rattle.cdb_rules.specs.Step.{fold, after, IsValid}
-use Rattle.cdb_rules.proofs.Bounds.{length-set_nth, taken_sound}
+use Rattle.cdb_rules.proofs.Bounds.{taken_sound}
 use Rattle.cdb_rules.proofs.Commutes.{lost_from}
-use Rattle.cdb_rules.proofs.Kept.{left, payload_kept}
-use Rattle.cdb_rules.proofs.Members.{Reaches, IsOrdered, first_step, losable, ordered, start_counted}
+use Rattle.cdb_rules.proofs.Kept.{payload_kept}
+use Rattle.cdb_rules.proofs.Members.{IsOrdered, came, member, ordered, start_counted}
 use Rattle.cdb_rules.proofs.Positions.{nth-map}
 use Rattle.cdb_rules.proofs.SameState.{once, sends_it, stand_apart, loss_not_linked}
 use Rattle.cdb_rules.proofs.Taken.{taken_from, some_of}
 
 pub in_position : {E : Type 0} (events : List E) (at : ℕ) (event : E) → nth events at ≡ Some event → IsIn event events
-in_position events zero event stands = absurd (none-some event stands)
-in_position [] (suc i) event stands = absurd (none-some event stands)
 in_position (x ∷ xs) (suc zero) event stands = subst (λ y. IsIn event (y ∷ xs)) (sym (same_Some x event stands)) here
 in_position (x ∷ xs) (suc (suc i)) event stands = there (in_position xs (suc i) event stands)
+in_position _ _ event stands = absurd (grind (arith, common_steps, gets))
 
 before_positions : {E : Type 0} (events : List E) (i j : ℕ) (a b : E) → i < j → nth events i ≡ Some a → nth events j ≡ Some b → IsBefore a b events
-before_positions events zero j a b less at_i at_j = absurd (none-some a at_i)
-before_positions [] (suc i) j a b less at_i at_j = absurd (none-some a at_i)
-before_positions (x ∷ xs) (suc i) zero a b less at_i at_j = absurd (none-some b at_j)
-before_positions (x ∷ xs) (suc i) (suc zero) a b less at_i at_j = absurd (omega (arith, less))
 before_positions (x ∷ xs) (suc zero) (suc (suc j)) a b less at_i at_j =
     subst (λ y. IsBefore a b (y ∷ xs)) (sym (same_Some x a at_i)) (here (in_position xs (suc j) b at_j))
 before_positions (x ∷ xs) (suc (suc i)) (suc (suc j)) a b less at_i at_j = there (before_positions xs (suc i) (suc j) a b (omega (arith, less)) at_i at_j)
+before_positions _ _ _ a b less at_i at_j = absurd (grind (arith, common_steps, gets))
 
 pub in_cases : {E : Type 0} (x y : E) (ys : List E) → IsIn x (y ∷ ys) → (x ≡ y) ⊎ IsIn x ys
 in_cases x y ys here = inl refl
 in_cases x y ys (there j) = inr j
 
 module _ {L : Type 0} (machine : Machine L) where
-  pub count_kept : (state next : RunState L) (event : Event) → after machine state event ≡ Some next → length next.processes ≡ length state.processes
-  count_kept state next (Step p k kind) one =
-      let t = taken_from machine state next p k kind one in
-      ap (λ (x : RunState L). length x.processes) (sym t.leads_to) ∙ length-set_nth state.processes p (left machine state next p k kind t)
-  count_kept state next (Lost copy) one = ap (λ (x : RunState L). length x.processes) (sym (lost_from machine state next copy one).1)
-
   module _ (history : List Event) (valid : IsValid machine history) where
     reaches : (to : RunState L) × (fold machine history ≡ Some to)
     reaches = some_of (fold machine history) valid
@@ -118,7 +108,7 @@ module _ {L : Type 0} (machine : Machine L) where
         let before = before_positions history at j (Lost copy) link.effect link.later stands link.at_effect in
         loss_not_linked machine reaches.0 copy link.effect (rw cause at link.linked) (in_order (Lost copy) link.effect before)
 
-  -- the send of a message that is sent behind a list, and was not before it, is in the list
+  -- a message that is sent after an event was sent before, or the event sends it
   pub sent_by_step : (state next : RunState L) (event : Event) (name : MsgName) → after machine state event ≡ Some next
       → is_sent (mail_of next) name ≡ true → (is_sent (mail_of state) name ≡ true) ⊎ ((k : ℕ) × (event ≡ Step name.s k (Send name.m)))
   sent_by_step state next (Step p k kind) name one sent =
@@ -126,27 +116,10 @@ module _ {L : Type 0} (machine : Machine L) where
       grind (arith, common_steps, gets, sends_it name.s name.m p kind)
   sent_by_step state next (Lost copy) name one sent = let from = (lost_from machine state next copy one).1 in grind (arith, common_steps, gets)
 
-  lost_behind : (copy : CopyName) {events : List Event} → IsIn (Lost copy) events → (state to : RunState L) → Reaches machine state events to
-      → (is_sent (mail_of state) copy.msg ≡ true) ⊎ ((k : ℕ) × IsBefore (Step copy.msg.s k (Send copy.msg.m)) (Lost copy) events)
-  lost_behind copy (here {rest = events}) state to h =
-      let s = first_step machine state to (Lost copy) events h in inl (losable machine state s.0 copy s.1).sent
-  lost_behind copy (there {other = event} {rest = events} i) state to h =
-      let s = first_step machine state to event events h in
-      ⊎_elim
-      (λ sent. ⊎_elim
-      inl
-      (λ is. inr (is.0, subst (λ x. IsBefore (Step copy.msg.s is.0 (Send copy.msg.m)) (Lost copy) (x ∷ events)) (sym is.1) (here i)))
-      (sent_by_step state s.0 event copy.msg s.1 sent))
-      (λ found. inr (found.0, there found.1))
-      (lost_behind copy i s.0 to s.2)
-
   start_sent : (s : ℕ) → sent_by (mail_of (start machine)) s ≡ []
   start_sent s =
       rw (nth-map (λ (x : ProcessState L). x.sent) (start machine).processes s, nth-map fresh_process machine.firsts s)
-      (elim (nth machine.firsts s) as (λ o. unwrap_or (option_map (λ (x : ProcessState L). x.sent) (option_map fresh_process o)) [] ≡ []) [
-        | None ↦ refl
-        | Some first ↦ refl
-      ])
+      (grind (arith, common_steps, gets))
 
   pub start_unsent : (name : MsgName) → is_sent (mail_of (start machine)) name ≡ true → ⊥
   start_unsent name h = let none = start_sent name.s in grind (arith, common_steps, gets)
@@ -155,5 +128,13 @@ module _ {L : Type 0} (machine : Machine L) where
   pub lost_after_send : (history : List Event) → IsValid machine history → (copy : CopyName)
       → IsIn (Lost copy) history → (k : ℕ) × IsBefore (Step copy.msg.s k (Send copy.msg.m)) (Lost copy) history
   lost_after_send history valid copy i =
-      let r = some_of (fold machine history) valid in
-      ⊎_elim (λ sent. absurd (start_unsent copy.msg sent)) (λ found. found) (lost_behind copy i (start machine) r.0 r.1)
+      let r = reaches history valid in
+      let m = member machine history (start machine) r.0 (start_counted machine) r.1 (Lost copy) i in
+      let found =
+      came machine (λ x. is_sent (mail_of x) copy.msg ≡ true) (λ e. (k : ℕ) × (e ≡ Step copy.msg.s k (Send copy.msg.m)))
+      (start_unsent copy.msg) (λ s e u one. sent_by_step s u e copy.msg one) history r.0 r.1 m.sent in
+      let send = Step copy.msg.s found.2.0 (Send copy.msg.m) in
+      ⊎_elim
+      (λ b. (found.2.0, b))
+      (⊎_elim (λ same. absurd (cc)) (λ b. absurd ((in_order history valid (Lost copy) send b).0 (refl, refl))))
+      (stand_apart send (Lost copy) history (subst (λ e. IsIn e history) found.2.1 found.1) i)

@@ -71,8 +71,7 @@ module _ (history : List Event) (name : StepId) where
 
 -- what stands at a position stands at one from 1
 pub stands_from_one : {A : Type 0} (xs : List A) (at : ℕ) (x : A) → nth xs at ≡ Some x → 1 ≤ at
-stands_from_one xs zero x stands = absurd (none-some x stands)
-stands_from_one xs (suc i) x stands = omega arith
+stands_from_one xs at x stands = grind (arith, common_steps, gets)
 
 -- In a valid history no event has a greater number.
 

@@ -2,11 +2,12 @@
 -- that it reads or writes.
 use Rattle.std.proofs.lemmas.Grind.{common_steps}
 use Rattle.std.proofs.lemmas.Option.{gets}
-use Rattle.std.proofs.Common.{IsSome, ◌≡◌, ℕ, ◌+◌, ◌≤◌, true, false, ◌⊎◌, length, Option, Some, None, option_and_then, option_to_list, sym, ap, ◌∙◌, subst}
-use Rattle.std.proofs.Common.{le_refl, le_of_eq, le_trans, length-append, arith}
+use Rattle.std.proofs.Common.{IsSome, ◌≡◌, ℕ, ◌+◌, ◌≤◌, true, false, ◌⊎◌, length, Option, Some, None, option_and_then, sym, ap, ◌∙◌, subst}
+use Rattle.std.proofs.Common.{le_of_eq, le_trans, arith}
 use Rattle.std.proofs.lemmas.List.{length_push}
 use Rattle.std.specs.FinSet as set
-use Rattle.std.specs.Cmp.{tied_itself}
+use Rattle.std.specs.Cmp.{IsTotalOrder, tied_itself}
+use Rattle.std.specs.declared.cmp.Ordering.{Ordering}
 use Rattle.cdb_base.specs.Positions.{nth}
 use Rattle.cdb_base.specs.declared.event.Event.{Event}
 use Rattle.cdb_base.specs.declared.event.Event.TheVariants.{Step, Lost}
@@ -18,18 +19,17 @@ use Rattle.cdb_base.specs.declared.register.Cell.{Cell}
 use Rattle.cdb_base.specs.declared.register.Reg.{Reg}
 use Rattle.cdb_causal.specs.Dependence.{accesses}
 use Rattle.cdb_message.specs.Mail.{message_name, copy_name, sent_by, is_sent, is_received, is_lost}
-use Rattle.cdb_message.specs.Names.{NameSet, CopySet}
+use Rattle.cdb_message.specs.Names.{NameSet}
 use Rattle.cdb_message.proofs.Sets.{name_cmp_total, copy_cmp_total}
 use Rattle.cdb_register.specs.Registers.{RegisterStates, register_of, with_register, put_cell}
 use Rattle.cdb_register.specs.declared.RegisterState.{RegisterState}
 use Rattle.cdb_rules.specs.Mail.{mail_of}
 use Rattle.cdb_rules.specs.State.{Machine, OwnEvent, ProcessState, RunState}
-use Rattle.cdb_process.specs.Wishes.{wished_payload, wished_cell}
 use Rattle.cdb_rules.specs.Step.{after}
 use Rattle.cdb_rules.specs.InputsTaken.{registers_after}
-use Rattle.cdb_rules.proofs.Stages.{sight_in, meets, is_due, sent_after, received_after, own_event}
+use Rattle.cdb_rules.proofs.Stages.{sight_in, sent_after, received_after, own_event}
 use Rattle.cdb_rules.proofs.Commutes.{lost_from}
-use Rattle.cdb_rules.proofs.Kept.{at_each, each_left, same_copy, left, at_left, lost_kept, other_sent_kept, other_received_kept}
+use Rattle.cdb_rules.proofs.Kept.{at_each, each_left, same_copy, left, at_left, other_sent_kept, other_received_kept}
 use Rattle.cdb_rules.proofs.Mails.{sent_is, received_is}
 use Rattle.cdb_rules.proofs.Positions.{nth-update_nth_same, nth-update_nth_other}
 use Rattle.cdb_rules.proofs.Taken.{IsTaken, IsAccepted, taken_from, parts}
@@ -70,15 +70,7 @@ pub record HasGrown {L : Type 0} (state to : RunState L) : Type 0 where
   pub own : (q l : ℕ) (own : OwnEvent) → own_at state q l ≡ Some own → own_at to q l ≡ Some own
 
 pub grown_itself : {L : Type 0} (state : RunState L) → HasGrown state state
-grown_itself state =
-    record {
-      steps = λ q. le_refl (steps_of state q);
-      sends = λ q. le_refl (sends_of state q);
-      writes = λ register. le_refl (writes_of state register);
-      received = λ q name was. was;
-      lost = λ copy was. was;
-      own = λ q l own was. was;
-    }
+grown_itself state = grind (arith, common_steps)
 
 pub grown_on : {L : Type 0} {state between to : RunState L} → HasGrown state between → HasGrown between to → HasGrown state to
 grown_on one two =
@@ -102,36 +94,25 @@ written_more : (registers : RegisterStates) (x y : Reg) (cell : Cell)
 written_more registers x y cell =
     grind (arith, common_steps, gets, nth-update_nth_same (put_cell cell) registers.of_processes, nth-update_nth_other (put_cell cell) registers.of_processes)
 
-registers_more : (registers : RegisterStates) (kind : Kind) (cell : Option Cell) (y : Reg)
-    → IsOneMoreAtMost (of_register (register_of registers y)) (of_register (register_of (registers_after registers kind cell) y))
-registers_more registers kind cell y = grind (arith, common_steps, gets, written_more registers)
-
 written_one : (registers : RegisterStates) (x : Reg) (cell : Option Cell) → IsSome (register_of registers x) → IsSome cell
     → of_register (register_of (registers_after registers (Write x) cell) x) ≡ of_register (register_of registers x) + 1
 written_one registers x cell stands wished = grind (arith, common_steps, gets, nth-update_nth_same {A = RegisterState})
 
 -- sets of names
 
-name_stays : (received : NameSet) (a b : MsgName) → set.contains received b ≡ true → set.contains (set.insert received a) b ≡ true
-name_stays received a b h = grind (arith, common_steps, set.contains-insert name_cmp_total received a b)
+module _ {K : Type 0} {R : K → K → Ordering} (total : IsTotalOrder R) (keys : set.FinSet R) where
+  stays : (a b : K) → set.contains keys b ≡ true → set.contains (set.insert keys a) b ≡ true
+  stays a b h = grind (arith, common_steps, set.contains-insert total keys a b)
 
-name_joins : (received : NameSet) (a : MsgName) → set.contains (set.insert received a) a ≡ true
-name_joins received a = grind (arith, common_steps, set.contains-insert name_cmp_total received a a, tied_itself name_cmp_total a)
-
-copy_stays : (lost : CopySet) (a b : CopyName) → set.contains lost b ≡ true → set.contains (set.insert lost a) b ≡ true
-copy_stays lost a b h = grind (arith, common_steps, set.contains-insert copy_cmp_total lost a b)
-
-pub copy_joins : (lost : CopySet) (a : CopyName) → set.contains (set.insert lost a) a ≡ true
-copy_joins lost a = grind (arith, common_steps, set.contains-insert copy_cmp_total lost a a, tied_itself copy_cmp_total a)
+  pub joins : (a : K) → set.contains (set.insert keys a) a ≡ true
+  joins a = grind (arith, common_steps, set.contains-insert total keys a a, tied_itself total a)
 
 received_more : (received : NameSet) (kind : Kind) (name : MsgName)
     → set.contains received name ≡ true → set.contains (received_after received kind) name ≡ true
-received_more received (Recv s m) name h = name_stays received (message_name s m) name h
-received_more received _ name h = h
+received_more received kind name h = grind (arith, common_steps, stays name_cmp_total received)
 
 sent_more : {L : Type 0} (machine : Machine L) (process : ProcessState L) (kind : Kind) → length process.sent ≤ length (sent_after machine process kind)
-sent_more machine process (Send m) = omega (arith, length-append process.sent (option_to_list (wished_payload (machine.wish process.progress.local))))
-sent_more machine process _ = le_refl (length process.sent)
+sent_more machine process kind = grind (arith, common_steps, gets)
 
 module _ {L : Type 0} (machine : Machine L) (state to : RunState L) (p k : ℕ) (kind : Kind) (t : IsTaken machine state p k kind to) where
   abbrev goes_on : IsAccepted machine t.process k kind (sight_in state p kind) t.next
@@ -167,7 +148,7 @@ module _ {L : Type 0} (machine : Machine L) (state to : RunState L) (p k : ℕ) 
   received_first s m e = grind (arith, common_steps, gets)
 
   pub received_now : (s m : ℕ) → kind ≡ Recv s m → is_received (mail_of to) p (message_name s m) ≡ true
-  received_now s m e = rw (received_is to p next_process at_next, e) (name_joins t.process.received (message_name s m))
+  received_now s m e = rw (received_is to p next_process at_next, e) (joins name_cmp_total t.process.received (message_name s m))
 
   -- the step in the own list of its process
   abbrev pub noted : OwnEvent
@@ -187,17 +168,10 @@ module _ {L : Type 0} (machine : Machine L) (state to : RunState L) (p k : ℕ) 
 
   -- a write counts
   pub write_counts : (register : Reg) → kind ≡ Write register → writes_of to register ≡ writes_of state register + 1
-  write_counts register e =
-      let cell = wished_cell (machine.wish t.process.progress.local) in
-      ap (λ (x : RunState L). writes_of x register) (sym t.leads_to)
-      ∙ ap (λ x. of_register (register_of (registers_after state.registers x cell) register)) e
-      ∙ written_one state.registers register cell
-      (subst (λ x. meets x (sight_in state p x) ≡ true) e goes_on.met) (subst (λ x. is_due machine t.process x ≡ true) e goes_on.due)
+  write_counts register e = grind (arith, common_steps, gets, written_one state.registers register)
 
   pub writes_more : (register : Reg) → IsOneMoreAtMost (writes_of state register) (writes_of to register)
-  writes_more register =
-      subst (λ (x : RunState L). IsOneMoreAtMost (writes_of state register) (writes_of x register)) t.leads_to
-      (registers_more state.registers kind (wished_cell (machine.wish t.process.progress.local)) register)
+  writes_more register = grind (arith, common_steps, gets, written_more state.registers)
 
   -- all numbers grow, and what is received stays
   step_grown : HasGrown state to
@@ -211,7 +185,7 @@ module _ {L : Type 0} (machine : Machine L) (state to : RunState L) (p k : ℕ) 
         received = λ q name. at_each (λ i. is_received (mail_of state) i name ≡ true → is_received (mail_of to) i name ≡ true) p
             (rw (received_is state p t.process t.at_process, received_is to p next_process at_next) (received_more t.process.received kind name))
             (λ i other was. ap (λ names. set.contains names name) (other_received_kept machine state to p k kind t i other) ∙ was) q;
-        lost = λ copy was. ap (λ lost. set.contains lost copy) (lost_kept machine state to p k kind t) ∙ was;
+        lost = λ copy was. grind (arith, common_steps);
         own = λ q l own is. grind (arith, common_steps, gets);
       }
 
@@ -220,16 +194,7 @@ module _ {L : Type 0} (machine : Machine L) (state to : RunState L) where
   pub event_grown : (event : Event) → after machine state event ≡ Some to → HasGrown state to
   event_grown (Step p k kind) h = step_grown machine state to p k kind (taken_from machine state to p k kind h)
   event_grown (Lost copy) h =
-      let same = grown_itself state in
-      subst (HasGrown state) (lost_from machine state to copy h).1
-      (record {
-        steps = same.steps;
-        sends = same.sends;
-        writes = same.writes;
-        received = same.received;
-        lost = copy_stays state.lost copy;
-        own = same.own;
-      })
+      subst (HasGrown state) (lost_from machine state to copy h).1 (grind (arith, common_steps, stays copy_cmp_total state.lost copy))
 
   pub steps_grow : (event : Event) → after machine state event ≡ Some to → (q : ℕ) → steps_of state q ≤ steps_of to q
   steps_grow event h = (event_grown event h).steps
@@ -255,6 +220,7 @@ module _ {L : Type 0} (machine : Machine L) (state to : RunState L) where
   own_cases (Step p k kind) h q l own is = let t = taken_from machine state to p k kind h in grind (arith, common_steps, gets)
   own_cases (Lost copy) h q l own is = grind (arith, common_steps, gets)
 
-  pub counted_after : (event : Event) → after machine state event ≡ Some to → IsCounted state → IsCounted to
-  counted_after (Step p k kind) h counted = step_counted machine state to p k kind (taken_from machine state to p k kind h) counted
-  counted_after (Lost copy) h counted = subst IsCounted (lost_from machine state to copy h).1 counted
+pub counted_on : {L : Type 0} (machine : Machine L) (state : RunState L) (event : Event) (to : RunState L)
+    → IsCounted state → after machine state event ≡ Some to → IsCounted to
+counted_on machine state (Step p k kind) to counted h = step_counted machine state to p k kind (taken_from machine state to p k kind h) counted
+counted_on machine state (Lost copy) to counted h = subst IsCounted (lost_from machine state to copy h).1 counted

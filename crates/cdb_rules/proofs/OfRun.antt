@@ -1,6 +1,7 @@
 -- What stands last in a valid history was enabled before it, and what stands in one and what a rollback removes are events of the run.
+use Rattle.std.proofs.lemmas.Grind.{common_steps}
 use Rattle.std.proofs.lemmas.List.Elements.{All-from_recursion}
-use Rattle.std.proofs.Common.{◌≡◌, ◌==◌, ℕ, ◌≤◌, true, arith, List, [], ◌∷◌, ◌++◌, length, IsSome, option_and_then, Result, Ok, Err, refl, ap, ◌∙◌, subst}
+use Rattle.std.proofs.Common.{◌≡◌, ℕ, ◌≤◌, true, arith, List, [], ◌∷◌, ◌++◌, length, IsSome, option_and_then, Result, Ok, Err, refl, ap, ◌∙◌, subst}
 use Rattle.std.specs.List.{AllByRecursion}
 use Rattle.cdb_base.specs.declared.name.StepId.{StepId}
 use Rattle.cdb_base.specs.declared.refusal.Refusal.{Refusal}
@@ -9,13 +10,12 @@ use Rattle.std.proofs.lemmas.Bool.Decides.{nat_tests}
 use Rattle.cdb_base.specs.declared.event.Event.{Event}
 use Rattle.cdb_base.specs.declared.event.Event.TheVariants.{Step, Lost}
 use Rattle.cdb_base.specs.declared.event.Kind.{Kind}
-use Rattle.cdb_base.specs.declared.event.Kind.TheVariants.{Query}
 use Rattle.cdb_causal.proofs.Reaches.{reached_front_some, reached_push}
 use Rattle.cdb_process.specs.Table.{Table}
 use Rattle.cdb_rules.specs.Machines.{machine_of}
 use Rattle.cdb_rules.specs.Refusals.{IsOfRun, NamesProcess}
 use Rattle.cdb_rules.specs.State.{Machine, ProcessState}
-use Rattle.cdb_rules.specs.Step.{after, is_among, state_of, IsValid, IsEnabled}
+use Rattle.cdb_rules.specs.Step.{after, state_of, IsValid, IsEnabled}
 use Rattle.cdb_rules.specs.RunView.{RunView}
 use Rattle.cdb_rules.specs.Runs.{rollback_in, removed_by_rollback, IsInOrder, RemovesOfRun}
 use Rattle.cdb_rules.specs.Undo.{result_alone, with_removed}
@@ -30,12 +30,6 @@ use Rattle.cdb_rules.proofs.Removed.{rolled_back-parted}
 use Rattle.cdb_rules.proofs.Stages.{is_due}
 use Rattle.cdb_rules.proofs.Taken.{parts, taken_from}
 use Rattle.cdb_setup.specs.Parts.{Parts, AreInRange}
-
-within : (n p : ℕ) → is_among n p ≡ true → (1 ≤ p) × (p ≤ n)
-within n p h = grind (arith, nat_tests)
-
-second_version : (version : ℕ) → (version == 2) ≡ true → version ≡ 2
-second_version version h = grind (arith, nat_tests)
 
 module _ {L : Type 0} (table : Table L) (setup : Parts) (range : AreInRange setup) where
   abbrev machine : Machine L
@@ -52,13 +46,9 @@ module _ {L : Type 0} (table : Table L) (setup : Parts) (range : AreInRange setu
       (reached_push _ _ history event ∙ ap (option_and_then (λ next. after machine next event)) (reached_state machine history was))
       valid
 
-  among_processes : (p : ℕ) → is_among (length machine.firsts) p ≡ true → (1 ≤ p) × (p ≤ setup.processes)
-  among_processes p among = within setup.processes p (subst (λ (n : ℕ). is_among n p ≡ true) number among)
-
   -- a query names a process of the run
   names_process : (process : ProcessState L) (kind : Kind) → is_due machine process kind ≡ true → NamesProcess setup.processes kind
-  names_process process (Query leader) due = among_processes leader due
-  names_process process _ due = tt
+  names_process process kind due = let n = number in grind (arith, common_steps, nat_tests)
 
   -- each event that stands is one of the run
   stands_of_run : (history : List Event) → IsValid machine history → (event : Event) → IsIn event history → IsOfRun setup event
@@ -71,7 +61,10 @@ module _ {L : Type 0} (table : Table L) (setup : Parts) (range : AreInRange setu
   stands_of_run history valid (Lost copy) i =
       let at = taken_sound machine history valid (Lost copy) i in
       let lost = losable machine at.0 at.1 copy at.3 in
-      (second_version setup.version lost.loses, (among_processes copy.to lost.among).1)
+      let loses = lost.loses in
+      let among = lost.among in
+      let n = number in
+      grind (arith, nat_tests)
 
   pub next_of_run : (history : List Event) (event : Event) → IsValid machine (history ++ event ∷ []) → IsOfRun setup event
   next_of_run history event valid = stands_of_run (history ++ event ∷ []) valid event (in_back event history (event ∷ []) here)

@@ -11,7 +11,6 @@ use Rattle.cdb_base.specs.declared.register.Reg.{Reg}
 use Rattle.cdb_rules.specs.OwnSteps.{no_writes, writes_with, writes_met, as_own_events, own_steps, own_of}
 use Rattle.cdb_rules.specs.State.{Machine, OwnEvent, RunState, start}
 use Rattle.cdb_rules.specs.Step.{after, fold}
-use Rattle.cdb_rules.proofs.Stages.{own_event, sight_in}
 use Rattle.cdb_rules.proofs.Commutes.{lost_from}
 use Rattle.cdb_rules.proofs.Kept.{process_kept, register_kept}
 use Rattle.cdb_rules.proofs.Members.{Reaches, first_step, nth-fresh, start_unwritten}
@@ -35,10 +34,6 @@ module _ {L : Type 0} (machine : Machine L) where
         let counts = write_counts machine state to p k kind t in
         let kept = register_kept machine state to p k kind t register in
         grind (arith, common_steps, gets, same_register-true)
-
-    -- what the step met
-    met_is : (own_event p k kind (sight_in state p kind)).writes_before ≡ writes_met (writes_of state) (Step p k kind)
-    met_is = grind (arith, common_steps, gets)
 
     -- the step as it joins the own list of its process
     abbrev stands : OwnEvent

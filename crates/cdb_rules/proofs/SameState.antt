@@ -14,8 +14,8 @@ use Rattle.cdb_message.specs.Mail.{is_lost}
 use Rattle.cdb_rules.specs.Mail.{mail_of}
 use Rattle.cdb_rules.specs.State.{Machine, OwnEvent, RunState, start}
 use Rattle.cdb_rules.specs.Step.{fold}
-use Rattle.cdb_rules.proofs.Members.{IsOrdered, member, ordered, own_comes, lost_comes, start_counted, start_empty, start_unlost}
-use Rattle.cdb_rules.proofs.Numbers.{own_at}
+use Rattle.cdb_rules.proofs.Members.{IsOrdered, member, ordered, came, start_counted, start_empty, start_unlost}
+use Rattle.cdb_rules.proofs.Numbers.{own_at, own_cases, lost_cases}
 
 -- what sends a message is the send of that number, what receives it the receive
 
@@ -32,6 +32,15 @@ stand_apart x y _ here (there j) = inl (here j)
 stand_apart x y _ (there i) here = inr (inr (here i))
 stand_apart x y _ (there {rest = es} i) (there j) =
     ⊎_elim (λ b. inl (there b)) (⊎_elim (λ s. inr (inl s)) (λ b. inr (inr (there b)))) (stand_apart x y es i j)
+
+-- both of two events in order are in the list
+pub first_of : {x y : Event} {events : List Event} → IsBefore x y events → IsIn x events
+first_of (here i) = here
+first_of (there b) = there (first_of b)
+
+second_of : {x y : Event} {events : List Event} → IsBefore x y events → IsIn y events
+second_of (here i) = there i
+second_of (there b) = there (second_of b)
 
 module _ {L : Type 0} (machine : Machine L) where
   module _ (to : RunState L) where
@@ -76,16 +85,16 @@ module _ {L : Type 0} (machine : Machine L) where
     also_in (Step p k kind) i =
         let m = member machine events (start machine) to (start_counted machine) h (Step p k kind) i in
         let own : OwnEvent = record { event = Step p k kind; writes_before = m.writes_before } in
-        ⊎_elim
-        (λ old. absurd (start_empty machine p k own old))
-        (λ j. j)
-        (own_comes machine others (start machine) other g p k own (sym (shown.own p k) ∙ m.stands))
+        let found =
+        came machine (λ x. own_at x p k ≡ Some own) (λ e. e ≡ Step p k kind) (start_empty machine p k own)
+        (λ s e u one. own_cases machine s u e one p k own) others other g (sym (shown.own p k) ∙ m.stands) in
+        subst (λ e. IsIn e others) found.2 found.1
     also_in (Lost copy) i =
         let m = member machine events (start machine) to (start_counted machine) h (Lost copy) i in
-        ⊎_elim
-        (λ old. absurd (start_unlost machine copy old))
-        (λ j. j)
-        (lost_comes machine others (start machine) other g copy (sym (shown.lost copy) ∙ m.stands))
+        let found =
+        came machine (λ x. is_lost (mail_of x) copy ≡ true) (λ e. e ≡ Lost copy) (start_unlost machine copy)
+        (λ s e u one. lost_cases machine s u e one copy) others other g (sym (shown.lost copy) ∙ m.stands) in
+        subst (λ e. IsIn e others) found.2 found.1
 
     same_order : KeepsOrder depends events others
     same_order x y d b =
@@ -96,14 +105,6 @@ module _ {L : Type 0} (machine : Machine L) where
         (λ c. absurd
         (not_both_orders to x y d o (also_ordered to other shown y x (ordered machine others (start machine) other (start_counted machine) g y x c)))))
         (stand_apart x y others (also_in x (first_of b)) (also_in y (second_of b)))
-      where
-        first_of : {u v : Event} {l : List Event} → IsBefore u v l → IsIn u l
-        first_of (here i) = here
-        first_of (there c) = there (first_of c)
-
-        second_of : {u v : Event} {l : List Event} → IsBefore u v l → IsIn v l
-        second_of (here i) = there i
-        second_of (there c) = there (second_of c)
 
   -- histories that reach states with the same own events and losses are equal up to exchange
   pub shown_exchanged : (history others : List Event) (to other : RunState L) → ShowTheSame to other

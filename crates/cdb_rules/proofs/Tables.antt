@@ -1,5 +1,5 @@
 -- The step by the two tables of its kind is the step in its stages.
-use Rattle.std.proofs.Common.{arith, ◌≡◌, ℕ, Option, Some, None, option_and_then, option_map, refl}
+use Rattle.std.proofs.Common.{arith, ◌≡◌, ℕ, option_and_then, option_map}
 use Rattle.std.proofs.lemmas.Grind.{common_steps}
 use Rattle.std.proofs.lemmas.Option.{gets}
 use Rattle.cdb_base.specs.Positions.{nth}
@@ -23,10 +23,4 @@ module _ {L : Type 0} (machine : Machine L) (state : RunState L) (p k : ℕ) whe
       → after machine state (Step p k kind)
       ≡ option_and_then (λ process. option_map (state_after machine state p k kind process) (accepted machine process k kind (sight_in state p kind)))
       (nth state.processes p)
-  step_in_stages kind = go (nth state.processes p) refl
-    where
-      go : (o : Option (ProcessState L)) → nth state.processes p ≡ o
-          → option_and_then (λ process. after_step machine state p process k kind) o
-          ≡ option_and_then (λ process. option_map (state_after machine state p k kind process) (accepted machine process k kind (sight_in state p kind))) o
-      go None at = refl
-      go (Some process) at = by_kind process (received_is state p process at) kind
+  step_in_stages kind = grind (arith, common_steps, gets, received_is state p, by_kind)

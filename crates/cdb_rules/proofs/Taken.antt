@@ -1,14 +1,13 @@
 -- A step that is taken, and what it says of its process and of what it meets.
 use Rattle.std.proofs.Common.{◌≡◌, ℕ, ◌+◌, ◌≤◌, Bool, true, false, ◌&&◌, Option, Some, None, IsSome, option_and_then, option_map, if◌then◌else◌, sym, ◌∙◌}
 use Rattle.std.proofs.Common.{arith}
-use Rattle.std.proofs.lemmas.Grind.{common_steps}
 use Rattle.std.proofs.lemmas.Option.{gets}
 use Rattle.std.proofs.lemmas.Bool.Decides.{nat_tests}
 use Rattle.cdb_base.specs.Positions.{nth}
 use Rattle.cdb_base.specs.declared.event.Event.TheVariants.{Step}
 use Rattle.cdb_base.specs.declared.event.Kind.{Kind}
 use Rattle.cdb_rules.specs.State.{Machine, ProcessState, RunState}
-use Rattle.cdb_rules.specs.Step.{after}
+use Rattle.cdb_rules.specs.Step.{after, may_step}
 use Rattle.cdb_rules.specs.InputsTaken.{Sight, input_of, taken_local}
 use Rattle.cdb_rules.proofs.Tables.{step_in_stages}
 use Rattle.cdb_rules.proofs.Stages.{sight_in, meets, is_due, accepted, state_after}
@@ -59,15 +58,11 @@ module _ {L : Type 0} (machine : Machine L) where
   pub accepted_parts : (process : ProcessState L) (k : ℕ) (kind : Kind) (around : Sight) (next : L)
       → accepted machine process k kind around ≡ Some next → IsAccepted process k kind around next
   accepted_parts process k kind around next h =
-      record {
-        alive = grind (arith, common_steps, gets);
-        going = grind (arith, common_steps, gets);
-        number = grind (arith, common_steps, gets, nat_tests);
-        limit = grind (arith, common_steps, gets, nat_tests);
-        due = grind (arith, common_steps, gets);
-        met = grind (arith, common_steps, gets);
-        takes = grind (arith, common_steps, gets);
-      }
+      let asked = may_step machine process.progress k && is_due machine process kind && meets kind around in
+      let is = where_true asked (taken_local machine.next process.progress.local (input_of kind around)) next h in
+      let all = is.0 in
+      let takes = is.1 in
+      grind (arith, nat_tests)
 
   pub parts : (state to : RunState L) (p k : ℕ) (kind : Kind) (t : IsTaken state p k kind to) → IsAccepted t.process k kind (sight_in state p kind) t.next
   parts state to p k kind t = accepted_parts t.process k kind (sight_in state p kind) t.next t.accepts

@@ -55,8 +55,7 @@ pub undone_back : {L : Type 0} (machine : Machine L) (n : ℕ) (history : List E
     → IsValid machine left × (after machine (state_of machine left) event ≡ Some (state_of machine history))
 undone_back machine n history name event left returned valid =
     let u = undone_free n history name event left returned in
-    subst (λ h. IsValid machine h × (after machine (state_of machine h) event ≡ Some (state_of machine history))) (sym u.4)
-    (undo_valid machine history u.0 event u.2 u.3 valid, undo_again machine history u.0 event u.2 u.3 valid)
+    rw u.4 (undo_valid machine history u.0 event u.2 u.3 valid, undo_again machine history u.0 event u.2 u.3 valid)
 
 pub rolled_back_where_ok : (n : ℕ) (history : List Event) (name : StepId) (removed left : List Event) → rollback_of n history name ≡ Ok (removed, left)
     → (at : ℕ) × (event : Event) × (is_named name event ≡ true) × (nth history at ≡ Some event)
